@@ -1,0 +1,2 @@
+pub mod TrackLemmas
+pub mod DrawingLemmas

@@ -1,0 +1,40 @@
+-- What a measure knows on its way, and what it keeps.
+use Rattle.std.proofs.Common.{◌≡◌, ℕ, ◌+◌, ◌-◌, ◌<◌, ◌≤◌, ℤ, pos, ◌+ℤ◌, ◌-ℤ◌, true, ◌&&◌, leb, min, nat_abs, List, [], ◌∷◌, ◌++◌, length, map, drop, get_or, refl, ap, sym, ◌∙◌, add-one, arith}
+use Rattle.std.specs.List.{list_all}
+use Rattle.std.proofs.Math.Seq.{drop-cons}
+use Rattle.std.proofs.Math.Nat.{min-eq_right}
+use Rattle.std.proofs.lemmas.Bool.{and_parts, and_from, leb-true, le-leb}
+use Rattle.std.proofs.lemmas.Int.{ints, clamps}
+use Rattle.tw_surface.specs.declared.measure.Piece.{Piece}
+use Rattle.tw_surface.specs.declared.measure.Track.{Track}
+use Rattle.tw_surface.specs.ChangeView.{ChangeView, Batch}
+use Rattle.tw_surface.specs.Places.{Place, plain_piece, next_place, places_after, is_in_range}
+use Rattle.tw_surface.specs.Tracks.{place_of, reach, reach_all, IsSound}
+
+-- a measure of all these places that has those left
+pub record IsUnderWay (all : List Place) (start : Track) (left : List Place) (t : Track) : Type 0 where
+  pub ends : reach_all t left ≡ reach_all start all
+  pub stays : list_all is_in_range left ≡ list_all is_in_range all
+  pub in_range : is_in_range (place_of t) ≡ true
+
+-- one character further in a plain text
+pub pieces-drop : (text : List ℕ) (i : ℕ) → i < length text → map plain_piece (drop i text) ≡ plain_piece (get_or text i 0) ∷ map plain_piece (drop (i + 1) text)
+pieces-drop text i h = rw (add-one i, drop-cons text i 0) refl
+
+-- a track that is sound stays so at a place in range
+pub sound-reach : (t : Track) (p : Place) → IsSound t → is_in_range p ≡ true → IsSound (reach t p)
+sound-reach t p h a =
+    let y : nat_abs p.y ≤ 2147483647 = leb-true _ _ (and_parts (leb p.x 2147483647) (leb (nat_abs p.y) 2147483647) a).1 in
+    record {
+      place = a;
+      low = omega (arith, ints, clamps, h.low);
+      high = omega (arith, ints, clamps, h.high);
+      order = omega (arith, ints, clamps, h.order);
+    }
+
+-- and at a list of places in range
+pub sound-reach_all : (ps : List Place) (t : Track) → IsSound t → list_all is_in_range ps ≡ true → IsSound (reach_all t ps)
+sound-reach_all [] t h a = h
+sound-reach_all (p ∷ ps) t h a =
+    let both = and_parts (is_in_range p) (list_all is_in_range ps) a in
+    sound-reach_all ps (reach t p) (sound-reach t p h both.0) both.1

@@ -1,0 +1,10 @@
+pub mod ChangeView
+pub mod Defaults
+pub mod Characters
+pub mod Positions
+pub mod Pictures
+pub mod Width
+pub mod Places
+pub mod Drawings
+pub mod Tracks
+pub mod Adding

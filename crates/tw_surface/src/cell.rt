@@ -1,0 +1,151 @@
+//! The attributes of a cell, and the columns that a text takes.
+
+ghost use Rattle.std.specs.Prelude.{◌≡◌, ◌*◌, ◌≤◌, length, true};
+ghost use Rattle.std.specs.List.{list_all, sum_by};
+ghost use Rattle.unicode_segmentation.specs.Grapheme.{graphemes};
+ghost use Rattle.tw_surface.specs.Characters.{is_printable};
+ghost use Rattle.tw_surface.specs.Width.{cluster_width, column_width};
+
+use unicode_segmentation::UnicodeSegmentation;
+use unicode_width::UnicodeWidthStr;
+use crate::color::ColorAttribute;
+
+/// How strong a text is.
+#[derive(Debug, Copy, Clone, PartialEq, Eq)]
+pub enum Intensity {
+    Normal,
+    Bold,
+    Half,
+}
+
+impl Default for Intensity {
+    ghost use Rattle.std.specs.Prelude.{◌≡◌};
+    ghost use Rattle.tw_surface.specs.Defaults.{default_attributes};
+
+    ghost is_default = { λ intensity. intensity ≡ default_attributes.intensity };
+
+    fn default() -> Self {
+        Intensity::Normal
+    }
+}
+
+/// The line under a text.
+#[derive(Debug, Copy, Clone, PartialEq, Eq)]
+pub enum Underline {
+    None,
+    Single,
+    Double,
+    Curly,
+    Dotted,
+    Dashed,
+}
+
+impl Default for Underline {
+    ghost use Rattle.std.specs.Prelude.{◌≡◌};
+    ghost use Rattle.tw_surface.specs.Defaults.{default_attributes};
+
+    ghost is_default = { λ underline. underline ≡ default_attributes.underline };
+
+    fn default() -> Self {
+        Underline::None
+    }
+}
+
+/// How a text blinks.
+#[derive(Debug, Copy, Clone, PartialEq, Eq)]
+pub enum Blink {
+    None,
+    Slow,
+    Rapid,
+}
+
+impl Default for Blink {
+    ghost use Rattle.std.specs.Prelude.{◌≡◌};
+    ghost use Rattle.tw_surface.specs.Defaults.{default_attributes};
+
+    ghost is_default = { λ blink. blink ≡ default_attributes.blink };
+
+    fn default() -> Self {
+        Blink::None
+    }
+}
+
+/// All attributes of a cell.
+#[derive(Debug, Copy, Clone, PartialEq, Eq)]
+pub struct CellAttributes {
+    pub intensity: Intensity,
+    pub underline: Underline,
+    pub blink: Blink,
+    pub italic: bool,
+    pub reverse: bool,
+    pub strikethrough: bool,
+    pub invisible: bool,
+    pub foreground: ColorAttribute,
+    pub background: ColorAttribute,
+}
+
+impl Default for CellAttributes {
+    ghost use Rattle.std.specs.Prelude.{◌≡◌};
+    ghost use Rattle.tw_surface.specs.Defaults.{default_attributes};
+
+    ghost is_default = { λ attributes. attributes ≡ default_attributes };
+
+    fn default() -> Self {
+        CellAttributes {
+            intensity: Intensity::Normal,
+            underline: Underline::None,
+            blink: Blink::None,
+            italic: false,
+            reverse: false,
+            strikethrough: false,
+            invisible: false,
+            foreground: ColorAttribute::Default,
+            background: ColorAttribute::Default,
+        }
+    }
+}
+
+/// One attribute with its new value.
+#[derive(Debug, Copy, Clone, PartialEq, Eq)]
+pub enum AttributeChange {
+    Intensity(Intensity),
+    Underline(Underline),
+    Italic(bool),
+    Blink(Blink),
+    Reverse(bool),
+    StrikeThrough(bool),
+    Invisible(bool),
+    Foreground(ColorAttribute),
+    Background(ColorAttribute),
+}
+
+/// The columns that a text takes: its characters where all are printable ASCII, else the widths of
+/// its extended grapheme clusters. Takes no memory.
+#[tactic(auto, unfolding(crate::specs::Width::column_width))]
+pub fn unicode_column_width(s: &str) -> usize
+    ensures value { result ≡ column_width s.now }
+    ensures bound { result ≤ 2 * length s.now }
+{
+    if is_printable_text(s.as_bytes()) {
+        s.len()
+    } else {
+        clusters_width(s)
+    }
+}
+
+fn is_printable_text(text: &[u8]) -> bool
+    ensures { result ≡ list_all is_printable text.now }
+{
+    text.iter().all(|byte| matches!(*byte, b' '..=b'~'))
+}
+
+fn clusters_width(text: &str) -> usize
+    ensures value { result ≡ sum_by cluster_width (graphemes true text.now) }
+    ensures bound { result ≤ 2 * length text.now }
+{
+    let mut total: usize = 0;
+    for cluster in text.graphemes(true) {
+        total += cluster.width();
+    }
+    total
+}

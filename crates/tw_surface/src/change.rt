@@ -1,0 +1,58 @@
+//! The changes that are drawn on a screen.
+
+ghost use Rattle.std.specs.Prelude.{◌≡◌, IfOk, string_bytes};
+ghost use Rattle.tw_surface.specs.ChangeView.{change_view, Text as TextView};
+
+use crate::cell::{AttributeChange, CellAttributes};
+use crate::color::ColorAttribute;
+use std::alloc::{AllocError, Global};
+
+/// A column or a row: a number from 0, or a distance from where the cursor stands.
+#[derive(Debug, Copy, Clone, PartialEq, Eq)]
+pub enum Position {
+    /// The column or row itself, from 0.
+    Absolute(usize),
+    /// Columns to the right or rows down; a negative number leads left or up.
+    Relative(isize),
+}
+
+/// One step of drawing.
+#[derive(Debug, Drop, PartialEq, Eq)]
+pub enum Change {
+    /// Sets one attribute of the text that follows.
+    Attribute(AttributeChange),
+    /// Sets all attributes of the text that follows.
+    AllAttributes(CellAttributes),
+    /// Writes a text at the cursor, which moves behind it.
+    Text(String),
+    /// Clears the whole screen to a colour and moves the cursor to row 0, column 0.
+    ClearScreen(ColorAttribute),
+    /// Clears to a colour from the cursor's cell on, in its row and in all rows below. The cursor stays.
+    ClearToEndOfScreen(ColorAttribute),
+    /// Moves the cursor to a column and a row.
+    CursorPosition { x: Position, y: Position },
+}
+
+impl Change {
+    /// An equal change. Only a text takes memory, and a refusal leaves nothing behind.
+    pub fn try_clone(&self, alloc: Global) -> Result<Change, AllocError>
+        ensures { IfOk result (λ change. change_view change ≡ change_view self.now) }
+    {
+        match self {
+            Change::Attribute(change) => Ok(Change::Attribute(*change)),
+            Change::AllAttributes(attributes) => Ok(Change::AllAttributes(*attributes)),
+            Change::Text(text) => Ok(Change::Text(String::from_str(alloc, text.as_str())?)),
+            Change::ClearScreen(color) => Ok(Change::ClearScreen(*color)),
+            Change::ClearToEndOfScreen(color) => Ok(Change::ClearToEndOfScreen(*color)),
+            Change::CursorPosition { x, y } => Ok(Change::CursorPosition { x: *x, y: *y }),
+        }
+    }
+}
+
+impl From<String> for Change {
+    ghost from_gives = { λ text made. change_view made ≡ TextView (string_bytes text) };
+
+    fn from(text: String) -> Change {
+        Change::Text(text)
+    }
+}

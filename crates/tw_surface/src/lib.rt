@@ -1,0 +1,15 @@
+//! Changes of a screen, how they are measured, and a model screen that plays them.
+#![tactic(auto)]
+
+mod cell;
+mod change;
+mod color;
+mod measure;
+mod sequence;
+mod size;
+
+pub use cell::{AttributeChange, Blink, CellAttributes, Intensity, Underline, unicode_column_width};
+pub use change::{Change, Position};
+pub use color::ColorAttribute;
+pub use sequence::{AddFault, ChangeSequence};
+pub use size::SizeFault;

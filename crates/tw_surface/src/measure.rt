@@ -1,0 +1,156 @@
+//! How texts move the place of a sequence.
+
+ghost use Rattle.std.specs.Prelude.{◌≡◌, ◌≤◌, [], ◌∷◌, map, true};
+ghost use Rattle.std.specs.List.{list_all};
+ghost use Rattle.unicode_segmentation.specs.Grapheme.{graphemes};
+ghost use Rattle.tw_surface.specs.Characters.{is_plain};
+ghost use Rattle.tw_surface.specs.Places.{plain_piece, cluster_piece, pieces, next_place, places_after, is_in_range};
+ghost use Rattle.tw_surface.specs.Tracks.{place_of, Measures, start_track};
+
+use unicode_segmentation::UnicodeSegmentation;
+use unicode_width::UnicodeWidthStr;
+
+/// A piece of a text, by what it does to the cursor.
+#[derive(Debug, Copy, Clone, PartialEq, Eq)]
+pub enum Piece {
+    /// Carriage return: to column 0.
+    Cr,
+    /// Line feed: to the next row.
+    Lf,
+    /// Both in one grapheme cluster.
+    CrLf,
+    /// A character or a cluster of this many columns.
+    Wide(usize),
+}
+
+/// The place that a sequence has reached, and its least and its greatest row so far.
+#[derive(Debug, Copy, Clone, PartialEq, Eq)]
+pub struct Track {
+    /// The column, from 0; the number of columns where the wrap is pending.
+    pub x: usize,
+    /// The row, counted from the row in which the sequence begins.
+    pub y: isize,
+    pub least: isize,
+    pub greatest: isize,
+}
+
+impl Track {
+    /// The place (0, 0).
+    pub fn start() -> Track
+        ensures { result ≡ start_track }
+    {
+        Track {
+            x: 0,
+            y: 0,
+            least: 0,
+            greatest: 0,
+        }
+    }
+
+    /// The track with one more place, or `None` where that place is out of range.
+    pub fn reach(self, x: usize, y: isize) -> Option<Track>
+        ensures { Measures self (record { x = x; y = y } ∷ []) result }
+    {
+        if x > 2_147_483_647 || y > 2_147_483_647 || y < -2_147_483_647 {
+            return None;
+        }
+        Some(Track {
+            x,
+            y,
+            least: self.least.min(y),
+            greatest: self.greatest.max(y),
+        })
+    }
+
+    /// The track after a piece.
+    fn advance(self, cols: usize, piece: Piece) -> Option<Track>
+        requires cols { cols ≤ 65535 }
+        requires range { is_in_range (place_of self) ≡ true }
+        ensures { Measures self (next_place cols piece (place_of self) ∷ []) result }
+    {
+        match piece {
+            Piece::Cr => self.reach(0, self.y),
+            Piece::Lf => self.reach(self.x, self.y + 1),
+            Piece::CrLf => self.reach(0, self.y + 1),
+            Piece::Wide(width) => {
+                let end = self.x.saturating_add(width);
+                if end <= cols {
+                    self.reach(end, self.y)
+                } else {
+                    self.reach(width, self.y + 1)
+                }
+            }
+        }
+    }
+}
+
+impl Piece {
+    /// A character of a plain text.
+    fn of_byte(byte: u8) -> Piece
+        ensures { result ≡ plain_piece byte }
+    {
+        match byte {
+            b'\r' => Piece::Cr,
+            b'\n' => Piece::Lf,
+            _ => Piece::Wide(1),
+        }
+    }
+
+    /// A grapheme cluster of any other text.
+    fn of_cluster(cluster: &str) -> Piece
+        ensures { result ≡ cluster_piece cluster.now }
+    {
+        match cluster {
+            "\r" => Piece::Cr,
+            "\n" => Piece::Lf,
+            "\r\n" => Piece::CrLf,
+            _ => Piece::Wide(cluster.width()),
+        }
+    }
+}
+
+/// Whether each character is printable ASCII, CR or LF.
+pub fn is_plain_text(text: &[u8]) -> bool
+    ensures { result ≡ list_all is_plain text.now }
+{
+    text.iter()
+        .all(|byte| matches!(*byte, b'\r' | b'\n' | b' '..=b'~'))
+}
+
+fn measure_plain(cols: usize, start: Track, text: &[u8]) -> Option<Track>
+    requires cols { cols ≤ 65535 }
+    requires range { is_in_range (place_of start) ≡ true }
+    ensures { Measures start (places_after cols (map plain_piece text.now) (place_of start)) result }
+{
+    let mut track = start;
+    for byte in text {
+        track = track.advance(cols, Piece::of_byte(*byte))?;
+    }
+    Some(track)
+}
+
+fn measure_clusters(cols: usize, start: Track, text: &str) -> Option<Track>
+    requires cols { cols ≤ 65535 }
+    requires range { is_in_range (place_of start) ≡ true }
+    ensures { Measures start (places_after cols (map cluster_piece (graphemes true text.now)) (place_of start)) result }
+{
+    let mut track = start;
+    for cluster in text.graphemes(true) {
+        track = track.advance(cols, Piece::of_cluster(cluster))?;
+    }
+    Some(track)
+}
+
+/// The track after a text on a screen of `cols` columns, or `None` where a place on the way is out of range.
+#[tactic(auto, unfolding(crate::specs::Places::pieces))]
+pub fn measure_text(cols: usize, start: Track, text: &str) -> Option<Track>
+    requires cols { cols ≤ 65535 }
+    requires range { is_in_range (place_of start) ≡ true }
+    ensures { Measures start (places_after cols (pieces text.now) (place_of start)) result }
+{
+    if is_plain_text(text.as_bytes()) {
+        measure_plain(cols, start, text.as_bytes())
+    } else {
+        measure_clusters(cols, start, text)
+    }
+}

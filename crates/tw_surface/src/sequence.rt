@@ -1,0 +1,203 @@
+//! A sequence of changes, measured as it grows.
+
+ghost use Rattle.std.specs.Prelude.{◌≡◌, ◌+◌, ◌-◌, ◌<◌, ◌≤◌, ◌⊎◌, ◌↔◌, Ok, Err, OnOk, OnErr, MatchOption, [], ◌∷◌, ◌++◌, true, pos, nat_abs, min, IsTrue};
+ghost use Rattle.tw_surface.specs.ChangeView.{change_view, batch_view};
+ghost use Rattle.tw_surface.specs.Positions.{moved, at_least_0};
+ghost use Rattle.tw_surface.specs.Places.{places_of_change, is_in_range, move_between};
+ghost use Rattle.tw_surface.specs.Drawings.{Drawing, place, height};
+ghost use Rattle.tw_surface.specs.Tracks.{place_of, Measures};
+ghost use Rattle.tw_surface.specs.Adding.{Adds};
+
+use crate::change::{Change, Position};
+use crate::measure::{Track, measure_text};
+use crate::size::SizeFault;
+use std::alloc::Global;
+use std::marker::Model;
+
+/// Why a change is refused.
+#[derive(Debug, Copy, Clone, PartialEq, Eq)]
+pub enum AddFault {
+    /// There is no memory for one more change.
+    Memory,
+    /// A row below -2,147,483,647 or above 2,147,483,647, or a measured column above that; in
+    /// `move_to` also a column that the screen doesn't have.
+    OutOfRange,
+}
+
+impl Position {
+    /// The column or row, or 0 in place of a negative one, counted from one up to 4,294,967,295.
+    pub(crate) fn moved_from(self, at: usize) -> usize
+        requires { at ≤ 4294967295 }
+        ensures { result ≡ at_least_0 (moved self (pos at)) }
+    {
+        match self {
+            Position::Absolute(to) => to,
+            Position::Relative(by) => {
+                if by < 0 {
+                    at.saturating_sub(by.unsigned_abs())
+                } else {
+                    at + by.unsigned_abs()
+                }
+            }
+        }
+    }
+
+    /// The row of a sequence, or `None` where it is far out of range.
+    fn moved_row(self, at: isize) -> Option<isize>
+        requires { nat_abs at ≤ 2147483647 }
+        ensures { MatchOption result (2147483647 < nat_abs (moved self at)) (λ r. r ≡ moved self at) }
+    {
+        match self {
+            Position::Absolute(to) => {
+                if to > 2_147_483_647 {
+                    return None;
+                }
+                Some(to as isize)
+            }
+            Position::Relative(by) => {
+                if by > 4_294_967_294 || by < -4_294_967_294 {
+                    return None;
+                }
+                Some(at + by)
+            }
+        }
+    }
+}
+
+/// The track after a change, or `None` where a place on the way is out of range.
+fn measure_change(cols: usize, track: Track, change: &Change) -> Option<Track>
+    requires above { 0 < cols }
+    requires cols { cols ≤ 65535 }
+    requires range { is_in_range (place_of track) ≡ true }
+    ensures { Measures track (places_of_change cols (change_view change.now) (place_of track)) result }
+{
+    match change {
+        Change::Text(text) => measure_text(cols, track, text.as_str()),
+        Change::ClearScreen(_) => track.reach(0, 0),
+        Change::Attribute(_) | Change::AllAttributes(_) | Change::ClearToEndOfScreen(_) => {
+            Some(track)
+        }
+        Change::CursorPosition { x, y } => {
+            let col = x.moved_from(track.x).min(cols - 1);
+            let row = y.moved_row(track.y)?;
+            track.reach(col, row)
+        }
+    }
+}
+
+/// Changes for a screen of a given number of columns, with the place to which they lead and the
+/// rows that they take. Rows count from the row in which the sequence begins.
+#[derive(Debug, Drop)]
+pub struct ChangeSequence {
+    cols: usize,
+    reached: Track,
+    changes: Vec<Change>,
+}
+
+impl Model for ChangeSequence {
+    ghost use Rattle.tw_surface.specs.ChangeView.{batch_view};
+    ghost use Rattle.tw_surface.specs.Drawings.{Drawing};
+    ghost use Rattle.tw_surface.specs.Tracks.{IsMeasured};
+
+    ghost Value = { Drawing };
+
+    ghost view = { λ s. record { cols = s.cols; changes = batch_view s.changes.items } };
+
+    ghost invariant = { λ s. IsMeasured s.cols (batch_view s.changes.items) s.reached };
+}
+
+impl ChangeSequence {
+    /// A sequence without changes. Takes no memory.
+    pub fn new(alloc: Global, rows: usize, cols: usize) -> Result<Self, SizeFault>
+        ensures zero { (rows ≡ 0) ⊎ (cols ≡ 0) → result ≡ Err SizeFault.ZeroSize }
+        ensures large { 0 < rows → 0 < cols → (65535 < rows) ⊎ (65535 < cols) → result ≡ Err SizeFault.OutOfRange }
+        ensures ok { 0 < rows → 0 < cols → rows ≤ 65535 → cols ≤ 65535 → result ≡ Ok (record { cols = cols; changes = [] }) }
+    {
+        if rows == 0 || cols == 0 {
+            return Err(SizeFault::ZeroSize);
+        }
+        if rows > 65_535 || cols > 65_535 {
+            return Err(SizeFault::OutOfRange);
+        }
+        Ok(ChangeSequence {
+            cols,
+            reached: Track::start(),
+            changes: Vec::new(alloc),
+        })
+    }
+
+    /// The column and the row to which the changes lead. The column is the number of columns where
+    /// the wrap is pending.
+    pub fn current_cursor_position(&self) -> (usize, isize)
+        ensures column { result.0 ≡ (place self.now).x }
+        ensures row { result.1 ≡ (place self.now).y }
+    {
+        (self.reached.x, self.reached.y)
+    }
+
+    /// The greatest row so far minus the least one, row 0 counted in both.
+    pub fn render_height(&self) -> usize
+        ensures { result ≡ height self.now.cols self.now.changes }
+    {
+        (self.reached.greatest - self.reached.least) as usize
+    }
+
+    /// Adds a change at the end. A refusal leaves the sequence as it was and drops the change;
+    /// whether a place is out of range is tested before any growth.
+    pub fn add<C: Into<Change>>(&mut self, change: C) -> Result<(), AddFault>
+        ensures { (made : Change) × C.converts change made × Adds (change_view made) self.old self.new result }
+    {
+        self.add_change(change.into())
+    }
+
+    /// Adds a change that needs no conversion, as [`ChangeSequence::add`] does.
+    pub fn add_change(&mut self, change: Change) -> Result<(), AddFault>
+        ensures { Adds (change_view change) self.old self.new result }
+    {
+        let Some(next) = measure_change(self.cols, self.reached, &change) else {
+            return Err(AddFault::OutOfRange);
+        };
+        if self.changes.push(change).is_err() {
+            return Err(AddFault::Memory);
+        }
+        self.reached = next;
+        Ok(())
+    }
+
+    /// Adds the relative move to a column and a row. A column that the screen doesn't have, or a row
+    /// past the limit, is `OutOfRange`; a refusal leaves the sequence as it was.
+    pub fn move_to(&mut self, to: (usize, isize)) -> Result<(), AddFault>
+        ensures moved { OnOk result (self.new ≡ record self.old { changes = self.old.changes ++ move_between (place self.old) (record { x = to.0; y = to.1 }) ∷ [] }) }
+        ensures place { OnOk result (place self.new ≡ record { x = to.0; y = to.1 }) }
+        ensures refused { OnErr result (self.new ≡ self.old) }
+        ensures range { (result ≡ Err AddFault.OutOfRange) ↔ ((self.old.cols ≤ to.0) ⊎ (2147483647 < nat_abs to.1)) }
+    {
+        let (x, y) = to;
+        if x >= self.cols || y > 2_147_483_647 || y < -2_147_483_647 {
+            return Err(AddFault::OutOfRange);
+        }
+        let change = relative_move(self.reached, x, y);
+        self.add_change(change)
+    }
+
+    /// The changes in the order in which they were added. Takes no memory.
+    pub fn consume(self) -> Vec<Change>
+        ensures { batch_view result.items ≡ self.changes }
+    {
+        self.changes
+    }
+}
+
+/// The relative move from where a track ends.
+fn relative_move(from: Track, x: usize, y: isize) -> Change
+    requires from_column { from.x ≤ 2147483647 }
+    requires to_column { x ≤ 65535 }
+    requires from_row { nat_abs from.y ≤ 2147483647 }
+    requires to_row { nat_abs y ≤ 2147483647 }
+    ensures { change_view result ≡ move_between (place_of from) (record { x = x; y = y }) }
+{
+    Change::CursorPosition {
+        x: Position::Relative(x as isize - from.x as isize),
+        y: Position::Relative(y - from.y),
+    }
+}
