@@ -1,2 +1,5 @@
 pub mod TrackLemmas
 pub mod DrawingLemmas
+pub mod PlaceLemmas
+pub mod HeightLemmas
+pub mod EqualityLemmas

@@ -8,3 +8,4 @@ pub mod Places
 pub mod Drawings
 pub mod Tracks
 pub mod Adding
+pub mod Laws

@@ -4,6 +4,7 @@
 mod cell;
 mod change;
 mod color;
+pub mod laws;
 mod measure;
 mod sequence;
 mod size;
