@@ -3,3 +3,13 @@ pub mod DrawingLemmas
 pub mod PlaceLemmas
 pub mod HeightLemmas
 pub mod EqualityLemmas
+pub mod LineOfCells
+pub mod TypedText
+pub mod TypedChanges
+pub mod LowerText
+pub mod PaintedScenes
+pub mod PaintingHeights
+pub mod ShotLemmas
+pub mod FreshLemmas
+pub mod SizedScenes
+pub mod WorkedPaintings

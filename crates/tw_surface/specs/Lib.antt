@@ -9,3 +9,9 @@ pub mod Drawings
 pub mod Tracks
 pub mod Adding
 pub mod Laws
+pub mod Lines
+pub mod Scenes
+pub mod Paintings
+pub mod Shots
+pub mod Fresh
+pub mod ScreenLaws

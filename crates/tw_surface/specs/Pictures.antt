@@ -20,6 +20,10 @@ blank = 32
 abbrev pub no_cells : ℕ → ℕ → ℕ
 no_cells i j = blank
 
+-- nothing but a cursor
+abbrev pub cursor_at : ℕ → ℕ → Picture
+cursor_at row col = record { cell = no_cells; row = row; col = col }
+
 -- ch at row r and column c, and every other cell as it was
 abbrev pub written : (ℕ → ℕ → ℕ) → ℕ → ℕ → ℕ → ℕ → ℕ → ℕ
 written cell r c ch i j = if eqb i r && eqb j c then ch else cell i j
@@ -50,7 +54,7 @@ abbrev pub play : ℕ → ChangeView → Picture → Picture
 play width (Attribute a) s = s
 play width (AllAttributes a) s = s
 play width (Text text) s = play_text width text s
-play width (ClearScreen color) s = record { cell = no_cells; row = 0; col = 0 }
+play width (ClearScreen color) s = cursor_at 0 0
 play width (ClearToEndOfScreen color) s = record s { cell = cleared s.cell s.row s.col }
 play width (CursorPosition x y) s =
     record s { row = at_least_0 (moved y (pos s.row)); col = min (width - 1) (at_least_0 (moved x (pos s.col))) }

@@ -7,6 +7,7 @@ ghost use Rattle.tw_surface.specs.declared.change.Change.{Change};
 ghost use Rattle.tw_surface.specs.declared.change.Position.{Position};
 ghost use Rattle.tw_surface.specs.declared.color.ColorAttribute.{ColorAttribute};
 ghost use Rattle.tw_surface.specs.ChangeView.{change_view};
+ghost use Rattle.tw_surface.specs.ScreenLaws.{FirstPainting, LaterPainting, ClearedPainting, IncrementalEqualsFresh, Beginning, ClosingBatch, Stacking, CountedRows, LinesOfText, RowsOfLine, OneFreshPainting, EveryPainting, LastPainting};
 ghost use Rattle.tw_surface.specs.Laws.{PlacesByRelation, PlacesCounted, LastPlace, HeightByExtremes};
 
 use crate::cell::{AttributeChange, CellAttributes};
@@ -37,5 +38,24 @@ pub fn places()
 #[tactic(auto, using(crate::proofs::HeightLemmas::heights_laws))]
 pub fn heights()
     ensures { HeightByExtremes }
+{
+}
+
+/// Incremental equals fresh: after each painting of a list of scenes the screen shows what one fresh
+/// painting of that scene would show, and a list that is closed stays above the next one.
+pub fn incremental_equals_fresh()
+    ensures first { FirstPainting }
+    ensures later { LaterPainting }
+    ensures cleared { ClearedPainting }
+    ensures painted { IncrementalEqualsFresh }
+    ensures every { EveryPainting }
+    ensures last { LastPainting }
+    ensures beginning { Beginning }
+    ensures closed { ClosingBatch }
+    ensures stacked { Stacking }
+    ensures rows_counted { CountedRows }
+    ensures lines { LinesOfText }
+    ensures rows { RowsOfLine }
+    ensures one { OneFreshPainting }
 {
 }

@@ -1,0 +1,142 @@
+-- The lines of a lower text, and what its changes type.
+use Rattle.std.proofs.Common.{◌≡◌, ℕ, zero, suc, ◌+◌, ◌-◌, ◌/◌, ◌<◌, ◌≤◌, max, Bool, true, false, ◌&&◌, eqb, cond, List, [], ◌∷◌, ◌++◌, refl, sym, ap, ◌∙◌, arith}
+use Rattle.std.specs.List.{list_all}
+use Rattle.std.proofs.lemmas.Bool.{eqb-true, ne_eqb, and_parts, and_from, false≢true, leb-true}
+use Rattle.std.proofs.lemmas.List.{append-nil}
+use Rattle.std.proofs.lemmas.List.Folds.{list_all-append}
+use Rattle.std.proofs.Math.Nat.{add-div_right, div-eq_of_lt, max-eq_right, zero-div}
+use Rattle.tw_surface.specs.ChangeView.{Attribute, AllAttributes, Text, ClearScreen, ClearToEndOfScreen, CursorPosition}
+use Rattle.tw_surface.specs.Scenes.Lower.{NoLower, Preview, Search}
+use Rattle.tw_surface.proofs.TypedText.{Tracks, tracks-text}
+use Rattle.tw_surface.proofs.TypedChanges.{plain_from_printable}
+use Rattle.tw_surface.specs.ChangeView.{ChangeView, Batch}
+use Rattle.tw_surface.specs.Pictures.{Picture, play_char, play_text, play_all}
+use Rattle.tw_surface.specs.Characters.{is_printable, is_plain}
+use Rattle.tw_surface.specs.Places.{Place, place_after, place_after_all}
+use Rattle.tw_surface.specs.Scenes.{is_typing, typed, Lower, lower_lines, IsPlainLower, is_text}
+use Rattle.tw_surface.specs.Lines.{before_lines, lines_of, joined}
+use Rattle.tw_surface.specs.Paintings.{lower_changes}
+
+-- the rows of a line of q characters
+pub rows-is : (w q : ℕ) → 0 < w → max 1 ((q + w - 1) / w) ≡ 1 + (q - 1) / w
+rows-is w zero h =
+    let e : 0 + w - 1 < w = omega arith in
+    rw (div-eq_of_lt e, zero-div w) refl
+rows-is w (suc q) h =
+    let e : suc q + w - 1 ≡ q + w = omega arith in
+    let d : suc q - 1 ≡ q = omega arith in
+    rw (e, d, add-div_right q h) (max-eq_right (omega arith) ∙ omega arith)
+
+-- ---- lines
+
+-- lines with CR LF before each
+abbrev pub breaks : List (List ℕ) → List ℕ
+breaks [] = []
+breaks (line ∷ more) = 13 ∷ 10 ∷ (line ++ breaks more)
+
+breaks-before : (b : ℕ) (ls : List (List ℕ)) (t : List ℕ) → breaks ls ≡ 13 ∷ 10 ∷ t → breaks (before_lines b ls) ≡ 13 ∷ 10 ∷ b ∷ t
+breaks-before b [] t e = absurd (cc (e))
+breaks-before b ([] ∷ more) t e = let d : breaks more ≡ t = cc (e) in ap (λ x. 13 ∷ 10 ∷ b ∷ x) d
+breaks-before b ((c ∷ line) ∷ more) t e = go (eqb b 13 && eqb c 10) refl
+  where
+    d : c ∷ (line ++ breaks more) ≡ t
+    d = cc (e)
+
+    go : (k : Bool) → (eqb b 13 && eqb c 10) ≡ k
+        → breaks (cond k ([] ∷ line ∷ more) ((b ∷ c ∷ line) ∷ more)) ≡ 13 ∷ 10 ∷ b ∷ t
+    go true k =
+        let both = and_parts (eqb b 13) (eqb c 10) k in
+        let x : b ≡ 13 = eqb-true _ _ both.0 in
+        let y : c ≡ 10 = eqb-true _ _ both.1 in
+        rw (x, sym d, y) refl
+    go false k = ap (λ x. 13 ∷ 10 ∷ b ∷ x) d
+
+-- CR LF and a text are its lines with CR LF before each
+pub breaks-lines : (t : List ℕ) → breaks (lines_of t) ≡ 13 ∷ 10 ∷ t
+breaks-lines [] = refl
+breaks-lines (b ∷ t) = breaks-before b (lines_of t) t (breaks-lines t)
+
+joined-breaks : (line : List ℕ) (more : List (List ℕ)) → breaks (line ∷ more) ≡ 13 ∷ 10 ∷ joined (line ∷ more)
+joined-breaks line [] = rw append-nil refl
+joined-breaks line (next ∷ more) = ap (λ x. 13 ∷ 10 ∷ (line ++ x)) (joined-breaks next more)
+
+pub joined-lines : (t : List ℕ) → joined (lines_of t) ≡ t
+joined-lines t = go (lines_of t) (breaks-lines t)
+  where
+    go : (ls : List (List ℕ)) → breaks ls ≡ 13 ∷ 10 ∷ t → joined ls ≡ t
+    go [] e = absurd (cc (e))
+    go (line ∷ more) e = cc (joined-breaks line more, e)
+
+before_lines-plain : (b : ℕ) (t : List ℕ) → is_printable b ≡ true → before_lines b (t ∷ []) ≡ (b ∷ t) ∷ []
+before_lines-plain b [] h = refl
+before_lines-plain b (c ∷ t) h =
+    let low : 32 ≤ b = leb-true _ _ (and_parts _ _ h).0 in
+    rw (ne_eqb b 13 (λ e. omega arith)) refl
+
+-- a text of printable characters is one line
+pub one_line : (t : List ℕ) → list_all is_printable t ≡ true → lines_of t ≡ t ∷ []
+one_line [] a = refl
+one_line (b ∷ t) a =
+    let both = and_parts (is_printable b) (list_all is_printable t) a in
+    ap (before_lines b) (one_line t both.1) ∙ before_lines-plain b t both.0
+
+pub breaks-plain : (ls : List (List ℕ)) → list_all (list_all is_printable) ls ≡ true → list_all is_plain (breaks ls) ≡ true
+breaks-plain [] a = refl
+breaks-plain (line ∷ more) a =
+    let both = and_parts (list_all is_printable line) (list_all (list_all is_printable) more) a in
+    list_all-append is_plain line (breaks more)
+    ∙ and_from (list_all is_plain line) (list_all is_plain (breaks more)) (plain_from_printable line both.0) (breaks-plain more both.1)
+
+-- ---- attributes and texts
+
+pub play_text-append : (w : ℕ) (a b : List ℕ) (s : Picture) → play_text w (a ++ b) s ≡ play_text w b (play_text w a s)
+play_text-append w [] b s = refl
+play_text-append w (ch ∷ a) b s = play_text-append w a b (play_char w ch s)
+
+-- attributes and texts play as one text
+pub changes-text : (w : ℕ) (changes : Batch) (s : Picture) → list_all is_text changes ≡ true → play_all w changes s ≡ play_text w (typed changes) s
+changes-text w [] s a = refl
+changes-text w (Attribute x ∷ changes) s a = changes-text w changes s a
+changes-text w (AllAttributes x ∷ changes) s a = changes-text w changes s a
+changes-text w (Text t ∷ changes) s a = changes-text w changes (play_text w t s) a ∙ sym (play_text-append w t (typed changes) s)
+changes-text w (ClearScreen c ∷ changes) s a = absurd (false≢true a)
+changes-text w (ClearToEndOfScreen c ∷ changes) s a = absurd (false≢true a)
+changes-text w (CursorPosition x y ∷ changes) s a = absurd (false≢true a)
+
+pub tracks-texts : (w start : ℕ) (changes : Batch) (at : Place) (s : Picture) → 0 < w → list_all is_text changes ≡ true
+    → list_all is_plain (typed changes) ≡ true → Tracks w start at s → Tracks w start (place_after_all w changes at) (play_all w changes s)
+tracks-texts w start [] at s h a p k = k
+tracks-texts w start (Attribute x ∷ changes) at s h a p k = tracks-texts w start changes at s h a p k
+tracks-texts w start (AllAttributes x ∷ changes) at s h a p k = tracks-texts w start changes at s h a p k
+tracks-texts w start (Text t ∷ changes) at s h a p k =
+    let both = and_parts (list_all is_plain t) (list_all is_plain (typed changes)) (sym (list_all-append is_plain t (typed changes)) ∙ p) in
+    tracks-texts w start changes (place_after w (Text t) at) (play_text w t s) h a both.1 (tracks-text w start t at s h both.0 k)
+tracks-texts w start (ClearScreen c ∷ changes) at s h a p k = absurd (false≢true a)
+tracks-texts w start (ClearToEndOfScreen c ∷ changes) at s h a p k = absurd (false≢true a)
+tracks-texts w start (CursorPosition x y ∷ changes) at s h a p k = absurd (false≢true a)
+
+pub typing-is_text : (changes : Batch) → list_all is_typing changes ≡ true → list_all is_text changes ≡ true
+typing-is_text [] a = refl
+typing-is_text (Attribute x ∷ changes) a = typing-is_text changes a
+typing-is_text (AllAttributes x ∷ changes) a = typing-is_text changes a
+typing-is_text (Text t ∷ changes) a = typing-is_text changes (and_parts _ (list_all is_typing changes) a).1
+typing-is_text (ClearScreen c ∷ changes) a = absurd (false≢true a)
+typing-is_text (ClearToEndOfScreen c ∷ changes) a = absurd (false≢true a)
+typing-is_text (CursorPosition x y ∷ changes) a = absurd (false≢true a)
+
+-- ---- the lower text
+
+pub lower-is_text : (lower : Lower) → IsPlainLower lower → list_all is_text (lower_changes lower) ≡ true
+lower-is_text NoLower a = refl
+lower-is_text (Preview elements) a = a.0
+lower-is_text (Search text) a = refl
+
+pub lower-typed : (lower : Lower) → typed (lower_changes lower) ≡ breaks (lower_lines lower)
+lower-typed NoLower = refl
+lower-typed (Preview elements) = sym (breaks-lines (typed elements))
+lower-typed (Search text) = refl
+
+pub lower-printable : (lower : Lower) → IsPlainLower lower → list_all (list_all is_printable) (lower_lines lower) ≡ true
+lower-printable NoLower a = refl
+lower-printable (Preview elements) a = a.1
+lower-printable (Search text) a = and_from (list_all is_printable text) true a refl

@@ -1,0 +1,79 @@
+-- What a text of printable characters leaves on a screen, and that the screen's cursor is where the text is measured to end.
+use Rattle.std.proofs.Common.{◌≡◌, ℕ, suc, ◌+◌, ◌<◌, ◌≤◌, pos, ◌+ℤ◌, true, cond, leb, List, [], ◌∷◌, map, length, refl, arith, ◌⊎◌, inl, inr, add-zero}
+use Rattle.std.specs.List.{list_all}
+use Rattle.std.proofs.lemmas.Bool.{cases_eq, eq-eqb, ne_eqb, leb-true, and_parts, le-leb, lt-leb}
+use Rattle.std.proofs.lemmas.Int.{ints}
+use Rattle.tw_surface.proofs.LineOfCells.{point, over, Stands, put-stands, put-col}
+use Rattle.tw_surface.specs.Pictures.{Picture, put, play_char, play_text}
+use Rattle.tw_surface.specs.Characters.{is_printable, is_plain}
+use Rattle.tw_surface.specs.Places.{plain_piece, pieces, Place, next_place, end_of_pieces}
+
+-- ---- characters
+
+printable_play : (w ch : ℕ) (s : Picture) → is_printable ch ≡ true → play_char w ch s ≡ put w ch s
+printable_play w ch s h =
+    let low : 32 ≤ ch = leb-true _ _ (and_parts _ _ h).0 in
+    rw (ne_eqb ch 13 (λ e. omega arith), ne_eqb ch 10 (λ e. omega arith)) refl
+
+pub play-typed : (w : ℕ) (t : List ℕ) (s : Picture) (p : ℕ) (f : ℕ → ℕ) → 0 < w → list_all is_printable t ≡ true
+    → Stands w s p f → Stands w (play_text w t s) (p + length t) (over p t f)
+play-typed w [] s p f h a st = rw add-zero st
+play-typed w (ch ∷ t) s p f h a st =
+    let both = and_parts (is_printable ch) (list_all is_printable t) a in
+    let e : p + suc (length t) ≡ p + 1 + length t = omega arith in
+    rw (e, printable_play w ch s both.0)
+    (play-typed w t (put w ch s) (p + 1) (point p ch f) h both.1 (put-stands w ch s p f h st))
+
+-- ---- the screen's cursor and the measured place, for a screen entered at row start
+
+pub record Tracks (w start : ℕ) (at : Place) (s : Picture) : Type 0 where
+  pub x : s.col ≡ at.x
+  pub y : pos s.row ≡ pos start +ℤ at.y
+  pub within : s.col ≤ w
+
+tracks-put : (w start ch : ℕ) (at : Place) (s : Picture) → 0 < w → Tracks w start at s
+    → Tracks w start (cond (leb (at.x + 1) w) record { x = at.x + 1; y = at.y } record { x = 1; y = at.y +ℤ pos 1 }) (put w ch s)
+tracks-put w start ch at s h t =
+    elim (cases_eq s.col w) [
+      | inl e ↦ rw (eq-eqb _ _ e, lt-leb (at.x + 1) w (omega (arith, t.x, e))) (record {
+        x = refl;
+        y = omega (arith, ints, t.y);
+        within = omega arith;
+      })
+      | inr n ↦ rw (ne_eqb _ _ n, le-leb (at.x + 1) w (omega (arith, t.x, n, t.within))) (record {
+        x = omega (arith, t.x);
+        y = t.y;
+        within = omega (arith, n, t.within);
+      })
+    ]
+
+tracks-char : (w start ch : ℕ) (at : Place) (s : Picture) → 0 < w → Tracks w start at s
+    → Tracks w start (next_place w (plain_piece ch) at) (play_char w ch s)
+tracks-char w start ch at s h t =
+    elim (cases_eq ch 13) [
+      | inl e ↦ rw (eq-eqb _ _ e) (record { x = refl; y = t.y; within = omega arith })
+      | inr n ↦ elim (cases_eq ch 10) [
+        | inl e ↦ rw (ne_eqb _ _ n, eq-eqb _ _ e) (record { x = t.x; y = omega (arith, ints, t.y); within = t.within })
+        | inr m ↦ rw (ne_eqb _ _ n, ne_eqb _ _ m) (tracks-put w start ch at s h t)
+      ]
+    ]
+
+tracks-chars : (w start : ℕ) (t : List ℕ) (at : Place) (s : Picture) → 0 < w → Tracks w start at s
+    → Tracks w start (end_of_pieces w (map plain_piece t) at) (play_text w t s)
+tracks-chars w start [] at s h k = k
+tracks-chars w start (ch ∷ t) at s h k =
+    tracks-chars w start t (next_place w (plain_piece ch) at) (play_char w ch s) h (tracks-char w start ch at s h k)
+
+pub tracks-text : (w start : ℕ) (t : List ℕ) (at : Place) (s : Picture) → 0 < w → list_all is_plain t ≡ true → Tracks w start at s
+    → Tracks w start (end_of_pieces w (pieces t) at) (play_text w t s)
+unfolding pieces
+tracks-text w start t at s h a k = rw a (tracks-chars w start t at s h k)
+
+-- after a printable character the column is not 0
+pub typed-col : (w : ℕ) (t : List ℕ) (s : Picture) → list_all is_printable t ≡ true → (0 < s.col) ⊎ (0 < length t) → 0 < (play_text w t s).col
+typed-col w [] s a (inl h) = h
+typed-col w [] s a (inr h) = absurd (omega arith)
+typed-col w (ch ∷ t) s a h =
+    let both = and_parts (is_printable ch) (list_all is_printable t) a in
+    let first : 0 < (play_char w ch s).col = rw (printable_play w ch s both.0) (put-col w ch s) in
+    typed-col w t (play_char w ch s) both.1 (inl first)
