@@ -43,25 +43,25 @@ joined a b e0 e1 e2 e3 e4 e5 e6 e7 e8 =
 
 pub attributes_equal : (a b : CellAttributes) → IsTrue (attributes.eq a b) ↔ (a ≡ b)
 attributes_equal a b = (
-    (λ h.
-        let s0 = and_parts _ _ h in
-        let s1 = and_parts _ _ s0.1 in
-        let s2 = and_parts _ _ s1.1 in
-        let s3 = and_parts _ _ s2.1 in
-        let s4 = and_parts _ _ s3.1 in
-        let s5 = and_parts _ _ s4.1 in
-        let s6 = and_parts _ _ s5.1 in
-        let s7 = and_parts _ _ s6.1 in
-        joined a b (same_true intensity tt _ _ s0.0) (same_true underline tt _ _ s1.0) (same_true blink tt _ _ s2.0)
-        (beq-is _ _ s3.0) (beq-is _ _ s4.0) (beq-is _ _ s5.0) (beq-is _ _ s6.0)
-        ((colors_equal _ _).0 s7.0) ((colors_equal _ _).0 s7.1)),
-    (λ e.
-        and_from _ _ (true_same intensity _ _ (ap (λ x. x.intensity) e))
-        (and_from _ _ (true_same underline _ _ (ap (λ x. x.underline) e))
-        (and_from _ _ (true_same blink _ _ (ap (λ x. x.blink) e))
-        (and_from _ _ (is-beq _ _ (ap (λ x. x.italic) e))
-        (and_from _ _ (is-beq _ _ (ap (λ x. x.reverse) e))
-        (and_from _ _ (is-beq _ _ (ap (λ x. x.strikethrough) e))
-        (and_from _ _ (is-beq _ _ (ap (λ x. x.invisible) e))
-        (and_from _ _ ((colors_equal _ _).1 (ap (λ x. x.foreground) e)) ((colors_equal _ _).1 (ap (λ x. x.background) e)))))))))),
+  (λ h.
+      let s0 = and_parts _ _ h in
+      let s1 = and_parts _ _ s0.1 in
+      let s2 = and_parts _ _ s1.1 in
+      let s3 = and_parts _ _ s2.1 in
+      let s4 = and_parts _ _ s3.1 in
+      let s5 = and_parts _ _ s4.1 in
+      let s6 = and_parts _ _ s5.1 in
+      let s7 = and_parts _ _ s6.1 in
+      joined a b (same_true intensity tt _ _ s0.0) (same_true underline tt _ _ s1.0) (same_true blink tt _ _ s2.0)
+      (beq-is _ _ s3.0) (beq-is _ _ s4.0) (beq-is _ _ s5.0) (beq-is _ _ s6.0)
+      ((colors_equal _ _).0 s7.0) ((colors_equal _ _).0 s7.1)),
+  (λ e.
+      and_from _ _ (true_same intensity _ _ (ap (λ x. x.intensity) e))
+      (and_from _ _ (true_same underline _ _ (ap (λ x. x.underline) e))
+      (and_from _ _ (true_same blink _ _ (ap (λ x. x.blink) e))
+      (and_from _ _ (is-beq _ _ (ap (λ x. x.italic) e))
+      (and_from _ _ (is-beq _ _ (ap (λ x. x.reverse) e))
+      (and_from _ _ (is-beq _ _ (ap (λ x. x.strikethrough) e))
+      (and_from _ _ (is-beq _ _ (ap (λ x. x.invisible) e))
+      (and_from _ _ ((colors_equal _ _).1 (ap (λ x. x.foreground) e)) ((colors_equal _ _).1 (ap (λ x. x.background) e)))))))))),
 )

@@ -6,9 +6,9 @@ ghost use Rattle.unicode_segmentation.specs.Grapheme.{graphemes};
 ghost use Rattle.tw_surface.specs.Characters.{is_printable};
 ghost use Rattle.tw_surface.specs.Width.{cluster_width, column_width};
 
+use crate::color::ColorAttribute;
 use unicode_segmentation::UnicodeSegmentation;
 use unicode_width::UnicodeWidthStr;
-use crate::color::ColorAttribute;
 
 /// How strong a text is.
 #[derive(Debug, Copy, Clone, PartialEq, Eq)]
@@ -149,3 +149,6 @@ fn clusters_width(text: &str) -> usize
     }
     total
 }
+
+#[cfg(test)]
+mod tests;

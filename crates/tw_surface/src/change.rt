@@ -56,3 +56,6 @@ impl From<String> for Change {
         Change::Text(text)
     }
 }
+
+#[cfg(test)]
+mod tests;

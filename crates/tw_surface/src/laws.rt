@@ -22,8 +22,7 @@ pub fn equality()
     ensures colors { (a b : ColorAttribute) → IsTrue (⟦<ColorAttribute as PartialEq>⟧.eq a b) ↔ (a ≡ b) }
     ensures attributes { (a b : CellAttributes) → IsTrue (⟦<CellAttributes as PartialEq>⟧.eq a b) ↔ (a ≡ b) }
     ensures attribute_changes { (a b : AttributeChange) → IsTrue (⟦<AttributeChange as PartialEq>⟧.eq a b) ↔ (a ≡ b) }
-{
-}
+{}
 
 /// The places of a text: each piece leads from its place to the next one by one of five rules.
 #[tactic(auto, using(crate::proofs::PlaceLemmas::places_laws))]
@@ -31,15 +30,13 @@ pub fn places()
     ensures by_relation { PlacesByRelation }
     ensures counted { PlacesCounted }
     ensures last { LastPlace }
-{
-}
+{}
 
 /// The height of a sequence is the greatest row that it reaches minus the least one.
 #[tactic(auto, using(crate::proofs::HeightLemmas::heights_laws))]
 pub fn heights()
     ensures { HeightByExtremes }
-{
-}
+{}
 
 /// Incremental equals fresh: after each painting of a list of scenes the screen shows what one fresh
 /// painting of that scene would show, and a list that is closed stays above the next one.
@@ -57,5 +54,4 @@ pub fn incremental_equals_fresh()
     ensures lines { LinesOfText }
     ensures rows { RowsOfLine }
     ensures one { OneFreshPainting }
-{
-}
+{}

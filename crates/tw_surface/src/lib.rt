@@ -9,7 +9,9 @@ mod measure;
 mod sequence;
 mod size;
 
-pub use cell::{AttributeChange, Blink, CellAttributes, Intensity, Underline, unicode_column_width};
+pub use cell::{
+    AttributeChange, Blink, CellAttributes, Intensity, Underline, unicode_column_width,
+};
 pub use change::{Change, Position};
 pub use color::ColorAttribute;
 pub use sequence::{AddFault, ChangeSequence};

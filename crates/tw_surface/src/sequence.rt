@@ -201,3 +201,6 @@ fn relative_move(from: Track, x: usize, y: isize) -> Change
         y: Position::Relative(y - from.y),
     }
 }
+
+#[cfg(test)]
+mod tests;

@@ -45,7 +45,9 @@ returns c =
     ∙ stays-measured d c.self.inside.reached (change_view c.args.change) true c.self.invariant c.in-Some.ensures.0 in
     record {
       added = rw (c.push.ensures.items, c.if-is_err.ensures.negation, map-append change_view c.self.inside.changes.items (c.args.change ∷ [])) (ap (λ d. more d) c.self.view_is);
-      refused = search rules; range = in_range _ _ e (λ is. cc) }
+      refused = search rules;
+      range = in_range _ _ e (λ is. cc);
+    }
   where
     more : Drawing → Drawing
     more d = record d { changes = d.changes ++ change_view c.args.change ∷ [] }
