@@ -13,3 +13,8 @@ pub mod ShotLemmas
 pub mod FreshLemmas
 pub mod SizedScenes
 pub mod WorkedPaintings
+pub mod CellLookups
+pub mod CellOrder
+pub mod CellWrites
+pub mod CellClears
+pub mod TextCursor

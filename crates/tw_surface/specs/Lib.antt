@@ -15,3 +15,4 @@ pub mod Paintings
 pub mod Shots
 pub mod Fresh
 pub mod ScreenLaws
+pub mod Cells

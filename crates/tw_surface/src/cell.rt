@@ -1,11 +1,11 @@
 //! The attributes of a cell, and the columns that a text takes.
 
 ghost use Rattle.std.specs.Prelude.{◌≡◌, ◌*◌, ◌≤◌, length, true};
-ghost use Rattle.std.specs.List.{list_all, sum_by};
+ghost use Rattle.std.specs.List.{sum_by};
 ghost use Rattle.unicode_segmentation.specs.Grapheme.{graphemes};
-ghost use Rattle.tw_surface.specs.Characters.{is_printable};
 ghost use Rattle.tw_surface.specs.Width.{cluster_width, column_width};
 
+use crate::characters::is_printable_text;
 use crate::color::ColorAttribute;
 use unicode_segmentation::UnicodeSegmentation;
 use unicode_width::UnicodeWidthStr;
@@ -131,12 +131,6 @@ pub fn unicode_column_width(s: &str) -> usize
     } else {
         clusters_width(s)
     }
-}
-
-fn is_printable_text(text: &[u8]) -> bool
-    ensures { result ≡ list_all is_printable text.now }
-{
-    text.iter().all(|byte| matches!(*byte, b' '..=b'~'))
 }
 
 fn clusters_width(text: &str) -> usize

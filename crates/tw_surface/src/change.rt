@@ -1,7 +1,8 @@
 //! The changes that are drawn on a screen.
 
-ghost use Rattle.std.specs.Prelude.{◌≡◌, IfOk, string_bytes};
+ghost use Rattle.std.specs.Prelude.{◌≡◌, ◌≤◌, pos, IfOk, string_bytes};
 ghost use Rattle.tw_surface.specs.ChangeView.{change_view, Text as TextView};
+ghost use Rattle.tw_surface.specs.Positions.{moved, at_least_0};
 
 use crate::cell::{AttributeChange, CellAttributes};
 use crate::color::ColorAttribute;
@@ -14,6 +15,19 @@ pub enum Position {
     Absolute(usize),
     /// Columns to the right or rows down; a negative number leads left or up.
     Relative(isize),
+}
+
+impl Position {
+    /// Where it leads from a column or a row up to 4,294,967,295, or 0 in place of a negative number.
+    pub(crate) fn moved_from(self, at: usize) -> usize
+        requires { at ≤ 4294967295 }
+        ensures { result ≡ at_least_0 (moved self (pos at)) }
+    {
+        match self {
+            Position::Absolute(to) => to,
+            Position::Relative(by) => at.saturating_add_signed(by),
+        }
+    }
 }
 
 /// One step of drawing.

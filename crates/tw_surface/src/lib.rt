@@ -3,9 +3,11 @@
 
 mod cell;
 mod change;
+mod characters;
 mod color;
 pub mod laws;
 mod measure;
+mod screen;
 mod sequence;
 mod size;
 
@@ -14,5 +16,6 @@ pub use cell::{
 };
 pub use change::{Change, Position};
 pub use color::ColorAttribute;
+pub use screen::{Screen, ScreenFault};
 pub use sequence::{AddFault, ChangeSequence};
 pub use size::SizeFault;

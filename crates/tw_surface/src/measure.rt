@@ -1,12 +1,11 @@
 //! How texts move the place of a sequence.
 
 ghost use Rattle.std.specs.Prelude.{◌≡◌, ◌≤◌, [], ◌∷◌, map, true};
-ghost use Rattle.std.specs.List.{list_all};
 ghost use Rattle.unicode_segmentation.specs.Grapheme.{graphemes};
-ghost use Rattle.tw_surface.specs.Characters.{is_plain};
 ghost use Rattle.tw_surface.specs.Places.{plain_piece, cluster_piece, pieces, next_place, places_after, is_in_range};
 ghost use Rattle.tw_surface.specs.Tracks.{place_of, Measures, start_track};
 
+use crate::characters::is_plain_text;
 use unicode_segmentation::UnicodeSegmentation;
 use unicode_width::UnicodeWidthStr;
 
@@ -107,14 +106,6 @@ impl Piece {
             _ => Piece::Wide(cluster.width()),
         }
     }
-}
-
-/// Whether each character is printable ASCII, CR or LF.
-pub fn is_plain_text(text: &[u8]) -> bool
-    ensures { result ≡ list_all is_plain text.now }
-{
-    text.iter()
-        .all(|byte| matches!(*byte, b'\r' | b'\n' | b' '..=b'~'))
 }
 
 fn measure_plain(cols: usize, start: Track, text: &[u8]) -> Option<Track>

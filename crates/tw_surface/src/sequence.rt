@@ -10,7 +10,7 @@ ghost use Rattle.tw_surface.specs.Adding.{Adds};
 
 use crate::change::{Change, Position};
 use crate::measure::{Track, measure_text};
-use crate::size::SizeFault;
+use crate::size::{MAX_SIZE, SizeFault};
 use std::alloc::Global;
 use std::marker::Model;
 
@@ -24,42 +24,23 @@ pub enum AddFault {
     OutOfRange,
 }
 
-impl Position {
-    /// The column or row, or 0 in place of a negative one, counted from one up to 4,294,967,295.
-    pub(crate) fn moved_from(self, at: usize) -> usize
-        requires { at ≤ 4294967295 }
-        ensures { result ≡ at_least_0 (moved self (pos at)) }
-    {
-        match self {
-            Position::Absolute(to) => to,
-            Position::Relative(by) => {
-                if by < 0 {
-                    at.saturating_sub(by.unsigned_abs())
-                } else {
-                    at + by.unsigned_abs()
-                }
+/// The row to which a position leads, or `None` where it is far out of range.
+fn moved_row(position: Position, at: isize) -> Option<isize>
+    requires { nat_abs at ≤ 2147483647 }
+    ensures { MatchOption result (2147483647 < nat_abs (moved position at)) (λ row. row ≡ moved position at) }
+{
+    match position {
+        Position::Absolute(row) => {
+            if row > 2_147_483_647 {
+                return None;
             }
+            Some(row as isize)
         }
-    }
-
-    /// The row of a sequence, or `None` where it is far out of range.
-    fn moved_row(self, at: isize) -> Option<isize>
-        requires { nat_abs at ≤ 2147483647 }
-        ensures { MatchOption result (2147483647 < nat_abs (moved self at)) (λ r. r ≡ moved self at) }
-    {
-        match self {
-            Position::Absolute(to) => {
-                if to > 2_147_483_647 {
-                    return None;
-                }
-                Some(to as isize)
+        Position::Relative(by) => {
+            if by > 4_294_967_294 || by < -4_294_967_294 {
+                return None;
             }
-            Position::Relative(by) => {
-                if by > 4_294_967_294 || by < -4_294_967_294 {
-                    return None;
-                }
-                Some(at + by)
-            }
+            Some(at + by)
         }
     }
 }
@@ -79,7 +60,7 @@ fn measure_change(cols: usize, track: Track, change: &Change) -> Option<Track>
         }
         Change::CursorPosition { x, y } => {
             let col = x.moved_from(track.x).min(cols - 1);
-            let row = y.moved_row(track.y)?;
+            let row = moved_row(*y, track.y)?;
             track.reach(col, row)
         }
     }
@@ -116,7 +97,7 @@ impl ChangeSequence {
         if rows == 0 || cols == 0 {
             return Err(SizeFault::ZeroSize);
         }
-        if rows > 65_535 || cols > 65_535 {
+        if rows > MAX_SIZE || cols > MAX_SIZE {
             return Err(SizeFault::OutOfRange);
         }
         Ok(ChangeSequence {

@@ -1,10 +1,13 @@
-//! Sizes that a screen can't have.
+//! Why a number of rows or columns is refused.
 
-/// Why a size is refused.
+/// The most rows or columns.
+pub const MAX_SIZE: usize = 65_535;
+
+/// Why a number of rows or columns is refused.
 #[derive(Debug, Copy, Clone, PartialEq, Eq)]
 pub enum SizeFault {
-    /// There are no rows or no columns.
+    /// There would be no row or no column.
     ZeroSize,
-    /// There are more than 65,535 rows or columns.
+    /// There would be more than 65,535 rows or columns.
     OutOfRange,
 }

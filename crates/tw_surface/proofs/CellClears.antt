@@ -1,0 +1,118 @@
+-- What is left of cells in order after a clear, and their last row.
+use Rattle.std.proofs.Common.{◌≡◌, ◌≢◌, ℕ, suc, ◌+◌, ◌-◌, ◌<◌, ◌≤◌, List, [], ◌∷◌, ◌++◌, length, take, drop, refl, sym, ap, ◌∙◌, arith, ◌⊎◌, inl, inr, Some, Result, Ok, Err, IfOk, IfErr}
+use Rattle.std.specs.List.{All}
+use Rattle.std.proofs.Math.Path.{fun_ext}
+use Rattle.std.proofs.lemmas.Bool.{cases_eq, cases_lt, cases_order, eq-eqb, ne_eqb, lt-ltb, le-ltb, le-leb, lt-leb}
+use Rattle.std.proofs.lemmas.List.{get_or-take, get_or-drop, length-take-le, length-drop, take-append-drop, append-nil}
+use Rattle.std.proofs.lemmas.List.Elements.{All-take}
+use Rattle.tw_surface.specs.declared.screen.Cell.{Cell}
+use Rattle.tw_surface.specs.Pictures.{blank, cleared}
+use Rattle.tw_surface.specs.Cells.{cell_in, cell_at, IsBefore, IsInOrder, IsAt, IsGapFor, IsSparse, IsLastRow}
+use Rattle.tw_surface.proofs.CellLookups.{StandsAt, NoneAtBefore, cell_in-none, cell_in-same_front, before_found, behind_found, cell_in_at}
+
+-- the cells below index i stand before a row and a column, and the others do not
+pub record IsCut (cells : List Cell) (row col i : ℕ) : Type 0 where
+  pub in_range : i ≤ length cells
+  pub before : (k : ℕ) → k < i → IsBefore (cell_at cells k).row (cell_at cells k).col row col
+  pub from : (k : ℕ) → i ≤ k → k < length cells → IsBefore (cell_at cells k).row (cell_at cells k).col row col → ⊥
+
+-- two places do not stand before each other
+not_both_before : (r c row col : ℕ) → IsBefore r c row col → IsBefore row col r c → ⊥
+not_both_before r c row col one other =
+    let same : r ≡ row = omega (arith, one.rows, other.rows) in
+    omega (arith, one.columns same, other.columns (sym same))
+
+-- the cells are cut at a cell that stands there
+pub cut_at : (cells : List Cell) → IsInOrder cells → (row col i : ℕ) → IsAt cells row col i → IsCut cells row col i
+cut_at cells ordered row col i at = record {
+  in_range = omega (arith, at.in_range);
+  before = before_found cells ordered row col i at;
+  from = λ k le below earlier.
+      elim (cases_eq k i) [
+        | inl same ↦ let here : IsBefore (cell_at cells i).row (cell_at cells i).col row col = rw same at earlier in omega (arith, here.columns, at.row_is, at.col_is)
+        | inr other ↦ not_both_before _ _ row col earlier (behind_found cells ordered row col i at k (omega arith) below)
+      ];
+}
+
+-- and at a gap
+pub cut_at_gap : (cells : List Cell) (row col i : ℕ) → IsGapFor cells row col i → IsCut cells row col i
+cut_at_gap cells row col i gap = record {
+  in_range = gap.in_range;
+  before = gap.before;
+  from = λ k le below earlier. not_both_before _ _ row col earlier (gap.behind k le below);
+}
+
+-- so they are cut where a search ends
+pub cut_at_search : (cells : List Cell) → IsInOrder cells → (row col : ℕ) (r : Result ℕ ℕ) → IfOk r (IsAt cells row col) → IfErr r (IsGapFor cells row col)
+    → (i : ℕ) → (r ≡ Ok i) ⊎ (r ≡ Err i) → IsCut cells row col i
+cut_at_search cells ordered row col r found absent i ends =
+    elim ends [
+      | inl e ↦ cut_at cells ordered row col i (rw e at found)
+      | inr e ↦ cut_at_gap cells row col i (rw e at absent)
+    ]
+
+module _ (cells : List Cell) (row col i : ℕ) (cut : IsCut cells row col i) where
+  -- before the place, the cells show what they showed
+  shows_before : (r c : ℕ) → IsBefore r c row col → cell_in (take i cells) r c ≡ cell_in cells r c
+  shows_before r c earlier =
+      let rest : cell_in (drop i cells) r c ≡ blank = cell_in-none (drop i cells) r c (λ k below there.
+      let size : length (drop i cells) ≡ length cells - i = length-drop i cells in
+      let place : cell_at (drop i cells) k ≡ cell_at cells (i + k) = get_or-drop i cells k _ in
+      let stands : StandsAt (cell_at cells (i + k)) r c = rw place at there in
+      cut.from (i + k) (omega arith) (omega (arith, cut.in_range)) (rw (stands.row_is, stands.col_is) earlier)) in
+      sym (ap (λ l. cell_in l r c) (sym (take-append-drop i cells))
+      ∙ cell_in-same_front (take i cells) (drop i cells) [] r c rest
+      ∙ ap (λ l. cell_in l r c) (append-nil (take i cells)))
+
+  -- at the place and behind it, a blank
+  blank_from : (r c : ℕ) → (IsBefore r c row col → ⊥) → cell_in (take i cells) r c ≡ blank
+  blank_from r c later = cell_in-none (take i cells) r c (λ k below there.
+      let size : length (take i cells) ≡ i = length-take-le i cells cut.in_range in
+      let place : cell_at (take i cells) k ≡ cell_at cells k = get_or-take i cells k _ (omega arith) in
+      let stands : StandsAt (cell_at cells k) r c = rw place at there in
+      let before = cut.before k (omega arith) in
+      later (record { rows = omega (arith, before.rows, stands.row_is); columns = λ same. omega (arith, before.columns, stands.row_is, stands.col_is) }))
+
+  -- so clearing drops the cells from the cut on
+  cleared_at : (r c : ℕ) → cell_in (take i cells) r c ≡ cleared (cell_in cells) row col r c
+  cleared_at r c =
+      elim (cases_order r row) [
+        | inl same ↦ elim (cases_lt c col) [
+          | inl left ↦ rw (le-ltb row r (omega arith), eq-eqb row r (sym same), lt-leb col c left) (shows_before r c (record { rows = omega arith; columns = λ _. left }))
+          | inr right ↦ rw (le-ltb row r (omega arith), eq-eqb row r (sym same), le-leb col c right) (blank_from r c (λ earlier. omega (arith, earlier.columns same)))
+        ]
+        | inr apart ↦ elim apart [
+          | inl above ↦ rw (le-ltb row r (omega arith), ne_eqb row r (λ e. omega arith)) (shows_before r c (record { rows = omega arith; columns = λ e. omega arith }))
+          | inr below ↦ rw (lt-ltb row r below) (blank_from r c (λ earlier. omega (arith, earlier.rows)))
+        ]
+      ]
+
+  pub cleared_take : cell_in (take i cells) ≡ cleared (cell_in cells) row col
+  cleared_take = fun_ext (λ r. fun_ext (λ c. cleared_at r c))
+
+  pub sparse_take : (width : ℕ) → IsSparse width cells → IsSparse width (take i cells)
+  sparse_take width sparse = record {
+    ordered = λ a b d below within.
+        let size : length (take i cells) ≡ i = length-take-le i cells cut.in_range in
+        rw (get_or-take i cells a d (omega arith), get_or-take i cells b d (omega arith)) (sparse.ordered a b d below (omega (arith, cut.in_range)));
+    inside = All-take (λ x. x.col < width) i cells sparse.inside;
+    visible = All-take (λ x. x.ch ≢ blank) i cells sparse.visible;
+  }
+
+-- from the width on, a blank
+pub blank_outside : (width : ℕ) (cells : List Cell) (row col : ℕ) → IsSparse width cells → width ≤ col → cell_in cells row col ≡ blank
+blank_outside width cells row col sparse outside = cell_in-none cells row col (λ k below there. omega (arith, sparse.inside k (record { row = 0; col = 0; ch = 0 }) below, there.col_is))
+
+-- the last cell stands in the last row
+pub last_row_is : (cells : List Cell) → IsInOrder cells → All (λ x. x.ch ≢ blank) cells → 0 < length cells → IsLastRow (cell_in cells) (Some (cell_at cells (length cells - 1)).row)
+last_row_is cells ordered visible some =
+    let i = length cells - 1 in
+    let last = cell_at cells i in
+    let at : IsAt cells last.row last.col i = record { in_range = omega arith; row_is = refl; col_is = refl } in (
+      (last.col, λ e. visible i (record { row = 0; col = 0; ch = 0 }) (omega arith) (sym (cell_in_at cells ordered last.row last.col i at) ∙ e)),
+      λ row col below. cell_in-none cells row col (λ k within there.
+          elim (cases_eq k i) [
+            | inl same ↦ let here : StandsAt (cell_at cells i) row col = rw same at there in omega (arith, here.row_is)
+            | inr other ↦ let earlier = before_found cells ordered last.row last.col i at k (omega arith) in omega (arith, earlier.rows, there.row_is)
+          ]),
+    )
