@@ -12,6 +12,8 @@ use crate::change::{Change, Position};
 use crate::characters::{is_plain_text, is_printable};
 use crate::size::{MAX_SIZE, SizeFault};
 use std::alloc::Global;
+use std::error::Error;
+use std::fmt;
 use std::marker::Model;
 
 // The last row that a screen reaches.
@@ -27,6 +29,18 @@ pub enum ScreenFault {
     /// The cursor would pass row 4,294,967,295.
     OutOfRange,
 }
+
+impl fmt::Display for ScreenFault {
+    fn fmt<W: fmt::Write>(&self, f: &mut fmt::Formatter<W>) -> fmt::Result {
+        f.write_str(match self {
+            ScreenFault::Memory => "out of memory",
+            ScreenFault::NotPlain => "text is not plain",
+            ScreenFault::OutOfRange => "row out of range",
+        })
+    }
+}
+
+impl Error for ScreenFault {}
 
 // A cell that is not blank.
 #[derive(Debug, Copy, Clone)]

@@ -12,6 +12,8 @@ use crate::change::{Change, Position};
 use crate::measure::{Track, measure_text};
 use crate::size::{MAX_SIZE, SizeFault};
 use std::alloc::Global;
+use std::error::Error;
+use std::fmt;
 use std::marker::Model;
 
 /// Why a change is refused.
@@ -23,6 +25,17 @@ pub enum AddFault {
     /// `move_to` also a column that the screen doesn't have.
     OutOfRange,
 }
+
+impl fmt::Display for AddFault {
+    fn fmt<W: fmt::Write>(&self, f: &mut fmt::Formatter<W>) -> fmt::Result {
+        f.write_str(match self {
+            AddFault::Memory => "out of memory",
+            AddFault::OutOfRange => "row or column out of range",
+        })
+    }
+}
+
+impl Error for AddFault {}
 
 /// The row to which a position leads, or `None` where it is far out of range.
 fn moved_row(position: Position, at: isize) -> Option<isize>

@@ -1,5 +1,8 @@
 //! Why a number of rows or columns is refused.
 
+use std::error::Error;
+use std::fmt;
+
 /// The most rows or columns.
 pub const MAX_SIZE: usize = 65_535;
 
@@ -11,3 +14,17 @@ pub enum SizeFault {
     /// There would be more than 65,535 rows or columns.
     OutOfRange,
 }
+
+impl fmt::Display for SizeFault {
+    fn fmt<W: fmt::Write>(&self, f: &mut fmt::Formatter<W>) -> fmt::Result {
+        f.write_str(match self {
+            SizeFault::ZeroSize => "no rows or no columns",
+            SizeFault::OutOfRange => "more than 65535 rows or columns",
+        })
+    }
+}
+
+impl Error for SizeFault {}
+
+#[cfg(test)]
+mod tests;

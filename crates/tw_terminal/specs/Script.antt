@@ -1,0 +1,94 @@
+-- What contracts see of a `ScriptTerminal`: a terminal whose calls are numbered, and the call that is to fail.
+use Rattle.std.specs.Prelude.{◌≡◌, ℕ, ◌+◌, ◌==◌, if◌then◌else◌, List, [], ◌∷◌, ◌++◌, length, take, map, ◌⊎◌, Option, Some, None, IsSome, is_some, unwrap_or, option_and_then}
+use Rattle.std.specs.Global.{Vec}
+use Rattle.tw_surface.specs.declared.change.Change.{Change}
+use Rattle.tw_surface.specs.ChangeView.{Batch, batch_view}
+use Rattle.tw_input.specs.EventView.{EventView}
+use Rattle.tw_terminal.specs.TerminalState.{TerminalState, size_after, count_up, usize_max}
+use Rattle.tw_terminal.specs.declared.terminal.ScreenSize.{ScreenSize}
+use Rattle.tw_terminal.specs.declared.script.Fault.{Fault}
+
+-- a script terminal: the terminal that it is, the number of its next call, none after the last, and its fault
+pub record Script : Type 0 where
+  pub terminal : TerminalState
+  pub next_call : Option ℕ
+  pub fault : Option Fault
+
+-- a new script terminal: nothing is rendered, no call was made and none is to fail
+abbrev pub fresh_script : ScreenSize → List EventView → Script
+fresh_script size events = record {
+  terminal = record { size = size; events = events; batches = []; flushed = 0; failures = 0 };
+  next_call = Some 0;
+  fault = None;
+}
+
+-- how many changes a fault takes at the call of this number, where it is a fault of that call
+abbrev pub taken_at : ℕ → Option Fault → Option ℕ
+taken_at call None = None
+taken_at call (Some fault) = if call == fault.call then Some fault.taken else None
+
+-- how many changes the next call takes before it fails, where it is the one to fail
+abbrev pub due : Script → Option ℕ
+due script = option_and_then (λ call. taken_at call script.fault) script.next_call
+
+-- the next call is the one to fail
+abbrev pub IsDue : Script → Type 0
+IsDue script = IsSome (due script)
+
+-- the number after a call's: none after the last
+abbrev pub number_after : ℕ → Option ℕ
+number_after call = if call == usize_max then None else Some (call + 1)
+
+-- a call is counted
+abbrev pub counted : Script → Script
+counted script = record script { next_call = option_and_then number_after script.next_call }
+
+-- this is done to the terminal, and to nothing else
+abbrev pub on_terminal : (TerminalState → TerminalState) → Script → Script
+on_terminal effect script = record script { terminal = effect script.terminal }
+
+-- a failure is counted
+abbrev pub failure_counted : TerminalState → TerminalState
+failure_counted terminal = record terminal { failures = count_up terminal.failures }
+
+-- a call is counted, and its failure too
+abbrev pub failed : Script → Script
+failed script = on_terminal failure_counted (counted script)
+
+-- a call is made: it fails where it is due, and else this is done to the terminal
+abbrev pub called : (TerminalState → TerminalState) → Script → Script
+called effect script = if is_some (due script) then failed script else on_terminal effect (counted script)
+
+-- the first of these events is taken, if there is one
+abbrev pub without_first : List EventView → TerminalState → TerminalState
+without_first [] terminal = terminal
+without_first (event ∷ rest) terminal = record terminal { events = rest; size = size_after event terminal.size }
+
+-- the first event left is taken, if there is one
+abbrev pub polled : TerminalState → TerminalState
+polled terminal = without_first terminal.events terminal
+
+-- all batches are flushed
+abbrev pub all_flushed : TerminalState → TerminalState
+all_flushed terminal = record terminal { flushed = length terminal.batches }
+
+-- these batches are taken
+abbrev pub recorded : List Batch → TerminalState → TerminalState
+recorded batches terminal = record terminal { batches = terminal.batches ++ batches }
+
+-- changes as one batch, or no batch where there are none
+abbrev pub as_batch : Batch → List Batch
+as_batch [] = []
+as_batch (change ∷ changes) = (change ∷ changes) ∷ []
+
+-- the beginning of a batch that the next call takes before it fails
+abbrev pub due_part : Batch → Script → List Batch
+due_part batch script = as_batch (take (unwrap_or (due script) 0) batch)
+
+-- a due `render` fails once it has recorded that beginning, or nothing where memory for it is refused
+abbrev pub FailsInPart : Batch → Script → Script → Type 0
+FailsInPart batch old new = (new ≡ failed (on_terminal (recorded (due_part batch old)) old)) ⊎ (new ≡ failed old)
+
+-- the batches that vectors of changes are
+abbrev pub batches_view : List (Vec Change) → List Batch
+batches_view batches = map (λ batch. batch_view batch.items) batches

@@ -1,0 +1,8 @@
+//! The terminal that a line editor works on, and one that plays a script.
+#![tactic(auto)]
+
+mod script;
+mod terminal;
+
+pub use script::ScriptTerminal;
+pub use terminal::{ScreenSize, Terminal, TerminalFault};

@@ -1,0 +1,75 @@
+//! What a line editor asks of a terminal.
+
+ghost use Rattle.std.specs.Prelude.{◌≡◌, IfOk, OnOk, OnErr, MatchOption};
+ghost use Rattle.tw_surface.specs.ChangeView.{batch_view};
+ghost use Rattle.tw_input.specs.EventView.{event_view};
+ghost use Rattle.tw_terminal.specs.TerminalState.{TerminalState, Fails, Takes, IsAtEnd, Renders, RenderFails, Flushes};
+
+use std::error::Error;
+use std::fmt;
+use tw_input::InputEvent;
+use tw_surface::Change;
+
+/// The size of a screen, in rows and columns of cells.
+#[derive(Debug, Clone, Copy, PartialEq, Eq)]
+pub struct ScreenSize {
+    pub rows: usize,
+    pub cols: usize,
+}
+
+/// Why a terminal refused a call.
+#[derive(Debug, Clone, Copy, PartialEq, Eq)]
+pub enum TerminalFault {
+    /// The device failed.
+    Device,
+    /// No memory was found.
+    Memory,
+}
+
+impl fmt::Display for TerminalFault {
+    fn fmt<W: fmt::Write>(&self, f: &mut fmt::Formatter<W>) -> fmt::Result {
+        f.write_str(match self {
+            TerminalFault::Device => "device failed",
+            TerminalFault::Memory => "out of memory",
+        })
+    }
+}
+
+impl Error for TerminalFault {}
+
+/// A terminal, as its contracts see it: its size, the events left, the batches of changes taken, how many of
+/// these are flushed, and a count of failures. A refused call adds one to the count, or leaves it at
+/// `usize::MAX`. Nothing changes but what a call says.
+pub trait Terminal {
+    ghost state: { Self → TerminalState };
+
+    /// The size of the screen, in rows and columns of cells. It changes where a `Resized` event is taken.
+    fn get_screen_size(&mut self) -> Result<ScreenSize, TerminalFault>
+        ensures size { IfOk result (λ size. size ≡ (state self.old).size) }
+        ensures ok { OnOk result (state self.new ≡ state self.old) }
+        ensures err { OnErr result (Fails (state self.old) (state self.new)) };
+
+    /// Takes the first event left, and answers none exactly where none is left. A `Resized` sets the size. A
+    /// refused call takes no event.
+    fn poll_input(&mut self) -> Result<Option<InputEvent>, TerminalFault>
+        ensures ok { IfOk result (λ event. MatchOption event
+            (IsAtEnd (state self.old) (state self.new))
+            (λ event. Takes (event_view event) (state self.old) (state self.new))) }
+        ensures err { OnErr result (Fails (state self.old) (state self.new)) };
+
+    /// Takes the changes as the last batch. A refused call has taken a beginning of them as one batch, or
+    /// nothing.
+    fn render(&mut self, changes: &[Change]) -> Result<(), TerminalFault>
+        ensures ok { OnOk result
+            (Renders (batch_view changes.now) (state self.old) (state self.new)) }
+        ensures err { OnErr result
+            (RenderFails (batch_view changes.now) (state self.old) (state self.new)) };
+
+    /// Flushes all batches taken. A refused call leaves the number of those that are flushed.
+    fn flush(&mut self) -> Result<(), TerminalFault>
+        ensures ok { OnOk result (Flushes (state self.old) (state self.new)) }
+        ensures err { OnErr result (Fails (state self.old) (state self.new)) };
+}
+
+#[cfg(test)]
+mod tests;
