@@ -1,79 +1,82 @@
 -- Where a text leads the cursor: by the cursor alone, and never up the screen.
-use Rattle.std.proofs.Common.{◌≡◌, ℕ, ◌+◌, ◌<◌, ◌≤◌, List, [], ◌∷◌, length, get_or, drop, refl, sym, ap, ◌∙◌, arith, inl, inr, add-one}
+use Rattle.std.proofs.Common.{◌≡◌, ℕ, ◌+◌, ◌<◌, ◌≤◌, List, [], ◌∷◌, length, get_or, drop, refl, sym, ap, ◌∙◌, arith, inl, inr}
 use Rattle.std.proofs.lemmas.Bool.{cases_eq, eq-eqb, ne_eqb}
-use Rattle.std.proofs.Math.Seq.{drop-cons}
+use Rattle.std.proofs.lemmas.List.{at_drop_more}
+use Rattle.tw_surface.specs.declared.screen.Cell.{Cell}
+use Rattle.tw_surface.specs.Characters.{cr, lf}
 use Rattle.tw_surface.specs.Pictures.{Picture, put, play_char, play_text}
 use Rattle.tw_surface.specs.Cells.{picture_of}
 use Rattle.tw_surface.specs.Pictures.{cursor_at}
-use Rattle.tw_surface.specs.declared.screen.Cell.{Cell}
 
--- the cursor of a picture
+-- a picture with its cells left out
 abbrev pub only_cursor : Picture → Picture
 only_cursor s = cursor_at s.row s.col
 
-put-cursor : (w b : ℕ) (s : Picture) → only_cursor (put w b s) ≡ only_cursor (put w b (only_cursor s))
-put-cursor w b s =
-    elim (cases_eq s.col w) [
-      | inl e ↦ rw (eq-eqb s.col w e) refl
-      | inr n ↦ rw (ne_eqb s.col w n) refl
+-- a printable character leads the cursor by the cursor alone
+put-cursor : (width ch : ℕ) (s : Picture) → only_cursor (put width ch s) ≡ only_cursor (put width ch (only_cursor s))
+put-cursor width ch s =
+    elim (cases_eq s.col width) [
+      | inl e ↦ rw (eq-eqb s.col width e) refl
+      | inr n ↦ rw (ne_eqb s.col width n) refl
     ]
 
-char-cursor : (w b : ℕ) (s : Picture) → only_cursor (play_char w b s) ≡ only_cursor (play_char w b (only_cursor s))
-char-cursor w b s =
-    elim (cases_eq b 13) [
-      | inl e ↦ rw (eq-eqb b 13 e) refl
-      | inr n ↦ elim (cases_eq b 10) [
-        | inl e ↦ rw (ne_eqb b 13 n, eq-eqb b 10 e) refl
-        | inr m ↦ rw (ne_eqb b 13 n, ne_eqb b 10 m) (put-cursor w b s)
+-- so does any character
+char-cursor : (width ch : ℕ) (s : Picture) → only_cursor (play_char width ch s) ≡ only_cursor (play_char width ch (only_cursor s))
+char-cursor width ch s =
+    elim (cases_eq ch cr) [
+      | inl e ↦ rw (eq-eqb ch cr e) refl
+      | inr n ↦ elim (cases_eq ch lf) [
+        | inl e ↦ rw (ne_eqb ch cr n, eq-eqb ch lf e) refl
+        | inr m ↦ rw (ne_eqb ch cr n, ne_eqb ch lf m) (put-cursor width ch s)
       ]
     ]
 
-pub text-cursor : (w : ℕ) (t : List ℕ) (s : Picture) → only_cursor (play_text w t s) ≡ only_cursor (play_text w t (only_cursor s))
-text-cursor w [] s = refl
-text-cursor w (b ∷ t) s =
-    text-cursor w t (play_char w b s)
-    ∙ ap (λ q. only_cursor (play_text w t q)) (char-cursor w b s)
-    ∙ sym (text-cursor w t (play_char w b (only_cursor s)))
+-- and a text
+text-cursor : (width : ℕ) (text : List ℕ) (s : Picture) → only_cursor (play_text width text s) ≡ only_cursor (play_text width text (only_cursor s))
+text-cursor width [] s = refl
+text-cursor width (ch ∷ text) s =
+    text-cursor width text (play_char width ch s)
+    ∙ ap (λ q. only_cursor (play_text width text q)) (char-cursor width ch s)
+    ∙ sym (text-cursor width text (play_char width ch (only_cursor s)))
 
-put-row : (w b : ℕ) (s : Picture) → s.row ≤ (put w b s).row
-put-row w b s =
-    elim (cases_eq s.col w) [
-      | inl e ↦ rw (eq-eqb s.col w e) (omega arith)
-      | inr n ↦ rw (ne_eqb s.col w n) (omega arith)
+-- a printable character leads to no row above
+put-row : (width ch : ℕ) (s : Picture) → s.row ≤ (put width ch s).row
+put-row width ch s =
+    elim (cases_eq s.col width) [
+      | inl e ↦ rw (eq-eqb s.col width e) (omega arith)
+      | inr n ↦ rw (ne_eqb s.col width n) (omega arith)
     ]
 
-char-row : (w b : ℕ) (s : Picture) → s.row ≤ (play_char w b s).row
-char-row w b s =
-    elim (cases_eq b 13) [
-      | inl e ↦ rw (eq-eqb b 13 e) (omega arith)
-      | inr n ↦ elim (cases_eq b 10) [
-        | inl e ↦ rw (ne_eqb b 13 n, eq-eqb b 10 e) (omega arith)
-        | inr m ↦ rw (ne_eqb b 13 n, ne_eqb b 10 m) (put-row w b s)
+-- nor does any character
+char-row : (width ch : ℕ) (s : Picture) → s.row ≤ (play_char width ch s).row
+char-row width ch s =
+    elim (cases_eq ch cr) [
+      | inl e ↦ rw (eq-eqb ch cr e) (omega arith)
+      | inr n ↦ elim (cases_eq ch lf) [
+        | inl e ↦ rw (ne_eqb ch cr n, eq-eqb ch lf e) (omega arith)
+        | inr m ↦ rw (ne_eqb ch cr n, ne_eqb ch lf m) (put-row width ch s)
       ]
     ]
 
-pub text-row : (w : ℕ) (t : List ℕ) (s : Picture) → s.row ≤ (play_text w t s).row
-text-row w [] s = omega arith
-text-row w (b ∷ t) s =
-    let one : s.row ≤ (play_char w b s).row = char-row w b s in
-    let more : (play_char w b s).row ≤ (play_text w t (play_char w b s)).row = text-row w t (play_char w b s) in
+-- nor does a text
+pub text-row : (width : ℕ) (text : List ℕ) (s : Picture) → s.row ≤ (play_text width text s).row
+text-row width [] s = omega arith
+text-row width (ch ∷ text) s =
+    let one : s.row ≤ (play_char width ch s).row = char-row width ch s in
+    let more : (play_char width ch s).row ≤ (play_text width text (play_char width ch s)).row = text-row width text (play_char width ch s) in
     omega arith
 
--- one character further
-pub play_text-drop : (w : ℕ) (t : List ℕ) (i : ℕ) (s : Picture) → i < length t
-    → play_text w (drop i t) s ≡ play_text w (drop (i + 1) t) (play_char w (get_or t i 0) s)
-play_text-drop w t i s h = rw (add-one, drop-cons t i 0) refl
-
-pub end_step : (w : ℕ) (t : List ℕ) (i row col r c : ℕ) → i < length t
-    → r ≡ (play_char w (get_or t i 0) (cursor_at row col)).row → c ≡ (play_char w (get_or t i 0) (cursor_at row col)).col
-    → (play_text w (drop (i + 1) t) (cursor_at r c)).row ≡ (play_text w (drop i t) (cursor_at row col)).row
-end_step w t i row col r c h a b =
-    let next : Picture = play_char w (get_or t i 0) (cursor_at row col) in
-    sym (ap (λ q. q.row) (play_text-drop w t i (cursor_at row col) h)
-    ∙ ap (λ q. q.row) (text-cursor w (drop (i + 1) t) next)
-    ∙ ap (λ k. (play_text w (drop (i + 1) t) (cursor_at k next.col)).row) (sym a)
-    ∙ ap (λ k. (play_text w (drop (i + 1) t) (cursor_at r k)).row) (sym b))
+-- one character further, by the cursor alone
+pub end_step : (width : ℕ) (text : List ℕ) (i row col next_row next_col : ℕ) → i < length text
+    → next_row ≡ (play_char width (get_or text i 0) (cursor_at row col)).row → next_col ≡ (play_char width (get_or text i 0) (cursor_at row col)).col
+    → (play_text width (drop (i + 1) text) (cursor_at next_row next_col)).row ≡ (play_text width (drop i text) (cursor_at row col)).row
+end_step width text i row col next_row next_col within row_is col_is =
+    let next : Picture = play_char width (get_or text i 0) (cursor_at row col) in
+    sym (at_drop_more (λ t. (play_text width t (cursor_at row col)).row) text i 0 within
+    ∙ ap (λ q. q.row) (text-cursor width (drop (i + 1) text) next)
+    ∙ ap (λ k. (play_text width (drop (i + 1) text) (cursor_at k next.col)).row) (sym row_is)
+    ∙ ap (λ k. (play_text width (drop (i + 1) text) (cursor_at next_row k)).row) (sym col_is))
 
 -- the row in which a text ends, by the cursor alone
-pub row_of_text : (w : ℕ) (t : List ℕ) (cells : List Cell) (row col : ℕ) → (play_text w t (picture_of cells row col)).row ≡ (play_text w t (cursor_at row col)).row
-row_of_text w t cells row col = ap (λ q. q.row) (text-cursor w t (picture_of cells row col))
+pub row_of_text : (width : ℕ) (text : List ℕ) (cells : List Cell) (row col : ℕ) → (play_text width text (picture_of cells row col)).row ≡ (play_text width text (cursor_at row col)).row
+row_of_text width text cells row col = ap (λ q. q.row) (text-cursor width text (picture_of cells row col))

@@ -8,4 +8,4 @@ pub returns : goal.returns
 returns c =
     let facts = c.binary_search_by_key.ensures in
     let by_key = facts.position (λ cell. (cell.row, cell.col)) (answers_always _ _ _ (λ f a r g called. search rules)) in
-    searched c.args.cells.now c.requires c.args.row c.args.col _ facts.bound by_key
+    searched c.args.cells.now c.requires c.args.row c.args.col c.binary_search_by_key.result facts.bound by_key
