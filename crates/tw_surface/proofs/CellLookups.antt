@@ -1,7 +1,6 @@
 -- What a list of cells shows at a row and a column.
-use Rattle.std.proofs.Common.{◌≡◌, ◌≢◌, ℕ, zero, suc, ◌+◌, ◌-◌, ◌<◌, ◌≤◌, List, [], ◌∷◌, ◌++◌, length, take, drop, refl, sym, ap, ◌∙◌, arith, inl, inr}
+use Rattle.std.proofs.Common.{◌≡◌, ℕ, zero, suc, ◌<◌, List, [], ◌∷◌, ◌++◌, length, refl, ◌∙◌, arith, inl, inr}
 use Rattle.std.proofs.lemmas.Bool.{cases_eq, cases_lt, eq-eqb, ne_eqb}
-use Rattle.std.proofs.lemmas.Bool.Decides.{nat_tests}
 use Rattle.tw_surface.specs.declared.screen.Cell.{Cell}
 use Rattle.tw_surface.specs.Pictures.{blank}
 use Rattle.tw_surface.specs.Cells.{cell_in, cell_at, IsBefore, IsInOrder, IsAt, IsGapFor}

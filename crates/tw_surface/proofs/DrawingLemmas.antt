@@ -1,10 +1,9 @@
 -- A track holds the place and the rows of its drawing.
-use Rattle.std.proofs.Common.{◌≡◌, ℕ, ◌+◌, ◌-◌, ◌<◌, ◌≤◌, ℤ, pos, ◌+ℤ◌, ◌-ℤ◌, ◌≤ℤ◌, Bool, true, ◌&&◌, leb, min, nat_abs, List, [], ◌∷◌, ◌++◌, map, refl, ap, sym, ◌∙◌, arith, Contains, ◌⊎◌, inl, inr}
-use Rattle.std.specs.List.{list_all, All}
-use Rattle.std.specs.Int.{int_min, int_max}
+use Rattle.std.proofs.Common.{◌≡◌, ℕ, ◌-◌, ◌<◌, ◌≤◌, ℤ, pos, ◌+ℤ◌, ◌-ℤ◌, Bool, true, ◌&&◌, leb, min, nat_abs, List, [], ◌∷◌, ◌++◌, map, refl, ap, sym, ◌∙◌, arith}
+use Rattle.std.specs.List.{list_all}
 use Rattle.std.proofs.Math.Nat.{min-eq_right}
 use Rattle.std.proofs.lemmas.Bool.{and_from, le-leb}
-use Rattle.std.proofs.lemmas.Int.{ints, clamps}
+use Rattle.std.proofs.lemmas.Int.{ints}
 use Rattle.tw_surface.specs.declared.measure.Piece.{Piece}
 use Rattle.tw_surface.specs.declared.measure.Track.{Track}
 use Rattle.tw_surface.specs.ChangeView.{ChangeView, Batch}
@@ -12,7 +11,7 @@ use Rattle.tw_surface.specs.ChangeView.{Attribute, AllAttributes, Text, ClearScr
 use Rattle.tw_surface.specs.Positions.{at_least_0}
 use Rattle.tw_surface.specs.Places.{Place, pieces, next_place, places_after, end_of_pieces, place_after, place_after_all, places_of_change, places_of_all, origin, is_in_range, stays_in_range, move_between}
 use Rattle.tw_surface.specs.Drawings.{Drawing, place, greatest, least, height}
-use Rattle.tw_surface.specs.Tracks.{place_of, reach, reach_all, track_after, track_after_all, start_track, IsSound, IsMeasured}
+use Rattle.tw_surface.specs.Tracks.{place_of, reach, reach_all, track_after, track_after_all, start_track, IsMeasured}
 use Rattle.tw_surface.proofs.TrackLemmas.{sound-reach_all}
 
 -- the last place of a list of pieces

@@ -1,5 +1,5 @@
 -- `==` of all attributes of a cell.
-use Rattle.std.proofs.Common.{◌≡◌, ◌↔◌, IsTrue, Bool, true, false, ◌&&◌, ap, ◌∙◌, refl, subst, sym, rules}
+use Rattle.std.proofs.Common.{◌≡◌, ◌↔◌, IsTrue, Bool, true, false, ap, ◌∙◌, refl, subst, rules}
 use Rattle.std.proofs.lemmas.Bool.{and_parts, and_from, false≢true}
 use mathlib.Core.Bool.{beq}
 use denote.Enum.Bare.{same_true, true_same}

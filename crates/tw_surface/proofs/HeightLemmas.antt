@@ -1,10 +1,10 @@
 -- The greatest and the least row that are computed are the extremes of the rows that are reached.
-use Rattle.std.proofs.Common.{◌≡◌, ℕ, zero, suc, ◌<◌, length, slice_index_or, ℤ, pos, ◌-ℤ◌, ◌≤ℤ◌, nat_abs, List, [], ◌∷◌, map, refl, ap, subst, sym, ◌∙◌, inl, inr, ◌⊎◌, arith, Contains, All, Bool, true, false, cond}
+use Rattle.std.proofs.Common.{◌≡◌, ℕ, zero, suc, ◌<◌, length, slice_index_or, ℤ, pos, ◌≤ℤ◌, List, [], ◌∷◌, map, refl, sym, ◌∙◌, inl, inr, ◌⊎◌, arith, Contains, Bool, true, false, cond}
 use lib.Signed.{lt_z}
 use Rattle.std.specs.Int.{int_min, int_max}
 use Rattle.std.proofs.lemmas.Int.{ints, clamps}
 use Rattle.tw_surface.specs.Places.{places_of_all, origin}
-use Rattle.tw_surface.specs.Drawings.{greatest, least, rows, IsGreatest, IsLeast}
+use Rattle.tw_surface.specs.Drawings.{greatest, least}
 use Rattle.tw_surface.specs.Laws.{HeightByExtremes}
 
 -- the greatest is not below the number that it starts from

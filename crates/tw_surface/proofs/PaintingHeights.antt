@@ -10,7 +10,7 @@ use Rattle.tw_surface.specs.ChangeView.{Attribute, AllAttributes, Text, ClearScr
 use Rattle.tw_surface.proofs.DrawingLemmas.{track_after_all-append, place_of-track_after_all, height-track}
 use Rattle.tw_surface.proofs.PaintedScenes.{closed, after-shown, cursor_place-row}
 use Rattle.tw_surface.proofs.LowerText.{typing-is_text, lower-is_text}
-use Rattle.tw_surface.specs.ChangeView.{ChangeView, Batch}
+use Rattle.tw_surface.specs.ChangeView.{Batch}
 use Rattle.tw_surface.specs.Pictures.{Picture, play_all, cursor_at}
 use Rattle.tw_surface.specs.Places.{Place, pieces, next_place, places_after, place_after_all, origin}
 use Rattle.tw_surface.specs.Tracks.{place_of, reach, reach_all, track_after_all, start_track}

@@ -1,9 +1,9 @@
 -- The computed places are those of the relation.
-use Rattle.std.proofs.Common.{◌≡◌, ℕ, suc, ◌+◌, ◌<◌, ◌≤◌, ℤ, pos, ◌+ℤ◌, Bool, true, false, cond, leb, List, [], ◌∷◌, length, refl, ap, sym, ◌∙◌, subst, inl, inr, arith, slice_get, Some}
+use Rattle.std.proofs.Common.{◌≡◌, ℕ, ◌+◌, ℤ, pos, ◌+ℤ◌, Bool, true, false, cond, leb, List, [], ◌∷◌, refl, ap, sym, ◌∙◌, subst, inl, inr, arith}
 use Rattle.std.proofs.lemmas.Bool.{leb-true, leb-false, le-leb, lt-leb}
 use Rattle.tw_surface.specs.declared.measure.Piece.{Piece}
 use Rattle.tw_surface.specs.declared.measure.Piece.TheVariants.{Cr, Lf, CrLf, Wide}
-use Rattle.tw_surface.specs.Places.{Place, Fits, Wraps, LeadsTo, ArePlaces, next_place, places_after, end_of_pieces}
+use Rattle.tw_surface.specs.Places.{Place, LeadsTo, ArePlaces, next_place, places_after}
 use Rattle.tw_surface.specs.Laws.{PlacesByRelation, PlacesCounted, LastPlace}
 
 -- a place with this column and this row

@@ -5,7 +5,7 @@ use Rattle.std.proofs.lemmas.List.{append_assoc}
 use Rattle.tw_surface.specs.ChangeView.{ClearScreen}
 use Rattle.tw_surface.proofs.PaintedScenes.{Painted, painted, painted_again, painted_cleared}
 use Rattle.tw_surface.proofs.PaintingHeights.{closed_painting}
-use Rattle.tw_surface.specs.ChangeView.{ChangeView, Batch}
+use Rattle.tw_surface.specs.ChangeView.{Batch}
 use Rattle.tw_surface.specs.Pictures.{Picture, play_all}
 use Rattle.tw_surface.specs.Scenes.{Scene, IsPlain}
 use Rattle.tw_surface.specs.Paintings.{Painting, painting, closing}

@@ -4,7 +4,7 @@ use Rattle.std.specs.List.{All}
 use Rattle.tw_surface.proofs.PaintedScenes.{Painted}
 use Rattle.tw_surface.proofs.PaintingHeights.{closed_painting}
 use Rattle.tw_surface.proofs.ShotLemmas.{ArePlain, painted_run, closing_of-is, beginning}
-use Rattle.tw_surface.specs.ChangeView.{ChangeView, Batch}
+use Rattle.tw_surface.specs.ChangeView.{Batch}
 use Rattle.tw_surface.specs.Pictures.{Picture, play_all}
 use Rattle.tw_surface.specs.Scenes.{Scene, IsPlain}
 use Rattle.tw_surface.specs.Paintings.{painting, closing}

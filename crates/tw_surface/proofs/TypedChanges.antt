@@ -5,7 +5,7 @@ use Rattle.std.proofs.lemmas.Bool.{cases_lt, and_parts, and_from, or_right, fals
 use Rattle.tw_surface.specs.ChangeView.{Attribute, AllAttributes, Text, ClearScreen, ClearToEndOfScreen, CursorPosition}
 use Rattle.tw_surface.proofs.LineOfCells.{point, over, Stands}
 use Rattle.tw_surface.proofs.TypedText.{play-typed, typed-col, Tracks, tracks-text}
-use Rattle.tw_surface.specs.ChangeView.{ChangeView, Batch}
+use Rattle.tw_surface.specs.ChangeView.{Batch}
 use Rattle.tw_surface.specs.Pictures.{Picture, play_text, play, play_all}
 use Rattle.tw_surface.specs.Characters.{is_printable, is_plain}
 use Rattle.tw_surface.specs.Places.{Place, place_after, place_after_all}

@@ -3,7 +3,7 @@ use Rattle.std.proofs.Common.{◌≡◌, ℕ, pos, negsuc, Bool, true, false, Li
 use Rattle.tw_surface.specs.declared.change.Position.TheVariants.{Absolute, Relative}
 use Rattle.tw_surface.specs.ChangeView.{AllAttributes, Text, ClearToEndOfScreen, CursorPosition}
 use Rattle.tw_surface.specs.Scenes.Lower.{NoLower, Preview}
-use Rattle.tw_surface.specs.ChangeView.{ChangeView, Batch}
+use Rattle.tw_surface.specs.ChangeView.{Batch}
 use Rattle.tw_surface.specs.Places.{pieces}
 use Rattle.tw_surface.specs.Pictures.{cursor_at}
 use Rattle.tw_surface.specs.Lines.{lines_of}

@@ -1,7 +1,7 @@
 -- Incremental equals fresh: after each painting of a list the screen shows what one fresh painting would show.
 use Rattle.std.specs.Prelude.{ℕ, ◌≡◌, ◌≤◌, ◌<◌, ◌+◌, ◌-◌, ◌/◌, length, pos, true, false, List, [], ◌∷◌, ◌++◌, map}
 use Rattle.std.specs.List.{list_all, list_any, All}
-use Rattle.tw_surface.specs.ChangeView.{ChangeView, Batch}
+use Rattle.tw_surface.specs.ChangeView.{Batch}
 use Rattle.tw_surface.specs.Pictures.{Picture}
 use Rattle.tw_surface.specs.Characters.{is_printable}
 use Rattle.tw_surface.specs.Lines.{lines_of, joined, rows_of}

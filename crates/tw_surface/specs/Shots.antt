@@ -2,7 +2,7 @@
 use Rattle.std.specs.Prelude.{ℕ, ◌≡◌, Bool, if◌then◌else◌, Option, Some, None, List, [], ◌∷◌, ◌++◌, map}
 use Rattle.std.specs.List.{list_any}
 use Rattle.tw_surface.specs.ChangeView.{ClearScreen}
-use Rattle.tw_surface.specs.ChangeView.{ChangeView, Batch}
+use Rattle.tw_surface.specs.ChangeView.{Batch}
 use Rattle.tw_surface.specs.Pictures.{Picture, play_all}
 use Rattle.tw_surface.specs.Scenes.{Scene, IsPlain}
 use Rattle.tw_surface.specs.Paintings.{Painting, painting, start_move, closing}

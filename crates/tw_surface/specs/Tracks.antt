@@ -1,11 +1,10 @@
 -- What the measure remembers of the places that a sequence of changes has reached: the last one, and the least and the greatest row.
-use Rattle.std.specs.Prelude.{ℕ, ℤ, pos, ◌≤ℤ◌, ◌≡◌, ◌<◌, ◌≤◌, nat_abs, true, false, Option, MatchOption, List, [], ◌∷◌}
+use Rattle.std.specs.Prelude.{ℕ, pos, ◌≤ℤ◌, ◌≡◌, ◌<◌, ◌≤◌, nat_abs, true, false, Option, MatchOption, List, [], ◌∷◌}
 use Rattle.std.specs.List.{list_all}
 use Rattle.std.specs.Int.{int_min, int_max}
-use Rattle.tw_surface.specs.declared.measure.Piece.{Piece}
 use Rattle.tw_surface.specs.declared.measure.Track.{Track}
 use Rattle.tw_surface.specs.ChangeView.{ChangeView, Batch}
-use Rattle.tw_surface.specs.Places.{Place, places_of_change, place_after, is_in_range}
+use Rattle.tw_surface.specs.Places.{Place, places_of_change, is_in_range}
 
 -- the last place
 abbrev pub place_of : Track → Place

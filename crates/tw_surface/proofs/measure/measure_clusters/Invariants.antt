@@ -1,7 +1,7 @@
-use Rattle.std.proofs.Common.{◌≡◌, map, true}
+use Rattle.std.proofs.Common.{map, true}
 use Rattle.unicode_segmentation.specs.Grapheme.{graphemes}
 use Rattle.unicode_segmentation.specs.Iter.{graphemes_left}
-use Rattle.tw_surface.specs.Places.{cluster_piece, places_after, is_in_range}
+use Rattle.tw_surface.specs.Places.{cluster_piece, places_after}
 use Rattle.tw_surface.specs.Tracks.{place_of}
 use Rattle.tw_surface.proofs.TrackLemmas.{IsUnderWay}
 use Rattle.tw_surface.proofs.measure.measure_clusters.Given as goal

@@ -1,4 +1,4 @@
-use Rattle.std.proofs.Common.{◌≡◌, drop, map, true}
+use Rattle.std.proofs.Common.{drop, map}
 use Rattle.tw_surface.specs.Places.{plain_piece, places_after}
 use Rattle.tw_surface.specs.Tracks.{place_of}
 use Rattle.tw_surface.proofs.TrackLemmas.{IsUnderWay}

@@ -1,4 +1,4 @@
-use Rattle.std.proofs.Common.{sym, ◌∙◌, arith}
+use Rattle.std.proofs.Common.{sym}
 use Rattle.tw_surface.proofs.CellLookups.{cell_in_at, cell_in_gap}
 use Rattle.tw_surface.proofs.screen.char_in.Goals as goal
 

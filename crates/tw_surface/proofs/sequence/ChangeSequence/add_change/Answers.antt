@@ -1,11 +1,9 @@
-use Rattle.std.proofs.Common.{◌≡◌, ◌↔◌, ◌∷◌, [], ◌++◌, Bool, true, false, List, map, ap, sym, ◌∙◌, refl, rules, Result, Err, Ok}
+use Rattle.std.proofs.Common.{◌≡◌, ◌↔◌, ◌∷◌, [], ◌++◌, Bool, true, false, ap, sym, ◌∙◌, refl, rules, Result, Err}
 use Rattle.std.proofs.lemmas.Bool.{false≢true}
 use Rattle.std.proofs.lemmas.List.{map-append}
 use Rattle.tw_surface.specs.declared.sequence.AddFault.{AddFault}
 use Rattle.tw_surface.specs.declared.sequence.AddFault.TheVariants.{OutOfRange}
-use Rattle.tw_surface.specs.declared.change.Change.{Change}
-use Rattle.tw_surface.specs.declared.measure.Track.{Track}
-use Rattle.tw_surface.specs.ChangeView.{Batch, change_view, batch_view}
+use Rattle.tw_surface.specs.ChangeView.{change_view, batch_view}
 use Rattle.tw_surface.specs.Places.{stays_in_range}
 use Rattle.tw_surface.specs.Drawings.{Drawing, place}
 use Rattle.tw_surface.proofs.DrawingLemmas.{stays-measured, measured-add}

@@ -2,7 +2,6 @@ use Rattle.std.proofs.Common.{◌≡◌, ap, ◌∙◌, rules}
 use Rattle.std.proofs.lemmas.Int.{to_z-of_z}
 use Rattle.std.specs.Int.{w64}
 use mir.Val.{SFits}
-use Rattle.tw_surface.specs.Places.{Place}
 use Rattle.tw_surface.specs.Drawings.{place}
 use Rattle.tw_surface.specs.Tracks.{place_of}
 use Rattle.tw_surface.specs.ChangeView.{batch_view}

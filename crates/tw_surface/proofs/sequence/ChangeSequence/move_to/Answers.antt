@@ -1,12 +1,11 @@
-use Rattle.std.proofs.Common.{◌≡◌, ◌≤◌, ◌<◌, ◌⊎◌, ◌∷◌, [], ◌++◌, ap, sym, ◌∙◌, nat_abs, arith, true, false, rules, OnOk, inl, inr}
+use Rattle.std.proofs.Common.{◌≡◌, ◌≤◌, ◌<◌, ap, sym, ◌∙◌, nat_abs, arith, true, rules, inl, inr}
 use Rattle.std.proofs.lemmas.Int.{ints, to_z-of_z}
 use Rattle.std.specs.Int.{w64}
 use mir.Val.{SFits}
 use Rattle.std.proofs.lemmas.Bool.{false≢true}
-use Rattle.tw_surface.specs.ChangeView.{ChangeView, change_view, batch_view}
+use Rattle.tw_surface.specs.ChangeView.{change_view, batch_view}
 use Rattle.tw_surface.specs.Places.{Place, move_between, stays_in_range}
-use Rattle.tw_surface.specs.Drawings.{Drawing, place}
-use Rattle.tw_surface.specs.Tracks.{place_of}
+use Rattle.tw_surface.specs.Drawings.{place}
 use Rattle.tw_surface.proofs.DrawingLemmas.{place_of-measured, place-move, stays_in_range-move_between}
 use Rattle.tw_surface.proofs.sequence.ChangeSequence.move_to.Goals as goal
 

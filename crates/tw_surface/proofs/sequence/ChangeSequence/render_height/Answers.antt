@@ -1,7 +1,5 @@
-use Rattle.std.proofs.Common.{◌≡◌, ◌≤◌, ◌-ℤ◌, nat_abs, ap, sym, ◌∙◌, arith, ℤ}
-use Rattle.std.proofs.lemmas.Int.{ints, to_z-of_z}
-use Rattle.std.specs.Int.{w64}
-use mir.Val.{SFits}
+use Rattle.std.proofs.Common.{◌≡◌, ◌≤◌, ◌-ℤ◌, nat_abs, ap, ◌∙◌, arith}
+use Rattle.std.proofs.lemmas.Int.{ints}
 use Rattle.tw_surface.specs.Drawings.{height}
 use Rattle.tw_surface.specs.ChangeView.{batch_view}
 use Rattle.tw_surface.proofs.DrawingLemmas.{height-measured}
