@@ -1,12 +1,12 @@
 //! A model screen, which shows what a terminal would show after changes.
 
-ghost use Rattle.std.specs.Prelude.{◌≡◌, ◌≢◌, ℕ, ◌+◌, ◌-◌, min, ◌∷◌, [], ◌<◌, ◌≤◌, ◌↔◌, ◌^◌, pos, true, false, List, length, count_by, vec_len, vec_capacity, Ok, Err, IfOk, IfErr, OnOk, OnErr, MatchOption};
+ghost use Rattle.std.specs.Prelude.{◌≡◌, ◌≢◌, ℕ, ◌+◌, ◌-◌, min, ◌∷◌, [], ◌<◌, ◌≤◌, ◌↔◌, ◌^◌, pos, true, false, List, length, count_by, vec_len, vec_capacity, Ok, Err, IfOk, IfErr, IsTrue, OnOk, OnErr};
 ghost use Rattle.std.specs.List.{All, list_all};
 ghost use Rattle.tw_surface.specs.ChangeView.{change_view, Text as TextView};
 ghost use Rattle.tw_surface.specs.Characters.{is_plain, is_printable};
 ghost use Rattle.tw_surface.specs.Positions.{moved, at_least_0};
 ghost use Rattle.tw_surface.specs.Pictures.{blank, cursor_at, written, cleared, play, play_char, play_text, can_play};
-ghost use Rattle.tw_surface.specs.Cells.{cell_in, picture, picture_of, blank_screen, IsInOrder, IsAt, IsGapFor, IsSparse, IsLastRow};
+ghost use Rattle.tw_surface.specs.Cells.{cell_in, picture, picture_of, blank_screen, IsInOrder, IsAt, IsGapFor, IsSparse, IsSound, IsLastRow};
 
 use crate::change::{Change, Position};
 use crate::characters::{is_plain_text, is_printable};
@@ -26,7 +26,7 @@ pub enum ScreenFault {
     Memory,
     /// A text has a character that is neither printable ASCII nor CR nor LF.
     NotPlain,
-    /// The cursor would pass row 4,294,967,295.
+    /// The cursor's row would be above 4,294,967,295.
     OutOfRange,
 }
 
@@ -154,23 +154,23 @@ fn next_cursor(width: usize, row: usize, col: usize, byte: u8) -> (usize, usize)
     }
 }
 
-// The row that a text ends in, or None where a row would pass the limit.
-fn end_row(width: usize, start_row: usize, start_col: usize, text: &[u8]) -> Option<usize>
+// Whether no row of a text passes the limit.
+fn ends_in_range(width: usize, start_row: usize, start_col: usize, text: &[u8]) -> bool
     requires width_above { 0 < width }
     requires width_most { width ≤ 65535 }
     requires row { start_row ≤ 4294967295 }
     requires col { start_col ≤ width }
-    ensures { let end = play_text width text.now (cursor_at start_row start_col) in MatchOption result (4294967295 < end.row) (λ row. (row ≡ end.row) × (row ≤ 4294967295)) }
+    ensures { IsTrue result ↔ ((play_text width text.now (cursor_at start_row start_col)).row ≤ 4294967295) }
 {
     let mut row = start_row;
     let mut col = start_col;
     for byte in text {
         (row, col) = next_cursor(width, row, col, *byte);
         if row > LAST_ROW {
-            return None;
+            return false;
         }
     }
-    Some(row)
+    true
 }
 
 // The most cells that a text adds.
@@ -188,12 +188,8 @@ fn play_byte(
     col: usize,
     byte: u8,
 ) -> (usize, usize)
-    requires width_above { 0 < width }
-    requires width_most { width ≤ 65535 }
-    requires row { row ≤ 4294967295 }
-    requires col { col ≤ width }
+    requires sound { IsSound width row col cells.old.items }
     requires plain { is_plain byte ≡ true }
-    requires sparse { IsSparse width cells.old.items }
     requires room { vec_len cells.old + count_by is_printable (byte ∷ []) ≤ vec_capacity cells.old }
     ensures played { picture_of cells.new.items result.0 result.1 ≡ play_char width byte (picture_of cells.old.items row col) }
     ensures within { result.1 ≤ width }
@@ -216,17 +212,12 @@ fn play_bytes(
     start_col: usize,
     text: &[u8],
 ) -> (usize, usize)
-    requires width_above { 0 < width }
-    requires width_most { width ≤ 65535 }
+    requires sound { IsSound width start_row start_col cells.old.items }
     requires row { (play_text width text.now (picture_of cells.old.items start_row start_col)).row ≤ 4294967295 }
-    requires col { start_col ≤ width }
     requires plain { list_all is_plain text.now ≡ true }
-    requires sparse { IsSparse width cells.old.items }
     requires room { vec_len cells.old + count_by is_printable text.now ≤ vec_capacity cells.old }
     ensures played { picture_of cells.new.items result.0 result.1 ≡ play_text width text.now (picture_of cells.old.items start_row start_col) }
-    ensures row { result.0 ≤ 4294967295 }
-    ensures within { result.1 ≤ width }
-    ensures sparse { IsSparse width cells.new.items }
+    ensures sound { IsSound width result.0 result.1 cells.new.items }
 {
     let mut row = start_row;
     let mut col = start_col;
@@ -258,7 +249,7 @@ impl Model for Screen {
 }
 
 impl Screen {
-    /// A blank screen of 1 to 65,535 columns, with the cursor at row 0, column 0. It takes no memory.
+    /// A blank screen of 1 to 65,535 columns, with the cursor at (0, 0). It takes no memory.
     pub fn new(alloc: Global, width: usize) -> Result<Self, SizeFault>
         ensures zero { (result ≡ Err SizeFault.ZeroSize) ↔ (width ≡ 0) }
         ensures large { (result ≡ Err SizeFault.OutOfRange) ↔ (65535 < width) }
@@ -296,14 +287,15 @@ impl Screen {
         (self.row, self.col)
     }
 
-    /// The greatest row with a character that is not a blank.
+    /// The greatest row with a character that is not a blank, None where there is none.
     pub fn last_row(&self) -> Option<usize>
         ensures { IsLastRow (picture self.now).cell result }
     {
         last_row_of(&self.cells)
     }
 
-    /// Plays a change. Only a text takes memory.
+    /// Plays a change, or refuses it and leaves the screen as it was. Only a text takes memory, and
+    /// it is tested before it does.
     pub fn apply(&mut self, change: &Change) -> Result<(), ScreenFault>
         ensures width { self.new.width ≡ self.old.width }
         ensures played { OnOk result (picture self.new ≡ play self.old.width (change_view change.now) (picture self.old)) }
@@ -342,7 +334,7 @@ impl Screen {
         if !is_plain_text(text) {
             return Err(ScreenFault::NotPlain);
         }
-        if end_row(self.width, self.row, self.col, text).is_none() {
+        if !ends_in_range(self.width, self.row, self.col, text) {
             return Err(ScreenFault::OutOfRange);
         }
         if self.cells.reserve(printable_count(text)).is_err() {

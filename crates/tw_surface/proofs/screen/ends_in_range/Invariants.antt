@@ -1,7 +1,7 @@
 use Rattle.std.proofs.Common.{◌≡◌, ◌≤◌, drop}
 use Rattle.tw_surface.specs.Pictures.{play_text}
 use Rattle.tw_surface.specs.Pictures.{cursor_at}
-use Rattle.tw_surface.proofs.screen.end_row.Given as goal
+use Rattle.tw_surface.proofs.screen.ends_in_range.Given as goal
 
 -- the rest of the text ends in the row that the whole text ends in
 abbrev pub invariant-loop-byte : goal.invariant-loop-byte
