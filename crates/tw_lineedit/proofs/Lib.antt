@@ -1,0 +1,9 @@
+pub mod ExtremesLemmas
+pub mod BoundaryLemmas
+pub mod ClusterLemmas
+pub mod IndexLemmas
+pub mod WordLemmas
+pub mod OffsetStepLemmas
+pub mod EditLemmas
+pub mod CountLawLemmas
+pub mod StepLawLemmas

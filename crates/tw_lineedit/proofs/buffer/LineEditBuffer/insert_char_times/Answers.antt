@@ -1,0 +1,44 @@
+use Rattle.std.proofs.Common.{◌-◌, length, ap, sym, subst, ◌∙◌, arith}
+use Rattle.std.proofs.lemmas.Str.{IsUtf8-string_bytes}
+use Rattle.std.specs.Prelude.{encode_utf8}
+use Rattle.std.specs.Str.{IsCharBoundary, IsUtf8}
+use Rattle.tw_lineedit.specs.Clusters.{cluster_after}
+use Rattle.tw_lineedit.specs.Cut.{cut_at}
+use Rattle.tw_lineedit.specs.Edits.{with_char}
+use Rattle.tw_lineedit.specs.Text.{bytes_of, room_of}
+use Rattle.tw_lineedit.proofs.BoundaryLemmas.{IsCharBoundary-insert}
+use Rattle.tw_lineedit.proofs.EditLemmas.{length-insert_slice, room_step}
+use Rattle.tw_lineedit.proofs.ExtremesLemmas.{repeated_once, repeated_none}
+use Rattle.tw_lineedit.proofs.buffer.LineEditBuffer.insert_char_times.Goals as goal
+
+pub cluster_after-self-inside-requires : goal.cluster_after-self-inside-requires
+cluster_after-self-inside-requires c =
+    let line = c.loop-round.self-inside.line in
+    let now = c.as_str.ensures ∙ c.in-Ok.ensures.ok in
+    subst (λ s. IsCharBoundary s c.loop-round.self-inside.cursor) (sym now)
+    (IsCharBoundary-insert _ _ _ (IsUtf8-string_bytes line.line) c.loop-round.invariant.boundary (subst IsUtf8 now c.as_str.utf8))
+
+pub loop-round-preserved : goal.loop-round-preserved
+loop-round-preserved c =
+    let line = bytes_of c.loop-round.self-inside.line in
+    let room = room_of c.loop-round.self-inside.line in
+    let cursor = c.loop-round.self-inside.cursor in
+    let bytes = c.in-Ok.ensures.ok in
+    let after = c.cluster_after-self-inside.ensures in
+    record {
+      boundary = rw c.as_str.ensures at after.boundary;
+      rest =
+          repeated_once (with_char c.args.c) c.args.count c.loop-round._round (cut_at line cursor) _ c.loop-round-test.true
+          (ap (cut_at (bytes_of c.insert_char.new.self)) (after.value ∙ ap (λ b. cluster_after b cursor) c.as_str.ensures)
+          ∙ ap (λ b. cut_at b (cluster_after b cursor)) bytes)
+          ∙ c.loop-round.invariant.rest;
+      room =
+          let longer = length-insert_slice line _ _ cursor bytes in
+          let next =
+          room_step (length line) _ (length (encode_utf8 c.args.c)) c.args.count c.loop-round._round room c.loop-round.invariant.room c.loop-round-test.true longer in
+          omega (arith, c.in-Ok.ensures.room);
+    }
+
+pub returns-clause-ok : goal.returns-clause-ok
+returns-clause-ok c =
+    sym (repeated_none (with_char c.args.c) (c.args.count - c.loop-round._round) _ (omega arith)) ∙ c.loop-round.invariant.rest

@@ -1,0 +1,16 @@
+use Rattle.std.proofs.Common.{◌≡◌, ◌+◌, ◌-◌, ◌*◌, ◌≤◌, length}
+use Rattle.std.specs.Str.{IsCharBoundary}
+use Rattle.tw_lineedit.specs.Cut.{cut_at}
+use Rattle.tw_lineedit.specs.Edits.{with_text}
+use Rattle.tw_lineedit.specs.Extremes.{repeated}
+use Rattle.tw_lineedit.specs.Text.{bytes_of, room_of}
+use Rattle.tw_lineedit.proofs.buffer.LineEditBuffer.insert_text_times.Given as goal
+
+abbrev pub invariant-loop-round : goal.invariant-loop-round
+invariant-loop-round l =
+    let line = bytes_of l.self-inside.line in
+    record {
+      boundary : IsCharBoundary line l.self-inside.cursor;
+      rest : repeated (with_text l.text) (l.count - l._round) (cut_at line l.self-inside.cursor) ≡ repeated (with_text l.text) l.count l.fn.self;
+      room : length line + length l.text * (l.count - l._round) ≤ room_of l.self-inside.line;
+    }

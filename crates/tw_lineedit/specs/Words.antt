@@ -1,0 +1,38 @@
+-- Steps over words, by the indices of characters.
+use Rattle.std.specs.Prelude.{ℕ, ◌-◌, Bool, not, ◌&&◌, ◌==◌, nat_lt, List, length, slice_index, unwrap_or, if◌then◌else◌}
+use Rattle.std.specs.Char.{is_whitespace}
+use Rattle.std.specs.Str.{chars}
+use Rattle.tw_lineedit.specs.Extremes.{least_from, greatest_below}
+use Rattle.tw_lineedit.specs.Indices.{index_of}
+
+-- character i is whitespace
+abbrev pub is_space : List ℕ → ℕ → Bool
+is_space cs i = is_whitespace (slice_index cs i)
+
+-- character i is not whitespace
+abbrev pub is_no_space : List ℕ → ℕ → Bool
+is_no_space cs i = not (is_space cs i)
+
+-- i is above 0, and character i - 1 is whitespace
+abbrev pub follows_space : List ℕ → ℕ → Bool
+follows_space cs i = nat_lt 0 i && is_space cs (i - 1)
+
+-- the greatest index below q that follows whitespace, or 0 where there is none
+unfoldable pub word_before : List ℕ → ℕ → ℕ
+word_before cs q = unwrap_or (greatest_below (follows_space cs) q) 0
+
+-- the least index from q on that is whitespace, or the number of characters
+unfoldable pub space_from : List ℕ → ℕ → ℕ
+space_from cs q = unwrap_or (least_from (is_space cs) q (length cs - q)) (length cs)
+
+-- the least index from q on that is not whitespace, or the number of characters
+unfoldable pub word_from : List ℕ → ℕ → ℕ
+word_from cs q = unwrap_or (least_from (is_no_space cs) q (length cs - q)) (length cs)
+
+-- behind the whitespace that ends the word at q
+abbrev pub word_after : List ℕ → ℕ → ℕ
+word_after cs q = word_from cs (space_from cs q)
+
+-- where steps back over words start: at the index of the offset, but before the last character at the end of the line
+unfoldable pub word_start : List ℕ → ℕ → ℕ
+word_start text at = if at == length text then length (chars text) - 1 else index_of text at

@@ -1,0 +1,74 @@
+//! Where a movement leads.
+
+ghost use Rattle.std.specs.Prelude.{◌≡◌};
+ghost use Rattle.std.specs.Str.{IsCharBoundary};
+ghost use Rattle.tw_lineedit.specs.Cut.{cut_at};
+ghost use Rattle.tw_lineedit.specs.Extremes.{repeated};
+ghost use Rattle.tw_lineedit.specs.Movements.{destination};
+ghost use Rattle.tw_lineedit.specs.OffsetSteps.{step_from};
+ghost use Rattle.tw_lineedit.specs.Text.{bytes_of};
+
+use crate::actions::{Movement, RepeatCount};
+use crate::clusters::{cluster_after, cluster_before};
+use crate::text::Text;
+use crate::words::{word_after, word_before, word_start};
+
+/// A step of a counted movement.
+#[derive(Clone, Copy)]
+enum Step {
+    BackwardChar,
+    BackwardWord,
+    ForwardChar,
+    ForwardWord,
+}
+
+/// Where the movement leads from `cursor`.
+#[tactic(auto, unfolding(crate::specs::Movements::destination))]
+pub fn destination(line: &Text, cursor: usize, movement: Movement) -> usize
+    requires { IsCharBoundary (bytes_of line.now) cursor }
+    ensures value { result ≡ destination movement (cut_at (bytes_of line.now) cursor) }
+    ensures boundary { IsCharBoundary (bytes_of line.now) result }
+{
+    match movement {
+        Movement::BackwardChar(count) => steps_from(line, cursor, Step::BackwardChar, count),
+        Movement::BackwardWord(count) => {
+            steps_from(line, word_start(line, cursor), Step::BackwardWord, count)
+        }
+        Movement::ForwardChar(count) => steps_from(line, cursor, Step::ForwardChar, count),
+        Movement::ForwardWord(count) => steps_from(line, cursor, Step::ForwardWord, count),
+        Movement::StartOfLine => 0,
+        Movement::EndOfLine => line.len(),
+        Movement::None => cursor,
+    }
+}
+
+/// Where `count` steps lead from `start`. It returns as soon as a step leads nowhere.
+fn steps_from(line: &Text, start: usize, step: Step, count: RepeatCount) -> usize
+    requires { IsCharBoundary (bytes_of line.now) start }
+    ensures value { result ≡ repeated (step_from step (bytes_of line.now)) count start }
+    ensures boundary { IsCharBoundary (bytes_of line.now) result }
+{
+    let mut at = start;
+    for _round in 0..count {
+        let next = step_from(line, at, step);
+        if next == at {
+            return at;
+        }
+        at = next;
+    }
+    at
+}
+
+/// Where one step leads from `at`.
+fn step_from(line: &Text, at: usize, step: Step) -> usize
+    requires { IsCharBoundary (bytes_of line.now) at }
+    ensures value { result ≡ step_from step (bytes_of line.now) at }
+    ensures boundary { IsCharBoundary (bytes_of line.now) result }
+{
+    match step {
+        Step::BackwardChar => cluster_before(line.as_str(), at),
+        Step::BackwardWord => word_before(line, at),
+        Step::ForwardChar => cluster_after(line.as_str(), at),
+        Step::ForwardWord => word_after(line, at),
+    }
+}
