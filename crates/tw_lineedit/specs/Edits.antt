@@ -15,7 +15,7 @@ with_char x c = let line = insert_slice c.line c.cursor (encode_utf8 x) in cut_a
 abbrev pub with_text : List ℕ → Cut → Cut
 with_text s c = cut_at (insert_slice c.line c.cursor s) (c.cursor + length s)
 
--- what lies between the cursor and `to` goes, and the cursor goes to the greatest boundary not above `at`
+-- what lies between the cursor and `to` goes; the cursor is the greatest boundary not above `at`
 abbrev pub without : ℕ → ℕ → Cut → Cut
 without to at c =
     let line = remove_range c.line (min c.cursor to) (max c.cursor to) in

@@ -13,7 +13,7 @@ use Rattle.tw_lineedit.specs.declared.actions.Movement.{Movement}
 abbrev pub CountsAddUp : (ℕ → Movement) → Type 0
 CountsAddUp m = (c : Cut) (a b : ℕ) → IsCut c → destination (m (a + b)) c ≡ destination (m b) (moved (m a) c)
 
--- the test passes at the boundaries that std knows, and each step and the clamp lead to the extreme of a set of offsets
+-- the boundaries are those of std, and each step and the clamp lead to the extreme of a set of them
 pub record OffsetsAreExtremes (text : List ℕ) (at : ℕ) : Type 0 where
   pub boundary : (is_boundary text at ≡ true) ↔ IsCharBoundary text at
   pub cluster_after : IsLeastOr (is_cluster_boundary text) (at + 1) (length text + 1) at (cluster_after text at)

@@ -1,9 +1,9 @@
 pub mod Extremes
-pub mod Text
 pub mod Cut
 pub mod Boundaries
 pub mod Clusters
 pub mod Indices
+pub mod Text
 pub mod Words
 pub mod Movements
 pub mod OffsetSteps

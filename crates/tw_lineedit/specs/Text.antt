@@ -1,12 +1,22 @@
--- What is seen of a text: its bytes, and how many it has room for.
+-- What is seen of a text: its bytes and characters, and how many bytes it has room for.
 use Rattle.std.specs.Prelude.{ℕ, List}
+use Rattle.std.specs.Str.{chars}
 use Rattle.std.specs.String.{string_bytes, string_capacity}
+use Rattle.tw_lineedit.specs.Indices.{index_of}
 use Rattle.tw_lineedit.specs.declared.text.Text.{Text}
 
 -- the bytes of the text
 abbrev pub bytes_of : Text → List ℕ
 bytes_of t = string_bytes t.line
 
--- how many bytes it can hold without more memory
+-- the characters of the text
+abbrev pub chars_of : Text → List ℕ
+chars_of t = chars (bytes_of t)
+
+-- how many characters of the text stand before the offset
+abbrev pub index_in : Text → ℕ → ℕ
+index_in t at = index_of (bytes_of t) at
+
+-- how many bytes the text can hold without more memory
 abbrev pub room_of : Text → ℕ
 room_of t = string_capacity t.line

@@ -33,6 +33,6 @@ word_from cs q = unwrap_or (least_from (is_no_space cs) q (length cs - q)) (leng
 abbrev pub word_after : List ℕ → ℕ → ℕ
 word_after cs q = word_from cs (space_from cs q)
 
--- where steps back over words start: at the index of the offset, but before the last character at the end of the line
+-- where steps back start: the index of the offset, but at the end of the line that of the last character
 unfoldable pub word_start : List ℕ → ℕ → ℕ
 word_start text at = if at == length text then length (chars text) - 1 else index_of text at

@@ -58,8 +58,8 @@ impl LineEditBuffer {
         Ok(LineEditBuffer { line, cursor })
     }
 
-    /// Replaces the line, and sets the cursor to the byte offset `cursor`, a boundary of the new line. Where it
-    /// is refused the buffer is as it was.
+    /// Replaces the line, and sets the cursor to the byte offset `cursor`, a boundary of the new
+    /// line. Where it is refused the buffer is as it was.
     pub fn set_line_and_cursor(&mut self, line: &str, cursor: usize) -> Result<(), AllocError>
         requires { IsCharBoundary line.now cursor }
         ensures ok { OnOk result (self.new ≡ cut_at line.now cursor) }
@@ -93,8 +93,8 @@ impl LineEditBuffer {
         self.cursor = 0;
     }
 
-    /// Inserts the character at the cursor, which goes to the next cluster boundary of the new line. Where it
-    /// is refused the buffer is as it was.
+    /// Inserts the character at the cursor, which goes to the next cluster boundary of the new
+    /// line. Where it is refused the buffer is as it was.
     pub fn insert_char(&mut self, c: char) -> Result<(), AllocError>
         ensures ok { OnOk result (self.new ≡ with_char c self.old) }
         ensures err { OnErr result (self.new ≡ self.old) }
@@ -105,8 +105,8 @@ impl LineEditBuffer {
         Ok(())
     }
 
-    /// Inserts the text at the cursor, which goes behind it and so may stand inside a cluster. Where it is
-    /// refused the buffer is as it was.
+    /// Inserts the text at the cursor, which goes behind it and so may stand inside a cluster.
+    /// Where it is refused the buffer is as it was.
     pub fn insert_text(&mut self, text: &str) -> Result<(), AllocError>
         ensures ok { OnOk result (self.new ≡ with_text text.now self.old) }
         ensures err { OnErr result (self.new ≡ self.old) }
@@ -116,8 +116,8 @@ impl LineEditBuffer {
         Ok(())
     }
 
-    /// Inserts the character `count` times, or not at all: where it is refused the buffer is as it was. It is
-    /// refused before anything is inserted where the line would pass `isize::MAX` bytes.
+    /// Inserts the character `count` times, or not at all: where it is refused the buffer is as it
+    /// was. It is refused before anything is inserted where the line would pass `isize::MAX` bytes.
     pub(crate) fn insert_char_times(
         &mut self,
         count: RepeatCount,
@@ -141,8 +141,8 @@ impl LineEditBuffer {
         Ok(())
     }
 
-    /// Inserts the text `count` times, or not at all: where it is refused the buffer is as it was. It is
-    /// refused before anything is inserted where the line would pass `isize::MAX` bytes.
+    /// Inserts the text `count` times, or not at all: where it is refused the buffer is as it was.
+    /// It is refused before anything is inserted where the line would pass `isize::MAX` bytes.
     pub(crate) fn insert_text_times(
         &mut self,
         count: RepeatCount,
@@ -177,9 +177,9 @@ impl LineEditBuffer {
         self.cursor = destination(&self.line, self.cursor, movement);
     }
 
-    /// Takes away what lies between the cursor and where `kill` leads. The cursor goes to the greatest boundary
-    /// of what is left that is not above where `movement` leads; both movements are those in the old line. It
-    /// takes no memory.
+    /// Takes away what lies between the cursor and where `kill` leads. The cursor goes to the
+    /// greatest boundary of what is left that is not above where `movement` leads; both movements
+    /// are those in the old line. It takes no memory.
     pub fn kill_text(&mut self, kill: Movement, movement: Movement)
         ensures { self.new ≡ killed kill movement self.old }
     {

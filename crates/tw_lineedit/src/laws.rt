@@ -5,7 +5,8 @@ ghost use Rattle.tw_lineedit.specs.Laws.{CountsAddUp, OffsetsAreExtremes, WordsA
 
 use crate::actions::Movement;
 
-/// `a` steps and then `b` steps lead where `a + b` steps lead, in every cut text and for all whole numbers.
+/// `a` steps and then `b` steps lead where `a + b` steps lead, in every cut text and for all whole
+/// numbers.
 pub fn counts()
     ensures backward_char { CountsAddUp Movement.BackwardChar }
     ensures backward_word { CountsAddUp Movement.BackwardWord }

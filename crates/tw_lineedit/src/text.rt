@@ -8,8 +8,8 @@ ghost use Rattle.tw_lineedit.specs.Boundaries.{boundary_below};
 
 use std::alloc::{AllocError, Global};
 
-/// A text that can be edited in place. A boundary of it is a byte offset at which a character starts, or
-/// the length.
+/// A text that can be edited in place. A boundary of it is a byte offset at which a character
+/// starts, or the length.
 #[derive(Debug, Drop)]
 pub struct Text {
     line: String,

@@ -1,17 +1,17 @@
 //! Steps over words.
 
 ghost use Rattle.std.specs.Prelude.{◌≡◌};
-ghost use Rattle.std.specs.Str.{chars, IsCharBoundary};
-ghost use Rattle.tw_lineedit.specs.Indices.{index_of};
-ghost use Rattle.tw_lineedit.specs.Text.{bytes_of};
-ghost use Rattle.tw_lineedit.specs.Words.{space_from, word_from, word_after, word_before, word_start};
+ghost use Rattle.std.specs.Str.{IsCharBoundary};
+ghost use Rattle.tw_lineedit.specs.Text.{bytes_of, chars_of, index_in};
+ghost use Rattle.tw_lineedit.specs.Words.{space_from, word_after, word_before, word_from, word_start};
 
 use crate::text::Text;
 
-/// Where steps back over words start: at `at`, but before the last character at the end of the line.
+/// Where steps back over words start: at `at`, but before the last character at the end of the
+/// line.
 pub fn word_start(line: &Text, at: usize) -> usize
     requires { IsCharBoundary (bytes_of line.now) at }
-    ensures index { index_of (bytes_of line.now) result ≡ word_start (bytes_of line.now) at }
+    ensures index { index_in line.now result ≡ word_start (bytes_of line.now) at }
     ensures boundary { IsCharBoundary (bytes_of line.now) result }
 {
     if at < line.len() {
@@ -26,7 +26,7 @@ pub fn word_start(line: &Text, at: usize) -> usize
 /// The start of the word before `at`.
 pub fn word_before(line: &Text, at: usize) -> usize
     requires { IsCharBoundary (bytes_of line.now) at }
-    ensures index { index_of (bytes_of line.now) result ≡ word_before (chars (bytes_of line.now)) (index_of (bytes_of line.now) at) }
+    ensures index { index_in line.now result ≡ word_before (chars_of line.now) (index_in line.now at) }
     ensures boundary { IsCharBoundary (bytes_of line.now) result }
 {
     if at == 0 {
@@ -46,7 +46,7 @@ pub fn word_before(line: &Text, at: usize) -> usize
 /// The first whitespace from `start` on, or the end of the line.
 fn skip_word(line: &Text, start: usize) -> usize
     requires { IsCharBoundary (bytes_of line.now) start }
-    ensures index { index_of (bytes_of line.now) result ≡ space_from (chars (bytes_of line.now)) (index_of (bytes_of line.now) start) }
+    ensures index { index_in line.now result ≡ space_from (chars_of line.now) (index_in line.now start) }
     ensures boundary { IsCharBoundary (bytes_of line.now) result }
 {
     let mut at = start;
@@ -63,7 +63,7 @@ fn skip_word(line: &Text, start: usize) -> usize
 /// The first character that is not whitespace from `start` on, or the end of the line.
 fn skip_space(line: &Text, start: usize) -> usize
     requires { IsCharBoundary (bytes_of line.now) start }
-    ensures index { index_of (bytes_of line.now) result ≡ word_from (chars (bytes_of line.now)) (index_of (bytes_of line.now) start) }
+    ensures index { index_in line.now result ≡ word_from (chars_of line.now) (index_in line.now start) }
     ensures boundary { IsCharBoundary (bytes_of line.now) result }
 {
     let mut at = start;
@@ -80,7 +80,7 @@ fn skip_space(line: &Text, start: usize) -> usize
 /// The start of the word after `at`.
 pub fn word_after(line: &Text, at: usize) -> usize
     requires { IsCharBoundary (bytes_of line.now) at }
-    ensures index { index_of (bytes_of line.now) result ≡ word_after (chars (bytes_of line.now)) (index_of (bytes_of line.now) at) }
+    ensures index { index_in line.now result ≡ word_after (chars_of line.now) (index_in line.now at) }
     ensures boundary { IsCharBoundary (bytes_of line.now) result }
 {
     skip_space(line, skip_word(line, at))

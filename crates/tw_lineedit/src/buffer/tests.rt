@@ -66,8 +66,8 @@ fn word_steps_go_by_whitespace(rt: HostRuntime) -> Result<(), Fail> {
     Ok(())
 }
 
-// One step ahead and one step back from a cursor. The offsets are those of the rules of Unicode's legacy
-// grapheme clusters, which know no spacing marks, no prepended characters and no conjuncts.
+// One step ahead and one step back from a cursor. The offsets are those of the rules of Unicode's
+// legacy grapheme clusters, which know no spacing marks, no prepended characters and no conjuncts.
 #[test]
 fn character_steps_go_by_legacy_clusters(rt: HostRuntime) -> Result<(), Fail> {
     let rows = [
