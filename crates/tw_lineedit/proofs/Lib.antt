@@ -7,3 +7,12 @@ pub mod OffsetStepLemmas
 pub mod EditLemmas
 pub mod CountLawLemmas
 pub mod StepLawLemmas
+pub mod KeyTableLemmas
+pub mod DrawLemmas
+pub mod DrawingLimits
+pub mod PaintingSteps
+pub mod PaintedSizes
+pub mod TurnLemmas
+pub mod ClosingLemmas
+pub mod FailureLemmas
+pub mod PaintLemmas

@@ -1,3 +1,5 @@
+//! What the editor can be asked to do.
+
 /// How many times.
 pub type RepeatCount = usize;
 
@@ -18,4 +20,30 @@ pub enum Movement {
     EndOfLine,
     /// Nowhere.
     None,
+}
+
+/// What the editor does at an event.
+#[derive(Debug, Drop)]
+pub enum Action {
+    /// Ends the editing, with the line as the answer.
+    AcceptLine,
+    /// Ends the editing, with no line as the answer.
+    Cancel,
+    /// Ends the editing with `Error::EndOfFile`.
+    EndOfFile,
+    /// Inserts a character so many times at the cursor.
+    InsertChar(RepeatCount, char),
+    /// Inserts a text so many times at the cursor.
+    InsertText(RepeatCount, String),
+    /// Clears the screen, and paints the editor anew.
+    Repaint,
+    /// Moves the cursor.
+    Move(Movement),
+    /// Removes what lies between the cursor and the place where the movement leads. The cursor goes there.
+    Kill(Movement),
+    /// Removes what lies between the cursor and the place where the first movement leads. The cursor goes to
+    /// the place where the second leads on the old line, or to the end of the line that is left.
+    KillAndMove(Movement, Movement),
+    /// Does nothing.
+    NoAction,
 }

@@ -1,6 +1,8 @@
 //! Laws over the definitions alone: each is the contract of a function that does nothing.
 
-ghost use Rattle.std.specs.Prelude.{ℕ, List};
+ghost use Rattle.std.specs.Prelude.{◌≡◌, ◌≢◌, ℕ, List, Some, None, All, AllPairs};
+ghost use Rattle.tw_input.specs.Equality.{ComparesValues};
+ghost use Rattle.tw_lineedit.specs.KeyTable.{is_same_key, key_table, looked_up, typed};
 ghost use Rattle.tw_lineedit.specs.Laws.{CountsAddUp, OffsetsAreExtremes, WordsAreExtremes};
 
 use crate::actions::Movement;
@@ -18,4 +20,13 @@ pub fn counts()
 pub fn steps()
     ensures offsets { (text : List ℕ) (at : ℕ) → OffsetsAreExtremes text at }
     ensures words { (chars : List ℕ) (index : ℕ) → WordsAreExtremes chars index }
+{}
+
+/// No key stands in two rows of the key table, each row is found by its key, and no row is a typed character.
+/// Keys are one exactly where they are equal.
+pub fn key_table()
+    ensures same_key { ComparesValues is_same_key }
+    ensures distinct { AllPairs (λ row later. row.0 ≢ later.0) key_table }
+    ensures found { All (λ row. looked_up key_table row.0 ≡ Some row.1) key_table }
+    ensures not_typed { All (λ row. typed row.0 ≡ None) key_table }
 {}

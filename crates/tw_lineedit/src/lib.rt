@@ -1,13 +1,23 @@
-//! A line editor: the line with its cursor, and how the cursor moves.
+//! A line editor: the line with its cursor, how keys change it, and how it is painted on a terminal.
 #![tactic(auto)]
 
 mod actions;
 mod buffer;
 mod clusters;
+mod editor;
+mod error;
+mod host;
+mod keys;
 pub mod laws;
 mod movements;
+mod painter;
+mod session;
 mod text;
 mod words;
 
-pub use actions::{Movement, RepeatCount};
+pub use actions::{Action, Movement, RepeatCount};
 pub use buffer::LineEditBuffer;
+pub use editor::{EditorOver, LineEditor};
+pub use error::Error;
+pub use host::{LineEditorHost, NopLineEditorHost, OutputElement, OwnAnswers};
+pub use keys::default_action;

@@ -1,0 +1,39 @@
+use Rattle.std.proofs.Common.{◌≡◌, sym, ◌∙◌, ap, subst, inr, Some, Ok, false}
+use Rattle.tw_surface.specs.ChangeView.{Batch}
+use Rattle.tw_terminal.specs.TerminalState.{Renders, RenderFails}
+use Rattle.tw_terminal.specs.declared.terminal.ScreenSize.{ScreenSize}
+use Rattle.tw_lineedit.specs.Painting.{Rendered, rendered, painted_on, scene_of}
+use Rattle.tw_lineedit.specs.Run.{Frame}
+use Rattle.tw_lineedit.specs.Frame.{Paints, FailsToPaint, ShowsBatch, FailsToShow}
+use Rattle.tw_lineedit.specs.declared.error.Error.{Error}
+use Rattle.tw_lineedit.specs.declared.error.Error.TheVariants.{Terminal}
+use Rattle.tw_lineedit.specs.HostRules.{HostRules}
+
+module _ {V : Type 0} (rules : HostRules V) where
+  at_own_size : (g : Frame V) {p : Rendered} {size : ScreenSize} → size ≡ g.terminal.size → rendered g.last (painted_on size (scene_of rules g.value g.state false)) ≡ Ok p → rendered g.last (painted_on g.terminal.size (scene_of rules g.value g.state false)) ≡ Ok p
+  at_own_size g {p = p} h e = subst (λ (z : ScreenSize). rendered g.last (painted_on z (scene_of rules g.value g.state false)) ≡ Ok p) h e
+
+  pub paints : (f g h k : Frame V) {p : Rendered} {size : ScreenSize} {b : Batch} → size ≡ f.terminal.size → g ≡ f → rendered g.last (painted_on size (scene_of rules g.value g.state false)) ≡ Ok p → b ≡ p.changes → ShowsBatch b g h → k.state ≡ h.state → k.value ≡ h.value → k.last ≡ Some p.mark → k.terminal ≡ h.terminal → Paints rules f k
+  paints f g h k {p = p} {b = b} hs gf e eb shows ks kh kl kt =
+      subst (λ (x : Frame V). Paints rules x k) gf (record {
+        picture = (
+          p,
+          at_own_size g (hs ∙ ap (λ (x : Frame V). x.terminal.size) (sym gf)) e,
+          kl,
+          kt ∙ subst (λ (x : Batch). Renders x g.terminal h.terminal) eb shows.terminal,
+        );
+        state = ks ∙ shows.keeps.state;
+        value = kh ∙ shows.keeps.value;
+      })
+
+  pub fails_to_show : (f g h : Frame V) {p : Rendered} {size : ScreenSize} {b : Batch} (e : Error) → size ≡ f.terminal.size → g ≡ f → rendered g.last (painted_on size (scene_of rules g.value g.state false)) ≡ Ok p → b ≡ p.changes → FailsToShow b g h e → FailsToPaint rules f h e
+  fails_to_show f g h {p = p} {b = b} (Terminal x) hs gf e eb (keeps, fails) =
+      subst (λ (y : Frame V). FailsToPaint rules y h (Terminal x)) gf (
+        keeps,
+        inr (
+          p,
+          at_own_size g (hs ∙ ap (λ (y : Frame V). y.terminal.size) (sym gf)) e,
+          subst (λ (y : Batch). RenderFails y g.terminal h.terminal) eb fails,
+        ),
+      )
+  fails_to_show f g h _ hs gf e eb bad = absurd bad

@@ -1,0 +1,11 @@
+use Rattle.std.proofs.Common.{ℕ, List, option_map, Bor}
+use Rattle.std.proofs.lemmas.Result.{err_from_is_err_and}
+use Rattle.tw_lineedit.specs.Frame.{frame}
+use Rattle.tw_lineedit.proofs.ClosingLemmas.{answered_unclosed}
+use Rattle.tw_lineedit.proofs.editor.LineEditor+T.read.Goals as goal
+
+pub returns-in_err-close-in-Ok-clause-err : goal.returns-in_err-close-in-Ok-clause-err
+returns-in_err-close-in-Ok-clause-err g c =
+    let p = err_from_is_err_and c.from_residual.result c.from_residual.ensures.1 in
+    rw (p.1, p.2)
+    (answered_unclosed g.H.LineEditorHost.rules (option_map {T = Bor (List ℕ)} {U = List ℕ} (λ s. s.now) c.args.initial) (frame g.T.Terminal.state g.H.LineEditorHost.value c.args.self.now c.args.host.now) _ _ _ c.in_err-close-in-Ok.field-0.0 c.in-Ok.ensures.ok c.in_err-close-in-Ok.ensures.err)

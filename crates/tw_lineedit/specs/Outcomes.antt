@@ -1,0 +1,37 @@
+-- How a run ends.
+use Rattle.std.specs.Prelude.{ℕ, Bool, true, false, List, Option, Some, None, Result, Ok, Err, String, string_bytes, option_map}
+use Rattle.std.specs.declared.alloc.Global.{Global}
+use Rattle.tw_lineedit.specs.Refusal.{Refusal, refusal_of}
+use Rattle.tw_lineedit.specs.EditState.{EditState, ModeView, Cancelled, Accepted}
+use Rattle.tw_lineedit.specs.Cut.{Cut}
+use Rattle.tw_lineedit.specs.declared.error.Error.{Error}
+
+-- a line, none where the run was cancelled, or a refusal
+abbrev pub Outcome : Type 0
+Outcome = Result (Option (List ℕ)) Refusal
+
+-- the outcome that a call answers
+abbrev pub outcome_of : Result (Option (String Global)) Error → Outcome
+outcome_of (Ok line) = Ok (option_map string_bytes line)
+outcome_of (Err e) = Err (refusal_of e)
+
+-- the line of a mode: none where the run is cancelled
+abbrev pub line_in : Cut → ModeView → Option (List ℕ)
+line_in cut Cancelled = None
+line_in cut _ = Some cut.line
+
+-- the outcome where a run ends at a state without refusal
+abbrev pub answer_at : EditState → Outcome
+answer_at s = Ok (line_in s.cut s.mode)
+
+-- the outcome is a line
+abbrev pub IsLine : Outcome → Type 0
+IsLine (Ok (Some line)) = Unit {0}
+IsLine (Ok None) = ⊥
+IsLine (Err r) = ⊥
+
+-- a mode at which a run ends
+abbrev pub is_over : ModeView → Bool
+is_over Accepted = true
+is_over Cancelled = true
+is_over _ = false

@@ -1,0 +1,81 @@
+-- The painting of a state.
+use Rattle.std.specs.Prelude.{◌≤◌, nat_abs, ℕ, ℤ, pos, neg_ℤ, ◌-ℤ◌, ◌+◌, ◌==◌, Bool, ◌&&◌, ◌||◌, nat_le, nat_lt, if◌then◌else◌, List, [], ◌∷◌, ◌++◌, Option, Some, None, Result, Ok, Err}
+use Rattle.std.specs.List.{list_all}
+use Rattle.tw_surface.specs.declared.change.Position.TheVariants.{Absolute, Relative}
+use Rattle.tw_surface.specs.ChangeView.{Batch, ClearScreen, ClearToEndOfScreen, CursorPosition}
+use Rattle.tw_surface.specs.Defaults.{default_color}
+use Rattle.tw_surface.specs.Places.{place_after_all, places_of_all, origin, is_in_range}
+use Rattle.tw_surface.specs.Scenes.{Scene}
+use Rattle.tw_surface.specs.Scenes.Lower.{NoLower}
+use Rattle.tw_surface.specs.Paintings.{Painting, before_line, shown_part, cursor_place, painting}
+use Rattle.tw_terminal.specs.declared.terminal.ScreenSize.{ScreenSize}
+use Rattle.tw_lineedit.specs.ElementView.{changes_of}
+use Rattle.tw_lineedit.specs.HostRules.{HostRules}
+use Rattle.tw_lineedit.specs.Refusal.{Refusal, ZeroSize, SizeOutOfRange}
+use Rattle.tw_lineedit.specs.EditState.{EditState}
+
+-- what is shown of a state: the host's prompt and line, and nothing below
+abbrev pub scene_of : {V : Type 0} → HostRules V → V → EditState → Bool → Scene
+scene_of rules v s cleared = record {
+  prompt = changes_of (rules.prompt v s.prompt);
+  line = changes_of (rules.highlight v s.cut).elements;
+  column = (rules.highlight v s.cut).column;
+  lower = NoLower;
+  cleared = cleared;
+}
+
+-- whether each place on the way, the sum that gives the cursor's cell, and that cell are in range
+abbrev pub is_paintable : ℕ → Scene → Bool
+is_paintable cols scene =
+    list_all is_in_range (places_of_all cols (shown_part cols scene) origin)
+    && (nat_le ((place_after_all cols (before_line scene.prompt) origin).x + scene.column) 2147483647
+    && is_in_range (cursor_place cols scene))
+
+-- the painting of a scene on a screen, or its refusal
+unfoldable pub painted_on : ScreenSize → Scene → Result Painting Refusal
+painted_on size scene =
+    if (size.rows == 0) || (size.cols == 0) then Err ZeroSize
+    else if nat_lt 65535 size.rows || nat_lt 65535 size.cols then Err SizeOutOfRange
+    else if is_paintable size.cols scene then Ok (painting size.cols scene) else Err SizeOutOfRange
+
+-- where a painting leaves the cursor and how high it is, both counted from its first row
+pub record Mark : Type 0 where
+  pub row : ℤ
+  pub height : ℕ
+
+-- a mark that a painting can have
+pub record IsInLimits (m : Mark) : Type 0 where
+  pub near : nat_abs m.row ≤ 2147483647
+  pub low : m.height ≤ 4294967294
+
+-- the mark of a painting
+abbrev pub mark_of : Painting → Mark
+mark_of p = record { row = p.row; height = p.height }
+
+-- the start move back to the first row of the painting before, if there was one
+abbrev pub start_batch : Option Mark → Batch
+start_batch None = []
+start_batch (Some m) = CursorPosition (Absolute 0) (Relative (neg_ℤ m.row)) ∷ []
+
+-- the closing batch: to the row under a painting, and clear from there on
+abbrev pub closing : Mark → Batch
+closing m = CursorPosition (Absolute 0) (Relative (pos (1 + m.height) -ℤ m.row)) ∷ ClearToEndOfScreen default_color ∷ []
+
+-- the closing batch, if there was a painting
+abbrev pub closing_if : Option Mark → List Batch
+closing_if None = []
+closing_if (Some m) = closing m ∷ []
+
+-- the batch that clears the screen
+abbrev pub clear_batch : Batch
+clear_batch = ClearScreen default_color ∷ []
+
+-- a painting as it is rendered, behind its start move, and its mark
+pub record Rendered : Type 0 where
+  pub changes : Batch
+  pub mark : Mark
+
+-- the painting as it is rendered after the one before, or its refusal
+abbrev pub rendered : Option Mark → Result Painting Refusal → Result Rendered Refusal
+rendered last (Err r) = Err r
+rendered last (Ok p) = Ok (record { changes = start_batch last ++ p.changes; mark = mark_of p })

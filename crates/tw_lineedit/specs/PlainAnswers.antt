@@ -1,0 +1,20 @@
+-- Which of a host's answers are the plain ones.
+use Rattle.std.specs.Prelude.{ℕ, ◌≡◌, false, List, refl}
+use Rattle.tw_lineedit.specs.declared.host.OwnAnswers.{OwnAnswers}
+use Rattle.tw_lineedit.specs.Cut.{Cut}
+use Rattle.tw_lineedit.specs.HostRules.{HostRules, plain_text, plain_highlight, unresolved, plain_rules}
+use Rattle.tw_input.specs.EventView.{EventView}
+
+-- no answer of its own
+abbrev pub nothing_own : OwnAnswers
+nothing_own = record { prompt = false; highlight = false; resolve = false }
+
+-- what the host does not answer for itself is the plain answer
+pub record IsPlainBut {V : Type 0} (rules : HostRules V) (own : OwnAnswers) : Type 0 where
+  pub prompt : own.prompt ≡ false → (v : V) (text : List ℕ) → rules.prompt v text ≡ plain_text text
+  pub highlight : own.highlight ≡ false → (v : V) (cut : Cut) → rules.highlight v cut ≡ plain_highlight cut
+  pub resolve : own.resolve ≡ false → (v : V) (event : EventView) (cut : Cut) → rules.resolve v event cut ≡ unresolved v cut
+
+-- the plain host answers nothing for itself
+pub plain_is_plain : {V : Type 0} → IsPlainBut (plain_rules {V = V}) nothing_own
+plain_is_plain = record { prompt = λ e v text. refl; highlight = λ e v cut. refl; resolve = λ e v event cut. refl }

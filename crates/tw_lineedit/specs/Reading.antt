@@ -1,0 +1,102 @@
+-- What a call of read_line leaves.
+use Rattle.std.specs.Prelude.{◌≡◌, ℕ, ◌<◌, ◌++◌, length, List, Option, Some, None, Result, Err, IsSome, ◌⊎◌}
+use Rattle.tw_surface.specs.ChangeView.{Batch}
+use Rattle.tw_terminal.specs.TerminalState.{TerminalState, count_up, IsPart}
+use Rattle.tw_lineedit.specs.HostRules.{HostRules}
+use Rattle.tw_lineedit.specs.EditState.{Inactive}
+use Rattle.tw_lineedit.specs.SessionView.{new_state, initial_cut, begun}
+use Rattle.tw_lineedit.specs.Refusal.{refusal_of}
+use Rattle.tw_lineedit.specs.Outcomes.{Outcome}
+use Rattle.tw_lineedit.specs.Painting.{Mark, closing, closing_if}
+use Rattle.tw_lineedit.specs.Run.{Frame, Ending, Moment, want, fault, progress_of, moment, run_of, ending, CanStopFrom, IsPartOf, StandsAt, Quiet, FailsOnce}
+use Rattle.tw_lineedit.specs.declared.error.Error.{Error}
+use Rattle.tw_lineedit.specs.declared.error.Error.TheVariants.{Memory, Terminal}
+
+module _ {V : Type 0} where
+  -- where a call with an initial value begins
+  abbrev pub start : Option (List ℕ) → Frame V → Frame V
+  start initial f = record f { state = begun (initial_cut initial) f.state; last = None }
+
+  -- where a call stands whose initial value found no memory
+  abbrev pub unbegun : Frame V → Moment V
+  unbegun f = moment None f.terminal.events (progress_of (start None f))
+
+  -- where a run ends
+  abbrev pub paused : Ending V → Moment V
+  paused r = record { state = r.state; value = r.value; size = r.size; last = r.last; taken = r.taken; rendering = None; left = r.left }
+
+  -- a new editor over a terminal
+  abbrev pub fresh : V → TerminalState → Frame V
+  fresh value t = record { state = new_state; value = value; last = None; terminal = t }
+
+  -- A run that nothing stopped: all its batches and the closing one are taken and flushed.
+  pub record Reads (run : Ending V) (f g : Frame V) (answer : Outcome) : Type 0 where
+    pub answer_is : answer ≡ run.answer
+    pub batches : g.terminal.batches ≡ run.taken ++ closing_if run.last
+    pub left : g.terminal.events ≡ run.left
+    pub size : g.terminal.size ≡ run.size
+    pub state : g.state ≡ record run.state { mode = Inactive }
+    pub value : g.value ≡ run.value
+    pub flushed : g.terminal.flushed ≡ length g.terminal.batches
+    pub failures : g.terminal.failures ≡ f.terminal.failures
+
+  -- After a moment: what was being rendered is taken in part, and then these batches.
+  pub record Leaves (m : Moment V) (end : List Batch) (g : Frame V) : Type 0 where
+    pub batches : (part : List Batch) × IsPartOf m.rendering part × (g.terminal.batches ≡ (m.taken ++ part) ++ end)
+    pub left : g.terminal.events ≡ m.left
+    pub size : g.terminal.size ≡ m.size
+    pub state : g.state ≡ record m.state { mode = Inactive }
+    pub value : g.value ≡ m.value
+
+  -- the closing batch is whole, and all is flushed
+  pub record ClosesWhole (m : Moment V) (g : Frame V) : Type 0 where
+    pub leaves : Leaves m (closing_if m.last) g
+    pub flushed : g.terminal.flushed ≡ length g.terminal.batches
+
+  -- the closing batch was refused: a beginning of it is taken, and nothing is flushed
+  pub record ClosesInPart (m : Moment V) (f g : Frame V) : Type 0 where
+    pub leaves : (p : Mark) × (end : List Batch) × (m.last ≡ Some p) × IsPart (closing p) end × Leaves m end g
+    pub flushed : g.terminal.flushed ≡ f.terminal.flushed
+
+  -- the closing batch is whole, but the flush was refused
+  pub record ClosesUnflushed (m : Moment V) (f g : Frame V) : Type 0 where
+    pub leaves : Leaves m (closing_if m.last) g
+    pub flushed : g.terminal.flushed ≡ f.terminal.flushed
+
+  abbrev pub ClosesBadly : Moment V → Frame V → Frame V → Type 0
+  ClosesBadly m f g = ClosesInPart m f g ⊎ ClosesUnflushed m f g
+
+-- A call on f with an initial value.
+module _ {V : Type 0} (rules : HostRules V) (initial : Option (List ℕ)) (f : Frame V) where
+  -- where memory can be refused
+  abbrev pub Starves : Moment V → Type 0
+  Starves m = CanStopFrom rules want (start initial f) m ⊎ (IsSome initial × (m ≡ unbegun f))
+
+  -- where the terminal can refuse a call before the closing
+  abbrev pub Faults : Moment V → Type 0
+  Faults m = CanStopFrom rules fault (start initial f) m
+
+  -- where no call of the terminal was refused before the closing
+  abbrev pub Halts : Moment V → Type 0
+  Halts m = (m ≡ paused (run_of rules (start initial f))) ⊎ (Starves m × (m.rendering ≡ None))
+
+  -- what a refused call leaves
+  abbrev pub FailsToRead : Frame V → Error → Type 0
+  FailsToRead g (Memory e) = (m : Moment V) × Starves m × (m.rendering ≡ None) × ClosesWhole m g
+      × (g.terminal.failures ≡ f.terminal.failures)
+  FailsToRead g (Terminal e) = (m : Moment V) × (
+      (Faults m × ClosesWhole m g × (g.terminal.failures ≡ count_up f.terminal.failures))
+      ⊎ ((Faults m × ClosesBadly m f g × (g.terminal.failures ≡ count_up (count_up f.terminal.failures)))
+      ⊎ (Halts m × ClosesBadly m f g × (g.terminal.failures ≡ count_up f.terminal.failures))))
+  FailsToRead g e = Reads (run_of rules (start initial f)) f g (Err (refusal_of e))
+
+  -- what a refusal leaves, before the closing
+  abbrev pub IsTurnedDown : Frame V → Error → Type 0
+  IsTurnedDown g (Memory e) = ((m : Moment V) × Starves m × (m.rendering ≡ None) × StandsAt m g) × Quiet f g
+  IsTurnedDown g (Terminal e) = ((m : Moment V) × Faults m × StandsAt m g) × FailsOnce f g
+  IsTurnedDown g e = (run_of rules (start initial f) ≡ ending (Err (refusal_of e)) g) × Quiet f g
+
+-- A terminal fault is answered where the count of failures rose or could not rise, and else the count is as it was.
+abbrev pub FailuresTell : {A : Type 0} → Result A Error → ℕ → ℕ → Type 0
+FailuresTell (Err (Terminal e)) old new = (old < new) ⊎ (old ≡ 18446744073709551615)
+FailuresTell _ old new = new ≡ old

@@ -1,0 +1,201 @@
+-- The run of an editor over a list of events, and the moments at which it can be stopped.
+use Rattle.std.specs.Prelude.{◌≡◌, ◌<◌, ◌++◌, ◌∷◌, [], ◌⊎◌, cond, true, false, length, List, Option, Some, None, Result, Ok, Err}
+use Rattle.tw_surface.specs.ChangeView.{Batch}
+use Rattle.tw_input.specs.EventView.{EventView}
+use Rattle.tw_terminal.specs.TerminalState.{TerminalState, count_up, size_after, IsPart}
+use Rattle.tw_terminal.specs.declared.terminal.ScreenSize.{ScreenSize}
+use Rattle.tw_lineedit.specs.ActionView.{ActionView}
+use Rattle.tw_lineedit.specs.HostRules.{HostRules, Resolution, or_default}
+use Rattle.tw_lineedit.specs.ActionView.{Repaint}
+use Rattle.tw_lineedit.specs.EditState.{EditState}
+use Rattle.tw_lineedit.specs.Refusal.{Refusal, refusal_of}
+use Rattle.tw_lineedit.specs.Outcomes.{Outcome, answer_at, IsLine, is_over}
+use Rattle.tw_lineedit.specs.Steps.{apply_if, clears_if, TakesMemory}
+use Rattle.tw_lineedit.specs.Painting.{Mark, Rendered, rendered, painted_on, scene_of, clear_batch}
+use Rattle.tw_lineedit.specs.declared.error.Error.{Error}
+use Rattle.tw_lineedit.specs.declared.error.Error.TheVariants.{Memory, Terminal}
+
+-- how far a run has come: the state, the host's value and the screen's size, the mark of the painting before, and the batches so far
+pub record Progress (V : Type 0) : Type 0 where
+  pub state : EditState
+  pub value : V
+  pub size : ScreenSize
+  pub last : Option Mark
+  pub taken : List Batch
+
+pub record Ending (V : Type 0) : Type 0 where
+  pub answer : Outcome
+  pub state : EditState
+  pub value : V
+  pub size : ScreenSize
+  pub last : Option Mark
+  pub taken : List Batch
+  pub left : List EventView
+
+-- why a run is stopped: memory was refused, or the terminal refused a call
+pub data Cause : Type 0 where
+  want : Cause
+  fault : Cause
+
+-- where a run stands when it is stopped, and what it was rendering then
+pub record Moment (V : Type 0) : Type 0 where
+  pub state : EditState
+  pub value : V
+  pub size : ScreenSize
+  pub last : Option Mark
+  pub taken : List Batch
+  pub rendering : Option Batch
+  pub left : List EventView
+
+-- an editor and its host, as contracts see them
+pub record Frame (V : Type 0) : Type 0 where
+  pub state : EditState
+  pub value : V
+  pub last : Option Mark
+  pub terminal : TerminalState
+
+module _ {V : Type 0} where
+  abbrev pub ends : Outcome → List EventView → Progress V → Ending V
+  ends answer left s = record { answer = answer; state = s.state; value = s.value; size = s.size; last = s.last; taken = s.taken; left = left }
+
+  -- the station is painted
+  abbrev pub shown : Progress V → Rendered → Progress V
+  shown s p = record s { last = Some p.mark; taken = s.taken ++ p.changes ∷ [] }
+
+  -- the station once an event is taken
+  abbrev pub polled : Progress V → EventView → Progress V
+  polled s e = record s { size = size_after e s.size }
+
+  abbrev pub moment : Option Batch → List EventView → Progress V → Moment V
+  moment rendering left s = record { state = s.state; value = s.value; size = s.size; last = s.last; taken = s.taken; rendering = rendering; left = left }
+
+  abbrev pub progress_of : Frame V → Progress V
+  progress_of f = record { state = f.state; value = f.value; size = f.terminal.size; last = f.last; taken = f.terminal.batches }
+
+  abbrev pub ending : Outcome → Frame V → Ending V
+  ending answer f = ends answer f.terminal.events (progress_of f)
+
+module _ {V : Type 0} (rules : HostRules V) where
+  abbrev pub painting_at : Progress V → Result Rendered Refusal
+  painting_at s = rendered s.last (painted_on s.size (scene_of rules s.value s.state false))
+
+  -- the host's answer to an event at a station, and the action that follows
+  abbrev pub resolved : Progress V → EventView → Resolution V
+  resolved s e = rules.resolve s.value e s.state.cut
+
+  abbrev pub chosen : Progress V → EventView → Option ActionView
+  chosen s e = or_default (resolved s e).action e
+
+  -- the station as the host's answer leaves it
+  abbrev pub answered : Progress V → EventView → Progress V
+  answered s e = record s { state = record s.state { cut = (resolved s e).cut }; value = (resolved s e).value; size = size_after e s.size }
+
+  -- the event's action leads to a state
+  abbrev pub handled : Progress V → EventView → EditState → Progress V
+  handled s e state = record (answered s e) { state = state; taken = s.taken ++ clears_if (chosen s e) }
+
+  -- a station with no event left, by its painting
+  abbrev pub at_end : Progress V → Result Rendered Refusal → Ending V
+  at_end s (Err n) = ends (Err n) [] s
+  at_end s (Ok p) = ends (answer_at s.state) [] (shown s p)
+
+  -- a painted station whose event leads to a state or is refused; rest is the run from a station on
+  abbrev pub after_event : EventView → List EventView → Progress V → (Progress V → Ending V) → Result EditState Refusal → Ending V
+  after_event e es s rest (Err n) = ends (Err n) es (answered s e)
+  after_event e es s rest (Ok state) = rest (handled s e state)
+
+  -- a station with an event left, by its painting
+  abbrev pub at_event : EventView → List EventView → Progress V → (Progress V → Ending V) → Result Rendered Refusal → Ending V
+  at_event e es s rest (Err n) = ends (Err n) (e ∷ es) s
+  at_event e es s rest (Ok p) = cond (is_over s.state.mode)
+      (ends (answer_at s.state) (e ∷ es) (shown s p))
+      (after_event e es (shown s p) rest (apply_if (chosen s e) (answered s e).state))
+
+  -- Each station is painted, and then the next event leads to the next one.
+  abbrev pub run : List EventView → Progress V → Ending V
+  run [] s = at_end s (painting_at s)
+  run (e ∷ es) s = at_event e es s (run es) (painting_at s)
+
+  -- the moments at which a run can be stopped, by the cause
+  pub data CanStop : Cause → List EventView → Progress V → Moment V → Type 0 where
+    -- the painting took no memory, or the size was not told
+    unpainted : {c : Cause} {es : List EventView} {s : Progress V} → CanStop c es s (moment None es s)
+    -- the painting was not rendered
+    half_painted : {es : List EventView} {s : Progress V} {p : Rendered} → painting_at s ≡ Ok p → CanStop fault es s (moment (Some p.changes) es s)
+    -- no event was told
+    unpolled : {es : List EventView} {s : Progress V} {p : Rendered} → painting_at s ≡ Ok p → is_over s.state.mode ≡ false → CanStop fault es s (moment None es (shown s p))
+    -- the run ended with a line, and the line was not copied
+    uncopied : {es : List EventView} {s : Progress V} {p : Rendered} → painting_at s ≡ Ok p → (is_over s.state.mode ≡ true) ⊎ (es ≡ []) → IsLine (answer_at s.state) → CanStop want es s (moment None es (shown s p))
+    -- the host refused the event
+    unresolved : {e : EventView} {es : List EventView} {s : Progress V} {p : Rendered} → painting_at s ≡ Ok p → is_over s.state.mode ≡ false → CanStop want (e ∷ es) s (moment None es (polled (shown s p) e))
+    -- the action or its making was refused
+    unapplied : {e : EventView} {es : List EventView} {s : Progress V} {p : Rendered} → painting_at s ≡ Ok p → is_over s.state.mode ≡ false → TakesMemory (chosen s e) → CanStop want (e ∷ es) s (moment None es (answered (shown s p) e))
+    -- the clearing of the screen was not rendered
+    half_cleared : {e : EventView} {es : List EventView} {s : Progress V} {p : Rendered} → painting_at s ≡ Ok p → is_over s.state.mode ≡ false → chosen s e ≡ Some Repaint → CanStop fault (e ∷ es) s (moment (Some clear_batch) es (answered (shown s p) e))
+    -- at a station after the first
+    later : {c : Cause} {e : EventView} {es : List EventView} {s : Progress V} {p : Rendered} {state : EditState} {m : Moment V} → painting_at s ≡ Ok p → is_over s.state.mode ≡ false → apply_if (chosen s e) (answered s e).state ≡ Ok state → CanStop c es (handled (shown s p) e state) m → CanStop c (e ∷ es) s m
+
+  abbrev pub run_of : Frame V → Ending V
+  run_of f = run f.terminal.events (progress_of f)
+
+  abbrev pub CanStopFrom : Cause → Frame V → Moment V → Type 0
+  CanStopFrom c f m = CanStop c f.terminal.events (progress_of f) m
+
+-- a beginning of what was being rendered, if anything was
+abbrev pub IsPartOf : Option Batch → List Batch → Type 0
+IsPartOf None part = part ≡ []
+IsPartOf (Some batch) part = IsPart batch part
+
+module _ {V : Type 0} where
+  pub record StandsAt (m : Moment V) (f : Frame V) : Type 0 where
+    pub state : f.state ≡ m.state
+    pub value : f.value ≡ m.value
+    pub size : f.terminal.size ≡ m.size
+    pub last : f.last ≡ m.last
+    pub left : f.terminal.events ≡ m.left
+    pub part : (part : List Batch) × IsPartOf m.rendering part × (f.terminal.batches ≡ m.taken ++ part)
+
+  -- on the way nothing was flushed and nothing failed
+  pub record Quiet (f g : Frame V) : Type 0 where
+    pub flushed : g.terminal.flushed ≡ f.terminal.flushed
+    pub failures : g.terminal.failures ≡ f.terminal.failures
+
+  -- on the way nothing was flushed and one call failed
+  pub record FailsOnce (f g : Frame V) : Type 0 where
+    pub flushed : g.terminal.flushed ≡ f.terminal.flushed
+    pub failures : g.terminal.failures ≡ count_up f.terminal.failures
+
+module _ {V : Type 0} (rules : HostRules V) where
+  -- the run from f was stopped at g, with nothing being rendered
+  abbrev pub IsStarved : Frame V → Frame V → Type 0
+  IsStarved f g = (m : Moment V) × CanStopFrom rules want f m × (m.rendering ≡ None) × StandsAt m g
+
+  abbrev pub IsFaulted : Frame V → Frame V → Type 0
+  IsFaulted f g = (m : Moment V) × CanStopFrom rules fault f m × StandsAt m g
+
+  -- what a refusal leaves, before the closing
+  abbrev pub IsRefused : Frame V → Frame V → Error → Type 0
+  IsRefused f g (Memory e) = IsStarved f g × Quiet f g
+  IsRefused f g (Terminal e) = IsFaulted f g × FailsOnce f g
+  IsRefused f g e = (run_of rules f ≡ ending (Err (refusal_of e)) g) × Quiet f g
+
+  -- the run from f leads to g: it goes on from g as it does from f
+  pub record Follows (f g : Frame V) : Type 0 where
+    pub run : run_of rules f ≡ run_of rules g
+    pub stops : (c : Cause) (m : Moment V) → CanStopFrom rules c g m → CanStopFrom rules c f m
+    pub quiet : Quiet f g
+
+  pub record Continues (f g : Frame V) : Type 0 where
+    pub follows : Follows f g
+    pub fewer : length g.terminal.events < length f.terminal.events
+
+  -- the run from f ends at g without refusal
+  pub record IsEnded (f g : Frame V) : Type 0 where
+    pub run : run_of rules f ≡ ending (answer_at g.state) g
+    pub stops : IsLine (answer_at g.state) → CanStopFrom rules want f (moment None g.terminal.events (progress_of g))
+    pub quiet : Quiet f g
+
+  -- the run from f ends at g with this answer
+  pub record IsAnswered (f g : Frame V) (answer : Outcome) : Type 0 where
+    pub run : run_of rules f ≡ ending answer g
+    pub quiet : Quiet f g

@@ -1,0 +1,369 @@
+//! The editor.
+
+ghost use Rattle.std.specs.Prelude.{◌≡◌, ◌≢◌, Some, None, Ok, Err, IfOk, IfErr, OnOk, OnErr, MatchOption, MatchBool, IsSome, option_map};
+ghost use Rattle.std.specs.Str.{IsCharBoundary};
+ghost use Rattle.tw_surface.specs.ChangeView.{batch_view};
+ghost use Rattle.tw_input.specs.EventView.{event_view};
+ghost use Rattle.tw_terminal.specs.TerminalState.{Flushes};
+ghost use Rattle.tw_lineedit.specs.ActionView.{action_view};
+ghost use Rattle.tw_lineedit.specs.Cut.{cut_at};
+ghost use Rattle.tw_lineedit.specs.KeyTable.{action_of};
+ghost use Rattle.tw_lineedit.specs.EditState.{Inactive};
+ghost use Rattle.tw_lineedit.specs.Outcomes.{outcome_of, answer_at, IsLine};
+ghost use Rattle.tw_lineedit.specs.Painting.{closing, clear_batch};
+ghost use Rattle.tw_lineedit.specs.SessionView.{new_state, new_session, on_state};
+ghost use Rattle.tw_lineedit.specs.Refusal.{IsMemory};
+ghost use Rattle.tw_lineedit.specs.Run.{Frame, Ending, progress_of, resolved, run_of, IsRefused, IsAnswered, Continues, IsEnded};
+ghost use Rattle.tw_lineedit.specs.Frame.{frame, Keeps, Closes, FailsToClose, CallFails, ShowsBatch, FailsToShow, Paints, FailsToPaint, Applies, FailsToApply, Handles, FailsToHandle, answered_frame, TakesEvent, HasNoEvent};
+ghost use Rattle.tw_lineedit.specs.Reading.{start, Reads, FailsToRead, IsTurnedDown, FailuresTell, fresh};
+
+use crate::actions::Action;
+use crate::error::Error;
+use crate::host::LineEditorHost;
+use crate::keys::default_action;
+use crate::painter::Painted;
+use crate::session::Session;
+use std::alloc::{AllocError, Global};
+use tw_input::InputEvent;
+use tw_surface::{Change, ColorAttribute};
+use tw_terminal::{ScreenSize, Terminal};
+
+/// An editor over a terminal.
+pub type LineEditor<'term, T> = EditorOver<'term, T, Session>;
+
+/// A terminal and what an editor holds beside it.
+pub struct EditorOver<'term, T: Terminal, S: Drop> {
+    pub(crate) terminal: &'term mut T,
+    pub(crate) session: S,
+}
+
+impl<T: Terminal, S: Drop> Drop for EditorOver<'_, T, S> {
+    fn drop(self)
+        ensures { self.exit.0.now ≡ self.entry.terminal.now }
+    {
+        let EditorOver {
+            terminal: _,
+            session,
+        } = self;
+        drop(session);
+    }
+}
+
+impl<'term, T: Terminal> LineEditor<'term, T> {
+    pub fn new(alloc: Global, terminal: &'term mut T) -> Result<Self, Error>
+        ensures same_reference { IfOk result (λ editor. editor.terminal.ghost_name ≡ terminal.entry.ghost_name) }
+        ensures terminal { IfOk result (λ editor. editor.terminal.now ≡ terminal.old) }
+        ensures state { IfOk result (λ editor. editor.session ≡ new_session) }
+    {
+        let session = Session::new(alloc)?;
+        Ok(EditorOver { terminal, session })
+    }
+
+    /// Sets the prompt, which is `> ` at first. Where it is refused nothing is changed.
+    pub fn set_prompt(&mut self, prompt: &str) -> Result<(), Error>
+        ensures same_reference { self.new.terminal.ghost_name ≡ self.old.terminal.ghost_name }
+        ensures terminal { self.new.terminal.now ≡ self.old.terminal.now }
+        ensures ok { OnOk result (self.new.session ≡ on_state (λ state. record state { prompt = prompt.now }) self.old.session) }
+        ensures err { OnErr result (self.new.session ≡ self.old.session) }
+        ensures memory { IfErr result IsMemory }
+    {
+        self.session.set_prompt(prompt)?;
+        Ok(())
+    }
+
+    /// The line, and the byte offset of its cursor.
+    pub fn get_line_and_cursor(&mut self) -> (&str, usize)
+        ensures line { result.0.now ≡ self.old.session.state.cut.line }
+        ensures cursor { result.1 ≡ self.old.session.state.cut.cursor }
+    {
+        self.session.get_line_and_cursor()
+    }
+
+    /// Sets the line, and its cursor at a byte offset. Where it is refused nothing is changed.
+    pub fn set_line_and_cursor(&mut self, line: &str, cursor: usize) -> Result<(), Error>
+        requires { IsCharBoundary line.now cursor }
+        ensures same_reference { self.new.terminal.ghost_name ≡ self.old.terminal.ghost_name }
+        ensures terminal { self.new.terminal.now ≡ self.old.terminal.now }
+        ensures ok { OnOk result (self.new.session ≡ on_state (λ state. record state { cut = cut_at line.now cursor }) self.old.session) }
+        ensures err { OnErr result (self.new.session ≡ self.old.session) }
+        ensures memory { IfErr result IsMemory }
+    {
+        self.session.set_line_and_cursor(line, cursor)?;
+        Ok(())
+    }
+
+    fn screen_size<H: LineEditorHost>(&mut self, host: &H) -> Result<ScreenSize, Error>
+        ensures same_reference { self.new.terminal.ghost_name ≡ self.old.terminal.ghost_name }
+        ensures ok { IfOk result (λ size. (size ≡ (T.state self.old.terminal.now).size) × (frame T.state H.value self.new host.now ≡ frame T.state H.value self.old host.now)) }
+        ensures err { IfErr result (CallFails (frame T.state H.value self.old host.now) (frame T.state H.value self.new host.now)) }
+    {
+        Ok(self.terminal.get_screen_size()?)
+    }
+
+    fn show<H: LineEditorHost>(&mut self, host: &H, changes: &[Change]) -> Result<(), Error>
+        ensures same_reference { self.new.terminal.ghost_name ≡ self.old.terminal.ghost_name }
+        ensures ok { OnOk result (ShowsBatch (batch_view changes.now) (frame T.state H.value self.old host.now) (frame T.state H.value self.new host.now)) }
+        ensures err { IfErr result (FailsToShow (batch_view changes.now) (frame T.state H.value self.old host.now) (frame T.state H.value self.new host.now)) }
+    {
+        self.terminal.render(changes)?;
+        Ok(())
+    }
+
+    fn paint<H: LineEditorHost>(&mut self, host: &H) -> Result<(), Error>
+        ensures same_reference { self.new.terminal.ghost_name ≡ self.old.terminal.ghost_name }
+        ensures ok { OnOk result (Paints H.rules (frame T.state H.value self.old host.now) (frame T.state H.value self.new host.now)) }
+        ensures err { IfErr result (FailsToPaint H.rules (frame T.state H.value self.old host.now) (frame T.state H.value self.new host.now)) }
+    {
+        let size = self.screen_size(host)?;
+        let (changes, painted) = self.session.paint(host, size)?;
+        self.show(host, changes.as_slice())?;
+        self.session.set_painted(painted);
+        Ok(())
+    }
+
+    /// Applies an action.
+    pub fn apply_action<H: LineEditorHost>(
+        &mut self,
+        host: &mut H,
+        action: Action,
+    ) -> Result<(), Error>
+        ensures same_reference { self.new.terminal.ghost_name ≡ self.old.terminal.ghost_name }
+        ensures host { host.new ≡ host.old }
+        ensures ok { OnOk result (Applies (Some (action_view action)) (frame T.state H.value self.old host.old) (frame T.state H.value self.new host.new)) }
+        ensures err { IfErr result (FailsToApply (Some (action_view action)) (frame T.state H.value self.old host.old) (frame T.state H.value self.new host.new)) }
+        ensures failures { FailuresTell result (T.state self.old.terminal.now).failures (T.state self.new.terminal.now).failures }
+    {
+        self.act(host, action)
+    }
+
+    #[tactic(auto, unfolding(crate::specs::Steps::apply))]
+    fn act<H: LineEditorHost>(&mut self, host: &H, action: Action) -> Result<(), Error>
+        ensures same_reference { self.new.terminal.ghost_name ≡ self.old.terminal.ghost_name }
+        ensures ok { OnOk result (Applies (Some (action_view action)) (frame T.state H.value self.old host.now) (frame T.state H.value self.new host.now)) }
+        ensures err { IfErr result (FailsToApply (Some (action_view action)) (frame T.state H.value self.old host.now) (frame T.state H.value self.new host.now)) }
+    {
+        match action {
+            Action::Repaint => self.clear_screen(host),
+            action => self.session.act(action),
+        }
+    }
+
+    fn clear_screen<H: LineEditorHost>(&mut self, host: &H) -> Result<(), Error>
+        ensures same_reference { self.new.terminal.ghost_name ≡ self.old.terminal.ghost_name }
+        ensures ok { OnOk result (ShowsBatch clear_batch (frame T.state H.value self.old host.now) (frame T.state H.value self.new host.now)) }
+        ensures err { IfErr result (FailsToShow clear_batch (frame T.state H.value self.old host.now) (frame T.state H.value self.new host.now)) }
+    {
+        self.show(host, &[Change::ClearScreen(ColorAttribute::Default)])
+    }
+
+    fn poll<H: LineEditorHost>(&mut self, host: &H) -> Result<Option<InputEvent>, Error>
+        ensures same_reference { self.new.terminal.ghost_name ≡ self.old.terminal.ghost_name }
+        ensures ok { IfOk result (λ event. MatchOption event
+            (HasNoEvent (frame T.state H.value self.old host.now) (frame T.state H.value self.new host.now))
+            (λ event. TakesEvent (event_view event) (frame T.state H.value self.old host.now) (frame T.state H.value self.new host.now))) }
+        ensures err { IfErr result (CallFails (frame T.state H.value self.old host.now) (frame T.state H.value self.new host.now)) }
+    {
+        Ok(self.terminal.poll_input()?)
+    }
+
+    fn handle<H: LineEditorHost>(&mut self, host: &mut H, event: &InputEvent) -> Result<(), Error>
+        ensures same_reference { self.new.terminal.ghost_name ≡ self.old.terminal.ghost_name }
+        ensures ok { OnOk result (Handles H.rules (event_view event.now) (frame T.state H.value self.old host.old) (frame T.state H.value self.new host.new)) }
+        ensures err { IfErr result (FailsToHandle H.rules (event_view event.now) (frame T.state H.value self.old host.old) (frame T.state H.value self.new host.new)) }
+    {
+        match self.resolve(host, event)? {
+            Some(action) => self.act(host, action),
+            None => self.handle_default(host, event),
+        }
+    }
+
+    fn handle_default<H: LineEditorHost>(
+        &mut self,
+        host: &H,
+        event: &InputEvent,
+    ) -> Result<(), Error>
+        ensures same_reference { self.new.terminal.ghost_name ≡ self.old.terminal.ghost_name }
+        ensures ok { OnOk result (Applies (action_of (event_view event.now)) (frame T.state H.value self.old host.now) (frame T.state H.value self.new host.now)) }
+        ensures err { IfErr result (FailsToApply (action_of (event_view event.now)) (frame T.state H.value self.old host.now) (frame T.state H.value self.new host.now)) }
+    {
+        match default_action(self.session.alloc(), event)? {
+            Some(action) => self.act(host, action),
+            None => Ok(()),
+        }
+    }
+
+    fn resolve<H: LineEditorHost>(
+        &mut self,
+        host: &mut H,
+        event: &InputEvent,
+    ) -> Result<Option<Action>, AllocError>
+        ensures same_reference { self.new.terminal.ghost_name ≡ self.old.terminal.ghost_name }
+        ensures ok { OnOk result (frame T.state H.value self.new host.new ≡ answered_frame H.rules (event_view event.now) (frame T.state H.value self.old host.old)) }
+        ensures action { IfOk result (λ action. option_map action_view action ≡ (resolved H.rules (progress_of (frame T.state H.value self.old host.old)) (event_view event.now)).action) }
+        ensures err { OnErr result (frame T.state H.value self.new host.new ≡ frame T.state H.value self.old host.old) }
+    {
+        self.session.resolve(host, event)
+    }
+
+    /// Paints, and then takes and handles an event. It is false at the end.
+    fn turn<H: LineEditorHost>(&mut self, host: &mut H) -> Result<bool, Error>
+        ensures same_reference { self.new.terminal.ghost_name ≡ self.old.terminal.ghost_name }
+        ensures ok { IfOk result (λ more. MatchBool more
+            (Continues H.rules (frame T.state H.value self.old host.old) (frame T.state H.value self.new host.new))
+            (IsEnded H.rules (frame T.state H.value self.old host.old) (frame T.state H.value self.new host.new))) }
+        ensures err { IfErr result (IsRefused H.rules (frame T.state H.value self.old host.old) (frame T.state H.value self.new host.new)) }
+    {
+        self.paint(host)?;
+        if self.session.is_over() {
+            return Ok(false);
+        }
+        match self.poll(host)? {
+            Some(event) => {
+                self.handle(host, &event)?;
+                Ok(true)
+            }
+            None => Ok(false),
+        }
+    }
+
+    #[tactic(auto, using(crate::proofs::TurnLemmas::ended_later, crate::proofs::TurnLemmas::not_copied))]
+    /// Takes events up to the end of the run, and answers.
+    fn answer<H: LineEditorHost>(&mut self, host: &mut H) -> Result<Option<String>, Error>
+        ensures same_reference { self.new.terminal.ghost_name ≡ self.old.terminal.ghost_name }
+        ensures ok { IfOk result (λ it. IsAnswered H.rules (frame T.state H.value self.old host.old) (frame T.state H.value self.new host.new) (outcome_of (Ok it))) }
+        ensures err { IfErr result (IsRefused H.rules (frame T.state H.value self.old host.old) (frame T.state H.value self.new host.new)) }
+    {
+        while self.turn(host)? {}
+        self.answered(host)
+    }
+
+    fn answered<H: LineEditorHost>(&mut self, host: &H) -> Result<Option<String>, Error>
+        ensures same_reference { self.new.terminal.ghost_name ≡ self.old.terminal.ghost_name }
+        ensures same { frame T.state H.value self.new host.now ≡ frame T.state H.value self.old host.now }
+        ensures ok { IfOk result (λ it. outcome_of (Ok it) ≡ answer_at (self.old.session.state)) }
+        ensures err { IfErr result IsMemory }
+        ensures line { OnErr result (IsLine (answer_at (self.old.session.state))) }
+    {
+        Ok(self.session.answer()?)
+    }
+
+    fn flush<H: LineEditorHost>(&mut self, host: &H) -> Result<(), Error>
+        ensures same_reference { self.new.terminal.ghost_name ≡ self.old.terminal.ghost_name }
+        ensures same { Keeps (frame T.state H.value self.old host.now) (frame T.state H.value self.new host.now) }
+        ensures ok { OnOk result (Flushes (T.state self.old.terminal.now) (T.state self.new.terminal.now)) }
+        ensures err { IfErr result (CallFails (frame T.state H.value self.old host.now) (frame T.state H.value self.new host.now)) }
+    {
+        self.terminal.flush()?;
+        Ok(())
+    }
+
+    fn show_closing<H: LineEditorHost>(&mut self, host: &H, painted: Painted) -> Result<(), Error>
+        ensures same_reference { self.new.terminal.ghost_name ≡ self.old.terminal.ghost_name }
+        ensures ok { OnOk result (ShowsBatch (closing painted) (frame T.state H.value self.old host.now) (frame T.state H.value self.new host.now)) }
+        ensures err { IfErr result (FailsToShow (closing painted) (frame T.state H.value self.old host.now) (frame T.state H.value self.new host.now)) }
+    {
+        self.show(host, &painted.closing_batch())
+    }
+
+    /// Ends the run.
+    fn close<H: LineEditorHost>(&mut self, host: &H) -> Result<(), Error>
+        ensures same_reference { self.new.terminal.ghost_name ≡ self.old.terminal.ghost_name }
+        ensures ok { OnOk result (Closes (frame T.state H.value self.old host.now) (frame T.state H.value self.new host.now)) }
+        ensures err { IfErr result (FailsToClose (frame T.state H.value self.old host.now) (frame T.state H.value self.new host.now)) }
+    {
+        self.session.end();
+        match self.session.painted() {
+            None => self.flush(host),
+            Some(painted) => {
+                self.show_closing(host, painted)?;
+                self.flush(host)
+            }
+        }
+    }
+
+    /// Empties the line, or fills it with the initial value.
+    fn begin<H: LineEditorHost>(
+        &mut self,
+        host: &H,
+        initial: Option<&str>,
+    ) -> Result<(), AllocError>
+        ensures same_reference { self.new.terminal.ghost_name ≡ self.old.terminal.ghost_name }
+        ensures ok { OnOk result (frame T.state H.value self.new host.now ≡ start (option_map (λ s. s.now) initial.entry) (frame T.state H.value self.old host.now)) }
+        ensures err { OnErr result (frame T.state H.value self.new host.now ≡ start None (frame T.state H.value self.old host.now)) }
+        ensures initial { OnErr result (IsSome (option_map (λ s. s.now) initial.entry)) }
+    {
+        self.session.begin();
+        match initial {
+            None => Ok(()),
+            Some(text) => self.session.set_line_and_cursor(text, text.len()),
+        }
+    }
+
+    #[tactic(auto, using(crate::proofs::ClosingLemmas::begun_refused))]
+    /// Does all of a call up to its closing.
+    fn started<H: LineEditorHost>(
+        &mut self,
+        host: &mut H,
+        initial: Option<&str>,
+    ) -> Result<Option<String>, Error>
+        ensures same_reference { self.new.terminal.ghost_name ≡ self.old.terminal.ghost_name }
+        ensures ok { IfOk result (λ it. IsAnswered H.rules (start (option_map (λ s. s.now) initial.entry) (frame T.state H.value self.old host.old)) (frame T.state H.value self.new host.new) (outcome_of (Ok it))) }
+        ensures err { IfErr result (IsTurnedDown H.rules (option_map (λ s. s.now) initial.entry) (frame T.state H.value self.old host.old) (frame T.state H.value self.new host.new)) }
+    {
+        match self.begin(host, initial) {
+            Ok(()) => self.answer(host),
+            Err(e) => Err(Error::Memory(e)),
+        }
+    }
+
+    #[tactic(auto, using(crate::proofs::ClosingLemmas::refused_unclosed, crate::proofs::ClosingLemmas::refused_closed))]
+    fn read<H: LineEditorHost>(
+        &mut self,
+        host: &mut H,
+        initial: Option<&str>,
+    ) -> Result<Option<String>, Error>
+        ensures same_reference { self.new.terminal.ghost_name ≡ self.old.terminal.ghost_name }
+        ensures ok { IfOk result (λ it. Reads (run_of H.rules (start (option_map (λ s. s.now) initial.entry) (frame T.state H.value self.old host.old))) (frame T.state H.value self.old host.old) (frame T.state H.value self.new host.new) (outcome_of (Ok it))) }
+        ensures err { IfErr result (FailsToRead H.rules (option_map (λ s. s.now) initial.entry) (frame T.state H.value self.old host.old) (frame T.state H.value self.new host.new)) }
+    {
+        match self.started(host, initial) {
+            Ok(line) => {
+                self.close(host)?;
+                Ok(line)
+            }
+            Err(refusal) => {
+                self.close(host)?;
+                Err(refusal)
+            }
+        }
+    }
+
+    /// Reads a line that begins with the initial value.
+    pub fn read_line_with_optional_initial_value<H: LineEditorHost>(
+        &mut self,
+        host: &mut H,
+        initial_value: Option<&str>,
+    ) -> Result<Option<String>, Error>
+        ensures same_reference { self.new.terminal.ghost_name ≡ self.old.terminal.ghost_name }
+        ensures recursive { self.old.session.state.mode ≢ Inactive → (result ≡ Err Error.Recursive) × (frame T.state H.value self.new host.new ≡ frame T.state H.value self.old host.old) }
+        ensures ok { self.old.session.state.mode ≡ Inactive → IfOk result (λ it. Reads (run_of H.rules (start (option_map (λ s. s.now) initial_value.entry) (frame T.state H.value self.old host.old))) (frame T.state H.value self.old host.old) (frame T.state H.value self.new host.new) (outcome_of (Ok it))) }
+        ensures err { self.old.session.state.mode ≡ Inactive → IfErr result (FailsToRead H.rules (option_map (λ s. s.now) initial_value.entry) (frame T.state H.value self.old host.old) (frame T.state H.value self.new host.new)) }
+        ensures failures { FailuresTell result (T.state self.old.terminal.now).failures (T.state self.new.terminal.now).failures }
+    {
+        if !self.session.is_inactive() {
+            return Err(Error::Recursive);
+        }
+        self.read(host, initial_value)
+    }
+
+    /// Reads a line.
+    pub fn read_line<H: LineEditorHost>(&mut self, host: &mut H) -> Result<Option<String>, Error>
+        ensures same_reference { self.new.terminal.ghost_name ≡ self.old.terminal.ghost_name }
+        ensures recursive { self.old.session.state.mode ≢ Inactive → (result ≡ Err Error.Recursive) × (frame T.state H.value self.new host.new ≡ frame T.state H.value self.old host.old) }
+        ensures ok { self.old.session.state.mode ≡ Inactive → IfOk result (λ it. Reads (run_of H.rules (start None (frame T.state H.value self.old host.old))) (frame T.state H.value self.old host.old) (frame T.state H.value self.new host.new) (outcome_of (Ok it))) }
+        ensures err { self.old.session.state.mode ≡ Inactive → IfErr result (FailsToRead H.rules None (frame T.state H.value self.old host.old) (frame T.state H.value self.new host.new)) }
+        ensures failures { FailuresTell result (T.state self.old.terminal.now).failures (T.state self.new.terminal.now).failures }
+    {
+        self.read_line_with_optional_initial_value(host, None)
+    }
+}

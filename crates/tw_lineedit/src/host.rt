@@ -1,0 +1,164 @@
+//! What an application tells the editor.
+
+ghost use Rattle.std.specs.Prelude.{◌≡◌, IfOk, OnErr, map, option_map};
+ghost use Rattle.tw_input.specs.EventView.{event_view};
+ghost use Rattle.tw_lineedit.specs.ActionView.{action_view};
+ghost use Rattle.std.specs.Str.{IsCharBoundary};
+ghost use Rattle.tw_lineedit.specs.Cut.{cut_at};
+ghost use Rattle.tw_lineedit.specs.ElementView.{element_view};
+ghost use Rattle.tw_lineedit.specs.HostRules.{HostRules, plain_text, plain_rules};
+ghost use Rattle.tw_lineedit.specs.PlainAnswers.{IsPlainBut, nothing_own, plain_is_plain};
+
+use crate::actions::Action;
+use crate::buffer::LineEditBuffer;
+use std::alloc::{AllocError, Global};
+use tw_input::InputEvent;
+use tw_surface::{AttributeChange, CellAttributes, Change, unicode_column_width};
+
+/// A part of what is shown.
+#[derive(Debug, Drop)]
+pub enum OutputElement {
+    /// Sets one attribute of the text that follows.
+    Attribute(AttributeChange),
+    /// Sets all attributes of the text that follows.
+    AllAttributes(CellAttributes),
+    /// A text.
+    Text(String),
+}
+
+impl From<OutputElement> for Change {
+    ghost use Rattle.std.specs.Prelude.{◌≡◌};
+    ghost use Rattle.tw_surface.specs.ChangeView.{change_view};
+    ghost use Rattle.tw_lineedit.specs.ElementView.{element_view, element_change};
+
+    ghost from_gives = { λ element made. change_view made ≡ element_change (element_view element) };
+
+    fn from(element: OutputElement) -> Change {
+        match element {
+            OutputElement::Attribute(change) => Change::Attribute(change),
+            OutputElement::AllAttributes(attributes) => Change::AllAttributes(attributes),
+            OutputElement::Text(text) => Change::Text(text),
+        }
+    }
+}
+
+/// Which calls a host answers for itself. The default bodies answer the others.
+#[derive(Clone, Copy, Debug, PartialEq, Eq)]
+pub struct OwnAnswers {
+    pub prompt: bool,
+    pub highlight: bool,
+    pub resolve: bool,
+}
+
+impl OwnAnswers {
+    /// All answers are those of the default bodies.
+    pub const NONE: OwnAnswers = OwnAnswers {
+        prompt: false,
+        highlight: false,
+        resolve: false,
+    };
+}
+
+/// One element: the text as it is.
+fn plain_element(alloc: Global, text: &str) -> Result<Vec<OutputElement>, AllocError>
+    ensures { IfOk result (λ elements. map element_view elements.items ≡ plain_text text.now) }
+{
+    let text = String::from_str(alloc, text)?;
+    let elements = vec![in alloc; OutputElement::Text(text)]?;
+    Ok(elements)
+}
+
+/// What an application tells the editor. Each answer is a function of what the host holds and of the
+/// arguments. A host that answers a call for itself says so in `OWN`.
+pub trait LineEditorHost {
+    ghost use Rattle.tw_lineedit.specs.declared.host.OwnAnswers.{OwnAnswers};
+
+    ghost Value: { Type 0 };
+
+    ghost value: { Self → Value };
+
+    ghost rules: { HostRules Value };
+
+    ghost OWN: { OwnAnswers };
+
+    /// Which calls the host answers for itself.
+    const OWN: OwnAnswers;
+
+    /// The prompt as it is shown. By default the text itself.
+    fn render_prompt(&self, alloc: Global, prompt: &str) -> Result<Vec<OutputElement>, AllocError>
+        ensures { IfOk result (λ elements. map element_view elements.items ≡ rules.prompt (value self.now) prompt.now) }
+    {
+        if Self::OWN.prompt {
+            return Err(AllocError);
+        }
+        plain_element(alloc, prompt)
+    }
+
+    /// The line as it is shown, and the column of its cursor, counted from where the line begins. By
+    /// default the text itself, and the columns of the text before the cursor.
+    fn highlight_line(
+        &self,
+        alloc: Global,
+        line: &str,
+        cursor_position: usize,
+    ) -> Result<(Vec<OutputElement>, usize), AllocError>
+        requires { IsCharBoundary line.now cursor_position }
+        ensures elements { IfOk result (λ shown. map element_view shown.0.items ≡ (rules.highlight (value self.now) (cut_at line.now cursor_position)).elements) }
+        ensures column { IfOk result (λ shown. shown.1 ≡ (rules.highlight (value self.now) (cut_at line.now cursor_position)).column) }
+    {
+        if Self::OWN.highlight {
+            return Err(AllocError);
+        }
+        let elements = plain_element(alloc, line)?;
+        Ok((elements, unicode_column_width(&line[..cursor_position])))
+    }
+
+    /// What the host makes of an event before the key table does: it may change itself and the line, and
+    /// may name an action. By default it does nothing. Where it is refused nothing is changed.
+    fn resolve_action(
+        &mut self,
+        alloc: Global,
+        event: &InputEvent,
+        editor: &mut LineEditBuffer,
+    ) -> Result<Option<Action>, AllocError>
+        ensures ok { IfOk result (λ action. rules.resolve (value self.old) (event_view event.now) editor.old
+            ≡ record { value = value self.new; cut = editor.new; action = option_map action_view action }) }
+        ensures refused { OnErr result (value self.new ≡ value self.old) }
+        ensures refused_cut { OnErr result (editor.new ≡ editor.old) }
+    {
+        if Self::OWN.resolve {
+            return Err(AllocError);
+        }
+        Ok(None)
+    }
+
+    ghost plain_answers: { IsPlainBut rules OWN };
+}
+
+/// A host with the default answers.
+#[derive(Debug, Drop)]
+pub struct NopLineEditorHost;
+
+impl NopLineEditorHost {
+    /// The host. It takes no memory.
+    pub fn new(alloc: Global) -> Self
+        ensures { ⟦<NopLineEditorHost as LineEditorHost>⟧.rules ≡ plain_rules }
+    {
+        let _ = alloc;
+        NopLineEditorHost
+    }
+}
+
+impl LineEditorHost for NopLineEditorHost {
+    ghost Value = { Unit {0} };
+
+    ghost value = { λ h. tt };
+
+    ghost rules = { plain_rules };
+
+    ghost OWN = { nothing_own };
+
+    const OWN: OwnAnswers = OwnAnswers::NONE;
+
+    ghost plain_answers = { plain_is_plain };
+}

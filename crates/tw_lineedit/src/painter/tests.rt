@@ -1,0 +1,198 @@
+use super::*;
+use crate::host::{NopLineEditorHost, OwnAnswers};
+use std::process::Abort;
+use std::test::Fail;
+
+/// A host that puts the cursor of every line into one column.
+#[derive(Drop)]
+struct ColumnHost {
+    column: usize,
+}
+
+impl LineEditorHost for ColumnHost {
+    ghost use Rattle.std.specs.Prelude.{ℕ, true, false, refl};
+    ghost use Rattle.std.proofs.lemmas.Bool.{true≢false};
+    ghost use Rattle.tw_lineedit.specs.HostRules.{plain_text, unresolved};
+
+    ghost Value = { ℕ };
+
+    ghost value = { λ h. h.column };
+
+    ghost rules = { record {
+      prompt = λ column text. plain_text text;
+      highlight = λ column cut. record { elements = plain_text cut.line; column = column };
+      resolve = λ column event cut. unresolved column cut;
+    } };
+
+    ghost OWN = { record { prompt = false; highlight = true; resolve = false } };
+
+    const OWN: OwnAnswers = OwnAnswers {
+        prompt: false,
+        highlight: true,
+        resolve: false,
+    };
+
+    fn highlight_line(
+        &self,
+        alloc: Global,
+        line: &str,
+        _cursor_position: usize,
+    ) -> Result<(Vec<OutputElement>, usize), AllocError> {
+        let text = String::from_str(alloc, line)?;
+        let elements = vec![in alloc; OutputElement::Text(text)]?;
+        Ok((elements, self.column))
+    }
+
+    ghost plain_answers = { record { prompt = λ e column text. refl; highlight = λ e column cut. absurd (true≢false e); resolve = λ e column event cut. refl } };
+}
+
+/// The line with its cursor at the end, painted behind the prompt `> `.
+fn painted<H: LineEditorHost>(
+    host: &H,
+    alloc: Global,
+    size: (usize, usize),
+    line: &str,
+    before: Option<Painted>,
+) -> Result<(Vec<Change>, Painted), Error> {
+    let buffer = LineEditBuffer::new(alloc, line, line.len())?;
+    let (rows, cols) = size;
+    paint(
+        host,
+        alloc,
+        "> ",
+        &buffer,
+        ScreenSize { rows, cols },
+        before,
+    )
+}
+
+fn text(alloc: Global, text: &str) -> Result<Change, AllocError> {
+    Ok(Change::Text(String::from_str(alloc, text)?))
+}
+
+fn move_by(x: isize, y: isize) -> Change {
+    Change::CursorPosition {
+        x: Position::Relative(x),
+        y: Position::Relative(y),
+    }
+}
+
+fn to_first_column(y: isize) -> Change {
+    Change::CursorPosition {
+        x: Position::Absolute(0),
+        y: Position::Relative(y),
+    }
+}
+
+/// The changes of a painting of the line, with a space behind it or none, and with the last move.
+fn batch(
+    alloc: Global,
+    line: &str,
+    edge_space: bool,
+    last: Change,
+) -> Result<Vec<Change>, AllocError> {
+    let mut changes = vec![in alloc;
+        Change::ClearToEndOfScreen(ColorAttribute::Default),
+        Change::AllAttributes(CellAttributes::default()),
+        text(alloc, "> ")?,
+        Change::AllAttributes(CellAttributes::default()),
+        text(alloc, line)?,
+    ]?;
+    if edge_space {
+        changes.push(text(alloc, " ")?)?;
+    }
+    changes.push(last)?;
+    Ok(changes)
+}
+
+fn assert_changes(rt: &impl Abort, changes: &[Change], wanted: &[Change]) {
+    assert_eq!(rt; changes.len(), wanted.len());
+    for (change, other) in changes.iter().zip(wanted) {
+        assert_eq!(rt; *change, *other);
+    }
+}
+
+/// A painting's changes, and the move with which it is closed.
+fn assert_painting(
+    rt: &impl Abort,
+    painting: &(Vec<Change>, Painted),
+    wanted: &[Change],
+    closing_move: isize,
+) {
+    assert_changes(rt, painting.0.as_slice(), wanted);
+    assert_changes(
+        rt,
+        &painting.1.closing_batch(),
+        &[
+            to_first_column(closing_move),
+            Change::ClearToEndOfScreen(ColorAttribute::Default),
+        ],
+    );
+}
+
+#[test]
+fn lines_are_painted(rt: HostRuntime) -> Result<(), Fail> {
+    let rows = [
+        // columns, line, whether a space stands behind it, the last move, the closing move
+        (80, "hi", false, (0, 0), 1),
+        (10, "abcdefgh", true, (-1, 0), 1),
+        (1, "a", true, (-1, 0), 1),
+    ];
+    let alloc = rt.alloc();
+    let host = NopLineEditorHost::new(alloc);
+    for (cols, line, edge_space, (x, y), closing_move) in rows {
+        let painting = painted(&host, alloc, (24, cols), line, None)?;
+        let wanted = batch(alloc, line, edge_space, move_by(x, y))?;
+        assert_painting(&rt, &painting, wanted.as_slice(), closing_move);
+    }
+    Ok(())
+}
+
+#[test]
+fn cursor_may_be_far_behind_the_line(rt: HostRuntime) -> Result<(), Fail> {
+    let rows = [
+        (10, 25, (5, 2), -1),
+        (80, 2_147_483_645, (45, 26_843_545), -26_843_544),
+    ];
+    let alloc = rt.alloc();
+    for (cols, column, (x, y), closing_move) in rows {
+        let painting = painted(&ColumnHost { column }, alloc, (24, cols), "", None)?;
+        let wanted = batch(alloc, "", false, move_by(x, y))?;
+        assert_painting(&rt, &painting, wanted.as_slice(), closing_move);
+    }
+    for column in [2_147_483_646, usize::MAX] {
+        let refused = painted(&ColumnHost { column }, alloc, (24, 80), "", None);
+        assert_eq!(rt; refused.err().map(|e| e.number()), Some(4));
+    }
+    Ok(())
+}
+
+#[test]
+fn sizes_have_limits(rt: HostRuntime) -> Result<(), Fail> {
+    let rows = [
+        (24, 0, Some(3)),
+        (0, 65_536, Some(3)),
+        (24, 65_536, Some(4)),
+        (65_536, 80, Some(4)),
+        (24, 65_535, None),
+    ];
+    let alloc = rt.alloc();
+    let host = NopLineEditorHost::new(alloc);
+    for (screen_rows, cols, number) in rows {
+        let answer = painted(&host, alloc, (screen_rows, cols), "hi", None);
+        assert_eq!(rt; answer.err().map(|e| e.number()), number);
+    }
+    Ok(())
+}
+
+#[test]
+fn next_painting_goes_back_to_the_first_row(rt: HostRuntime) -> Result<(), Fail> {
+    let alloc = rt.alloc();
+    let host = NopLineEditorHost::new(alloc);
+    let (first, left) = painted(&host, alloc, (24, 10), "abcdefgh", None)?;
+    let (second, same) = painted(&host, alloc, (24, 10), "abcdefgh", Some(left))?;
+    assert_eq!(rt; left, same);
+    assert_eq!(rt; second.first(), Some(&to_first_column(-1)));
+    assert_changes(&rt, &second[1..], first.as_slice());
+    Ok(())
+}

@@ -1,0 +1,238 @@
+//! What an editor holds beside its terminal, and the steps of the abstract editor on it.
+
+ghost use Rattle.std.specs.Prelude.{◌≡◌, ◌++◌, Ok, Err, Some, None, IfOk, IfErr, OnOk, OnErr, option_map, length, IsTrue, ◌↔◌, false};
+ghost use Rattle.std.specs.Str.{IsCharBoundary};
+ghost use Rattle.tw_surface.specs.ChangeView.{batch_view};
+ghost use Rattle.tw_input.specs.EventView.{event_view};
+ghost use Rattle.tw_lineedit.specs.ActionView.{action_view};
+ghost use Rattle.tw_lineedit.specs.Cut.{cut_at, empty_cut};
+ghost use Rattle.tw_lineedit.specs.EditState.{Inactive as InactiveView};
+ghost use Rattle.tw_lineedit.specs.Outcomes.{outcome_of, answer_at, IsLine, is_over};
+ghost use Rattle.tw_lineedit.specs.Painting.{painted_on, scene_of, rendered};
+ghost use Rattle.tw_lineedit.specs.Draws.{IsUnpainted};
+
+use crate::actions::Action;
+use crate::buffer::LineEditBuffer;
+use crate::error::Error;
+use crate::host::LineEditorHost;
+use crate::painter::{Painted, paint};
+use std::alloc::{AllocError, Global};
+use std::marker::Model;
+use tw_input::InputEvent;
+use tw_surface::Change;
+use tw_terminal::ScreenSize;
+
+/// What the editor is doing.
+#[derive(Clone, Copy, Debug, PartialEq, Eq)]
+pub enum Mode {
+    Inactive,
+    Editing,
+    Cancelled,
+    Accepted,
+}
+
+/// What an editor holds beside its terminal.
+#[derive(Debug, Drop)]
+pub struct Session {
+    alloc: Global,
+    prompt: String,
+    line: LineEditBuffer,
+    mode: Mode,
+    painted: Option<Painted>,
+}
+
+impl Model for Session {
+    ghost use Rattle.std.specs.Prelude.{string_bytes};
+    ghost use Rattle.tw_lineedit.specs.SessionView.{SessionView, mode_view};
+
+    ghost Value = { SessionView };
+
+    ghost view = { λ s. record {
+      state = record { prompt = string_bytes s.prompt; cut = s.line; mode = mode_view s.mode };
+      last = s.painted;
+    } };
+}
+
+impl Session {
+    ghost use Rattle.tw_lineedit.specs.SessionView.{new_session, on_state, begun, mode_view, ActsOn, FailsToActOn};
+
+    /// A session with the prompt `> `, an empty line and nothing painted.
+    pub(crate) fn new(alloc: Global) -> Result<Session, AllocError>
+        ensures { IfOk result (λ session. session ≡ new_session) }
+    {
+        let prompt = String::from_str(alloc, "> ")?;
+        Ok(Session {
+            alloc,
+            prompt,
+            line: LineEditBuffer::empty(alloc),
+            mode: Mode::Inactive,
+            painted: None,
+        })
+    }
+
+    pub(crate) fn alloc(&self) -> Global {
+        self.alloc
+    }
+
+    /// Sets the prompt. Where it is refused nothing is changed.
+    pub(crate) fn set_prompt(&mut self, prompt: &str) -> Result<(), AllocError>
+        ensures ok { OnOk result (self.new ≡ on_state (λ state. record state { prompt = prompt.now }) self.old) }
+        ensures err { OnErr result (self.new ≡ self.old) }
+    {
+        self.prompt = String::from_str(self.alloc, prompt)?;
+        Ok(())
+    }
+
+    /// The line and its cursor.
+    pub(crate) fn get_line_and_cursor(&self) -> (&str, usize)
+        ensures line { result.0.now ≡ self.now.state.cut.line }
+        ensures cursor { result.1 ≡ self.now.state.cut.cursor }
+    {
+        (self.line.get_line(), self.line.get_cursor())
+    }
+
+    /// Sets the line and its cursor. Where it is refused nothing is changed.
+    pub(crate) fn set_line_and_cursor(
+        &mut self,
+        line: &str,
+        cursor: usize,
+    ) -> Result<(), AllocError>
+        requires { IsCharBoundary line.now cursor }
+        ensures ok { OnOk result (self.new ≡ on_state (λ state. record state { cut = cut_at line.now cursor }) self.old) }
+        ensures err { OnErr result (self.new ≡ self.old) }
+    {
+        self.line.set_line_and_cursor(line, cursor)
+    }
+
+    pub(crate) fn is_inactive(&self) -> bool
+        ensures { IsTrue result ↔ (self.now.state.mode ≡ InactiveView) }
+    {
+        matches!(self.mode, Mode::Inactive)
+    }
+
+    /// Whether the line was accepted or the run cancelled.
+    pub(crate) fn is_over(&self) -> bool
+        ensures { result ≡ is_over self.now.state.mode }
+    {
+        matches!(self.mode, Mode::Accepted | Mode::Cancelled)
+    }
+
+    /// The last painting, if there was one.
+    pub(crate) fn painted(&self) -> Option<Painted>
+        ensures { result ≡ self.now.last }
+    {
+        self.painted
+    }
+
+    pub(crate) fn set_painted(&mut self, painted: Painted)
+        ensures { self.new ≡ record self.old { last = Some painted } }
+    {
+        self.painted = Some(painted);
+    }
+
+    /// Empties the line and forgets the last painting.
+    pub(crate) fn begin(&mut self)
+        ensures { self.new ≡ record { state = begun empty_cut self.old.state; last = None } }
+    {
+        self.line.clear();
+        self.mode = Mode::Editing;
+        self.painted = None;
+    }
+
+    pub(crate) fn end(&mut self)
+        ensures { self.new ≡ on_state (λ state. record state { mode = InactiveView }) self.old }
+    {
+        self.mode = Mode::Inactive;
+    }
+
+    /// Applies an action to the state. A `Repaint` changes nothing in it. Where it is refused nothing is
+    /// changed.
+    #[tactic(auto, unfolding(crate::specs::Steps::apply))]
+    pub(crate) fn act(&mut self, action: Action) -> Result<(), Error>
+        ensures ok { OnOk result (ActsOn (action_view action) self.old self.new) }
+        ensures err { IfErr result (FailsToActOn (action_view action) self.old self.new) }
+    {
+        match action {
+            Action::AcceptLine => {
+                self.mode = Mode::Accepted;
+                Ok(())
+            }
+            Action::Cancel => {
+                self.mode = Mode::Cancelled;
+                Ok(())
+            }
+            Action::EndOfFile => Err(Error::EndOfFile),
+            Action::InsertChar(count, c) => {
+                self.line.insert_char_times(count, c)?;
+                Ok(())
+            }
+            Action::InsertText(count, text) => {
+                self.line.insert_text_times(count, text.as_str())?;
+                Ok(())
+            }
+            Action::Repaint | Action::NoAction => Ok(()),
+            Action::Move(movement) => {
+                self.line.exec_movement(movement);
+                Ok(())
+            }
+            Action::Kill(movement) => {
+                self.line.kill_text(movement, movement);
+                Ok(())
+            }
+            Action::KillAndMove(kill, movement) => {
+                self.line.kill_text(kill, movement);
+                Ok(())
+            }
+        }
+    }
+
+    /// The answer at the end of a run: a copy of the line, or none where the run was cancelled.
+    pub(crate) fn answer(&self) -> Result<Option<String>, AllocError>
+        ensures ok { IfOk result (λ line. outcome_of (Ok line) ≡ answer_at self.now.state) }
+        ensures err { OnErr result (IsLine (answer_at self.now.state)) }
+    {
+        match self.mode {
+            Mode::Cancelled => Ok(None),
+            Mode::Inactive | Mode::Editing | Mode::Accepted => {
+                let line = String::from_str(self.alloc, self.line.get_line())?;
+                Ok(Some(line))
+            }
+        }
+    }
+
+    /// Asks the host, which may change itself and the line. Where it is refused nothing is changed.
+    pub(crate) fn resolve<H: LineEditorHost>(
+        &mut self,
+        host: &mut H,
+        event: &InputEvent,
+    ) -> Result<Option<Action>, AllocError>
+        ensures state { OnOk result (self.new ≡ on_state (λ state. record state { cut = (H.rules.resolve (H.value host.old) (event_view event.now) state.cut).cut }) self.old) }
+        ensures value { OnOk result (H.value host.new ≡ (H.rules.resolve (H.value host.old) (event_view event.now) self.old.state.cut).value) }
+        ensures action { IfOk result (λ action. option_map action_view action ≡ (H.rules.resolve (H.value host.old) (event_view event.now) self.old.state.cut).action) }
+        ensures err { OnErr result ((self.new ≡ self.old) × (H.value host.new ≡ H.value host.old)) }
+    {
+        host.resolve_action(self.alloc, event, &mut self.line)
+    }
+
+    /// The batch that paints this state at a size, behind its start move, and its mark.
+    pub(crate) fn paint<H: LineEditorHost>(
+        &self,
+        host: &H,
+        size: ScreenSize,
+    ) -> Result<(Vec<Change>, Painted), Error>
+        ensures ok { IfOk result (λ shown. rendered self.now.last (painted_on size (scene_of H.rules (H.value host.now) self.now.state false)) ≡ Ok (record { changes = batch_view shown.0.items; mark = shown.1 })) }
+        ensures err { IfErr result (IsUnpainted size (scene_of H.rules (H.value host.now) self.now.state false)) }
+    {
+        match paint(
+            host,
+            self.alloc,
+            self.prompt.as_str(),
+            &self.line,
+            size,
+            self.painted,
+        ) {
+            Ok(shown) => Ok(shown),
+            Err(e) => Err(e),
+        }
+    }
+}
