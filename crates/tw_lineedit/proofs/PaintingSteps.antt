@@ -13,7 +13,6 @@ use Rattle.tw_surface.specs.Paintings.{before_line, edge_space, shown_part, curs
 use Rattle.tw_lineedit.specs.declared.error.Error.{Error}
 use Rattle.tw_lineedit.specs.Painting.{Mark, is_paintable}
 use Rattle.tw_lineedit.specs.Draws.{IsStepRefusal, stay_in_range, with_all, with_edge, has_cell, Drawn, Draws, DrawnScene}
-
 use Rattle.tw_lineedit.proofs.DrawingLimits.{empty, row-in_range}
 use Rattle.tw_lineedit.proofs.DrawLemmas.{drawn-append, draws-later, refused-along, refused-first, refused-later}
 

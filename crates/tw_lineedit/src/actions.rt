@@ -42,7 +42,8 @@ pub enum Action {
     /// Removes what lies between the cursor and the place where the movement leads. The cursor goes there.
     Kill(Movement),
     /// Removes what lies between the cursor and the place where the first movement leads. The cursor goes to
-    /// the place where the second leads on the old line, or to the end of the line that is left.
+    /// the greatest boundary of what is left that is not above the place where the second leads in the old
+    /// line.
     KillAndMove(Movement, Movement),
     /// Does nothing.
     NoAction,

@@ -1,4 +1,4 @@
-//! The editor.
+//! The editor: it reads events from a terminal, and shows the line on it.
 
 ghost use Rattle.std.specs.Prelude.{◌≡◌, ◌≢◌, Some, None, Ok, Err, IfOk, IfErr, OnOk, OnErr, MatchOption, MatchBool, IsSome, option_map};
 ghost use Rattle.std.specs.Str.{IsCharBoundary};
@@ -28,10 +28,10 @@ use tw_input::InputEvent;
 use tw_surface::{Change, ColorAttribute};
 use tw_terminal::{ScreenSize, Terminal};
 
-/// An editor over a terminal.
+/// A line editor over a terminal, which it borrows.
 pub type LineEditor<'term, T> = EditorOver<'term, T, Session>;
 
-/// A terminal and what an editor holds beside it.
+/// A terminal, and what an editor holds beside it. It is written as `LineEditor`.
 pub struct EditorOver<'term, T: Terminal, S: Drop> {
     pub(crate) terminal: &'term mut T,
     pub(crate) session: S,
@@ -50,6 +50,7 @@ impl<T: Terminal, S: Drop> Drop for EditorOver<'_, T, S> {
 }
 
 impl<'term, T: Terminal> LineEditor<'term, T> {
+    /// An editor with the prompt `> ` and an empty line. It calls nothing of the terminal.
     pub fn new(alloc: Global, terminal: &'term mut T) -> Result<Self, Error>
         ensures same_reference { IfOk result (λ editor. editor.terminal.ghost_name ≡ terminal.entry.ghost_name) }
         ensures terminal { IfOk result (λ editor. editor.terminal.now ≡ terminal.old) }
@@ -71,7 +72,7 @@ impl<'term, T: Terminal> LineEditor<'term, T> {
         Ok(())
     }
 
-    /// The line, and the byte offset of its cursor.
+    /// The line, and the byte offset of its cursor. It takes no memory.
     pub fn get_line_and_cursor(&mut self) -> (&str, usize)
         ensures line { result.0.now ≡ self.old.session.state.cut.line }
         ensures cursor { result.1 ≡ self.old.session.state.cut.cursor }
@@ -79,7 +80,8 @@ impl<'term, T: Terminal> LineEditor<'term, T> {
         self.session.get_line_and_cursor()
     }
 
-    /// Sets the line, and its cursor at a byte offset. Where it is refused nothing is changed.
+    /// Sets the line, and its cursor at a byte offset that is a boundary of it. Where it is refused nothing
+    /// is changed.
     pub fn set_line_and_cursor(&mut self, line: &str, cursor: usize) -> Result<(), Error>
         requires { IsCharBoundary line.now cursor }
         ensures same_reference { self.new.terminal.ghost_name ≡ self.old.terminal.ghost_name }
@@ -92,6 +94,7 @@ impl<'term, T: Terminal> LineEditor<'term, T> {
         Ok(())
     }
 
+    /// The size of the screen. The host stands here, and below, for the contract alone.
     fn screen_size<H: LineEditorHost>(&mut self, host: &H) -> Result<ScreenSize, Error>
         ensures same_reference { self.new.terminal.ghost_name ≡ self.old.terminal.ghost_name }
         ensures ok { IfOk result (λ size. (size ≡ (T.state self.old.terminal.now).size) × (frame T.state H.value self.new host.now ≡ frame T.state H.value self.old host.now)) }
@@ -100,6 +103,7 @@ impl<'term, T: Terminal> LineEditor<'term, T> {
         Ok(self.terminal.get_screen_size()?)
     }
 
+    /// Renders changes.
     fn show<H: LineEditorHost>(&mut self, host: &H, changes: &[Change]) -> Result<(), Error>
         ensures same_reference { self.new.terminal.ghost_name ≡ self.old.terminal.ghost_name }
         ensures ok { OnOk result (ShowsBatch (batch_view changes.now) (frame T.state H.value self.old host.now) (frame T.state H.value self.new host.now)) }
@@ -109,6 +113,7 @@ impl<'term, T: Terminal> LineEditor<'term, T> {
         Ok(())
     }
 
+    /// Paints the session over its painting before.
     fn paint<H: LineEditorHost>(&mut self, host: &H) -> Result<(), Error>
         ensures same_reference { self.new.terminal.ghost_name ≡ self.old.terminal.ghost_name }
         ensures ok { OnOk result (Paints H.rules (frame T.state H.value self.old host.now) (frame T.state H.value self.new host.now)) }
@@ -121,7 +126,9 @@ impl<'term, T: Terminal> LineEditor<'term, T> {
         Ok(())
     }
 
-    /// Applies an action.
+    /// Applies an action to the line and the mode, whatever the mode is. `Repaint` clears the screen, and no
+    /// other action calls the terminal. Where it is refused nothing is changed, but that the terminal may have
+    /// taken a beginning of the clearing.
     pub fn apply_action<H: LineEditorHost>(
         &mut self,
         host: &mut H,
@@ -136,6 +143,7 @@ impl<'term, T: Terminal> LineEditor<'term, T> {
         self.act(host, action)
     }
 
+    /// Applies an action.
     #[tactic(auto, unfolding(crate::specs::Steps::apply))]
     fn act<H: LineEditorHost>(&mut self, host: &H, action: Action) -> Result<(), Error>
         ensures same_reference { self.new.terminal.ghost_name ≡ self.old.terminal.ghost_name }
@@ -148,6 +156,7 @@ impl<'term, T: Terminal> LineEditor<'term, T> {
         }
     }
 
+    /// Clears the screen.
     fn clear_screen<H: LineEditorHost>(&mut self, host: &H) -> Result<(), Error>
         ensures same_reference { self.new.terminal.ghost_name ≡ self.old.terminal.ghost_name }
         ensures ok { OnOk result (ShowsBatch clear_batch (frame T.state H.value self.old host.now) (frame T.state H.value self.new host.now)) }
@@ -156,6 +165,7 @@ impl<'term, T: Terminal> LineEditor<'term, T> {
         self.show(host, &[Change::ClearScreen(ColorAttribute::Default)])
     }
 
+    /// The next event, if one is left.
     fn poll<H: LineEditorHost>(&mut self, host: &H) -> Result<Option<InputEvent>, Error>
         ensures same_reference { self.new.terminal.ghost_name ≡ self.old.terminal.ghost_name }
         ensures ok { IfOk result (λ event. MatchOption event
@@ -166,6 +176,7 @@ impl<'term, T: Terminal> LineEditor<'term, T> {
         Ok(self.terminal.poll_input()?)
     }
 
+    /// Applies what the host makes of the event, or else what the key table does.
     fn handle<H: LineEditorHost>(&mut self, host: &mut H, event: &InputEvent) -> Result<(), Error>
         ensures same_reference { self.new.terminal.ghost_name ≡ self.old.terminal.ghost_name }
         ensures ok { OnOk result (Handles H.rules (event_view event.now) (frame T.state H.value self.old host.old) (frame T.state H.value self.new host.new)) }
@@ -177,6 +188,7 @@ impl<'term, T: Terminal> LineEditor<'term, T> {
         }
     }
 
+    /// Applies what the key table makes of the event.
     fn handle_default<H: LineEditorHost>(
         &mut self,
         host: &H,
@@ -192,6 +204,7 @@ impl<'term, T: Terminal> LineEditor<'term, T> {
         }
     }
 
+    /// What the host makes of the event.
     fn resolve<H: LineEditorHost>(
         &mut self,
         host: &mut H,
@@ -205,7 +218,7 @@ impl<'term, T: Terminal> LineEditor<'term, T> {
         self.session.resolve(host, event)
     }
 
-    /// Paints, and then takes and handles an event. It is false at the end.
+    /// Paints, and then takes and handles an event. It answers false where the run ends.
     fn turn<H: LineEditorHost>(&mut self, host: &mut H) -> Result<bool, Error>
         ensures same_reference { self.new.terminal.ghost_name ≡ self.old.terminal.ghost_name }
         ensures ok { IfOk result (λ more. MatchBool more
@@ -226,8 +239,8 @@ impl<'term, T: Terminal> LineEditor<'term, T> {
         }
     }
 
+    /// Takes events up to the end of the run, and answers with a copy of the line.
     #[tactic(auto, using(crate::proofs::TurnLemmas::ended_later, crate::proofs::TurnLemmas::not_copied))]
-    /// Takes events up to the end of the run, and answers.
     fn answer<H: LineEditorHost>(&mut self, host: &mut H) -> Result<Option<String>, Error>
         ensures same_reference { self.new.terminal.ghost_name ≡ self.old.terminal.ghost_name }
         ensures ok { IfOk result (λ it. IsAnswered H.rules (frame T.state H.value self.old host.old) (frame T.state H.value self.new host.new) (outcome_of (Ok it))) }
@@ -237,6 +250,7 @@ impl<'term, T: Terminal> LineEditor<'term, T> {
         self.answered(host)
     }
 
+    /// The answer at the end of a run.
     fn answered<H: LineEditorHost>(&mut self, host: &H) -> Result<Option<String>, Error>
         ensures same_reference { self.new.terminal.ghost_name ≡ self.old.terminal.ghost_name }
         ensures same { frame T.state H.value self.new host.now ≡ frame T.state H.value self.old host.now }
@@ -247,6 +261,7 @@ impl<'term, T: Terminal> LineEditor<'term, T> {
         Ok(self.session.answer()?)
     }
 
+    /// Flushes what was rendered.
     fn flush<H: LineEditorHost>(&mut self, host: &H) -> Result<(), Error>
         ensures same_reference { self.new.terminal.ghost_name ≡ self.old.terminal.ghost_name }
         ensures same { Keeps (frame T.state H.value self.old host.now) (frame T.state H.value self.new host.now) }
@@ -257,6 +272,7 @@ impl<'term, T: Terminal> LineEditor<'term, T> {
         Ok(())
     }
 
+    /// Renders the closing batch of a painting.
     fn show_closing<H: LineEditorHost>(&mut self, host: &H, painted: Painted) -> Result<(), Error>
         ensures same_reference { self.new.terminal.ghost_name ≡ self.old.terminal.ghost_name }
         ensures ok { OnOk result (ShowsBatch (closing painted) (frame T.state H.value self.old host.now) (frame T.state H.value self.new host.now)) }
@@ -265,7 +281,7 @@ impl<'term, T: Terminal> LineEditor<'term, T> {
         self.show(host, &painted.closing_batch())
     }
 
-    /// Ends the run.
+    /// Ends the run: the mode is Inactive, and the closing batch is rendered and flushed.
     fn close<H: LineEditorHost>(&mut self, host: &H) -> Result<(), Error>
         ensures same_reference { self.new.terminal.ghost_name ≡ self.old.terminal.ghost_name }
         ensures ok { OnOk result (Closes (frame T.state H.value self.old host.now) (frame T.state H.value self.new host.now)) }
@@ -299,8 +315,8 @@ impl<'term, T: Terminal> LineEditor<'term, T> {
         }
     }
 
+    /// Reads a line, all up to the closing.
     #[tactic(auto, using(crate::proofs::ClosingLemmas::begun_refused))]
-    /// Does all of a call up to its closing.
     fn started<H: LineEditorHost>(
         &mut self,
         host: &mut H,
@@ -316,6 +332,7 @@ impl<'term, T: Terminal> LineEditor<'term, T> {
         }
     }
 
+    /// Reads a line and closes, whether it was refused or not.
     #[tactic(auto, using(crate::proofs::ClosingLemmas::refused_unclosed, crate::proofs::ClosingLemmas::refused_closed))]
     fn read<H: LineEditorHost>(
         &mut self,
@@ -338,7 +355,13 @@ impl<'term, T: Terminal> LineEditor<'term, T> {
         }
     }
 
-    /// Reads a line that begins with the initial value.
+    /// Reads a line that begins with the initial value, its cursor at the end. It answers the line where it was
+    /// accepted or no event is left, and none where it was cancelled. Events behind the one that ended it are
+    /// left.
+    ///
+    /// `Recursive` leaves all as it was. Every other refusal leaves the mode Inactive and the line as it was
+    /// when the call was refused; the closing batch is rendered and flushed, unless the terminal refuses that
+    /// too, which is then the answer.
     pub fn read_line_with_optional_initial_value<H: LineEditorHost>(
         &mut self,
         host: &mut H,
@@ -356,7 +379,7 @@ impl<'term, T: Terminal> LineEditor<'term, T> {
         self.read(host, initial_value)
     }
 
-    /// Reads a line.
+    /// Reads a line that begins empty, as `read_line_with_optional_initial_value` does.
     pub fn read_line<H: LineEditorHost>(&mut self, host: &mut H) -> Result<Option<String>, Error>
         ensures same_reference { self.new.terminal.ghost_name ≡ self.old.terminal.ghost_name }
         ensures recursive { self.old.session.state.mode ≢ Inactive → (result ≡ Err Error.Recursive) × (frame T.state H.value self.new host.new ≡ frame T.state H.value self.old host.old) }

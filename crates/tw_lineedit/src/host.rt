@@ -68,8 +68,11 @@ fn plain_element(alloc: Global, text: &str) -> Result<Vec<OutputElement>, AllocE
     Ok(elements)
 }
 
-/// What an application tells the editor. Each answer is a function of what the host holds and of the
-/// arguments. A host that answers a call for itself says so in `OWN`.
+/// What an application tells the editor. A host answers by rules, which are functions of the value that it
+/// holds and of the arguments; contracts see `value` and `rules`, and nothing else of a host.
+///
+/// A host that answers a call for itself says so in `OWN`, since a default body is proved once for all hosts:
+/// where `OWN` names a call whose body was not written, the default refuses it.
 pub trait LineEditorHost {
     ghost use Rattle.tw_lineedit.specs.declared.host.OwnAnswers.{OwnAnswers};
 

@@ -70,6 +70,7 @@ impl Session {
         })
     }
 
+    /// The allocator of all that the session holds.
     pub(crate) fn alloc(&self) -> Global {
         self.alloc
     }
@@ -104,6 +105,7 @@ impl Session {
         self.line.set_line_and_cursor(line, cursor)
     }
 
+    /// Whether no line is being read.
     pub(crate) fn is_inactive(&self) -> bool
         ensures { IsTrue result ↔ (self.now.state.mode ≡ InactiveView) }
     {
@@ -124,13 +126,14 @@ impl Session {
         self.painted
     }
 
+    /// Remembers the last painting.
     pub(crate) fn set_painted(&mut self, painted: Painted)
         ensures { self.new ≡ record self.old { last = Some painted } }
     {
         self.painted = Some(painted);
     }
 
-    /// Empties the line and forgets the last painting.
+    /// Begins a run: empties the line and forgets the last painting.
     pub(crate) fn begin(&mut self)
         ensures { self.new ≡ record { state = begun empty_cut self.old.state; last = None } }
     {
@@ -139,6 +142,7 @@ impl Session {
         self.painted = None;
     }
 
+    /// Ends a run.
     pub(crate) fn end(&mut self)
         ensures { self.new ≡ on_state (λ state. record state { mode = InactiveView }) self.old }
     {
