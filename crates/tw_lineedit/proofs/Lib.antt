@@ -15,4 +15,5 @@ pub mod PaintedSizes
 pub mod TurnLemmas
 pub mod ClosingLemmas
 pub mod FailureLemmas
+pub mod StationLemmas
 pub mod PaintLemmas

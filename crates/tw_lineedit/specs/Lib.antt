@@ -24,3 +24,4 @@ pub mod SessionView
 pub mod Run
 pub mod Frame
 pub mod Reading
+pub mod Stations

@@ -4,8 +4,10 @@ ghost use Rattle.std.specs.Prelude.{◌≡◌, ◌≢◌, ℕ, List, Some, None,
 ghost use Rattle.tw_input.specs.Equality.{ComparesValues};
 ghost use Rattle.tw_lineedit.specs.KeyTable.{is_same_key, key_table, looked_up, typed};
 ghost use Rattle.tw_lineedit.specs.Laws.{CountsAddUp, OffsetsAreExtremes, WordsAreExtremes};
+ghost use Rattle.tw_lineedit.specs.Stations.{BatchesByStations};
 
 use crate::actions::Movement;
+use crate::host::LineEditorHost;
 
 /// `a` steps and then `b` steps lead where `a + b` steps lead, in every cut text and for all whole
 /// numbers.
@@ -29,4 +31,10 @@ pub fn key_table()
     ensures distinct { AllPairs (λ row later. row.0 ≢ later.0) key_table }
     ensures found { All (λ row. looked_up key_table row.0 ≡ Some row.1) key_table }
     ensures not_typed { All (λ row. typed row.0 ≡ None) key_table }
+{}
+
+/// The batches that a run takes are a function of its stations alone: the states, the host's values and the
+/// sizes at which it paints, and whether the screen was cleared just before.
+pub fn batches<H: LineEditorHost>()
+    ensures { BatchesByStations H.rules }
 {}

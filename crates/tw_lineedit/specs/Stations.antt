@@ -1,0 +1,78 @@
+-- The stations of a run, and its batches by them alone.
+use Rattle.std.specs.Prelude.{◌≡◌, ◌++◌, List, [], ◌∷◌, Bool, true, false, Option, Some, Result, Ok, Err}
+use Rattle.tw_surface.specs.ChangeView.{Batch}
+use Rattle.tw_surface.specs.Paintings.{Painting}
+use Rattle.tw_input.specs.EventView.{EventView}
+use Rattle.tw_terminal.specs.declared.terminal.ScreenSize.{ScreenSize}
+use Rattle.tw_lineedit.specs.ActionView.{ActionView, Repaint}
+use Rattle.tw_lineedit.specs.EditState.{EditState}
+use Rattle.tw_lineedit.specs.HostRules.{HostRules}
+use Rattle.tw_lineedit.specs.Outcomes.{is_over}
+use Rattle.tw_lineedit.specs.Painting.{Mark, mark_of, start_batch, clear_batch, Rendered, painted_on, scene_of}
+use Rattle.tw_lineedit.specs.Refusal.{Refusal}
+use Rattle.tw_lineedit.specs.Run.{Progress, Frame, run_of, progress_of, painting_at, shown, chosen, answered, handled}
+use Rattle.tw_lineedit.specs.Steps.{apply_if}
+
+-- what is painted once: a state, the host's value and the screen's size, and whether the screen was cleared just before
+pub record Station (V : Type 0) : Type 0 where
+  pub state : EditState
+  pub value : V
+  pub size : ScreenSize
+  pub cleared : Bool
+
+-- the action that clears the screen
+abbrev pub is_repaint : Option ActionView → Bool
+is_repaint (Some Repaint) = true
+is_repaint _ = false
+
+-- the batch that clears the screen, if it is cleared
+abbrev pub clear_if : Bool → List Batch
+clear_if true = clear_batch ∷ []
+clear_if false = []
+
+-- the station at which a run has come so far
+abbrev pub station_at : {V : Type 0} → Bool → Progress V → Station V
+station_at cleared s = record { state = s.state; value = s.value; size = s.size; cleared = cleared }
+
+-- the batches of a station's painting and of the stations behind it; where it is refused there are none
+abbrev pub batches_by : Option Mark → (Option Mark → List Batch) → Result Painting Refusal → List Batch
+batches_by last rest (Err r) = []
+batches_by last rest (Ok p) = (start_batch last ++ p.changes) ∷ rest (Some (mark_of p))
+
+-- the stations behind a painted one: none where the run is over
+abbrev pub stations_unless : {V : Type 0} → List (Station V) → Bool → List (Station V)
+stations_unless stations true = []
+stations_unless stations false = stations
+
+module _ {V : Type 0} (rules : HostRules V) where
+  -- the painting of a station, or its refusal
+  abbrev pub painting_of : Station V → Result Painting Refusal
+  painting_of s = painted_on s.size (scene_of rules s.value s.state s.cleared)
+
+  -- the batches of stations after a painting: of each its clearing and its painting
+  abbrev pub batches_after : List (Station V) → Option Mark → List Batch
+  batches_after [] last = []
+  batches_after (s ∷ stations) last = clear_if s.cleared ++ batches_by last (batches_after stations) (painting_of s)
+
+  -- the stations behind an event that leads to a state or is refused; rest are those from a station on
+  abbrev pub stations_after : EventView → Progress V → (Bool → Progress V → List (Station V)) → Result EditState Refusal → List (Station V)
+  stations_after e s rest (Err r) = []
+  stations_after e s rest (Ok state) = rest (is_repaint (chosen rules s e)) (handled rules s e state)
+
+  -- the stations behind one, by its painting
+  abbrev pub stations_by : EventView → Progress V → (Bool → Progress V → List (Station V)) → Result Rendered Refusal → List (Station V)
+  stations_by e s rest (Err r) = []
+  stations_by e s rest (Ok p) = stations_unless (stations_after e (shown s p) rest (apply_if (chosen rules s e) (answered rules s e).state)) (is_over s.state.mode)
+
+  -- the stations of a run over a list of events: each is painted, and then the next event leads to the next one
+  abbrev pub stations_from : List EventView → Bool → Progress V → List (Station V)
+  stations_from [] cleared s = station_at cleared s ∷ []
+  stations_from (e ∷ es) cleared s = station_at cleared s ∷ stations_by e s (stations_from es) (painting_at rules s)
+
+  -- the stations of the run that begins at a frame
+  abbrev pub stations_of : Frame V → List (Station V)
+  stations_of f = stations_from f.terminal.events false (progress_of f)
+
+  -- the batches that a run takes are a function of its stations alone
+  abbrev pub BatchesByStations : Type 0
+  BatchesByStations = (f : Frame V) → (run_of rules f).taken ≡ f.terminal.batches ++ batches_after (stations_of f) f.last
