@@ -1,0 +1,29 @@
+-- A host that puts the cursor of every line at one column.
+use Rattle.std.specs.Prelude.{ℕ, ◌≡◌, ⊤, Bool, true, false, refl}
+use Rattle.std.proofs.Common.{subst}
+use Rattle.tw_lineedit.specs.declared.host.OwnAnswers.{OwnAnswers}
+use Rattle.tw_lineedit.specs.HostRules.{HostRules, plain_text, unresolved}
+use Rattle.tw_lineedit.specs.PlainAnswers.{IsPlainBut}
+
+-- all as it is, and the column that the host holds
+abbrev pub column_rules : HostRules ℕ
+column_rules = record {
+  prompt = λ v text. plain_text text;
+  highlight = λ v cut. record { elements = plain_text cut.line; column = v };
+  resolve = λ v event cut. unresolved v cut;
+}
+
+-- the highlighted line alone is an answer of its own
+abbrev pub highlight_own : OwnAnswers
+highlight_own = record { prompt = false; highlight = true; resolve = false }
+
+abbrev IsOn : Bool → Type 0
+IsOn true = ⊤
+IsOn false = ⊥
+
+pub column_is_plain : IsPlainBut column_rules highlight_own
+column_is_plain = record {
+  prompt = λ e v text. refl;
+  highlight = λ e v cut. absurd (subst IsOn e tt);
+  resolve = λ e v event cut. refl;
+}

@@ -1,0 +1,51 @@
+-- The names of keys in a script.
+use Rattle.std.specs.Prelude.{ℕ, ◌==◌, if◌then◌else◌, List, ◌++◌, Option, Some, None, codes, encode_utf8}
+use Rattle.tw_input.specs.declared.key.KeyCode.{KeyCode}
+use Rattle.tw_input.specs.declared.key.KeyCode.TheVariants.{Char, Backspace, Tab, Enter, Escape, Delete, Home, End, LeftArrow, RightArrow, UpArrow, DownArrow, ApplicationLeftArrow, ApplicationRightArrow, ApplicationUpArrow, ApplicationDownArrow}
+use Rattle.tw_input.specs.declared.key.KeyEvent.{KeyEvent}
+use Rattle.tw_input.specs.Modifiers.{modifier_bits}
+
+-- with no modifier
+abbrev pub plain_name : KeyCode → Option (List ℕ)
+plain_name Enter = Some (codes "Enter")
+plain_name Tab = Some (codes "Tab")
+plain_name Backspace = Some (codes "Backspace")
+plain_name Delete = Some (codes "Delete")
+plain_name Home = Some (codes "Home")
+plain_name End = Some (codes "End")
+plain_name LeftArrow = Some (codes "Left")
+plain_name RightArrow = Some (codes "Right")
+plain_name UpArrow = Some (codes "Up")
+plain_name DownArrow = Some (codes "Down")
+plain_name ApplicationLeftArrow = Some (codes "AppLeft")
+plain_name ApplicationRightArrow = Some (codes "AppRight")
+plain_name ApplicationUpArrow = Some (codes "AppUp")
+plain_name ApplicationDownArrow = Some (codes "AppDown")
+plain_name Escape = Some (codes "Escape")
+plain_name _ = None
+
+-- with ALT
+abbrev pub alt_name : KeyCode → Option (List ℕ)
+alt_name LeftArrow = Some (codes "A-Left")
+alt_name RightArrow = Some (codes "A-Right")
+alt_name ApplicationLeftArrow = Some (codes "A-AppLeft")
+alt_name ApplicationRightArrow = Some (codes "A-AppRight")
+alt_name (Char c) = Some (codes "A-" ++ encode_utf8 c)
+alt_name _ = None
+
+-- a character, behind the letter of its modifier and a hyphen
+abbrev pub character_name : List ℕ → KeyCode → Option (List ℕ)
+character_name letter (Char c) = Some (letter ++ encode_utf8 c)
+character_name letter _ = None
+
+-- the name of a key with the bits of its modifiers, if it has one
+abbrev pub name_with : ℕ → KeyCode → Option (List ℕ)
+name_with bits key =
+    if bits == 0 then plain_name key
+    else (if bits == 4 then alt_name key
+    else (if bits == 8 then character_name (codes "C-") key
+    else (if bits == 2 then character_name (codes "S-") key else None)))
+
+-- the name of a key, if it has one
+abbrev pub key_name : KeyEvent → Option (List ℕ)
+key_name event = name_with (modifier_bits event.modifiers) event.key

@@ -1,0 +1,4 @@
+pub mod ColumnHost
+pub mod KeyNames
+pub mod Lines
+pub mod Written

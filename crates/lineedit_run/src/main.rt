@@ -1,0 +1,31 @@
+//! Reads a script from standard input, plays it on a line editor, and writes what the editor shows to
+//! standard output.
+#![tactic(auto)]
+
+mod answer;
+mod fault;
+mod host;
+mod input;
+mod keys;
+mod number;
+mod output;
+mod player;
+mod script;
+mod session;
+
+use fault::RunFault;
+use player::run;
+use std::process::ExitCode;
+
+fn main(rt: HostRuntime) -> ExitCode {
+    let mut reader = rt.stdin();
+    let mut writer = rt.stdout();
+    match run(rt.alloc(), &mut reader, &mut writer) {
+        Ok(()) => ExitCode::SUCCESS,
+        Err(RunFault::BadLine(_)) => ExitCode::from(1),
+        Err(RunFault::Io | RunFault::Memory) => ExitCode::from(2),
+    }
+}
+
+#[cfg(test)]
+mod tests;

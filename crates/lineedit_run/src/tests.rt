@@ -1,0 +1,12 @@
+//! Scripts with what they show, readers and writers that fail, and the editor change by change.
+
+mod actions;
+mod calls;
+mod faults;
+mod hosts;
+mod lines;
+mod names;
+mod replay;
+mod scripts;
+mod streams;
+mod support;

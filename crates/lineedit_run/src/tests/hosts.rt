@@ -1,0 +1,77 @@
+//! A host that answers for itself.
+
+ghost use Rattle.std.specs.Prelude.{ℕ};
+ghost use Rattle.lineedit_run.specs.ColumnHost.{column_rules, highlight_own, column_is_plain};
+
+use super::support::{answer_text, read_line, terminal_of, terminal_text};
+use std::alloc::{AllocError, Global};
+use std::test::Fail;
+use tw_lineedit::{LineEditorHost, OutputElement, OwnAnswers};
+
+/// A host that puts the cursor of every line at one column.
+#[derive(Drop)]
+struct ColumnHost {
+    column: usize,
+}
+
+impl LineEditorHost for ColumnHost {
+    ghost Value = { ℕ };
+
+    ghost value = { λ host. host.column };
+
+    ghost rules = { column_rules };
+
+    ghost OWN = { highlight_own };
+
+    const OWN: OwnAnswers = OwnAnswers {
+        prompt: false,
+        highlight: true,
+        resolve: false,
+    };
+
+    fn highlight_line(
+        &self,
+        alloc: Global,
+        line: &str,
+        _cursor_position: usize,
+    ) -> Result<(Vec<OutputElement>, usize), AllocError> {
+        let text = String::from_str(alloc, line)?;
+        let elements = vec![in alloc; OutputElement::Text(text)]?;
+        Ok((elements, self.column))
+    }
+
+    ghost plain_answers = { column_is_plain };
+}
+
+/// What is shown of a reading without events, on a terminal of so many columns.
+fn shown_at(alloc: Global, cols: usize, column: usize) -> Result<String, Fail> {
+    let mut terminal = terminal_of(alloc, cols, "")?;
+    let mut host = ColumnHost { column };
+    let answer = read_line(alloc, &mut terminal, &mut host, None);
+    let answer = answer_text(alloc, &answer)?;
+    let told = terminal_text(alloc, &terminal)?;
+    Ok(format!(in alloc; "{answer}, {told}")?)
+}
+
+const BELOW: &str = "\
+Some(\"\"), 0 left, 2 flushed, 0 failed
+ClearToEndOfScreen, AllAttributes, Text(\"> \"), AllAttributes, Text(\"\"), CP(R(5), R(2))
+CP(A(0), R(-1)), ClearToEndOfScreen
+";
+
+const FARTHEST: &str = "\
+Some(\"\"), 0 left, 2 flushed, 0 failed
+ClearToEndOfScreen, AllAttributes, Text(\"> \"), AllAttributes, Text(\"\"), CP(R(45), R(26843545))
+CP(A(0), R(-26843544)), ClearToEndOfScreen
+";
+
+#[test]
+fn a_host_places_the_cursor(rt: HostRuntime) -> Result<(), Fail> {
+    let alloc = rt.alloc();
+    let refused = "refusal 4, 0 left, 0 flushed, 0 failed\n";
+    assert_eq!(rt; shown_at(alloc, 10, 25)?.as_str(), BELOW);
+    assert_eq!(rt; shown_at(alloc, 80, 2_147_483_645)?.as_str(), FARTHEST);
+    assert_eq!(rt; shown_at(alloc, 80, 2_147_483_646)?.as_str(), refused);
+    assert_eq!(rt; shown_at(alloc, 80, usize::MAX)?.as_str(), refused);
+    Ok(())
+}

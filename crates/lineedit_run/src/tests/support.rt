@@ -1,0 +1,188 @@
+//! Calls of the editor on a scripted terminal, and what came of them as text.
+
+use crate::keys::key_named;
+use std::alloc::{AllocError, Global};
+use std::process::Abort;
+use std::test::Fail;
+use tw_input::{InputEvent, KeyCode, KeyEvent, Modifiers};
+use tw_lineedit::{Error, LineEditor, LineEditorHost, NopLineEditorHost};
+use tw_surface::{CellAttributes, Change, ColorAttribute, Position};
+use tw_terminal::{ScreenSize, ScriptTerminal};
+
+/// The events of a list of names, parted by spaces: a character stands for itself, `5x24` is a change of the
+/// size to 5 columns and 24 rows, and the others are names of keys.
+pub fn events_of(alloc: Global, names: &str) -> Result<Vec<InputEvent>, Fail> {
+    let mut events = Vec::new(alloc);
+    for name in names.split_whitespace() {
+        events.push(event_of(name)?)?;
+    }
+    Ok(events)
+}
+
+fn event_of(name: &str) -> Result<InputEvent, Fail> {
+    let mut characters = name.chars();
+    if let (Some(character), None) = (characters.next(), characters.next()) {
+        return Ok(InputEvent::Key(KeyEvent {
+            key: KeyCode::Char(character),
+            modifiers: Modifiers::NONE,
+        }));
+    }
+    if let Some((cols, rows)) = name.split_once('x') {
+        return Ok(InputEvent::Resized {
+            cols: cols.parse()?,
+            rows: rows.parse()?,
+        });
+    }
+    Ok(InputEvent::Key(key_named(name).ok_or("no key")?))
+}
+
+/// A terminal of 24 rows.
+pub fn terminal_of(alloc: Global, cols: usize, events: &str) -> Result<ScriptTerminal, Fail> {
+    let size = ScreenSize { rows: 24, cols };
+    Ok(ScriptTerminal::new(alloc, size, events_of(alloc, events)?))
+}
+
+/// What a reading of a line answered.
+pub fn answer_text(
+    alloc: Global,
+    answer: &Result<Option<String>, Error>,
+) -> Result<String, AllocError> {
+    match answer {
+        Ok(line) => format!(in alloc; "{line:?}"),
+        Err(error) => {
+            let number = error.number();
+            format!(in alloc; "refusal {number}")
+        }
+    }
+}
+
+/// The batches, one a line.
+pub fn batches_text(alloc: Global, batches: &[Vec<Change>]) -> Result<String, AllocError> {
+    let mut text = String::new(alloc);
+    for batch in batches {
+        let mut parted = false;
+        for change in batch {
+            if parted {
+                text.push_str(", ")?;
+            }
+            write_change(&mut text, change)?;
+            parted = true;
+        }
+        text.push('\n')?;
+    }
+    Ok(text)
+}
+
+/// Names a change, its colour or attributes only where they are not the default ones.
+fn write_change(text: &mut String, change: &Change) -> Result<(), AllocError> {
+    match change {
+        Change::ClearToEndOfScreen(ColorAttribute::Default) => text.push_str("ClearToEndOfScreen"),
+        Change::ClearScreen(ColorAttribute::Default) => text.push_str("ClearScreen"),
+        Change::AllAttributes(attributes) if *attributes == CellAttributes::default() => {
+            text.push_str("AllAttributes")
+        }
+        Change::Text(shown) => write!(text, "Text({shown:?})"),
+        Change::CursorPosition { x, y } => {
+            text.push_str("CP(")?;
+            write_position(text, *x)?;
+            text.push_str(", ")?;
+            write_position(text, *y)?;
+            text.push(')')
+        }
+        other => write!(text, "{other:?}"),
+    }
+}
+
+fn write_position(text: &mut String, position: Position) -> Result<(), AllocError> {
+    match position {
+        Position::Absolute(to) => write!(text, "A({to})"),
+        Position::Relative(by) => write!(text, "R({by})"),
+    }
+}
+
+/// What a terminal has taken, and what it was left with.
+pub fn terminal_text(alloc: Global, terminal: &ScriptTerminal) -> Result<String, AllocError> {
+    let left = terminal.events_left();
+    let flushed = terminal.flushed();
+    let failures = terminal.failures();
+    let batches = batches_text(alloc, terminal.batches())?;
+    format!(in alloc; "{left} left, {flushed} flushed, {failures} failed\n{batches}")
+}
+
+/// A case of `expect_readings`, by its lines.
+#[derive(Drop)]
+struct Case<'a> {
+    size: ScreenSize,
+    initial: Option<&'a str>,
+    events: &'a str,
+    fault: Option<(usize, usize)>,
+}
+
+fn pair_of(text: &str) -> Result<(usize, usize), Fail> {
+    let (first, second) = text.split_once(' ').ok_or("no pair")?;
+    Ok((first.parse()?, second.parse()?))
+}
+
+/// The case of lines `size ROWS COLS`, `initial TEXT`, `events NAMES` and `fail CALL TAKEN`, each of which
+/// may be left out.
+fn case_of(lines: &str) -> Result<Case<'_>, Fail> {
+    let mut case = Case {
+        size: ScreenSize { rows: 24, cols: 80 },
+        initial: None,
+        events: "",
+        fault: None,
+    };
+    for line in lines.lines() {
+        let (word, text) = line.split_once(' ').ok_or("no word")?;
+        match word {
+            "size" => {
+                let (rows, cols) = pair_of(text)?;
+                case.size = ScreenSize { rows, cols };
+            }
+            "initial" => case.initial = Some(text),
+            "events" => case.events = text,
+            _ => case.fault = Some(pair_of(text)?),
+        }
+    }
+    Ok(case)
+}
+
+/// Reads a line with a new editor over the terminal.
+pub fn read_line<H: LineEditorHost>(
+    alloc: Global,
+    terminal: &mut ScriptTerminal,
+    host: &mut H,
+    initial: Option<&str>,
+) -> Result<Option<String>, Error> {
+    let mut editor = LineEditor::new(alloc, terminal)?;
+    editor.read_line_with_optional_initial_value(host, initial)
+}
+
+fn reading_text(alloc: Global, case: &Case<'_>) -> Result<String, Fail> {
+    let events = events_of(alloc, case.events)?;
+    let mut terminal = ScriptTerminal::new(alloc, case.size, events);
+    if let Some((call, taken)) = case.fault {
+        terminal.fail_at(call, taken);
+    }
+    let mut host = NopLineEditorHost::new(alloc);
+    let answer = read_line(alloc, &mut terminal, &mut host, case.initial);
+    let answer = answer_text(alloc, &answer)?;
+    let told = terminal_text(alloc, &terminal)?;
+    Ok(format!(in alloc; "{answer}, {told}")?)
+}
+
+/// Runs the cases, and says how many there were. A case has the lines of `case_of`, and below `--` the
+/// answer with what the terminal was left with, and each batch; `==` ends it.
+pub fn expect_readings(rt: &impl Abort, alloc: Global, cases: &str) -> Result<usize, Fail> {
+    let mut count = 0usize;
+    for text in cases.split("==\n") {
+        let Some((lines, wanted)) = text.split_once("--\n") else {
+            continue;
+        };
+        let case = case_of(lines)?;
+        let shown = reading_text(alloc, &case)?;
+        assert_eq!(rt; shown.as_str(), wanted, "{lines}");
+        count = count.saturating_add(1);
+    }
+    Ok(count)
+}
