@@ -1,7 +1,6 @@
 -- Numbers of at most nine digits.
-use Rattle.std.proofs.Common.{◌≡◌, ℕ, ◌<◌, ◌≤◌, ◌^◌, ◌==◌, List, Bool, true, false, cond, length, drop, slice_index, sym, ap, subst, ◌∙◌, arith, rules, Ok, Err, Result}
-use Rattle.std.specs.Result.{OkIff}
-use Rattle.std.specs.Str.Parse.{IsNumeral, AllDigits, digits_value, without_leading_plus, ParsesUnsigned}
+use Rattle.std.proofs.Common.{◌≡◌, ℕ, ◌<◌, ◌≤◌, ◌^◌, ◌==◌, List, Bool, false, cond, length, drop, slice_index, sym, ap, subst, ◌∙◌, arith, rules}
+use Rattle.std.specs.Str.Parse.{IsNumeral, AllDigits, digits_value, without_leading_plus}
 use Rattle.std.proofs.lemmas.Str.Parse.{IsNumeralModel, numerals_by_value, digits_value_short}
 
 digits : IsNumeralModel (AllDigits 10) (digits_value 10)

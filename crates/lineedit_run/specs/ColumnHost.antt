@@ -1,5 +1,5 @@
 -- A host that puts the cursor of every line at one column.
-use Rattle.std.specs.Prelude.{ℕ, ◌≡◌, ⊤, Bool, true, false, refl}
+use Rattle.std.specs.Prelude.{ℕ, ⊤, Bool, true, false, refl}
 use Rattle.std.proofs.Common.{subst}
 use Rattle.tw_lineedit.specs.declared.host.OwnAnswers.{OwnAnswers}
 use Rattle.tw_lineedit.specs.HostRules.{HostRules, plain_text, unresolved}

@@ -1,5 +1,5 @@
 -- The names of keys in a script.
-use Rattle.std.specs.Prelude.{ℕ, ◌==◌, if◌then◌else◌, List, ◌++◌, Option, Some, None, codes, encode_utf8}
+use Rattle.std.specs.Prelude.{ℕ, ◌==◌, if◌then◌else◌, List, [], ◌∷◌, ◌++◌, Option, Some, None, codes, encode_utf8}
 use Rattle.tw_input.specs.declared.key.KeyCode.{KeyCode}
 use Rattle.tw_input.specs.declared.key.KeyCode.TheVariants.{Char, Backspace, Tab, Enter, Escape, Delete, Home, End, LeftArrow, RightArrow, UpArrow, DownArrow, ApplicationLeftArrow, ApplicationRightArrow, ApplicationUpArrow, ApplicationDownArrow}
 use Rattle.tw_input.specs.declared.key.KeyEvent.{KeyEvent}
@@ -49,3 +49,15 @@ name_with bits key =
 -- the name of a key, if it has one
 abbrev pub key_name : KeyEvent → Option (List ℕ)
 key_name event = name_with (modifier_bits event.modifiers) event.key
+
+-- the names without a character
+abbrev pub key_names : List (List ℕ)
+key_names =
+    codes "Enter" ∷ codes "Tab" ∷ codes "Backspace" ∷ codes "Delete" ∷ codes "Home" ∷ codes "End"
+    ∷ codes "Left" ∷ codes "Right" ∷ codes "Up" ∷ codes "Down"
+    ∷ codes "AppLeft" ∷ codes "AppRight" ∷ codes "AppUp" ∷ codes "AppDown" ∷ codes "Escape"
+    ∷ codes "A-Left" ∷ codes "A-Right" ∷ codes "A-AppLeft" ∷ codes "A-AppRight" ∷ []
+
+-- the names of a character's keys
+abbrev pub character_names : ℕ → List (List ℕ)
+character_names c = (codes "C-" ++ encode_utf8 c) ∷ (codes "A-" ++ encode_utf8 c) ∷ (codes "S-" ++ encode_utf8 c) ∷ []

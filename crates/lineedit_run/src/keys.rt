@@ -1,13 +1,16 @@
 //! The names of keys.
 
-ghost use Rattle.std.specs.Prelude.{◌≡◌, Some, IfSome};
-ghost use Rattle.lineedit_run.specs.KeyNames.{key_name};
+ghost use Rattle.std.specs.Prelude.{◌≡◌, ℕ, Some, IfSome, IsSome, Contains};
+ghost use Rattle.std.specs.Char.{IsScalar};
+ghost use Rattle.lineedit_run.specs.KeyNames.{key_name, key_names, character_names};
 
 use tw_input::{KeyCode, KeyEvent, Modifiers};
 
 /// The key of this name.
 pub fn key_named(name: &str) -> Option<KeyEvent>
-    ensures { IfSome result (λ key. key_name key ≡ Some name.now) }
+    ensures named { IfSome result (λ key. key_name key ≡ Some name.now) }
+    ensures known { Contains key_names name.now → IsSome result }
+    ensures character { (c : ℕ) → IsScalar c → Contains (character_names c) name.now → IsSome result }
 {
     let (key, modifiers) = match name {
         "Enter" => (KeyCode::Enter, Modifiers::NONE),
@@ -36,7 +39,8 @@ pub fn key_named(name: &str) -> Option<KeyEvent>
 
 /// The key of a name such as `C-x`: a letter for the modifier, a hyphen, and the character.
 fn character_named(name: &str) -> Option<KeyEvent>
-    ensures { IfSome result (λ key. key_name key ≡ Some name.now) }
+    ensures named { IfSome result (λ key. key_name key ≡ Some name.now) }
+    ensures character { (c : ℕ) → IsScalar c → Contains (character_names c) name.now → IsSome result }
 {
     let (modifier, character) = name.split_once('-')?;
     let modifiers = match modifier {

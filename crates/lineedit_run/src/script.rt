@@ -1,5 +1,8 @@
 //! The lines of a script.
 
+ghost use Rattle.std.specs.Prelude.{IfSome};
+ghost use Rattle.lineedit_run.specs.Directives.{IsLineOf, IsWordAndText};
+
 use crate::keys::key_named;
 use crate::number::parse_number;
 use tw_input::KeyEvent;
@@ -21,10 +24,13 @@ pub enum Directive<'a> {
     Read,
 }
 
-/// The directive on a line, which is a word, or a word, a space and a text that goes to the line's end.
-pub fn parse_line(line: &[u8]) -> Option<Directive<'_>> {
+/// The directive on a line, which is a word, or a word, a space and a text that goes to the line's end. The
+/// contract says what is taken, and tests show what is not.
+pub fn parse_line(line: &[u8]) -> Option<Directive<'_>>
+    ensures { IfSome result (IsLineOf line.now) }
+{
     let line = std::str::from_utf8(line).ok()?;
-    let (word, text) = line.split_once(' ').unwrap_or((line, ""));
+    let (word, text) = split_word(line);
     match word {
         "cols" => Some(Directive::Cols(parse_number(text)?)),
         "prompt" => Some(Directive::Prompt(text)),
@@ -34,4 +40,12 @@ pub fn parse_line(line: &[u8]) -> Option<Directive<'_>> {
         "read" if line == "read" => Some(Directive::Read),
         _ => None,
     }
+}
+
+/// The word that a line begins with, and the text behind the space that follows it. Without a space the whole
+/// line is the word, and the text is empty.
+fn split_word(line: &str) -> (&str, &str)
+    ensures { IsWordAndText line.now result.0.now result.1.now }
+{
+    line.split_once(' ').unwrap_or((line, ""))
 }

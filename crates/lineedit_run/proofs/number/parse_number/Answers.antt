@@ -1,4 +1,4 @@
-use Rattle.std.proofs.Common.{rules, ◌≡◌, ℕ, true, false}
+use Rattle.std.proofs.Common.{rules, ◌≡◌, true, false}
 use Rattle.lineedit_run.proofs.Numbers.{numeral_parses}
 use Rattle.lineedit_run.proofs.number.parse_number.Goals as goal
 

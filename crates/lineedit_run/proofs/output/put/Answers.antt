@@ -1,5 +1,4 @@
-use Rattle.std.proofs.Common.{◌≡◌, ℕ, List, ◌++◌}
-use Rattle.lineedit_run.proofs.Writes.{appended_then, done_more, part_kept, part_more}
+use Rattle.lineedit_run.proofs.Writes.{appended_then, done_more}
 use Rattle.lineedit_run.proofs.output.put.Goals as goal
 
 pub loop-rest-preserved : goal.loop-rest-preserved

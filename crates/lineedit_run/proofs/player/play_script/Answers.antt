@@ -1,4 +1,4 @@
-use Rattle.std.proofs.Common.{rules, ◌≡◌, ℕ, List, IfErr}
+use Rattle.std.proofs.Common.{rules}
 use Rattle.lineedit_run.proofs.Writes.{extends_then, names_then}
 use Rattle.lineedit_run.proofs.player.play_script.Goals as goal
 
