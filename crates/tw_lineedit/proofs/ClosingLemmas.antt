@@ -15,11 +15,13 @@ use Rattle.tw_lineedit.specs.declared.error.Error.{Error}
 use Rattle.tw_lineedit.specs.declared.error.Error.TheVariants.{Memory, Terminal}
 
 module _ {V : Type 0} where
+  -- the mode once the run is closed
   inactive : (m : Moment V) (h g : Frame V) → StandsAt m h → g.state ≡ record h.state { mode = Inactive } → g.state ≡ record m.state { mode = Inactive }
   inactive m h g st hs = hs ∙ ap (λ (x : EditState). let r : EditState = record x { mode = Inactive } in r) st.state
 
   -- the closing, seen from the moment
 
+  -- the closing batch is whole
   closes_whole : (m : Moment V) (h g : Frame V) → StandsAt m h → Closes h g → ClosesWhole m g
   closes_whole m h g st c = record {
     leaves = record {
@@ -38,6 +40,7 @@ module _ {V : Type 0} where
     flushed = ap (λ (t : TerminalState). t.flushed) c.terminal ∙ ap (λ (t : TerminalState). length t.batches) (sym c.terminal);
   }
 
+  -- a beginning of the closing batch is taken
   closes_in_part : (m : Moment V) (f h g : Frame V) → StandsAt m h → h.terminal.flushed ≡ f.terminal.flushed → CutsClosing h g → ClosesInPart m f g
   closes_in_part m f h g st hf c =
       let fails : RenderFails (closing c.terminal.0) h.terminal g.terminal = c.terminal.2 in
@@ -58,6 +61,7 @@ module _ {V : Type 0} where
         flushed = ap (λ (t : TerminalState). t.flushed) fails.rest ∙ hf;
       }
 
+  -- the closing batch is not flushed
   closes_unflushed : (m : Moment V) (f h g : Frame V) → StandsAt m h → h.terminal.flushed ≡ f.terminal.flushed → MissesFlush h g → ClosesUnflushed m f g
   closes_unflushed m f h g st hf c = record {
     leaves = record {
@@ -76,12 +80,14 @@ module _ {V : Type 0} where
     flushed = ap (λ (t : TerminalState). t.flushed) c.terminal ∙ hf;
   }
 
+  -- the closing is refused
   closes_badly : (m : Moment V) (f h g : Frame V) → StandsAt m h → h.terminal.flushed ≡ f.terminal.flushed → CutsClosing h g ⊎ MissesFlush h g → ClosesBadly m f g
   closes_badly m f h g st hf c = elim c [
     | inl cut ↦ inl (closes_in_part m f h g st hf cut)
     | inr missed ↦ inr (closes_unflushed m f h g st hf missed)
   ]
 
+  -- a refused closing is one failure
   one_more : (h g : Frame V) → CutsClosing h g ⊎ MissesFlush h g → g.terminal.failures ≡ count_up h.terminal.failures
   one_more h g c = elim c [
     | inl cut ↦ (let fails : RenderFails (closing cut.terminal.0) h.terminal g.terminal = cut.terminal.2 in ap (λ (t : TerminalState). t.failures) fails.rest)
@@ -102,50 +108,61 @@ module _ {V : Type 0} (rules : HostRules V) (initial : Option (List ℕ)) (f : F
     failures = ap (λ (t : TerminalState). t.failures) c.terminal ∙ q.failures;
   })
 
+  -- an answer, and the closing is whole
   pub answered_closed : (h g : Frame V) (answer : Outcome) → IsAnswered rules (start initial f) h answer → Closes h g → Reads (run_of rules (start initial f)) f g answer
   answered_closed h g answer a c = reads h g answer a.run (record { flushed = a.quiet.flushed; failures = a.quiet.failures }) c
 
+  -- a run stands at its ending
   stands_ended : (h : Frame V) (answer : Outcome) → run_of rules (start initial f) ≡ ending answer h → StandsAt (paused (run_of rules (start initial f))) h
   stands_ended h answer r = subst (λ (x : Ending V). StandsAt (paused x) h) (sym r)
       (record { state = refl; value = refl; size = refl; last = refl; left = refl; part = ([], refl, sym (append-nil h.terminal.batches)) })
 
+  -- what a fault of the terminal leaves
   abbrev Fault : Frame V → Type 0
   Fault g = (m : Moment V) × (
       (Faults rules initial f m × ClosesWhole m g × (g.terminal.failures ≡ count_up f.terminal.failures))
       ⊎ ((Faults rules initial f m × ClosesBadly m f g × (g.terminal.failures ≡ count_up (count_up f.terminal.failures)))
       ⊎ (Halts rules initial f m × ClosesBadly m f g × (g.terminal.failures ≡ count_up f.terminal.failures))))
 
+  -- no fault but that of the closing
   halted : (m : Moment V) (h g : Frame V) → Halts rules initial f m → StandsAt m h → Quiet f h → CutsClosing h g ⊎ MissesFlush h g → Fault g
   halted m h g can st q c = (m, inr (inr (can, closes_badly m f h g st q.flushed c, one_more h g c ∙ ap count_up q.failures)))
 
+  -- the run ended, and the closing is refused
   ended : (h g : Frame V) (answer : Outcome) → run_of rules (start initial f) ≡ ending answer h → Quiet f h → CutsClosing h g ⊎ MissesFlush h g → Fault g
   ended h g answer r q c = halted (paused (run_of rules (start initial f))) h g (inl refl) (stands_ended h answer r) q c
 
+  -- an answer, and the closing is refused
   pub answered_unclosed : (h g : Frame V) (answer : Outcome) (e : Error) → IsAnswered rules (start initial f) h answer → FailsToClose h g e → FailsToRead rules initial f g e
   answered_unclosed h g answer (Terminal x) a c = ended h g answer a.run (record { flushed = a.quiet.flushed; failures = a.quiet.failures }) c
   answered_unclosed h g answer _ a bad = absurd bad
 
+  -- a refusal, and the closing is whole
   pub refused_closed : (h g : Frame V) (e : Error) → IsTurnedDown rules initial f h e → Closes h g → FailsToRead rules initial f g e
   refused_closed h g (Memory x) ((m, can, idle, st), q) c = (m, can, idle, closes_whole m h g st c, ap (λ (t : TerminalState). t.failures) c.terminal ∙ q.failures)
   refused_closed h g (Terminal x) ((m, can, st), q) c = (m, inl (can, closes_whole m h g st c, ap (λ (t : TerminalState). t.failures) c.terminal ∙ q.failures))
   refused_closed h g e (r, q) c = reads h g (Err (refusal_of e)) r q c
 
+  -- a refusal, and then that of the closing
   refused_then : (h g : Frame V) (x : Error) → IsTurnedDown rules initial f h x → CutsClosing h g ⊎ MissesFlush h g → Fault g
   refused_then h g (Memory y) ((m, can, idle, st), q) c = halted m h g (inr (can, idle)) st q c
   refused_then h g (Terminal y) ((m, can, st), q) c = (m, inr (inl (can, closes_badly m f h g st q.flushed c, one_more h g c ∙ ap count_up q.failures)))
   refused_then h g y (r, q) c = ended h g (Err (refusal_of y)) r q c
 
+  -- a refusal, and the closing is refused
   pub refused_unclosed : (h g : Frame V) (x e : Error) → IsTurnedDown rules initial f h x → FailsToClose h g e → FailsToRead rules initial f g e
   refused_unclosed h g x (Terminal y) r c = refused_then h g x r c
   refused_unclosed h g x _ r bad = absurd bad
 
   -- the start
 
+  -- a refusal of the run from its start
   at_start : (h : Frame V) (e : Error) → IsRefused rules (start initial f) h e → IsTurnedDown rules initial f h e
   at_start h (Memory x) ((m, can, idle, st), q) = ((m, inl can, idle, st), record { flushed = q.flushed; failures = q.failures })
   at_start h (Terminal x) ((m, can, st), q) = ((m, can, st), record { flushed = q.flushed; failures = q.failures })
   at_start h e (r, q) = (r, record { flushed = q.flushed; failures = q.failures })
 
+  -- a refusal of a run that was begun
   pub begun_refused : (s h : Frame V) (e : Error) → s ≡ start initial f → IsRefused rules s h e → IsTurnedDown rules initial f h e
   begun_refused s h e same r = at_start h e (subst (λ (y : Frame V). IsRefused rules y h e) same r)
 

@@ -8,29 +8,37 @@ use Rattle.tw_lineedit.specs.Reading.{FailsToRead, FailuresTell}
 use Rattle.tw_lineedit.specs.declared.error.Error.{Error}
 use Rattle.tw_lineedit.specs.declared.error.Error.TheVariants.{Memory, Terminal}
 
+-- the count rose, or could not
 abbrev Rose : ℕ → ℕ → Type 0
 Rose old new = (old < new) ⊎ (old ≡ 18446744073709551615)
 
+-- a count that may rise
 le_count_by : (b : Bool) (n : ℕ) → n ≤ cond b n (n + 1)
 le_count_by true n = omega arith
 le_count_by false n = omega arith
 
+-- a failure never lowers the count
 le_count : (n : ℕ) → n ≤ count_up n
 le_count n = le_count_by (n == 18446744073709551615) n
 
+-- the count by whether it could rise
 rose_by : (b : Bool) (n m : ℕ) → (n == 18446744073709551615) ≡ b → cond b n (n + 1) ≤ m → Rose n m
 rose_by true n m e h = inr (eqb-true n 18446744073709551615 e)
 rose_by false n m e h = inl (omega arith)
 
+-- a count with one failure more
 rose : (n m : ℕ) → count_up n ≤ m → Rose n m
 rose n m h = rose_by (n == 18446744073709551615) n m refl h
 
+-- one failure
 pub rose_once : (n m : ℕ) → m ≡ count_up n → Rose n m
 rose_once n m h = rose n m (omega arith)
 
+-- two failures
 rose_twice : (n m : ℕ) → m ≡ count_up (count_up n) → Rose n m
 rose_twice n m e = rose n m (let l : count_up n ≤ count_up (count_up n) = le_count (count_up n) in omega arith)
 
+-- what a refused call tells of the count
 pub told : {V : Type 0} (A : Type 0) (rules : HostRules V) (initial : Option (List ℕ)) (f g : Frame V) (e : Error) → FailsToRead rules initial f g e → FailuresTell {A = A} (Err e) f.terminal.failures g.terminal.failures
 told A rules initial f g (Memory x) h = h.4
 told A rules initial f g (Terminal x) (m, h) = elim h [

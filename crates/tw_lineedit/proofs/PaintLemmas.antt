@@ -1,3 +1,4 @@
+-- What the editor's painting does to a frame.
 use Rattle.std.proofs.Common.{◌≡◌, sym, ◌∙◌, ap, subst, inr, Some, Ok, false}
 use Rattle.tw_surface.specs.ChangeView.{Batch}
 use Rattle.tw_terminal.specs.TerminalState.{Renders, RenderFails}
@@ -10,9 +11,11 @@ use Rattle.tw_lineedit.specs.declared.error.Error.TheVariants.{Terminal}
 use Rattle.tw_lineedit.specs.HostRules.{HostRules}
 
 module _ {V : Type 0} (rules : HostRules V) where
+  -- the painting at the terminal's size
   at_own_size : (g : Frame V) {p : Rendered} {size : ScreenSize} → size ≡ g.terminal.size → rendered g.last (painted_on size (scene_of rules g.value g.state false)) ≡ Ok p → rendered g.last (painted_on g.terminal.size (scene_of rules g.value g.state false)) ≡ Ok p
   at_own_size g {p = p} h e = subst (λ (z : ScreenSize). rendered g.last (painted_on z (scene_of rules g.value g.state false)) ≡ Ok p) h e
 
+  -- the painting is rendered and its mark is kept
   pub paints : (f g h k : Frame V) {p : Rendered} {size : ScreenSize} {b : Batch} → size ≡ f.terminal.size → g ≡ f → rendered g.last (painted_on size (scene_of rules g.value g.state false)) ≡ Ok p → b ≡ p.changes → ShowsBatch b g h → k.state ≡ h.state → k.value ≡ h.value → k.last ≡ Some p.mark → k.terminal ≡ h.terminal → Paints rules f k
   paints f g h k {p = p} {b = b} hs gf e eb shows ks kh kl kt =
       subst (λ (x : Frame V). Paints rules x k) gf (record {
@@ -26,6 +29,7 @@ module _ {V : Type 0} (rules : HostRules V) where
         value = kh ∙ shows.keeps.value;
       })
 
+  -- the painting is rendered in part
   pub fails_to_show : (f g h : Frame V) {p : Rendered} {size : ScreenSize} {b : Batch} (e : Error) → size ≡ f.terminal.size → g ≡ f → rendered g.last (painted_on size (scene_of rules g.value g.state false)) ≡ Ok p → b ≡ p.changes → FailsToShow b g h e → FailsToPaint rules f h e
   fails_to_show f g h {p = p} {b = b} (Terminal x) hs gf e eb (keeps, fails) =
       subst (λ (y : Frame V). FailsToPaint rules y h (Terminal x)) gf (

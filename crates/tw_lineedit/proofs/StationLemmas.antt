@@ -94,6 +94,7 @@ module _ {V : Type 0} (rules : HostRules V) where
       by_painting (Err r) = nothing base s.taken cleared h
       by_painting (Ok p) = by_over p (is_over s.state.mode)
 
+  -- the batches of a run are those of its stations
   by_stations : (es : List EventView) → Tells es
   by_stations [] cleared s base h =
       ap (λ (r : Result Rendered Refusal). (at_end rules s r).taken) (rendered_at s cleared) ∙ by_last s base cleared h (painting_of rules (station_at cleared s))

@@ -9,28 +9,32 @@ use Rattle.tw_lineedit.specs.Refusal.{Refusal, refusal_of, IsMemory}
 use Rattle.tw_lineedit.specs.Outcomes.{is_over, answer_at, IsLine}
 use Rattle.tw_lineedit.specs.Steps.{apply_if, clears_if}
 use Rattle.tw_lineedit.specs.Painting.{Mark, Rendered, clear_batch}
-use Rattle.tw_lineedit.specs.Run.{Frame, Progress, Moment, Cause, want, fault, run, ends, ending, at_end, at_event, after_event, chosen, answered, polled, shown, painting_at, moment, progress_of, CanStop, CanStopFrom, unpainted, half_painted, unpolled, uncopied, unresolved, unapplied, half_cleared, later, StandsAt, Quiet, FailsOnce, IsStarved, IsRefused, Follows, Continues, IsEnded}
+use Rattle.tw_lineedit.specs.Run.{Frame, Progress, Moment, Cause, want, fault, run, ends, ending, at_end, at_event, after_event, chosen, answered, polled, shown, painting_at, moment, progress_of, CanStop, CanStopFrom, unmeasured, unpainted, half_painted, unpolled, uncopied, unresolved, unapplied, half_cleared, later, StandsAt, Quiet, FailsOnce, IsStarved, IsRefused, Follows, Continues, IsEnded}
 use Rattle.tw_lineedit.specs.Frame.{Paints, FailsToPaint, Keeps, CallFails, TakesEvent, HasNoEvent, Handles, FailsToHandle, answered_frame}
 use Rattle.tw_lineedit.specs.declared.error.Error.{Error}
 use Rattle.tw_lineedit.specs.declared.error.Error.TheVariants.{Memory, Terminal}
--- the run, case by case
-
 use Rattle.tw_lineedit.specs.HostRules.{HostRules}
 
 module _ {V : Type 0} (rules : HostRules V) where
+  -- the run, case by case
+
+  -- where the painting is refused the run ends
   run_unpainted : (es : List EventView) (s : Progress V) (n : Refusal) → painting_at rules s ≡ Err n → run rules es s ≡ ends (Err n) es s
   run_unpainted [] s n h = ap (at_end rules s) h
   run_unpainted (e ∷ es) s n h = ap (at_event rules e es s (run rules es)) h
 
+  -- where the mode ends the run
   run_over : (es : List EventView) (s : Progress V) (p : Rendered) → painting_at rules s ≡ Ok p → is_over s.state.mode ≡ true → run rules es s ≡ ends (answer_at s.state) es (shown s p)
   run_over [] s p h o = ap (at_end rules s) h
   run_over (e ∷ es) s p h o =
       ap (at_event rules e es s (run rules es)) h
       ∙ ap (λ (b : Bool). cond b (ends (answer_at s.state) (e ∷ es) (shown s p)) (after_event rules e es (shown s p) (run rules es) (apply_if (chosen rules s e) (answered rules s e).state))) o
 
+  -- where no event is left
   run_done : (es : List EventView) (s : Progress V) (p : Rendered) → es ≡ [] → painting_at rules s ≡ Ok p → run rules es s ≡ ends (answer_at s.state) es (shown s p)
   run_done es s p he h = subst (λ (xs : List EventView). run rules xs s ≡ ends (answer_at s.state) xs (shown s p)) (sym he) (ap (at_end rules s) h)
 
+  -- where an event is taken
   run_event : (e : EventView) (es xs : List EventView) (s : Progress V) (p : Rendered) → xs ≡ e ∷ es → painting_at rules s ≡ Ok p → is_over s.state.mode ≡ false → run rules xs s ≡ after_event rules e es (shown s p) (run rules es) (apply_if (chosen rules s e) (answered rules s e).state)
   run_event e es xs s p he h o =
       ap (λ (ys : List EventView). run rules ys s) he
@@ -39,9 +43,11 @@ module _ {V : Type 0} (rules : HostRules V) where
 
   -- frames
 
+  -- a frame of these parts
   abbrev make : EditState → V → Option Mark → TerminalState → Frame V
   make state host last terminal = record { state = state; value = host; last = last; terminal = terminal }
 
+  -- frames of the same parts are one
   same_frame : (f g : Frame V) → f.state ≡ g.state → f.value ≡ g.value → f.last ≡ g.last → f.terminal ≡ g.terminal → f ≡ g
   same_frame f g a d b c =
       ap (λ (x : EditState). make x f.value f.last f.terminal) a
@@ -49,35 +55,45 @@ module _ {V : Type 0} (rules : HostRules V) where
       ∙ ap (λ (x : Option Mark). make g.state g.value x f.terminal) b
       ∙ ap (λ (x : TerminalState). make g.state g.value g.last x) c
 
+  -- a terminal with these batches
   abbrev with_batches : TerminalState → List Batch → TerminalState
   with_batches t b = record t { batches = b }
 
+  -- a terminal once an event is taken
   abbrev with_events : TerminalState → EventView → List EventView → TerminalState
   with_events t e es = record t { events = es; size = size_after e t.size }
 
+  -- a frame once its painting is rendered
   abbrev painted : Frame V → Rendered → Frame V
   painted f p = make f.state f.value (Some p.mark) (with_batches f.terminal (f.terminal.batches ++ p.changes ∷ []))
 
+  -- a frame once an event is taken
   abbrev given : Frame V → EventView → List EventView → Frame V
   given f e es = make f.state f.value f.last (with_events f.terminal e es)
 
+  -- a frame once its event's action is applied
   abbrev applied : Frame V → EventView → EditState → Frame V
   applied f e state = make state (answered_frame rules e f).value f.last (with_batches f.terminal (f.terminal.batches ++ clears_if (chosen rules (progress_of f) e)))
 
+  -- what a painting leaves
   painted_is : (f g : Frame V) (h : Paints rules f g) → g ≡ painted f h.picture.0
   painted_is f g h = same_frame g (painted f h.picture.0) h.state h.value h.picture.2 h.picture.3
 
+  -- what the taking of an event leaves
   given_is : (g h : Frame V) (e : EventView) → TakesEvent e g h → h ≡ given g e h.terminal.events
   given_is g h e t = same_frame h (given g e h.terminal.events) t.keeps.state t.keeps.value t.keeps.last t.terminal.rest
 
+  -- what an action leaves
   applied_is : (h k : Frame V) (e : EventView) → Handles rules e h k → k ≡ applied h e k.state
   applied_is h k e a = same_frame k (applied h e k.state) refl a.value a.last a.terminal
 
   -- where a run stands
 
+  -- a frame stands at its own moment
   stands_here : (f : Frame V) → StandsAt (moment None f.terminal.events (progress_of f)) f
   stands_here f = record { state = refl; value = refl; size = refl; last = refl; left = refl; part = ([], refl, sym (append-nil f.terminal.batches)) }
 
+  -- a refused call that took nothing changes no moment
   stands_failed : (m : Moment V) (f g : Frame V) → Keeps f g → Fails f.terminal g.terminal → StandsAt m f → StandsAt m g
   stands_failed m f g keeps fails st = record {
     state = keeps.state ∙ st.state;
@@ -88,6 +104,7 @@ module _ {V : Type 0} (rules : HostRules V) where
     part = (st.part.0, st.part.1, ap (λ (t : TerminalState). t.batches) fails ∙ st.part.2);
   }
 
+  -- a refused rendering has taken a beginning
   stands_in_part : (b : Batch) (f g : Frame V) → Keeps f g → RenderFails b f.terminal g.terminal → StandsAt (moment (Some b) f.terminal.events (progress_of f)) g
   stands_in_part b f g keeps fails = record {
     state = keeps.state;
@@ -100,33 +117,41 @@ module _ {V : Type 0} (rules : HostRules V) where
 
   -- what is counted
 
+  -- nothing happened
   quiet_self : (f : Frame V) → Quiet f f
   quiet_self f = record { flushed = refl; failures = refl }
 
+  -- a frame that is the same
   quiet_same : (f g : Frame V) → g ≡ f → Quiet f g
   quiet_same f g same = record { flushed = ap (λ (y : Frame V). y.terminal.flushed) same; failures = ap (λ (y : Frame V). y.terminal.failures) same }
 
+  -- one quiet part after another
   quiet_on : (f g h : Frame V) → Quiet f g → Quiet g h → Quiet f h
   quiet_on f g h a b = record { flushed = b.flushed ∙ a.flushed; failures = b.failures ∙ a.failures }
 
+  -- a failure after a quiet part
   fails_on : (f g h : Frame V) → Quiet f g → FailsOnce g h → FailsOnce f h
   fails_on f g h a b = record { flushed = b.flushed ∙ a.flushed; failures = b.failures ∙ ap count_up a.failures }
 
+  -- a refused call is one failure
   failed : (f g : Frame V) → Fails f.terminal g.terminal → FailsOnce f g
   failed f g fails = record { flushed = ap (λ (t : TerminalState). t.flushed) fails; failures = ap (λ (t : TerminalState). t.failures) fails }
 
+  -- a refused rendering is one failure
   render_failed : (b : Batch) (f g : Frame V) → RenderFails b f.terminal g.terminal → FailsOnce f g
   render_failed b f g fails = record { flushed = ap (λ (t : TerminalState). t.flushed) fails.rest; failures = ap (λ (t : TerminalState). t.failures) fails.rest }
 
+  -- a painting is quiet
   quiet_painted : (f g : Frame V) → Paints rules f g → Quiet f g
   quiet_painted f g p = record { flushed = ap (λ (t : TerminalState). t.flushed) p.picture.3; failures = ap (λ (t : TerminalState). t.failures) p.picture.3 }
 
   -- a refused painting
 
+  -- the painting is refused, by memory, by the terminal or by itself
   pub paint_refused : (f g : Frame V) (e : Error) → FailsToPaint rules f g e → IsRefused rules f g e
-  paint_refused f g (Memory x) h = subst (λ (y : Frame V). IsStarved rules f y × Quiet f y) (sym h) ((moment None f.terminal.events (progress_of f), unpainted, refl, stands_here f), quiet_self f)
+  paint_refused f g (Memory x) (same, sized) = subst (λ (y : Frame V). IsStarved rules f y × Quiet f y) (sym same) ((moment None f.terminal.events (progress_of f), unpainted sized, refl, stands_here f), quiet_self f)
   paint_refused f g (Terminal x) (keeps, h) = elim h [
-    | inl fails ↦ ((moment None f.terminal.events (progress_of f), unpainted, stands_failed _ f g keeps fails (stands_here f)), failed f g fails)
+    | inl fails ↦ ((moment None f.terminal.events (progress_of f), unmeasured, stands_failed _ f g keeps fails (stands_here f)), failed f g fails)
     | inr part ↦ ((moment (Some part.0.changes) f.terminal.events (progress_of f), half_painted part.1, stands_in_part part.0.changes f g keeps part.2), render_failed part.0.changes f g part.2)
   ]
   paint_refused f g e (same, h) =
@@ -134,6 +159,7 @@ module _ {V : Type 0} (rules : HostRules V) where
 
   -- after the painting
 
+  -- the mode ends the run
   pub over : (f g : Frame V) → Paints rules f g → is_over g.state.mode ≡ true → IsEnded rules f g
   over f g h o = subst (λ (y : Frame V). IsEnded rules f y) (sym (painted_is f g h)) (record {
     run = run_over f.terminal.events (progress_of f) h.picture.0 h.picture.1 (subst (λ (x : EditState). is_over x.mode ≡ true) h.state o);
@@ -141,10 +167,12 @@ module _ {V : Type 0} (rules : HostRules V) where
     quiet = record { flushed = refl; failures = refl };
   })
 
+  -- the run can be stopped once it is painted
   painted_stops : (f g : Frame V) → Paints rules f g → is_over g.state.mode ≡ false → CanStopFrom rules fault f (moment None g.terminal.events (progress_of g))
   painted_stops f g h o = subst (λ (y : Frame V). CanStopFrom rules fault f (moment None y.terminal.events (progress_of y))) (sym (painted_is f g h))
       (unpolled h.picture.1 (subst (λ (x : EditState). is_over x.mode ≡ false) h.state o))
 
+  -- the terminal refuses to tell an event
   pub poll_refused : (f g h : Frame V) (e : Error) → Paints rules f g → is_over g.state.mode ≡ false → CallFails g h e → IsRefused rules f h e
   poll_refused f g h (Terminal x) p o (keeps, fails) = (
     (moment None g.terminal.events (progress_of g), painted_stops f g p o, stands_failed _ g h keeps fails (stands_here g)),
@@ -152,6 +180,7 @@ module _ {V : Type 0} (rules : HostRules V) where
   )
   poll_refused f g h _ p o bad = absurd bad
 
+  -- no event is left
   pub done : (f g h : Frame V) → Paints rules f g → HasNoEvent g h → IsEnded rules f h
   done f g h p t =
       let none : f.terminal.events ≡ [] = sym (ap (λ (x : TerminalState). x.events) p.picture.3) ∙ t.events in
@@ -194,17 +223,21 @@ module _ {V : Type 0} (rules : HostRules V) where
       fewer = rw he (omega arith);
     }
 
+  -- the events before one is taken
   events_are : (f g h : Frame V) (ev : EventView) → Paints rules f g → TakesEvent ev g h → f.terminal.events ≡ ev ∷ h.terminal.events
   events_are f g h ev p t = sym (ap (λ (x : TerminalState). x.events) p.picture.3) ∙ t.terminal.events
 
+  -- what a painting and the taking of an event leave
   given_after : (f g h : Frame V) (ev : EventView) (p : Paints rules f g) → TakesEvent ev g h → h ≡ given (painted f p.picture.0) ev h.terminal.events
   given_after f g h ev p t = given_is g h ev t ∙ ap (λ (y : Frame V). given y ev h.terminal.events) (painted_is f g p)
 
+  -- the event is refused
   pub event_refused : (f g h k : Frame V) (ev : EventView) (e : Error) → Paints rules f g → is_over g.state.mode ≡ false → TakesEvent ev g h → FailsToHandle rules ev h k e → IsRefused rules f k e
   event_refused f g h k ev e p o t a =
       apply_refused f p.picture.0 ev h.terminal.events p.picture.1 (subst (λ (x : EditState). is_over x.mode ≡ false) p.state o) (events_are f g h ev p t) k e
       (subst (λ (y : Frame V). FailsToHandle rules ev y k e) (given_after f g h ev p t) a)
 
+  -- the run goes on
   pub continues : (f g h k : Frame V) (ev : EventView) → Paints rules f g → is_over g.state.mode ≡ false → TakesEvent ev g h → Handles rules ev h k → Continues rules f k
   continues f g h k ev p o t a =
       let b : Handles rules ev (given (painted f p.picture.0) ev h.terminal.events) k = subst (λ (y : Frame V). Handles rules ev y k) (given_after f g h ev p t) a in
@@ -213,15 +246,19 @@ module _ {V : Type 0} (rules : HostRules V) where
 
   -- turns in a row
 
+  -- a run follows itself
   pub follows_self : (f : Frame V) → Follows rules f f
   follows_self f = record { run = refl; stops = λ c m h. h; quiet = quiet_self f }
 
+  -- runs that follow one another
   pub follows_on : (f g h : Frame V) → Follows rules f g → Follows rules g h → Follows rules f h
   follows_on f g h a b = record { run = a.run ∙ b.run; stops = λ c m s. a.stops c m (b.stops c m s); quiet = quiet_on f g h a.quiet b.quiet }
 
+  -- the run ends later
   pub ended_later : (f g h : Frame V) → Follows rules f g → IsEnded rules g h → IsEnded rules f h
   ended_later f g h a b = record { run = a.run ∙ b.run; stops = λ l. a.stops want _ (b.stops l); quiet = quiet_on f g h a.quiet b.quiet }
 
+  -- the run is refused later
   pub refused_later : (f g h : Frame V) (e : Error) → Follows rules f g → IsRefused rules g h e → IsRefused rules f h e
   refused_later f g h (Memory x) a (s, q) = ((s.0, a.stops want s.0 s.1, s.2, s.3), quiet_on f g h a.quiet q)
   refused_later f g h (Terminal x) a (s, q) = ((s.0, a.stops fault s.0 s.1, s.2), fails_on f g h a.quiet q)

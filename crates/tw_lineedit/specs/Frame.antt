@@ -11,6 +11,7 @@ use Rattle.tw_lineedit.specs.Refusal.{refusal_of}
 use Rattle.tw_lineedit.specs.Steps.{apply_if, clears_if, TakesMemory}
 use Rattle.tw_lineedit.specs.Painting.{Mark, Rendered, closing, closing_if, clear_batch}
 use Rattle.tw_lineedit.specs.Run.{Frame, progress_of, painting_at, chosen, answered}
+use Rattle.tw_lineedit.specs.Draws.{IsSized}
 use Rattle.tw_lineedit.specs.declared.editor.EditorOver.{EditorOver}
 use Rattle.tw_lineedit.specs.declared.error.Error.{Error}
 use Rattle.tw_lineedit.specs.declared.error.Error.TheVariants.{Memory, Terminal}
@@ -31,14 +32,17 @@ module _ {V : Type 0} where
   CallFails f g (Terminal e) = Keeps f g × Fails f.terminal g.terminal
   CallFails f g _ = ⊥
 
+  -- a batch was rendered, and nothing else changed
   pub record ShowsBatch (b : Batch) (f g : Frame V) : Type 0 where
     pub keeps : Keeps f g
     pub terminal : Renders b f.terminal g.terminal
 
+  -- a batch was not rendered, or only a beginning of it
   abbrev pub FailsToShow : Batch → Frame V → Frame V → Error → Type 0
   FailsToShow b f g (Terminal e) = Keeps f g × RenderFails b f.terminal g.terminal
   FailsToShow b f g _ = ⊥
 
+  -- an action was applied: the state is that of the step, and a Repaint has cleared the screen
   pub record Applies (a : Option ActionView) (f g : Frame V) : Type 0 where
     pub state : apply_if a f.state ≡ Ok g.state
     pub value : g.value ≡ f.value
@@ -51,15 +55,18 @@ module _ {V : Type 0} where
   FailsToApply a f g (Terminal e) = (a ≡ Some Repaint) × Keeps f g × RenderFails clear_batch f.terminal g.terminal
   FailsToApply a f g e = (g ≡ f) × (apply_if a f.state ≡ Err (refusal_of e))
 
+  -- the first event was taken
   pub record TakesEvent (e : EventView) (f g : Frame V) : Type 0 where
     pub keeps : Keeps f g
     pub terminal : Takes e f.terminal g.terminal
 
+  -- no event is left
   pub record HasNoEvent (f g : Frame V) : Type 0 where
     pub same : g ≡ f
     pub events : f.terminal.events ≡ []
 
 module _ {V : Type 0} (rules : HostRules V) where
+  -- the painting of f was rendered, and its mark is kept
   pub record Paints (f g : Frame V) : Type 0 where
     pub picture : (p : Rendered) × (painting_at rules (progress_of f) ≡ Ok p) × (g.last ≡ Some p.mark) × Renders p.changes f.terminal g.terminal
     pub state : g.state ≡ f.state
@@ -69,8 +76,9 @@ module _ {V : Type 0} (rules : HostRules V) where
   abbrev pub PaintsPart : Frame V → Frame V → Type 0
   PaintsPart f g = (p : Rendered) × (painting_at rules (progress_of f) ≡ Ok p) × RenderFails p.changes f.terminal g.terminal
 
+  -- f was not painted: no memory, a fault, or the painting's own refusal
   abbrev pub FailsToPaint : Frame V → Frame V → Error → Type 0
-  FailsToPaint f g (Memory e) = g ≡ f
+  FailsToPaint f g (Memory e) = (g ≡ f) × IsSized f.terminal.size
   FailsToPaint f g (Terminal e) = Keeps f g × (Fails f.terminal g.terminal ⊎ PaintsPart f g)
   FailsToPaint f g e = (g ≡ f) × (painting_at rules (progress_of f) ≡ Err (refusal_of e))
 
@@ -78,6 +86,7 @@ module _ {V : Type 0} (rules : HostRules V) where
   abbrev pub answered_frame : EventView → Frame V → Frame V
   answered_frame e f = record f { state = (answered rules (progress_of f) e).state; value = (answered rules (progress_of f) e).value }
 
+  -- the host has answered the event, and the action that follows was applied
   abbrev pub Handles : EventView → Frame V → Frame V → Type 0
   Handles e f g = Applies (chosen rules (progress_of f) e) (answered_frame e f) g
 
@@ -106,6 +115,7 @@ module _ {V : Type 0} where
     pub value : g.value ≡ f.value
     pub terminal : g.terminal ≡ record f.terminal { batches = f.terminal.batches ++ closing_if f.last; failures = count_up f.terminal.failures }
 
+  -- the closing was refused
   abbrev pub FailsToClose : Frame V → Frame V → Error → Type 0
   FailsToClose f g (Terminal e) = CutsClosing f g ⊎ MissesFlush f g
   FailsToClose f g _ = ⊥

@@ -63,6 +63,7 @@ module _ {V : Type 0} where
     pub leaves : Leaves m (closing_if m.last) g
     pub flushed : g.terminal.flushed ≡ f.terminal.flushed
 
+  -- the closing was refused
   abbrev pub ClosesBadly : Moment V → Frame V → Frame V → Type 0
   ClosesBadly m f g = ClosesInPart m f g ⊎ ClosesUnflushed m f g
 

@@ -12,6 +12,7 @@ use Rattle.tw_lineedit.specs.Refusal.{Refusal, refusal_of}
 use Rattle.tw_lineedit.specs.Outcomes.{Outcome, answer_at, IsLine, is_over}
 use Rattle.tw_lineedit.specs.Steps.{apply_if, clears_if, TakesMemory}
 use Rattle.tw_lineedit.specs.Painting.{Mark, Rendered, rendered, painted_on, scene_of, clear_batch}
+use Rattle.tw_lineedit.specs.Draws.{IsSized}
 use Rattle.tw_lineedit.specs.declared.error.Error.{Error}
 use Rattle.tw_lineedit.specs.declared.error.Error.TheVariants.{Memory, Terminal}
 
@@ -23,6 +24,7 @@ pub record Progress (V : Type 0) : Type 0 where
   pub last : Option Mark
   pub taken : List Batch
 
+-- how a run ends: its answer, how far it had come, and the events left
 pub record Ending (V : Type 0) : Type 0 where
   pub answer : Outcome
   pub state : EditState
@@ -55,38 +57,44 @@ pub record Frame (V : Type 0) : Type 0 where
   pub terminal : TerminalState
 
 module _ {V : Type 0} where
+  -- the ending with this answer
   abbrev pub ends : Outcome → List EventView → Progress V → Ending V
   ends answer left s = record { answer = answer; state = s.state; value = s.value; size = s.size; last = s.last; taken = s.taken; left = left }
 
-  -- the station is painted
+  -- once it is painted
   abbrev pub shown : Progress V → Rendered → Progress V
   shown s p = record s { last = Some p.mark; taken = s.taken ++ p.changes ∷ [] }
 
-  -- the station once an event is taken
+  -- once an event is taken
   abbrev pub polled : Progress V → EventView → Progress V
   polled s e = record s { size = size_after e s.size }
 
+  -- the moment at which a run that has come so far is stopped
   abbrev pub moment : Option Batch → List EventView → Progress V → Moment V
   moment rendering left s = record { state = s.state; value = s.value; size = s.size; last = s.last; taken = s.taken; rendering = rendering; left = left }
 
+  -- how far an editor has come
   abbrev pub progress_of : Frame V → Progress V
   progress_of f = record { state = f.state; value = f.value; size = f.terminal.size; last = f.last; taken = f.terminal.batches }
 
+  -- the ending at which an editor stands
   abbrev pub ending : Outcome → Frame V → Ending V
   ending answer f = ends answer f.terminal.events (progress_of f)
 
 module _ {V : Type 0} (rules : HostRules V) where
+  -- the painting that comes next, as it is rendered, or its refusal
   abbrev pub painting_at : Progress V → Result Rendered Refusal
   painting_at s = rendered s.last (painted_on s.size (scene_of rules s.value s.state false))
 
-  -- the host's answer to an event at a station, and the action that follows
+  -- what the host makes of an event
   abbrev pub resolved : Progress V → EventView → Resolution V
   resolved s e = rules.resolve s.value e s.state.cut
 
+  -- the event's action: the host's, else the key table's
   abbrev pub chosen : Progress V → EventView → Option ActionView
   chosen s e = or_default (resolved s e).action e
 
-  -- the station as the host's answer leaves it
+  -- once an event is taken, and the host has answered it
   abbrev pub answered : Progress V → EventView → Progress V
   answered s e = record s { state = record s.state { cut = (resolved s e).cut }; value = (resolved s e).value; size = size_after e s.size }
 
@@ -94,32 +102,34 @@ module _ {V : Type 0} (rules : HostRules V) where
   abbrev pub handled : Progress V → EventView → EditState → Progress V
   handled s e state = record (answered s e) { state = state; taken = s.taken ++ clears_if (chosen s e) }
 
-  -- a station with no event left, by its painting
+  -- where no event is left, by the painting
   abbrev pub at_end : Progress V → Result Rendered Refusal → Ending V
   at_end s (Err n) = ends (Err n) [] s
   at_end s (Ok p) = ends (answer_at s.state) [] (shown s p)
 
-  -- a painted station whose event leads to a state or is refused; rest is the run from a station on
+  -- where it is painted, and an event leads to a state or is refused; rest is the run from there on
   abbrev pub after_event : EventView → List EventView → Progress V → (Progress V → Ending V) → Result EditState Refusal → Ending V
   after_event e es s rest (Err n) = ends (Err n) es (answered s e)
   after_event e es s rest (Ok state) = rest (handled s e state)
 
-  -- a station with an event left, by its painting
+  -- where an event is left, by the painting
   abbrev pub at_event : EventView → List EventView → Progress V → (Progress V → Ending V) → Result Rendered Refusal → Ending V
   at_event e es s rest (Err n) = ends (Err n) (e ∷ es) s
   at_event e es s rest (Ok p) = cond (is_over s.state.mode)
       (ends (answer_at s.state) (e ∷ es) (shown s p))
       (after_event e es (shown s p) rest (apply_if (chosen s e) (answered s e).state))
 
-  -- Each station is painted, and then the next event leads to the next one.
+  -- Each state is painted, and then the next event leads to the next one.
   abbrev pub run : List EventView → Progress V → Ending V
   run [] s = at_end s (painting_at s)
   run (e ∷ es) s = at_event e es s (run es) (painting_at s)
 
   -- the moments at which a run can be stopped, by the cause
   pub data CanStop : Cause → List EventView → Progress V → Moment V → Type 0 where
-    -- the painting took no memory, or the size was not told
-    unpainted : {c : Cause} {es : List EventView} {s : Progress V} → CanStop c es s (moment None es s)
+    -- the size was not told
+    unmeasured : {es : List EventView} {s : Progress V} → CanStop fault es s (moment None es s)
+    -- the painting found no memory; a size that is refused takes none
+    unpainted : {es : List EventView} {s : Progress V} → IsSized s.size → CanStop want es s (moment None es s)
     -- the painting was not rendered
     half_painted : {es : List EventView} {s : Progress V} {p : Rendered} → painting_at s ≡ Ok p → CanStop fault es s (moment (Some p.changes) es s)
     -- no event was told
@@ -132,12 +142,14 @@ module _ {V : Type 0} (rules : HostRules V) where
     unapplied : {e : EventView} {es : List EventView} {s : Progress V} {p : Rendered} → painting_at s ≡ Ok p → is_over s.state.mode ≡ false → TakesMemory (chosen s e) → CanStop want (e ∷ es) s (moment None es (answered (shown s p) e))
     -- the clearing of the screen was not rendered
     half_cleared : {e : EventView} {es : List EventView} {s : Progress V} {p : Rendered} → painting_at s ≡ Ok p → is_over s.state.mode ≡ false → chosen s e ≡ Some Repaint → CanStop fault (e ∷ es) s (moment (Some clear_batch) es (answered (shown s p) e))
-    -- at a station after the first
+    -- after the first painting
     later : {c : Cause} {e : EventView} {es : List EventView} {s : Progress V} {p : Rendered} {state : EditState} {m : Moment V} → painting_at s ≡ Ok p → is_over s.state.mode ≡ false → apply_if (chosen s e) (answered s e).state ≡ Ok state → CanStop c es (handled (shown s p) e state) m → CanStop c (e ∷ es) s m
 
+  -- the run that begins at a frame
   abbrev pub run_of : Frame V → Ending V
   run_of f = run f.terminal.events (progress_of f)
 
+  -- the moments at which that run can be stopped
   abbrev pub CanStopFrom : Cause → Frame V → Moment V → Type 0
   CanStopFrom c f m = CanStop c f.terminal.events (progress_of f) m
 
@@ -147,6 +159,7 @@ IsPartOf None part = part ≡ []
 IsPartOf (Some batch) part = IsPart batch part
 
 module _ {V : Type 0} where
+  -- an editor stands at a moment, a beginning of what was being rendered taken
   pub record StandsAt (m : Moment V) (f : Frame V) : Type 0 where
     pub state : f.state ≡ m.state
     pub value : f.value ≡ m.value
@@ -170,6 +183,7 @@ module _ {V : Type 0} (rules : HostRules V) where
   abbrev pub IsStarved : Frame V → Frame V → Type 0
   IsStarved f g = (m : Moment V) × CanStopFrom rules want f m × (m.rendering ≡ None) × StandsAt m g
 
+  -- the run from f was stopped at g by a fault
   abbrev pub IsFaulted : Frame V → Frame V → Type 0
   IsFaulted f g = (m : Moment V) × CanStopFrom rules fault f m × StandsAt m g
 
