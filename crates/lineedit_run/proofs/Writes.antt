@@ -2,7 +2,7 @@
 use Rattle.std.proofs.Common.{◌≡◌, ℕ, List, [], ◌++◌, Option, Some, None, sym, ap, ◌∙◌, append_assoc, append-nil, length, take, drop, ◌-◌, take-append-drop, subst}
 use Rattle.std.proofs.lemmas.List.{take_rest}
 use Rattle.std.specs.Io.KnownBytes.{Appends, Consumes, Keeps}
-use Rattle.lineedit_run.specs.Written.{Extends, ExtendsInPart, NamesBadLine, bad_line}
+use Rattle.lineedit_run.specs.Written.{Extends, NamesBadLine, bad_line}
 use Rattle.lineedit_run.specs.declared.fault.RunFault.{RunFault}
 use Rattle.lineedit_run.specs.declared.fault.RunFault.TheVariants.{BadLine, Io, Memory}
 
@@ -33,12 +33,6 @@ pub done_more : (all done rest : List ℕ) (n : ℕ) → all ≡ done ++ rest �
 done_more all done rest n e =
     e ∙ ap (λ l. done ++ l) (sym (take-append-drop n rest)) ∙ sym (append_assoc done (take n rest) (drop n rest))
     ∙ ap (λ l. (done ++ take n rest) ++ l) (sym (take_rest rest n))
-
-pub part_kept : (a b c : Option (List ℕ)) (all done rest : List ℕ) → Appends a b done → all ≡ done ++ rest → Keeps b c → ExtendsInPart a c all
-part_kept a b c all done rest p e q = (done, rest, appended_kept a b c done p q, e)
-
-pub part_more : (a b c : Option (List ℕ)) (all done rest : List ℕ) (n : ℕ) → Appends a b done → all ≡ done ++ rest → Appends b c (take n rest) → ExtendsInPart a c all
-part_more a b c all done rest n p e q = (_, _, appended_then a b c done _ p q, done_more all done rest n e)
 
 pub extends_then : (a b c : Option (List ℕ)) → Extends a b → Extends b c → Extends a c
 extends_then a b c (xs, p) (ys, q) = (xs ++ ys, appended_then a b c xs ys p q)

@@ -108,10 +108,6 @@ module _ {V : Type 0} (rules : HostRules V) (initial : Option (List ℕ)) (f : F
     failures = ap (λ (t : TerminalState). t.failures) c.terminal ∙ q.failures;
   })
 
-  -- an answer, and the closing is whole
-  pub answered_closed : (h g : Frame V) (answer : Outcome) → IsAnswered rules (start initial f) h answer → Closes h g → Reads (run_of rules (start initial f)) f g answer
-  answered_closed h g answer a c = reads h g answer a.run (record { flushed = a.quiet.flushed; failures = a.quiet.failures }) c
-
   -- a run stands at its ending
   stands_ended : (h : Frame V) (answer : Outcome) → run_of rules (start initial f) ≡ ending answer h → StandsAt (paused (run_of rules (start initial f))) h
   stands_ended h answer r = subst (λ (x : Ending V). StandsAt (paused x) h) (sym r)

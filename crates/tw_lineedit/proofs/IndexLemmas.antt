@@ -4,7 +4,7 @@ use Rattle.std.proofs.lemmas.Bool.{and_from, and_parts}
 use Rattle.std.proofs.lemmas.List.{length-reverse, take_all, take-append-drop}
 use Rattle.std.proofs.Common.{length-take-le}
 use Rattle.std.proofs.Math.Seq.{get_or-append_seam, take-append_seam}
-use Rattle.std.proofs.lemmas.Str.{chars-append, chars-nil, encodes-chars, scalars-chars, encodes-append, chars-encodes, IsUtf8-take, IsCharBoundary-from_take}
+use Rattle.std.proofs.lemmas.Str.{chars-append, chars-nil, encodes-chars, scalars-chars, encodes-append, chars-encodes, IsUtf8-take}
 use Rattle.std.specs.Prelude.{encode_utf8_all}
 use Rattle.std.specs.Str.{all_scalars, chars, IsUtf8, IsCharBoundary}
 use Rattle.unicode_segmentation.specs.Segments.{chars_from}
@@ -90,12 +90,6 @@ module _ (text : List ℕ) (u : IsUtf8 text) where
       let whole : text ≡ front ++ rest =
       sym (encodes-chars text u) ∙ ap encode_utf8_all (sym (take-append-drop q (chars text))) ∙ encodes-append (take q (chars text)) _ in
       omega (arith, ap length whole, length-append front rest)
-
-  -- a character starts at a boundary
-  pub IsCharBoundary-offset_of : (q : ℕ) → IsCharBoundary text (offset_of text q)
-  IsCharBoundary-offset_of q =
-      IsCharBoundary-from_take text (offset_of text q) u (offset_of-le q)
-      (take q (chars text), (scalars-take q (chars text) (scalars-chars text u), sym (front_is q)))
 
   -- the index of the offset of an index is that index
   pub index_of-offset : (q : ℕ) → q ≤ length (chars text) → index_of text (offset_of text q) ≡ q

@@ -246,14 +246,6 @@ module _ {V : Type 0} (rules : HostRules V) where
 
   -- turns in a row
 
-  -- a run follows itself
-  pub follows_self : (f : Frame V) → Follows rules f f
-  follows_self f = record { run = refl; stops = λ c m h. h; quiet = quiet_self f }
-
-  -- runs that follow one another
-  pub follows_on : (f g h : Frame V) → Follows rules f g → Follows rules g h → Follows rules f h
-  follows_on f g h a b = record { run = a.run ∙ b.run; stops = λ c m s. a.stops c m (b.stops c m s); quiet = quiet_on f g h a.quiet b.quiet }
-
   -- the run ends later
   pub ended_later : (f g h : Frame V) → Follows rules f g → IsEnded rules g h → IsEnded rules f h
   ended_later f g h a b = record { run = a.run ∙ b.run; stops = λ l. a.stops want _ (b.stops l); quiet = quiet_on f g h a.quiet b.quiet }

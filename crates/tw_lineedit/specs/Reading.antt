@@ -1,10 +1,10 @@
 -- What a call of read_line leaves.
 use Rattle.std.specs.Prelude.{◌≡◌, ℕ, ◌<◌, ◌++◌, length, List, Option, Some, None, Result, Err, IsSome, ◌⊎◌}
 use Rattle.tw_surface.specs.ChangeView.{Batch}
-use Rattle.tw_terminal.specs.TerminalState.{TerminalState, count_up, IsPart}
+use Rattle.tw_terminal.specs.TerminalState.{count_up, IsPart}
 use Rattle.tw_lineedit.specs.HostRules.{HostRules}
 use Rattle.tw_lineedit.specs.EditState.{Inactive}
-use Rattle.tw_lineedit.specs.SessionView.{new_state, initial_cut, begun}
+use Rattle.tw_lineedit.specs.SessionView.{initial_cut, begun}
 use Rattle.tw_lineedit.specs.Refusal.{refusal_of}
 use Rattle.tw_lineedit.specs.Outcomes.{Outcome}
 use Rattle.tw_lineedit.specs.Painting.{Mark, closing, closing_if}
@@ -24,10 +24,6 @@ module _ {V : Type 0} where
   -- where a run ends
   abbrev pub paused : Ending V → Moment V
   paused r = record { state = r.state; value = r.value; size = r.size; last = r.last; taken = r.taken; rendering = None; left = r.left }
-
-  -- a new editor over a terminal
-  abbrev pub fresh : V → TerminalState → Frame V
-  fresh value t = record { state = new_state; value = value; last = None; terminal = t }
 
   -- A run that nothing stopped: all its batches and the closing one are taken and flushed.
   pub record Reads (run : Ending V) (f g : Frame V) (answer : Outcome) : Type 0 where

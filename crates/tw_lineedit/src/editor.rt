@@ -11,11 +11,11 @@ ghost use Rattle.tw_lineedit.specs.KeyTable.{action_of};
 ghost use Rattle.tw_lineedit.specs.EditState.{Inactive};
 ghost use Rattle.tw_lineedit.specs.Outcomes.{outcome_of, answer_at, IsLine};
 ghost use Rattle.tw_lineedit.specs.Painting.{closing, clear_batch};
-ghost use Rattle.tw_lineedit.specs.SessionView.{new_state, new_session, on_state};
+ghost use Rattle.tw_lineedit.specs.SessionView.{new_session, on_state};
 ghost use Rattle.tw_lineedit.specs.Refusal.{IsMemory};
-ghost use Rattle.tw_lineedit.specs.Run.{Frame, Ending, progress_of, resolved, run_of, IsRefused, IsAnswered, Continues, IsEnded};
+ghost use Rattle.tw_lineedit.specs.Run.{progress_of, resolved, run_of, IsRefused, IsAnswered, Continues, IsEnded};
 ghost use Rattle.tw_lineedit.specs.Frame.{frame, Keeps, Closes, FailsToClose, CallFails, ShowsBatch, FailsToShow, Paints, FailsToPaint, Applies, FailsToApply, Handles, FailsToHandle, answered_frame, TakesEvent, HasNoEvent};
-ghost use Rattle.tw_lineedit.specs.Reading.{start, Reads, FailsToRead, IsTurnedDown, FailuresTell, fresh};
+ghost use Rattle.tw_lineedit.specs.Reading.{start, Reads, FailsToRead, IsTurnedDown, FailuresTell};
 
 use crate::actions::Action;
 use crate::error::Error;

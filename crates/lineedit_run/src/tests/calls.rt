@@ -23,10 +23,6 @@ impl Listing {
             calls: String::new(alloc),
         })
     }
-
-    fn list(&mut self, call: &str) {
-        let _ = self.calls.push_str(call);
-    }
 }
 
 impl Terminal for Listing {
