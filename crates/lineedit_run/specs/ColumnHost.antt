@@ -1,15 +1,21 @@
 -- A host that puts the cursor of every line at one column.
-use Rattle.std.specs.Prelude.{ℕ, ⊤, Bool, true, false, refl}
+use Rattle.std.specs.Prelude.{ℕ, ⊤, Bool, true, false, List, refl}
 use Rattle.std.proofs.Common.{subst}
 use Rattle.tw_lineedit.specs.declared.host.OwnAnswers.{OwnAnswers}
 use Rattle.tw_lineedit.specs.HostRules.{HostRules, plain_text, unresolved}
 use Rattle.tw_lineedit.specs.PlainAnswers.{IsPlainBut}
 
+-- the lines of its history, and the column
+pub record Placed : Type 0 where
+  pub lines : List (List ℕ)
+  pub column : ℕ
+
 -- all as it is, and the column that the host holds
-abbrev pub column_rules : HostRules ℕ
+abbrev pub column_rules : HostRules Placed
 column_rules = record {
+  lines = λ v. v.lines;
   prompt = λ v text. plain_text text;
-  highlight = λ v cut. record { elements = plain_text cut.line; column = v };
+  highlight = λ v cut. record { elements = plain_text cut.line; column = v.column };
   resolve = λ v event cut. unresolved v cut;
 }
 

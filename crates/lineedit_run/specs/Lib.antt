@@ -4,3 +4,4 @@ pub mod KeyNames
 pub mod Lines
 pub mod Written
 pub mod Reading
+pub mod Sessions

@@ -3,6 +3,7 @@
 #![tactic(auto)]
 
 mod answer;
+mod display;
 mod fault;
 mod host;
 mod input;
@@ -11,6 +12,7 @@ mod number;
 mod output;
 mod player;
 mod script;
+mod script_host;
 mod session;
 
 use fault::RunFault;

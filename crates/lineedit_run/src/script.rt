@@ -14,6 +14,8 @@ pub enum Directive<'a> {
     Cols(usize),
     /// The prompt from now on.
     Prompt(&'a str),
+    /// One more line of the history.
+    History(&'a str),
     /// A key for each character of the text.
     Type(&'a str),
     /// The text, pasted.
@@ -34,6 +36,7 @@ pub fn parse_line(line: &[u8]) -> Option<Directive<'_>>
     match word {
         "cols" => Some(Directive::Cols(parse_number(text)?)),
         "prompt" => Some(Directive::Prompt(text)),
+        "history" => Some(Directive::History(text)),
         "type" => Some(Directive::Type(text)),
         "paste" => Some(Directive::Paste(text)),
         "key" => Some(Directive::Key(key_named(text)?)),

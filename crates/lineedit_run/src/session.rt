@@ -1,17 +1,20 @@
 //! What a script keeps from line to line.
 
-ghost use Rattle.std.specs.Prelude.{IfErr};
+ghost use Rattle.std.specs.Prelude.{◌≡◌, [], IfErr, IfOk, OnOk};
 ghost use Rattle.lineedit_run.specs.Written.{Extends, IsOutside};
 
 use crate::answer::Answer;
+use crate::display::{play_all, show_screen};
 use crate::fault::RunFault;
 use crate::host::read_line;
 use crate::output::put;
 use crate::script::Directive;
+use crate::script_host::ScriptHost;
 use std::alloc::{AllocError, Global};
 use std::io::Write;
 use std::mem;
 use tw_input::{InputEvent, KeyCode, KeyEvent, Modifiers};
+use tw_lineedit::BasicHistory;
 use tw_surface::{Change, Screen, ScreenFault};
 use tw_terminal::{ScreenSize, ScriptTerminal};
 
@@ -21,24 +24,30 @@ const ROWS: usize = 24;
 /// The columns of a terminal, where the script names none.
 const COLS: usize = 80;
 
-/// The columns, the prompt and the events for the next line, and the screen that all lines are shown on.
+/// The columns, the prompt and the events for the next line, and the host and the screen of all lines.
 #[derive(Drop)]
 pub struct Session {
     alloc: Global,
     cols: usize,
     prompt: String,
     events: Vec<InputEvent>,
+    host: ScriptHost<BasicHistory>,
     screen: Option<Screen>,
 }
 
 impl Session {
+    ghost use Rattle.lineedit_run.specs.Sessions.{history_of, Remembers};
+
     /// The session at the start of a script.
-    pub fn new(alloc: Global) -> Result<Self, AllocError> {
+    pub fn new(alloc: Global) -> Result<Self, AllocError>
+        ensures { IfOk result (λ session. history_of session ≡ []) }
+    {
         Ok(Session {
             alloc,
             cols: COLS,
             prompt: String::from_str(alloc, "> ")?,
             events: Vec::new(alloc),
+            host: ScriptHost::new(BasicHistory::new(alloc)),
             screen: Screen::new(alloc, COLS).ok(),
         })
     }
@@ -51,6 +60,7 @@ impl Session {
     ) -> Result<(), RunFault>
         ensures kept { Extends (W.contents writer.old) (W.contents writer.new) }
         ensures fault { IfErr result IsOutside }
+        ensures history { OnOk result (Remembers directive.entry (history_of self.old) (history_of self.new)) }
     {
         match directive {
             Directive::Cols(cols) => {
@@ -58,6 +68,7 @@ impl Session {
                 self.clear_screen();
             }
             Directive::Prompt(prompt) => self.prompt = String::from_str(self.alloc, prompt)?,
+            Directive::History(line) => self.host.remember(line)?,
             Directive::Type(text) => self.type_text(text)?,
             Directive::Paste(text) => {
                 let text = String::from_str(self.alloc, text)?;
@@ -73,12 +84,16 @@ impl Session {
     }
 
     /// A new screen, or none where no screen has so many columns.
-    fn clear_screen(&mut self) {
+    fn clear_screen(&mut self)
+        ensures { history_of self.new ≡ history_of self.old }
+    {
         self.screen = Screen::new(self.alloc, self.cols).ok();
     }
 
     /// A key for each character.
-    fn type_text(&mut self, text: &str) -> Result<(), AllocError> {
+    fn type_text(&mut self, text: &str) -> Result<(), AllocError>
+        ensures { history_of self.new ≡ history_of self.old }
+    {
         for character in text.chars() {
             self.events.push(InputEvent::Key(KeyEvent {
                 key: KeyCode::Char(character),
@@ -90,7 +105,8 @@ impl Session {
 
     /// Reads a line from the events, and tells the answer and what the screen then shows.
     fn read(&mut self) -> Result<String, RunFault>
-        ensures { IfErr result IsOutside }
+        ensures fault { IfErr result IsOutside }
+        ensures history { history_of self.new ≡ history_of self.old }
     {
         let events = mem::replace(&mut self.events, Vec::new(self.alloc));
         let size = ScreenSize {
@@ -98,7 +114,8 @@ impl Session {
             cols: self.cols,
         };
         let mut terminal = ScriptTerminal::new(self.alloc, size, events);
-        let outcome = read_line(self.alloc, &mut terminal, self.prompt.as_str());
+        let prompt = self.prompt.as_str();
+        let outcome = read_line(self.alloc, &mut terminal, &mut self.host, prompt);
         let answer = Answer::new(outcome)?;
         let mut shown = format!(in self.alloc; "{answer}\n")?;
         self.show(terminal.batches(), &mut shown)?;
@@ -107,7 +124,8 @@ impl Session {
 
     /// Plays the batches on the screen, and adds what it then shows.
     fn show(&mut self, batches: &[Vec<Change>], shown: &mut String) -> Result<(), RunFault>
-        ensures { IfErr result IsOutside }
+        ensures fault { IfErr result IsOutside }
+        ensures history { history_of self.new ≡ history_of self.old }
     {
         let Some((closing, paintings)) = batches.split_last() else {
             return Ok(());
@@ -125,56 +143,4 @@ impl Session {
         }
         Ok(())
     }
-}
-
-/// Plays the batches in order, and returns where the cursor was before the last one.
-fn play_all(
-    screen: &mut Screen,
-    paintings: &[Vec<Change>],
-    closing: &[Change],
-) -> Result<(usize, usize), ScreenFault> {
-    for painting in paintings {
-        play(screen, painting.as_slice())?;
-    }
-    let cursor = screen.cursor();
-    play(screen, closing)?;
-    Ok(cursor)
-}
-
-fn play(screen: &mut Screen, batch: &[Change]) -> Result<(), ScreenFault> {
-    for change in batch {
-        screen.apply(change)?;
-    }
-    Ok(())
-}
-
-/// Adds the rows of the screen, the cursor while the line was edited, and the cursor now.
-fn show_screen(
-    screen: &Screen,
-    cols: usize,
-    cursor: (usize, usize),
-    shown: &mut String,
-) -> Result<(), AllocError> {
-    if let Some(last) = screen.last_row() {
-        for row in 0..=last {
-            show_row(screen, cols, row, shown)?;
-        }
-    }
-    let (row, col) = cursor;
-    let (end_row, end_col) = screen.cursor();
-    write!(shown, "cursor {row} {col}\nend {end_row} {end_col}\n")
-}
-
-/// Adds a row of the screen, between two bars.
-fn show_row(
-    screen: &Screen,
-    cols: usize,
-    row: usize,
-    shown: &mut String,
-) -> Result<(), AllocError> {
-    shown.push('|')?;
-    for col in 0..cols {
-        shown.push(screen.char_at(row, col))?;
-    }
-    shown.push_str("|\n")
 }

@@ -3,6 +3,8 @@
 mod actions;
 mod calls;
 mod faults;
+mod histories;
+mod history_replay;
 mod hosts;
 mod lines;
 mod names;

@@ -1,4 +1,5 @@
 pub mod ExtremesLemmas
+pub mod SearchLemmas
 pub mod BoundaryLemmas
 pub mod ClusterLemmas
 pub mod IndexLemmas
@@ -17,3 +18,5 @@ pub mod ClosingLemmas
 pub mod FailureLemmas
 pub mod StationLemmas
 pub mod PaintLemmas
+pub mod WalkLemmas
+pub mod EnumerationLemmas

@@ -1,15 +1,16 @@
 -- The steps of a painting make the painting.
 use Rattle.std.specs.Prelude.{nat_le}
-use Rattle.std.proofs.Common.{◌≡◌, ℕ, ◌+◌, ◌≤◌, ℤ, nat_abs, Bool, true, false, [], ◌∷◌, ◌++◌, ap, sym, ◌∙◌, append_assoc, append-nil, subst, Result}
+use Rattle.std.proofs.Common.{◌≡◌, ℕ, ◌+◌, ◌≤◌, ℤ, nat_abs, Bool, true, false, List, [], ◌∷◌, ◌++◌, ap, sym, ◌∙◌, append_assoc, subst, Result}
 use Rattle.std.proofs.lemmas.Bool.{and_from, and_left, and_parts}
 use Rattle.tw_surface.specs.declared.cell.CellAttributes.{CellAttributes}
-use Rattle.tw_surface.specs.ChangeView.{Batch, AllAttributes, ClearToEndOfScreen}
+use Rattle.tw_surface.specs.ChangeView.{Batch, AllAttributes, Text, ClearToEndOfScreen}
+use Rattle.tw_surface.specs.Characters.{cr, lf}
 use Rattle.tw_surface.specs.Defaults.{default_color, default_attributes}
 use Rattle.tw_surface.specs.Drawings.{Drawing, place, height}
 use Rattle.tw_surface.specs.Places.{Place, place_after_all, origin, is_in_range, move_between}
-use Rattle.tw_surface.specs.Scenes.{Scene}
-use Rattle.tw_surface.specs.Scenes.Lower.{NoLower}
-use Rattle.tw_surface.specs.Paintings.{before_line, edge_space, shown_part, cursor_place, place_at}
+use Rattle.tw_surface.specs.Scenes.{Scene, Lower}
+use Rattle.tw_surface.specs.Scenes.Lower.{Search}
+use Rattle.tw_surface.specs.Paintings.{before_line, edge_space, lower_changes, shown_part, cursor_place, place_at}
 use Rattle.tw_lineedit.specs.declared.error.Error.{Error}
 use Rattle.tw_lineedit.specs.Painting.{Mark, is_paintable}
 use Rattle.tw_lineedit.specs.Draws.{IsStepRefusal, stay_in_range, with_all, with_edge, has_cell, Drawn, Draws, DrawnScene}
@@ -57,40 +58,65 @@ draws-with_edge cols old mid new line result same drawn more =
     draws-later old mid new line (edge_space old.cols (place (with_all old line))) result drawn
     (subst P (sym same) (subst Q drawn.drawing more))
 
--- a scene with nothing under its line
-abbrev pub line_scene : Batch → Batch → ℕ → Scene
-line_scene prompt line column = record { prompt = prompt; line = line; column = column; lower = NoLower; cleared = false }
+-- the text of a search is drawn
+pub draws-search : (old mid new : Drawing) (a : CellAttributes) (shown text : List ℕ) (result : Result Unit Error) → a ≡ default_attributes → shown ≡ cr ∷ lf ∷ text
+    → Drawn (AllAttributes a ∷ []) old mid → Draws (Text shown ∷ []) mid new result → Draws (lower_changes (Search text)) old new result
+draws-search old mid new a shown text result a_is shown_is first more =
+    draws-later old mid new (AllAttributes default_attributes ∷ []) (Text (cr ∷ lf ∷ text) ∷ []) result (rw a_is at first) (rw shown_is at more)
 
--- what is shown of it, in two parts
-shown_part-parts : (cols : ℕ) (prompt line : Batch) (column : ℕ)
-    → shown_part cols (line_scene prompt line column) ≡ before_line prompt ++ with_edge (with_all (empty cols) (before_line prompt)) line
-shown_part-parts cols prompt line column =
+-- a scene, with no screen cleared before it
+abbrev pub uncleared : Batch → Batch → ℕ → Lower → Scene
+uncleared prompt line column lower = record { prompt = prompt; line = line; column = column; lower = lower; cleared = false }
+
+-- what is shown up to the end of the line
+abbrev pub line_part : ℕ → Batch → Batch → Batch
+line_part cols prompt line = before_line prompt ++ with_edge (with_all (empty cols) (before_line prompt)) line
+
+-- what is shown of a scene, in two parts
+shown_part-parts : (cols : ℕ) (prompt line : Batch) (column : ℕ) (lower : Lower)
+    → shown_part cols (uncleared prompt line column lower) ≡ line_part cols prompt line ++ lower_changes lower
+shown_part-parts cols prompt line column lower =
     let edge : Batch = edge_space cols (place_after_all cols (before_line prompt ++ line) origin) in
-    ap (λ e. (before_line prompt ++ line) ++ e) (append-nil edge) ∙ append_assoc (before_line prompt) line edge
+    sym (append_assoc (before_line prompt ++ line) edge (lower_changes lower))
+    ∙ ap (λ shown. shown ++ lower_changes lower) (append_assoc (before_line prompt) line edge)
 
 -- what is shown does not fit
-not_paintable : (cols : ℕ) (prompt line : Batch) (column : ℕ) (e : Error)
-    → IsStepRefusal (stay_in_range (empty cols) (before_line prompt ++ with_edge (with_all (empty cols) (before_line prompt)) line)) e
-    → IsStepRefusal (is_paintable cols (line_scene prompt line column)) e
-not_paintable cols prompt line column e refused =
+not_paintable : (cols : ℕ) (prompt line : Batch) (column : ℕ) (lower : Lower) (e : Error)
+    → IsStepRefusal (stay_in_range (empty cols) (line_part cols prompt line ++ lower_changes lower)) e
+    → IsStepRefusal (is_paintable cols (uncleared prompt line column lower)) e
+not_paintable cols prompt line column lower e refused =
     refused-along _ _ e
-    (λ out. and_left _ _ (ap (stay_in_range (empty cols)) (shown_part-parts cols prompt line column) ∙ out))
+    (λ out. and_left _ _ (ap (stay_in_range (empty cols)) (shown_part-parts cols prompt line column lower) ∙ out))
     refused
 
+-- the line, or what stands before it, is refused
+not_paintable-line : (cols : ℕ) (prompt line : Batch) (column : ℕ) (lower : Lower) (e : Error)
+    → IsStepRefusal (stay_in_range (empty cols) (line_part cols prompt line)) e
+    → IsStepRefusal (is_paintable cols (uncleared prompt line column lower)) e
+not_paintable-line cols prompt line column lower e refused =
+    not_paintable cols prompt line column lower e (refused-first (empty cols) (line_part cols prompt line) (lower_changes lower) e refused)
+
 -- the prompt is refused
-pub refused-prompt : (cols : ℕ) (prompt line : Batch) (column : ℕ) (e : Error) → IsStepRefusal (stay_in_range (empty cols) (before_line prompt)) e
-    → IsStepRefusal (is_paintable cols (line_scene prompt line column)) e
-refused-prompt cols prompt line column e refused =
-    not_paintable cols prompt line column e (refused-first (empty cols) (before_line prompt) (with_edge (with_all (empty cols) (before_line prompt)) line) e refused)
+pub refused-prompt : (cols : ℕ) (prompt line : Batch) (column : ℕ) (lower : Lower) (e : Error) → IsStepRefusal (stay_in_range (empty cols) (before_line prompt)) e
+    → IsStepRefusal (is_paintable cols (uncleared prompt line column lower)) e
+refused-prompt cols prompt line column lower e refused =
+    not_paintable-line cols prompt line column lower e
+    (refused-first (empty cols) (before_line prompt) (with_edge (with_all (empty cols) (before_line prompt)) line) e refused)
 
 -- the line is refused
-pub refused-line : (cols : ℕ) (prompt line : Batch) (column : ℕ) (mid : Drawing) (e : Error) → Drawn (before_line prompt) (empty cols) mid
-    → IsStepRefusal (stay_in_range mid (with_edge mid line)) e → IsStepRefusal (is_paintable cols (line_scene prompt line column)) e
-refused-line cols prompt line column mid e drawn refused =
+pub refused-line : (cols : ℕ) (prompt line : Batch) (column : ℕ) (lower : Lower) (mid : Drawing) (e : Error) → Drawn (before_line prompt) (empty cols) mid
+    → IsStepRefusal (stay_in_range mid (with_edge mid line)) e → IsStepRefusal (is_paintable cols (uncleared prompt line column lower)) e
+refused-line cols prompt line column lower mid e drawn refused =
     let P : Drawing → Type 0 = λ d. IsStepRefusal (stay_in_range mid (with_edge d line)) e in
-    not_paintable cols prompt line column e
+    not_paintable-line cols prompt line column lower e
     (refused-later (empty cols) mid (before_line prompt) (with_edge (with_all (empty cols) (before_line prompt)) line) e drawn
     (subst P drawn.drawing refused))
+
+-- what stands under the line is refused
+pub refused-lower : (cols : ℕ) (prompt line : Batch) (column : ℕ) (lower : Lower) (mid : Drawing) (e : Error) → Drawn (line_part cols prompt line) (empty cols) mid
+    → IsStepRefusal (stay_in_range mid (lower_changes lower)) e → IsStepRefusal (is_paintable cols (uncleared prompt line column lower)) e
+refused-lower cols prompt line column lower mid e drawn refused =
+    not_paintable cols prompt line column lower e (refused-later (empty cols) mid (line_part cols prompt line) (lower_changes lower) e drawn refused)
 
 place_is : (p : Place) (x : ℕ) (y : ℤ) → x ≡ p.x → y ≡ p.y → record { x = x; y = y } ≡ p
 place_is p x y ex ey = ap (λ k. make k y) ex ∙ ap (λ k. make p.x k) ey
@@ -117,31 +143,36 @@ cell-in_range cols mid column cell h =
     row-in_range cell
     (ap is_in_range h.is_cell ∙ (and_parts (nat_le ((place mid).x + column) 2147483647) (is_in_range (place_at cols (place mid) column)) h.fits).1)
 
+-- the line is drawn, behind what stands before it
+pub drawn-line : (cols : ℕ) (prompt line : Batch) (mid end : Drawing) → Drawn (before_line prompt) (empty cols) mid → Drawn (with_edge mid line) mid end
+    → Drawn (line_part cols prompt line) (empty cols) end
+drawn-line cols prompt line mid end first second =
+    let P : Drawing → Type 0 = λ d. Drawn (before_line prompt ++ with_edge d line) (empty cols) end in
+    subst P first.drawing (drawn-append (empty cols) mid end (before_line prompt) (with_edge mid line) first second)
+
 -- the shown part is drawn
-pub drawn-shown : (cols : ℕ) (prompt line : Batch) (column : ℕ) (mid shown : Drawing) → Drawn (before_line prompt) (empty cols) mid → Drawn (with_edge mid line) mid shown
-    → Drawn (shown_part cols (line_scene prompt line column)) (empty cols) shown
-drawn-shown cols prompt line column mid shown first second =
-    let P : Drawing → Type 0 = λ d. Drawn (before_line prompt ++ with_edge d line) (empty cols) shown in
-    let Q : Batch → Type 0 = λ b. Drawn b (empty cols) shown in
-    subst Q (sym (shown_part-parts cols prompt line column))
-    (subst P first.drawing (drawn-append (empty cols) mid shown (before_line prompt) (with_edge mid line) first second))
+pub drawn-shown : (cols : ℕ) (prompt line : Batch) (column : ℕ) (lower : Lower) (mid shown : Drawing) → Drawn (line_part cols prompt line) (empty cols) mid
+    → Drawn (lower_changes lower) mid shown → Drawn (shown_part cols (uncleared prompt line column lower)) (empty cols) shown
+drawn-shown cols prompt line column lower mid shown first second =
+    let P : Batch → Type 0 = λ b. Drawn b (empty cols) shown in
+    subst P (sym (shown_part-parts cols prompt line column lower))
+    (drawn-append (empty cols) mid shown (line_part cols prompt line) (lower_changes lower) first second)
 
 -- the whole scene is drawn
-pub drawn-scene : (cols : ℕ) (prompt line : Batch) (column : ℕ) (mid shown new : Drawing) (cell : Place) (h : ℕ)
-    → Drawn (before_line prompt) (empty cols) mid → Drawn (with_edge mid line) mid shown
+pub drawn-scene : (cols : ℕ) (prompt line : Batch) (column : ℕ) (lower : Lower) (mid shown new : Drawing) (cell : Place) (h : ℕ)
+    → Drawn (before_line prompt) (empty cols) mid → Drawn (shown_part cols (uncleared prompt line column lower)) (empty cols) shown
     → HasCell cols (place mid) column cell
     → new ≡ record shown { changes = shown.changes ++ move_between (place shown) cell ∷ [] } → h ≡ height shown.cols shown.changes
-    → DrawnScene cols (line_scene prompt line column) new (record { row = cell.y; height = h })
-drawn-scene cols prompt line column mid shown new cell h first second found moved is_height =
-    let scene : Scene = line_scene prompt line column in
-    let s : Drawn (shown_part cols scene) (empty cols) shown = drawn-shown cols prompt line column mid shown first second in
+    → DrawnScene cols (uncleared prompt line column lower) new (record { row = cell.y; height = h })
+drawn-scene cols prompt line column lower mid shown new cell h first all found moved is_height =
+    let scene : Scene = uncleared prompt line column lower in
     let c : cell ≡ cursor_place cols scene = found.is_cell ∙ ap (λ d. place_at cols (place d) column) first.drawing in
-    let e : h ≡ height cols (shown_part cols scene) = is_height ∙ ap (λ d. height d.cols d.changes) s.drawing in
+    let e : h ≡ height cols (shown_part cols scene) = is_height ∙ ap (λ d. height d.cols d.changes) all.drawing in
     record {
       paintable = and_from (stay_in_range (empty cols) (shown_part cols scene)) (has_cell cols (place (with_all (empty cols) (before_line prompt))) column)
-          s.in_range (ap (λ d. has_cell cols (place d) column) (sym first.drawing) ∙ found.fits);
+          all.in_range (ap (λ d. has_cell cols (place d) column) (sym first.drawing) ∙ found.fits);
       changes = ap (λ d. d.changes) moved
-          ∙ ap (λ d. d.changes ++ move_between (place d) cell ∷ []) s.drawing
+          ∙ ap (λ d. d.changes ++ move_between (place d) cell ∷ []) all.drawing
           ∙ ap (λ p. shown_part cols scene ++ move_between (place_after_all cols (shown_part cols scene) origin) p ∷ []) c;
       leaves = ap (λ p. left p.y h) c ∙ ap (left (cursor_place cols scene).y) e;
     }

@@ -4,15 +4,15 @@ use Rattle.std.proofs.lemmas.List.{append-nil}
 use Rattle.tw_surface.specs.ChangeView.{Batch}
 use Rattle.tw_surface.specs.Paintings.{Painting}
 use Rattle.tw_input.specs.EventView.{EventView}
-use Rattle.tw_lineedit.specs.ActionView.{ActionView, AcceptLine, Cancel, EndOfFile, InsertChar, InsertText, Repaint, Move, Kill, KillAndMove, NoAction}
+use Rattle.tw_lineedit.specs.ActionView.{ActionView, AcceptLine, Cancel, EndOfFile, InsertChar, InsertText, Repaint, Move, Kill, KillAndMove, HistoryPrevious, HistoryNext, NoAction, HistoryIncSearchBackwards, HistoryIncSearchForwards}
 use Rattle.tw_lineedit.specs.EditState.{EditState}
 use Rattle.tw_lineedit.specs.HostRules.{HostRules}
 use Rattle.tw_lineedit.specs.Outcomes.{is_over, answer_at}
 use Rattle.tw_lineedit.specs.Painting.{mark_of, start_batch, Rendered, rendered, painted_on}
 use Rattle.tw_lineedit.specs.Refusal.{Refusal}
-use Rattle.tw_lineedit.specs.Run.{Progress, progress_of, run, ends, at_end, at_event, after_event, painting_at, shown, chosen, answered, handled}
+use Rattle.tw_lineedit.specs.Run.{Progress, progress_of, run, ends, at_end, at_event, after_event, painting_at, shown, chosen, state_after, handled}
 use Rattle.tw_lineedit.specs.Stations.{is_repaint, clear_if, station_at, painting_of, batches_by, batches_after, stations_after, stations_unless, stations_by, stations_from, BatchesByStations}
-use Rattle.tw_lineedit.specs.Steps.{apply_if, clears_if}
+use Rattle.tw_lineedit.specs.Steps.{clears_if}
 
 -- an action clears the screen where it is a Repaint
 clears_repaint : (action : Option ActionView) → clears_if action ≡ clear_if (is_repaint action)
@@ -26,7 +26,11 @@ clears_repaint (Some Repaint) = refl
 clears_repaint (Some (Move m)) = refl
 clears_repaint (Some (Kill m)) = refl
 clears_repaint (Some (KillAndMove k m)) = refl
+clears_repaint (Some HistoryPrevious) = refl
+clears_repaint (Some HistoryNext) = refl
 clears_repaint (Some NoAction) = refl
+clears_repaint (Some HistoryIncSearchBackwards) = refl
+clears_repaint (Some HistoryIncSearchForwards) = refl
 
 module _ {V : Type 0} (rules : HostRules V) where
   -- a painting does not depend on whether the screen was cleared
@@ -84,10 +88,10 @@ module _ {V : Type 0} (rules : HostRules V) where
           ∙ more base (start_batch s.last ++ p.changes) (batches_after rules (stations_from rules es (is_repaint (chosen rules (after p) e)) (handled rules (after p) e state)) (Some (mark_of p))) s.taken cleared h
 
       by_over : (p : Painting) (over : Bool)
-          → (cond over (ends (answer_at s.state) (e ∷ es) (after p)) (after_event rules e es (after p) (run rules es) (apply_if (chosen rules s e) (answered rules s e).state))).taken
-          ≡ base ++ (clear_if cleared ++ (start_batch s.last ++ p.changes) ∷ batches_after rules (stations_unless (stations_after rules e (after p) (stations_from rules es) (apply_if (chosen rules s e) (answered rules s e).state)) over) (Some (mark_of p)))
+          → (cond over (ends (answer_at s.state) (e ∷ es) (after p)) (after_event rules e es (after p) (run rules es) (state_after rules s e))).taken
+          ≡ base ++ (clear_if cleared ++ (start_batch s.last ++ p.changes) ∷ batches_after rules (stations_unless (stations_after rules e (after p) (stations_from rules es) (state_after rules s e)) over) (Some (mark_of p)))
       by_over p true = alone base ((start_batch s.last ++ p.changes) ∷ []) s.taken cleared h
-      by_over p false = by_state p (apply_if (chosen rules s e) (answered rules s e).state)
+      by_over p false = by_state p (state_after rules s e)
 
       by_painting : (q : Result Painting Refusal) → (at_event rules e es s (run rules es) (rendered s.last q)).taken
           ≡ base ++ (clear_if cleared ++ batches_by s.last (batches_after rules (stations_by rules e s (stations_from rules es) (rendered s.last q))) q)

@@ -7,9 +7,9 @@ use Rattle.tw_terminal.specs.TerminalState.{TerminalState, Fails, RenderFails, c
 use Rattle.tw_lineedit.specs.EditState.{EditState}
 use Rattle.tw_lineedit.specs.Refusal.{Refusal, refusal_of, IsMemory}
 use Rattle.tw_lineedit.specs.Outcomes.{is_over, answer_at, IsLine}
-use Rattle.tw_lineedit.specs.Steps.{apply_if, clears_if}
+use Rattle.tw_lineedit.specs.Steps.{clears_if}
 use Rattle.tw_lineedit.specs.Painting.{Mark, Rendered, clear_batch}
-use Rattle.tw_lineedit.specs.Run.{Frame, Progress, Moment, Cause, want, fault, run, ends, ending, at_end, at_event, after_event, chosen, answered, polled, shown, painting_at, moment, progress_of, CanStop, CanStopFrom, unmeasured, unpainted, half_painted, unpolled, uncopied, unresolved, unapplied, half_cleared, later, StandsAt, Quiet, FailsOnce, IsStarved, IsRefused, Follows, Continues, IsEnded}
+use Rattle.tw_lineedit.specs.Run.{Frame, Progress, Moment, Cause, want, fault, run, ends, ending, at_end, at_event, after_event, chosen, state_after, answered, polled, shown, painting_at, moment, progress_of, CanStop, CanStopFrom, unmeasured, unpainted, half_painted, unpolled, uncopied, unresolved, unapplied, half_cleared, later, StandsAt, Quiet, FailsOnce, IsStarved, IsRefused, Follows, Continues, IsEnded}
 use Rattle.tw_lineedit.specs.Frame.{Paints, FailsToPaint, Keeps, CallFails, TakesEvent, HasNoEvent, Handles, FailsToHandle, answered_frame}
 use Rattle.tw_lineedit.specs.declared.error.Error.{Error}
 use Rattle.tw_lineedit.specs.declared.error.Error.TheVariants.{Memory, Terminal}
@@ -28,18 +28,18 @@ module _ {V : Type 0} (rules : HostRules V) where
   run_over [] s p h o = ap (at_end rules s) h
   run_over (e ∷ es) s p h o =
       ap (at_event rules e es s (run rules es)) h
-      ∙ ap (λ (b : Bool). cond b (ends (answer_at s.state) (e ∷ es) (shown s p)) (after_event rules e es (shown s p) (run rules es) (apply_if (chosen rules s e) (answered rules s e).state))) o
+      ∙ ap (λ (b : Bool). cond b (ends (answer_at s.state) (e ∷ es) (shown s p)) (after_event rules e es (shown s p) (run rules es) (state_after rules s e))) o
 
   -- where no event is left
   run_done : (es : List EventView) (s : Progress V) (p : Rendered) → es ≡ [] → painting_at rules s ≡ Ok p → run rules es s ≡ ends (answer_at s.state) es (shown s p)
   run_done es s p he h = subst (λ (xs : List EventView). run rules xs s ≡ ends (answer_at s.state) xs (shown s p)) (sym he) (ap (at_end rules s) h)
 
   -- where an event is taken
-  run_event : (e : EventView) (es xs : List EventView) (s : Progress V) (p : Rendered) → xs ≡ e ∷ es → painting_at rules s ≡ Ok p → is_over s.state.mode ≡ false → run rules xs s ≡ after_event rules e es (shown s p) (run rules es) (apply_if (chosen rules s e) (answered rules s e).state)
+  run_event : (e : EventView) (es xs : List EventView) (s : Progress V) (p : Rendered) → xs ≡ e ∷ es → painting_at rules s ≡ Ok p → is_over s.state.mode ≡ false → run rules xs s ≡ after_event rules e es (shown s p) (run rules es) (state_after rules s e)
   run_event e es xs s p he h o =
       ap (λ (ys : List EventView). run rules ys s) he
       ∙ ap (at_event rules e es s (run rules es)) h
-      ∙ ap (λ (b : Bool). cond b (ends (answer_at s.state) (e ∷ es) (shown s p)) (after_event rules e es (shown s p) (run rules es) (apply_if (chosen rules s e) (answered rules s e).state))) o
+      ∙ ap (λ (b : Bool). cond b (ends (answer_at s.state) (e ∷ es) (shown s p)) (after_event rules e es (shown s p) (run rules es) (state_after rules s e))) o
 
   -- frames
 
@@ -213,7 +213,7 @@ module _ {V : Type 0} (rules : HostRules V) where
       record { flushed = ap (λ (y : Frame V). y.terminal.flushed) r.0; failures = ap (λ (y : Frame V). y.terminal.failures) r.0 },
     )
 
-    goes_on : (state : EditState) → apply_if (chosen rules (progress_of f) ev) (answered rules (progress_of f) ev).state ≡ Ok state → Continues rules f (applied (given (painted f p) ev es) ev state)
+    goes_on : (state : EditState) → state_after rules (progress_of f) ev ≡ Ok state → Continues rules f (applied (given (painted f p) ev es) ev state)
     goes_on state h = record {
       follows = record {
         run = run_event ev es f.terminal.events (progress_of f) p he hp ho ∙ ap (after_event rules ev es (shown (progress_of f) p) (run rules es)) h;

@@ -15,7 +15,11 @@ pub data ActionView : Type 0 where
   Move : Movement → ActionView
   Kill : Movement → ActionView
   KillAndMove : Movement → Movement → ActionView
+  HistoryPrevious : ActionView
+  HistoryNext : ActionView
   NoAction : ActionView
+  HistoryIncSearchBackwards : ActionView
+  HistoryIncSearchForwards : ActionView
 
 -- the view of an action
 abbrev pub action_view : Action → ActionView
@@ -28,4 +32,8 @@ action_view action.Repaint = Repaint
 action_view (action.Move m) = Move m
 action_view (action.Kill m) = Kill m
 action_view (action.KillAndMove k m) = KillAndMove k m
+action_view action.HistoryPrevious = HistoryPrevious
+action_view action.HistoryNext = HistoryNext
 action_view action.NoAction = NoAction
+action_view action.HistoryIncSearchBackwards = HistoryIncSearchBackwards
+action_view action.HistoryIncSearchForwards = HistoryIncSearchForwards

@@ -1,5 +1,5 @@
 -- A cut text: a text with a cursor at one of its boundaries.
-use Rattle.std.specs.Prelude.{ℕ, List, []}
+use Rattle.std.specs.Prelude.{ℕ, List, [], length}
 use Rattle.std.specs.Str.{IsUtf8, IsCharBoundary}
 
 -- the bytes of the text, and the byte offset of the cursor
@@ -19,3 +19,7 @@ cut_at line cursor = record { line = line; cursor = cursor }
 -- the empty text
 abbrev pub empty_cut : Cut
 empty_cut = cut_at [] 0
+
+-- a text with the cursor at its end
+abbrev pub at_end : List ℕ → Cut
+at_end line = cut_at line (length line)

@@ -9,12 +9,16 @@ use Rattle.tw_surface.specs.ChangeView.{Batch}
 use Rattle.tw_surface.specs.Places.{Place, places_of_all, is_in_range}
 use Rattle.tw_surface.specs.Drawings.{Drawing, place}
 use Rattle.tw_surface.specs.Paintings.{painting, edge_space, place_at}
-use Rattle.tw_surface.specs.Scenes.{Scene}
+use Rattle.tw_surface.specs.Scenes.{Scene, Lower}
+use Rattle.tw_surface.specs.Scenes.Lower.{NoLower, Search}
 use Rattle.tw_lineedit.specs.declared.error.Error.{Error}
 use Rattle.tw_lineedit.specs.declared.error.Error.TheVariants as error
+use Rattle.tw_lineedit.specs.declared.painter.Below.{Below}
+use Rattle.tw_lineedit.specs.declared.painter.Below.TheVariants.{Nothing}
+use Rattle.tw_lineedit.specs.declared.painter.Below.TheVariants as below
 use Rattle.tw_terminal.specs.declared.terminal.ScreenSize.{ScreenSize}
 use Rattle.tw_lineedit.specs.Refusal.{ZeroSize, SizeOutOfRange}
-use Rattle.tw_lineedit.specs.Painting.{Mark, mark_of, is_paintable, painted_on}
+use Rattle.tw_lineedit.specs.Painting.{search_text, Mark, mark_of, is_paintable, painted_on}
 
 -- the error for a change that is refused
 abbrev pub add_error : AddFault → Error
@@ -57,6 +61,11 @@ with_edge d line = line ++ edge_space d.cols (place (with_all d line))
 -- whether the cell some columns after a place can be the cursor's
 abbrev pub has_cell : ℕ → Place → ℕ → Bool
 has_cell cols p column = nat_le (p.x + column) 2147483647 && is_in_range (place_at cols p column)
+
+-- what stands under the line, by the bytes of its texts
+abbrev pub lower_of : Below → Lower
+lower_of Nothing = NoLower
+lower_of (below.Search direction pattern) = Search (search_text direction pattern.now)
 
 -- a scene's painting is drawn
 pub record DrawnScene (cols : ℕ) (scene : Scene) (new : Drawing) (left : Mark) : Type 0 where

@@ -42,19 +42,6 @@ module _ {V : Type 0} where
   FailsToShow b f g (Terminal e) = Keeps f g × RenderFails b f.terminal g.terminal
   FailsToShow b f g _ = ⊥
 
-  -- an action was applied: the state is that of the step, and a Repaint has cleared the screen
-  pub record Applies (a : Option ActionView) (f g : Frame V) : Type 0 where
-    pub state : apply_if a f.state ≡ Ok g.state
-    pub value : g.value ≡ f.value
-    pub last : g.last ≡ f.last
-    pub terminal : g.terminal ≡ record f.terminal { batches = f.terminal.batches ++ clears_if a }
-
-  -- what a refused action leaves: all is as before, and only a Repaint has called the terminal
-  abbrev pub FailsToApply : Option ActionView → Frame V → Frame V → Error → Type 0
-  FailsToApply a f g (Memory e) = (g ≡ f) × TakesMemory a
-  FailsToApply a f g (Terminal e) = (a ≡ Some Repaint) × Keeps f g × RenderFails clear_batch f.terminal g.terminal
-  FailsToApply a f g e = (g ≡ f) × (apply_if a f.state ≡ Err (refusal_of e))
-
   -- the first event was taken
   pub record TakesEvent (e : EventView) (f g : Frame V) : Type 0 where
     pub keeps : Keeps f g
@@ -66,6 +53,19 @@ module _ {V : Type 0} where
     pub events : f.terminal.events ≡ []
 
 module _ {V : Type 0} (rules : HostRules V) where
+  -- an action was applied: the state is that of the step, and a Repaint has cleared the screen
+  pub record Applies (a : Option ActionView) (f g : Frame V) : Type 0 where
+    pub state : apply_if rules f.value a f.state ≡ Ok g.state
+    pub value : g.value ≡ f.value
+    pub last : g.last ≡ f.last
+    pub terminal : g.terminal ≡ record f.terminal { batches = f.terminal.batches ++ clears_if a }
+
+  -- what a refused action leaves: all is as before, and only a Repaint has called the terminal
+  abbrev pub FailsToApply : Option ActionView → Frame V → Frame V → Error → Type 0
+  FailsToApply a f g (Memory e) = (g ≡ f) × TakesMemory a f.state.mode
+  FailsToApply a f g (Terminal e) = (a ≡ Some Repaint) × Keeps f g × RenderFails clear_batch f.terminal g.terminal
+  FailsToApply a f g e = (g ≡ f) × (apply_if rules f.value a f.state ≡ Err (refusal_of e))
+
   -- the painting of f was rendered, and its mark is kept
   pub record Paints (f g : Frame V) : Type 0 where
     pub picture : (p : Rendered) × (painting_at rules (progress_of f) ≡ Ok p) × (g.last ≡ Some p.mark) × Renders p.changes f.terminal g.terminal

@@ -18,8 +18,9 @@ pub record Highlight : Type 0 where
   pub elements : List ElementView
   pub column : ℕ
 
--- a host's answers, by its value
+-- the lines of a host's history, and its answers, by its value
 pub record HostRules (V : Type 0) : Type 0 where
+  pub lines : V → List (List ℕ)
   pub prompt : V → List ℕ → List ElementView
   pub highlight : V → Cut → Highlight
   pub resolve : V → EventView → Cut → Resolution V
@@ -36,9 +37,10 @@ plain_highlight cut = record { elements = plain_text cut.line; column = column_w
 abbrev pub unresolved : {V : Type 0} → V → Cut → Resolution V
 unresolved v cut = record { value = v; cut = cut; action = None }
 
--- the host that shows all as it is and resolves nothing
-abbrev pub plain_rules : {V : Type 0} → HostRules V
-plain_rules = record {
+-- the host with this history that shows all as it is and resolves nothing
+abbrev pub plain_rules : {V : Type 0} → (V → List (List ℕ)) → HostRules V
+plain_rules lines = record {
+  lines = lines;
   prompt = λ v text. plain_text text;
   highlight = λ v cut. plain_highlight cut;
   resolve = λ v event cut. unresolved v cut;

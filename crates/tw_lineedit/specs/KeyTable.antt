@@ -6,7 +6,7 @@ use Rattle.tw_input.specs.declared.key.KeyCode.TheVariants.{Char, Backspace, Tab
 use Rattle.tw_input.specs.declared.key.KeyEvent.{KeyEvent}
 use Rattle.tw_input.specs.EventView.{EventView, Key, Resized, Paste, Wake}
 use Rattle.tw_input.specs.Modifiers.{modifier_bits, modifiers_of}
-use Rattle.tw_lineedit.specs.ActionView.{ActionView, AcceptLine, Cancel, EndOfFile, InsertChar, InsertText, Repaint, Move, Kill, KillAndMove}
+use Rattle.tw_lineedit.specs.ActionView.{ActionView, AcceptLine, Cancel, EndOfFile, InsertChar, InsertText, Repaint, Move, Kill, KillAndMove, HistoryPrevious, HistoryNext, HistoryIncSearchBackwards, HistoryIncSearchForwards}
 use Rattle.tw_lineedit.specs.declared.actions.Movement.TheVariants as movement
 
 -- the bits where no modifier is held
@@ -37,6 +37,8 @@ key_table =
     ∷ (pressed ctrl (Char 74), AcceptLine)
     ∷ (pressed ctrl (Char 77), AcceptLine)
     ∷ (pressed ctrl (Char 72), Kill (movement.BackwardChar 1))
+    ∷ (pressed ctrl (Char 80), HistoryPrevious)
+    ∷ (pressed ctrl (Char 78), HistoryNext)
     ∷ (pressed ctrl (Char 66), Move (movement.BackwardChar 1))
     ∷ (pressed ctrl (Char 70), Move (movement.ForwardChar 1))
     ∷ (pressed ctrl (Char 87), Kill (movement.BackwardWord 1))
@@ -44,9 +46,15 @@ key_table =
     ∷ (pressed ctrl (Char 69), Move movement.EndOfLine)
     ∷ (pressed ctrl (Char 76), Repaint)
     ∷ (pressed ctrl (Char 75), Kill movement.EndOfLine)
+    ∷ (pressed ctrl (Char 82), HistoryIncSearchBackwards)
+    ∷ (pressed ctrl (Char 83), HistoryIncSearchForwards)
     ∷ (pressed none Enter, AcceptLine)
     ∷ (pressed none Backspace, Kill (movement.BackwardChar 1))
     ∷ (pressed none Delete, KillAndMove (movement.ForwardChar 1) movement.None)
+    ∷ (pressed none UpArrow, HistoryPrevious)
+    ∷ (pressed none ApplicationUpArrow, HistoryPrevious)
+    ∷ (pressed none DownArrow, HistoryNext)
+    ∷ (pressed none ApplicationDownArrow, HistoryNext)
     ∷ (pressed none LeftArrow, Move (movement.BackwardChar 1))
     ∷ (pressed none ApplicationLeftArrow, Move (movement.BackwardChar 1))
     ∷ (pressed none RightArrow, Move (movement.ForwardChar 1))

@@ -8,6 +8,9 @@ pub mod Words
 pub mod Movements
 pub mod OffsetSteps
 pub mod Edits
+pub mod Patterns
+pub mod Near
+pub mod Added
 pub mod Laws
 pub mod ActionView
 pub mod KeyTable
@@ -16,12 +19,16 @@ pub mod ElementView
 pub mod HostRules
 pub mod PlainAnswers
 pub mod EditState
+pub mod HistorySteps
+pub mod Searches
 pub mod Painting
 pub mod Draws
 pub mod Steps
+pub mod EditSteps
 pub mod Outcomes
 pub mod SessionView
 pub mod Run
 pub mod Frame
 pub mod Reading
 pub mod Stations
+pub mod HistoryLaws

@@ -1,28 +1,54 @@
 -- The painting of a state.
-use Rattle.std.specs.Prelude.{◌≤◌, nat_abs, ℕ, ℤ, pos, neg_ℤ, ◌-ℤ◌, ◌+◌, ◌==◌, Bool, ◌&&◌, ◌||◌, nat_le, nat_lt, if◌then◌else◌, List, [], ◌∷◌, ◌++◌, Option, Some, None, Result, Ok, Err}
+use Rattle.std.specs.Prelude.{◌≤◌, nat_abs, ℕ, ℤ, pos, neg_ℤ, ◌-ℤ◌, ◌+◌, ◌==◌, Bool, ◌&&◌, ◌||◌, nat_le, nat_lt, if◌then◌else◌, List, [], ◌∷◌, ◌++◌, codes, Option, Some, None, Result, Ok, Err}
 use Rattle.std.specs.List.{list_all}
 use Rattle.tw_surface.specs.declared.change.Position.TheVariants.{Absolute, Relative}
 use Rattle.tw_surface.specs.ChangeView.{Batch, ClearScreen, ClearToEndOfScreen, CursorPosition}
 use Rattle.tw_surface.specs.Defaults.{default_color}
 use Rattle.tw_surface.specs.Places.{place_after_all, places_of_all, origin, is_in_range}
-use Rattle.tw_surface.specs.Scenes.{Scene}
-use Rattle.tw_surface.specs.Scenes.Lower.{NoLower}
+use Rattle.tw_surface.specs.Scenes.{Scene, Lower}
+use Rattle.tw_surface.specs.Scenes.Lower.{NoLower, Search}
 use Rattle.tw_surface.specs.Paintings.{Painting, before_line, shown_part, cursor_place, painting}
 use Rattle.tw_terminal.specs.declared.terminal.ScreenSize.{ScreenSize}
 use Rattle.tw_lineedit.specs.ElementView.{changes_of}
 use Rattle.tw_lineedit.specs.HostRules.{HostRules}
 use Rattle.tw_lineedit.specs.Refusal.{Refusal, ZeroSize, SizeOutOfRange}
-use Rattle.tw_lineedit.specs.EditState.{EditState}
+use Rattle.tw_lineedit.specs.Cut.{Cut}
+use Rattle.tw_lineedit.specs.EditState.{EditState, ModeView, Searching}
+use Rattle.tw_lineedit.specs.declared.history.SearchDirection.{SearchDirection}
+use Rattle.tw_lineedit.specs.declared.history.SearchDirection.TheVariants.{Backwards, Forwards}
 
--- what is shown of a state: the host's prompt and line, and nothing below
-abbrev pub scene_of : {V : Type 0} → HostRules V → V → EditState → Bool → Scene
-scene_of rules v s cleared = record {
-  prompt = changes_of (rules.prompt v s.prompt);
-  line = changes_of (rules.highlight v s.cut).elements;
-  column = (rules.highlight v s.cut).column;
-  lower = NoLower;
+-- the line that is shown: while searching, the matching one
+abbrev pub shown_in : Cut → ModeView → Cut
+shown_in cut (Searching style direction matching) = matching
+shown_in cut _ = cut
+
+-- the label of a search
+abbrev pub label : SearchDirection → List ℕ
+label Backwards = codes "bck-i-search: "
+label Forwards = codes "fwd-i-search: "
+
+-- the text of a search: its label, the pattern and an underline
+abbrev pub search_text : SearchDirection → List ℕ → List ℕ
+search_text direction pattern = label direction ++ (pattern ++ codes "_")
+
+-- what stands under the line: while searching, the text of the search
+abbrev pub lower_in : Cut → ModeView → Lower
+lower_in cut (Searching style direction matching) = Search (search_text direction cut.line)
+lower_in cut _ = NoLower
+
+-- what is shown of a prompt, a line and what stands under it
+abbrev pub scene_with : {V : Type 0} → HostRules V → V → List ℕ → Cut → Lower → Bool → Scene
+scene_with rules v prompt line lower cleared = record {
+  prompt = changes_of (rules.prompt v prompt);
+  line = changes_of (rules.highlight v line).elements;
+  column = (rules.highlight v line).column;
+  lower = lower;
   cleared = cleared;
 }
+
+-- what is shown of a state
+abbrev pub scene_of : {V : Type 0} → HostRules V → V → EditState → Bool → Scene
+scene_of rules v s cleared = scene_with rules v s.prompt (shown_in s.cut s.mode) (lower_in s.cut s.mode) cleared
 
 -- whether each place on the way, the sum that gives the cursor's cell, and that cell are in range
 abbrev pub is_paintable : ℕ → Scene → Bool

@@ -16,5 +16,5 @@ pub record IsPlainBut {V : Type 0} (rules : HostRules V) (own : OwnAnswers) : Ty
   pub resolve : own.resolve ≡ false → (v : V) (event : EventView) (cut : Cut) → rules.resolve v event cut ≡ unresolved v cut
 
 -- the plain host answers nothing for itself
-pub plain_is_plain : {V : Type 0} → IsPlainBut (plain_rules {V = V}) nothing_own
-plain_is_plain = record { prompt = λ e v text. refl; highlight = λ e v cut. refl; resolve = λ e v event cut. refl }
+pub plain_is_plain : {V : Type 0} (lines : V → List (List ℕ)) → IsPlainBut (plain_rules lines) nothing_own
+plain_is_plain lines = record { prompt = λ e v text. refl; highlight = λ e v cut. refl; resolve = λ e v event cut. refl }

@@ -102,6 +102,10 @@ module _ {V : Type 0} (rules : HostRules V) where
   abbrev pub handled : Progress V → EventView → EditState → Progress V
   handled s e state = record (answered s e) { state = state; taken = s.taken ++ clears_if (chosen s e) }
 
+  -- the state to which the event's action leads, or its refusal
+  abbrev pub state_after : Progress V → EventView → Result EditState Refusal
+  state_after s e = apply_if rules (answered s e).value (chosen s e) (answered s e).state
+
   -- where no event is left, by the painting
   abbrev pub at_end : Progress V → Result Rendered Refusal → Ending V
   at_end s (Err n) = ends (Err n) [] s
@@ -117,7 +121,7 @@ module _ {V : Type 0} (rules : HostRules V) where
   at_event e es s rest (Err n) = ends (Err n) (e ∷ es) s
   at_event e es s rest (Ok p) = cond (is_over s.state.mode)
       (ends (answer_at s.state) (e ∷ es) (shown s p))
-      (after_event e es (shown s p) rest (apply_if (chosen s e) (answered s e).state))
+      (after_event e es (shown s p) rest (state_after s e))
 
   -- Each state is painted, and then the next event leads to the next one.
   abbrev pub run : List EventView → Progress V → Ending V
@@ -139,11 +143,11 @@ module _ {V : Type 0} (rules : HostRules V) where
     -- the host refused the event
     unresolved : {e : EventView} {es : List EventView} {s : Progress V} {p : Rendered} → painting_at s ≡ Ok p → is_over s.state.mode ≡ false → CanStop want (e ∷ es) s (moment None es (polled (shown s p) e))
     -- the action or its making was refused
-    unapplied : {e : EventView} {es : List EventView} {s : Progress V} {p : Rendered} → painting_at s ≡ Ok p → is_over s.state.mode ≡ false → TakesMemory (chosen s e) → CanStop want (e ∷ es) s (moment None es (answered (shown s p) e))
+    unapplied : {e : EventView} {es : List EventView} {s : Progress V} {p : Rendered} → painting_at s ≡ Ok p → is_over s.state.mode ≡ false → TakesMemory (chosen s e) s.state.mode → CanStop want (e ∷ es) s (moment None es (answered (shown s p) e))
     -- the clearing of the screen was not rendered
     half_cleared : {e : EventView} {es : List EventView} {s : Progress V} {p : Rendered} → painting_at s ≡ Ok p → is_over s.state.mode ≡ false → chosen s e ≡ Some Repaint → CanStop fault (e ∷ es) s (moment (Some clear_batch) es (answered (shown s p) e))
     -- after the first painting
-    later : {c : Cause} {e : EventView} {es : List EventView} {s : Progress V} {p : Rendered} {state : EditState} {m : Moment V} → painting_at s ≡ Ok p → is_over s.state.mode ≡ false → apply_if (chosen s e) (answered s e).state ≡ Ok state → CanStop c es (handled (shown s p) e state) m → CanStop c (e ∷ es) s m
+    later : {c : Cause} {e : EventView} {es : List EventView} {s : Progress V} {p : Rendered} {state : EditState} {m : Moment V} → painting_at s ≡ Ok p → is_over s.state.mode ≡ false → state_after s e ≡ Ok state → CanStop c es (handled (shown s p) e state) m → CanStop c (e ∷ es) s m
 
   -- the run that begins at a frame
   abbrev pub run_of : Frame V → Ending V

@@ -1,11 +1,14 @@
 -- What an editor holds beside its terminal.
-use Rattle.std.specs.Prelude.{ℕ, List, ◌≡◌, codes, Option, Some, None, length, Ok, Err}
-use Rattle.tw_lineedit.specs.Cut.{Cut, cut_at, empty_cut}
-use Rattle.tw_lineedit.specs.EditState.{EditState, ModeView, Inactive, Editing, Cancelled, Accepted}
+use Rattle.std.specs.Prelude.{ℕ, List, ◌≡◌, codes, Option, Some, None, Ok, Err}
+use Rattle.tw_lineedit.specs.Cut.{Cut, at_end, empty_cut}
+use Rattle.tw_lineedit.specs.EditState.{EditState, ModeView, Inactive, Editing, Cancelled, Accepted, Searching}
 use Rattle.tw_lineedit.specs.EditState as view
 use Rattle.tw_lineedit.specs.ActionView.{ActionView}
+use Rattle.tw_lineedit.specs.HostRules.{HostRules}
 use Rattle.tw_lineedit.specs.Steps.{apply, TakesMemory}
+use Rattle.tw_lineedit.specs.Near.{MatchView}
 use Rattle.tw_lineedit.specs.Painting.{Mark}
+use Rattle.tw_lineedit.specs.declared.session.search.Found.{Found}
 use Rattle.tw_lineedit.specs.Refusal.{refusal_of}
 use Rattle.tw_lineedit.specs.declared.session.Mode.{Mode}
 use Rattle.tw_lineedit.specs.declared.session.Mode.TheVariants as mode
@@ -23,10 +26,15 @@ mode_view mode.Inactive = Inactive
 mode_view mode.Editing = Editing
 mode_view mode.Cancelled = Cancelled
 mode_view mode.Accepted = Accepted
+mode_view (mode.Searching style direction matching) = Searching style direction matching
+
+-- the match that a session has found
+abbrev pub found_view : Found → MatchView
+found_view f = record { line = f.matching.line; idx = f.idx; cursor = f.matching.cursor }
 
 -- the state of a new editor
 abbrev pub new_state : EditState
-new_state = record { prompt = codes "> "; cut = empty_cut; mode = view.Inactive }
+new_state = record { prompt = codes "> "; cut = empty_cut; position = None; kept = None; mode = view.Inactive }
 
 -- a new editor
 abbrev pub new_session : SessionView
@@ -39,19 +47,20 @@ on_state effect s = record s { state = effect s.state }
 -- the line that an initial value makes, with the cursor at its end
 abbrev pub initial_cut : Option (List ℕ) → Cut
 initial_cut None = empty_cut
-initial_cut (Some text) = cut_at text (length text)
+initial_cut (Some text) = at_end text
 
 -- where a run begins, with this line
 abbrev pub begun : Cut → EditState → EditState
-begun cut s = record s { cut = cut; mode = Editing }
+begun cut s = record s { cut = cut; position = None; kept = None; mode = Editing }
 
--- a session once an action is applied
-pub record ActsOn (action : ActionView) (old new : SessionView) : Type 0 where
-  pub state : apply action old.state ≡ Ok new.state
-  pub last : new.last ≡ old.last
+module _ {V : Type 0} (rules : HostRules V) (v : V) where
+  -- a session once an action is applied
+  pub record ActsOn (action : ActionView) (old new : SessionView) : Type 0 where
+    pub state : apply rules v action old.state ≡ Ok new.state
+    pub last : new.last ≡ old.last
 
--- why an action is not applied: memory, where it may take some, or its own refusal; nothing is changed
-abbrev pub FailsToActOn : ActionView → SessionView → SessionView → Error → Type 0
-FailsToActOn a old new (Memory e) = (new ≡ old) × TakesMemory (Some a)
-FailsToActOn a old new (Terminal e) = ⊥
-FailsToActOn a old new e = (new ≡ old) × (apply a old.state ≡ Err (refusal_of e))
+  -- why an action is not applied: memory, where it may take some, or its own refusal; nothing is changed
+  abbrev pub FailsToActOn : ActionView → SessionView → SessionView → Error → Type 0
+  FailsToActOn a old new (Memory e) = (new ≡ old) × TakesMemory (Some a) old.state.mode
+  FailsToActOn a old new (Terminal e) = ⊥
+  FailsToActOn a old new e = (new ≡ old) × (apply rules v a old.state ≡ Err (refusal_of e))

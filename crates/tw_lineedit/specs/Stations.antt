@@ -10,8 +10,7 @@ use Rattle.tw_lineedit.specs.HostRules.{HostRules}
 use Rattle.tw_lineedit.specs.Outcomes.{is_over}
 use Rattle.tw_lineedit.specs.Painting.{Mark, mark_of, start_batch, clear_batch, Rendered, painted_on, scene_of}
 use Rattle.tw_lineedit.specs.Refusal.{Refusal}
-use Rattle.tw_lineedit.specs.Run.{Progress, Frame, run_of, progress_of, painting_at, shown, chosen, answered, handled}
-use Rattle.tw_lineedit.specs.Steps.{apply_if}
+use Rattle.tw_lineedit.specs.Run.{Progress, Frame, run_of, progress_of, painting_at, shown, chosen, state_after, handled}
 
 -- what is painted once: a state, the host's value and the screen's size, and whether the screen was cleared just before
 pub record Station (V : Type 0) : Type 0 where
@@ -62,7 +61,7 @@ module _ {V : Type 0} (rules : HostRules V) where
   -- the stations behind one, by its painting
   abbrev pub stations_by : EventView → Progress V → (Bool → Progress V → List (Station V)) → Result Rendered Refusal → List (Station V)
   stations_by e s rest (Err r) = []
-  stations_by e s rest (Ok p) = stations_unless (stations_after e (shown s p) rest (apply_if (chosen rules s e) (answered rules s e).state)) (is_over s.state.mode)
+  stations_by e s rest (Ok p) = stations_unless (stations_after e (shown s p) rest (state_after rules s e)) (is_over s.state.mode)
 
   -- the stations of a run over a list of events: each is painted, and then the next event leads to the next one
   abbrev pub stations_from : List EventView → Bool → Progress V → List (Station V)

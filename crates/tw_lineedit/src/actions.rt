@@ -45,6 +45,15 @@ pub enum Action {
     /// the greatest boundary of what is left that is not above the place where the second leads in the old
     /// line.
     KillAndMove(Movement, Movement),
+    /// Takes the line before in the history, and keeps the typed line; while searching, searches backwards.
+    HistoryPrevious,
+    /// Takes the line after in the history, and behind the last one the typed line; while searching, searches
+    /// forwards.
+    HistoryNext,
     /// Does nothing.
     NoAction,
+    /// Begins a search of the history, or goes on with it, to older lines.
+    HistoryIncSearchBackwards,
+    /// Begins a search of the history, or goes on with it, to newer lines.
+    HistoryIncSearchForwards,
 }

@@ -136,8 +136,8 @@ impl<'term, T: Terminal> LineEditor<'term, T> {
     ) -> Result<(), Error>
         ensures same_reference { self.new.terminal.ghost_name ≡ self.old.terminal.ghost_name }
         ensures host { host.new ≡ host.old }
-        ensures ok { OnOk result (Applies (Some (action_view action)) (frame T.state H.value self.old host.old) (frame T.state H.value self.new host.new)) }
-        ensures err { IfErr result (FailsToApply (Some (action_view action)) (frame T.state H.value self.old host.old) (frame T.state H.value self.new host.new)) }
+        ensures ok { OnOk result (Applies H.rules (Some (action_view action)) (frame T.state H.value self.old host.old) (frame T.state H.value self.new host.new)) }
+        ensures err { IfErr result (FailsToApply H.rules (Some (action_view action)) (frame T.state H.value self.old host.old) (frame T.state H.value self.new host.new)) }
         ensures failures { FailuresTell result (T.state self.old.terminal.now).failures (T.state self.new.terminal.now).failures }
     {
         self.act(host, action)
@@ -145,14 +145,15 @@ impl<'term, T: Terminal> LineEditor<'term, T> {
 
     /// Applies an action.
     #[tactic(auto, unfolding(crate::specs::Steps::apply))]
-    fn act<H: LineEditorHost>(&mut self, host: &H, action: Action) -> Result<(), Error>
+    fn act<H: LineEditorHost>(&mut self, host: &mut H, action: Action) -> Result<(), Error>
         ensures same_reference { self.new.terminal.ghost_name ≡ self.old.terminal.ghost_name }
-        ensures ok { OnOk result (Applies (Some (action_view action)) (frame T.state H.value self.old host.now) (frame T.state H.value self.new host.now)) }
-        ensures err { IfErr result (FailsToApply (Some (action_view action)) (frame T.state H.value self.old host.now) (frame T.state H.value self.new host.now)) }
+        ensures host { host.new ≡ host.old }
+        ensures ok { OnOk result (Applies H.rules (Some (action_view action)) (frame T.state H.value self.old host.old) (frame T.state H.value self.new host.new)) }
+        ensures err { IfErr result (FailsToApply H.rules (Some (action_view action)) (frame T.state H.value self.old host.old) (frame T.state H.value self.new host.new)) }
     {
         match action {
             Action::Repaint => self.clear_screen(host),
-            action => self.session.act(action),
+            action => self.session.act(host, action),
         }
     }
 
@@ -191,12 +192,13 @@ impl<'term, T: Terminal> LineEditor<'term, T> {
     /// Applies what the key table makes of the event.
     fn handle_default<H: LineEditorHost>(
         &mut self,
-        host: &H,
+        host: &mut H,
         event: &InputEvent,
     ) -> Result<(), Error>
         ensures same_reference { self.new.terminal.ghost_name ≡ self.old.terminal.ghost_name }
-        ensures ok { OnOk result (Applies (action_of (event_view event.now)) (frame T.state H.value self.old host.now) (frame T.state H.value self.new host.now)) }
-        ensures err { IfErr result (FailsToApply (action_of (event_view event.now)) (frame T.state H.value self.old host.now) (frame T.state H.value self.new host.now)) }
+        ensures host { host.new ≡ host.old }
+        ensures ok { OnOk result (Applies H.rules (action_of (event_view event.now)) (frame T.state H.value self.old host.old) (frame T.state H.value self.new host.new)) }
+        ensures err { IfErr result (FailsToApply H.rules (action_of (event_view event.now)) (frame T.state H.value self.old host.old) (frame T.state H.value self.new host.new)) }
     {
         match default_action(self.session.alloc(), event)? {
             Some(action) => self.act(host, action),

@@ -2,6 +2,7 @@
 
 use std::alloc::{AllocError, AllocFailed};
 use thiserror::Error;
+use tw_surface::{AddFault, SizeFault};
 use tw_terminal::TerminalFault;
 
 /// Why the editor refused a call.
@@ -69,6 +70,34 @@ impl<T: Drop> From<AllocFailed<T>> for Error {
 
     fn from(_refused: AllocFailed<T>) -> Error {
         Error::Memory(AllocError)
+    }
+}
+
+impl From<AddFault> for Error {
+    ghost use Rattle.std.specs.Prelude.{◌≡◌};
+    ghost use Rattle.tw_lineedit.specs.Draws.{add_error};
+
+    ghost from_gives = { λ fault error. error ≡ add_error fault };
+
+    fn from(fault: AddFault) -> Error {
+        match fault {
+            AddFault::Memory => Error::Memory(AllocError),
+            AddFault::OutOfRange => Error::SizeOutOfRange,
+        }
+    }
+}
+
+impl From<SizeFault> for Error {
+    ghost use Rattle.std.specs.Prelude.{◌≡◌};
+    ghost use Rattle.tw_lineedit.specs.Draws.{size_error};
+
+    ghost from_gives = { λ fault error. error ≡ size_error fault };
+
+    fn from(fault: SizeFault) -> Error {
+        match fault {
+            SizeFault::ZeroSize => Error::ZeroSize,
+            SizeFault::OutOfRange => Error::SizeOutOfRange,
+        }
     }
 }
 

@@ -1,6 +1,7 @@
 //! What an application tells the editor.
 
-ghost use Rattle.std.specs.Prelude.{◌≡◌, IfOk, OnErr, map, option_map};
+ghost use Rattle.std.specs.Prelude.{◌≡◌, ℕ, List, [], IfOk, OnErr, map, option_map, refl};
+ghost use Rattle.std.specs.Borrow.{Lends, sem};
 ghost use Rattle.tw_input.specs.EventView.{event_view};
 ghost use Rattle.tw_lineedit.specs.ActionView.{action_view};
 ghost use Rattle.std.specs.Str.{IsCharBoundary};
@@ -11,6 +12,7 @@ ghost use Rattle.tw_lineedit.specs.PlainAnswers.{IsPlainBut, nothing_own, plain_
 
 use crate::actions::Action;
 use crate::buffer::LineEditBuffer;
+use crate::history::{BasicHistory, History};
 use std::alloc::{AllocError, Global};
 use tw_input::InputEvent;
 use tw_surface::{AttributeChange, CellAttributes, Change, unicode_column_width};
@@ -76,16 +78,28 @@ fn plain_element(alloc: Global, text: &str) -> Result<Vec<OutputElement>, AllocE
 pub trait LineEditorHost {
     ghost use Rattle.tw_lineedit.specs.declared.host.OwnAnswers.{OwnAnswers};
 
+    /// The host's history.
+    type Hist: History;
+
     ghost Value: { Type 0 };
 
     ghost value: { Self → Value };
 
     ghost rules: { HostRules Value };
 
+    ghost held: { Self → Self.Hist };
+
+    ghost with_held: { Self → Self.Hist → Self };
+
     ghost OWN: { OwnAnswers };
 
     /// Which calls the host answers for itself.
     const OWN: OwnAnswers;
+
+    /// Lends the history. Given back as it was, the host is as it was.
+    fn history(&mut self) -> &mut Self::Hist
+        ensures* lends { sem 𝓛 (Lends Self.row Self.Hist.row self.entry result (with_held self.old)) }
+        ensures shows { result.now ≡ held self.old };
 
     /// The prompt as it is shown. By default the text itself.
     fn render_prompt(&self, alloc: Global, prompt: &str) -> Result<Vec<OutputElement>, AllocError>
@@ -136,32 +150,54 @@ pub trait LineEditorHost {
     }
 
     ghost plain_answers: { IsPlainBut rules OWN };
+
+    ghost held_back: { (host : Self) → with_held host (held host) ≡ host };
+
+    ghost held_lines: { (host : Self) → Self.Hist.lines (held host) ≡ rules.lines (value host) };
 }
 
-/// A host with the default answers.
-#[derive(Debug, Drop)]
-pub struct NopLineEditorHost;
+/// A host with the default answers and a history in memory.
+#[derive(Drop)]
+pub struct NopLineEditorHost {
+    history: BasicHistory,
+}
 
 impl NopLineEditorHost {
-    /// The host. It takes no memory.
+    /// The host with an empty history. It takes no memory.
     pub fn new(alloc: Global) -> Self
-        ensures { ⟦<NopLineEditorHost as LineEditorHost>⟧.rules ≡ plain_rules }
+        ensures rules { ⟦<NopLineEditorHost as LineEditorHost>⟧.rules ≡ plain_rules (λ lines. lines) }
+        ensures empty { ⟦<NopLineEditorHost as LineEditorHost>⟧.value result ≡ [] }
     {
-        let _ = alloc;
-        NopLineEditorHost
+        NopLineEditorHost {
+            history: BasicHistory::new(alloc),
+        }
     }
 }
 
 impl LineEditorHost for NopLineEditorHost {
-    ghost Value = { Unit {0} };
+    type Hist = BasicHistory;
 
-    ghost value = { λ h. tt };
+    ghost Value = { List (List ℕ) };
 
-    ghost rules = { plain_rules };
+    ghost value = { λ host. host.history };
+
+    ghost rules = { plain_rules (λ lines. lines) };
+
+    ghost held = { λ host. host.history };
+
+    ghost with_held = { λ host history. record host { history = history } };
 
     ghost OWN = { nothing_own };
 
     const OWN: OwnAnswers = OwnAnswers::NONE;
 
-    ghost plain_answers = { plain_is_plain };
+    fn history(&mut self) -> &mut BasicHistory {
+        &mut self.history
+    }
+
+    ghost plain_answers = { plain_is_plain (λ lines. lines) };
+
+    ghost held_back = { λ host. refl };
+
+    ghost held_lines = { λ host. refl };
 }

@@ -54,6 +54,8 @@ fn ctrl_action(key: KeyCode) -> Option<Action>
         'D' => Some(Action::EndOfFile),
         'J' | 'M' => Some(Action::AcceptLine),
         'H' => Some(Action::Kill(Movement::BackwardChar(1))),
+        'P' => Some(Action::HistoryPrevious),
+        'N' => Some(Action::HistoryNext),
         'B' => Some(Action::Move(Movement::BackwardChar(1))),
         'F' => Some(Action::Move(Movement::ForwardChar(1))),
         'W' => Some(Action::Kill(Movement::BackwardWord(1))),
@@ -61,6 +63,8 @@ fn ctrl_action(key: KeyCode) -> Option<Action>
         'E' => Some(Action::Move(Movement::EndOfLine)),
         'L' => Some(Action::Repaint),
         'K' => Some(Action::Kill(Movement::EndOfLine)),
+        'R' => Some(Action::HistoryIncSearchBackwards),
+        'S' => Some(Action::HistoryIncSearchForwards),
         _ => None,
     }
 }
@@ -73,6 +77,8 @@ fn plain_action(key: KeyCode) -> Option<Action>
         KeyCode::Enter => Some(Action::AcceptLine),
         KeyCode::Backspace => Some(Action::Kill(Movement::BackwardChar(1))),
         KeyCode::Delete => Some(Action::KillAndMove(Movement::ForwardChar(1), Movement::None)),
+        KeyCode::UpArrow | KeyCode::ApplicationUpArrow => Some(Action::HistoryPrevious),
+        KeyCode::DownArrow | KeyCode::ApplicationDownArrow => Some(Action::HistoryNext),
         KeyCode::LeftArrow | KeyCode::ApplicationLeftArrow => Some(Action::Move(
             Movement::BackwardChar(1),
         )),

@@ -3,7 +3,9 @@
 ghost use Rattle.std.specs.Prelude.{◌≡◌, ◌≢◌, ℕ, List, Some, None, All, AllPairs};
 ghost use Rattle.tw_input.specs.Equality.{ComparesValues};
 ghost use Rattle.tw_lineedit.specs.KeyTable.{is_same_key, key_table, looked_up, typed};
+ghost use Rattle.tw_lineedit.specs.HistoryLaws.{Enumerates, FindsFirst, FindsNearest, WalksBack};
 ghost use Rattle.tw_lineedit.specs.Laws.{CountsAddUp, OffsetsAreExtremes, WordsAreExtremes};
+ghost use Rattle.tw_lineedit.specs.Patterns.{first};
 ghost use Rattle.tw_lineedit.specs.Stations.{BatchesByStations};
 
 use crate::actions::Movement;
@@ -37,4 +39,22 @@ pub fn key_table()
 /// sizes at which it paints, and whether the screen was cleared just before.
 pub fn batches<H: LineEditorHost>()
     ensures { BatchesByStations H.rules }
+{}
+
+/// The first offset of a pattern, and the nearest line that contains it, are the extremes that the relations
+/// describe.
+pub fn searches()
+    ensures first { FindsFirst first }
+    ensures nearest { FindsNearest }
+{}
+
+/// Steps back through a host's history and as many steps forth give the typed line.
+pub fn walk<H: LineEditorHost>()
+    ensures { (v : H.Value) → WalksBack H.rules v }
+{}
+
+/// An insertion into a pattern that some line contains, and backward searches behind it, show the lines that
+/// contain the pattern from the newest on, and then the oldest.
+pub fn enumeration<H: LineEditorHost>()
+    ensures { (v : H.Value) → Enumerates H.rules v }
 {}

@@ -6,6 +6,7 @@ mod buffer;
 mod clusters;
 mod editor;
 mod error;
+mod history;
 mod host;
 mod keys;
 pub mod laws;
@@ -19,5 +20,8 @@ pub use actions::{Action, Movement, RepeatCount};
 pub use buffer::LineEditBuffer;
 pub use editor::{EditorOver, LineEditor};
 pub use error::Error;
+pub use history::{
+    BasicHistory, History, HistoryIndex, SearchDirection, SearchResult, SearchStyle,
+};
 pub use host::{LineEditorHost, NopLineEditorHost, OutputElement, OwnAnswers};
 pub use keys::default_action;

@@ -1,53 +1,33 @@
 //! The painting of a line: the changes that show it, and where they leave the cursor.
 
-ghost use Rattle.std.specs.Prelude.{◌≡◌, ◌+◌, ◌<◌, ◌≤◌, ◌∷◌, [], Bool, true, false, nat_abs, map, MatchOption, IfOk, IfErr, ◌++◌, Some, Ok};
+ghost use Rattle.std.specs.Prelude.{◌≡◌, ◌+◌, ◌<◌, ◌≤◌, ◌∷◌, [], Bool, true, false, nat_abs, map, string_bytes, MatchOption, IfOk, IfErr, ◌++◌, Some, Ok};
+ghost use Rattle.tw_surface.specs.Characters.{cr, lf};
 ghost use Rattle.tw_surface.specs.ChangeView.{change_view, batch_view};
 ghost use Rattle.tw_surface.specs.Drawings.{place};
-ghost use Rattle.tw_surface.specs.Paintings.{before_line, edge_space, place_at};
+ghost use Rattle.tw_surface.specs.Paintings.{before_line, edge_space, lower_changes, place_at};
 ghost use Rattle.tw_lineedit.specs.ElementView.{element_view, changes_of};
-ghost use Rattle.tw_lineedit.specs.EditState.{ModeView, Inactive};
-ghost use Rattle.tw_lineedit.specs.Painting.{scene_of, painted_on, start_batch, closing, rendered};
-ghost use Rattle.tw_lineedit.specs.Draws.{Draws, DrawsScene, with_edge, has_cell, IsUnpainted};
+ghost use Rattle.tw_lineedit.specs.Painting.{label, search_text, scene_with, painted_on, start_batch, closing, rendered};
+ghost use Rattle.tw_lineedit.specs.Draws.{Draws, DrawsScene, with_edge, lower_of, has_cell, IsUnpainted};
 
 use crate::buffer::LineEditBuffer;
 use crate::error::Error;
+use crate::history::SearchDirection;
 use crate::host::{LineEditorHost, OutputElement};
 use std::alloc::{AllocError, Global};
 use std::marker::Model;
-use tw_surface::{
-    AddFault, CellAttributes, Change, ChangeSequence, ColorAttribute, Position, SizeFault,
-};
+use tw_surface::{CellAttributes, Change, ChangeSequence, ColorAttribute, MAX_REACH, Position};
 use tw_terminal::ScreenSize;
 
-/// The greatest row, and the greatest column before it is cut into rows.
-const LIMIT: isize = 2_147_483_647;
-
-impl From<AddFault> for Error {
-    ghost use Rattle.std.specs.Prelude.{◌≡◌};
-    ghost use Rattle.tw_lineedit.specs.Draws.{add_error};
-
-    ghost from_gives = { λ fault error. error ≡ add_error fault };
-
-    fn from(fault: AddFault) -> Error {
-        match fault {
-            AddFault::Memory => Error::Memory(AllocError),
-            AddFault::OutOfRange => Error::SizeOutOfRange,
-        }
-    }
-}
-
-impl From<SizeFault> for Error {
-    ghost use Rattle.std.specs.Prelude.{◌≡◌};
-    ghost use Rattle.tw_lineedit.specs.Draws.{size_error};
-
-    ghost from_gives = { λ fault error. error ≡ size_error fault };
-
-    fn from(fault: SizeFault) -> Error {
-        match fault {
-            SizeFault::ZeroSize => Error::ZeroSize,
-            SizeFault::OutOfRange => Error::SizeOutOfRange,
-        }
-    }
+/// What stands under the line.
+#[derive(Clone, Copy, Debug)]
+pub(crate) enum Below<'a> {
+    /// Nothing.
+    Nothing,
+    /// The text of a search: where it goes, and the pattern.
+    Search {
+        direction: SearchDirection,
+        pattern: &'a str,
+    },
 }
 
 /// Where a painting left the cursor and how high it was, both counted from its first row.
@@ -155,6 +135,42 @@ fn draw_line(
     draw_edge_space(drawing, alloc, cols)
 }
 
+/// The label of a search.
+fn search_label(direction: SearchDirection) -> &'static str
+    ensures { result.now ≡ label direction }
+{
+    match direction {
+        SearchDirection::Backwards => "bck-i-search: ",
+        SearchDirection::Forwards => "fwd-i-search: ",
+    }
+}
+
+/// The text of a search, in the next row.
+fn search_row(
+    alloc: Global,
+    direction: SearchDirection,
+    pattern: &str,
+) -> Result<String, AllocError>
+    ensures { IfOk result (λ text. string_bytes text ≡ cr ∷ lf ∷ search_text direction pattern.now) }
+{
+    let label = search_label(direction);
+    format!(in alloc; "\r\n{label}{pattern}_")
+}
+
+/// Draws what stands under the line.
+fn draw_below(drawing: &mut ChangeSequence, alloc: Global, below: Below<'_>) -> Result<(), Error>
+    ensures { Draws (lower_changes (lower_of below.entry)) drawing.old drawing.new result }
+{
+    match below {
+        Below::Nothing => Ok(()),
+        Below::Search { direction, pattern } => {
+            let text = search_row(alloc, direction, pattern)?;
+            draw(drawing, Change::AllAttributes(CellAttributes::default()))?;
+            draw(drawing, Change::Text(text))
+        }
+    }
+}
+
 /// The cell so many columns after a place, or `None` where it is out of range.
 fn cursor_cell(cols: usize, start: (usize, isize), column: usize) -> Option<(usize, isize)>
     requires some_columns { 0 < cols }
@@ -167,11 +183,11 @@ fn cursor_cell(cols: usize, start: (usize, isize), column: usize) -> Option<(usi
 {
     let (x, y) = start;
     let reach = x.checked_add(column)?;
-    if reach > LIMIT as usize {
+    if reach > MAX_REACH as usize {
         return None;
     }
     let row = y + (reach / cols) as isize;
-    if row > LIMIT {
+    if row > MAX_REACH {
         return None;
     }
     Some((reach % cols, row))
@@ -189,19 +205,21 @@ fn highlighted<H: LineEditorHost>(
     host.highlight_line(alloc, line.get_line(), line.get_cursor())
 }
 
-/// Draws the prompt and the line on an empty drawing, and moves to the cursor's cell.
+/// Draws the prompt, the line and what stands under it on an empty drawing, and moves to the cursor's
+/// cell.
 fn draw_scene<H: LineEditorHost>(
     drawing: &mut ChangeSequence,
     host: &H,
     alloc: Global,
     prompt: &str,
     line: &LineEditBuffer,
+    below: Below<'_>,
     cols: usize,
 ) -> Result<Painted, Error>
     requires empty { drawing.old ≡ record { cols = cols; changes = [] } }
     requires some_columns { 0 < cols }
     requires columns { cols ≤ 65535 }
-    ensures { DrawsScene cols (scene_of H.rules (H.value host.now) (record { prompt = prompt.now; cut = line.now; mode = Inactive }) false) drawing.new result }
+    ensures { DrawsScene cols (scene_with H.rules (H.value host.now) prompt.now line.now (lower_of below.entry) false) drawing.new result }
 {
     draw_prompt(drawing, host, alloc, prompt)?;
     let start = drawing.current_cursor_position();
@@ -210,6 +228,7 @@ fn draw_scene<H: LineEditorHost>(
         return Err(Error::SizeOutOfRange);
     };
     draw_line(drawing, alloc, cols, elements)?;
+    draw_below(drawing, alloc, below)?;
     let height = drawing.render_height();
     drawing.move_to(cell)?;
     Ok(Painted {
@@ -229,24 +248,23 @@ fn from_start(before: Option<Painted>, batch: Vec<Change>) -> Result<Vec<Change>
     Ok(all)
 }
 
-/// Paints a line behind its prompt. The batch goes back to the first row of the painting before, if there
-/// was one. A size that no screen can have is refused before the host is asked.
+/// Paints a line behind its prompt, with what stands under it. The batch goes back to the first row of the
+/// painting before, if there was one. A size that no screen can have is refused before the host is asked.
 pub(crate) fn paint<H: LineEditorHost>(
     host: &H,
     alloc: Global,
     prompt: &str,
     line: &LineEditBuffer,
+    below: Below<'_>,
     size: ScreenSize,
     before: Option<Painted>,
 ) -> Result<(Vec<Change>, Painted), Error>
-    ensures ok { IfOk result (λ painted. (mode : ModeView) (cleared : Bool)
-        → rendered before (painted_on size (scene_of H.rules (H.value host.now) (record { prompt = prompt.now; cut = line.now; mode = mode }) cleared))
+    ensures ok { IfOk result (λ painted. rendered before (painted_on size (scene_with H.rules (H.value host.now) prompt.now line.now (lower_of below.entry) false))
         ≡ Ok (record { changes = batch_view painted.0.items; mark = painted.1 })) }
-    ensures err { IfErr result (λ error. (mode : ModeView) (cleared : Bool)
-        → IsUnpainted size (scene_of H.rules (H.value host.now) (record { prompt = prompt.now; cut = line.now; mode = mode }) cleared) error) }
+    ensures err { IfErr result (IsUnpainted size (scene_with H.rules (H.value host.now) prompt.now line.now (lower_of below.entry) false)) }
 {
     let mut drawing = ChangeSequence::new(alloc, size.rows, size.cols)?;
-    let painted = draw_scene(&mut drawing, host, alloc, prompt, line, size.cols)?;
+    let painted = draw_scene(&mut drawing, host, alloc, prompt, line, below, size.cols)?;
     let batch = from_start(before, drawing.consume())?;
     Ok((batch, painted))
 }

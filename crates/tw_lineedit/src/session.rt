@@ -8,14 +8,15 @@ ghost use Rattle.tw_lineedit.specs.ActionView.{action_view};
 ghost use Rattle.tw_lineedit.specs.Cut.{cut_at, empty_cut};
 ghost use Rattle.tw_lineedit.specs.EditState.{Inactive as InactiveView};
 ghost use Rattle.tw_lineedit.specs.Outcomes.{outcome_of, answer_at, IsLine, is_over};
-ghost use Rattle.tw_lineedit.specs.Painting.{painted_on, scene_of, rendered};
+ghost use Rattle.tw_lineedit.specs.Painting.{painted_on, scene_of, shown_in, rendered};
 ghost use Rattle.tw_lineedit.specs.Draws.{IsUnpainted};
 
 use crate::actions::Action;
 use crate::buffer::LineEditBuffer;
 use crate::error::Error;
+use crate::history::{HistoryIndex, SearchDirection, SearchStyle};
 use crate::host::LineEditorHost;
-use crate::painter::{Painted, paint};
+use crate::painter::{Below, Painted, paint};
 use std::alloc::{AllocError, Global};
 use std::marker::Model;
 use tw_input::InputEvent;
@@ -23,13 +24,25 @@ use tw_surface::Change;
 use tw_terminal::ScreenSize;
 
 /// What the editor is doing.
-#[derive(Clone, Copy, Debug, PartialEq, Eq)]
+#[derive(Debug, Drop)]
 pub enum Mode {
     Inactive,
     Editing,
     Cancelled,
     Accepted,
+    /// The line is a pattern. It is sought in the history, where `matching` was found last.
+    Searching {
+        style: SearchStyle,
+        direction: SearchDirection,
+        matching: LineEditBuffer,
+    },
 }
+
+mod edit;
+mod search;
+mod walk;
+
+use edit::Edit;
 
 /// What an editor holds beside its terminal.
 #[derive(Debug, Drop)]
@@ -37,18 +50,26 @@ pub struct Session {
     alloc: Global,
     prompt: String,
     line: LineEditBuffer,
+    position: Option<HistoryIndex>,
+    kept: Option<String>,
     mode: Mode,
     painted: Option<Painted>,
 }
 
 impl Model for Session {
-    ghost use Rattle.std.specs.Prelude.{string_bytes};
+    ghost use Rattle.std.specs.Prelude.{string_bytes, option_map};
     ghost use Rattle.tw_lineedit.specs.SessionView.{SessionView, mode_view};
 
     ghost Value = { SessionView };
 
     ghost view = { λ s. record {
-      state = record { prompt = string_bytes s.prompt; cut = s.line; mode = mode_view s.mode };
+      state = record {
+        prompt = string_bytes s.prompt;
+        cut = s.line;
+        position = s.position;
+        kept = option_map string_bytes s.kept;
+        mode = mode_view s.mode;
+      };
       last = s.painted;
     } };
 }
@@ -65,6 +86,8 @@ impl Session {
             alloc,
             prompt,
             line: LineEditBuffer::empty(alloc),
+            position: None,
+            kept: None,
             mode: Mode::Inactive,
             painted: None,
         })
@@ -133,11 +156,13 @@ impl Session {
         self.painted = Some(painted);
     }
 
-    /// Begins a run: empties the line and forgets the last painting.
+    /// Begins a run: empties the line, and forgets the place in the history and the last painting.
     pub(crate) fn begin(&mut self)
         ensures { self.new ≡ record { state = begun empty_cut self.old.state; last = None } }
     {
         self.line.clear();
+        self.position = None;
+        self.kept = None;
         self.mode = Mode::Editing;
         self.painted = None;
     }
@@ -152,12 +177,18 @@ impl Session {
     /// Applies an action to the state. A `Repaint` changes nothing in it. Where it is refused nothing is
     /// changed.
     #[tactic(auto, unfolding(crate::specs::Steps::apply))]
-    pub(crate) fn act(&mut self, action: Action) -> Result<(), Error>
-        ensures ok { OnOk result (ActsOn (action_view action) self.old self.new) }
-        ensures err { IfErr result (FailsToActOn (action_view action) self.old self.new) }
+    pub(crate) fn act<H: LineEditorHost>(
+        &mut self,
+        host: &mut H,
+        action: Action,
+    ) -> Result<(), Error>
+        ensures host { host.new ≡ host.old }
+        ensures ok { OnOk result (ActsOn H.rules (H.value host.old) (action_view action) self.old self.new) }
+        ensures err { IfErr result (FailsToActOn H.rules (H.value host.old) (action_view action) self.old self.new) }
     {
         match action {
             Action::AcceptLine => {
+                self.leave_search();
                 self.mode = Mode::Accepted;
                 Ok(())
             }
@@ -167,24 +198,41 @@ impl Session {
             }
             Action::EndOfFile => Err(Error::EndOfFile),
             Action::InsertChar(count, c) => {
-                self.line.insert_char_times(count, c)?;
+                self.edit(host, Edit::InsertChar(count, c))?;
                 Ok(())
             }
             Action::InsertText(count, text) => {
-                self.line.insert_text_times(count, text.as_str())?;
+                self.edit(host, Edit::InsertText(count, text.as_str()))?;
                 Ok(())
             }
             Action::Repaint | Action::NoAction => Ok(()),
             Action::Move(movement) => {
+                self.leave_search();
                 self.line.exec_movement(movement);
                 Ok(())
             }
             Action::Kill(movement) => {
-                self.line.kill_text(movement, movement);
+                self.edit(host, Edit::Kill(movement, movement))?;
                 Ok(())
             }
             Action::KillAndMove(kill, movement) => {
-                self.line.kill_text(kill, movement);
+                self.edit(host, Edit::Kill(kill, movement))?;
+                Ok(())
+            }
+            Action::HistoryPrevious => {
+                self.step_back(host)?;
+                Ok(())
+            }
+            Action::HistoryNext => {
+                self.step_forth(host)?;
+                Ok(())
+            }
+            Action::HistoryIncSearchBackwards => {
+                self.search(host, SearchDirection::Backwards)?;
+                Ok(())
+            }
+            Action::HistoryIncSearchForwards => {
+                self.search(host, SearchDirection::Forwards)?;
                 Ok(())
             }
         }
@@ -197,7 +245,7 @@ impl Session {
     {
         match self.mode {
             Mode::Cancelled => Ok(None),
-            Mode::Inactive | Mode::Editing | Mode::Accepted => {
+            Mode::Inactive | Mode::Editing | Mode::Accepted | Mode::Searching { .. } => {
                 let line = String::from_str(self.alloc, self.line.get_line())?;
                 Ok(Some(line))
             }
@@ -227,16 +275,25 @@ impl Session {
         ensures ok { IfOk result (λ shown. rendered self.now.last (painted_on size (scene_of H.rules (H.value host.now) self.now.state false)) ≡ Ok (record { changes = batch_view shown.0.items; mark = shown.1 })) }
         ensures err { IfErr result (IsUnpainted size (scene_of H.rules (H.value host.now) self.now.state false)) }
     {
-        match paint(
-            host,
-            self.alloc,
-            self.prompt.as_str(),
-            &self.line,
-            size,
-            self.painted,
-        ) {
-            Ok(shown) => Ok(shown),
-            Err(e) => Err(e),
+        let below = match &self.mode {
+            Mode::Searching { direction, .. } => Below::Search {
+                direction: *direction,
+                pattern: self.line.get_line(),
+            },
+            Mode::Inactive | Mode::Editing | Mode::Cancelled | Mode::Accepted => Below::Nothing,
+        };
+        let prompt = self.prompt.as_str();
+        let line = self.shown_line();
+        paint(host, self.alloc, prompt, line, below, size, self.painted)
+    }
+
+    /// The line that is shown: while searching the matching one.
+    fn shown_line(&self) -> &LineEditBuffer
+        ensures { result.now ≡ shown_in self.now.state.cut self.now.state.mode }
+    {
+        match &self.mode {
+            Mode::Searching { matching, .. } => matching,
+            Mode::Inactive | Mode::Editing | Mode::Cancelled | Mode::Accepted => &self.line,
         }
     }
 }

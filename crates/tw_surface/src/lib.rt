@@ -18,4 +18,4 @@ pub use change::{Change, Position};
 pub use color::ColorAttribute;
 pub use screen::{Screen, ScreenFault};
 pub use sequence::{AddFault, ChangeSequence};
-pub use size::SizeFault;
+pub use size::{MAX_REACH, SizeFault};

@@ -6,6 +6,7 @@ ghost use Rattle.tw_surface.specs.Places.{plain_piece, cluster_piece, pieces, ne
 ghost use Rattle.tw_surface.specs.Tracks.{place_of, Measures, start_track};
 
 use crate::characters::is_plain_text;
+use crate::size::MAX_REACH;
 use unicode_segmentation::UnicodeSegmentation;
 use unicode_width::UnicodeWidthStr;
 
@@ -50,7 +51,7 @@ impl Track {
     pub fn reach(self, x: usize, y: isize) -> Option<Track>
         ensures { Measures self (record { x = x; y = y } ∷ []) result }
     {
-        if x > 2_147_483_647 || y > 2_147_483_647 || y < -2_147_483_647 {
+        if x > MAX_REACH as usize || y > MAX_REACH || y < -MAX_REACH {
             return None;
         }
         Some(Track {

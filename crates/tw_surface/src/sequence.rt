@@ -10,7 +10,7 @@ ghost use Rattle.tw_surface.specs.Adding.{Adds};
 
 use crate::change::{Change, Position};
 use crate::measure::{Track, measure_text};
-use crate::size::{MAX_SIZE, SizeFault};
+use crate::size::{MAX_REACH, MAX_SIZE, SizeFault};
 use std::alloc::Global;
 use std::error::Error;
 use std::fmt;
@@ -44,13 +44,13 @@ fn moved_row(position: Position, at: isize) -> Option<isize>
 {
     match position {
         Position::Absolute(row) => {
-            if row > 2_147_483_647 {
+            if row > MAX_REACH as usize {
                 return None;
             }
             Some(row as isize)
         }
         Position::Relative(by) => {
-            if by > 4_294_967_294 || by < -4_294_967_294 {
+            if by > 2 * MAX_REACH || by < -2 * MAX_REACH {
                 return None;
             }
             Some(at + by)
@@ -167,7 +167,7 @@ impl ChangeSequence {
         ensures range { (result ≡ Err AddFault.OutOfRange) ↔ ((self.old.cols ≤ to.0) ⊎ (2147483647 < nat_abs to.1)) }
     {
         let (x, y) = to;
-        if x >= self.cols || y > 2_147_483_647 || y < -2_147_483_647 {
+        if x >= self.cols || y > MAX_REACH || y < -MAX_REACH {
             return Err(AddFault::OutOfRange);
         }
         let change = relative_move(self.reached, x, y);

@@ -6,6 +6,10 @@ use std::fmt;
 /// The most rows or columns.
 pub const MAX_SIZE: usize = 65_535;
 
+/// How far a sequence may reach: the greatest row and the greatest measured column. The least row is as far
+/// above row 0.
+pub const MAX_REACH: isize = 2_147_483_647;
+
 /// Why a number of rows or columns is refused.
 #[derive(Debug, Copy, Clone, PartialEq, Eq)]
 pub enum SizeFault {

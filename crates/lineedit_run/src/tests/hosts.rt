@@ -1,25 +1,32 @@
 //! A host that answers for itself.
 
-ghost use Rattle.std.specs.Prelude.{ℕ};
-ghost use Rattle.lineedit_run.specs.ColumnHost.{column_rules, highlight_own, column_is_plain};
+ghost use Rattle.std.specs.Prelude.{refl};
+ghost use Rattle.lineedit_run.specs.ColumnHost.{Placed, column_rules, highlight_own, column_is_plain};
 
-use super::support::{answer_text, read_line, terminal_of, terminal_text};
+use super::support::{case_of, readings_of, terminal_text};
 use std::alloc::{AllocError, Global};
 use std::test::Fail;
-use tw_lineedit::{LineEditorHost, OutputElement, OwnAnswers};
+use tw_lineedit::{BasicHistory, LineEditorHost, OutputElement, OwnAnswers};
 
 /// A host that puts the cursor of every line at one column.
 #[derive(Drop)]
 struct ColumnHost {
+    history: BasicHistory,
     column: usize,
 }
 
 impl LineEditorHost for ColumnHost {
-    ghost Value = { ℕ };
+    type Hist = BasicHistory;
 
-    ghost value = { λ host. host.column };
+    ghost Value = { Placed };
+
+    ghost value = { λ host. record { lines = host.history; column = host.column } };
 
     ghost rules = { column_rules };
+
+    ghost held = { λ host. host.history };
+
+    ghost with_held = { λ host history. record host { history = history } };
 
     ghost OWN = { highlight_own };
 
@@ -28,6 +35,10 @@ impl LineEditorHost for ColumnHost {
         highlight: true,
         resolve: false,
     };
+
+    fn history(&mut self) -> &mut BasicHistory {
+        &mut self.history
+    }
 
     fn highlight_line(
         &self,
@@ -41,14 +52,19 @@ impl LineEditorHost for ColumnHost {
     }
 
     ghost plain_answers = { column_is_plain };
+
+    ghost held_back = { λ host. refl };
+
+    ghost held_lines = { λ host. refl };
 }
 
 /// What is shown of a reading without events, on a terminal of so many columns.
 fn shown_at(alloc: Global, cols: usize, column: usize) -> Result<String, Fail> {
-    let mut terminal = terminal_of(alloc, cols, "")?;
-    let mut host = ColumnHost { column };
-    let answer = read_line(alloc, &mut terminal, &mut host, None);
-    let answer = answer_text(alloc, &answer)?;
+    let mut case = case_of(alloc, "")?;
+    case.size.cols = cols;
+    let history = BasicHistory::new(alloc);
+    let mut host = ColumnHost { history, column };
+    let (answer, terminal) = readings_of(alloc, &case, &mut host)?;
     let told = terminal_text(alloc, &terminal)?;
     Ok(format!(in alloc; "{answer}, {told}")?)
 }

@@ -10,7 +10,7 @@ use std::process::Abort;
 use std::test::Fail;
 
 /// Runs the cases, each a script, a line `--`, what it writes and a line `==`, and says how many there were.
-fn replay(rt: &impl Abort, alloc: Global, cases: &str) -> Result<usize, Fail> {
+pub fn replay(rt: &impl Abort, alloc: Global, cases: &str) -> Result<usize, Fail> {
     let mut count = 0usize;
     for case in cases.split("==\n") {
         let Some((script, output)) = case.split_once("--\n") else {

@@ -186,6 +186,52 @@ cursor 1 3
 end 2 0
 -- ok
 ==
+cols 10
+history one
+history two\x20
+key Up
+read
+history
+key Up
+key Up
+key Up
+key Enter
+read
+type x
+key Up
+read
+--
+line two\x20
+|> two     |
+cursor 0 6
+end 1 0
+line one
+|> two     |
+|> one     |
+cursor 1 5
+end 2 0
+line\x20
+|> two     |
+|> one     |
+|>         |
+cursor 2 2
+end 3 0
+-- ok
+==
+cols 16
+history git log
+history ls
+key C-R
+type g
+read
+--
+line g
+|> git log       |
+|bck-i-search: g_|
+cursor 0 2
+end 2 0
+-- ok
+==
 ";
 
 /// Runs the cases, and says how many there were.
@@ -208,7 +254,7 @@ pub fn expect_cases(rt: &impl Abort, alloc: Global, cases: &str) -> Result<usize
 
 #[test]
 fn scripts_show_what_the_editor_shows(rt: HostRuntime) -> Result<(), Fail> {
-    assert_eq!(rt; expect_cases(&rt, rt.alloc(), CASES)?, 11);
+    assert_eq!(rt; expect_cases(&rt, rt.alloc(), CASES)?, 13);
     Ok(())
 }
 
@@ -239,6 +285,10 @@ Read
 read\r
 sing
 prompts x
+histories x
+History x
+cand 0 1 x
+preview x
 cols
 cols\x20
 cols +5
@@ -286,7 +336,7 @@ fn a_line_that_is_no_directive_ends_the_run(rt: HostRuntime) -> Result<(), Fail>
         );
         count = count.saturating_add(1);
     }
-    assert_eq!(rt; count, 39);
+    assert_eq!(rt; count, 43);
     Ok(())
 }
 

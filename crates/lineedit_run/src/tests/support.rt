@@ -5,27 +5,30 @@ use std::alloc::{AllocError, Global};
 use std::process::Abort;
 use std::test::Fail;
 use tw_input::{InputEvent, KeyCode, KeyEvent, Modifiers};
-use tw_lineedit::{Error, LineEditor, LineEditorHost, NopLineEditorHost};
+use tw_lineedit::{Error, History, LineEditor, LineEditorHost, NopLineEditorHost};
 use tw_surface::{CellAttributes, Change, ColorAttribute, Position};
 use tw_terminal::{ScreenSize, ScriptTerminal};
 
-/// The events of a list of names, parted by spaces: a character stands for itself, `5x24` is a change of the
-/// size to 5 columns and 24 rows, and the others are names of keys.
+/// The events of a list of names, parted by spaces: a character stands for itself, `paste:g` is a paste of
+/// `g`, `5x24` is a change of the size to 5 columns and 24 rows, and the others are names of keys.
 pub fn events_of(alloc: Global, names: &str) -> Result<Vec<InputEvent>, Fail> {
     let mut events = Vec::new(alloc);
     for name in names.split_whitespace() {
-        events.push(event_of(name)?)?;
+        events.push(event_of(alloc, name)?)?;
     }
     Ok(events)
 }
 
-fn event_of(name: &str) -> Result<InputEvent, Fail> {
+fn event_of(alloc: Global, name: &str) -> Result<InputEvent, Fail> {
     let mut characters = name.chars();
     if let (Some(character), None) = (characters.next(), characters.next()) {
         return Ok(InputEvent::Key(KeyEvent {
             key: KeyCode::Char(character),
             modifiers: Modifiers::NONE,
         }));
+    }
+    if let Some(text) = name.strip_prefix("paste:") {
+        return Ok(InputEvent::Paste(String::from_str(alloc, text)?));
     }
     if let Some((cols, rows)) = name.split_once('x') {
         return Ok(InputEvent::Resized {
@@ -60,17 +63,23 @@ pub fn answer_text(
 pub fn batches_text(alloc: Global, batches: &[Vec<Change>]) -> Result<String, AllocError> {
     let mut text = String::new(alloc);
     for batch in batches {
-        let mut parted = false;
-        for change in batch {
-            if parted {
-                text.push_str(", ")?;
-            }
-            write_change(&mut text, change)?;
-            parted = true;
-        }
+        write_batch(&mut text, batch)?;
         text.push('\n')?;
     }
     Ok(text)
+}
+
+/// Names the changes of a batch.
+pub fn write_batch(text: &mut String, batch: &[Change]) -> Result<(), AllocError> {
+    let mut parted = false;
+    for change in batch {
+        if parted {
+            text.push_str(", ")?;
+        }
+        write_change(text, change)?;
+        parted = true;
+    }
+    Ok(())
 }
 
 /// Names a change, its colour or attributes only where they are not the default ones.
@@ -109,13 +118,17 @@ pub fn terminal_text(alloc: Global, terminal: &ScriptTerminal) -> Result<String,
     format!(in alloc; "{left} left, {flushed} flushed, {failures} failed\n{batches}")
 }
 
-/// A case of `expect_readings`, by its lines.
+/// What an editor is to do, by the lines of `case_of`.
 #[derive(Drop)]
-struct Case<'a> {
-    size: ScreenSize,
-    initial: Option<&'a str>,
-    events: &'a str,
-    fault: Option<(usize, usize)>,
+pub struct Case<'a> {
+    pub size: ScreenSize,
+    pub history: Vec<&'a str>,
+    pub prompt: &'a str,
+    pub initial: Option<&'a str>,
+    pub events: &'a str,
+    pub readings: usize,
+    pub actions: Option<&'a str>,
+    pub fault: Option<(usize, usize)>,
 }
 
 fn pair_of(text: &str) -> Result<(usize, usize), Fail> {
@@ -123,13 +136,18 @@ fn pair_of(text: &str) -> Result<(usize, usize), Fail> {
     Ok((first.parse()?, second.parse()?))
 }
 
-/// The case of lines `size ROWS COLS`, `initial TEXT`, `events NAMES` and `fail CALL TAKEN`, each of which
-/// may be left out.
-fn case_of(lines: &str) -> Result<Case<'_>, Fail> {
+/// The case of lines `size ROWS COLS`, `history TEXT` for each line of the history, `prompt TEXT`,
+/// `initial TEXT`, `events NAMES`, `readings COUNT`, `actions NAMES` and `fail CALL TAKEN`, each of which may
+/// be left out. `actions` are those that the key table gives for the events of these names.
+pub fn case_of(alloc: Global, lines: &str) -> Result<Case<'_>, Fail> {
     let mut case = Case {
         size: ScreenSize { rows: 24, cols: 80 },
+        history: Vec::new(alloc),
+        prompt: "> ",
         initial: None,
         events: "",
+        readings: 1,
+        actions: None,
         fault: None,
     };
     for line in lines.lines() {
@@ -139,36 +157,50 @@ fn case_of(lines: &str) -> Result<Case<'_>, Fail> {
                 let (rows, cols) = pair_of(text)?;
                 case.size = ScreenSize { rows, cols };
             }
+            "history" => case.history.push(text)?,
+            "prompt" => case.prompt = text,
             "initial" => case.initial = Some(text),
             "events" => case.events = text,
-            _ => case.fault = Some(pair_of(text)?),
+            "readings" => case.readings = text.parse()?,
+            "actions" => case.actions = Some(text),
+            "fail" => case.fault = Some(pair_of(text)?),
+            _ => return Err(Fail::from("no such word")),
         }
     }
     Ok(case)
 }
 
-/// Reads a line with a new editor over the terminal.
-pub fn read_line<H: LineEditorHost>(
-    alloc: Global,
-    terminal: &mut ScriptTerminal,
-    host: &mut H,
-    initial: Option<&str>,
-) -> Result<Option<String>, Error> {
-    let mut editor = LineEditor::new(alloc, terminal)?;
-    editor.read_line_with_optional_initial_value(host, initial)
+/// Adds the lines to the host's history.
+pub fn remember_all<H: LineEditorHost>(host: &mut H, lines: &[&str]) -> Result<(), AllocError> {
+    for line in lines {
+        host.history().add(line)?;
+    }
+    Ok(())
 }
 
-fn reading_text(alloc: Global, case: &Case<'_>) -> Result<String, Fail> {
+/// Reads the lines of a case with one editor, and gives the answers as text and the terminal.
+pub fn readings_of<H: LineEditorHost>(
+    alloc: Global,
+    case: &Case<'_>,
+    host: &mut H,
+) -> Result<(String, ScriptTerminal), Fail> {
     let events = events_of(alloc, case.events)?;
     let mut terminal = ScriptTerminal::new(alloc, case.size, events);
     if let Some((call, taken)) = case.fault {
         terminal.fail_at(call, taken);
     }
-    let mut host = NopLineEditorHost::new(alloc);
-    let answer = read_line(alloc, &mut terminal, &mut host, case.initial);
-    let answer = answer_text(alloc, &answer)?;
-    let told = terminal_text(alloc, &terminal)?;
-    Ok(format!(in alloc; "{answer}, {told}")?)
+    let mut answers = String::new(alloc);
+    {
+        let mut editor = LineEditor::new(alloc, &mut terminal)?;
+        editor.set_prompt(case.prompt)?;
+        for number in 0..case.readings {
+            let answer = editor.read_line_with_optional_initial_value(host, case.initial);
+            let answer = answer_text(alloc, &answer)?;
+            let parting = if number == 0 { "" } else { ", " };
+            write!(answers, "{parting}{answer}")?;
+        }
+    }
+    Ok((answers, terminal))
 }
 
 /// Runs the cases, and says how many there were. A case has the lines of `case_of`, and below `--` the
@@ -179,8 +211,12 @@ pub fn expect_readings(rt: &impl Abort, alloc: Global, cases: &str) -> Result<us
         let Some((lines, wanted)) = text.split_once("--\n") else {
             continue;
         };
-        let case = case_of(lines)?;
-        let shown = reading_text(alloc, &case)?;
+        let case = case_of(alloc, lines)?;
+        let mut host = NopLineEditorHost::new(alloc);
+        remember_all(&mut host, case.history.as_slice())?;
+        let (answers, terminal) = readings_of(alloc, &case, &mut host)?;
+        let told = terminal_text(alloc, &terminal)?;
+        let shown = format!(in alloc; "{answers}, {told}")?;
         assert_eq!(rt; shown.as_str(), wanted, "{lines}");
         count = count.saturating_add(1);
     }

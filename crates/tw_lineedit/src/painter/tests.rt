@@ -1,4 +1,5 @@
 use super::*;
+use crate::history::BasicHistory;
 use crate::host::{NopLineEditorHost, OwnAnswers};
 use std::process::Abort;
 use std::test::Fail;
@@ -7,22 +8,40 @@ use std::test::Fail;
 #[derive(Drop)]
 struct ColumnHost {
     column: usize,
+    history: BasicHistory,
+}
+
+impl ColumnHost {
+    /// The host with an empty history.
+    fn new(alloc: Global, column: usize) -> Self {
+        ColumnHost {
+            column,
+            history: BasicHistory::new(alloc),
+        }
+    }
 }
 
 impl LineEditorHost for ColumnHost {
-    ghost use Rattle.std.specs.Prelude.{ℕ, true, false, refl};
+    ghost use Rattle.std.specs.Prelude.{ℕ, List, true, false, refl};
     ghost use Rattle.std.proofs.lemmas.Bool.{true≢false};
     ghost use Rattle.tw_lineedit.specs.HostRules.{plain_text, unresolved};
 
-    ghost Value = { ℕ };
+    type Hist = BasicHistory;
 
-    ghost value = { λ h. h.column };
+    ghost Value = { ℕ × List (List ℕ) };
+
+    ghost value = { λ host. (host.column, host.history) };
 
     ghost rules = { record {
-      prompt = λ column text. plain_text text;
-      highlight = λ column cut. record { elements = plain_text cut.line; column = column };
-      resolve = λ column event cut. unresolved column cut;
+      lines = λ v. v.1;
+      prompt = λ v text. plain_text text;
+      highlight = λ v cut. record { elements = plain_text cut.line; column = v.0 };
+      resolve = λ v event cut. unresolved v cut;
     } };
+
+    ghost held = { λ host. host.history };
+
+    ghost with_held = { λ host history. record host { history = history } };
 
     ghost OWN = { record { prompt = false; highlight = true; resolve = false } };
 
@@ -31,6 +50,10 @@ impl LineEditorHost for ColumnHost {
         highlight: true,
         resolve: false,
     };
+
+    fn history(&mut self) -> &mut BasicHistory {
+        &mut self.history
+    }
 
     fn highlight_line(
         &self,
@@ -43,7 +66,11 @@ impl LineEditorHost for ColumnHost {
         Ok((elements, self.column))
     }
 
-    ghost plain_answers = { record { prompt = λ e column text. refl; highlight = λ e column cut. absurd (true≢false e); resolve = λ e column event cut. refl } };
+    ghost plain_answers = { record { prompt = λ e v text. refl; highlight = λ e v cut. absurd (true≢false e); resolve = λ e v event cut. refl } };
+
+    ghost held_back = { λ host. refl };
+
+    ghost held_lines = { λ host. refl };
 }
 
 /// The line with its cursor at the end, painted behind the prompt `> `.
@@ -61,15 +88,18 @@ fn painted<H: LineEditorHost>(
         alloc,
         "> ",
         &buffer,
+        Below::Nothing,
         ScreenSize { rows, cols },
         before,
     )
 }
 
+/// A change that is this text.
 fn text(alloc: Global, text: &str) -> Result<Change, AllocError> {
     Ok(Change::Text(String::from_str(alloc, text)?))
 }
 
+/// The move by so many columns and rows.
 fn move_by(x: isize, y: isize) -> Change {
     Change::CursorPosition {
         x: Position::Relative(x),
@@ -77,11 +107,23 @@ fn move_by(x: isize, y: isize) -> Change {
     }
 }
 
+/// The move by so many rows, to the first column.
 fn to_first_column(y: isize) -> Change {
     Change::CursorPosition {
         x: Position::Absolute(0),
         y: Position::Relative(y),
     }
+}
+
+/// The changes that show the prompt and the line.
+fn shown(alloc: Global, line: &str) -> Result<Vec<Change>, AllocError> {
+    Ok(vec![in alloc;
+        Change::ClearToEndOfScreen(ColorAttribute::Default),
+        Change::AllAttributes(CellAttributes::default()),
+        text(alloc, "> ")?,
+        Change::AllAttributes(CellAttributes::default()),
+        text(alloc, line)?,
+    ]?)
 }
 
 /// The changes of a painting of the line, with a space behind it or none, and with the last move.
@@ -91,13 +133,7 @@ fn batch(
     edge_space: bool,
     last: Change,
 ) -> Result<Vec<Change>, AllocError> {
-    let mut changes = vec![in alloc;
-        Change::ClearToEndOfScreen(ColorAttribute::Default),
-        Change::AllAttributes(CellAttributes::default()),
-        text(alloc, "> ")?,
-        Change::AllAttributes(CellAttributes::default()),
-        text(alloc, line)?,
-    ]?;
+    let mut changes = shown(alloc, line)?;
     if edge_space {
         changes.push(text(alloc, " ")?)?;
     }
@@ -105,6 +141,7 @@ fn batch(
     Ok(changes)
 }
 
+/// The changes are those that are wanted.
 fn assert_changes(rt: &impl Abort, changes: &[Change], wanted: &[Change]) {
     assert_eq!(rt; changes.len(), wanted.len());
     for (change, other) in changes.iter().zip(wanted) {
@@ -156,13 +193,46 @@ fn cursor_may_be_far_behind_the_line(rt: HostRuntime) -> Result<(), Fail> {
     ];
     let alloc = rt.alloc();
     for (cols, column, (x, y), closing_move) in rows {
-        let painting = painted(&ColumnHost { column }, alloc, (24, cols), "", None)?;
+        let painting = painted(&ColumnHost::new(alloc, column), alloc, (24, cols), "", None)?;
         let wanted = batch(alloc, "", false, move_by(x, y))?;
         assert_painting(&rt, &painting, wanted.as_slice(), closing_move);
     }
     for column in [2_147_483_646, usize::MAX] {
-        let refused = painted(&ColumnHost { column }, alloc, (24, 80), "", None);
+        let refused = painted(&ColumnHost::new(alloc, column), alloc, (24, 80), "", None);
         assert_eq!(rt; refused.err().map(|e| e.number()), Some(4));
+    }
+    Ok(())
+}
+
+#[test]
+fn search_stands_under_the_line(rt: HostRuntime) -> Result<(), Fail> {
+    let rows = [
+        // where the search goes, its pattern, its text, the last move
+        (
+            SearchDirection::Backwards,
+            "g",
+            "\r\nbck-i-search: g_",
+            (-14, -1),
+        ),
+        (
+            SearchDirection::Forwards,
+            "",
+            "\r\nfwd-i-search: _",
+            (-13, -1),
+        ),
+    ];
+    let alloc = rt.alloc();
+    let host = NopLineEditorHost::new(alloc);
+    let line = LineEditBuffer::new(alloc, "git log", 0)?;
+    for (direction, pattern, search, (x, y)) in rows {
+        let below = Below::Search { direction, pattern };
+        let size = ScreenSize { rows: 24, cols: 16 };
+        let painting = paint(&host, alloc, "> ", &line, below, size, None)?;
+        let mut wanted = shown(alloc, "git log")?;
+        wanted.push(Change::AllAttributes(CellAttributes::default()))?;
+        wanted.push(text(alloc, search)?)?;
+        wanted.push(move_by(x, y))?;
+        assert_painting(&rt, &painting, wanted.as_slice(), 2);
     }
     Ok(())
 }

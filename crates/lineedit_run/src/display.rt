@@ -1,0 +1,56 @@
+//! What a screen shows.
+
+use std::alloc::AllocError;
+use tw_surface::{Change, Screen, ScreenFault};
+
+/// Plays the batches in order, and returns where the cursor was before the last one.
+pub fn play_all(
+    screen: &mut Screen,
+    paintings: &[Vec<Change>],
+    closing: &[Change],
+) -> Result<(usize, usize), ScreenFault> {
+    for painting in paintings {
+        play(screen, painting.as_slice())?;
+    }
+    let cursor = screen.cursor();
+    play(screen, closing)?;
+    Ok(cursor)
+}
+
+fn play(screen: &mut Screen, batch: &[Change]) -> Result<(), ScreenFault> {
+    for change in batch {
+        screen.apply(change)?;
+    }
+    Ok(())
+}
+
+/// Adds the rows of the screen, the cursor while the line was edited, and the cursor now.
+pub fn show_screen(
+    screen: &Screen,
+    cols: usize,
+    cursor: (usize, usize),
+    shown: &mut String,
+) -> Result<(), AllocError> {
+    if let Some(last) = screen.last_row() {
+        for row in 0..=last {
+            show_row(screen, cols, row, shown)?;
+        }
+    }
+    let (row, col) = cursor;
+    let (end_row, end_col) = screen.cursor();
+    write!(shown, "cursor {row} {col}\nend {end_row} {end_col}\n")
+}
+
+/// Adds a row of the screen, between two bars.
+fn show_row(
+    screen: &Screen,
+    cols: usize,
+    row: usize,
+    shown: &mut String,
+) -> Result<(), AllocError> {
+    shown.push('|')?;
+    for col in 0..cols {
+        shown.push(screen.char_at(row, col))?;
+    }
+    shown.push_str("|\n")
+}
