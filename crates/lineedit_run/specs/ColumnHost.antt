@@ -1,6 +1,6 @@
 -- A host that puts the cursor of every line at one column.
-use Rattle.std.specs.Prelude.{ℕ, ⊤, Bool, true, false, List, refl}
-use Rattle.std.proofs.Common.{subst}
+use Rattle.std.specs.Prelude.{ℕ, true, false, List, [], refl}
+use Rattle.std.proofs.lemmas.Bool.{true≢false}
 use Rattle.tw_lineedit.specs.declared.host.OwnAnswers.{OwnAnswers}
 use Rattle.tw_lineedit.specs.HostRules.{HostRules, plain_text, unresolved}
 use Rattle.tw_lineedit.specs.PlainAnswers.{IsPlainBut}
@@ -15,21 +15,21 @@ abbrev pub column_rules : HostRules Placed
 column_rules = record {
   lines = λ v. v.lines;
   prompt = λ v text. plain_text text;
+  preview = λ v line. [];
   highlight = λ v cut. record { elements = plain_text cut.line; column = v.column };
+  candidates = λ v cut. [];
   resolve = λ v event cut. unresolved v cut;
 }
 
 -- the highlighted line alone is an answer of its own
 abbrev pub highlight_own : OwnAnswers
-highlight_own = record { prompt = false; highlight = true; resolve = false }
-
-abbrev IsOn : Bool → Type 0
-IsOn true = ⊤
-IsOn false = ⊥
+highlight_own = record { prompt = false; preview = false; highlight = true; complete = false; resolve = false }
 
 pub column_is_plain : IsPlainBut column_rules highlight_own
 column_is_plain = record {
   prompt = λ e v text. refl;
-  highlight = λ e v cut. absurd (subst IsOn e tt);
+  preview = λ e v line. refl;
+  highlight = λ e v cut. absurd (true≢false e);
+  complete = λ e v cut. refl;
   resolve = λ e v event cut. refl;
 }

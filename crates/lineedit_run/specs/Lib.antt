@@ -4,4 +4,6 @@ pub mod KeyNames
 pub mod Lines
 pub mod Written
 pub mod Reading
+pub mod ResolvingHost
+pub mod ScriptRules
 pub mod Sessions

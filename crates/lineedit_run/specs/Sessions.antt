@@ -1,15 +1,22 @@
--- The history of a session.
-use Rattle.std.specs.Prelude.{◌≡◌, ℕ, List, Some}
-use Rattle.tw_lineedit.specs.Near.{last_line}
+-- The host of a session.
+use Rattle.std.specs.Prelude.{◌≡◌, map, string_bytes}
+use Rattle.tw_lineedit.specs.CandidateView.{candidate_view}
+use Rattle.lineedit_run.specs.ScriptRules.{Scripted, Remembers, with_candidate, with_preview}
 use Rattle.lineedit_run.specs.declared.script.Directive.{Directive}
-use Rattle.lineedit_run.specs.declared.script.Directive.TheVariants.{History}
+use Rattle.lineedit_run.specs.declared.script.Directive.TheVariants.{Preview, History, Candidate}
 use Rattle.lineedit_run.specs.declared.session.Session.{Session}
 
--- the lines of its history
-abbrev pub history_of : Session → List (List ℕ)
-history_of session = session.host.history
+-- the value of its host
+abbrev pub host_of : Session → Scripted
+host_of session = record {
+  lines = session.host.history;
+  preview = string_bytes session.host.preview;
+  candidates = map candidate_view session.host.candidates.items;
+}
 
--- the history ends with the line that a directive adds, and no other directive changes it
-abbrev pub Remembers : Directive → List (List ℕ) → List (List ℕ) → Type 0
-Remembers (History line) old new = last_line new ≡ Some line.now
-Remembers _ old new = new ≡ old
+-- what a directive does to the host's value
+abbrev pub Obeys : Directive → Scripted → Scripted → Type 0
+Obeys (Preview text) old new = new ≡ with_preview text.now old
+Obeys (History line) old new = Remembers line.now old new
+Obeys (Candidate range text) old new = new ≡ with_candidate (record { start = range.start; end = range.end; text = text.now }) old
+Obeys _ old new = new ≡ old

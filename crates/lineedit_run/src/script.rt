@@ -1,10 +1,11 @@
 //! The lines of a script.
 
 ghost use Rattle.std.specs.Prelude.{IfSome};
-ghost use Rattle.lineedit_run.specs.Directives.{IsLineOf, IsWordAndText};
+ghost use Rattle.lineedit_run.specs.Directives.{IsLineOf, IsRangeAndText, IsWordAndText};
 
 use crate::keys::key_named;
 use crate::number::parse_number;
+use std::ops::Range;
 use tw_input::KeyEvent;
 
 /// What a line of a script asks for.
@@ -14,8 +15,12 @@ pub enum Directive<'a> {
     Cols(usize),
     /// The prompt from now on.
     Prompt(&'a str),
+    /// The preview from now on, and none where the text is empty.
+    Preview(&'a str),
     /// One more line of the history.
     History(&'a str),
+    /// One more candidate, which the host answers to every request.
+    Candidate(Range<usize>, &'a str),
     /// A key for each character of the text.
     Type(&'a str),
     /// The text, pasted.
@@ -36,13 +41,27 @@ pub fn parse_line(line: &[u8]) -> Option<Directive<'_>>
     match word {
         "cols" => Some(Directive::Cols(parse_number(text)?)),
         "prompt" => Some(Directive::Prompt(text)),
+        "preview" => Some(Directive::Preview(text)),
         "history" => Some(Directive::History(text)),
+        "cand" => {
+            let (range, text) = parse_candidate(text)?;
+            Some(Directive::Candidate(range, text))
+        }
         "type" => Some(Directive::Type(text)),
         "paste" => Some(Directive::Paste(text)),
         "key" => Some(Directive::Key(key_named(text)?)),
         "read" if line == "read" => Some(Directive::Read),
         _ => None,
     }
+}
+
+/// The range and the text of a candidate: two numbers and the text, which may be left out with its space.
+fn parse_candidate(text: &str) -> Option<(Range<usize>, &str)>
+    ensures { IfSome result (λ candidate. IsRangeAndText text.now candidate.0.start candidate.0.end candidate.1.now) }
+{
+    let (start, rest) = split_word(text);
+    let (end, text) = split_word(rest);
+    Some((parse_number(start)?..parse_number(end)?, text))
 }
 
 /// The word that a line begins with, and the text behind the space that follows it. Without a space the whole

@@ -1,58 +1,116 @@
 //! The host of a script.
 
-ghost use Rattle.std.specs.Prelude.{◌≡◌, ℕ, List, Some, OnOk, OnErr, refl};
-ghost use Rattle.tw_lineedit.specs.HostRules.{plain_rules};
-ghost use Rattle.tw_lineedit.specs.Near.{last_line};
-ghost use Rattle.tw_lineedit.specs.PlainAnswers.{nothing_own, plain_is_plain};
+ghost use Rattle.std.specs.Prelude.{◌≡◌, map, string_bytes, OnOk, OnErr, refl};
+ghost use Rattle.tw_lineedit.specs.CandidateView.{candidate_view};
+ghost use Rattle.lineedit_run.specs.ScriptRules.{Scripted, Remembers, history_only, with_candidate, with_preview, script_rules, script_own, script_is_plain};
 
-use std::alloc::AllocError;
-use tw_lineedit::{History, LineEditorHost, OwnAnswers};
+use std::alloc::{AllocError, Global};
+use std::ops::Range;
+use tw_lineedit::{CompletionCandidate, History, LineEditorHost, OutputElement, OwnAnswers};
 
-/// A host with a history, and the default answers.
+/// A host with a history, a preview under every line, and candidates that it answers to every request. Its
+/// other answers are the default ones.
 #[derive(Drop)]
 pub struct ScriptHost<L> {
+    alloc: Global,
     history: L,
+    preview: String,
+    candidates: Vec<CompletionCandidate>,
 }
 
 impl<L: History> ScriptHost<L> {
-    /// The host with this history.
-    pub fn new(history: L) -> Self
-        ensures { ⟦<ScriptHost<L> as LineEditorHost>⟧.value result ≡ L.lines history }
+    /// The host with this history, without a preview and without candidates.
+    pub fn new(alloc: Global, history: L) -> Self
+        ensures { ⟦<ScriptHost<L> as LineEditorHost>⟧.value result ≡ history_only (L.lines history) }
     {
-        ScriptHost { history }
+        ScriptHost {
+            alloc,
+            history,
+            preview: String::new(alloc),
+            candidates: Vec::new(alloc),
+        }
     }
 
     /// Adds a line to the history. Where it is refused nothing is changed.
     pub fn remember(&mut self, line: &str) -> Result<(), AllocError>
-        ensures last { OnOk result (last_line (⟦<ScriptHost<L> as LineEditorHost>⟧.value self.new) ≡ Some line.now) }
+        ensures last { OnOk result (Remembers line.now (⟦<ScriptHost<L> as LineEditorHost>⟧.value self.old) (⟦<ScriptHost<L> as LineEditorHost>⟧.value self.new)) }
         ensures refused { OnErr result (⟦<ScriptHost<L> as LineEditorHost>⟧.value self.new ≡ ⟦<ScriptHost<L> as LineEditorHost>⟧.value self.old) }
     {
         self.history.add(line)
+    }
+
+    /// Shows this preview from now on, and none where it is empty. Where it is refused nothing is changed.
+    pub fn set_preview(&mut self, preview: &str) -> Result<(), AllocError>
+        ensures set { OnOk result (⟦<ScriptHost<L> as LineEditorHost>⟧.value self.new ≡ with_preview preview.now (⟦<ScriptHost<L> as LineEditorHost>⟧.value self.old)) }
+        ensures refused { OnErr result (⟦<ScriptHost<L> as LineEditorHost>⟧.value self.new ≡ ⟦<ScriptHost<L> as LineEditorHost>⟧.value self.old) }
+    {
+        self.preview = String::from_str(self.alloc, preview)?;
+        Ok(())
+    }
+
+    /// Adds a candidate behind the others. Where it is refused nothing is changed.
+    pub fn offer(&mut self, range: Range<usize>, text: &str) -> Result<(), AllocError>
+        ensures last { OnOk result (⟦<ScriptHost<L> as LineEditorHost>⟧.value self.new
+            ≡ with_candidate (record { start = range.start; end = range.end; text = text.now }) (⟦<ScriptHost<L> as LineEditorHost>⟧.value self.old)) }
+        ensures refused { OnErr result (⟦<ScriptHost<L> as LineEditorHost>⟧.value self.new ≡ ⟦<ScriptHost<L> as LineEditorHost>⟧.value self.old) }
+    {
+        let text = String::from_str(self.alloc, text)?;
+        self.candidates.push(CompletionCandidate { range, text })?;
+        Ok(())
     }
 }
 
 impl<L: History> LineEditorHost for ScriptHost<L> {
     type Hist = L;
 
-    ghost Value = { List (List ℕ) };
+    ghost Value = { Scripted };
 
-    ghost value = { λ host. L.lines host.history };
+    ghost value = { λ host. record { lines = L.lines host.history; preview = string_bytes host.preview; candidates = map candidate_view host.candidates.items } };
 
-    ghost rules = { plain_rules (λ lines. lines) };
+    ghost rules = { script_rules };
 
     ghost held = { λ host. host.history };
 
     ghost with_held = { λ host history. record host { history = history } };
 
-    ghost OWN = { nothing_own };
+    ghost OWN = { script_own };
 
-    const OWN: OwnAnswers = OwnAnswers::NONE;
+    const OWN: OwnAnswers = OwnAnswers {
+        preview: true,
+        complete: true,
+        ..OwnAnswers::NONE
+    };
 
     fn history(&mut self) -> &mut L {
         &mut self.history
     }
 
-    ghost plain_answers = { plain_is_plain (λ lines. lines) };
+    fn render_preview(&self, alloc: Global, _line: &str) -> Result<Vec<OutputElement>, AllocError> {
+        let mut elements = Vec::new(alloc);
+        if !self.preview.is_empty() {
+            let text = String::from_str(alloc, self.preview.as_str())?;
+            elements.push(OutputElement::Text(text))?;
+        }
+        Ok(elements)
+    }
+
+    fn complete(
+        &self,
+        alloc: Global,
+        _line: &str,
+        _cursor_position: usize,
+    ) -> Result<Vec<CompletionCandidate>, AllocError> {
+        let mut copies = Vec::new(alloc);
+        for candidate in &self.candidates {
+            copies.push(CompletionCandidate {
+                range: candidate.range.start..candidate.range.end,
+                text: String::from_str(alloc, candidate.text.as_str())?,
+            })?;
+        }
+        Ok(copies)
+    }
+
+    ghost plain_answers = { script_is_plain };
 
     ghost held_back = { λ host. refl };
 

@@ -36,18 +36,19 @@ pub struct Session {
 }
 
 impl Session {
-    ghost use Rattle.lineedit_run.specs.Sessions.{history_of, Remembers};
+    ghost use Rattle.lineedit_run.specs.ScriptRules.{history_only};
+    ghost use Rattle.lineedit_run.specs.Sessions.{host_of, Obeys};
 
     /// The session at the start of a script.
     pub fn new(alloc: Global) -> Result<Self, AllocError>
-        ensures { IfOk result (λ session. history_of session ≡ []) }
+        ensures { IfOk result (λ session. host_of session ≡ history_only []) }
     {
         Ok(Session {
             alloc,
             cols: COLS,
             prompt: String::from_str(alloc, "> ")?,
             events: Vec::new(alloc),
-            host: ScriptHost::new(BasicHistory::new(alloc)),
+            host: ScriptHost::new(alloc, BasicHistory::new(alloc)),
             screen: Screen::new(alloc, COLS).ok(),
         })
     }
@@ -60,7 +61,7 @@ impl Session {
     ) -> Result<(), RunFault>
         ensures kept { Extends (W.contents writer.old) (W.contents writer.new) }
         ensures fault { IfErr result IsOutside }
-        ensures history { OnOk result (Remembers directive.entry (history_of self.old) (history_of self.new)) }
+        ensures host { OnOk result (Obeys directive.entry (host_of self.old) (host_of self.new)) }
     {
         match directive {
             Directive::Cols(cols) => {
@@ -68,7 +69,9 @@ impl Session {
                 self.clear_screen();
             }
             Directive::Prompt(prompt) => self.prompt = String::from_str(self.alloc, prompt)?,
+            Directive::Preview(preview) => self.host.set_preview(preview)?,
             Directive::History(line) => self.host.remember(line)?,
+            Directive::Candidate(range, text) => self.host.offer(range, text)?,
             Directive::Type(text) => self.type_text(text)?,
             Directive::Paste(text) => {
                 let text = String::from_str(self.alloc, text)?;
@@ -85,14 +88,14 @@ impl Session {
 
     /// A new screen, or none where no screen has so many columns.
     fn clear_screen(&mut self)
-        ensures { history_of self.new ≡ history_of self.old }
+        ensures { host_of self.new ≡ host_of self.old }
     {
         self.screen = Screen::new(self.alloc, self.cols).ok();
     }
 
     /// A key for each character.
     fn type_text(&mut self, text: &str) -> Result<(), AllocError>
-        ensures { history_of self.new ≡ history_of self.old }
+        ensures { host_of self.new ≡ host_of self.old }
     {
         for character in text.chars() {
             self.events.push(InputEvent::Key(KeyEvent {
@@ -106,7 +109,7 @@ impl Session {
     /// Reads a line from the events, and tells the answer and what the screen then shows.
     fn read(&mut self) -> Result<String, RunFault>
         ensures fault { IfErr result IsOutside }
-        ensures history { history_of self.new ≡ history_of self.old }
+        ensures host { host_of self.new ≡ host_of self.old }
     {
         let events = mem::replace(&mut self.events, Vec::new(self.alloc));
         let size = ScreenSize {
@@ -125,7 +128,7 @@ impl Session {
     /// Plays the batches on the screen, and adds what it then shows.
     fn show(&mut self, batches: &[Vec<Change>], shown: &mut String) -> Result<(), RunFault>
         ensures fault { IfErr result IsOutside }
-        ensures history { history_of self.new ≡ history_of self.old }
+        ensures host { host_of self.new ≡ host_of self.old }
     {
         let Some((closing, paintings)) = batches.split_last() else {
             return Ok(());

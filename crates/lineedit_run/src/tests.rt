@@ -1,7 +1,9 @@
 //! Scripts with what they show, readers and writers that fail, and the editor change by change.
 
 mod actions;
+mod all_replay;
 mod calls;
+mod completions;
 mod faults;
 mod histories;
 mod history_replay;

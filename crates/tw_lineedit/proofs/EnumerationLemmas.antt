@@ -5,14 +5,14 @@ use Rattle.std.proofs.lemmas.List.{take_more, take_all, reverse-append}
 use Rattle.tw_lineedit.specs.Cut.{Cut, cut_at}
 use Rattle.tw_lineedit.specs.Extremes.{greatest_below, repeated}
 use Rattle.tw_lineedit.specs.Patterns.{contains}
-use Rattle.tw_lineedit.specs.Near.{line_at, last_index, matches, match_at, near}
+use Rattle.tw_lineedit.specs.Near.{MatchView, line_at, last_index, matches, match_at, near}
 use Rattle.tw_lineedit.specs.ActionView.{InsertChar, InsertText, HistoryIncSearchBackwards}
 use Rattle.tw_lineedit.specs.HostRules.{HostRules}
 use Rattle.tw_lineedit.specs.Refusal.{Refusal}
 use Rattle.tw_lineedit.specs.EditState.{EditState, Searching}
 use Rattle.tw_lineedit.specs.Edits.{with_char, with_text}
 use Rattle.tw_lineedit.specs.Searches.{near_from, shown_match, again, sought}
-use Rattle.tw_lineedit.specs.Steps.{apply, edited}
+use Rattle.tw_lineedit.specs.Steps.{apply, edited, uncycled}
 use Rattle.tw_lineedit.specs.HistoryLaws.{newest, match_in, apply_all, Enumerates}
 use Rattle.tw_lineedit.specs.declared.history.SearchStyle.{SearchStyle}
 use Rattle.tw_lineedit.specs.declared.history.SearchDirection.TheVariants.{Backwards}
@@ -74,7 +74,7 @@ near-last (x ∷ lines) pattern =
 
 -- the state that shows a match
 abbrev found : EditState → SearchStyle → ℕ → Cut → EditState
-found s style i match = record s { position = Some i; mode = Searching style Backwards match }
+found s style i match = record s { position = Some i; cycle = None; mode = Searching style Backwards match }
 
 -- the line of an index with the offset of the pattern
 abbrev shown_at : List (List ℕ) → List ℕ → ℕ → Cut
@@ -87,16 +87,21 @@ found_if lines s style i match (Some j) = found s style j (shown_at lines s.cut.
 
 -- a backward search from a state that shows a match
 sought-found : (lines : List (List ℕ)) (s : EditState) (style : SearchStyle) (i : ℕ) (match : Cut) → i ≤ length lines
-    → sought lines Backwards (found s style i match) ≡ found_if lines s style i match (greatest_below (matches lines s.cut.line) i)
+    → uncycled (sought lines Backwards (found s style i match)) ≡ found_if lines s style i match (greatest_below (matches lines s.cut.line) i)
 unfolding sought greatest_below
 sought-found lines s style zero match low = refl
 sought-found lines s style (suc i) match low =
     let e : suc i - 1 ≡ i = omega arith in
     rw (ne_eqb (suc i) 0 (λ same. omega arith), e, near-below lines s.cut.line i low) (shown (greatest_below (matches lines s.cut.line) (suc i)))
   where
-    shown : (o : Option ℕ) → shown_match style Backwards match (found s style (suc i) match) (option_map (match_at lines s.cut.line) o) ≡ found_if lines s style (suc i) match o
+    shown : (o : Option ℕ) → uncycled (shown_match style Backwards match (found s style (suc i) match) (option_map (match_at lines s.cut.line) o)) ≡ found_if lines s style (suc i) match o
     shown None = refl
     shown (Some j) = refl
+
+-- a search and its match do not touch the candidates
+uncycled-shown : (style : SearchStyle) (match : Cut) (s : EditState) (o : Option MatchView) → uncycled (shown_match style Backwards match s o) ≡ shown_match style Backwards match (uncycled s) o
+uncycled-shown style match s None = refl
+uncycled-shown style match s (Some m) = refl
 
 -- an insertion while searching backwards applies the pattern again from the last line on
 edited-searching : (lines : List (List ℕ)) (edit : Cut → Cut) (s : EditState) (style : SearchStyle) (match : Cut) → s.mode ≡ Searching style Backwards match
@@ -119,7 +124,7 @@ module _ {V : Type 0} (rules : HostRules V) (v : V) where
   ShowsOlder s style k i match = Shows (found s style i match) k (match.line ∷ older lines s.cut.line i) (min k (length (older lines s.cut.line i)))
 
   -- a backward search is applied
-  apply-search : (s : EditState) → apply rules v HistoryIncSearchBackwards s ≡ Ok (sought lines Backwards s)
+  apply-search : (s : EditState) → apply rules v HistoryIncSearchBackwards s ≡ Ok (uncycled (sought lines Backwards s))
   unfolding apply
   apply-search s = refl
 
@@ -152,7 +157,7 @@ module _ {V : Type 0} (rules : HostRules V) (v : V) where
 
   -- the first match is the newest, where there is one
   newest-shown : (s : EditState) (style : SearchStyle) (match : Cut) (k : ℕ) (o : Option ℕ) → greatest_below (matches lines s.cut.line) (length lines) ≡ o
-      → ShowsNewest k (shown_match style Backwards match s (option_map (match_at lines s.cut.line) o))
+      → ShowsNewest k (shown_match style Backwards match (uncycled s) (option_map (match_at lines s.cut.line) o))
   newest-shown s style match k None none some =
       let e : newest lines s.cut.line ≡ [] = newest-older lines s.cut.line ∙ older-found lines s.cut.line (length lines) ∙ ap (from_found lines s.cut.line) none in
       let few : 1 ≤ 0 = rw e at some in
@@ -164,10 +169,11 @@ module _ {V : Type 0} (rules : HostRules V) (v : V) where
       rw (e, less) (shows_older s style k i (shown_at lines s.cut.line i) low)
 
   -- the law, of an edit in place of an insertion
-  enumerates_edit : (edit : Cut → Cut) (s t : EditState) (style : SearchStyle) (match : Cut) (k : ℕ) → s.mode ≡ Searching style Backwards match → ◌≡◌ {A = Result EditState Refusal} (Ok (edited lines edit s)) (Ok t) → ShowsNewest k t
+  enumerates_edit : (edit : Cut → Cut) (s t : EditState) (style : SearchStyle) (match : Cut) (k : ℕ) → s.mode ≡ Searching style Backwards match → ◌≡◌ {A = Result EditState Refusal} (Ok (uncycled (edited lines edit s))) (Ok t) → ShowsNewest k t
   enumerates_edit edit s t style match k searches done =
-      let same : edited lines edit s ≡ t = cc in
-      let e = sym (edited-searching lines edit s style match searches) ∙ same in
+      let same : uncycled (edited lines edit s) ≡ t = cc in
+      let shown : uncycled (edited lines edit s) ≡ _ = ap uncycled (edited-searching lines edit s style match searches) ∙ uncycled-shown style match (record s { cut = edit s.cut; position = None }) _ in
+      let e = sym shown ∙ same in
       subst (ShowsNewest k) e
       (newest-shown (record s { cut = edit s.cut; position = None }) style match k (greatest_below (matches lines (edit s.cut).line) (length lines)) refl)
 

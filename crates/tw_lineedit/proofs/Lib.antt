@@ -18,5 +18,10 @@ pub mod ClosingLemmas
 pub mod FailureLemmas
 pub mod StationLemmas
 pub mod PaintLemmas
+pub mod ScreenRunLemmas
 pub mod WalkLemmas
 pub mod EnumerationLemmas
+pub mod LandingLemmas
+pub mod CandidateLemmas
+pub mod AdvanceLemmas
+pub mod CycleLemmas

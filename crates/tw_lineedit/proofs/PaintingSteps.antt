@@ -1,6 +1,6 @@
 -- The steps of a painting make the painting.
 use Rattle.std.specs.Prelude.{nat_le}
-use Rattle.std.proofs.Common.{◌≡◌, ℕ, ◌+◌, ◌≤◌, ℤ, nat_abs, Bool, true, false, List, [], ◌∷◌, ◌++◌, ap, sym, ◌∙◌, append_assoc, subst, Result}
+use Rattle.std.proofs.Common.{◌≡◌, ℕ, ◌+◌, ◌≤◌, ℤ, nat_abs, Bool, true, false, List, [], ◌∷◌, ◌++◌, ◌<◌, length, ap, sym, ◌∙◌, append_assoc, subst, Result, arith}
 use Rattle.std.proofs.lemmas.Bool.{and_from, and_left, and_parts}
 use Rattle.tw_surface.specs.declared.cell.CellAttributes.{CellAttributes}
 use Rattle.tw_surface.specs.ChangeView.{Batch, AllAttributes, Text, ClearToEndOfScreen}
@@ -12,7 +12,8 @@ use Rattle.tw_surface.specs.Scenes.{Scene, Lower}
 use Rattle.tw_surface.specs.Scenes.Lower.{Search}
 use Rattle.tw_surface.specs.Paintings.{before_line, edge_space, lower_changes, shown_part, cursor_place, place_at}
 use Rattle.tw_lineedit.specs.declared.error.Error.{Error}
-use Rattle.tw_lineedit.specs.Painting.{Mark, is_paintable}
+use Rattle.tw_lineedit.specs.ElementView.{ElementView, changes_of}
+use Rattle.tw_lineedit.specs.Painting.{Mark, is_paintable, preview_of}
 use Rattle.tw_lineedit.specs.Draws.{IsStepRefusal, stay_in_range, with_all, with_edge, has_cell, Drawn, Draws, DrawnScene}
 use Rattle.tw_lineedit.proofs.DrawingLimits.{empty, row-in_range}
 use Rattle.tw_lineedit.proofs.DrawLemmas.{drawn-append, draws-later, refused-along, refused-first, refused-later}
@@ -63,6 +64,19 @@ pub draws-search : (old mid new : Drawing) (a : CellAttributes) (shown text : Li
     → Drawn (AllAttributes a ∷ []) old mid → Draws (Text shown ∷ []) mid new result → Draws (lower_changes (Search text)) old new result
 draws-search old mid new a shown text result a_is shown_is first more =
     draws-later old mid new (AllAttributes default_attributes ∷ []) (Text (cr ∷ lf ∷ text) ∷ []) result (rw a_is at first) (rw shown_is at more)
+
+-- what stands before the elements of a preview
+abbrev preview-start : Batch
+preview-start = Text (cr ∷ lf ∷ []) ∷ last
+
+-- a preview with elements is drawn
+pub draws-preview : (old mid next new : Drawing) (a : CellAttributes) (shown : List ℕ) (elements : List ElementView) (result : Result Unit Error) → 0 < length elements
+    → a ≡ default_attributes → shown ≡ cr ∷ lf ∷ [] → Drawn (Text shown ∷ []) old mid → Drawn (AllAttributes a ∷ []) mid next → Draws (changes_of elements) next new result
+    → Draws (lower_changes (preview_of elements)) old new result
+draws-preview old mid next new a shown [] result some a_is shown_is first second more = absurd (omega (arith, some))
+draws-preview old mid next new a shown (e ∷ elements) result some a_is shown_is first second more =
+    draws-later old next new preview-start (changes_of (e ∷ elements)) result
+    (drawn-append old mid next (Text (cr ∷ lf ∷ []) ∷ []) last (rw shown_is at first) (rw a_is at second)) more
 
 -- a scene, with no screen cleared before it
 abbrev pub uncleared : Batch → Batch → ℕ → Lower → Scene

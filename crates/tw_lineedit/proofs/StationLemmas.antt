@@ -4,7 +4,7 @@ use Rattle.std.proofs.lemmas.List.{append-nil}
 use Rattle.tw_surface.specs.ChangeView.{Batch}
 use Rattle.tw_surface.specs.Paintings.{Painting}
 use Rattle.tw_input.specs.EventView.{EventView}
-use Rattle.tw_lineedit.specs.ActionView.{ActionView, AcceptLine, Cancel, EndOfFile, InsertChar, InsertText, Repaint, Move, Kill, KillAndMove, HistoryPrevious, HistoryNext, NoAction, HistoryIncSearchBackwards, HistoryIncSearchForwards}
+use Rattle.tw_lineedit.specs.ActionView.{ActionView, AcceptLine, Cancel, EndOfFile, InsertChar, InsertText, Repaint, Move, Kill, KillAndMove, HistoryPrevious, HistoryNext, Complete, NoAction, HistoryIncSearchBackwards, HistoryIncSearchForwards}
 use Rattle.tw_lineedit.specs.EditState.{EditState}
 use Rattle.tw_lineedit.specs.HostRules.{HostRules}
 use Rattle.tw_lineedit.specs.Outcomes.{is_over, answer_at}
@@ -28,6 +28,7 @@ clears_repaint (Some (Kill m)) = refl
 clears_repaint (Some (KillAndMove k m)) = refl
 clears_repaint (Some HistoryPrevious) = refl
 clears_repaint (Some HistoryNext) = refl
+clears_repaint (Some Complete) = refl
 clears_repaint (Some NoAction) = refl
 clears_repaint (Some HistoryIncSearchBackwards) = refl
 clears_repaint (Some HistoryIncSearchForwards) = refl
@@ -39,7 +40,7 @@ module _ {V : Type 0} (rules : HostRules V) where
   same_painting s cleared = refl
 
   -- a station's painting as it is rendered
-  rendered_at : (s : Progress V) (cleared : Bool) → painting_at rules s ≡ rendered s.last (painting_of rules (station_at cleared s))
+  pub rendered_at : (s : Progress V) (cleared : Bool) → painting_at rules s ≡ rendered s.last (painting_of rules (station_at cleared s))
   rendered_at s cleared = ap (rendered s.last) (sym (same_painting s cleared))
 
   -- no station is behind

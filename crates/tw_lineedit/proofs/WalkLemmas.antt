@@ -8,7 +8,7 @@ use Rattle.tw_lineedit.specs.HostRules.{HostRules}
 use Rattle.tw_lineedit.specs.EditState.{EditState, ModeView, Inactive, Editing, Cancelled, Accepted, Searching}
 use Rattle.tw_lineedit.specs.HistorySteps.{previous, next}
 use Rattle.tw_lineedit.specs.Searches.{IsSearching}
-use Rattle.tw_lineedit.specs.Steps.{apply, stepped}
+use Rattle.tw_lineedit.specs.Steps.{apply, stepped, uncycled}
 use Rattle.tw_lineedit.specs.HistoryLaws.{apply_all, WalksBack}
 use Rattle.tw_lineedit.specs.declared.history.SearchDirection.{SearchDirection}
 use Rattle.tw_lineedit.specs.declared.history.SearchDirection.TheVariants.{Backwards, Forwards}
@@ -26,25 +26,25 @@ last_index-some : (lines : List (List ℕ)) → 1 ≤ length lines → last_inde
 last_index-some [] some = absurd (omega arith)
 last_index-some (x ∷ lines) some = refl
 
--- the state on a walk: a line of the history stands in place of the typed one, which is kept
+-- the state on a walk: a line of the history stands in place of the typed one, which is kept, and nothing is completed
 abbrev held : EditState → Cut → ℕ → EditState
-held s cut i = record s { cut = cut; position = Some i; kept = Some s.cut.line }
+held s cut i = record s { cut = cut; position = Some i; kept = Some s.cut.line; cycle = None }
 
 -- the first step back
-previous-first : (lines : List (List ℕ)) (s : EditState) → s.position ≡ None → 1 ≤ length lines → previous lines s ≡ held s (at_end (line_at lines (length lines - 1))) (length lines - 1)
+previous-first : (lines : List (List ℕ)) (s : EditState) → s.position ≡ None → 1 ≤ length lines → uncycled (previous lines s) ≡ held s (at_end (line_at lines (length lines - 1))) (length lines - 1)
 unfolding previous
 previous-first lines s typed some =
     rw (typed, last_index-some lines some, slice_get-get_or lines (length lines - 1) [] (omega arith)) refl
 
 -- a further step back
-previous-held : (lines : List (List ℕ)) (s : EditState) (cut : Cut) (i : ℕ) → suc i ≤ length lines → previous lines (held s cut (suc i)) ≡ held s (at_end (line_at lines i)) i
+previous-held : (lines : List (List ℕ)) (s : EditState) (cut : Cut) (i : ℕ) → suc i ≤ length lines → uncycled (previous lines (held s cut (suc i))) ≡ held s (at_end (line_at lines i)) i
 unfolding previous
 previous-held lines s cut i low =
     let e : suc i - 1 ≡ i = omega arith in
     rw (e, slice_get-get_or lines i [] low) refl
 
 -- a step forth to a line
-next-held : (lines : List (List ℕ)) (s : EditState) (cut : Cut) (i : ℕ) → suc i < length lines → next lines (held s cut i) ≡ held s (at_end (line_at lines (suc i))) (suc i)
+next-held : (lines : List (List ℕ)) (s : EditState) (cut : Cut) (i : ℕ) → suc i < length lines → uncycled (next lines (held s cut i)) ≡ held s (at_end (line_at lines (suc i))) (suc i)
 unfolding next
 next-held lines s cut i low =
     let e : i + 1 ≡ suc i = omega arith in
@@ -59,14 +59,14 @@ next-last lines s cut i high =
 
 module _ {V : Type 0} (rules : HostRules V) (v : V) where
   -- a step back is applied
-  apply-previous : (s : EditState) → ¬ (IsSearching s.mode) → apply rules v HistoryPrevious s ≡ Ok (previous (rules.lines v) s)
+  apply-previous : (s : EditState) → ¬ (IsSearching s.mode) → apply rules v HistoryPrevious s ≡ Ok (uncycled (previous (rules.lines v) s))
   unfolding apply
-  apply-previous s plain = ap Ok (stepped-plain (rules.lines v) Backwards (previous (rules.lines v)) s s.mode plain)
+  apply-previous s plain = ap (λ (t : EditState). Ok (uncycled t)) (stepped-plain (rules.lines v) Backwards (previous (rules.lines v)) s s.mode plain)
 
   -- a step forth is applied
-  apply-next : (s : EditState) → ¬ (IsSearching s.mode) → apply rules v HistoryNext s ≡ Ok (next (rules.lines v) s)
+  apply-next : (s : EditState) → ¬ (IsSearching s.mode) → apply rules v HistoryNext s ≡ Ok (uncycled (next (rules.lines v) s))
   unfolding apply
-  apply-next s plain = ap Ok (stepped-plain (rules.lines v) Forwards (next (rules.lines v)) s s.mode plain)
+  apply-next s plain = ap (λ (t : EditState). Ok (uncycled t)) (stepped-plain (rules.lines v) Forwards (next (rules.lines v)) s s.mode plain)
 
   -- what a list of actions leads to, where the first one leads to t
   pub IsOkAnd-step : (a : ActionView) (actions : List ActionView) (s t : EditState) (P : EditState → Type 0) → apply rules v a s ≡ Ok t → IsOkAnd (apply_all rules v actions t) P → IsOkAnd (apply_all rules v (a ∷ actions) s) P

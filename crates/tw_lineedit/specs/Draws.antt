@@ -17,8 +17,10 @@ use Rattle.tw_lineedit.specs.declared.painter.Below.{Below}
 use Rattle.tw_lineedit.specs.declared.painter.Below.TheVariants.{Nothing}
 use Rattle.tw_lineedit.specs.declared.painter.Below.TheVariants as below
 use Rattle.tw_terminal.specs.declared.terminal.ScreenSize.{ScreenSize}
+use Rattle.tw_lineedit.specs.Cut.{Cut}
+use Rattle.tw_lineedit.specs.HostRules.{HostRules}
 use Rattle.tw_lineedit.specs.Refusal.{ZeroSize, SizeOutOfRange}
-use Rattle.tw_lineedit.specs.Painting.{search_text, Mark, mark_of, is_paintable, painted_on}
+use Rattle.tw_lineedit.specs.Painting.{search_text, preview_of, Mark, mark_of, is_paintable, painted_on}
 
 -- the error for a change that is refused
 abbrev pub add_error : AddFault → Error
@@ -62,10 +64,11 @@ with_edge d line = line ++ edge_space d.cols (place (with_all d line))
 abbrev pub has_cell : ℕ → Place → ℕ → Bool
 has_cell cols p column = nat_le (p.x + column) 2147483647 && is_in_range (place_at cols p column)
 
--- what stands under the line, by the bytes of its texts
-abbrev pub lower_of : Below → Lower
-lower_of Nothing = NoLower
-lower_of (below.Search direction pattern) = Search (search_text direction pattern.now)
+-- what the painter puts under a line
+abbrev pub lower_of : {V : Type 0} → HostRules V → V → Cut → Below → Lower
+lower_of rules v line Nothing = NoLower
+lower_of rules v line below.Preview = preview_of (rules.preview v line.line)
+lower_of rules v line (below.Search direction pattern) = Search (search_text direction pattern.now)
 
 -- a scene's painting is drawn
 pub record DrawnScene (cols : ℕ) (scene : Scene) (new : Drawing) (left : Mark) : Type 0 where

@@ -4,6 +4,7 @@ use Rattle.tw_surface.specs.Width.{column_width}
 use Rattle.tw_input.specs.EventView.{EventView}
 use Rattle.tw_lineedit.specs.Cut.{Cut}
 use Rattle.tw_lineedit.specs.ActionView.{ActionView}
+use Rattle.tw_lineedit.specs.CandidateView.{CandidateView}
 use Rattle.tw_lineedit.specs.ElementView.{ElementView, Text}
 use Rattle.tw_lineedit.specs.KeyTable.{action_of}
 
@@ -22,7 +23,9 @@ pub record Highlight : Type 0 where
 pub record HostRules (V : Type 0) : Type 0 where
   pub lines : V → List (List ℕ)
   pub prompt : V → List ℕ → List ElementView
+  pub preview : V → List ℕ → List ElementView
   pub highlight : V → Cut → Highlight
+  pub candidates : V → Cut → List CandidateView
   pub resolve : V → EventView → Cut → Resolution V
 
 -- a text as it is
@@ -37,12 +40,14 @@ plain_highlight cut = record { elements = plain_text cut.line; column = column_w
 abbrev pub unresolved : {V : Type 0} → V → Cut → Resolution V
 unresolved v cut = record { value = v; cut = cut; action = None }
 
--- the host with this history that shows all as it is and resolves nothing
+-- the host with this history that shows all as it is, and neither previews, completes nor resolves anything
 abbrev pub plain_rules : {V : Type 0} → (V → List (List ℕ)) → HostRules V
 plain_rules lines = record {
   lines = lines;
   prompt = λ v text. plain_text text;
+  preview = λ v line. [];
   highlight = λ v cut. plain_highlight cut;
+  candidates = λ v cut. [];
   resolve = λ v event cut. unresolved v cut;
 }
 

@@ -6,7 +6,7 @@ use Rattle.tw_input.specs.declared.key.KeyCode.TheVariants.{Char, Backspace, Tab
 use Rattle.tw_input.specs.declared.key.KeyEvent.{KeyEvent}
 use Rattle.tw_input.specs.EventView.{EventView, Key, Resized, Paste, Wake}
 use Rattle.tw_input.specs.Modifiers.{modifier_bits, modifiers_of}
-use Rattle.tw_lineedit.specs.ActionView.{ActionView, AcceptLine, Cancel, EndOfFile, InsertChar, InsertText, Repaint, Move, Kill, KillAndMove, HistoryPrevious, HistoryNext, HistoryIncSearchBackwards, HistoryIncSearchForwards}
+use Rattle.tw_lineedit.specs.ActionView.{ActionView, AcceptLine, Cancel, EndOfFile, InsertChar, InsertText, Repaint, Move, Kill, KillAndMove, HistoryPrevious, HistoryNext, Complete, HistoryIncSearchBackwards, HistoryIncSearchForwards}
 use Rattle.tw_lineedit.specs.declared.actions.Movement.TheVariants as movement
 
 -- the bits where no modifier is held
@@ -48,6 +48,7 @@ key_table =
     ∷ (pressed ctrl (Char 75), Kill movement.EndOfLine)
     ∷ (pressed ctrl (Char 82), HistoryIncSearchBackwards)
     ∷ (pressed ctrl (Char 83), HistoryIncSearchForwards)
+    ∷ (pressed none Tab, Complete)
     ∷ (pressed none Enter, AcceptLine)
     ∷ (pressed none Backspace, Kill (movement.BackwardChar 1))
     ∷ (pressed none Delete, KillAndMove (movement.ForwardChar 1) movement.None)

@@ -16,6 +16,7 @@ pub mod ActionView
 pub mod KeyTable
 pub mod Refusal
 pub mod ElementView
+pub mod CandidateView
 pub mod HostRules
 pub mod PlainAnswers
 pub mod EditState
@@ -23,12 +24,16 @@ pub mod HistorySteps
 pub mod Searches
 pub mod Painting
 pub mod Draws
+pub mod Completion
 pub mod Steps
 pub mod EditSteps
 pub mod Outcomes
 pub mod SessionView
+pub mod CompletionSteps
 pub mod Run
 pub mod Frame
 pub mod Reading
 pub mod Stations
+pub mod ScreenRuns
 pub mod HistoryLaws
+pub mod CompletionLaws

@@ -6,14 +6,14 @@ use Rattle.tw_surface.specs.ChangeView.{Batch, ClearScreen, ClearToEndOfScreen, 
 use Rattle.tw_surface.specs.Defaults.{default_color}
 use Rattle.tw_surface.specs.Places.{place_after_all, places_of_all, origin, is_in_range}
 use Rattle.tw_surface.specs.Scenes.{Scene, Lower}
-use Rattle.tw_surface.specs.Scenes.Lower.{NoLower, Search}
+use Rattle.tw_surface.specs.Scenes.Lower.{NoLower, Preview, Search}
 use Rattle.tw_surface.specs.Paintings.{Painting, before_line, shown_part, cursor_place, painting}
 use Rattle.tw_terminal.specs.declared.terminal.ScreenSize.{ScreenSize}
-use Rattle.tw_lineedit.specs.ElementView.{changes_of}
+use Rattle.tw_lineedit.specs.ElementView.{ElementView, changes_of}
 use Rattle.tw_lineedit.specs.HostRules.{HostRules}
 use Rattle.tw_lineedit.specs.Refusal.{Refusal, ZeroSize, SizeOutOfRange}
 use Rattle.tw_lineedit.specs.Cut.{Cut}
-use Rattle.tw_lineedit.specs.EditState.{EditState, ModeView, Searching}
+use Rattle.tw_lineedit.specs.EditState.{EditState, ModeView, Editing, Searching}
 use Rattle.tw_lineedit.specs.declared.history.SearchDirection.{SearchDirection}
 use Rattle.tw_lineedit.specs.declared.history.SearchDirection.TheVariants.{Backwards, Forwards}
 
@@ -31,10 +31,16 @@ label Forwards = codes "fwd-i-search: "
 abbrev pub search_text : SearchDirection → List ℕ → List ℕ
 search_text direction pattern = label direction ++ (pattern ++ codes "_")
 
--- what stands under the line: while searching, the text of the search
-abbrev pub lower_in : Cut → ModeView → Lower
-lower_in cut (Searching style direction matching) = Search (search_text direction cut.line)
-lower_in cut _ = NoLower
+-- a preview, if it has elements
+abbrev pub preview_of : List ElementView → Lower
+preview_of [] = NoLower
+preview_of (e ∷ elements) = Preview (changes_of (e ∷ elements))
+
+-- what stands under a line: while editing the host's preview, and while searching the text of the search
+abbrev pub lower_in : {V : Type 0} → HostRules V → V → Cut → ModeView → Lower
+lower_in rules v cut Editing = preview_of (rules.preview v cut.line)
+lower_in rules v cut (Searching style direction matching) = Search (search_text direction cut.line)
+lower_in rules v cut _ = NoLower
 
 -- what is shown of a prompt, a line and what stands under it
 abbrev pub scene_with : {V : Type 0} → HostRules V → V → List ℕ → Cut → Lower → Bool → Scene
@@ -48,7 +54,7 @@ scene_with rules v prompt line lower cleared = record {
 
 -- what is shown of a state
 abbrev pub scene_of : {V : Type 0} → HostRules V → V → EditState → Bool → Scene
-scene_of rules v s cleared = scene_with rules v s.prompt (shown_in s.cut s.mode) (lower_in s.cut s.mode) cleared
+scene_of rules v s cleared = scene_with rules v s.prompt (shown_in s.cut s.mode) (lower_in rules v s.cut s.mode) cleared
 
 -- whether each place on the way, the sum that gives the cursor's cell, and that cell are in range
 abbrev pub is_paintable : ℕ → Scene → Bool

@@ -34,7 +34,7 @@ found_view f = record { line = f.matching.line; idx = f.idx; cursor = f.matching
 
 -- the state of a new editor
 abbrev pub new_state : EditState
-new_state = record { prompt = codes "> "; cut = empty_cut; position = None; kept = None; mode = view.Inactive }
+new_state = record { prompt = codes "> "; cut = empty_cut; position = None; kept = None; cycle = None; mode = view.Inactive }
 
 -- a new editor
 abbrev pub new_session : SessionView
@@ -51,7 +51,7 @@ initial_cut (Some text) = at_end text
 
 -- where a run begins, with this line
 abbrev pub begun : Cut → EditState → EditState
-begun cut s = record s { cut = cut; position = None; kept = None; mode = Editing }
+begun cut s = record s { cut = cut; position = None; kept = None; cycle = None; mode = Editing }
 
 module _ {V : Type 0} (rules : HostRules V) (v : V) where
   -- a session once an action is applied

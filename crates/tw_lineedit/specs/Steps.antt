@@ -6,8 +6,9 @@ use Rattle.tw_lineedit.specs.Cut.{Cut}
 use Rattle.tw_lineedit.specs.Extremes.{repeated}
 use Rattle.tw_lineedit.specs.Movements.{moved}
 use Rattle.tw_lineedit.specs.Edits.{with_char, with_text, killed}
-use Rattle.tw_lineedit.specs.ActionView.{ActionView, AcceptLine, Cancel, EndOfFile, InsertChar, InsertText, Repaint, Move, Kill, KillAndMove, HistoryPrevious, HistoryNext, NoAction, HistoryIncSearchBackwards, HistoryIncSearchForwards}
+use Rattle.tw_lineedit.specs.ActionView.{ActionView, AcceptLine, Cancel, EndOfFile, InsertChar, InsertText, Repaint, Move, Kill, KillAndMove, HistoryPrevious, HistoryNext, Complete, NoAction, HistoryIncSearchBackwards, HistoryIncSearchForwards}
 use Rattle.tw_lineedit.specs.HostRules.{HostRules}
+use Rattle.tw_lineedit.specs.Completion.{completed}
 use Rattle.tw_lineedit.specs.HistorySteps.{previous, next}
 use Rattle.tw_lineedit.specs.Searches.{IsSearching, left, again, sought}
 use Rattle.tw_lineedit.specs.Refusal.{Refusal}
@@ -29,23 +30,28 @@ abbrev pub stepped : List (List ℕ) → SearchDirection → (EditState → Edit
 stepped lines direction step s (Searching style before matching) = sought lines direction s
 stepped lines direction step s _ = step s
 
+-- the candidates come in no more
+abbrev pub uncycled : EditState → EditState
+uncycled s = record s { cycle = None }
+
 module _ {V : Type 0} (rules : HostRules V) (v : V) where
   -- the state after an action, or its refusal
   unfoldable pub apply : ActionView → EditState → Result EditState Refusal
   apply AcceptLine s = Ok (record (left s) { mode = Accepted })
   apply Cancel s = Ok (record s { mode = Cancelled })
   apply EndOfFile s = Err refusal.EndOfFile
-  apply (InsertChar r x) s = Ok (edited (rules.lines v) (repeated (with_char x) r) s)
-  apply (InsertText r text) s = Ok (edited (rules.lines v) (repeated (with_text text) r) s)
+  apply (InsertChar r x) s = Ok (uncycled (edited (rules.lines v) (repeated (with_char x) r) s))
+  apply (InsertText r text) s = Ok (uncycled (edited (rules.lines v) (repeated (with_text text) r) s))
   apply Repaint s = Ok s
-  apply (Move m) s = Ok (walked (moved m) s)
-  apply (Kill m) s = Ok (edited (rules.lines v) (killed m m) s)
-  apply (KillAndMove k m) s = Ok (edited (rules.lines v) (killed k m) s)
-  apply HistoryPrevious s = Ok (stepped (rules.lines v) Backwards (previous (rules.lines v)) s s.mode)
-  apply HistoryNext s = Ok (stepped (rules.lines v) Forwards (next (rules.lines v)) s s.mode)
+  apply (Move m) s = Ok (uncycled (walked (moved m) s))
+  apply (Kill m) s = Ok (uncycled (edited (rules.lines v) (killed m m) s))
+  apply (KillAndMove k m) s = Ok (uncycled (edited (rules.lines v) (killed k m) s))
+  apply HistoryPrevious s = Ok (uncycled (stepped (rules.lines v) Backwards (previous (rules.lines v)) s s.mode))
+  apply HistoryNext s = Ok (uncycled (stepped (rules.lines v) Forwards (next (rules.lines v)) s s.mode))
+  apply Complete s = completed (rules.candidates v) (left s)
   apply NoAction s = Ok s
-  apply HistoryIncSearchBackwards s = Ok (sought (rules.lines v) Backwards s)
-  apply HistoryIncSearchForwards s = Ok (sought (rules.lines v) Forwards s)
+  apply HistoryIncSearchBackwards s = Ok (uncycled (sought (rules.lines v) Backwards s))
+  apply HistoryIncSearchForwards s = Ok (uncycled (sought (rules.lines v) Forwards s))
 
   -- the state after an action, if there is one
   abbrev pub apply_if : Option ActionView → EditState → Result EditState Refusal
@@ -60,6 +66,7 @@ TakesMemory (Some (Kill m)) mode = IsSearching mode
 TakesMemory (Some (KillAndMove k m)) mode = IsSearching mode
 TakesMemory (Some HistoryPrevious) mode = Unit {0}
 TakesMemory (Some HistoryNext) mode = Unit {0}
+TakesMemory (Some Complete) mode = Unit {0}
 TakesMemory (Some HistoryIncSearchBackwards) mode = Unit {0}
 TakesMemory (Some HistoryIncSearchForwards) mode = Unit {0}
 TakesMemory _ mode = ⊥

@@ -50,6 +50,9 @@ pub enum Action {
     /// Takes the line after in the history, and behind the last one the typed line; while searching, searches
     /// forwards.
     HistoryNext,
+    /// Puts in the host's first completion candidate, or instead of one that was put in the next one; leaves a
+    /// search.
+    Complete,
     /// Does nothing.
     NoAction,
     /// Begins a search of the history, or goes on with it, to older lines.

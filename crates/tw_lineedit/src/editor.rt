@@ -15,6 +15,7 @@ ghost use Rattle.tw_lineedit.specs.SessionView.{new_session, on_state};
 ghost use Rattle.tw_lineedit.specs.Refusal.{IsMemory};
 ghost use Rattle.tw_lineedit.specs.Run.{progress_of, resolved, run_of, IsRefused, IsAnswered, Continues, IsEnded};
 ghost use Rattle.tw_lineedit.specs.Frame.{frame, Keeps, Closes, FailsToClose, CallFails, ShowsBatch, FailsToShow, Paints, FailsToPaint, Applies, FailsToApply, Handles, FailsToHandle, answered_frame, TakesEvent, HasNoEvent};
+ghost use Rattle.tw_lineedit.specs.ScreenRuns.{FirstIsFresh, LaterIsFresh, ClearedIsFresh, ClosesBelow};
 ghost use Rattle.tw_lineedit.specs.Reading.{start, Reads, FailsToRead, IsTurnedDown, FailuresTell};
 
 use crate::actions::Action;
@@ -55,6 +56,7 @@ impl<'term, T: Terminal> LineEditor<'term, T> {
         ensures same_reference { IfOk result (λ editor. editor.terminal.ghost_name ≡ terminal.entry.ghost_name) }
         ensures terminal { IfOk result (λ editor. editor.terminal.now ≡ terminal.old) }
         ensures state { IfOk result (λ editor. editor.session ≡ new_session) }
+        ensures memory { IfErr result IsMemory }
     {
         let session = Session::new(alloc)?;
         Ok(EditorOver { terminal, session })
@@ -373,6 +375,10 @@ impl<'term, T: Terminal> LineEditor<'term, T> {
         ensures recursive { self.old.session.state.mode ≢ Inactive → (result ≡ Err Error.Recursive) × (frame T.state H.value self.new host.new ≡ frame T.state H.value self.old host.old) }
         ensures ok { self.old.session.state.mode ≡ Inactive → IfOk result (λ it. Reads (run_of H.rules (start (option_map (λ s. s.now) initial_value.entry) (frame T.state H.value self.old host.old))) (frame T.state H.value self.old host.old) (frame T.state H.value self.new host.new) (outcome_of (Ok it))) }
         ensures err { self.old.session.state.mode ≡ Inactive → IfErr result (FailsToRead H.rules (option_map (λ s. s.now) initial_value.entry) (frame T.state H.value self.old host.old) (frame T.state H.value self.new host.new)) }
+        ensures first_painting { FirstIsFresh H.rules (start (option_map (λ s. s.now) initial_value.entry) (frame T.state H.value self.old host.old)) }
+        ensures later_painting { LaterIsFresh H.rules (start (option_map (λ s. s.now) initial_value.entry) (frame T.state H.value self.old host.old)) }
+        ensures cleared_painting { ClearedIsFresh H.rules (start (option_map (λ s. s.now) initial_value.entry) (frame T.state H.value self.old host.old)) }
+        ensures closing_batch { ClosesBelow H.rules (start (option_map (λ s. s.now) initial_value.entry) (frame T.state H.value self.old host.old)) }
         ensures failures { FailuresTell result (T.state self.old.terminal.now).failures (T.state self.new.terminal.now).failures }
     {
         if !self.session.is_inactive() {
@@ -387,6 +393,10 @@ impl<'term, T: Terminal> LineEditor<'term, T> {
         ensures recursive { self.old.session.state.mode ≢ Inactive → (result ≡ Err Error.Recursive) × (frame T.state H.value self.new host.new ≡ frame T.state H.value self.old host.old) }
         ensures ok { self.old.session.state.mode ≡ Inactive → IfOk result (λ it. Reads (run_of H.rules (start None (frame T.state H.value self.old host.old))) (frame T.state H.value self.old host.old) (frame T.state H.value self.new host.new) (outcome_of (Ok it))) }
         ensures err { self.old.session.state.mode ≡ Inactive → IfErr result (FailsToRead H.rules None (frame T.state H.value self.old host.old) (frame T.state H.value self.new host.new)) }
+        ensures first_painting { FirstIsFresh H.rules (start None (frame T.state H.value self.old host.old)) }
+        ensures later_painting { LaterIsFresh H.rules (start None (frame T.state H.value self.old host.old)) }
+        ensures cleared_painting { ClearedIsFresh H.rules (start None (frame T.state H.value self.old host.old)) }
+        ensures closing_batch { ClosesBelow H.rules (start None (frame T.state H.value self.old host.old)) }
         ensures failures { FailuresTell result (T.state self.old.terminal.now).failures (T.state self.new.terminal.now).failures }
     {
         self.read_line_with_optional_initial_value(host, None)

@@ -7,6 +7,7 @@ ghost use Rattle.tw_lineedit.specs.ActionView.{action_view};
 ghost use Rattle.std.specs.Str.{IsCharBoundary};
 ghost use Rattle.tw_lineedit.specs.Cut.{cut_at};
 ghost use Rattle.tw_lineedit.specs.ElementView.{element_view};
+ghost use Rattle.tw_lineedit.specs.CandidateView.{candidate_view};
 ghost use Rattle.tw_lineedit.specs.HostRules.{HostRules, plain_text, plain_rules};
 ghost use Rattle.tw_lineedit.specs.PlainAnswers.{IsPlainBut, nothing_own, plain_is_plain};
 
@@ -14,6 +15,7 @@ use crate::actions::Action;
 use crate::buffer::LineEditBuffer;
 use crate::history::{BasicHistory, History};
 use std::alloc::{AllocError, Global};
+use std::ops::Range;
 use tw_input::InputEvent;
 use tw_surface::{AttributeChange, CellAttributes, Change, unicode_column_width};
 
@@ -44,11 +46,27 @@ impl From<OutputElement> for Change {
     }
 }
 
+/// A text that can take the place of a part of the line.
+#[derive(Debug, Drop)]
+pub struct CompletionCandidate {
+    /// The part of the line, by byte offsets.
+    pub range: Range<usize>,
+    /// The text.
+    pub text: String,
+}
+
 /// Which calls a host answers for itself. The default bodies answer the others.
 #[derive(Clone, Copy, Debug, PartialEq, Eq)]
 pub struct OwnAnswers {
+    /// `render_prompt`
     pub prompt: bool,
+    /// `render_preview`
+    pub preview: bool,
+    /// `highlight_line`
     pub highlight: bool,
+    /// `complete`
+    pub complete: bool,
+    /// `resolve_action`
     pub resolve: bool,
 }
 
@@ -56,7 +74,9 @@ impl OwnAnswers {
     /// All answers are those of the default bodies.
     pub const NONE: OwnAnswers = OwnAnswers {
         prompt: false,
+        preview: false,
         highlight: false,
+        complete: false,
         resolve: false,
     };
 }
@@ -111,6 +131,16 @@ pub trait LineEditorHost {
         plain_element(alloc, prompt)
     }
 
+    /// What is shown under the line while it is edited. By default nothing.
+    fn render_preview(&self, alloc: Global, line: &str) -> Result<Vec<OutputElement>, AllocError>
+        ensures { IfOk result (λ elements. map element_view elements.items ≡ rules.preview (value self.now) line.now) }
+    {
+        if Self::OWN.preview {
+            return Err(AllocError);
+        }
+        Ok(Vec::new(alloc))
+    }
+
     /// The line as it is shown, and the column of its cursor, counted from where the line begins. By
     /// default the text itself, and the columns of the text before the cursor.
     fn highlight_line(
@@ -128,6 +158,23 @@ pub trait LineEditorHost {
         }
         let elements = plain_element(alloc, line)?;
         Ok((elements, unicode_column_width(&line[..cursor_position])))
+    }
+
+    /// The texts that can complete a line with its cursor at a byte offset, in the order in which they are
+    /// put in. By default there are none.
+    fn complete(
+        &self,
+        alloc: Global,
+        line: &str,
+        cursor_position: usize,
+    ) -> Result<Vec<CompletionCandidate>, AllocError>
+        requires { IsCharBoundary line.now cursor_position }
+        ensures { IfOk result (λ candidates. map candidate_view candidates.items ≡ rules.candidates (value self.now) (cut_at line.now cursor_position)) }
+    {
+        if Self::OWN.complete {
+            return Err(AllocError);
+        }
+        Ok(Vec::new(alloc))
     }
 
     /// What the host makes of an event before the key table does: it may change itself and the line, and

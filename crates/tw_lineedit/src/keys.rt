@@ -74,6 +74,7 @@ fn plain_action(key: KeyCode) -> Option<Action>
     ensures { option_map action_view result ≡ key_action_of (pressed none key) }
 {
     match key {
+        KeyCode::Tab => Some(Action::Complete),
         KeyCode::Enter => Some(Action::AcceptLine),
         KeyCode::Backspace => Some(Action::Kill(Movement::BackwardChar(1))),
         KeyCode::Delete => Some(Action::KillAndMove(Movement::ForwardChar(1), Movement::None)),

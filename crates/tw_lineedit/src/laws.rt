@@ -3,9 +3,11 @@
 ghost use Rattle.std.specs.Prelude.{◌≡◌, ◌≢◌, ℕ, List, Some, None, All, AllPairs};
 ghost use Rattle.tw_input.specs.Equality.{ComparesValues};
 ghost use Rattle.tw_lineedit.specs.KeyTable.{is_same_key, key_table, looked_up, typed};
+ghost use Rattle.tw_lineedit.specs.CompletionLaws.{GoesRound};
 ghost use Rattle.tw_lineedit.specs.HistoryLaws.{Enumerates, FindsFirst, FindsNearest, WalksBack};
 ghost use Rattle.tw_lineedit.specs.Laws.{CountsAddUp, OffsetsAreExtremes, WordsAreExtremes};
 ghost use Rattle.tw_lineedit.specs.Patterns.{first};
+ghost use Rattle.tw_lineedit.specs.ScreenRuns.{CallsStack};
 ghost use Rattle.tw_lineedit.specs.Stations.{BatchesByStations};
 
 use crate::actions::Movement;
@@ -57,4 +59,15 @@ pub fn walk<H: LineEditorHost>()
 /// contain the pattern from the newest on, and then the oldest.
 pub fn enumeration<H: LineEditorHost>()
     ensures { (v : H.Value) → Enumerates H.rules v }
+{}
+
+/// Completions put in the candidates, which all fit, in turn, each on the original line.
+pub fn cycle<H: LineEditorHost>()
+    ensures { (v : H.Value) → GoesRound H.rules v }
+{}
+
+/// Calls stack: what a second call paints, while it clears nothing, is fresh under what the first one left,
+/// and changes nothing of that.
+pub fn stacking<H: LineEditorHost>()
+    ensures { CallsStack H.rules }
 {}

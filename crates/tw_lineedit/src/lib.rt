@@ -23,5 +23,5 @@ pub use error::Error;
 pub use history::{
     BasicHistory, History, HistoryIndex, SearchDirection, SearchResult, SearchStyle,
 };
-pub use host::{LineEditorHost, NopLineEditorHost, OutputElement, OwnAnswers};
+pub use host::{CompletionCandidate, LineEditorHost, NopLineEditorHost, OutputElement, OwnAnswers};
 pub use keys::default_action;

@@ -6,7 +6,7 @@ ghost use Rattle.tw_surface.specs.ChangeView.{change_view, batch_view};
 ghost use Rattle.tw_surface.specs.Drawings.{place};
 ghost use Rattle.tw_surface.specs.Paintings.{before_line, edge_space, lower_changes, place_at};
 ghost use Rattle.tw_lineedit.specs.ElementView.{element_view, changes_of};
-ghost use Rattle.tw_lineedit.specs.Painting.{label, search_text, scene_with, painted_on, start_batch, closing, rendered};
+ghost use Rattle.tw_lineedit.specs.Painting.{preview_of, label, search_text, scene_with, painted_on, start_batch, closing, rendered};
 ghost use Rattle.tw_lineedit.specs.Draws.{Draws, DrawsScene, with_edge, lower_of, has_cell, IsUnpainted};
 
 use crate::buffer::LineEditBuffer;
@@ -23,6 +23,8 @@ use tw_terminal::ScreenSize;
 pub(crate) enum Below<'a> {
     /// Nothing.
     Nothing,
+    /// The host's preview of the line.
+    Preview,
     /// The text of a search: where it goes, and the pattern.
     Search {
         direction: SearchDirection,
@@ -38,7 +40,7 @@ pub struct Painted {
 }
 
 impl Model for Painted {
-    ghost use Rattle.tw_lineedit.specs.Painting.{Mark, IsInLimits};
+    ghost use Rattle.tw_lineedit.specs.Painting.{preview_of, Mark, IsInLimits};
 
     ghost Value = { Mark };
 
@@ -157,12 +159,39 @@ fn search_row(
     format!(in alloc; "\r\n{label}{pattern}_")
 }
 
+/// Draws a preview from the next row on, if it has elements.
+fn draw_preview(
+    drawing: &mut ChangeSequence,
+    alloc: Global,
+    elements: Vec<OutputElement>,
+) -> Result<(), Error>
+    ensures { Draws (lower_changes (preview_of (map element_view elements.items))) drawing.old drawing.new result }
+{
+    if elements.is_empty() {
+        return Ok(());
+    }
+    let next_row = String::from_str(alloc, "\r\n")?;
+    draw(drawing, Change::Text(next_row))?;
+    draw(drawing, Change::AllAttributes(CellAttributes::default()))?;
+    draw_elements(drawing, elements)
+}
+
 /// Draws what stands under the line.
-fn draw_below(drawing: &mut ChangeSequence, alloc: Global, below: Below<'_>) -> Result<(), Error>
-    ensures { Draws (lower_changes (lower_of below.entry)) drawing.old drawing.new result }
+fn draw_below<H: LineEditorHost>(
+    drawing: &mut ChangeSequence,
+    host: &H,
+    alloc: Global,
+    line: &LineEditBuffer,
+    below: Below<'_>,
+) -> Result<(), Error>
+    ensures { Draws (lower_changes (lower_of H.rules (H.value host.now) line.now below.entry)) drawing.old drawing.new result }
 {
     match below {
         Below::Nothing => Ok(()),
+        Below::Preview => {
+            let elements = host.render_preview(alloc, line.get_line())?;
+            draw_preview(drawing, alloc, elements)
+        }
         Below::Search { direction, pattern } => {
             let text = search_row(alloc, direction, pattern)?;
             draw(drawing, Change::AllAttributes(CellAttributes::default()))?;
@@ -219,7 +248,7 @@ fn draw_scene<H: LineEditorHost>(
     requires empty { drawing.old ≡ record { cols = cols; changes = [] } }
     requires some_columns { 0 < cols }
     requires columns { cols ≤ 65535 }
-    ensures { DrawsScene cols (scene_with H.rules (H.value host.now) prompt.now line.now (lower_of below.entry) false) drawing.new result }
+    ensures { DrawsScene cols (scene_with H.rules (H.value host.now) prompt.now line.now (lower_of H.rules (H.value host.now) line.now below.entry) false) drawing.new result }
 {
     draw_prompt(drawing, host, alloc, prompt)?;
     let start = drawing.current_cursor_position();
@@ -228,7 +257,7 @@ fn draw_scene<H: LineEditorHost>(
         return Err(Error::SizeOutOfRange);
     };
     draw_line(drawing, alloc, cols, elements)?;
-    draw_below(drawing, alloc, below)?;
+    draw_below(drawing, host, alloc, line, below)?;
     let height = drawing.render_height();
     drawing.move_to(cell)?;
     Ok(Painted {
@@ -259,9 +288,9 @@ pub(crate) fn paint<H: LineEditorHost>(
     size: ScreenSize,
     before: Option<Painted>,
 ) -> Result<(Vec<Change>, Painted), Error>
-    ensures ok { IfOk result (λ painted. rendered before (painted_on size (scene_with H.rules (H.value host.now) prompt.now line.now (lower_of below.entry) false))
+    ensures ok { IfOk result (λ painted. rendered before (painted_on size (scene_with H.rules (H.value host.now) prompt.now line.now (lower_of H.rules (H.value host.now) line.now below.entry) false))
         ≡ Ok (record { changes = batch_view painted.0.items; mark = painted.1 })) }
-    ensures err { IfErr result (IsUnpainted size (scene_with H.rules (H.value host.now) prompt.now line.now (lower_of below.entry) false)) }
+    ensures err { IfErr result (IsUnpainted size (scene_with H.rules (H.value host.now) prompt.now line.now (lower_of H.rules (H.value host.now) line.now below.entry) false)) }
 {
     let mut drawing = ChangeSequence::new(alloc, size.rows, size.cols)?;
     let painted = draw_scene(&mut drawing, host, alloc, prompt, line, below, size.cols)?;

@@ -38,10 +38,12 @@ pub enum Mode {
     },
 }
 
+mod completion;
 mod edit;
 mod search;
 mod walk;
 
+use completion::Cycle;
 use edit::Edit;
 
 /// What an editor holds beside its terminal.
@@ -52,6 +54,7 @@ pub struct Session {
     line: LineEditBuffer,
     position: Option<HistoryIndex>,
     kept: Option<String>,
+    cycle: Option<Cycle>,
     mode: Mode,
     painted: Option<Painted>,
 }
@@ -68,6 +71,7 @@ impl Model for Session {
         cut = s.line;
         position = s.position;
         kept = option_map string_bytes s.kept;
+        cycle = s.cycle;
         mode = mode_view s.mode;
       };
       last = s.painted;
@@ -88,6 +92,7 @@ impl Session {
             line: LineEditBuffer::empty(alloc),
             position: None,
             kept: None,
+            cycle: None,
             mode: Mode::Inactive,
             painted: None,
         })
@@ -163,6 +168,7 @@ impl Session {
         self.line.clear();
         self.position = None;
         self.kept = None;
+        self.cycle = None;
         self.mode = Mode::Editing;
         self.painted = None;
     }
@@ -174,8 +180,8 @@ impl Session {
         self.mode = Mode::Inactive;
     }
 
-    /// Applies an action to the state. A `Repaint` changes nothing in it. Where it is refused nothing is
-    /// changed.
+    /// Applies an action to the state. A `Repaint` changes nothing in it. An edit, a movement, and a step
+    /// through the history or a search end the cycle of candidates. Where it is refused nothing is changed.
     #[tactic(auto, unfolding(crate::specs::Steps::apply))]
     pub(crate) fn act<H: LineEditorHost>(
         &mut self,
@@ -190,52 +196,32 @@ impl Session {
             Action::AcceptLine => {
                 self.leave_search();
                 self.mode = Mode::Accepted;
-                Ok(())
+                return Ok(());
             }
             Action::Cancel => {
                 self.mode = Mode::Cancelled;
-                Ok(())
+                return Ok(());
             }
-            Action::EndOfFile => Err(Error::EndOfFile),
-            Action::InsertChar(count, c) => {
-                self.edit(host, Edit::InsertChar(count, c))?;
-                Ok(())
-            }
+            Action::EndOfFile => return Err(Error::EndOfFile),
+            Action::Repaint | Action::NoAction => return Ok(()),
+            Action::Complete => return self.complete(host),
+            Action::InsertChar(count, c) => self.edit(host, Edit::InsertChar(count, c))?,
             Action::InsertText(count, text) => {
-                self.edit(host, Edit::InsertText(count, text.as_str()))?;
-                Ok(())
+                self.edit(host, Edit::InsertText(count, text.as_str()))?
             }
-            Action::Repaint | Action::NoAction => Ok(()),
             Action::Move(movement) => {
                 self.leave_search();
                 self.line.exec_movement(movement);
-                Ok(())
             }
-            Action::Kill(movement) => {
-                self.edit(host, Edit::Kill(movement, movement))?;
-                Ok(())
-            }
-            Action::KillAndMove(kill, movement) => {
-                self.edit(host, Edit::Kill(kill, movement))?;
-                Ok(())
-            }
-            Action::HistoryPrevious => {
-                self.step_back(host)?;
-                Ok(())
-            }
-            Action::HistoryNext => {
-                self.step_forth(host)?;
-                Ok(())
-            }
-            Action::HistoryIncSearchBackwards => {
-                self.search(host, SearchDirection::Backwards)?;
-                Ok(())
-            }
-            Action::HistoryIncSearchForwards => {
-                self.search(host, SearchDirection::Forwards)?;
-                Ok(())
-            }
+            Action::Kill(movement) => self.edit(host, Edit::Kill(movement, movement))?,
+            Action::KillAndMove(kill, movement) => self.edit(host, Edit::Kill(kill, movement))?,
+            Action::HistoryPrevious => self.step_back(host)?,
+            Action::HistoryNext => self.step_forth(host)?,
+            Action::HistoryIncSearchBackwards => self.search(host, SearchDirection::Backwards)?,
+            Action::HistoryIncSearchForwards => self.search(host, SearchDirection::Forwards)?,
         }
+        self.cycle = None;
+        Ok(())
     }
 
     /// The answer at the end of a run: a copy of the line, or none where the run was cancelled.
@@ -280,7 +266,8 @@ impl Session {
                 direction: *direction,
                 pattern: self.line.get_line(),
             },
-            Mode::Inactive | Mode::Editing | Mode::Cancelled | Mode::Accepted => Below::Nothing,
+            Mode::Editing => Below::Preview,
+            Mode::Inactive | Mode::Cancelled | Mode::Accepted => Below::Nothing,
         };
         let prompt = self.prompt.as_str();
         let line = self.shown_line();

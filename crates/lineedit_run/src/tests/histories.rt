@@ -1,10 +1,7 @@
 //! Histories: how lines are walked through and searched. The cases run over any history.
 
-use super::support::{
-    Case, case_of, events_of, readings_of, remember_all, terminal_of, write_batch,
-};
+use super::support::{Case, case_of, events_of, host_of, readings_of, terminal_of, write_batch};
 use crate::display::{play_all, show_screen};
-use crate::script_host::ScriptHost;
 use std::alloc::Global;
 use std::process::Abort;
 use std::test::Fail;
@@ -14,7 +11,7 @@ use tw_surface::{Change, Screen};
 /// What comes of a case, a line each. Of readings: the answers, `painting` with the last painting, `closing`
 /// with the closing batch, `screen` with the rows of the screen, and where its cursor was before the closing
 /// batch. Of actions: the line and its cursor.
-fn told_of<H: LineEditorHost>(
+pub fn told_of<H: LineEditorHost>(
     alloc: Global,
     case: &Case<'_>,
     host: &mut H,
@@ -82,7 +79,7 @@ fn missing_line<'a>(wanted: &'a str, told: &str) -> Option<&'a str> {
 
 /// Runs the cases, each over a history that is empty at first, and says how many there were. A case has the
 /// lines of `case_of`, and below `--` lines that are among those of `told_of`; `==` ends it.
-fn expect_histories<L: History + Drop, F: Fn(Global) -> L + Drop>(
+pub fn expect_histories<L: History + Drop, F: Fn(Global) -> L + Drop>(
     rt: &impl Abort,
     alloc: Global,
     empty: F,
@@ -96,8 +93,7 @@ fn expect_histories<L: History + Drop, F: Fn(Global) -> L + Drop>(
             continue;
         };
         let case = case_of(alloc, lines)?;
-        let mut host = ScriptHost::new(empty(alloc));
-        remember_all(&mut host, case.history.as_slice())?;
+        let mut host = host_of(alloc, empty(alloc), &case)?;
         let told = told_of(alloc, &case, &mut host)?;
         let missing = missing_line(wanted, told.as_str());
         assert_eq!(rt; missing, None, "{lines}in\n{told}");

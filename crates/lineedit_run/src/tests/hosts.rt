@@ -1,12 +1,16 @@
-//! A host that answers for itself.
+//! Hosts that answer for themselves.
 
-ghost use Rattle.std.specs.Prelude.{refl};
+ghost use Rattle.std.specs.Prelude.{ℕ, List, refl};
 ghost use Rattle.lineedit_run.specs.ColumnHost.{Placed, column_rules, highlight_own, column_is_plain};
+ghost use Rattle.lineedit_run.specs.ResolvingHost.{resolving_rules, resolve_own, resolving_is_plain};
 
 use super::support::{case_of, readings_of, terminal_text};
 use std::alloc::{AllocError, Global};
 use std::test::Fail;
-use tw_lineedit::{BasicHistory, LineEditorHost, OutputElement, OwnAnswers};
+use tw_input::{InputEvent, KeyCode, KeyEvent};
+use tw_lineedit::{
+    Action, BasicHistory, LineEditBuffer, LineEditorHost, OutputElement, OwnAnswers,
+};
 
 /// A host that puts the cursor of every line at one column.
 #[derive(Drop)]
@@ -31,9 +35,8 @@ impl LineEditorHost for ColumnHost {
     ghost OWN = { highlight_own };
 
     const OWN: OwnAnswers = OwnAnswers {
-        prompt: false,
         highlight: true,
-        resolve: false,
+        ..OwnAnswers::NONE
     };
 
     fn history(&mut self) -> &mut BasicHistory {
@@ -89,5 +92,85 @@ fn a_host_places_the_cursor(rt: HostRuntime) -> Result<(), Fail> {
     assert_eq!(rt; shown_at(alloc, 80, 2_147_483_645)?.as_str(), FARTHEST);
     assert_eq!(rt; shown_at(alloc, 80, 2_147_483_646)?.as_str(), refused);
     assert_eq!(rt; shown_at(alloc, 80, usize::MAX)?.as_str(), refused);
+    Ok(())
+}
+
+/// A host that has a line of its own for the first function key, and gives up at Escape.
+#[derive(Drop)]
+struct ResolvingHost {
+    history: BasicHistory,
+}
+
+impl LineEditorHost for ResolvingHost {
+    type Hist = BasicHistory;
+
+    ghost Value = { List (List ℕ) };
+
+    ghost value = { λ host. host.history };
+
+    ghost rules = { resolving_rules };
+
+    ghost held = { λ host. host.history };
+
+    ghost with_held = { λ host history. record host { history = history } };
+
+    ghost OWN = { resolve_own };
+
+    const OWN: OwnAnswers = OwnAnswers {
+        resolve: true,
+        ..OwnAnswers::NONE
+    };
+
+    fn history(&mut self) -> &mut BasicHistory {
+        &mut self.history
+    }
+
+    fn resolve_action(
+        &mut self,
+        _alloc: Global,
+        event: &InputEvent,
+        editor: &mut LineEditBuffer,
+    ) -> Result<Option<Action>, AllocError> {
+        match event {
+            InputEvent::Key(
+                KeyEvent {
+                    key: KeyCode::Function(1),
+                    modifiers: _,
+                },
+            ) => {
+                editor.set_line_and_cursor("clear", 5)?;
+                Ok(Some(Action::NoAction))
+            }
+            InputEvent::Key(
+                KeyEvent {
+                    key: KeyCode::Escape,
+                    modifiers: _,
+                },
+            ) => Ok(Some(Action::Cancel)),
+            _ => Ok(None),
+        }
+    }
+
+    ghost plain_answers = { resolving_is_plain };
+
+    ghost held_back = { λ host. refl };
+
+    ghost held_lines = { λ host. refl };
+}
+
+#[test]
+fn a_host_answers_before_the_key_table(rt: HostRuntime) -> Result<(), Fail> {
+    let alloc = rt.alloc();
+    for (events, wanted) in [
+        ("a F1 Enter", "Some(\"clear\")"),
+        ("a F2 Enter", "Some(\"a\")"),
+        ("a Escape", "None"),
+    ] {
+        let mut case = case_of(alloc, "")?;
+        case.events = events;
+        let history = BasicHistory::new(alloc);
+        let (answer, _) = readings_of(alloc, &case, &mut ResolvingHost { history })?;
+        assert_eq!(rt; answer.as_str(), wanted, "{events}");
+    }
     Ok(())
 }

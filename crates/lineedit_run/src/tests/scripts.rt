@@ -232,6 +232,111 @@ cursor 0 2
 end 2 0
 -- ok
 ==
+cols 10
+preview ok
+type x
+key Enter
+read
+--
+line x
+|> x       |
+cursor 0 3
+end 1 0
+-- ok
+==
+cols 10
+preview ok
+type x
+read
+preview
+type y
+read
+--
+line x
+|> x       |
+|ok        |
+cursor 0 3
+end 2 0
+line y
+|> x       |
+|ok        |
+|> y       |
+cursor 2 3
+end 3 0
+-- ok
+==
+cols 0
+read
+cols 20
+cand 0 2
+type ab
+key Home
+key Tab
+read
+sing
+--
+refused 3
+refused 5
+|> ab                |
+cursor 0 2
+end 1 0
+bad line 9
+-- bad line 9
+==
+cols 12
+cand 0 1 foo bar
+cand 1 1\x20
+type f
+key Tab
+read
+type g
+key Tab
+key Tab
+read
+--
+line foo bar
+|> foo bar   |
+cursor 0 9
+end 1 0
+line g
+|> foo bar   |
+|> g         |
+cursor 1 3
+end 2 0
+-- ok
+==
+cols 2
+type a
+key Enter
+read
+--
+line a
+|> |
+|a |
+cursor 1 1
+end 2 0
+-- ok
+==
+cols 10
+type x
+key Enter
+read
+type abcdefghij
+key C-L
+key Enter
+read
+--
+line x
+|> x       |
+cursor 0 3
+end 1 0
+line abcdefghij
+|> abcdefgh|
+|ij        |
+cursor 1 2
+end 2 0
+-- ok
+==
 ";
 
 /// Runs the cases, and says how many there were.
@@ -254,7 +359,7 @@ pub fn expect_cases(rt: &impl Abort, alloc: Global, cases: &str) -> Result<usize
 
 #[test]
 fn scripts_show_what_the_editor_shows(rt: HostRuntime) -> Result<(), Fail> {
-    assert_eq!(rt; expect_cases(&rt, rt.alloc(), CASES)?, 13);
+    assert_eq!(rt; expect_cases(&rt, rt.alloc(), CASES)?, 19);
     Ok(())
 }
 
@@ -287,8 +392,23 @@ sing
 prompts x
 histories x
 History x
-cand 0 1 x
-preview x
+previews x
+Preview x
+cands 0 1 x
+cand
+cand\x20
+cand 1
+cand 1\x20
+cand 1 x
+cand 0 x
+cand x 0
+cand 0  1
+cand  0 1
+cand -1 2 x
+cand 0 +2 x
+cand 0 1x
+cand 1234567890 1
+cand 1 1234567890 x
 cols
 cols\x20
 cols +5
@@ -336,7 +456,7 @@ fn a_line_that_is_no_directive_ends_the_run(rt: HostRuntime) -> Result<(), Fail>
         );
         count = count.saturating_add(1);
     }
-    assert_eq!(rt; count, 43);
+    assert_eq!(rt; count, 58);
     Ok(())
 }
 

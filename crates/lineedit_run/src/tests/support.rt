@@ -1,6 +1,7 @@
 //! Calls of the editor on a scripted terminal, and what came of them as text.
 
 use crate::keys::key_named;
+use crate::script_host::ScriptHost;
 use std::alloc::{AllocError, Global};
 use std::process::Abort;
 use std::test::Fail;
@@ -10,7 +11,8 @@ use tw_surface::{CellAttributes, Change, ColorAttribute, Position};
 use tw_terminal::{ScreenSize, ScriptTerminal};
 
 /// The events of a list of names, parted by spaces: a character stands for itself, `paste:g` is a paste of
-/// `g`, `5x24` is a change of the size to 5 columns and 24 rows, and the others are names of keys.
+/// `g`, `5x24` is a change of the size to 5 columns and 24 rows, `F1` is the first function key, and the others
+/// are names of keys.
 pub fn events_of(alloc: Global, names: &str) -> Result<Vec<InputEvent>, Fail> {
     let mut events = Vec::new(alloc);
     for name in names.split_whitespace() {
@@ -22,10 +24,10 @@ pub fn events_of(alloc: Global, names: &str) -> Result<Vec<InputEvent>, Fail> {
 fn event_of(alloc: Global, name: &str) -> Result<InputEvent, Fail> {
     let mut characters = name.chars();
     if let (Some(character), None) = (characters.next(), characters.next()) {
-        return Ok(InputEvent::Key(KeyEvent {
-            key: KeyCode::Char(character),
-            modifiers: Modifiers::NONE,
-        }));
+        return Ok(plain_key(KeyCode::Char(character)));
+    }
+    if let Some(number) = name.strip_prefix('F') {
+        return Ok(plain_key(KeyCode::Function(number.parse()?)));
     }
     if let Some(text) = name.strip_prefix("paste:") {
         return Ok(InputEvent::Paste(String::from_str(alloc, text)?));
@@ -37,6 +39,13 @@ fn event_of(alloc: Global, name: &str) -> Result<InputEvent, Fail> {
         });
     }
     Ok(InputEvent::Key(key_named(name).ok_or("no key")?))
+}
+
+fn plain_key(key: KeyCode) -> InputEvent {
+    InputEvent::Key(KeyEvent {
+        key,
+        modifiers: Modifiers::NONE,
+    })
 }
 
 /// A terminal of 24 rows.
@@ -123,6 +132,8 @@ pub fn terminal_text(alloc: Global, terminal: &ScriptTerminal) -> Result<String,
 pub struct Case<'a> {
     pub size: ScreenSize,
     pub history: Vec<&'a str>,
+    pub preview: &'a str,
+    pub candidates: Vec<(usize, usize, &'a str)>,
     pub prompt: &'a str,
     pub initial: Option<&'a str>,
     pub events: &'a str,
@@ -136,13 +147,22 @@ fn pair_of(text: &str) -> Result<(usize, usize), Fail> {
     Ok((first.parse()?, second.parse()?))
 }
 
-/// The case of lines `size ROWS COLS`, `history TEXT` for each line of the history, `prompt TEXT`,
-/// `initial TEXT`, `events NAMES`, `readings COUNT`, `actions NAMES` and `fail CALL TAKEN`, each of which may
-/// be left out. `actions` are those that the key table gives for the events of these names.
+fn candidate_of(text: &str) -> Result<(usize, usize, &str), Fail> {
+    let (start, rest) = text.split_once(' ').ok_or("no end")?;
+    let (end, text) = rest.split_once(' ').ok_or("no text")?;
+    Ok((start.parse()?, end.parse()?, text))
+}
+
+/// The case of lines `size ROWS COLS`, `history TEXT` for each line of the history, `preview TEXT`,
+/// `cand START END TEXT` for each candidate, `prompt TEXT`, `initial TEXT`, `events NAMES`, `readings COUNT`,
+/// `actions NAMES` and `fail CALL TAKEN`, each of which may be left out. `actions` are those that the key table
+/// gives for the events of these names.
 pub fn case_of(alloc: Global, lines: &str) -> Result<Case<'_>, Fail> {
     let mut case = Case {
         size: ScreenSize { rows: 24, cols: 80 },
         history: Vec::new(alloc),
+        preview: "",
+        candidates: Vec::new(alloc),
         prompt: "> ",
         initial: None,
         events: "",
@@ -158,6 +178,8 @@ pub fn case_of(alloc: Global, lines: &str) -> Result<Case<'_>, Fail> {
                 case.size = ScreenSize { rows, cols };
             }
             "history" => case.history.push(text)?,
+            "preview" => case.preview = text,
+            "cand" => case.candidates.push(candidate_of(text)?)?,
             "prompt" => case.prompt = text,
             "initial" => case.initial = Some(text),
             "events" => case.events = text,
@@ -176,6 +198,22 @@ pub fn remember_all<H: LineEditorHost>(host: &mut H, lines: &[&str]) -> Result<(
         host.history().add(line)?;
     }
     Ok(())
+}
+
+/// The host of a case, over a history that is empty at first.
+pub fn host_of<L: History + Drop>(
+    alloc: Global,
+    history: L,
+    case: &Case<'_>,
+) -> Result<ScriptHost<L>, AllocError> {
+    let mut host = ScriptHost::new(alloc, history);
+    remember_all(&mut host, case.history.as_slice())?;
+    host.set_preview(case.preview)?;
+    for candidate in &case.candidates {
+        let (start, end, text) = *candidate;
+        host.offer(start..end, text)?;
+    }
+    Ok(host)
 }
 
 /// Reads the lines of a case with one editor, and gives the answers as text and the terminal.

@@ -40,6 +40,7 @@ fn keys_have_actions(rt: HostRuntime) -> Result<(), Fail> {
         (NONE, KeyCode::ApplicationUpArrow, "Some(HistoryPrevious)"),
         (NONE, KeyCode::DownArrow, "Some(HistoryNext)"),
         (NONE, KeyCode::ApplicationDownArrow, "Some(HistoryNext)"),
+        (NONE, KeyCode::Tab, "Some(Complete)"),
         (NONE, KeyCode::Enter, "Some(AcceptLine)"),
         (NONE, KeyCode::Backspace, "Some(Kill(BackwardChar(1)))"),
         (

@@ -22,7 +22,7 @@ impl ColumnHost {
 }
 
 impl LineEditorHost for ColumnHost {
-    ghost use Rattle.std.specs.Prelude.{ℕ, List, true, false, refl};
+    ghost use Rattle.std.specs.Prelude.{ℕ, List, [], true, false, refl};
     ghost use Rattle.std.proofs.lemmas.Bool.{true≢false};
     ghost use Rattle.tw_lineedit.specs.HostRules.{plain_text, unresolved};
 
@@ -35,7 +35,9 @@ impl LineEditorHost for ColumnHost {
     ghost rules = { record {
       lines = λ v. v.1;
       prompt = λ v text. plain_text text;
+      preview = λ v line. [];
       highlight = λ v cut. record { elements = plain_text cut.line; column = v.0 };
+      candidates = λ v cut. [];
       resolve = λ v event cut. unresolved v cut;
     } };
 
@@ -43,12 +45,11 @@ impl LineEditorHost for ColumnHost {
 
     ghost with_held = { λ host history. record host { history = history } };
 
-    ghost OWN = { record { prompt = false; highlight = true; resolve = false } };
+    ghost OWN = { record { prompt = false; preview = false; highlight = true; complete = false; resolve = false } };
 
     const OWN: OwnAnswers = OwnAnswers {
-        prompt: false,
         highlight: true,
-        resolve: false,
+        ..OwnAnswers::NONE
     };
 
     fn history(&mut self) -> &mut BasicHistory {
@@ -66,7 +67,7 @@ impl LineEditorHost for ColumnHost {
         Ok((elements, self.column))
     }
 
-    ghost plain_answers = { record { prompt = λ e v text. refl; highlight = λ e v cut. absurd (true≢false e); resolve = λ e v event cut. refl } };
+    ghost plain_answers = { record { prompt = λ e v text. refl; preview = λ e v line. refl; highlight = λ e v cut. absurd (true≢false e); complete = λ e v cut. refl; resolve = λ e v event cut. refl } };
 
     ghost held_back = { λ host. refl };
 

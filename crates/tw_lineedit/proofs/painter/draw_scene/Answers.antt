@@ -21,7 +21,7 @@ returns-in_err-draw_prompt g c =
     let shown : Highlight = g.H.LineEditorHost.rules.highlight (g.H.LineEditorHost.value c.args.host.now) c.args.line.now in
     let P : Drawing → Type 0 = λ d. IsStepRefusal (stay_in_range d (before_line prompt)) c.in_err-draw_prompt.field-0.0 in
     rw (p.1, p.2)
-    (refused-prompt c.args.cols prompt (changes_of shown.elements) shown.column (lower_of c.args.below) _ (subst P c.requires.empty c.in_err-draw_prompt.ensures))
+    (refused-prompt c.args.cols prompt (changes_of shown.elements) shown.column (lower_of g.H.LineEditorHost.rules (g.H.LineEditorHost.value c.args.host.now) c.args.line.now c.args.below) _ (subst P c.requires.empty c.in_err-draw_prompt.ensures))
 
 pub cursor_cell-requires-clause-row : goal.cursor_cell-requires-clause-row
 cursor_cell-requires-clause-row g c =
@@ -38,7 +38,7 @@ returns-in_err-draw_line g c =
     let shown : Highlight = g.H.LineEditorHost.rules.highlight (g.H.LineEditorHost.value c.args.host.now) c.args.line.now in
     let P : Drawing → Type 0 = λ d. Drawn (before_line prompt) d c.draw_prompt.new.drawing in
     rw (p.1, p.2)
-    (refused-line c.args.cols prompt (changes_of shown.elements) shown.column (lower_of c.args.below) c.draw_prompt.new.drawing _
+    (refused-line c.args.cols prompt (changes_of shown.elements) shown.column (lower_of g.H.LineEditorHost.rules (g.H.LineEditorHost.value c.args.host.now) c.args.line.now c.args.below) c.draw_prompt.new.drawing _
     (subst P c.requires.empty c.in_ok-draw_prompt.ensures)
     (rw c.in_ok-elements.ensures.elements at c.in_err-draw_line.ensures))
 
@@ -52,7 +52,7 @@ returns-in_err-draw_below g c =
     let first : Drawn (before_line prompt) (empty c.args.cols) c.draw_prompt.new.drawing = subst P c.requires.empty c.in_ok-draw_prompt.ensures in
     let second : Drawn (line_part c.args.cols prompt line) (empty c.args.cols) c.draw_line.new.drawing =
     drawn-line c.args.cols prompt line c.draw_prompt.new.drawing c.draw_line.new.drawing first (rw c.in_ok-elements.ensures.elements at c.in_ok-draw_line.ensures) in
-    rw (p.1, p.2) (refused-lower c.args.cols prompt line shown.column (lower_of c.args.below) c.draw_line.new.drawing _ second c.in_err-draw_below.ensures)
+    rw (p.1, p.2) (refused-lower c.args.cols prompt line shown.column (lower_of g.H.LineEditorHost.rules (g.H.LineEditorHost.value c.args.host.now) c.args.line.now c.args.below) c.draw_line.new.drawing _ second c.in_err-draw_below.ensures)
 
 pub invariant_of-result : goal.invariant_of-result
 invariant_of-result g c =
@@ -63,8 +63,8 @@ invariant_of-result g c =
     let first : Drawn (before_line prompt) (empty c.args.cols) c.draw_prompt.new.drawing = subst P c.requires.empty c.in_ok-draw_prompt.ensures in
     let second : Drawn (line_part c.args.cols prompt line) (empty c.args.cols) c.draw_line.new.drawing =
     drawn-line c.args.cols prompt line c.draw_prompt.new.drawing c.draw_line.new.drawing first (rw c.in_ok-elements.ensures.elements at c.in_ok-draw_line.ensures) in
-    let all : Drawn (shown_part c.args.cols (uncleared prompt line shown.column (lower_of c.args.below))) (empty c.args.cols) c.draw_below.new.drawing =
-    drawn-shown c.args.cols prompt line shown.column (lower_of c.args.below) c.draw_line.new.drawing c.draw_below.new.drawing second c.in_ok-draw_below.ensures in
+    let all : Drawn (shown_part c.args.cols (uncleared prompt line shown.column (lower_of g.H.LineEditorHost.rules (g.H.LineEditorHost.value c.args.host.now) c.args.line.now c.args.below))) (empty c.args.cols) c.draw_below.new.drawing =
+    drawn-shown c.args.cols prompt line shown.column (lower_of g.H.LineEditorHost.rules (g.H.LineEditorHost.value c.args.host.now) c.args.line.now c.args.below) c.draw_line.new.drawing c.draw_below.new.drawing second c.in_ok-draw_below.ensures in
     let cell : Place = record { x = c.in-Some.cell.0; y = c.in-Some.cell.1 } in
     let found : HasCell c.args.cols (place c.draw_prompt.new.drawing) shown.column cell =
     cell-from c.args.cols (place c.draw_prompt.new.drawing) c.current_cursor_position-start.result.0 c.current_cursor_position-start.result.1
@@ -86,15 +86,15 @@ returns g c =
     let first : Drawn (before_line prompt) (empty c.args.cols) c.draw_prompt.new.drawing = subst P c.requires.empty c.in_ok-draw_prompt.ensures in
     let second : Drawn (line_part c.args.cols prompt line) (empty c.args.cols) c.draw_line.new.drawing =
     drawn-line c.args.cols prompt line c.draw_prompt.new.drawing c.draw_line.new.drawing first (rw c.in_ok-elements.ensures.elements at c.in_ok-draw_line.ensures) in
-    let all : Drawn (shown_part c.args.cols (uncleared prompt line shown.column (lower_of c.args.below))) (empty c.args.cols) c.draw_below.new.drawing =
-    drawn-shown c.args.cols prompt line shown.column (lower_of c.args.below) c.draw_line.new.drawing c.draw_below.new.drawing second c.in_ok-draw_below.ensures in
+    let all : Drawn (shown_part c.args.cols (uncleared prompt line shown.column (lower_of g.H.LineEditorHost.rules (g.H.LineEditorHost.value c.args.host.now) c.args.line.now c.args.below))) (empty c.args.cols) c.draw_below.new.drawing =
+    drawn-shown c.args.cols prompt line shown.column (lower_of g.H.LineEditorHost.rules (g.H.LineEditorHost.value c.args.host.now) c.args.line.now c.args.below) c.draw_line.new.drawing c.draw_below.new.drawing second c.in_ok-draw_below.ensures in
     let cell : Place = record { x = c.in-Some.cell.0; y = c.in-Some.cell.1 } in
     let found : HasCell c.args.cols (place c.draw_prompt.new.drawing) shown.column cell =
     cell-from c.args.cols (place c.draw_prompt.new.drawing) c.current_cursor_position-start.result.0 c.current_cursor_position-start.result.1
     c.in_ok-elements.column shown.column cell
     c.current_cursor_position-start.ensures.column c.current_cursor_position-start.ensures.row c.in_ok-elements.ensures.column c.in-Some.ensures in
-    let whole : DrawnScene c.args.cols (uncleared prompt line shown.column (lower_of c.args.below)) c.move_to.new.self (record { row = cell.y; height = c.render_height-height.result }) =
-    drawn-scene c.args.cols prompt line shown.column (lower_of c.args.below) c.draw_prompt.new.drawing c.draw_below.new.drawing c.move_to.new.self
+    let whole : DrawnScene c.args.cols (uncleared prompt line shown.column (lower_of g.H.LineEditorHost.rules (g.H.LineEditorHost.value c.args.host.now) c.args.line.now c.args.below)) c.move_to.new.self (record { row = cell.y; height = c.render_height-height.result }) =
+    drawn-scene c.args.cols prompt line shown.column (lower_of g.H.LineEditorHost.rules (g.H.LineEditorHost.value c.args.host.now) c.args.line.now c.args.below) c.draw_prompt.new.drawing c.draw_below.new.drawing c.move_to.new.self
     cell c.render_height-height.result first all found c.in_ok-move_to.ensures.moved c.render_height-height.ensures in
     let fits : SFits w64 c.in-Some.cell.1 = search rules in
     rw (to_z-of_z w64 c.in-Some.cell.1 fits) whole

@@ -1,0 +1,97 @@
+//! Each painting of the line editor beside a fresh one. An editor paints over what it painted before, by
+//! moves from where it left the cursor. Whatever it has taken, the screen is to show what one painting of
+//! its state shows. The program plays scripts at widths from 2 to 17, on a blank screen and on a full one.
+//! After each batch it compares the screen with a table whose places are found by division alone. What it
+//! found goes to standard output, and the times to standard error.
+#![tactic(auto)]
+
+mod generator;
+mod host;
+mod play;
+mod scene;
+mod script;
+mod table;
+mod worked;
+
+use crate::generator::Generator;
+use crate::play::{Count, play};
+use crate::script::{Entry, Script};
+use crate::worked::{WORKED, Worked};
+use std::alloc::Global;
+use std::time::Instant;
+
+const FIRST_WIDTH: usize = 2;
+
+const LAST_WIDTH: usize = 17;
+
+const SEED: u64 = 20_250_719;
+
+/// The scripts that are generated for each width.
+const CASES: usize = 250;
+
+fn main(rt: HostRuntime) -> Result<(), anyhow::Error> {
+    let mut all = Count::default();
+    let start = Instant::now(&rt)?;
+    for worked in &WORKED {
+        all.add(play_worked(&rt, worked)?);
+    }
+    let worked = start.elapsed(&rt)?;
+    let start = Instant::now(&rt)?;
+    let mut generator = Generator::new(SEED);
+    for width in FIRST_WIDTH..=LAST_WIDTH {
+        all.add(play_generated(&rt, width, &mut generator)?);
+    }
+    let generated = start.elapsed(&rt)?;
+    println!(rt; "all: {all}")?;
+    eprintln!(rt;
+        "{} ms for the worked scripts, {} ms for the generated ones",
+        worked.as_millis(),
+        generated.as_millis()
+    )?;
+    Ok(())
+}
+
+/// Plays a worked script at each width, on both screens.
+fn play_worked(
+    rt: &(impl Print + Alloc<A = Global>),
+    worked: &Worked,
+) -> Result<Count, anyhow::Error> {
+    let mut count = Count::default();
+    for width in FIRST_WIDTH..=LAST_WIDTH {
+        for entry in [Entry::Blank, Entry::Full] {
+            count.add(play_one(rt, width, entry, &worked.script)?);
+        }
+    }
+    let name = worked.name;
+    println!(rt; "{name}: {count}")?;
+    Ok(count)
+}
+
+/// Generates scripts and plays them at one width.
+fn play_generated(
+    rt: &(impl Print + Alloc<A = Global>),
+    width: usize,
+    generator: &mut Generator,
+) -> Result<Count, anyhow::Error> {
+    let mut count = Count::default();
+    for _ in 0..CASES {
+        let case = generator.case(rt.alloc())?;
+        count.add(play_one(rt, width, case.entry, &case.script())?);
+    }
+    println!(rt; "{CASES} scripts at {width} columns: {count}")?;
+    Ok(count)
+}
+
+/// Plays a script, and shows it where a cell differs.
+fn play_one(
+    rt: &(impl Print + Alloc<A = Global>),
+    width: usize,
+    entry: Entry,
+    script: &Script<'_>,
+) -> Result<Count, anyhow::Error> {
+    let count = play(rt.alloc(), width, entry, script)?;
+    if count.differences > 0 {
+        println!(rt; "at {width} columns, screen {entry:?}: {count}: {script:?}")?;
+    }
+    Ok(count)
+}

@@ -1,0 +1,60 @@
+-- The host of a script: one preview under every line, and the same candidates at every request.
+use Rattle.std.specs.Prelude.{◌≡◌, ℕ, true, false, List, [], ◌∷◌, ◌++◌, Some, refl}
+use Rattle.std.proofs.lemmas.Bool.{true≢false}
+use Rattle.tw_lineedit.specs.declared.host.OwnAnswers.{OwnAnswers}
+use Rattle.tw_lineedit.specs.CandidateView.{CandidateView}
+use Rattle.tw_lineedit.specs.ElementView.{ElementView}
+use Rattle.tw_lineedit.specs.HostRules.{HostRules, plain_text, plain_highlight, unresolved}
+use Rattle.tw_lineedit.specs.Near.{last_line}
+use Rattle.tw_lineedit.specs.PlainAnswers.{IsPlainBut}
+
+-- the lines of its history, the text of its preview, and its candidates
+pub record Scripted : Type 0 where
+  pub lines : List (List ℕ)
+  pub preview : List ℕ
+  pub candidates : List CandidateView
+
+-- a history, without a preview and without candidates
+abbrev pub history_only : List (List ℕ) → Scripted
+history_only lines = record { lines = lines; preview = []; candidates = [] }
+
+-- the history ends with the line, and the rest is as it was
+abbrev pub Remembers : List ℕ → Scripted → Scripted → Type 0
+Remembers line old new = (last_line new.lines ≡ Some line) × (new ≡ record old { lines = new.lines })
+
+-- one more candidate, which is the last
+abbrev pub with_candidate : CandidateView → Scripted → Scripted
+with_candidate candidate v = record v { candidates = v.candidates ++ (candidate ∷ []) }
+
+-- another preview
+abbrev pub with_preview : List ℕ → Scripted → Scripted
+with_preview text v = record v { preview = text }
+
+-- the text as it is, and nothing where it is empty
+abbrev pub preview_elements : List ℕ → List ElementView
+preview_elements [] = []
+preview_elements (x ∷ xs) = plain_text (x ∷ xs)
+
+-- its own preview and candidates, and all else plain
+abbrev pub script_rules : HostRules Scripted
+script_rules = record {
+  lines = λ v. v.lines;
+  prompt = λ v text. plain_text text;
+  preview = λ v line. preview_elements v.preview;
+  highlight = λ v cut. plain_highlight cut;
+  candidates = λ v cut. v.candidates;
+  resolve = λ v event cut. unresolved v cut;
+}
+
+-- the preview and the candidates are answers of its own
+abbrev pub script_own : OwnAnswers
+script_own = record { prompt = false; preview = true; highlight = false; complete = true; resolve = false }
+
+pub script_is_plain : IsPlainBut script_rules script_own
+script_is_plain = record {
+  prompt = λ e v text. refl;
+  preview = λ e v line. absurd (true≢false e);
+  highlight = λ e v cut. refl;
+  complete = λ e v cut. absurd (true≢false e);
+  resolve = λ e v event cut. refl;
+}

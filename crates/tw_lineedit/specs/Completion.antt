@@ -1,0 +1,34 @@
+-- Completion: candidates that come in in turn.
+use Rattle.std.specs.Prelude.{ℕ, ◌+◌, ◌%◌, nat_lt, List, length, Option, Some, None, Result, Ok, Err, if◌then◌else◌, slice_get}
+use Rattle.tw_lineedit.specs.Cut.{Cut}
+use Rattle.tw_lineedit.specs.CandidateView.{CandidateView, completed_by}
+use Rattle.tw_lineedit.specs.EditState.{EditState, CycleView}
+use Rattle.tw_lineedit.specs.Refusal.{Refusal, CandidateDoesNotFit}
+
+-- a cut text comes in, with a cycle; where there is none the candidate did not fit
+abbrev pub put_in : EditState → Option CycleView → Option Cut → Result EditState Refusal
+put_in s cycle None = Err CandidateDoesNotFit
+put_in s cycle (Some cut) = Ok (record s { cut = cut; cycle = cycle })
+
+-- a candidate comes in on a cut text; where there is none nothing is changed
+abbrev pub filled : EditState → Option CycleView → Cut → Option CandidateView → Result EditState Refusal
+filled s cycle original None = Ok s
+filled s cycle original (Some c) = put_in s cycle (completed_by c original)
+
+-- two candidates or more are a cycle
+abbrev pub cycle_of : List CandidateView → Cut → Option CycleView
+cycle_of candidates cut =
+    if nat_lt 1 (length candidates) then Some (record { candidates = candidates; index = 0; original = cut }) else None
+
+-- the index after a cycle's, and after the last one 0
+abbrev pub next_in : CycleView → ℕ
+next_in c = (c.index + 1) % length c.candidates
+
+-- without a cycle the first of these candidates comes in, and else the cycle's next one on its original cut text
+abbrev pub completed_from : List CandidateView → EditState → Option CycleView → Result EditState Refusal
+completed_from candidates s None = filled s (cycle_of candidates s.cut) s.cut (slice_get candidates 0)
+completed_from candidates s (Some c) = filled s (Some (record c { index = next_in c })) c.original (slice_get c.candidates (next_in c))
+
+-- one completion, by the host's candidates for the cut text
+unfoldable pub completed : (Cut → List CandidateView) → EditState → Result EditState Refusal
+completed candidates s = completed_from (candidates s.cut) s s.cycle

@@ -1,0 +1,4 @@
+pub mod Commands
+pub mod CommandRules
+pub mod PlainRest
+pub mod Reading
