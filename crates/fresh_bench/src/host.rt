@@ -1,8 +1,7 @@
 //! The host of the editor: it shows the line in two parts, so that each painting tells where the cursor is.
 
-ghost use Rattle.std.specs.Prelude.{◌≡◌, IfOk, List, ℕ, map, refl, string_bytes};
-ghost use Rattle.tw_lineedit.specs.ElementView.{element_view};
-ghost use Rattle.fresh_bench.specs.BenchHost.{BenchValue, bench_is_plain, bench_own, bench_rules, text_unless_empty};
+ghost use Rattle.std.specs.Prelude.{refl, string_bytes};
+ghost use Rattle.fresh_bench.specs.BenchHost.{BenchValue, bench_is_plain, bench_own, bench_rules};
 
 use std::alloc::{AllocError, Global};
 use tw_lineedit::{BasicHistory, History, LineEditorHost, OutputElement, OwnAnswers};

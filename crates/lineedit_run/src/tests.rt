@@ -11,6 +11,7 @@ mod hosts;
 mod lines;
 mod names;
 mod replay;
+mod screens;
 mod scripts;
 mod streams;
 mod support;

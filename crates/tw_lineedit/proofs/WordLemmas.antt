@@ -1,11 +1,12 @@
 -- Steps over words.
-use Rattle.std.proofs.Common.{◌≡◌, ℕ, zero, suc, ◌+◌, ◌-◌, ◌<◌, ◌≤◌, Bool, true, false, None, Some, List, length, unwrap_or, refl, sym, ap, subst, ◌∙◌, arith}
+use Rattle.std.proofs.Common.{◌≡◌, ℕ, zero, suc, ◌+◌, ◌-◌, ◌<◌, ◌≤◌, Bool, true, false, not, None, Some, List, length, unwrap_or, refl, sym, ap, subst, ◌∙◌, arith}
 use Rattle.std.proofs.lemmas.Bool.{and_left, and_right, and_from, lt-ltb, le-ltb, cond-true, cond-false, eq-eqb, ne_eqb}
 use Rattle.std.specs.Prelude.{if◌then◌else◌}
+use Rattle.std.specs.Bool.{beq}
 use Rattle.std.specs.Str.{chars}
 use Rattle.tw_lineedit.specs.Extremes.{least_from, greatest_below}
 use Rattle.tw_lineedit.proofs.ExtremesLemmas.{greatest_below-none}
-use Rattle.tw_lineedit.specs.Words.{is_space, is_no_space, follows_space, word_before, word_after, space_from, word_from, word_start}
+use Rattle.tw_lineedit.specs.Words.{is_space, is_no_space, follows_space, word_before, word_after, space_from, word_from, kind_from, word_start}
 use Rattle.tw_lineedit.specs.Indices.{index_of}
 
 -- one number less to try, from below
@@ -39,34 +40,63 @@ unfolding greatest_below
 greatest_below-here p to passes = let step : to + 1 ≡ suc to = omega arith in rw (step, passes) refl
 
 -- a search for whitespace passes over another character
-pub space_from-skip : (cs : List ℕ) (q next : ℕ) → next ≡ q + 1 → q < length cs → is_space cs q ≡ false → space_from cs next ≡ space_from cs q
+space_from-skip : (cs : List ℕ) (q next : ℕ) → next ≡ q + 1 → q < length cs → is_space cs q ≡ false → space_from cs next ≡ space_from cs q
 unfolding space_from
 space_from-skip cs q next e low fails = ap (λ o. unwrap_or o (length cs)) (least_from-skip (is_space cs) q next (length cs) e low fails)
 
 -- it ends at whitespace
-pub space_from-here : (cs : List ℕ) (q : ℕ) → q < length cs → is_space cs q ≡ true → space_from cs q ≡ q
+space_from-here : (cs : List ℕ) (q : ℕ) → q < length cs → is_space cs q ≡ true → space_from cs q ≡ q
 unfolding space_from
 space_from-here cs q low passes = ap (λ o. unwrap_or o (length cs)) (least_from-here (is_space cs) q (length cs) low passes)
 
 -- it ends at the end
-pub space_from-end : (cs : List ℕ) (q : ℕ) → q ≡ length cs → space_from cs q ≡ q
+space_from-end : (cs : List ℕ) (q : ℕ) → q ≡ length cs → space_from cs q ≡ q
 unfolding space_from
 space_from-end cs q e = ap (λ o. unwrap_or o (length cs)) (least_from-end (is_space cs) q (length cs) (omega arith)) ∙ sym e
 
 -- a search for a word passes over whitespace
-pub word_from-skip : (cs : List ℕ) (q next : ℕ) → next ≡ q + 1 → q < length cs → is_no_space cs q ≡ false → word_from cs next ≡ word_from cs q
+word_from-skip : (cs : List ℕ) (q next : ℕ) → next ≡ q + 1 → q < length cs → is_no_space cs q ≡ false → word_from cs next ≡ word_from cs q
 unfolding word_from
 word_from-skip cs q next e low fails = ap (λ o. unwrap_or o (length cs)) (least_from-skip (is_no_space cs) q next (length cs) e low fails)
 
 -- it ends at another character
-pub word_from-here : (cs : List ℕ) (q : ℕ) → q < length cs → is_no_space cs q ≡ true → word_from cs q ≡ q
+word_from-here : (cs : List ℕ) (q : ℕ) → q < length cs → is_no_space cs q ≡ true → word_from cs q ≡ q
 unfolding word_from
 word_from-here cs q low passes = ap (λ o. unwrap_or o (length cs)) (least_from-here (is_no_space cs) q (length cs) low passes)
 
 -- it ends at the end
-pub word_from-end : (cs : List ℕ) (q : ℕ) → q ≡ length cs → word_from cs q ≡ q
+word_from-end : (cs : List ℕ) (q : ℕ) → q ≡ length cs → word_from cs q ≡ q
 unfolding word_from
 word_from-end cs q e = ap (λ o. unwrap_or o (length cs)) (least_from-end (is_no_space cs) q (length cs) (omega arith)) ∙ sym e
+
+-- two kinds that are one
+pub same_kind : (a b : Bool) → beq a b ≡ true → a ≡ b
+same_kind true true e = refl
+same_kind true false e = sym e
+same_kind false true e = e
+same_kind false false e = refl
+
+-- what is not of a kind is of the other
+pub other_kind : (a b : Bool) → beq a b ≡ false → a ≡ not b
+other_kind true true e = e
+other_kind true false e = refl
+other_kind false true e = refl
+other_kind false false e = sym e
+
+-- a search passes over a character of the other kind
+pub kind_from-skip : (space : Bool) (cs : List ℕ) (q next : ℕ) → next ≡ q + 1 → q < length cs → is_space cs q ≡ not space → kind_from space cs next ≡ kind_from space cs q
+kind_from-skip true cs q next e low fails = space_from-skip cs q next e low fails
+kind_from-skip false cs q next e low fails = word_from-skip cs q next e low (ap not fails)
+
+-- it ends at one of its kind
+pub kind_from-here : (space : Bool) (cs : List ℕ) (q : ℕ) → q < length cs → is_space cs q ≡ space → kind_from space cs q ≡ q
+kind_from-here true cs q low passes = space_from-here cs q low passes
+kind_from-here false cs q low passes = word_from-here cs q low (ap not passes)
+
+-- it ends at the end
+pub kind_from-end : (space : Bool) (cs : List ℕ) (q : ℕ) → q ≡ length cs → kind_from space cs q ≡ q
+kind_from-end true cs q e = space_from-end cs q e
+kind_from-end false cs q e = word_from-end cs q e
 
 -- an index behind a character that is no whitespace
 follows_space-false : (cs : List ℕ) (i q : ℕ) → q ≡ i + 1 → is_space cs i ≡ false → follows_space cs q ≡ false

@@ -1,5 +1,5 @@
 -- Steps over words, by the indices of characters.
-use Rattle.std.specs.Prelude.{ℕ, ◌-◌, Bool, not, ◌&&◌, ◌==◌, nat_lt, List, length, slice_index, unwrap_or, if◌then◌else◌}
+use Rattle.std.specs.Prelude.{ℕ, ◌-◌, Bool, true, false, not, ◌&&◌, ◌==◌, nat_lt, List, length, slice_index, unwrap_or, if◌then◌else◌}
 use Rattle.std.specs.Char.{is_whitespace}
 use Rattle.std.specs.Str.{chars}
 use Rattle.tw_lineedit.specs.Extremes.{least_from, greatest_below}
@@ -28,6 +28,11 @@ space_from cs q = unwrap_or (least_from (is_space cs) q (length cs - q)) (length
 -- the least index from q on that is not whitespace, or the number of characters
 unfoldable pub word_from : List ℕ → ℕ → ℕ
 word_from cs q = unwrap_or (least_from (is_no_space cs) q (length cs - q)) (length cs)
+
+-- one or the other: whitespace, or what is none
+abbrev pub kind_from : Bool → List ℕ → ℕ → ℕ
+kind_from true = space_from
+kind_from false = word_from
 
 -- behind the whitespace that ends the word at q
 abbrev pub word_after : List ℕ → ℕ → ℕ

@@ -1,6 +1,6 @@
 //! The painting of a line: the changes that show it, and where they leave the cursor.
 
-ghost use Rattle.std.specs.Prelude.{◌≡◌, ◌+◌, ◌<◌, ◌≤◌, ◌∷◌, [], Bool, true, false, nat_abs, map, string_bytes, MatchOption, IfOk, IfErr, ◌++◌, Some, Ok};
+ghost use Rattle.std.specs.Prelude.{◌≡◌, ◌+◌, ◌<◌, ◌≤◌, ◌∷◌, [], true, false, nat_abs, map, string_bytes, MatchOption, IfOk, IfErr, ◌++◌, Some, Ok};
 ghost use Rattle.tw_surface.specs.Characters.{cr, lf};
 ghost use Rattle.tw_surface.specs.ChangeView.{change_view, batch_view};
 ghost use Rattle.tw_surface.specs.Drawings.{place};

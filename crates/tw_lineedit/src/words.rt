@@ -3,7 +3,7 @@
 ghost use Rattle.std.specs.Prelude.{◌≡◌};
 ghost use Rattle.std.specs.Str.{IsCharBoundary};
 ghost use Rattle.tw_lineedit.specs.Text.{bytes_of, chars_of, index_in};
-ghost use Rattle.tw_lineedit.specs.Words.{space_from, word_after, word_before, word_from, word_start};
+ghost use Rattle.tw_lineedit.specs.Words.{kind_from, word_after, word_before, word_start};
 
 use crate::text::Text;
 
@@ -43,33 +43,17 @@ pub fn word_before(line: &Text, at: usize) -> usize
     0
 }
 
-/// The first whitespace from `start` on, or the end of the line.
-fn skip_word(line: &Text, start: usize) -> usize
+/// The first character from `start` on that is whitespace, or that is none where `space` is false. Without
+/// one, the end of the line.
+fn find_from(line: &Text, start: usize, space: bool) -> usize
     requires { IsCharBoundary (bytes_of line.now) start }
-    ensures index { index_in line.now result ≡ space_from (chars_of line.now) (index_in line.now start) }
+    ensures index { index_in line.now result ≡ kind_from space (chars_of line.now) (index_in line.now start) }
     ensures boundary { IsCharBoundary (bytes_of line.now) result }
 {
     let mut at = start;
     while at < line.len() {
         let (c, next) = line.char_at(at);
-        if c.is_whitespace() {
-            return at;
-        }
-        at = next;
-    }
-    at
-}
-
-/// The first character that is not whitespace from `start` on, or the end of the line.
-fn skip_space(line: &Text, start: usize) -> usize
-    requires { IsCharBoundary (bytes_of line.now) start }
-    ensures index { index_in line.now result ≡ word_from (chars_of line.now) (index_in line.now start) }
-    ensures boundary { IsCharBoundary (bytes_of line.now) result }
-{
-    let mut at = start;
-    while at < line.len() {
-        let (c, next) = line.char_at(at);
-        if !c.is_whitespace() {
+        if c.is_whitespace() == space {
             return at;
         }
         at = next;
@@ -83,5 +67,6 @@ pub fn word_after(line: &Text, at: usize) -> usize
     ensures index { index_in line.now result ≡ word_after (chars_of line.now) (index_in line.now at) }
     ensures boundary { IsCharBoundary (bytes_of line.now) result }
 {
-    skip_space(line, skip_word(line, at))
+    let space = find_from(line, at, true);
+    find_from(line, space, false)
 }

@@ -14,10 +14,6 @@ pub record IsUnderWay (all : List Place) (start : Track) (left : List Place) (t 
   pub stays : list_all is_in_range left ≡ list_all is_in_range all
   pub in_range : is_in_range (place_of t) ≡ true
 
--- one character further in a plain text
-pub pieces-drop : (text : List ℕ) (i : ℕ) → i < length text → map plain_piece (drop i text) ≡ plain_piece (get_or text i 0) ∷ map plain_piece (drop (i + 1) text)
-pieces-drop text i h = rw (add-one i, drop-cons text i 0) refl
-
 -- a track that is sound stays so at a place in range
 pub sound-reach : (t : Track) (p : Place) → IsSound t → is_in_range p ≡ true → IsSound (reach t p)
 sound-reach t p h a =

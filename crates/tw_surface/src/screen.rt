@@ -1,6 +1,6 @@
 //! A model screen, which shows what a terminal would show after changes.
 
-ghost use Rattle.std.specs.Prelude.{◌≡◌, ◌≢◌, ℕ, ◌+◌, ◌-◌, min, ◌∷◌, [], ◌<◌, ◌≤◌, ◌↔◌, ◌^◌, pos, true, false, List, length, count_by, vec_len, vec_capacity, Ok, Err, IfOk, IfErr, IsTrue, OnOk, OnErr};
+ghost use Rattle.std.specs.Prelude.{◌≡◌, ◌≢◌, ℕ, ◌+◌, ◌-◌, min, ◌∷◌, [], ◌<◌, ◌≤◌, ◌↔◌, pos, true, false, List, count_by, vec_len, vec_capacity, Ok, Err, IfOk, IfErr, IsTrue, OnOk, OnErr};
 ghost use Rattle.std.specs.List.{All, list_all};
 ghost use Rattle.tw_surface.specs.ChangeView.{change_view, Text as TextView};
 ghost use Rattle.tw_surface.specs.Characters.{is_plain, is_printable};

@@ -1,8 +1,8 @@
 //! A sequence of changes, measured as it grows.
 
-ghost use Rattle.std.specs.Prelude.{◌≡◌, ◌+◌, ◌-◌, ◌<◌, ◌≤◌, ◌⊎◌, ◌↔◌, Ok, Err, OnOk, OnErr, MatchOption, [], ◌∷◌, ◌++◌, true, pos, nat_abs, min, IsTrue};
+ghost use Rattle.std.specs.Prelude.{◌≡◌, ◌+◌, ◌-◌, ◌<◌, ◌≤◌, ◌⊎◌, ◌↔◌, Ok, Err, OnOk, OnErr, MatchOption, [], ◌∷◌, ◌++◌, true, nat_abs};
 ghost use Rattle.tw_surface.specs.ChangeView.{change_view, batch_view};
-ghost use Rattle.tw_surface.specs.Positions.{moved, at_least_0};
+ghost use Rattle.tw_surface.specs.Positions.{moved};
 ghost use Rattle.tw_surface.specs.Places.{places_of_change, is_in_range, move_between};
 ghost use Rattle.tw_surface.specs.Drawings.{Drawing, place, height};
 ghost use Rattle.tw_surface.specs.Tracks.{place_of, Measures};

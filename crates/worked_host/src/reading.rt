@@ -1,6 +1,6 @@
 //! Reading a command.
 
-ghost use Rattle.std.specs.Prelude.{◌≡◌, IfOk, option_map, string_bytes};
+ghost use Rattle.std.specs.Prelude.{IfOk, option_map, string_bytes};
 ghost use Rattle.worked_host.specs.Reading.{ReadsCommand};
 
 use crate::host::CommandHost;

@@ -4,6 +4,7 @@ ghost use Rattle.std.specs.Prelude.{ℕ, List, refl};
 ghost use Rattle.lineedit_run.specs.ColumnHost.{Placed, column_rules, highlight_own, column_is_plain};
 ghost use Rattle.lineedit_run.specs.ResolvingHost.{resolving_rules, resolve_own, resolving_is_plain};
 
+use super::histories::told_of;
 use super::support::{case_of, readings_of, terminal_text};
 use std::alloc::{AllocError, Global};
 use std::test::Fail;
@@ -92,6 +93,21 @@ fn a_host_places_the_cursor(rt: HostRuntime) -> Result<(), Fail> {
     assert_eq!(rt; shown_at(alloc, 80, 2_147_483_645)?.as_str(), FARTHEST);
     assert_eq!(rt; shown_at(alloc, 80, 2_147_483_646)?.as_str(), refused);
     assert_eq!(rt; shown_at(alloc, 80, usize::MAX)?.as_str(), refused);
+    Ok(())
+}
+
+#[test]
+fn a_cursor_behind_the_line_stands_in_its_cell(rt: HostRuntime) -> Result<(), Fail> {
+    let alloc = rt.alloc();
+    let case = case_of(alloc, "size 24 10\n")?;
+    let history = BasicHistory::new(alloc);
+    let mut host = ColumnHost {
+        history,
+        column: 25,
+    };
+    let told = told_of(alloc, &case, &mut host)?;
+    let wanted = "screen |>         |\ncursor 2 7\nend 1 0\n";
+    assert!(rt; told.as_str().contains(wanted), "{told}");
     Ok(())
 }
 

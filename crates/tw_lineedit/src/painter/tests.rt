@@ -1,78 +1,7 @@
 use super::*;
-use crate::history::BasicHistory;
-use crate::host::{NopLineEditorHost, OwnAnswers};
+use crate::host::NopLineEditorHost;
 use std::process::Abort;
 use std::test::Fail;
-
-/// A host that puts the cursor of every line into one column.
-#[derive(Drop)]
-struct ColumnHost {
-    column: usize,
-    history: BasicHistory,
-}
-
-impl ColumnHost {
-    /// The host with an empty history.
-    fn new(alloc: Global, column: usize) -> Self {
-        ColumnHost {
-            column,
-            history: BasicHistory::new(alloc),
-        }
-    }
-}
-
-impl LineEditorHost for ColumnHost {
-    ghost use Rattle.std.specs.Prelude.{ℕ, List, [], true, false, refl};
-    ghost use Rattle.std.proofs.lemmas.Bool.{true≢false};
-    ghost use Rattle.tw_lineedit.specs.HostRules.{plain_text, unresolved};
-
-    type Hist = BasicHistory;
-
-    ghost Value = { ℕ × List (List ℕ) };
-
-    ghost value = { λ host. (host.column, host.history) };
-
-    ghost rules = { record {
-      lines = λ v. v.1;
-      prompt = λ v text. plain_text text;
-      preview = λ v line. [];
-      highlight = λ v cut. record { elements = plain_text cut.line; column = v.0 };
-      candidates = λ v cut. [];
-      resolve = λ v event cut. unresolved v cut;
-    } };
-
-    ghost held = { λ host. host.history };
-
-    ghost with_held = { λ host history. record host { history = history } };
-
-    ghost OWN = { record { prompt = false; preview = false; highlight = true; complete = false; resolve = false } };
-
-    const OWN: OwnAnswers = OwnAnswers {
-        highlight: true,
-        ..OwnAnswers::NONE
-    };
-
-    fn history(&mut self) -> &mut BasicHistory {
-        &mut self.history
-    }
-
-    fn highlight_line(
-        &self,
-        alloc: Global,
-        line: &str,
-        _cursor_position: usize,
-    ) -> Result<(Vec<OutputElement>, usize), AllocError> {
-        let text = String::from_str(alloc, line)?;
-        let elements = vec![in alloc; OutputElement::Text(text)]?;
-        Ok((elements, self.column))
-    }
-
-    ghost plain_answers = { record { prompt = λ e v text. refl; preview = λ e v line. refl; highlight = λ e v cut. absurd (true≢false e); complete = λ e v cut. refl; resolve = λ e v event cut. refl } };
-
-    ghost held_back = { λ host. refl };
-
-    ghost held_lines = { λ host. refl };
-}
 
 /// The line with its cursor at the end, painted behind the prompt `> `.
 fn painted<H: LineEditorHost>(
@@ -182,25 +111,6 @@ fn lines_are_painted(rt: HostRuntime) -> Result<(), Fail> {
         let painting = painted(&host, alloc, (24, cols), line, None)?;
         let wanted = batch(alloc, line, edge_space, move_by(x, y))?;
         assert_painting(&rt, &painting, wanted.as_slice(), closing_move);
-    }
-    Ok(())
-}
-
-#[test]
-fn cursor_may_be_far_behind_the_line(rt: HostRuntime) -> Result<(), Fail> {
-    let rows = [
-        (10, 25, (5, 2), -1),
-        (80, 2_147_483_645, (45, 26_843_545), -26_843_544),
-    ];
-    let alloc = rt.alloc();
-    for (cols, column, (x, y), closing_move) in rows {
-        let painting = painted(&ColumnHost::new(alloc, column), alloc, (24, cols), "", None)?;
-        let wanted = batch(alloc, "", false, move_by(x, y))?;
-        assert_painting(&rt, &painting, wanted.as_slice(), closing_move);
-    }
-    for column in [2_147_483_646, usize::MAX] {
-        let refused = painted(&ColumnHost::new(alloc, column), alloc, (24, 80), "", None);
-        assert_eq!(rt; refused.err().map(|e| e.number()), Some(4));
     }
     Ok(())
 }

@@ -3,7 +3,7 @@
 ghost use Rattle.std.specs.Prelude.{◌≡◌, ◌<◌, length, map, MatchOption, IfOk, IfErr, OnOk, Some, None, false, true, vec_len};
 ghost use Rattle.std.specs.Str.{IsCharBoundary};
 ghost use Rattle.tw_lineedit.specs.Cut.{cut_at};
-ghost use Rattle.tw_lineedit.specs.CandidateView.{CandidateView, candidate_view, fits, landing, completed_by};
+ghost use Rattle.tw_lineedit.specs.CandidateView.{candidate_view, fits, landing, completed_by};
 ghost use Rattle.tw_lineedit.specs.ActionView.{Complete};
 ghost use Rattle.tw_lineedit.specs.CompletionSteps.{Advances, FailsToAdvance, IsMisfit};
 ghost use Rattle.tw_lineedit.specs.SessionView.{ActsOn, FailsToActOn};

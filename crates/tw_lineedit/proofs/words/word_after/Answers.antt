@@ -5,4 +5,4 @@ use Rattle.tw_lineedit.specs.Text.{bytes_of}
 use Rattle.tw_lineedit.proofs.words.word_after.Goals as goal
 
 pub returns-clause-index : goal.returns-clause-index
-returns-clause-index c = c.skip_space.ensures.index ∙ ap (word_from (chars (bytes_of c.args.line.now))) c.skip_word.ensures.index
+returns-clause-index c = c.find_from.ensures.index ∙ ap (word_from (chars (bytes_of c.args.line.now))) c.find_from-space.ensures.index
