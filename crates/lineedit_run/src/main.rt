@@ -8,6 +8,7 @@ mod fault;
 mod host;
 mod input;
 mod keys;
+mod list_history;
 mod number;
 mod output;
 mod player;

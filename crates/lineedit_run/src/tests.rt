@@ -9,6 +9,7 @@ mod histories;
 mod history_replay;
 mod hosts;
 mod lines;
+mod lookups;
 mod names;
 mod replay;
 mod screens;

@@ -2,7 +2,7 @@
 use Rattle.std.proofs.Common.{◌≡◌, ℕ, ◌+◌, ◌<◌, ◌≤◌, true, false, List, length, unwrap_or, sym, ap, subst, ◌∙◌, arith, ◌++◌, take, drop, take_at, append_assoc, length-append, length-take-le}
 use Rattle.std.proofs.lemmas.Bool.{false_from_ne_true}
 use Rattle.std.proofs.lemmas.Bool.Decides.{nat_tests}
-use Rattle.std.proofs.lemmas.Str.{IsUtf8-take, IsUtf8-drop, IsCharBoundary-from_take, IsCharBoundary-at_seam}
+use Rattle.std.proofs.lemmas.Str.{IsUtf8-take, IsCharBoundary-from_take}
 use Rattle.std.specs.List.{insert_slice}
 use Rattle.std.specs.Str.{IsUtf8, IsCharBoundary}
 use Rattle.tw_lineedit.specs.Boundaries.{is_boundary, boundary_below}
@@ -37,9 +37,3 @@ IsCharBoundary-insert s t i u cut v =
     let front : take i (insert_slice s i t) ≡ take i s = ap (take i) (append_assoc (take i s) t (drop i s)) ∙ take_at (take i s) _ i width in
     IsCharBoundary-from_take _ i v (omega (arith, length-append (take i s ++ t) (drop i s), length-append (take i s) t))
     (subst IsUtf8 (sym front) (IsUtf8-take s i u cut))
-
--- a text may be cut behind what was inserted
-pub IsCharBoundary-behind : (s t line : List ℕ) (i : ℕ) → IsUtf8 s → IsCharBoundary s i → line ≡ insert_slice s i t → IsCharBoundary line (i + length t)
-IsCharBoundary-behind s t line i u cut e =
-    let width : length (take i s ++ t) ≡ i + length t = omega (arith, length-append (take i s) t, length-take-le i s cut.0) in
-    subst (IsCharBoundary line) width (IsCharBoundary-at_seam line (take i s ++ t) (drop i s) e (IsUtf8-drop s i u cut))

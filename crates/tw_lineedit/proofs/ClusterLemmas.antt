@@ -1,7 +1,10 @@
 -- Steps over clusters.
 use Rattle.std.proofs.Common.{◌≡◌, ℕ, ◌+◌, ◌-◌, ◌<◌, ◌≤◌, true, false, List, length, unwrap_or, ap, arith, ⊎_elim}
 use Rattle.std.proofs.lemmas.Bool.{cases_Bool, and_from, and_left, and_right}
+use Rattle.std.specs.Prelude.{IsNone}
 use Rattle.std.specs.Str.{IsCharBoundary}
+use Rattle.unicode_segmentation.specs.Cursor.{IsCursorOn, IsNextBoundary, IsPrevBoundary, cursor_offset, cursor_is_extended, cursor_is_resuming, cursor_awaits}
+use Rattle.unicode_segmentation.specs.declared.grapheme.cursor.GraphemeCursor.{GraphemeCursor}
 use Rattle.unicode_segmentation.specs.Grapheme.{is_grapheme_break}
 use Rattle.unicode_segmentation.specs.Segments.{breaks_at}
 use Rattle.tw_lineedit.specs.Boundaries.{is_boundary}
@@ -57,3 +60,21 @@ pub cluster_before-start : (text : List ℕ) (at : ℕ) → at ≡ 0 → cluster
 unfolding cluster_before
 cluster_before-start text at e =
     ap (λ o. unwrap_or o at) (greatest_below-none (is_cluster_boundary text) at (λ k a b. absurd (omega arith)))
+
+-- a cursor that stands at an offset of the text, and waits for nothing
+pub record StandsAt (cursor : GraphemeCursor) (text : List ℕ) (at : ℕ) : Type 0 where
+  pub on : IsCursorOn cursor text
+  pub offset : cursor_offset cursor ≡ at
+  pub kind : cursor_is_extended cursor ≡ false
+  pub done : cursor_is_resuming cursor ≡ false
+  pub awaits : IsNone (cursor_awaits cursor)
+
+-- where it goes ahead is the step ahead
+pub StandsAt-next : (old new : GraphemeCursor) (text : List ℕ) (at next : ℕ) → StandsAt old text at → IsCursorOn new text → IsNextBoundary old new text next → cluster_after text at ≡ next
+StandsAt-next old new text at next h on found =
+    cluster_after-is text at next (rw (h.done, h.offset) at found.ahead) (rw found.moved at on.boundary) (rw h.kind at found.boundary) (rw (h.done, h.offset, h.kind) at found.first)
+
+-- where it goes back is the step back
+pub StandsAt-previous : (old new : GraphemeCursor) (text : List ℕ) (at next : ℕ) → StandsAt old text at → IsCursorOn new text → IsPrevBoundary old new text next → cluster_before text at ≡ next
+StandsAt-previous old new text at next h on found =
+    cluster_before-is text at next (rw (h.done, h.offset) at found.behind) (rw found.moved at on.boundary) (rw h.kind at found.boundary) (rw (h.done, h.offset, h.kind) at found.last)

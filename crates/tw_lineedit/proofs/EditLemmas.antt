@@ -1,7 +1,9 @@
 -- Insertions and kills.
 use Rattle.std.proofs.Common.{◌≡◌, ℕ, ◌+◌, ◌-◌, ◌*◌, ◌<◌, ◌≤◌, List, [], ◌++◌, length, take, drop, min, max, sym, ap, ◌∙◌, arith, append-nil, length-append}
 use Rattle.std.proofs.lemmas.List.{take-append-drop}
+use Rattle.std.proofs.lemmas.Str.{chars-append, IsUtf8-append, IsUtf8-take}
 use Rattle.std.specs.List.{insert_slice, remove_range}
+use Rattle.std.specs.Str.{chars, IsUtf8, IsCharBoundary}
 use Rattle.tw_lineedit.specs.Boundaries.{boundary_below}
 use Rattle.tw_lineedit.specs.Cut.{Cut, cut_at}
 use Rattle.tw_lineedit.specs.Edits.{with_text, without}
@@ -18,6 +20,23 @@ length-insert_slice s t line i e =
       length-append (take i s ++ t) (drop i s),
       length-append (take i s) t,
       length-append (take i s) (drop i s),
+    )
+
+-- the number of characters after an insertion
+pub length-chars-insert : (s t : List ℕ) (i : ℕ) → IsUtf8 s → IsUtf8 t → IsCharBoundary s i → length (chars (insert_slice s i t)) ≡ length (chars s) + length (chars t)
+length-chars-insert s t i u v cut =
+    let front = take i s in
+    let back = drop i s in
+    let front_utf8 = IsUtf8-take s i u cut in
+    omega (
+      arith,
+      ap (λ l. length (chars l)) (take-append-drop i s),
+      ap length (chars-append front back front_utf8),
+      ap length (chars-append (front ++ t) back (IsUtf8-append front t front_utf8 v)),
+      ap length (chars-append front t front_utf8),
+      length-append (chars front) (chars back),
+      length-append (chars (front ++ t)) (chars back),
+      length-append (chars front) (chars t),
     )
 
 -- room for one insertion and for those that follow

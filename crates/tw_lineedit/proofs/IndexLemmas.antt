@@ -1,30 +1,23 @@
 -- Indices of characters and their offsets.
-use Rattle.std.proofs.Common.{◌≡◌, ℕ, zero, suc, ◌+◌, ◌<◌, ◌≤◌, Bool, true, List, [], ◌∷◌, ◌++◌, length, take, drop, slice_index, refl, sym, ap, ◌∙◌, arith, length-append}
+use Rattle.std.proofs.Common.{◌≡◌, ℕ, zero, suc, ◌≤◌, true, List, [], ◌∷◌, ◌++◌, length, take, drop, slice_index, refl, sym, ap, ◌∙◌, arith, length-append}
 use Rattle.std.proofs.lemmas.Bool.{and_from, and_parts}
-use Rattle.std.proofs.lemmas.List.{length-reverse, take_all, take-append-drop}
+use Rattle.std.proofs.lemmas.List.{take_all, take-append-drop}
 use Rattle.std.proofs.Common.{length-take-le}
 use Rattle.std.proofs.Math.Seq.{get_or-append_seam, take-append_seam}
-use Rattle.std.proofs.lemmas.Str.{chars-append, chars-nil, encodes-chars, scalars-chars, encodes-append, chars-encodes, IsUtf8-take}
+use Rattle.std.proofs.lemmas.Str.{chars-append, encodes-chars, scalars-chars, encodes-append, chars-encodes, IsUtf8-take}
 use Rattle.std.specs.Prelude.{encode_utf8_all}
 use Rattle.std.specs.Str.{all_scalars, chars, IsUtf8, IsCharBoundary}
 use Rattle.unicode_segmentation.specs.Segments.{chars_from}
 use Rattle.unicode_segmentation.specs.Steps.{IsCharAt}
 use Rattle.tw_lineedit.specs.Indices.{index_of, offset_of}
-use Rattle.tw_lineedit.specs.Words.{is_space}
-use Rattle.std.specs.Char.{is_whitespace}
 
 -- the first characters are characters
-scalars-take : (q : ℕ) (cs : List ℕ) → all_scalars cs ≡ true → all_scalars (take q cs) ≡ true
+pub scalars-take : (q : ℕ) (cs : List ℕ) → all_scalars cs ≡ true → all_scalars (take q cs) ≡ true
 scalars-take zero cs h = refl
 scalars-take (suc q) [] h = refl
 scalars-take (suc q) (c ∷ cs) h = and_from _ _ (and_parts _ _ h).0 (scalars-take q cs (and_parts _ _ h).1)
 
 module _ (text : List ℕ) (u : IsUtf8 text) where
-  -- no character stands before the start
-  pub index_of-start : (at : ℕ) → at ≡ 0 → index_of text at ≡ 0
-  unfolding index_of
-  index_of-start at e = rw e (ap length chars-nil)
-
   -- all characters stand before the end
   pub index_of-end : (at : ℕ) → at ≡ length text → index_of text at ≡ length (chars text)
   unfolding index_of
@@ -39,29 +32,12 @@ module _ (text : List ℕ) (u : IsUtf8 text) where
   unfolding index_of
   index_of-le at cut = omega (arith, ap length (chars_split at cut), length-append (chars (take at text)) (chars_from text at))
 
-  -- a character more stands before the end of a character than before its start
-  pub index_of-step : (i c j : ℕ) → IsCharAt text i c j → index_of text j ≡ index_of text i + 1
-  unfolding index_of
-  index_of-step i c j h =
-      omega (arith, ap length h.before, length-reverse (chars (take j text)), length-reverse (chars (take i text)))
-
   -- the character at the index of the offset at which it starts
   pub index_of-char : (i c j : ℕ) → IsCharAt text i c j → slice_index (chars text) (index_of text i) ≡ c
   unfolding index_of
   index_of-char i c j h =
       let whole : chars text ≡ chars (take i text) ++ (c ∷ chars_from text j) = chars_split i h.start_boundary ∙ ap (λ t. chars (take i text) ++ t) h.from in
       ap (λ t. slice_index t (length (chars (take i text)))) whole ∙ get_or-append_seam (chars (take i text)) c (chars_from text j) 0
-
-  -- what is known of the character is known of the index
-  pub space_at : (i c j : ℕ) (b : Bool) → IsCharAt text i c j → is_whitespace c ≡ b → is_space (chars text) (index_of text i) ≡ b
-  space_at i c j b h e = ap is_whitespace (index_of-char i c j h) ∙ e
-
-  -- the index of an offset at which a character starts
-  pub index_of-below : (i c j : ℕ) → IsCharAt text i c j → index_of text i < length (chars text)
-  unfolding index_of
-  index_of-below i c j h =
-      let whole : chars text ≡ chars (take i text) ++ (c ∷ chars_from text j) = chars_split i h.start_boundary ∙ ap (λ t. chars (take i text) ++ t) h.from in
-      omega (arith, ap length whole, length-append (chars (take i text)) (c ∷ chars_from text j))
 
   -- the offset of the index of a boundary is that boundary
   pub offset_of-index : (at : ℕ) → IsCharBoundary text at → offset_of text (index_of text at) ≡ at
@@ -73,7 +49,7 @@ module _ (text : List ℕ) (u : IsUtf8 text) where
       ∙ ap length (encodes-chars (take at text) (IsUtf8-take text at u cut)) ∙ length-take-le at text cut.0
 
   -- the text before the character of an index
-  front_is : (q : ℕ) → take (offset_of text q) text ≡ encode_utf8_all (take q (chars text))
+  pub front_is : (q : ℕ) → take (offset_of text q) text ≡ encode_utf8_all (take q (chars text))
   unfolding offset_of
   front_is q =
       let front = encode_utf8_all (take q (chars text)) in

@@ -1,11 +1,15 @@
 pub mod ExtremesLemmas
 pub mod SearchLemmas
+pub mod JoinedLemmas
 pub mod BoundaryLemmas
 pub mod ClusterLemmas
 pub mod IndexLemmas
+pub mod StartsLemmas
+pub mod TextLemmas
 pub mod WordLemmas
 pub mod OffsetStepLemmas
 pub mod EditLemmas
+pub mod RepeatLemmas
 pub mod CountLawLemmas
 pub mod StepLawLemmas
 pub mod KeyTableLemmas

@@ -1,11 +1,11 @@
 -- After each painting of a run the screen shows the fresh painting of its station.
-use Rattle.std.proofs.Common.{◌≡◌, ℕ, ◌+◌, ◌<◌, ◌≤◌, List, [], ◌∷◌, ◌++◌, cond, Bool, true, false, ◌||◌, refl, sym, ◌∙◌, ap, subst, append_assoc, map, Option, Some, None, Result, Ok, Err, option_map, if◌then◌else◌, ◌==◌, nat_lt, arith}
+use Rattle.std.proofs.Common.{◌≡◌, ℕ, ◌+◌, List, [], ◌∷◌, ◌++◌, cond, Bool, true, false, ◌||◌, refl, sym, ◌∙◌, ap, subst, append_assoc, map, Option, Some, None, Result, Ok, Err, option_map, if◌then◌else◌, ◌==◌, nat_lt, arith}
 use Rattle.std.specs.List.{list_any}
-use Rattle.std.proofs.lemmas.List.{append-nil, map-append}
+use Rattle.std.proofs.lemmas.List.{map-append}
 use Rattle.tw_surface.specs.ChangeView.{Batch}
 use Rattle.tw_surface.specs.Paintings.{Painting, painting}
 use Rattle.tw_surface.specs.Pictures.{Picture}
-use Rattle.tw_surface.specs.Fresh.{IsFresh, IsSameAbove, IsClosed, last_row}
+use Rattle.tw_surface.specs.Fresh.{last_row}
 use Rattle.tw_surface.specs.Shots.{Shot, SizedScene, IsPlainAt, shot_of, clearing, play_batches, scenes_of, start_row}
 use Rattle.tw_surface.specs.Shots as shots
 use Rattle.tw_surface.proofs.SizedScenes.{every_painting, last_painting}
@@ -18,7 +18,7 @@ use Rattle.tw_lineedit.specs.Refusal.{Refusal, ZeroSize, SizeOutOfRange}
 use Rattle.tw_surface.specs.Scenes.{Scene}
 use Rattle.tw_terminal.specs.declared.terminal.ScreenSize.{ScreenSize}
 use Rattle.tw_lineedit.specs.Run.{Frame, Progress, progress_of, run, run_of, ends, at_end, at_event, after_event, painting_at, shown, chosen, state_after, handled}
-use Rattle.tw_lineedit.specs.Stations.{Station, is_repaint, clear_if, station_at, painting_of, batches_by, batches_after, stations_after, stations_unless, stations_by, stations_from, stations_of}
+use Rattle.tw_lineedit.specs.Stations.{Station, is_repaint, clear_if, station_at, painting_of, batches_after, stations_after, stations_unless, stations_by, stations_from, stations_of}
 use Rattle.tw_lineedit.specs.ScreenRuns.{sized_scene, batches_of, is_cleared, Comes, ShowsFresh, FirstIsFresh, LaterIsFresh, ClearedIsFresh, first_row, ClosesBelow, CallsStack}
 use Rattle.tw_lineedit.proofs.StationLemmas.{rendered_at, batches_by_stations}
 

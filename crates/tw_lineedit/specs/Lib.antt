@@ -3,6 +3,7 @@ pub mod Cut
 pub mod Boundaries
 pub mod Clusters
 pub mod Indices
+pub mod Starts
 pub mod Text
 pub mod Words
 pub mod Movements
@@ -11,6 +12,7 @@ pub mod Edits
 pub mod Patterns
 pub mod Near
 pub mod Added
+pub mod Joined
 pub mod Laws
 pub mod ActionView
 pub mod KeyTable

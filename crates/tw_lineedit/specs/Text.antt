@@ -1,7 +1,8 @@
--- What is seen of a text: its bytes and characters, and how many bytes it has room for.
+-- What is seen of a text: its bytes and characters, and how many it has room for.
 use Rattle.std.specs.Prelude.{ℕ, List}
 use Rattle.std.specs.Str.{chars}
 use Rattle.std.specs.String.{string_bytes, string_capacity}
+use Rattle.std.specs.Vec.{vec_capacity}
 use Rattle.tw_lineedit.specs.Indices.{index_of}
 use Rattle.tw_lineedit.specs.declared.text.Text.{Text}
 
@@ -20,3 +21,7 @@ index_in t at = index_of (bytes_of t) at
 -- how many bytes the text can hold without more memory
 abbrev pub room_of : Text → ℕ
 room_of t = string_capacity t.line
+
+-- how many starts of characters the text can hold without more memory
+abbrev pub places_of : Text → ℕ
+places_of t = vec_capacity t.starts

@@ -1,7 +1,7 @@
 //! The line buffer.
 
-ghost use Rattle.std.specs.Prelude.{◌≡◌, ◌+◌, ◌*◌, ◌^◌, ◌≤◌, [], encode_utf8, length, OnOk, OnErr, IfOk, IsOk, IsErr};
-ghost use Rattle.std.specs.Str.{IsCharBoundary};
+ghost use Rattle.std.specs.Prelude.{◌≡◌, ◌+◌, ◌*◌, ◌^◌, ◌<◌, ◌≤◌, [], encode_utf8, length, OnOk, OnErr, IfOk, IsOk, IsErr};
+ghost use Rattle.std.specs.Str.{chars, IsCharBoundary};
 
 use crate::actions::{Movement, RepeatCount};
 use crate::clusters::cluster_after;
@@ -37,7 +37,9 @@ impl LineEditBuffer {
     ghost use Rattle.tw_lineedit.specs.Cut.{cut_at, empty_cut, IsCut};
     ghost use Rattle.tw_lineedit.specs.Edits.{with_char, with_text, killed};
     ghost use Rattle.tw_lineedit.specs.Extremes.{repeated};
+    ghost use Rattle.tw_lineedit.specs.Indices.{index_of};
     ghost use Rattle.tw_lineedit.specs.Movements.{moved};
+    ghost use Rattle.tw_lineedit.specs.Starts.{binary_digits};
 
     /// The empty line. It takes no memory.
     pub fn empty(alloc: Global) -> Self
@@ -83,6 +85,16 @@ impl LineEditBuffer {
         ensures boundary { IsCut self.now }
     {
         self.cursor
+    }
+
+    /// The index of the character at the cursor, or the number of characters at the end, and how
+    /// many comparisons of offsets found it.
+    pub fn find_cursor(&self) -> (usize, u32)
+        ensures index { result.0 ≡ index_of self.now.line self.now.cursor }
+        ensures some { 0 < length (chars self.now.line) → 0 < result.1 }
+        ensures few { result.1 ≤ binary_digits (length (chars self.now.line)) }
+    {
+        self.line.find(self.cursor)
     }
 
     /// Empties the line. It keeps the memory.
@@ -131,7 +143,7 @@ impl LineEditBuffer {
         let Some(more) = c.len_utf8().checked_mul(count) else {
             return Err(AllocError);
         };
-        self.line.reserve(more)?;
+        self.line.reserve(more, count)?;
         for _round in 0..count {
             let Ok(()) = self.line.insert_char(self.cursor, c) else {
                 unreachable!()
@@ -154,19 +166,13 @@ impl LineEditBuffer {
         ensures empty { text.now ≡ [] → IsOk result × (self.new ≡ self.old) }
         ensures too_long { 2 ^ 63 ≤ length self.old.line + count * length text.now → IsErr result }
     {
-        let Some(more) = text.len().checked_mul(count) else {
-            return Err(AllocError);
-        };
-        self.line.reserve(more)?;
-        if text.is_empty() {
+        let alloc = self.line.allocator();
+        if count == 0 || text.is_empty() {
             return Ok(());
         }
-        for _round in 0..count {
-            let Ok(()) = self.line.insert_text(self.cursor, text) else {
-                unreachable!()
-            };
-            self.cursor += text.len();
-        }
+        let repeated = text.repeat(alloc, count)?;
+        self.line.insert_text(self.cursor, &repeated)?;
+        self.cursor += repeated.len();
         Ok(())
     }
 

@@ -51,6 +51,14 @@ impl<T: Terminal, S: Drop> Drop for EditorOver<'_, T, S> {
 }
 
 impl<'term, T: Terminal> LineEditor<'term, T> {
+    ghost use Rattle.std.specs.Prelude.{⊤, []};
+    ghost use Rattle.std.specs.Borrow.{sem};
+    ghost use mathlib.Core.Option.{none};
+    ghost use mir.Syntax.{named};
+    ghost use denote.Follow.{follows_so};
+    ghost use Rattle.tw_lineedit.specs.contracts.editor.EditorOver.{the_row};
+    ghost use Rattle.tw_lineedit.specs.contracts.session.Session.{the_row as session_row};
+
     /// An editor with the prompt `> ` and an empty line. It calls nothing of the terminal.
     pub fn new(alloc: Global, terminal: &'term mut T) -> Result<Self, Error>
         ensures same_reference { IfOk result (λ editor. editor.terminal.ghost_name ≡ terminal.entry.ghost_name) }
@@ -76,8 +84,10 @@ impl<'term, T: Terminal> LineEditor<'term, T> {
 
     /// The line, and the byte offset of its cursor. It takes no memory.
     pub fn get_line_and_cursor(&mut self) -> (&str, usize)
+        ensures* kept { sem 𝓛 (follows_so (the_row (record { mir = named 1; lft = [] }) T.row session_row) (the_row (record { mir = named 1; lft = [] }) T.row session_row) self.entry.ghost_name none (λ _ _. ⊤) (λ n. n ≡ self.old)) }
         ensures line { result.0.now ≡ self.old.session.state.cut.line }
         ensures cursor { result.1 ≡ self.old.session.state.cut.cursor }
+        ensures boundary { IsCharBoundary result.0.now result.1 }
     {
         self.session.get_line_and_cursor()
     }

@@ -1,11 +1,16 @@
 //! A history of lines, and the search in it.
 
 ghost use Rattle.std.specs.Cow.{IsBorrowedStr, cow_str_bytes};
-ghost use Rattle.std.specs.Prelude.{◌≡◌, ◌<◌, ◌++◌, ◌∷◌, [], ℕ, IfOk, IfSome, IsCharBoundary, IsOk, IsOkAnd, List, MatchOption, None, OnErr, OnOk, Option, Some, false, if◌then◌else◌, is_ok, length, option_map, slice_get, true};
+ghost use Rattle.std.specs.List.{concat};
+ghost use Rattle.std.specs.Prelude.{◌≡◌, ◌<◌, ◌++◌, ◌∷◌, [], ℕ, All, IfOk, IfSome, IsCharBoundary, IsOk, IsOkAnd, List, None, OnErr, OnOk, Option, Some, if◌then◌else◌, is_ok, length, option_map, slice_get, slice_index};
 ghost use Rattle.tw_lineedit.specs.Added.{is_line, match_view, with_line};
-ghost use Rattle.tw_lineedit.specs.Near.{last_index, last_line, line_at, match_at, matches, near, next_index};
+ghost use Rattle.tw_lineedit.specs.Joined.{AreEnds, ends_from, lines_from};
+ghost use Rattle.tw_lineedit.specs.Near.{last_index, last_line, line_at, near, next_index};
 ghost use Rattle.tw_lineedit.specs.Patterns.{first};
 
+mod nearest;
+
+pub use nearest::{LentLines, nearest_line};
 use std::alloc::{AllocError, Global};
 use std::borrow::CowStr;
 use std::marker::Model;
@@ -105,19 +110,23 @@ pub trait History {
             IfSome found (λ m. IsCharBoundary (cow_str_bytes m.line) m.cursor)) };
 }
 
-/// A history in memory, which keeps every line. It lends its lines and copies none of them.
+/// A history in memory, which keeps every line. The lines stand one after the other in one text. It lends
+/// them and copies none.
 #[derive(Debug, Drop)]
 pub struct BasicHistory {
-    entries: Vec<String>,
-    alloc: Global,
+    text: String,
+    ends: Vec<usize>,
 }
 
 impl Model for BasicHistory {
-    ghost use Rattle.std.specs.Prelude.{List, ℕ, map, string_bytes};
+    ghost use Rattle.std.specs.Prelude.{List, ℕ, string_bytes};
+    ghost use Rattle.tw_lineedit.specs.Joined.{AreEnds, lines_from};
 
     ghost Value = { List (List ℕ) };
 
-    ghost view = { λ h. map string_bytes h.entries.items };
+    ghost view = { λ h. lines_from (string_bytes h.text) 0 h.ends.items };
+
+    ghost invariant = { λ h. AreEnds (string_bytes h.text) 0 h.ends.items };
 }
 
 impl BasicHistory {
@@ -126,29 +135,25 @@ impl BasicHistory {
         ensures { result ≡ [] }
     {
         BasicHistory {
-            entries: Vec::new(alloc),
-            alloc,
+            text: String::new(alloc),
+            ends: Vec::new(alloc),
         }
     }
 
-    fn len(&self) -> usize
-        ensures { result ≡ length self.now }
+    /// All lines one after the other as one text, and the end offset of each line in it. Takes no memory.
+    pub fn joined(&self) -> (&str, &[usize])
+        ensures text { result.0.now ≡ concat self.now }
+        ensures ends { result.1.now ≡ ends_from 0 self.now }
+        ensures boundaries { All (IsCharBoundary result.0.now) result.1.now }
     {
-        self.entries.len()
-    }
-
-    fn line(&self, at: HistoryIndex) -> &str
-        requires { at < length self.now }
-        ensures { result.now ≡ line_at self.now at }
-    {
-        self.entries[at].as_str()
+        (self.text.as_str(), self.ends.as_slice())
     }
 
     fn ends_with(&self, line: &str) -> bool
         ensures { result ≡ is_line line.now (last_line self.now) }
     {
-        match self.entries.last() {
-            Some(last) => last.as_str() == line,
+        match self.last() {
+            Some(last) => self.line(last) == line,
             None => false,
         }
     }
@@ -156,71 +161,48 @@ impl BasicHistory {
     fn append(&mut self, line: &str) -> Result<(), AllocError>
         ensures { self.new ≡ (if is_ok result then self.old ++ line.now ∷ [] else self.old) }
     {
-        let line = String::from_str(self.alloc, line)?;
-        self.entries.push(line)?;
+        self.text.reserve(line.len())?;
+        self.ends.reserve(1)?;
+        let Ok(()) = self.text.push_str(line) else {
+            unreachable!()
+        };
+        let Ok(()) = self.ends.push(self.text.len()) else {
+            unreachable!()
+        };
         Ok(())
     }
+}
 
-    fn match_at(
-        &self,
-        at: HistoryIndex,
-        style: SearchStyle,
-        pattern: &str,
-    ) -> Option<SearchResult<'_>>
-        requires { at < length self.now }
-        ensures found { MatchOption result (matches self.now pattern.now at ≡ false)
-            (λ m. (matches self.now pattern.now at ≡ true)
-            × (match_view m ≡ match_at self.now pattern.now at)) }
-        ensures boundary { IfSome result (λ m. IsCharBoundary (cow_str_bytes m.line) m.cursor) }
-        ensures borrowed { IfSome result (λ m. IsBorrowedStr m.line) }
-    {
-        let line = self.line(at);
-        let cursor = style.match_against(pattern, line)?;
-        Some(SearchResult {
-            line: CowStr::Borrowed(line),
-            idx: at,
-            cursor,
-        })
+/// The offset at which the line at an index starts, by the end offsets of the lines.
+fn start_of(ends: &[usize], at: HistoryIndex) -> usize
+    requires { at < length ends.now }
+    ensures { result ≡ slice_index (0 ∷ ends.now) at }
+{
+    match at.checked_sub(1) {
+        Some(before) => ends[before],
+        None => 0,
+    }
+}
+
+/// The line at an index, by the text that the lines make up and the end offset of each.
+fn line_of<'a>(text: &'a str, ends: &[usize], at: HistoryIndex) -> &'a str
+    requires made_up { AreEnds text.now 0 ends.now }
+    requires inside { at < length ends.now }
+    ensures { result.now ≡ line_at (lines_from text.now 0 ends.now) at }
+{
+    let start = start_of(ends, at);
+    &text[start..ends[at]]
+}
+
+impl LentLines for BasicHistory {
+    ghost lines = { λ h. h };
+
+    fn line_count(&self) -> usize {
+        self.ends.len()
     }
 
-    fn search_backwards(
-        &self,
-        idx: HistoryIndex,
-        style: SearchStyle,
-        pattern: &str,
-    ) -> Option<SearchResult<'_>>
-        requires { idx < length self.now }
-        ensures found { option_map match_view result
-            ≡ near self.now idx SearchDirection.Backwards pattern.now }
-        ensures boundary { IfSome result (λ m. IsCharBoundary (cow_str_bytes m.line) m.cursor) }
-        ensures borrowed { IfSome result (λ m. IsBorrowedStr m.line) }
-    {
-        for at in (0..=idx).rev() {
-            if let Some(found) = self.match_at(at, style, pattern) {
-                return Some(found);
-            }
-        }
-        None
-    }
-
-    fn search_forwards(
-        &self,
-        idx: HistoryIndex,
-        style: SearchStyle,
-        pattern: &str,
-    ) -> Option<SearchResult<'_>>
-        requires { idx < length self.now }
-        ensures found { option_map match_view result
-            ≡ near self.now idx SearchDirection.Forwards pattern.now }
-        ensures boundary { IfSome result (λ m. IsCharBoundary (cow_str_bytes m.line) m.cursor) }
-        ensures borrowed { IfSome result (λ m. IsBorrowedStr m.line) }
-    {
-        for at in idx..self.len() {
-            if let Some(found) = self.match_at(at, style, pattern) {
-                return Some(found);
-            }
-        }
-        None
+    fn line(&self, at: HistoryIndex) -> &str {
+        line_of(self.text.as_str(), self.ends.as_slice(), at)
     }
 }
 
@@ -232,14 +214,14 @@ impl History for BasicHistory {
         ensures line { IsOkAnd result (λ line. option_map cow_str_bytes line ≡ slice_get self.now idx) }
         ensures borrowed { IfOk result (λ line. IfSome line IsBorrowedStr) }
     {
-        match self.entries.get(idx) {
-            Some(line) => Ok(Some(CowStr::Borrowed(line.as_str()))),
-            None => Ok(None),
+        if idx >= self.line_count() {
+            return Ok(None);
         }
+        Ok(Some(CowStr::Borrowed(self.line(idx))))
     }
 
     fn last(&self) -> Option<HistoryIndex> {
-        self.len().checked_sub(1)
+        self.line_count().checked_sub(1)
     }
 
     /// Adds a line at the end, unless it is the last line already. Takes memory for a new line only. Where
@@ -271,13 +253,7 @@ impl History for BasicHistory {
             IfSome found (λ m. IsCharBoundary (cow_str_bytes m.line) m.cursor)) }
         ensures borrowed { IfOk result (λ found. IfSome found (λ m. IsBorrowedStr m.line)) }
     {
-        if idx >= self.len() {
-            return Ok(None);
-        }
-        match direction {
-            SearchDirection::Backwards => Ok(self.search_backwards(idx, style, pattern)),
-            SearchDirection::Forwards => Ok(self.search_forwards(idx, style, pattern)),
-        }
+        Ok(nearest_line(self, idx, style, direction, pattern))
     }
 }
 

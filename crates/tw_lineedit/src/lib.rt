@@ -13,6 +13,7 @@ pub mod laws;
 mod movements;
 mod painter;
 mod session;
+mod starts;
 mod text;
 mod words;
 
@@ -21,7 +22,8 @@ pub use buffer::LineEditBuffer;
 pub use editor::{EditorOver, LineEditor};
 pub use error::Error;
 pub use history::{
-    BasicHistory, History, HistoryIndex, SearchDirection, SearchResult, SearchStyle,
+    BasicHistory, History, HistoryIndex, LentLines, SearchDirection, SearchResult, SearchStyle,
+    nearest_line,
 };
 pub use host::{CompletionCandidate, LineEditorHost, NopLineEditorHost, OutputElement, OwnAnswers};
 pub use keys::default_action;

@@ -9,16 +9,14 @@ ghost use Rattle.tw_lineedit.specs.OffsetSteps.{step_from};
 ghost use Rattle.tw_lineedit.specs.Text.{bytes_of};
 
 use crate::actions::{Movement, RepeatCount};
-use crate::clusters::{cluster_after, cluster_before};
+use crate::clusters::{clusters_after, clusters_before};
 use crate::text::Text;
 use crate::words::{word_after, word_before, word_start};
 
-/// A step of a counted movement.
+/// A step over words.
 #[derive(Clone, Copy)]
 enum Step {
-    BackwardChar,
     BackwardWord,
-    ForwardChar,
     ForwardWord,
 }
 
@@ -30,11 +28,12 @@ pub fn destination(line: &Text, cursor: usize, movement: Movement) -> usize
     ensures boundary { IsCharBoundary (bytes_of line.now) result }
 {
     match movement {
-        Movement::BackwardChar(count) => steps_from(line, cursor, Step::BackwardChar, count),
+        Movement::BackwardChar(count) => clusters_before(line.as_str(), cursor, count),
         Movement::BackwardWord(count) => {
-            steps_from(line, word_start(line, cursor), Step::BackwardWord, count)
+            let start = line.offset_of(word_start(line, cursor));
+            steps_from(line, start, Step::BackwardWord, count)
         }
-        Movement::ForwardChar(count) => steps_from(line, cursor, Step::ForwardChar, count),
+        Movement::ForwardChar(count) => clusters_after(line.as_str(), cursor, count),
         Movement::ForwardWord(count) => steps_from(line, cursor, Step::ForwardWord, count),
         Movement::StartOfLine => 0,
         Movement::EndOfLine => line.len(),
@@ -42,7 +41,7 @@ pub fn destination(line: &Text, cursor: usize, movement: Movement) -> usize
     }
 }
 
-/// Where `count` steps lead from `start`. It returns as soon as a step leads nowhere.
+/// Where `count` steps over words lead from `start`. It returns as soon as a step leads nowhere.
 fn steps_from(line: &Text, start: usize, step: Step, count: RepeatCount) -> usize
     requires { IsCharBoundary (bytes_of line.now) start }
     ensures value { result ≡ repeated (step_from step (bytes_of line.now)) count start }
@@ -59,16 +58,14 @@ fn steps_from(line: &Text, start: usize, step: Step, count: RepeatCount) -> usiz
     at
 }
 
-/// Where one step leads from `at`.
+/// Where one step over a word leads from `at`.
 fn step_from(line: &Text, at: usize, step: Step) -> usize
     requires { IsCharBoundary (bytes_of line.now) at }
     ensures value { result ≡ step_from step (bytes_of line.now) at }
     ensures boundary { IsCharBoundary (bytes_of line.now) result }
 {
     match step {
-        Step::BackwardChar => cluster_before(line.as_str(), at),
-        Step::BackwardWord => word_before(line, at),
-        Step::ForwardChar => cluster_after(line.as_str(), at),
-        Step::ForwardWord => word_after(line, at),
+        Step::BackwardWord => line.offset_of(word_before(line, line.index_of(at))),
+        Step::ForwardWord => line.offset_of(word_after(line, line.index_of(at))),
     }
 }

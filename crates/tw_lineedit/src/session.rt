@@ -116,6 +116,7 @@ impl Session {
     pub(crate) fn get_line_and_cursor(&self) -> (&str, usize)
         ensures line { result.0.now ≡ self.now.state.cut.line }
         ensures cursor { result.1 ≡ self.now.state.cut.cursor }
+        ensures boundary { IsCharBoundary result.0.now result.1 }
     {
         (self.line.get_line(), self.line.get_cursor())
     }

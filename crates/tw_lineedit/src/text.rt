@@ -1,11 +1,15 @@
-//! The representation of a text: how its characters are found, and the byte offsets between them.
+//! The representation of a text: its bytes, and the byte offsets at which its characters start.
 
-ghost use Rattle.std.specs.Prelude.{◌≡◌, ◌+◌, ◌^◌, ◌<◌, ◌≤◌, [], encode_utf8, length, OnOk, OnErr, IfOk};
+ghost use Rattle.std.specs.Prelude.{◌≡◌, ◌+◌, ◌^◌, ◌<◌, ◌≤◌, ◌⊎◌, [], encode_utf8, length, slice_index, OnOk, OnErr, IfOk};
 ghost use Rattle.std.specs.List.{insert_slice, remove_range};
-ghost use Rattle.std.specs.Str.{IsCharBoundary};
+ghost use Rattle.std.specs.Str.{chars, IsCharBoundary};
+ghost use Rattle.std.specs.String.{string_bytes};
 ghost use Rattle.unicode_segmentation.specs.Steps.{IsCharAt};
 ghost use Rattle.tw_lineedit.specs.Boundaries.{boundary_below};
+ghost use Rattle.tw_lineedit.specs.Indices.{offset_of};
+ghost use Rattle.tw_lineedit.specs.Starts.{starts_of, binary_digits};
 
+use crate::starts::{count_below, insert_starts, remove_starts};
 use std::alloc::{AllocError, Global};
 
 /// A text that can be edited in place. A boundary of it is a byte offset at which a character
@@ -13,10 +17,12 @@ use std::alloc::{AllocError, Global};
 #[derive(Debug, Drop)]
 pub struct Text {
     line: String,
+    starts: Vec<usize>,
+    ghost listed: { starts.items ≡ starts_of (string_bytes line) },
 }
 
 impl Text {
-    ghost use Rattle.tw_lineedit.specs.Text.{bytes_of, room_of};
+    ghost use Rattle.tw_lineedit.specs.Text.{bytes_of, chars_of, index_in, room_of, places_of};
 
     /// The empty text. It takes no memory.
     pub fn new(alloc: Global) -> Self
@@ -24,6 +30,7 @@ impl Text {
     {
         Text {
             line: String::new(alloc),
+            starts: Vec::new(alloc),
         }
     }
 
@@ -31,8 +38,9 @@ impl Text {
     pub fn from_str(alloc: Global, text: &str) -> Result<Self, AllocError>
         ensures { IfOk result (λ t. bytes_of t ≡ text.now) }
     {
-        let line = String::from_str(alloc, text)?;
-        Ok(Text { line })
+        let mut made = Text::new(alloc);
+        made.insert_text(0, text)?;
+        Ok(made)
     }
 
     /// Replaces the text.
@@ -40,7 +48,7 @@ impl Text {
         ensures ok { OnOk result (bytes_of self.new ≡ text.now) }
         ensures err { OnErr result (bytes_of self.new ≡ bytes_of self.old) }
     {
-        self.line = String::from_str(*self.line.allocator(), text)?;
+        *self = Text::from_str(self.allocator(), text)?;
         Ok(())
     }
 
@@ -58,14 +66,31 @@ impl Text {
         self.line.len()
     }
 
-    /// Makes room for so many bytes more.
-    pub fn reserve(&mut self, more: usize) -> Result<(), AllocError>
-        ensures bytes { bytes_of self.new ≡ bytes_of self.old }
-        ensures ok { OnOk result (length (bytes_of self.new) + more ≤ room_of self.new) }
-        ensures err { OnErr result (room_of self.old < length (bytes_of self.old) + more) }
-        ensures limit { room_of self.new < 2 ^ 63 }
+    /// How many characters the text has.
+    pub fn count(&self) -> usize
+        ensures { result ≡ length (chars_of self.now) }
     {
-        self.line.reserve(more)
+        self.starts.len()
+    }
+
+    /// The allocator that keeps the text.
+    pub fn allocator(&self) -> Global {
+        *self.line.allocator()
+    }
+
+    /// Makes room for so many bytes and so many characters more.
+    pub fn reserve(&mut self, bytes: usize, characters: usize) -> Result<(), AllocError>
+        ensures bytes { bytes_of self.new ≡ bytes_of self.old }
+        ensures room { OnOk result (length (bytes_of self.new) + bytes ≤ room_of self.new) }
+        ensures places { OnOk result (length (chars_of self.new) + characters ≤ places_of self.new) }
+        ensures err { OnErr result ((room_of self.old < length (bytes_of self.old) + bytes) ⊎ (places_of self.old < length (chars_of self.old) + characters)) }
+        ensures limit { room_of self.new < 2 ^ 63 }
+        ensures kept_room { room_of self.old ≤ room_of self.new }
+        ensures kept_places { places_of self.old ≤ places_of self.new }
+    {
+        self.line.reserve(bytes)?;
+        self.starts.reserve(characters)?;
+        Ok(())
     }
 
     /// Inserts the character at the boundary `at`. It can be refused only where there is no room.
@@ -74,9 +99,11 @@ impl Text {
         ensures ok { OnOk result (bytes_of self.new ≡ insert_slice (bytes_of self.old) at (encode_utf8 c)) }
         ensures err { OnErr result (bytes_of self.new ≡ bytes_of self.old) }
         ensures room { room_of self.old ≤ room_of self.new }
-        ensures full { OnErr result (room_of self.old < length (bytes_of self.old) + length (encode_utf8 c)) }
+        ensures places { places_of self.old ≤ places_of self.new }
+        ensures full { OnErr result ((room_of self.old < length (bytes_of self.old) + length (encode_utf8 c)) ⊎ (places_of self.old < length (chars_of self.old) + 1)) }
+        ensures count { OnOk result (length (chars_of self.new) ≡ length (chars_of self.old) + 1) }
     {
-        self.line.insert(at, c)
+        self.insert_text(at, c.encode_utf8(&mut [0; 4]))
     }
 
     /// Inserts the text at the boundary `at`. It can be refused only where there is no room.
@@ -85,9 +112,16 @@ impl Text {
         ensures ok { OnOk result (bytes_of self.new ≡ insert_slice (bytes_of self.old) at text.now) }
         ensures err { OnErr result (bytes_of self.new ≡ bytes_of self.old) }
         ensures room { room_of self.old ≤ room_of self.new }
-        ensures full { OnErr result (room_of self.old < length (bytes_of self.old) + length text.now) }
+        ensures places { places_of self.old ≤ places_of self.new }
+        ensures full { OnErr result ((room_of self.old < length (bytes_of self.old) + length text.now) ⊎ (places_of self.old < length (chars_of self.old) + length (chars text.now))) }
     {
-        self.line.insert_str(at, text)
+        self.reserve(text.len(), text.chars().count())?;
+        let index = self.index_of(at);
+        let Ok(()) = self.line.insert_str(at, text) else {
+            unreachable!()
+        };
+        insert_starts(&mut self.starts, index, at, text);
+        Ok(())
     }
 
     /// Takes away what lies between two boundaries. It keeps the memory.
@@ -97,9 +131,12 @@ impl Text {
         requires end_boundary { IsCharBoundary (bytes_of self.old) end }
         ensures { bytes_of self.new ≡ remove_range (bytes_of self.old) start end }
     {
+        let first = self.index_of(start);
+        let last = self.index_of(end);
         let Ok(()) = self.line.replace_range(start..end, "") else {
             unreachable!()
         };
+        remove_starts(&mut self.starts, first, last, end - start);
     }
 
     /// Empties the text. It keeps the memory.
@@ -107,6 +144,7 @@ impl Text {
         ensures { bytes_of self.new ≡ [] }
     {
         self.line.clear();
+        self.starts.clear();
     }
 
     /// The character that starts at `start`, and the offset at which it ends.
@@ -123,18 +161,48 @@ impl Text {
         (c, line.len() - chars.as_str().len())
     }
 
-    /// The character that ends at `end`, and the offset at which it starts.
-    pub fn char_before(&self, end: usize) -> (char, usize)
-        requires some { 0 < end }
-        requires boundary { IsCharBoundary (bytes_of self.now) end }
-        ensures { IsCharAt (bytes_of self.now) result.1 result.0 end }
+    /// The character at the index.
+    pub fn character(&self, index: usize) -> char
+        requires { index < length (chars_of self.now) }
+        ensures { result ≡ slice_index (chars_of self.now) index }
     {
-        let line = self.line.as_str();
-        let mut chars = line[..end].chars();
-        let Some(c) = chars.next_back() else {
-            unreachable!()
-        };
-        (c, chars.as_str().len())
+        let (c, _) = self.char_at(self.starts[index]);
+        c
+    }
+
+    /// How many characters stand before the boundary `at`, and how many comparisons found it.
+    pub fn find(&self, at: usize) -> (usize, u32)
+        requires { IsCharBoundary (bytes_of self.now) at }
+        ensures index { result.0 ≡ index_in self.now at }
+        ensures some { 0 < length (chars_of self.now) → 0 < result.1 }
+        ensures few { result.1 ≤ binary_digits (length (chars_of self.now)) }
+    {
+        count_below(&self.starts, at)
+    }
+
+    /// How many characters stand before the boundary `at`.
+    pub fn index_of(&self, at: usize) -> usize
+        requires { IsCharBoundary (bytes_of self.now) at }
+        ensures index { result ≡ index_in self.now at }
+        ensures within { result ≤ length (chars_of self.now) }
+    {
+        let (index, _) = self.find(at);
+        index
+    }
+
+    /// The offset at which the character of the index starts, or the length for the number of
+    /// characters.
+    pub fn offset_of(&self, index: usize) -> usize
+        requires { index ≤ length (chars_of self.now) }
+        ensures value { result ≡ offset_of (bytes_of self.now) index }
+        ensures boundary { IsCharBoundary (bytes_of self.now) result }
+        ensures index { index_in self.now result ≡ index }
+    {
+        if index < self.starts.len() {
+            self.starts[index]
+        } else {
+            self.len()
+        }
     }
 
     /// The greatest boundary that is not above `limit`.
@@ -142,7 +210,11 @@ impl Text {
         ensures value { result ≡ boundary_below (bytes_of self.now) limit }
         ensures boundary { IsCharBoundary (bytes_of self.now) result }
     {
-        let line = self.line.as_str();
-        line.floor_char_boundary(limit)
+        let len = self.len();
+        if limit >= len {
+            return len;
+        }
+        let (after, _) = count_below(&self.starts, limit + 1);
+        self.starts[after - 1]
     }
 }

@@ -1,7 +1,7 @@
 //! Candidates and previews.
 
 use super::actions::{expect_action, expect_step};
-use super::histories::{expect_histories, told_of};
+use super::histories::{expect_both, told_of};
 use super::support::{case_of, host_of, terminal_of};
 use std::test::Fail;
 use tw_lineedit::{Action, BasicHistory, LineEditor, Movement};
@@ -95,7 +95,7 @@ Some(\"foooo\")
 
 #[test]
 fn requests_in_a_row_go_round_the_candidates(rt: HostRuntime) -> Result<(), Fail> {
-    let cases = expect_histories(&rt, rt.alloc(), BasicHistory::new, ROUNDS)?;
+    let cases = expect_both(&rt, rt.alloc(), ROUNDS)?;
     assert_eq!(rt; cases, 3);
     Ok(())
 }

@@ -2,6 +2,7 @@
 
 use super::support::{Case, case_of, events_of, host_of, readings_of, terminal_of, write_batch};
 use crate::display::{play_all, show_screen};
+use crate::list_history::ListHistory;
 use std::alloc::Global;
 use std::process::Abort;
 use std::test::Fail;
@@ -79,7 +80,7 @@ fn missing_line<'a>(wanted: &'a str, told: &str) -> Option<&'a str> {
 
 /// Runs the cases, each over a history that is empty at first, and says how many there were. A case has the
 /// lines of `case_of`, and below `--` lines that are among those of `told_of`; `==` ends it.
-pub fn expect_histories<L: History + Drop, F: Fn(Global) -> L + Drop>(
+fn expect_histories<L: History + Drop, F: Fn(Global) -> L + Drop>(
     rt: &impl Abort,
     alloc: Global,
     empty: F,
@@ -100,6 +101,14 @@ pub fn expect_histories<L: History + Drop, F: Fn(Global) -> L + Drop>(
         count = count.saturating_add(1);
     }
     Ok(count)
+}
+
+/// Runs the cases over a history of each kind, and says how many there were.
+pub fn expect_both(rt: &impl Abort, alloc: Global, cases: &str) -> Result<usize, Fail> {
+    let basic = expect_histories(rt, alloc, BasicHistory::new, cases)?;
+    let list = expect_histories(rt, alloc, ListHistory::new, cases)?;
+    assert_eq!(rt; list, basic);
+    Ok(basic)
 }
 
 const SHOWN: &str = "\
@@ -154,7 +163,7 @@ painting CP(A(0), R(0)), ClearToEndOfScreen, AllAttributes, Text(\"$ \"), AllAtt
 
 #[test]
 fn a_search_shows_the_matching_line_above_its_pattern(rt: HostRuntime) -> Result<(), Fail> {
-    let cases = expect_histories(&rt, rt.alloc(), BasicHistory::new, SHOWN)?;
+    let cases = expect_both(&rt, rt.alloc(), SHOWN)?;
     assert_eq!(rt; cases, 5);
     Ok(())
 }
@@ -224,7 +233,7 @@ Some(\"git push\")
 
 #[test]
 fn a_search_goes_through_the_matching_lines(rt: HostRuntime) -> Result<(), Fail> {
-    let cases = expect_histories(&rt, rt.alloc(), BasicHistory::new, SEARCHES)?;
+    let cases = expect_both(&rt, rt.alloc(), SEARCHES)?;
     assert_eq!(rt; cases, 9);
     Ok(())
 }
@@ -297,7 +306,7 @@ Some(\"one\")
 
 #[test]
 fn steps_walk_through_the_lines(rt: HostRuntime) -> Result<(), Fail> {
-    let cases = expect_histories(&rt, rt.alloc(), BasicHistory::new, WALKS)?;
+    let cases = expect_both(&rt, rt.alloc(), WALKS)?;
     assert_eq!(rt; cases, 11);
     Ok(())
 }
@@ -328,7 +337,7 @@ Some(\"\")
 
 #[test]
 fn a_search_is_left_with_the_matching_line(rt: HostRuntime) -> Result<(), Fail> {
-    let cases = expect_histories(&rt, rt.alloc(), BasicHistory::new, LEFT)?;
+    let cases = expect_both(&rt, rt.alloc(), LEFT)?;
     assert_eq!(rt; cases, 3);
     Ok(())
 }
@@ -378,7 +387,7 @@ actions C-R g C-C
 
 #[test]
 fn actions_search_and_leave_the_search(rt: HostRuntime) -> Result<(), Fail> {
-    let cases = expect_histories(&rt, rt.alloc(), BasicHistory::new, ACTIONS)?;
+    let cases = expect_both(&rt, rt.alloc(), ACTIONS)?;
     assert_eq!(rt; cases, 7);
     Ok(())
 }
@@ -416,7 +425,7 @@ Some(\"two\"), Some(\"\")
 
 #[test]
 fn a_second_reading_begins_without_position(rt: HostRuntime) -> Result<(), Fail> {
-    let cases = expect_histories(&rt, rt.alloc(), BasicHistory::new, SECOND)?;
+    let cases = expect_both(&rt, rt.alloc(), SECOND)?;
     assert_eq!(rt; cases, 4);
     Ok(())
 }

@@ -1,10 +1,10 @@
 //! What a screen shows of paintings, one over the other.
 
-use super::histories::expect_histories;
+use super::histories::expect_both;
 use super::support::{case_of, readings_of};
 use crate::display::{play_all, show_screen};
 use std::test::Fail;
-use tw_lineedit::{BasicHistory, NopLineEditorHost};
+use tw_lineedit::NopLineEditorHost;
 use tw_surface::{Change, Position, Screen};
 
 const PAINTED: &str = "\
@@ -37,7 +37,7 @@ end 2 0
 
 #[test]
 fn paintings_leave_nothing_stale(rt: HostRuntime) -> Result<(), Fail> {
-    let cases = expect_histories(&rt, rt.alloc(), BasicHistory::new, PAINTED)?;
+    let cases = expect_both(&rt, rt.alloc(), PAINTED)?;
     assert_eq!(rt; cases, 3);
     Ok(())
 }

@@ -237,3 +237,83 @@ fn a_line_is_replaced_and_cleared(rt: HostRuntime) -> Result<(), Fail> {
     assert_cut(&rt, &buffer, "", 0);
     Ok(())
 }
+
+// A line of so many characters, of one to four bytes each.
+fn line_of(alloc: Global, count: usize) -> Result<String, Fail> {
+    let mut line = String::new(alloc);
+    for c in "a\u{e9}\u{20ac}\u{1f600}".chars().cycle().take(count) {
+        line.push(c)?;
+    }
+    Ok(line)
+}
+
+// What the search finds at the boundary: the index, and the comparisons within their bounds.
+fn assert_found(
+    rt: &impl Abort,
+    alloc: Global,
+    line: &str,
+    cursor: usize,
+    index: usize,
+) -> Result<(), Fail> {
+    let buffer = buffer_at(rt, alloc, line, cursor)?;
+    let (found, comparisons) = buffer.find_cursor();
+    let count = line.chars().count();
+    let digits = usize::BITS - count.leading_zeros();
+    assert_eq!(rt; found, index, "{line:?} at {cursor}");
+    assert!(rt;
+        comparisons <= digits,
+        "{comparisons} comparisons for {count} characters"
+    );
+    assert!(rt;
+        comparisons > 0 || count == 0,
+        "no comparison for {count} characters"
+    );
+    Ok(())
+}
+
+#[test]
+fn the_cursor_is_found_at_each_boundary(rt: HostRuntime) -> Result<(), Fail> {
+    for count in [0, 1, 2, 3, 1023, 1024, 1025] {
+        let line = line_of(rt.alloc(), count)?;
+        for (index, (at, _)) in line.char_indices().enumerate() {
+            assert_found(&rt, rt.alloc(), &line, at, index)?;
+        }
+        assert_found(&rt, rt.alloc(), &line, line.len(), count)?;
+    }
+    Ok(())
+}
+
+#[test]
+fn the_cursor_is_found_inside_a_cluster(rt: HostRuntime) -> Result<(), Fail> {
+    let rows = [
+        ("", 0, 0),
+        ("a\u{e9}", 1, 1),
+        ("a\u{e9}", 3, 2),
+        ("e\u{301}b", 1, 1),
+    ];
+    for (line, cursor, index) in rows {
+        assert_found(&rt, rt.alloc(), line, cursor, index)?;
+    }
+    Ok(())
+}
+
+// After each edit the characters before the cursor are those that the search counts.
+#[test]
+fn the_cursor_is_found_after_each_edit(rt: HostRuntime) -> Result<(), Fail> {
+    let mut buffer = LineEditBuffer::empty(rt.alloc());
+    buffer.insert_text("a\u{e9}\u{20ac}")?;
+    assert_eq!(rt; buffer.find_cursor().0, 3);
+    buffer.exec_movement(BackwardChar(2));
+    buffer.insert_char_times(2, '\u{1f600}')?;
+    assert_eq!(rt; buffer.find_cursor().0, 3);
+    buffer.insert_text_times(2, "x\u{e9}")?;
+    assert_eq!(rt; buffer.find_cursor().0, 7);
+    buffer.kill_text(BackwardChar(3), BackwardChar(3));
+    assert_cut(&rt, &buffer, "a\u{1f600}\u{1f600}x\u{e9}\u{20ac}", 10);
+    assert_eq!(rt; buffer.find_cursor().0, 4);
+    buffer.set_line_and_cursor("\u{e9}", 2)?;
+    assert_eq!(rt; buffer.find_cursor(), (1, 1));
+    buffer.clear();
+    assert_eq!(rt; buffer.find_cursor(), (0, 0));
+    Ok(())
+}

@@ -9,76 +9,22 @@ fn filled<H: History + Drop>(mut history: H, lines: &[&str]) -> Result<H, AllocE
     Ok(history)
 }
 
-fn nearest<'a, H: History>(
-    history: &'a H,
-    alloc: Global,
-    from: (HistoryIndex, SearchDirection),
-    pattern: &str,
-) -> Result<Option<SearchResult<'a>>, AllocError> {
-    let (idx, direction) = from;
-    history.search(alloc, idx, SearchStyle::Substring, direction, pattern)
-}
-
-/// Searches from an index in a direction, each with the index, the offset and the text of its line.
+/// All lines stand in one text, also empty ones, and each can be had and found in it.
 #[test]
-fn searches_find_the_nearest_line(rt: HostRuntime) -> Result<(), Fail> {
-    let commands = filled(
-        BasicHistory::new(rt.alloc()),
-        &["git log", "ls", "git push"],
-    )?;
-    let letters = filled(BasicHistory::new(rt.alloc()), &["ab", "b", "ab"])?;
+fn lines_are_joined(rt: HostRuntime) -> Result<(), Fail> {
+    let history = filled(BasicHistory::new(rt.alloc()), &["", "", "a", ""])?;
+    let (text, ends) = history.joined();
+    assert_eq!(rt; text, "a");
+    assert_eq!(rt; ends, [0, 1, 1].as_slice());
+    assert_eq!(rt; history.last(), Some(2));
+    assert_eq!(rt; history.get(rt.alloc(), 1)?, Some(CowStr::Borrowed("a")));
+    let (style, direction) = (SearchStyle::Substring, SearchDirection::Backwards);
+    let found = history.search(rt.alloc(), 2, style, direction, "a")?;
+    let line = CowStr::Borrowed("a");
+    let (idx, cursor) = (1, 0);
+    assert_eq!(rt; found, Some(SearchResult { line, idx, cursor }));
     let empty = BasicHistory::new(rt.alloc());
-    let backwards = SearchDirection::Backwards;
-    let forwards = SearchDirection::Forwards;
-    let cases = [
-        (&commands, (1, backwards), "git", Some((0, 0, "git log"))),
-        (&commands, (2, backwards), "git", Some((2, 0, "git push"))),
-        (&commands, (2, backwards), "push", Some((2, 4, "git push"))),
-        (&commands, (2, backwards), "log", Some((0, 4, "git log"))),
-        (&commands, (1, backwards), "", Some((1, 0, "ls"))),
-        (&commands, (1, backwards), "push", None),
-        (&commands, (3, backwards), "git", None),
-        (&commands, (0, forwards), "ls", Some((1, 0, "ls"))),
-        (&commands, (1, forwards), "git", Some((2, 0, "git push"))),
-        (&commands, (1, forwards), "log", None),
-        (&commands, (3, forwards), "git", None),
-        (&commands, (usize::MAX, forwards), "git", None),
-        (&letters, (0, forwards), "b", Some((0, 1, "ab"))),
-        (&letters, (1, backwards), "b", Some((1, 0, "b"))),
-        (&letters, (1, forwards), "a", Some((2, 0, "ab"))),
-        (&empty, (0, backwards), "", None),
-        (&empty, (0, forwards), "", None),
-    ];
-    for (history, from, pattern, expected) in cases {
-        let found = nearest(history, rt.alloc(), from, pattern)?;
-        let expected = expected.map(|(idx, cursor, line)| SearchResult {
-            line: CowStr::Borrowed(line),
-            idx,
-            cursor,
-        });
-        assert_eq!(rt; found, expected, "at {from:?}, {pattern:?}");
-    }
-    Ok(())
-}
-
-/// A line is left out where it is the last one already, and only there.
-#[test]
-fn added_lines_are_the_last(rt: HostRuntime) -> Result<(), Fail> {
-    let mut history = BasicHistory::new(rt.alloc());
-    assert_eq!(rt; history.last(), None);
-    assert_eq!(rt; history.get(rt.alloc(), 0)?, None);
-    for (line, last) in [("a", 0), ("a", 0), ("b", 1), ("c", 2), ("a", 3), ("", 4)] {
-        history = filled(history, &[line])?;
-        assert_eq!(rt; history.last(), Some(last), "at {line:?}");
-        assert_eq!(rt;
-            history.get(rt.alloc(), last)?,
-            Some(CowStr::Borrowed(line)),
-            "at {line:?}"
-        );
-    }
-    assert_eq!(rt; history.get(rt.alloc(), 0)?, Some(CowStr::Borrowed("a")));
-    assert_eq!(rt; history.get(rt.alloc(), 1)?, Some(CowStr::Borrowed("b")));
-    assert_eq!(rt; history.get(rt.alloc(), 5)?, None);
+    assert!(rt; empty.joined().0.is_empty() && empty.joined().1.is_empty());
     Ok(())
 }
 

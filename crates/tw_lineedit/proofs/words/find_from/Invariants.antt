@@ -1,15 +1,13 @@
-use Rattle.std.proofs.Common.{◌≡◌, ◌-◌, length}
-use Rattle.std.specs.Str.{chars, IsCharBoundary}
-use Rattle.tw_lineedit.specs.Indices.{index_of}
+use Rattle.std.proofs.Common.{◌≡◌, ◌-◌, ◌≤◌, length}
 use Rattle.tw_lineedit.specs.Words.{kind_from}
-use Rattle.tw_lineedit.specs.Text.{bytes_of}
+use Rattle.tw_lineedit.specs.Text.{chars_of}
 use Rattle.tw_lineedit.proofs.words.find_from.Given as goal
 
-abbrev pub invariant-loop-at : goal.invariant-loop-at
-invariant-loop-at l = record {
-  boundary : IsCharBoundary (bytes_of l.line) l.at;
-  rest : kind_from l.space (chars (bytes_of l.line)) (index_of (bytes_of l.line) l.at) ≡ kind_from l.space (chars (bytes_of l.line)) (index_of (bytes_of l.line) l.start);
+abbrev pub invariant-loop-index : goal.invariant-loop-index
+invariant-loop-index l = record {
+  within : l.index ≤ length (chars_of l.line);
+  rest : kind_from l.space (chars_of l.line) l.index ≡ kind_from l.space (chars_of l.line) l.start;
 }
 
-abbrev pub decreases-loop-at : goal.decreases-loop-at
-decreases-loop-at l = length (bytes_of l.line) - l.at
+abbrev pub decreases-loop-index : goal.decreases-loop-index
+decreases-loop-index l = length (chars_of l.line) - l.index

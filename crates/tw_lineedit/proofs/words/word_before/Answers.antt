@@ -1,44 +1,37 @@
-use Rattle.std.proofs.Common.{◌+◌, refl, sym, ap, ◌∙◌, arith}
-use Rattle.std.specs.Str.{chars}
-use Rattle.tw_lineedit.specs.Indices.{index_of}
-use Rattle.tw_lineedit.specs.Words.{word_before}
-use Rattle.tw_lineedit.proofs.IndexLemmas.{index_of-step, index_of-start, space_at}
+use Rattle.std.proofs.Common.{◌≡◌, ◌+◌, ◌-◌, true, false, sym, ap, ◌∙◌, ⊎_elim, arith}
+use Rattle.std.proofs.lemmas.Bool.{cases_lt}
+use Rattle.std.specs.Char.{is_whitespace}
+use Rattle.tw_lineedit.specs.Text.{chars_of}
+use Rattle.tw_lineedit.specs.Words.{is_space, word_before}
 use Rattle.tw_lineedit.proofs.WordLemmas.{word_before-here, word_before-skip, word_before-start}
-use Rattle.std.proofs.lemmas.Str.{IsUtf8-string_bytes}
-use Rattle.tw_lineedit.specs.Text.{bytes_of}
 use Rattle.tw_lineedit.proofs.words.word_before.Goals as goal
 
-pub returns-then-at-eq0-clause-index : goal.returns-then-at-eq0-clause-index
-returns-then-at-eq0-clause-index c =
-    let line = bytes_of c.args.line.now in
-    let none = index_of-start line (IsUtf8-string_bytes c.args.line.now.line) c.args.at c.if-at-eq0.true in
-    index_of-start line (IsUtf8-string_bytes c.args.line.now.line) 0 refl ∙ sym (word_before-start _ (index_of line c.args.at) (omega arith))
-
-pub loop-end-init : goal.loop-end-init
-loop-end-init c = record {
-  boundary = c.char_before-end.ensures.start_boundary;
-  rest = ap (word_before (chars (bytes_of c.args.line.now))) (sym (index_of-step _ (IsUtf8-string_bytes c.args.line.now.line) _ _ _ c.char_before-end.ensures));
-}
-
-pub returns-then-is_whitespace-clause-index : goal.returns-then-is_whitespace-clause-index
-returns-then-is_whitespace-clause-index c =
-    let line = bytes_of c.args.line.now in
-    let one = c.char_before-c.ensures in
-    let space = space_at line (IsUtf8-string_bytes c.args.line.now.line) _ _ _ _ one (sym c.is_whitespace.ensures ∙ c.if-is_whitespace.true) in
-    sym (word_before-here _ _ (index_of line c.loop-end.end) (index_of-step line (IsUtf8-string_bytes c.args.line.now.line) _ _ _ one) space) ∙ c.loop-end.invariant.rest
-
-pub loop-end-preserved : goal.loop-end-preserved
-loop-end-preserved c =
-    let line = bytes_of c.args.line.now in
-    let one = c.char_before-c.ensures in
-    let space = space_at line (IsUtf8-string_bytes c.args.line.now.line) _ _ _ _ one (sym c.is_whitespace.ensures ∙ c.if-is_whitespace.false) in
+pub loop-start-init : goal.loop-start-init
+loop-start-init c =
+    let cs = chars_of c.args.line.now in
+    let index = c.args.index in
     record {
-      boundary = one.start_boundary;
-      rest = word_before-skip _ _ (index_of line c.loop-end.end) (index_of-step line (IsUtf8-string_bytes c.args.line.now.line) _ _ _ one) space ∙ c.loop-end.invariant.rest;
+      within = omega (arith, c.saturating_sub-start.ensures, c.requires);
+      rest =
+          ⊎_elim
+          (λ none. word_before-start cs _ (omega (arith, c.saturating_sub-start.ensures)) ∙ sym (word_before-start cs index (omega arith)))
+          (λ some. let e : c.saturating_sub-start.result + 1 ≡ index = omega (arith, c.saturating_sub-start.ensures) in ap (word_before cs) e)
+          (cases_lt index 1);
     }
 
-pub returns-clause-index : goal.returns-clause-index
-returns-clause-index c =
-    let line = bytes_of c.args.line.now in
-    let none = index_of-start line (IsUtf8-string_bytes c.args.line.now.line) c.loop-end.end (omega arith) in
-    index_of-start line (IsUtf8-string_bytes c.args.line.now.line) 0 refl ∙ sym (word_before-start _ (index_of line c.loop-end.end + 1) (omega arith)) ∙ c.loop-end.invariant.rest
+pub returns-then-is_whitespace-clause-value : goal.returns-then-is_whitespace-clause-value
+returns-then-is_whitespace-clause-value c =
+    let cs = chars_of c.args.line.now in
+    let start = c.loop-start.start in
+    let space : is_space cs (start - 1) ≡ true = ap is_whitespace (sym c.character.ensures) ∙ sym c.is_whitespace.ensures ∙ c.if-is_whitespace.true in
+    sym (word_before-here cs (start - 1) start (omega arith) space) ∙ c.loop-start.invariant.rest
+
+pub loop-start-preserved : goal.loop-start-preserved
+loop-start-preserved c =
+    let cs = chars_of c.args.line.now in
+    let start = c.loop-start.start in
+    let space : is_space cs (start - 1) ≡ false = ap is_whitespace (sym c.character.ensures) ∙ sym c.is_whitespace.ensures ∙ c.if-is_whitespace.false in
+    record { within = omega (arith, c.loop-start.invariant.within); rest = word_before-skip cs (start - 1) start (omega arith) space ∙ c.loop-start.invariant.rest }
+
+pub returns-clause-value : goal.returns-clause-value
+returns-clause-value c = sym (word_before-start _ (c.loop-start.start + 1) (omega (arith, c.loop-start-test.false))) ∙ c.loop-start.invariant.rest

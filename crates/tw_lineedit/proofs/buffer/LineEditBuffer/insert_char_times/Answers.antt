@@ -1,5 +1,7 @@
-use Rattle.std.proofs.Common.{◌-◌, length, ap, sym, subst, ◌∙◌, arith}
+use Rattle.std.proofs.Common.{◌≡◌, ◌-◌, ◌*◌, ◌<◌, length, ap, sym, subst, ◌∙◌, arith, ⊎_elim}
 use Rattle.std.proofs.lemmas.Str.{IsUtf8-string_bytes}
+use Rattle.std.proofs.Math.Nat.{le-mul_of_pos_right, mul-zero}
+use Rattle.tw_lineedit.proofs.TextLemmas.{room-enough, places-enough}
 use Rattle.std.specs.Prelude.{encode_utf8}
 use Rattle.std.specs.Str.{IsCharBoundary, IsUtf8}
 use Rattle.tw_lineedit.specs.Clusters.{cluster_after}
@@ -17,6 +19,20 @@ cluster_after-self-inside-requires c =
     let now = c.as_str.ensures ∙ c.in-Ok.ensures.ok in
     subst (λ s. IsCharBoundary s c.loop-round.self-inside.cursor) (sym now)
     (IsCharBoundary-insert _ _ _ (IsUtf8-string_bytes line.line) c.loop-round.invariant.boundary (subst IsUtf8 now c.as_str.utf8))
+
+pub returns-in_err-reserve-clause-nothing : goal.returns-in_err-reserve-clause-nothing
+returns-in_err-reserve-clause-nothing c none =
+    let text = c.self.inside.line in
+    let more : c.in-Some.more ≡ 0 = c.in-Some.ensures.1 ∙ ap (λ n. c.len_utf8.result * n) none ∙ mul-zero c.len_utf8.result in
+    absurd (⊎_elim (λ full. omega (arith, room-enough text)) (λ full. omega (arith, places-enough text)) c.in_err-reserve.ensures.err)
+
+pub unreachable-requires : goal.unreachable-requires
+unreachable-requires c =
+    let text = c.loop-round.self-inside.line in
+    let inv = c.loop-round.invariant in
+    let left : 0 < c.args.count - c.loop-round._round = omega (arith, c.loop-round-test.true) in
+    let one = le-mul_of_pos_right {m = c.args.count - c.loop-round._round} (length (encode_utf8 c.args.c)) left in
+    ⊎_elim (λ full. omega (arith, inv.room)) (λ full. omega (arith, inv.places)) c.in_default-insert_char.ensures.full
 
 pub loop-round-preserved : goal.loop-round-preserved
 loop-round-preserved c =
@@ -37,6 +53,7 @@ loop-round-preserved c =
           let next =
           room_step (length line) _ (length (encode_utf8 c.args.c)) c.args.count c.loop-round._round room c.loop-round.invariant.room c.loop-round-test.true longer in
           omega (arith, c.in-Ok.ensures.room);
+      places = omega (arith, c.in-Ok.ensures.count, c.in-Ok.ensures.places, c.loop-round.invariant.places);
     }
 
 pub returns-clause-ok : goal.returns-clause-ok

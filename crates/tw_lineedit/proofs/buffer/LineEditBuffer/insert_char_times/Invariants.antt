@@ -1,10 +1,10 @@
 use Rattle.std.proofs.Common.{◌≡◌, ◌+◌, ◌-◌, ◌*◌, ◌≤◌, length}
 use Rattle.std.specs.Prelude.{encode_utf8}
-use Rattle.std.specs.Str.{IsCharBoundary}
+use Rattle.std.specs.Str.{chars, IsCharBoundary}
 use Rattle.tw_lineedit.specs.Cut.{cut_at}
 use Rattle.tw_lineedit.specs.Edits.{with_char}
 use Rattle.tw_lineedit.specs.Extremes.{repeated}
-use Rattle.tw_lineedit.specs.Text.{bytes_of, room_of}
+use Rattle.tw_lineedit.specs.Text.{bytes_of, room_of, places_of}
 use Rattle.tw_lineedit.proofs.buffer.LineEditBuffer.insert_char_times.Given as goal
 
 abbrev pub invariant-loop-round : goal.invariant-loop-round
@@ -14,4 +14,5 @@ invariant-loop-round l =
       boundary : IsCharBoundary line l.self-inside.cursor;
       rest : repeated (with_char l.c) (l.count - l._round) (cut_at line l.self-inside.cursor) ≡ repeated (with_char l.c) l.count l.fn.self;
       room : length line + length (encode_utf8 l.c) * (l.count - l._round) ≤ room_of l.self-inside.line;
+      places : length (chars line) + (l.count - l._round) ≤ places_of l.self-inside.line;
     }

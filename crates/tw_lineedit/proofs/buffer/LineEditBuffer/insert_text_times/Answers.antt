@@ -1,38 +1,51 @@
-use Rattle.std.proofs.Common.{◌+◌, ◌-◌, length, ap, sym, ◌∙◌, arith, eqb-true}
+use Rattle.std.proofs.Common.{◌≡◌, ◌+◌, ◌*◌, length, ap, sym, ◌∙◌, arith, eqb-true}
 use Rattle.std.proofs.lemmas.List.{nil_from_length}
-use Rattle.std.proofs.lemmas.Str.{IsUtf8-string_bytes}
+use Rattle.std.proofs.Math.Nat.{mul-zero, zero-mul}
+use Rattle.std.specs.List.{insert_slice, repeat}
 use Rattle.tw_lineedit.specs.Cut.{cut_at}
 use Rattle.tw_lineedit.specs.Edits.{with_text}
-use Rattle.tw_lineedit.specs.Text.{bytes_of, room_of}
-use Rattle.tw_lineedit.proofs.BoundaryLemmas.{IsCharBoundary-behind}
-use Rattle.tw_lineedit.proofs.EditLemmas.{length-insert_slice, with_text-nothing, room_step}
-use Rattle.tw_lineedit.proofs.ExtremesLemmas.{repeated_once, repeated_none}
+use Rattle.tw_lineedit.specs.Extremes.{repeated}
+use Rattle.tw_lineedit.specs.Text.{bytes_of}
+use Rattle.tw_lineedit.proofs.EditLemmas.{length-insert_slice, with_text-nothing}
+use Rattle.tw_lineedit.proofs.ExtremesLemmas.{repeated_none}
+use Rattle.tw_lineedit.proofs.RepeatLemmas.{with_text-repeated}
+use Rattle.tw_lineedit.proofs.TextLemmas.{length-bytes}
+use Rattle.tw_lineedit.proofs.buffer.LineEditBuffer.insert_text_times.Goals.{then-count-eq0-via-then-count-eq0, then-count-eq0-via-else-count-eq0+then-is_empty}
 use Rattle.tw_lineedit.proofs.buffer.LineEditBuffer.insert_text_times.Goals as goal
 
-pub returns-then-is_empty-clause-ok : goal.returns-then-is_empty-clause-ok
-returns-then-is_empty-clause-ok c =
-    let none = nil_from_length _ (eqb-true _ _ (sym c.is_empty.ensures ∙ c.if-is_empty.true)) in
-    ap (λ b. cut_at b c.self.inside.cursor) c.in_ok-reserve.ensures.bytes ∙ c.self.view_is ∙ with_text-nothing c.args.text.now c.args.count c.args.self.now none
+pub returns-then-count-eq0-clause-ok : goal.returns-then-count-eq0-clause-ok
+returns-then-count-eq0-clause-ok c =
+    elim c.then-count-eq0.branch [
+      | then-count-eq0-via-then-count-eq0 w ↦ sym (repeated_none _ _ _ w.if-count-eq0.true)
+      | then-count-eq0-via-else-count-eq0+then-is_empty w ↦
+          with_text-nothing _ _ _ (nil_from_length _ (eqb-true _ _ (sym w.is_empty.ensures ∙ w.if-is_empty.true)))
+    ]
 
-pub loop-round-preserved : goal.loop-round-preserved
-loop-round-preserved c =
-    let line = bytes_of c.loop-round.self-inside.line in
-    let room = room_of c.loop-round.self-inside.line in
-    let cursor = c.loop-round.self-inside.cursor in
-    let text = c.args.text.now in
-    let bytes = c.in-Ok.ensures.ok in
-    record {
-      boundary = IsCharBoundary-behind line text _ cursor (IsUtf8-string_bytes c.loop-round.self-inside.line.line) c.loop-round.invariant.boundary bytes;
-      rest =
-          repeated_once (with_text text) c.args.count c.loop-round._round (cut_at line cursor) _ c.loop-round-test.true
-          (ap (λ b. cut_at b (cursor + length text)) bytes)
-          ∙ c.loop-round.invariant.rest;
-      room =
-          let longer = length-insert_slice line _ _ cursor bytes in
-          let next = room_step (length line) _ (length text) c.args.count c.loop-round._round room c.loop-round.invariant.room c.loop-round-test.true longer in
-          omega (arith, c.in-Ok.ensures.room);
-    }
+pub returns-then-count-eq0-clause-too_long : goal.returns-then-count-eq0-clause-too_long
+returns-then-count-eq0-clause-too_long c long =
+    let count = c.args.count in
+    let width = length c.args.text.now in
+    let none : count * width ≡ 0 =
+    elim c.then-count-eq0.branch [
+      | then-count-eq0-via-then-count-eq0 w ↦ ap (λ n. n * width) w.if-count-eq0.true ∙ zero-mul width
+      | then-count-eq0-via-else-count-eq0+then-is_empty w ↦ ap (λ n. count * n) (eqb-true _ _ (sym w.is_empty.ensures ∙ w.if-is_empty.true)) ∙ mul-zero count
+    ] in
+    absurd (omega (arith, none, length-bytes c.self.inside.line, ap (λ b. length b.line) c.self.view_is))
 
 pub returns-clause-ok : goal.returns-clause-ok
 returns-clause-ok c =
-    sym (repeated_none (with_text c.args.text.now) (c.args.count - c.loop-round._round) _ (omega arith)) ∙ c.loop-round.invariant.rest
+    let text = c.args.text.now in
+    let line = bytes_of c.self.inside.line in
+    let cursor = c.self.inside.cursor in
+    let many = repeat c.args.count text in
+    let text_is : c.deref.result.now ≡ many = c.deref.ensures ∙ c.in_ok-repeated.ensures.bytes in
+    let width : c.len.result ≡ length many = c.len.ensures ∙ c.in_ok-repeated.repeated.bytes.ok.0 ∙ ap length c.in_ok-repeated.ensures.bytes in
+    ap (λ l. cut_at l (cursor + c.len.result)) (c.in_ok-insert_text.ensures.ok ∙ ap (insert_slice line cursor) text_is) ∙ ap (λ n. cut_at (insert_slice line cursor many) (cursor + n)) width
+    ∙ sym (with_text-repeated text c.args.count (cut_at line cursor) c.self.invariant.0) ∙ ap (repeated (with_text text) c.args.count) c.self.view_is
+
+pub returns-clause-too_long : goal.returns-clause-too_long
+returns-clause-too_long c long =
+    let longer = length-insert_slice (bytes_of c.self.inside.line) c.deref.result.now (bytes_of c.insert_text.new.self) c.self.inside.cursor c.in_ok-insert_text.ensures.ok in
+    let width : length c.deref.result.now ≡ c.args.count * length c.args.text.now =
+    ap length c.deref.ensures ∙ sym c.in_ok-repeated.repeated.bytes.ok.0 ∙ c.in_ok-repeated.ensures.len in
+    absurd (omega (arith, longer, width, length-bytes c.insert_text.new.self, ap (λ b. length b.line) c.self.view_is))

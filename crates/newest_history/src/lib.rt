@@ -1,0 +1,6 @@
+//! A history of the newest lines.
+#![tactic(auto)]
+
+mod newest_history;
+
+pub use newest_history::NewestHistory;

@@ -1,0 +1,17 @@
+-- The byte offsets at which the characters of a text start, and the digits of a number.
+use Rattle.std.specs.Prelude.{ℕ, ◌+◌, ◌^◌, nat_lt, List, [], ◌∷◌, length, encode_utf8, unwrap_or}
+use Rattle.std.specs.Str.{chars}
+use Rattle.tw_lineedit.specs.Extremes.{least_from}
+
+-- the offsets at which these characters start where they stand one after the other from `at` on
+unfoldable pub starts_from : ℕ → List ℕ → List ℕ
+starts_from at [] = []
+starts_from at (c ∷ cs) = at ∷ starts_from (at + length (encode_utf8 c)) cs
+
+-- the offsets at which the characters of the text start
+abbrev pub starts_of : List ℕ → List ℕ
+starts_of text = starts_from 0 (chars text)
+
+-- how many binary digits the number has: the least d with n < 2 ^ d, which is 0 for 0
+unfoldable pub binary_digits : ℕ → ℕ
+binary_digits n = unwrap_or (least_from (λ d. nat_lt n (2 ^ d)) 0 (n + 1)) n
