@@ -34,6 +34,7 @@ pub mod SessionView
 pub mod CompletionSteps
 pub mod Run
 pub mod Frame
+pub mod Lent
 pub mod Reading
 pub mod Stations
 pub mod ScreenRuns

@@ -1,5 +1,6 @@
 -- What an editor holds beside its terminal.
-use Rattle.std.specs.Prelude.{ℕ, List, ◌≡◌, codes, Option, Some, None, Ok, Err}
+use Rattle.std.specs.Prelude.{ℕ, List, ◌≡◌, codes, String, string_bytes, Option, Some, None, Ok, Err}
+use Rattle.std.specs.declared.alloc.Global.{Global}
 use Rattle.tw_lineedit.specs.Cut.{Cut, at_end, empty_cut}
 use Rattle.tw_lineedit.specs.EditState.{EditState, ModeView, Inactive, Editing, Cancelled, Accepted, Searching}
 use Rattle.tw_lineedit.specs.EditState as view
@@ -31,6 +32,11 @@ mode_view (mode.Searching style direction matching) = Searching style direction 
 -- the match that a session has found
 abbrev pub found_view : Found → MatchView
 found_view f = record { line = f.matching.line; idx = f.idx; cursor = f.matching.cursor }
+
+-- the prompt that was set, or else the default one
+abbrev pub prompt_view : Option (String Global) → List ℕ
+prompt_view None = codes "> "
+prompt_view (Some prompt) = string_bytes prompt
 
 -- the state of a new editor
 abbrev pub new_state : EditState

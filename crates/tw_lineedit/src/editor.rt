@@ -1,6 +1,7 @@
 //! The editor: it reads events from a terminal, and shows the line on it.
 
-ghost use Rattle.std.specs.Prelude.{◌≡◌, ◌≢◌, Some, None, Ok, Err, IfOk, IfErr, OnOk, OnErr, MatchOption, MatchBool, IsSome, option_map};
+ghost use Rattle.std.specs.Prelude.{◌≡◌, ◌≢◌, Some, None, Ok, Err, IfOk, IfErr, IsOk, OnOk, OnErr, MatchOption, MatchBool, IsSome, option_map};
+ghost use Rattle.std.specs.Borrow.{sem};
 ghost use Rattle.std.specs.Str.{IsCharBoundary};
 ghost use Rattle.tw_surface.specs.ChangeView.{batch_view};
 ghost use Rattle.tw_input.specs.EventView.{event_view};
@@ -14,6 +15,7 @@ ghost use Rattle.tw_lineedit.specs.Painting.{closing, clear_batch};
 ghost use Rattle.tw_lineedit.specs.SessionView.{new_session, on_state};
 ghost use Rattle.tw_lineedit.specs.Refusal.{IsMemory};
 ghost use Rattle.tw_lineedit.specs.Run.{progress_of, resolved, run_of, IsRefused, IsAnswered, Continues, IsEnded};
+ghost use Rattle.tw_lineedit.specs.Lent.{EndsAs, editor_row};
 ghost use Rattle.tw_lineedit.specs.Frame.{frame, Keeps, Closes, FailsToClose, CallFails, ShowsBatch, FailsToShow, Paints, FailsToPaint, Applies, FailsToApply, Handles, FailsToHandle, answered_frame, TakesEvent, HasNoEvent};
 ghost use Rattle.tw_lineedit.specs.ScreenRuns.{FirstIsFresh, LaterIsFresh, ClearedIsFresh, ClosesBelow};
 ghost use Rattle.tw_lineedit.specs.Reading.{start, Reads, FailsToRead, IsTurnedDown, FailuresTell};
@@ -51,22 +53,15 @@ impl<T: Terminal, S: Drop> Drop for EditorOver<'_, T, S> {
 }
 
 impl<'term, T: Terminal> LineEditor<'term, T> {
-    ghost use Rattle.std.specs.Prelude.{⊤, []};
-    ghost use Rattle.std.specs.Borrow.{sem};
-    ghost use mathlib.Core.Option.{none};
-    ghost use mir.Syntax.{named};
-    ghost use denote.Follow.{follows_so};
-    ghost use Rattle.tw_lineedit.specs.contracts.editor.EditorOver.{the_row};
-    ghost use Rattle.tw_lineedit.specs.contracts.session.Session.{the_row as session_row};
-
-    /// An editor with the prompt `> ` and an empty line. It calls nothing of the terminal.
+    /// An editor with the prompt `> ` and an empty line. It takes no memory and calls nothing of the terminal, so
+    /// it always succeeds.
     pub fn new(alloc: Global, terminal: &'term mut T) -> Result<Self, Error>
+        ensures succeeds { IsOk result }
         ensures same_reference { IfOk result (λ editor. editor.terminal.ghost_name ≡ terminal.entry.ghost_name) }
         ensures terminal { IfOk result (λ editor. editor.terminal.now ≡ terminal.old) }
         ensures state { IfOk result (λ editor. editor.session ≡ new_session) }
-        ensures memory { IfErr result IsMemory }
     {
-        let session = Session::new(alloc)?;
+        let session = Session::new(alloc);
         Ok(EditorOver { terminal, session })
     }
 
@@ -82,9 +77,10 @@ impl<'term, T: Terminal> LineEditor<'term, T> {
         Ok(())
     }
 
-    /// The line, and the byte offset of its cursor. It takes no memory.
+    /// The line, and the byte offset of its cursor, which is a boundary of it. It takes no memory, and the editor
+    /// and its terminal are afterwards as before.
     pub fn get_line_and_cursor(&mut self) -> (&str, usize)
-        ensures* kept { sem 𝓛 (follows_so (the_row (record { mir = named 1; lft = [] }) T.row session_row) (the_row (record { mir = named 1; lft = [] }) T.row session_row) self.entry.ghost_name none (λ _ _. ⊤) (λ n. n ≡ self.old)) }
+        ensures* same { sem 𝓛 (EndsAs (editor_row T.row) self.entry self.old) }
         ensures line { result.0.now ≡ self.old.session.state.cut.line }
         ensures cursor { result.1 ≡ self.old.session.state.cut.cursor }
         ensures boundary { IsCharBoundary result.0.now result.1 }

@@ -40,17 +40,19 @@ pub enum Mode {
 
 mod completion;
 mod edit;
+mod prompt;
 mod search;
 mod walk;
 
 use completion::Cycle;
 use edit::Edit;
+use prompt::Prompt;
 
 /// What an editor holds beside its terminal.
 #[derive(Debug, Drop)]
 pub struct Session {
     alloc: Global,
-    prompt: String,
+    prompt: Prompt,
     line: LineEditBuffer,
     position: Option<HistoryIndex>,
     kept: Option<String>,
@@ -67,7 +69,7 @@ impl Model for Session {
 
     ghost view = { λ s. record {
       state = record {
-        prompt = string_bytes s.prompt;
+        prompt = s.prompt;
         cut = s.line;
         position = s.position;
         kept = option_map string_bytes s.kept;
@@ -81,21 +83,20 @@ impl Model for Session {
 impl Session {
     ghost use Rattle.tw_lineedit.specs.SessionView.{new_session, on_state, begun, mode_view, ActsOn, FailsToActOn};
 
-    /// A session with the prompt `> `, an empty line and nothing painted.
-    pub(crate) fn new(alloc: Global) -> Result<Session, AllocError>
-        ensures { IfOk result (λ session. session ≡ new_session) }
+    /// A session with the prompt `> `, an empty line and nothing painted. It takes no memory.
+    pub(crate) fn new(alloc: Global) -> Session
+        ensures { result ≡ new_session }
     {
-        let prompt = String::from_str(alloc, "> ")?;
-        Ok(Session {
+        Session {
             alloc,
-            prompt,
+            prompt: Prompt::new(),
             line: LineEditBuffer::empty(alloc),
             position: None,
             kept: None,
             cycle: None,
             mode: Mode::Inactive,
             painted: None,
-        })
+        }
     }
 
     /// The allocator of all that the session holds.
@@ -108,7 +109,7 @@ impl Session {
         ensures ok { OnOk result (self.new ≡ on_state (λ state. record state { prompt = prompt.now }) self.old) }
         ensures err { OnErr result (self.new ≡ self.old) }
     {
-        self.prompt = String::from_str(self.alloc, prompt)?;
+        self.prompt = Prompt::from_str(self.alloc, prompt)?;
         Ok(())
     }
 
