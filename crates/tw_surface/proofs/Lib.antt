@@ -7,6 +7,7 @@ pub mod LineOfCells
 pub mod TypedText
 pub mod TypedChanges
 pub mod LowerText
+pub mod JoinedLines
 pub mod PaintedScenes
 pub mod PaintingHeights
 pub mod ShotLemmas

@@ -65,10 +65,11 @@ abbrev pub CountedRows : Type 0
 CountedRows = (w s : ℕ) (scene : Scene) → 2 ≤ w → IsPlain scene
     → ((painting w scene).row ≡ pos (cursor_row w scene)) × (s + (painting w scene).height ≡ last_row w s scene)
 
--- a text is its lines with CR LF between each two, and one without CR LF is one line
+-- a text is its lines with CR LF between each two; a printable text is one line, and printable lines with CR LF between each two are cut into themselves
 abbrev pub LinesOfText : Type 0
 LinesOfText = ((text : List ℕ) → joined (lines_of text) ≡ text)
     × ((text : List ℕ) → list_all is_printable text ≡ true → lines_of text ≡ text ∷ [])
+    × ((line : List ℕ) (more : List (List ℕ)) → list_all (list_all is_printable) (line ∷ more) ≡ true → lines_of (joined (line ∷ more)) ≡ line ∷ more)
 
 -- a line of m characters takes one row and one more each time that another character does not fit
 abbrev pub RowsOfLine : Type 0

@@ -1,6 +1,6 @@
 //! The changes that are drawn on a screen.
 
-ghost use Rattle.std.specs.Prelude.{◌≡◌, ◌≤◌, pos, IfOk, string_bytes};
+ghost use Rattle.std.specs.Prelude.{◌≡◌, ◌≤◌, ℕ, List, pos, IfOk, OnErr, string_bytes};
 ghost use Rattle.tw_surface.specs.ChangeView.{change_view, Text as TextView};
 ghost use Rattle.tw_surface.specs.Positions.{moved, at_least_0};
 
@@ -50,7 +50,8 @@ pub enum Change {
 impl Change {
     /// An equal change. Only a text takes memory, and a refusal leaves nothing behind.
     pub fn try_clone(&self, alloc: Global) -> Result<Change, AllocError>
-        ensures { IfOk result (λ change. change_view change ≡ change_view self.now) }
+        ensures equal { IfOk result (λ change. change_view change ≡ change_view self.now) }
+        ensures memory { OnErr result ((text : List ℕ) × (change_view self.now ≡ TextView text)) }
     {
         match self {
             Change::Attribute(change) => Ok(Change::Attribute(*change)),

@@ -2,17 +2,26 @@
 
 ghost use Rattle.std.specs.Prelude.{◌≡◌, ◌↔◌, IsTrue};
 ghost use Rattle.tw_surface.specs.declared.cell.AttributeChange.{AttributeChange};
+ghost use Rattle.tw_surface.specs.declared.cell.Blink.{Blink};
 ghost use Rattle.tw_surface.specs.declared.cell.CellAttributes.{CellAttributes};
+ghost use Rattle.tw_surface.specs.declared.cell.Intensity.{Intensity};
+ghost use Rattle.tw_surface.specs.declared.cell.Underline.{Underline};
 ghost use Rattle.tw_surface.specs.declared.change.Change.{Change};
 ghost use Rattle.tw_surface.specs.declared.change.Position.{Position};
 ghost use Rattle.tw_surface.specs.declared.color.ColorAttribute.{ColorAttribute};
+ghost use Rattle.tw_surface.specs.declared.screen.ScreenFault.{ScreenFault};
+ghost use Rattle.tw_surface.specs.declared.sequence.AddFault.{AddFault};
+ghost use Rattle.tw_surface.specs.declared.size.SizeFault.{SizeFault};
 ghost use Rattle.tw_surface.specs.ChangeView.{change_view};
 ghost use Rattle.tw_surface.specs.ScreenLaws.{FirstPainting, LaterPainting, ClearedPainting, IncrementalEqualsFresh, Beginning, ClosingBatch, Stacking, CountedRows, LinesOfText, RowsOfLine, OneFreshPainting, EveryPainting, LastPainting};
 ghost use Rattle.tw_surface.specs.Laws.{PlacesByRelation, PlacesCounted, LastPlace, HeightByExtremes};
 
-use crate::cell::{AttributeChange, CellAttributes};
+use crate::cell::{AttributeChange, Blink, CellAttributes, Intensity, Underline};
 use crate::change::{Change, Position};
 use crate::color::ColorAttribute;
+use crate::screen::ScreenFault;
+use crate::sequence::AddFault;
+use crate::size::SizeFault;
 
 /// `==` is equality of values; texts are compared by their characters.
 #[tactic(auto, using(crate::proofs::EqualityLemmas::attributes_equal))]
@@ -22,6 +31,12 @@ pub fn equality()
     ensures colors { (a b : ColorAttribute) → IsTrue (⟦<ColorAttribute as PartialEq>⟧.eq a b) ↔ (a ≡ b) }
     ensures attributes { (a b : CellAttributes) → IsTrue (⟦<CellAttributes as PartialEq>⟧.eq a b) ↔ (a ≡ b) }
     ensures attribute_changes { (a b : AttributeChange) → IsTrue (⟦<AttributeChange as PartialEq>⟧.eq a b) ↔ (a ≡ b) }
+    ensures intensities { (a b : Intensity) → IsTrue (⟦<Intensity as PartialEq>⟧.eq a b) ↔ (a ≡ b) }
+    ensures underlines { (a b : Underline) → IsTrue (⟦<Underline as PartialEq>⟧.eq a b) ↔ (a ≡ b) }
+    ensures blinks { (a b : Blink) → IsTrue (⟦<Blink as PartialEq>⟧.eq a b) ↔ (a ≡ b) }
+    ensures size_faults { (a b : SizeFault) → IsTrue (⟦<SizeFault as PartialEq>⟧.eq a b) ↔ (a ≡ b) }
+    ensures add_faults { (a b : AddFault) → IsTrue (⟦<AddFault as PartialEq>⟧.eq a b) ↔ (a ≡ b) }
+    ensures screen_faults { (a b : ScreenFault) → IsTrue (⟦<ScreenFault as PartialEq>⟧.eq a b) ↔ (a ≡ b) }
 {}
 
 /// The places of a text: each piece leads from its place to the next one by one of five rules.

@@ -205,6 +205,39 @@ fn what_a_screen_shows(rt: HostRuntime) -> Result<(), Fail> {
 }
 
 #[test]
+fn an_empty_text_changes_nothing(rt: HostRuntime) -> Result<(), Fail> {
+    let mut screen = new_screen(rt.alloc(), 5)?;
+    for (step, rows, cursor, last_row) in [
+        (Step::Bold, ["     ", "     ", "     "], (0, 0), None),
+        (
+            Step::Text("abcde"),
+            ["abcde", "     ", "     "],
+            (0, 5),
+            Some(0),
+        ),
+        (Step::To(2, 3), ["abcde", "     ", "     "], (2, 3), Some(0)),
+        (
+            Step::To(LAST, 4),
+            ["abcde", "     ", "     "],
+            (LAST, 4),
+            Some(0),
+        ),
+    ] {
+        for step in [step, Step::Text("")] {
+            assert_eq!(rt;
+                apply_step(&mut screen, rt.alloc(), step)?,
+                Ok(()),
+                "at {step:?}"
+            );
+            assert_eq!(rt; screen.cursor(), cursor, "after {step:?}");
+            assert_shows(&rt, &screen, rows);
+            assert_eq!(rt; screen.last_row(), last_row, "after {step:?}");
+        }
+    }
+    Ok(())
+}
+
+#[test]
 fn beyond_the_width(rt: HostRuntime) -> Result<(), Fail> {
     let mut screen = new_screen(rt.alloc(), 5)?;
     assert_eq!(rt;
