@@ -1,7 +1,8 @@
 //! Laws over the definitions alone: each is the contract of a function that does nothing.
 
 ghost use Rattle.std.specs.Prelude.{◌≡◌, ◌≢◌, ℕ, List, Some, None, All, AllPairs};
-ghost use Rattle.tw_input.specs.Equality.{ComparesValues};
+ghost use Rattle.tw_input.specs.Equality.{ComparesValues, ComparesViews};
+ghost use Rattle.tw_lineedit.specs.Added.{match_view};
 ghost use Rattle.tw_lineedit.specs.KeyTable.{is_same_key, key_table, looked_up, typed};
 ghost use Rattle.tw_lineedit.specs.CompletionLaws.{GoesRound};
 ghost use Rattle.tw_lineedit.specs.HistoryLaws.{Enumerates, FindsFirst, FindsNearest, WalksBack};
@@ -11,7 +12,17 @@ ghost use Rattle.tw_lineedit.specs.ScreenRuns.{CallsStack};
 ghost use Rattle.tw_lineedit.specs.Stations.{BatchesByStations};
 
 use crate::actions::Movement;
-use crate::host::LineEditorHost;
+use crate::history::{SearchDirection, SearchResult, SearchStyle};
+use crate::host::{LineEditorHost, OwnAnswers};
+
+/// `==` is equality of values. Answers of a search are compared by their views, so a text by its characters,
+/// whether it is borrowed or owned.
+pub fn equality<'a>()
+    ensures search_style { ComparesValues ⟦<SearchStyle as PartialEq>⟧.eq }
+    ensures search_direction { ComparesValues ⟦<SearchDirection as PartialEq>⟧.eq }
+    ensures search_result { ComparesViews match_view ⟦<SearchResult<'a> as PartialEq>⟧.eq }
+    ensures own_answers { ComparesValues ⟦<OwnAnswers as PartialEq>⟧.eq }
+{}
 
 /// `a` steps and then `b` steps lead where `a + b` steps lead, in every cut text and for all whole
 /// numbers.

@@ -1,0 +1,42 @@
+use Rattle.std.proofs.Common.{◌≡◌, Bool, true, false, refl, ap, subst, ◌∙◌}
+use Rattle.std.proofs.lemmas.Bool.{and_parts, and_from, false≢true}
+use mathlib.Core.Bool.{beq}
+use Rattle.tw_lineedit.specs.declared.host.OwnAnswers.{OwnAnswers}
+use Rattle.tw_lineedit.proofs.laws.equality.Goals as goal
+
+beq-is : (a b : Bool) → beq a b ≡ true → a ≡ b
+beq-is true true h = refl
+beq-is true false h = absurd (false≢true h)
+beq-is false true h = absurd (false≢true h)
+beq-is false false h = refl
+
+is-beq : (a b : Bool) → a ≡ b → beq a b ≡ true
+is-beq a b e = subst (λ (x : Bool). beq a x ≡ true) e (same a)
+  where
+    same : (a : Bool) → beq a a ≡ true
+    same true = refl
+    same false = refl
+
+-- answers are equal where each of them is
+joined : (a b : OwnAnswers) → a.prompt ≡ b.prompt → a.preview ≡ b.preview → a.highlight ≡ b.highlight → a.complete ≡ b.complete → a.resolve ≡ b.resolve → a ≡ b
+joined a b e0 e1 e2 e3 e4 =
+    ap (λ x. record a { prompt = x }) e0
+    ∙ ap (λ x. record a { prompt = b.prompt; preview = x }) e1
+    ∙ ap (λ x. record a { prompt = b.prompt; preview = b.preview; highlight = x }) e2
+    ∙ ap (λ x. record a { prompt = b.prompt; preview = b.preview; highlight = b.highlight; complete = x }) e3
+    ∙ ap (λ x. record a { prompt = b.prompt; preview = b.preview; highlight = b.highlight; complete = b.complete; resolve = x }) e4
+
+pub returns-clause-own_answers : goal.returns-clause-own_answers
+returns-clause-own_answers c a b = (
+  (λ h.
+      let s0 = and_parts _ _ h in
+      let s1 = and_parts _ _ s0.1 in
+      let s2 = and_parts _ _ s1.1 in
+      let s3 = and_parts _ _ s2.1 in
+      joined a b (beq-is _ _ s0.0) (beq-is _ _ s1.0) (beq-is _ _ s2.0) (beq-is _ _ s3.0) (beq-is _ _ s3.1)),
+  (λ e.
+      and_from _ _ (is-beq _ _ (ap (λ x. x.prompt) e))
+      (and_from _ _ (is-beq _ _ (ap (λ x. x.preview) e))
+      (and_from _ _ (is-beq _ _ (ap (λ x. x.highlight) e))
+      (and_from _ _ (is-beq _ _ (ap (λ x. x.complete) e)) (is-beq _ _ (ap (λ x. x.resolve) e)))))),
+)
