@@ -2,6 +2,8 @@
 use Rattle.std.proofs.Common.{◌≡◌, ℕ, ◌+◌, List, [], ◌∷◌, ◌++◌, cond, Bool, true, false, ◌||◌, refl, sym, ◌∙◌, ap, subst, append_assoc, map, Option, Some, None, Result, Ok, Err, option_map, if◌then◌else◌, ◌==◌, nat_lt, arith}
 use Rattle.std.specs.List.{list_any}
 use Rattle.std.proofs.lemmas.List.{map-append}
+use Rattle.std.proofs.lemmas.List.Elements.{All-head}
+use Rattle.std.specs.List.{All}
 use Rattle.tw_surface.specs.ChangeView.{Batch}
 use Rattle.tw_surface.specs.Paintings.{Painting, painting}
 use Rattle.tw_surface.specs.Pictures.{Picture}
@@ -19,7 +21,7 @@ use Rattle.tw_surface.specs.Scenes.{Scene}
 use Rattle.tw_terminal.specs.declared.terminal.ScreenSize.{ScreenSize}
 use Rattle.tw_lineedit.specs.Run.{Frame, Progress, progress_of, run, run_of, ends, at_end, at_event, after_event, painting_at, shown, chosen, state_after, handled}
 use Rattle.tw_lineedit.specs.Stations.{Station, is_repaint, clear_if, station_at, painting_of, batches_after, stations_after, stations_unless, stations_by, stations_from, stations_of}
-use Rattle.tw_lineedit.specs.ScreenRuns.{sized_scene, batches_of, is_cleared, Comes, ShowsFresh, FirstIsFresh, LaterIsFresh, ClearedIsFresh, first_row, ClosesBelow, CallsStack}
+use Rattle.tw_lineedit.specs.ScreenRuns.{sized_scene, batches_of, is_cleared, Comes, ShowsFresh, FirstIsFresh, LaterIsFresh, ClearedIsFresh, first_row, RendersNothing, ClosesBelow, CallsStack}
 use Rattle.tw_lineedit.proofs.StationLemmas.{rendered_at, batches_by_stations}
 
 -- the clearing of the screen is the same batch for both layers
@@ -217,6 +219,30 @@ module _ {V : Type 0} (rules : HostRules V) where
   closing_is_shots (s ∷ []) station last ((p, e), more) = rw e (closing_is_shots [] station (Some (mark_of p)) more)
   closing_is_shots (s ∷ next ∷ more) station last ((p, e), others) = rw e (closing_is_shots (next ∷ more) station (Some (mark_of p)) others)
 
+  -- where nothing is rendered there are no batches
+  no_batches : (later : List (Station V)) (last : Option Mark) → All (RendersNothing rules) later → batches_after rules later last ≡ []
+  no_batches [] last h = refl
+  no_batches (s ∷ more) last h =
+      let one = All-head (RendersNothing rules) s more h in
+      rw (one.refused.1, one.not_cleared) refl
+
+  -- and the mark stays
+  same_mark : (later : List (Station V)) (last : Option Mark) → All (RendersNothing rules) later → mark_after later last ≡ last
+  same_mark [] last h = refl
+  same_mark (s ∷ more) last h = rw (All-head (RendersNothing rules) s more h).refused.1 refl
+
+  -- so stations at which nothing is rendered add no batches to those up to a painted one
+  no_more_batches : (earlier : List (Station V)) (station : Station V) (later : List (Station V)) (last : Option Mark) → ArePainted (earlier ++ station ∷ [])
+      → All (RendersNothing rules) later → batches_after rules (earlier ++ station ∷ later) last ≡ batches_after rules (earlier ++ station ∷ []) last
+  no_more_batches [] station later last ((p, e), more) h = rw (e, no_batches later (Some (mark_of p)) h) refl
+  no_more_batches (s ∷ earlier) station later last ((p, e), more) h = rw (e, no_more_batches earlier station later (Some (mark_of p)) more h) refl
+
+  -- and leave its mark
+  no_later_mark : (earlier : List (Station V)) (station : Station V) (later : List (Station V)) (last : Option Mark) → ArePainted (earlier ++ station ∷ [])
+      → All (RendersNothing rules) later → mark_after (earlier ++ station ∷ later) last ≡ mark_after (earlier ++ station ∷ []) last
+  no_later_mark [] station later last ((p, e), more) h = rw (e, same_mark later (Some (mark_of p)) h) refl
+  no_later_mark (s ∷ earlier) station later last ((p, e), more) h = rw (e, no_later_mark earlier station later (Some (mark_of p)) more h) refl
+
   -- scenes are cleared as their stations are
   cleared_scenes : (stations : List (Station V)) → list_any (λ scene. scene.cleared) (scenes_of (map (sized_scene rules) stations)) ≡ is_cleared rules stations
   cleared_scenes [] = refl
@@ -277,20 +303,22 @@ module _ {V : Type 0} (rules : HostRules V) where
 
   -- the closing batch
   pub closes_below : (f : Frame V) → ClosesBelow rules f
-  closes_below f w earlier station before h =
+  closes_below f w earlier station later before h none =
       let scenes = map-append (sized_scene rules) earlier (station ∷ []) in
       let closed = last_painting w before.row (map (sized_scene rules) earlier) (sized_scene rules station) before h.two_columns refl h.at_start (rw scenes at h.plain) in
+      let painted = all_painted f w earlier station later before h in
       let marks : (run_of rules f).last ≡ mark_after (earlier ++ station ∷ []) None =
       mark_from f.terminal.events false (progress_of f) ∙ ap (mark_after (stations_of rules f)) h.nothing_painted
-      ∙ ap (λ (stations : List (Station V)). mark_after stations None) h.stations in (
-        taken-is f w earlier station [] before h,
-        rw (marks, closing_is_shots earlier station None (all_painted f w earlier station [] before h), played-is f w earlier station [] before h, scenes) closed,
+      ∙ ap (λ (stations : List (Station V)). mark_after stations None) h.stations ∙ no_later_mark earlier station later None painted none in (
+        taken-is f w earlier station later before h
+        ∙ ap (λ (b : List Batch). f.terminal.batches ++ b) (no_more_batches earlier station later None painted none),
+        rw (marks, closing_is_shots earlier station None painted, played-is f w earlier station later before h, scenes) closed,
       )
 
   -- two calls
   pub calls_stack : CallsStack rules
-  calls_stack f g w earlier station others second later before h k clear =
-      let closed = closes_below f w earlier station before h in
+  calls_stack f g w earlier station none others second later before h nothing k clear =
+      let closed = closes_below f w earlier station none before h nothing in
       let fresh = later_is_fresh g w others second later _ k clear in
       let under : (play_batches w (closing_if (run_of rules f).last) (play_batches w (batches_of rules (earlier ++ station ∷ [])) before)).row
       ≡ last_row w (first_row rules before.row (earlier ++ station ∷ [])) (sized_scene rules station).scene + 1 = closed.1.row in

@@ -1,14 +1,14 @@
 -- What a screen shows while the batches of a run are played on it.
-use Rattle.std.specs.Prelude.{◌≡◌, ℕ, ◌+◌, ◌≤◌, Bool, true, false, List, [], ◌∷◌, ◌++◌, map, None, Ok}
+use Rattle.std.specs.Prelude.{◌≡◌, ℕ, ◌+◌, ◌≤◌, Bool, true, false, List, [], ◌∷◌, ◌++◌, map, None, Ok, Err}
 use Rattle.std.specs.List.{list_any, All}
 use Rattle.tw_surface.specs.ChangeView.{Batch}
 use Rattle.tw_surface.specs.Paintings.{Painting}
 use Rattle.tw_surface.specs.Pictures.{Picture}
-use Rattle.tw_surface.specs.Scenes.{Scene}
 use Rattle.tw_surface.specs.Fresh.{IsFresh, IsSameAbove, IsClosed, last_row}
 use Rattle.tw_surface.specs.Shots.{SizedScene, IsPlainAt, play_batches, scenes_of, start_row}
 use Rattle.tw_lineedit.specs.HostRules.{HostRules}
 use Rattle.tw_lineedit.specs.Painting.{scene_of, closing_if}
+use Rattle.tw_lineedit.specs.Refusal.{Refusal}
 use Rattle.tw_lineedit.specs.Run.{Frame, run_of}
 use Rattle.tw_lineedit.specs.Stations.{Station, painting_of, batches_after, stations_of}
 
@@ -62,10 +62,15 @@ module _ {V : Type 0} (rules : HostRules V) where
   abbrev pub first_row : ℕ → List (Station V) → ℕ
   first_row entry stations = start_row entry (scenes_of (map sized_scene stations))
 
-  -- The closing batch after the last station leaves the cursor at column 0 of the row below its fresh painting, all from there on blank, and what is above as it was.
+  -- nothing is rendered at a station: its painting is refused, and the screen was not cleared before it
+  pub record RendersNothing (station : Station V) : Type 0 where
+    pub refused : (r : Refusal) × (painting_of rules station ≡ Err r)
+    pub not_cleared : station.cleared ≡ false
+
+  -- The closing batch after the last station that is painted leaves the cursor at column 0 of the row below its fresh painting, all from there on blank, and what is above as it was; also where the run then ends with the refusal of a painting, at a station at which nothing is rendered.
   abbrev pub ClosesBelow : Frame V → Type 0
-  ClosesBelow f = (w : ℕ) (earlier : List (Station V)) (station : Station V) (before : Picture)
-      → Comes f w earlier station [] before
+  ClosesBelow f = (w : ℕ) (earlier : List (Station V)) (station : Station V) (later : List (Station V)) (before : Picture)
+      → Comes f w earlier station later before → All RendersNothing later
       → let after = play_batches w (batches_of (earlier ++ station ∷ [])) before in
       ((run_of rules f).taken ≡ f.terminal.batches ++ batches_of (earlier ++ station ∷ []))
       × IsClosed w (last_row w (first_row before.row (earlier ++ station ∷ [])) (sized_scene station).scene) after
@@ -73,8 +78,8 @@ module _ {V : Type 0} (rules : HostRules V) where
 
   -- Two calls stack: a second run that clears nothing and enters the screen where the closing batch of a first one left it is fresh under that one's last painting, of which nothing is changed.
   abbrev pub CallsStack : Type 0
-  CallsStack = (f g : Frame V) (w : ℕ) (earlier : List (Station V)) (station : Station V) (others : List (Station V)) (second : Station V) (later : List (Station V)) (before : Picture)
-      → Comes f w earlier station [] before
+  CallsStack = (f g : Frame V) (w : ℕ) (earlier : List (Station V)) (station : Station V) (none : List (Station V)) (others : List (Station V)) (second : Station V) (later : List (Station V)) (before : Picture)
+      → Comes f w earlier station none before → All RendersNothing none
       → let shown = play_batches w (batches_of (earlier ++ station ∷ [])) before in
       let entered = play_batches w (closing_if (run_of rules f).last) shown in
       let under = last_row w (first_row before.row (earlier ++ station ∷ [])) (sized_scene station).scene + 1 in
