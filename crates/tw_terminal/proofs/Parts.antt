@@ -4,7 +4,7 @@ use Rattle.std.proofs.lemmas.List.{take-map, take_min, append-nil}
 use Rattle.tw_surface.specs.declared.change.Change.{Change}
 use Rattle.tw_surface.specs.ChangeView.{Batch, batch_view, change_view}
 use Rattle.tw_terminal.specs.TerminalState.{RenderFails, IsPart}
-use Rattle.tw_terminal.specs.Script.{Script, failed, as_batch, FailsInPart}
+use Rattle.tw_terminal.specs.Script.{Script, failed, as_batch, on_terminal, recorded}
 
 -- changes that are some are one batch
 pub as_batch-map : (changes : List Change) → length changes ≢ 0 → as_batch (batch_view changes) ≡ batch_view changes ∷ []
@@ -32,12 +32,12 @@ IsPart-as_batch (suc n) [] = inl refl
 IsPart-as_batch (suc n) (change ∷ changes) = inr (suc n, refl)
 
 -- a call that fails once it has recorded a beginning
-pub RenderFails-part : (batch : Batch) (old new : Script) → FailsInPart batch old new → RenderFails batch old.terminal new.terminal
-RenderFails-part batch old new (inl same) = record {
-  part = (_, IsPart-as_batch _ batch, ap (λ script. script.terminal.batches) same);
+pub RenderFails-part : (n : ℕ) (batch : Batch) (old new : Script) → new ≡ failed (on_terminal (recorded (as_batch (take n batch))) old)
+    → RenderFails batch old.terminal new.terminal
+RenderFails-part n batch old new same = record {
+  part = (_, IsPart-as_batch n batch, ap (λ script. script.terminal.batches) same);
   rest = rw same refl;
 }
-RenderFails-part batch old new (inr same) = RenderFails-failed batch old new same
 
 -- what a `render` that fails is proved by
 pub ruleset parts = (as_batch-take, RenderFails-failed, RenderFails-part)

@@ -1,5 +1,5 @@
 -- What contracts see of a `ScriptTerminal`: a terminal whose calls are numbered, and the call that is to fail.
-use Rattle.std.specs.Prelude.{◌≡◌, ℕ, ◌+◌, ◌==◌, if◌then◌else◌, List, [], ◌∷◌, ◌++◌, length, take, map, ◌⊎◌, Option, Some, None, IsSome, is_some, unwrap_or, option_and_then}
+use Rattle.std.specs.Prelude.{ℕ, ◌+◌, ◌==◌, if◌then◌else◌, List, [], ◌∷◌, ◌++◌, length, take, map, Option, Some, None, IsSome, is_some, option_and_then}
 use Rattle.std.specs.Global.{Vec}
 use Rattle.tw_surface.specs.declared.change.Change.{Change}
 use Rattle.tw_surface.specs.ChangeView.{Batch, batch_view}
@@ -81,13 +81,18 @@ abbrev pub as_batch : Batch → List Batch
 as_batch [] = []
 as_batch (change ∷ changes) = (change ∷ changes) ∷ []
 
--- the beginning of a batch that the next call takes before it fails
-abbrev pub due_part : Batch → Script → List Batch
-due_part batch script = as_batch (take (unwrap_or (due script) 0) batch)
+-- these changes as one batch, or the first of them where a call is to fail that takes so many
+abbrev pub taken_with : Batch → Option ℕ → List Batch
+taken_with batch None = batch ∷ []
+taken_with batch (Some taken) = as_batch (take taken batch)
 
--- a due `render` fails once it has recorded that beginning, or nothing where memory for it is refused
-abbrev pub FailsInPart : Batch → Script → Script → Type 0
-FailsInPart batch old new = (new ≡ failed (on_terminal (recorded (due_part batch old)) old)) ⊎ (new ≡ failed old)
+-- the batches that a `render` takes: its changes as one batch, or where it is due the beginning that it takes before it fails
+abbrev pub taken_of : Batch → Script → List Batch
+taken_of batch script = taken_with batch (due script)
+
+-- a `render` takes its batches, and fails where it is due
+abbrev pub rendered : Batch → Script → Script
+rendered batch script = called (λ terminal. terminal) (on_terminal (recorded (taken_of batch script)) script)
 
 -- the batches that vectors of changes are
 abbrev pub batches_view : List (Vec Change) → List Batch

@@ -5,7 +5,7 @@ ghost use Rattle.tw_surface.specs.ChangeView.{batch_view};
 ghost use Rattle.tw_input.specs.EventView.{event_view};
 ghost use Rattle.tw_terminal.specs.TerminalState.{Fails, Takes, IsAtEnd, Renders, RenderFails, Flushes};
 ghost use Rattle.tw_terminal.specs.Script.{fresh_script, due, IsDue, counted, on_terminal, failure_counted, failed, called};
-ghost use Rattle.tw_terminal.specs.Script.{polled, all_flushed, recorded, as_batch, FailsInPart, batches_view};
+ghost use Rattle.tw_terminal.specs.Script.{polled, all_flushed, recorded, as_batch, taken_of, rendered, batches_view};
 
 use crate::terminal::{ScreenSize, Terminal, TerminalFault};
 use std::alloc::{AllocError, Global};
@@ -78,7 +78,8 @@ impl ScriptTerminal {
 
     /// Lets the call of this number answer `TerminalFault::Device`, in place of the call that was named
     /// before. Where it is a `render`, the first `taken` of its changes are recorded as a batch, if there are
-    /// any, or nothing is where memory for them is refused. The calls after it go on.
+    /// any; where memory for them is refused nothing is recorded, and the answer is `TerminalFault::Memory`.
+    /// The calls after it go on.
     pub fn fail_at(&mut self, call: usize, taken: usize)
         ensures { self.new ≡ record self.old { fault = Some (record { call = call; taken = taken }) } }
     {
@@ -159,14 +160,17 @@ impl ScriptTerminal {
 
     /// Records the first changes as a batch, if there are any, or nothing where no memory is found.
     #[tactic(auto, using(crate::proofs::Parts::parts))]
-    fn record_part(&mut self, changes: &[Change], taken: usize)
-        ensures { let part = as_batch (take taken (batch_view changes.now)) in
-            (self.new ≡ on_terminal (recorded part) self.old) ⊎ (self.new ≡ self.old) }
+    fn record_part(&mut self, changes: &[Change], taken: usize) -> Result<(), AllocError>
+        ensures ok { OnOk result
+            (self.new ≡ on_terminal (recorded (as_batch (take taken (batch_view changes.now)))) self.old) }
+        ensures err { OnErr result (self.new ≡ self.old) }
+        ensures some { OnErr result (as_batch (take taken (batch_view changes.now)) ≢ []) }
     {
         let part = &changes[..taken.min(changes.len())];
         if !part.is_empty() {
-            let _ = self.record(part);
+            self.record(part)?;
         }
+        Ok(())
     }
 }
 
@@ -220,7 +224,9 @@ impl Terminal for ScriptTerminal {
         Ok(event)
     }
 
-    /// Records the changes as a batch. Where memory is refused, nothing is recorded.
+    /// Records the changes as a batch. The call that is to fail records those that its fault takes, if there are
+    /// any, and answers `Device`. Where memory for what it records is refused, nothing is recorded, and the
+    /// answer is `Memory`.
     #[tactic(auto, using(crate::proofs::Parts::parts))]
     fn render(&mut self, changes: &[Change]) -> Result<(), TerminalFault>
         ensures ok { OnOk result
@@ -228,21 +234,26 @@ impl Terminal for ScriptTerminal {
         ensures err { OnErr result
             (RenderFails (batch_view changes.now) self.old.terminal self.new.terminal) }
 
-        ensures device { (result ≡ Err TerminalFault.Device) ↔ IsDue self.old }
-        ensures script { OnOk result
-            (self.new ≡ called (recorded (batch_view changes.now ∷ [])) self.old) }
+        ensures device { result ≢ Err TerminalFault.Memory →
+            ((result ≡ Err TerminalFault.Device) ↔ IsDue self.old) }
+        ensures script { result ≢ Err TerminalFault.Memory →
+            self.new ≡ rendered (batch_view changes.now) self.old }
         ensures memory { result ≡ Err TerminalFault.Memory → self.new ≡ failed self.old }
-        ensures part { result ≡ Err TerminalFault.Device →
-            FailsInPart (batch_view changes.now) self.old self.new }
+        ensures some { result ≡ Err TerminalFault.Memory →
+            taken_of (batch_view changes.now) self.old ≢ [] }
     {
-        if let Some(taken) = self.count_call() {
-            self.record_part(changes, taken);
-            self.count_failure();
-            return Err(TerminalFault::Device);
-        }
-        if self.record(changes).is_err() {
+        let due = self.count_call();
+        let recorded = match due {
+            Some(taken) => self.record_part(changes, taken),
+            None => self.record(changes),
+        };
+        if recorded.is_err() {
             self.count_failure();
             return Err(TerminalFault::Memory);
+        }
+        if due.is_some() {
+            self.count_failure();
+            return Err(TerminalFault::Device);
         }
         Ok(())
     }
