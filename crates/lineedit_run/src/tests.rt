@@ -8,6 +8,7 @@ mod faults;
 mod histories;
 mod history_replay;
 mod hosts;
+mod idle;
 mod lines;
 mod lookups;
 mod names;

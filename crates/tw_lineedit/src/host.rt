@@ -204,7 +204,7 @@ pub trait LineEditorHost {
 }
 
 /// A host with the default answers and a history in memory.
-#[derive(Drop)]
+#[derive(Debug, Drop)]
 pub struct NopLineEditorHost {
     history: BasicHistory,
 }

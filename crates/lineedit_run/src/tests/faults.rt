@@ -1,8 +1,13 @@
 //! A terminal that fails at one of its calls.
 
 use super::support::{answer_text, expect_readings, terminal_of, terminal_text};
+use std::alloc::Global;
+use std::process::Abort;
 use std::test::Fail;
-use tw_lineedit::{Action, LineEditor, NopLineEditorHost};
+use tw_input::InputEvent;
+use tw_lineedit::{Action, Error, LineEditor, NopLineEditorHost};
+use tw_surface::Change;
+use tw_terminal::{ScreenSize, ScriptTerminal, Terminal, TerminalFault};
 
 const EACH_CALL: &str = "\
 events a Enter
@@ -154,5 +159,87 @@ fn a_refused_repaint_leaves_the_editor(rt: HostRuntime) -> Result<(), Fail> {
     }
     let told = terminal_text(alloc, &terminal)?;
     assert!(rt; told.as_str().starts_with("0 left, 2 flushed, 1 failed\n"));
+    Ok(())
+}
+
+/// A scripted terminal that answers one fault, whatever its script answers.
+#[derive(Drop)]
+struct Faulty {
+    script: ScriptTerminal,
+    fault: TerminalFault,
+}
+
+impl Terminal for Faulty {
+    ghost state = { λ faulty. faulty.script.terminal };
+
+    fn get_screen_size(&mut self) -> Result<ScreenSize, TerminalFault> {
+        self.script.get_screen_size().or(Err(self.fault))
+    }
+
+    fn poll_input(&mut self) -> Result<Option<InputEvent>, TerminalFault> {
+        self.script.poll_input().or(Err(self.fault))
+    }
+
+    fn render(&mut self, changes: &[Change]) -> Result<(), TerminalFault> {
+        self.script.render(changes).or(Err(self.fault))
+    }
+
+    fn flush(&mut self) -> Result<(), TerminalFault> {
+        self.script.flush().or(Err(self.fault))
+    }
+}
+
+/// A terminal that answers this fault at the call of this number.
+fn faulty_at(
+    alloc: Global,
+    events: &str,
+    call: usize,
+    fault: TerminalFault,
+) -> Result<Faulty, Fail> {
+    let mut script = terminal_of(alloc, 80, events)?;
+    script.fail_at(call, 0);
+    Ok(Faulty { script, fault })
+}
+
+fn expect_fault<A: Drop>(
+    rt: &impl Abort,
+    answer: Result<A, Error>,
+    call: usize,
+    wanted: TerminalFault,
+) {
+    match answer {
+        Err(Error::Terminal(fault)) => assert_eq!(rt; fault, wanted, "at {call}"),
+        _ => assert!(rt; false, "no fault at {call}"),
+    }
+}
+
+#[test]
+fn the_answer_is_the_very_fault(rt: HostRuntime) -> Result<(), Fail> {
+    let alloc = rt.alloc();
+    for fault in [TerminalFault::Device, TerminalFault::Memory] {
+        for call in 0..14 {
+            let mut terminal = faulty_at(alloc, "a C-L Enter", call, fault)?;
+            {
+                let mut host = NopLineEditorHost::new(alloc);
+                let mut editor = LineEditor::new(alloc, &mut terminal)?;
+                let answer = editor.read_line(&mut host);
+                expect_fault(&rt, answer, call, fault);
+            }
+            assert_eq!(rt; terminal.script.failures(), 1, "at {call}");
+        }
+    }
+    Ok(())
+}
+
+#[test]
+fn a_refused_repaint_is_the_very_fault(rt: HostRuntime) -> Result<(), Fail> {
+    let alloc = rt.alloc();
+    for fault in [TerminalFault::Device, TerminalFault::Memory] {
+        let mut terminal = faulty_at(alloc, "", 0, fault)?;
+        let mut host = NopLineEditorHost::new(alloc);
+        let mut editor = LineEditor::new(alloc, &mut terminal)?;
+        let answer = editor.apply_action(&mut host, Action::Repaint);
+        expect_fault(&rt, answer, 0, fault);
+    }
     Ok(())
 }

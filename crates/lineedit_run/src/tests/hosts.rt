@@ -4,13 +4,15 @@ ghost use Rattle.std.specs.Prelude.{ℕ, List, refl};
 ghost use Rattle.lineedit_run.specs.ColumnHost.{Placed, column_rules, highlight_own, column_is_plain};
 ghost use Rattle.lineedit_run.specs.ResolvingHost.{resolving_rules, resolve_own, resolving_is_plain};
 
+use super::actions::expect_action;
 use super::histories::told_of;
 use super::support::{case_of, readings_of, terminal_text};
 use std::alloc::{AllocError, Global};
 use std::test::Fail;
 use tw_input::{InputEvent, KeyCode, KeyEvent};
 use tw_lineedit::{
-    Action, BasicHistory, LineEditBuffer, LineEditorHost, OutputElement, OwnAnswers,
+    Action, BasicHistory, LineEditBuffer, LineEditorHost, NopLineEditorHost, OutputElement,
+    OwnAnswers,
 };
 
 /// A host that puts the cursor of every line at one column.
@@ -188,5 +190,54 @@ fn a_host_answers_before_the_key_table(rt: HostRuntime) -> Result<(), Fail> {
         let (answer, _) = readings_of(alloc, &case, &mut ResolvingHost { history })?;
         assert_eq!(rt; answer.as_str(), wanted, "{events}");
     }
+    Ok(())
+}
+
+/// With the cursor in the middle the default answers show the whole line, its cursor behind the columns before
+/// it, and complete nothing.
+#[test]
+fn the_default_answers_know_the_cursor(rt: HostRuntime) -> Result<(), Fail> {
+    let alloc = rt.alloc();
+    let mut host = NopLineEditorHost::new(alloc);
+    for (line, cursor, column) in [
+        ("abc", 0, 0),
+        ("abc", 1, 1),
+        ("abc", 3, 3),
+        ("\u{e9}bc", 2, 1),
+        ("a\u{6f22}c", 4, 3),
+        ("e\u{301}c", 3, 1),
+    ] {
+        assert!(rt; line.is_char_boundary(cursor), "{line:?} at {cursor}");
+        let (elements, shown) = host.highlight_line(alloc, line, cursor)?;
+        assert_eq!(rt; shown, column, "{line:?} at {cursor}");
+        match elements.as_slice() {
+            [OutputElement::Text(text)] => assert_eq!(rt; text.as_str(), line),
+            _ => assert!(rt; false, "{line:?} at {cursor}"),
+        }
+        let candidates = host.complete(alloc, line, cursor)?;
+        assert!(rt; candidates.is_empty(), "{line:?} at {cursor}");
+        let complete = Action::Complete;
+        expect_action(
+            &rt,
+            alloc,
+            &mut host,
+            line,
+            cursor,
+            complete,
+            (0, line, cursor),
+        )?;
+    }
+    Ok(())
+}
+
+#[test]
+fn the_plain_host_shows_its_name(rt: HostRuntime) -> Result<(), Fail> {
+    let alloc = rt.alloc();
+    let host = NopLineEditorHost::new(alloc);
+    let shown = format!(in alloc; "{host:?}")?;
+    assert!(rt;
+        shown.as_str().starts_with("NopLineEditorHost {"),
+        "{shown}"
+    );
     Ok(())
 }
