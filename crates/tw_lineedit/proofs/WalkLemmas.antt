@@ -1,15 +1,15 @@
--- Steps back through the history and as many steps forth give the typed line.
-use Rattle.std.proofs.Common.{◌≡◌, ℕ, zero, suc, ◌+◌, ◌-◌, ◌<◌, ◌≤◌, List, [], ◌∷◌, ◌++◌, length, replicate, Some, None, Ok, IsOkAnd, refl, ap, ◌∙◌, arith}
+-- Steps back through the history and as many steps forth give the typed line, and leave the history.
+use Rattle.std.proofs.Common.{◌≡◌, ℕ, zero, suc, ◌+◌, ◌-◌, ◌<◌, ◌≤◌, List, [], ◌∷◌, ◌++◌, length, replicate, Some, None, Ok, IsOkAnd, refl, sym, ap, ◌∙◌, arith}
 use Rattle.std.proofs.lemmas.Option.{slice_get-get_or, slice_get_past}
 use Rattle.tw_lineedit.specs.Cut.{Cut, at_end}
-use Rattle.tw_lineedit.specs.Near.{line_at, last_index}
+use Rattle.tw_lineedit.specs.Near.{line_at, last_index, last_line}
 use Rattle.tw_lineedit.specs.ActionView.{ActionView, HistoryPrevious, HistoryNext}
 use Rattle.tw_lineedit.specs.HostRules.{HostRules}
 use Rattle.tw_lineedit.specs.EditState.{EditState, ModeView, Inactive, Editing, Cancelled, Accepted, Searching}
 use Rattle.tw_lineedit.specs.HistorySteps.{previous, next}
 use Rattle.tw_lineedit.specs.Searches.{IsSearching}
 use Rattle.tw_lineedit.specs.Steps.{apply, stepped, uncycled}
-use Rattle.tw_lineedit.specs.HistoryLaws.{apply_all, WalksBack}
+use Rattle.tw_lineedit.specs.HistoryLaws.{apply_all, LeavesHistory, WalksBack}
 use Rattle.tw_lineedit.specs.declared.history.SearchDirection.{SearchDirection}
 use Rattle.tw_lineedit.specs.declared.history.SearchDirection.TheVariants.{Backwards, Forwards}
 
@@ -50,8 +50,12 @@ next-held lines s cut i low =
     let e : i + 1 ≡ suc i = omega arith in
     rw (e, slice_get-get_or lines (suc i) [] low) refl
 
--- the step forth behind the last line gives the typed line
-next-last : (lines : List (List ℕ)) (s : EditState) (cut : Cut) (i : ℕ) → length lines ≤ suc i → (next lines (held s cut i)).cut ≡ at_end s.cut.line
+-- the state after a walk: the typed line stands again, and the history is left
+abbrev walked : EditState → EditState
+walked s = record s { cut = at_end s.cut.line; position = None; kept = None; cycle = None }
+
+-- the step forth behind the last line leaves the history
+next-last : (lines : List (List ℕ)) (s : EditState) (cut : Cut) (i : ℕ) → length lines ≤ suc i → uncycled (next lines (held s cut i)) ≡ walked s
 unfolding next
 next-last lines s cut i high =
     let e : i + 1 ≡ suc i = omega arith in
@@ -72,32 +76,50 @@ module _ {V : Type 0} (rules : HostRules V) (v : V) where
   pub IsOkAnd-step : (a : ActionView) (actions : List ActionView) (s t : EditState) (P : EditState → Type 0) → apply rules v a s ≡ Ok t → IsOkAnd (apply_all rules v actions t) P → IsOkAnd (apply_all rules v (a ∷ actions) s) P
   IsOkAnd-step a actions s t P e rest = rw e rest
 
-  -- the steps forth from a line of the history
-  forth : (s : EditState) → ¬ (IsSearching s.mode) → (i p : ℕ) (cut : Cut) → 1 ≤ i → p + i ≡ length (rules.lines v)
-      → IsOkAnd (apply_all rules v (replicate i HistoryNext) (held s cut p)) (λ t. t.cut ≡ at_end s.cut.line)
-  forth s plain zero p cut some ends = absurd (omega arith)
-  forth s plain (suc zero) p cut some ends =
-      IsOkAnd-step HistoryNext [] (held s cut p) _ _ (apply-next (held s cut p) plain) (next-last (rules.lines v) s cut p (omega arith))
-  forth s plain (suc (suc i)) p cut some ends =
-      let on = ap Ok (next-held (rules.lines v) s cut p (omega arith)) in
-      IsOkAnd-step HistoryNext (replicate (suc i) HistoryNext) (held s cut p) _ _ (apply-next (held s cut p) plain ∙ on)
-      (forth s plain (suc i) (suc p) _ (omega arith) (omega arith))
+  module _ (s : EditState) (plain : ¬ (IsSearching s.mode)) (P : EditState → Type 0) (ends : P (walked s)) where
+    -- the steps forth from a line of the history
+    forth : (i p : ℕ) (cut : Cut) → 1 ≤ i → p + i ≡ length (rules.lines v) → IsOkAnd (apply_all rules v (replicate i HistoryNext) (held s cut p)) P
+    forth zero p cut some counts = absurd (omega arith)
+    forth (suc zero) p cut some counts =
+        let on = ap Ok (next-last (rules.lines v) s cut p (omega arith)) in
+        IsOkAnd-step HistoryNext [] (held s cut p) _ _ (apply-next (held s cut p) plain ∙ on) ends
+    forth (suc (suc i)) p cut some counts =
+        let on = ap Ok (next-held (rules.lines v) s cut p (omega arith)) in
+        IsOkAnd-step HistoryNext (replicate (suc i) HistoryNext) (held s cut p) _ _ (apply-next (held s cut p) plain ∙ on)
+        (forth (suc i) (suc p) _ (omega arith) (omega arith))
 
-  -- the steps back from a line of the history, and then the steps forth
-  back : (s : EditState) → ¬ (IsSearching s.mode) → (j i p : ℕ) (cut : Cut) → 1 ≤ i → j ≤ p → p < length (rules.lines v) → p + i ≡ length (rules.lines v) + j
-      → IsOkAnd (apply_all rules v (replicate j HistoryPrevious ++ replicate i HistoryNext) (held s cut p)) (λ t. t.cut ≡ at_end s.cut.line)
-  back s plain zero i p cut some low high ends = forth s plain i p cut some (omega arith)
-  back s plain (suc j) i zero cut some low high ends = absurd (omega arith)
-  back s plain (suc j) i (suc p) cut some low high ends =
-      let on = ap Ok (previous-held (rules.lines v) s cut p (omega arith)) in
-      IsOkAnd-step HistoryPrevious (replicate j HistoryPrevious ++ replicate i HistoryNext) (held s cut (suc p)) _ _ (apply-previous (held s cut (suc p)) plain ∙ on)
-      (back s plain j i p _ some (omega arith) (omega arith) (omega arith))
+    -- the steps back from a line of the history, and then the steps forth
+    back : (j i p : ℕ) (cut : Cut) → 1 ≤ i → j ≤ p → p < length (rules.lines v) → p + i ≡ length (rules.lines v) + j
+        → IsOkAnd (apply_all rules v (replicate j HistoryPrevious ++ replicate i HistoryNext) (held s cut p)) P
+    back zero i p cut some low high counts = forth i p cut some (omega arith)
+    back (suc j) i zero cut some low high counts = absurd (omega arith)
+    back (suc j) i (suc p) cut some low high counts =
+        let on = ap Ok (previous-held (rules.lines v) s cut p (omega arith)) in
+        IsOkAnd-step HistoryPrevious (replicate j HistoryPrevious ++ replicate i HistoryNext) (held s cut (suc p)) _ _ (apply-previous (held s cut (suc p)) plain ∙ on)
+        (back j i p _ some (omega arith) (omega arith) (omega arith))
+
+    -- a whole walk
+    walk : (k : ℕ) → s.position ≡ None → 1 ≤ k → k ≤ length (rules.lines v) → IsOkAnd (apply_all rules v (replicate k HistoryPrevious ++ replicate k HistoryNext) s) P
+    walk zero typed some low = absurd (omega arith)
+    walk (suc k) typed some low =
+        let lines = rules.lines v in
+        let on = ap Ok (previous-first lines s typed (omega arith)) in
+        IsOkAnd-step HistoryPrevious (replicate k HistoryPrevious ++ replicate (suc k) HistoryNext) s _ _ (apply-previous s plain ∙ on)
+        (back k (suc k) (length lines - 1) _ (omega arith) (omega arith) (omega arith) (omega arith))
 
   -- the law of walks
   pub walks : WalksBack rules v
-  walks s zero typed plain some low = absurd (omega arith)
-  walks s (suc k) typed plain some low =
+  walks s k typed plain some low = walk s plain (λ t. t.cut ≡ at_end s.cut.line) refl k typed some low
+
+  -- the first step of a second walk
+  first_again : (s : EditState) → ¬ (IsSearching s.mode) → 1 ≤ length (rules.lines v) → IsOkAnd (apply rules v HistoryPrevious (walked s)) (λ u. Some u.cut.line ≡ last_line (rules.lines v))
+  first_again s plain some =
       let lines = rules.lines v in
-      let on = ap Ok (previous-first lines s typed (omega arith)) in
-      IsOkAnd-step HistoryPrevious (replicate k HistoryPrevious ++ replicate (suc k) HistoryNext) s _ _ (apply-previous s plain ∙ on)
-      (back s plain k (suc k) (length lines - 1) _ (omega arith) (omega arith) (omega arith) (omega arith))
+      let on = apply-previous (walked s) plain ∙ ap Ok (previous-first lines (walked s) refl some) in
+      rw on (sym (slice_get-get_or lines (length lines - 1) [] (omega arith)))
+
+  -- a walk leaves the history
+  pub leaves : LeavesHistory rules v
+  leaves s k typed plain some low =
+      walk s plain (λ t. (t.position ≡ None) × (t.kept ≡ None) × IsOkAnd (apply rules v HistoryPrevious t) (λ u. Some u.cut.line ≡ last_line (rules.lines v)))
+      (refl, refl, first_again s plain (omega arith)) k typed some low

@@ -1,13 +1,11 @@
 -- Steps over words.
 use Rattle.std.proofs.Common.{◌≡◌, ℕ, zero, suc, ◌+◌, ◌-◌, ◌<◌, ◌≤◌, Bool, true, false, not, None, Some, List, length, unwrap_or, refl, sym, ap, subst, ◌∙◌, arith}
-use Rattle.std.proofs.lemmas.Bool.{and_left, and_right, and_from, lt-ltb, le-ltb, cond-true, cond-false, eq-eqb, ne_eqb}
+use Rattle.std.proofs.lemmas.Bool.{and_left, and_right, and_from, lt-ltb, le-ltb}
 use Rattle.std.specs.Prelude.{if◌then◌else◌}
 use Rattle.std.specs.Bool.{beq}
-use Rattle.std.specs.Str.{chars}
 use Rattle.tw_lineedit.specs.Extremes.{least_from, greatest_below}
 use Rattle.tw_lineedit.proofs.ExtremesLemmas.{greatest_below-none}
-use Rattle.tw_lineedit.specs.Words.{is_space, is_no_space, follows_space, word_before, word_after, space_from, word_from, kind_from, word_start}
-use Rattle.tw_lineedit.specs.Indices.{index_of}
+use Rattle.tw_lineedit.specs.Words.{is_space, is_no_space, follows_space, word_before, word_after, space_from, word_from, kind_from}
 
 -- one number less to try, from below
 pub least_from-skip : (p : ℕ → Bool) (from next n : ℕ) → next ≡ from + 1 → from < n → p from ≡ false → least_from p next (n - next) ≡ least_from p from (n - from)
@@ -122,16 +120,6 @@ pub word_before-start : (cs : List ℕ) (q : ℕ) → q ≤ 1 → word_before cs
 unfolding word_before
 word_before-start cs q low =
     ap (λ o. unwrap_or o 0) (greatest_below-none (follows_space cs) q (λ k a b. and_left _ _ (le-ltb 0 k (omega arith))))
-
--- steps back from inside the line start at the cursor
-pub word_start-inside : (text : List ℕ) (at : ℕ) → at < length text → word_start text at ≡ index_of text at
-unfolding word_start
-word_start-inside text at h = cond-false _ _ _ (ne_eqb at (length text) (λ e. omega arith))
-
--- steps back from the end start before the last character
-pub word_start-end : (text : List ℕ) (at : ℕ) → at ≡ length text → word_start text at ≡ length (chars text) - 1
-unfolding word_start
-word_start-end text at h = cond-true _ _ _ (eq-eqb at (length text) h)
 
 -- a search from below stays in its range
 least_from-le : (p : ℕ → Bool) (count from : ℕ) → unwrap_or (least_from p from count) (from + count) ≤ from + count

@@ -2,7 +2,7 @@
 use Rattle.std.specs.Prelude.{⊤, ◌≡◌, ℕ, ◌-◌, ◌≤◌, ◌++◌, min, List, [], ◌∷◌, length, replicate, reverse, filter, slice_get, Option, Some, None, Result, Ok, Err, IsOkAnd}
 use Rattle.tw_lineedit.specs.Cut.{Cut, at_end}
 use Rattle.tw_lineedit.specs.Patterns.{contains, IsFirst}
-use Rattle.tw_lineedit.specs.Near.{near, IsNear}
+use Rattle.tw_lineedit.specs.Near.{near, last_line, IsNear}
 use Rattle.tw_lineedit.specs.ActionView.{ActionView, InsertChar, InsertText, HistoryPrevious, HistoryNext, HistoryIncSearchBackwards}
 use Rattle.tw_lineedit.specs.HostRules.{HostRules}
 use Rattle.tw_lineedit.specs.Refusal.{Refusal}
@@ -51,6 +51,12 @@ module _ {V : Type 0} (rules : HostRules V) (v : V) where
   abbrev pub WalksBack : Type 0
   WalksBack = (s : EditState) (k : ℕ) → s.position ≡ None → ¬ (IsSearching s.mode) → 1 ≤ k → k ≤ length (rules.lines v)
       → IsOkAnd (apply_all (replicate k HistoryPrevious ++ replicate k HistoryNext) s) (λ t. t.cut ≡ at_end s.cut.line)
+
+  -- then there is no position and nothing is kept, so that one more step back shows the last line again
+  abbrev pub LeavesHistory : Type 0
+  LeavesHistory = (s : EditState) (k : ℕ) → s.position ≡ None → ¬ (IsSearching s.mode) → 1 ≤ k → k ≤ length (rules.lines v)
+      → IsOkAnd (apply_all (replicate k HistoryPrevious ++ replicate k HistoryNext) s) (λ t.
+      (t.position ≡ None) × (t.kept ≡ None) × IsOkAnd (apply rules v HistoryPrevious t) (λ u. Some u.cut.line ≡ last_line (rules.lines v)))
 
   -- an insertion while searching backwards, whose pattern some line contains, and k backward searches show the matching lines from the newest on, and then the oldest
   abbrev pub Enumerates : Type 0

@@ -1,6 +1,6 @@
 -- Steps through the history, while not searching.
 use Rattle.std.specs.Prelude.{ℕ, ◌+◌, ◌-◌, List, Option, Some, None, slice_get}
-use Rattle.tw_lineedit.specs.Cut.{at_end, empty_cut}
+use Rattle.tw_lineedit.specs.Cut.{Cut, at_end, empty_cut}
 use Rattle.tw_lineedit.specs.Near.{last_index}
 use Rattle.tw_lineedit.specs.EditState.{EditState}
 
@@ -27,14 +27,18 @@ previous_from lines s None = previous_of_typed lines s (last_index lines)
 unfoldable pub previous : List (List ℕ) → EditState → EditState
 previous lines s = previous_from lines s s.position
 
--- behind the last line: the kept line comes back and is kept no more, or the line is cleared
-abbrev pub restored : EditState → Option (List ℕ) → EditState
-restored s None = record s { cut = empty_cut }
-restored s (Some line) = record s { cut = at_end line; kept = None }
+-- the kept line, or without one the empty line
+abbrev pub kept_cut : Option (List ℕ) → Cut
+kept_cut None = empty_cut
+kept_cut (Some line) = at_end line
 
--- the line of an index comes in, or where there is none the kept one
+-- behind the last line the history is left: the kept line comes back, or the line is cleared; then nothing is kept, and there is no position
+abbrev pub restored : EditState → EditState
+restored s = record s { cut = kept_cut s.kept; position = None; kept = None }
+
+-- the line of an index comes in, or where there is none the history is left
 abbrev pub taken_or_restored : EditState → ℕ → Option (List ℕ) → EditState
-taken_or_restored s i None = restored s s.kept
+taken_or_restored s i None = restored s
 taken_or_restored s i (Some line) = taken s i line
 
 -- the line after a position comes in; without a position nothing does

@@ -5,7 +5,7 @@ use Rattle.tw_lineedit.specs.Cut.{Cut, cut_at}
 use Rattle.tw_lineedit.specs.Extremes.{repeated}
 use Rattle.tw_lineedit.specs.Clusters.{cluster_after, cluster_before}
 use Rattle.tw_lineedit.specs.Indices.{index_of, offset_of}
-use Rattle.tw_lineedit.specs.Words.{word_after, word_before, word_start}
+use Rattle.tw_lineedit.specs.Words.{word_after, word_before}
 use Rattle.tw_lineedit.specs.declared.actions.Movement.{Movement}
 use Rattle.tw_lineedit.specs.declared.actions.Movement.TheVariants as movement
 
@@ -13,7 +13,7 @@ use Rattle.tw_lineedit.specs.declared.actions.Movement.TheVariants as movement
 unfoldable pub destination : Movement → Cut → ℕ
 destination (movement.BackwardChar r) c = repeated (cluster_before c.line) r c.cursor
 destination (movement.ForwardChar r) c = repeated (cluster_after c.line) r c.cursor
-destination (movement.BackwardWord r) c = offset_of c.line (repeated (word_before (chars c.line)) r (word_start c.line c.cursor))
+destination (movement.BackwardWord r) c = offset_of c.line (repeated (word_before (chars c.line)) r (index_of c.line c.cursor))
 destination (movement.ForwardWord r) c = offset_of c.line (repeated (word_after (chars c.line)) r (index_of c.line c.cursor))
 destination movement.StartOfLine c = 0
 destination movement.EndOfLine c = length c.line

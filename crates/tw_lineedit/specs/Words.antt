@@ -1,9 +1,7 @@
 -- Steps over words, by the indices of characters.
-use Rattle.std.specs.Prelude.{ℕ, ◌-◌, Bool, true, false, not, ◌&&◌, ◌==◌, nat_lt, List, length, slice_index, unwrap_or, if◌then◌else◌}
+use Rattle.std.specs.Prelude.{ℕ, ◌-◌, Bool, true, false, not, ◌&&◌, nat_lt, List, length, slice_index, unwrap_or}
 use Rattle.std.specs.Char.{is_whitespace}
-use Rattle.std.specs.Str.{chars}
 use Rattle.tw_lineedit.specs.Extremes.{least_from, greatest_below}
-use Rattle.tw_lineedit.specs.Indices.{index_of}
 
 -- character i is whitespace
 abbrev pub is_space : List ℕ → ℕ → Bool
@@ -37,7 +35,3 @@ kind_from false = word_from
 -- behind the whitespace that ends the word at q
 abbrev pub word_after : List ℕ → ℕ → ℕ
 word_after cs q = word_from cs (space_from cs q)
-
--- where steps back start: the index of the offset, but at the end of the line that of the last character
-unfoldable pub word_start : List ℕ → ℕ → ℕ
-word_start text at = if at == length text then length (chars text) - 1 else index_of text at

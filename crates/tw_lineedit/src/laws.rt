@@ -5,7 +5,7 @@ ghost use Rattle.tw_input.specs.Equality.{ComparesValues, ComparesViews};
 ghost use Rattle.tw_lineedit.specs.Added.{match_view};
 ghost use Rattle.tw_lineedit.specs.KeyTable.{is_same_key, key_table, looked_up, typed};
 ghost use Rattle.tw_lineedit.specs.CompletionLaws.{GoesRound};
-ghost use Rattle.tw_lineedit.specs.HistoryLaws.{Enumerates, FindsFirst, FindsNearest, WalksBack};
+ghost use Rattle.tw_lineedit.specs.HistoryLaws.{Enumerates, FindsFirst, FindsNearest, LeavesHistory, WalksBack};
 ghost use Rattle.tw_lineedit.specs.Laws.{CountsAddUp, OffsetsAreExtremes, WordsAreExtremes};
 ghost use Rattle.tw_lineedit.specs.Patterns.{first};
 ghost use Rattle.tw_lineedit.specs.ScreenRuns.{CallsStack};
@@ -61,9 +61,11 @@ pub fn searches()
     ensures nearest { FindsNearest }
 {}
 
-/// Steps back through a host's history and as many steps forth give the typed line.
+/// Steps back through a host's history and as many steps forth give the typed line, and leave the history: a
+/// second walk begins at the last line again.
 pub fn walk<H: LineEditorHost>()
-    ensures { (v : H.Value) → WalksBack H.rules v }
+    ensures typed { (v : H.Value) → WalksBack H.rules v }
+    ensures left { (v : H.Value) → LeavesHistory H.rules v }
 {}
 
 /// An insertion into a pattern that some line contains, and backward searches behind it, show the lines that

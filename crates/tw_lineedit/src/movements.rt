@@ -11,7 +11,7 @@ ghost use Rattle.tw_lineedit.specs.Text.{bytes_of};
 use crate::actions::{Movement, RepeatCount};
 use crate::clusters::{clusters_after, clusters_before};
 use crate::text::Text;
-use crate::words::{word_after, word_before, word_start};
+use crate::words::{word_after, word_before};
 
 /// A step over words.
 #[derive(Clone, Copy)]
@@ -29,10 +29,7 @@ pub fn destination(line: &Text, cursor: usize, movement: Movement) -> usize
 {
     match movement {
         Movement::BackwardChar(count) => clusters_before(line.as_str(), cursor, count),
-        Movement::BackwardWord(count) => {
-            let start = line.offset_of(word_start(line, cursor));
-            steps_from(line, start, Step::BackwardWord, count)
-        }
+        Movement::BackwardWord(count) => steps_from(line, cursor, Step::BackwardWord, count),
         Movement::ForwardChar(count) => clusters_after(line.as_str(), cursor, count),
         Movement::ForwardWord(count) => steps_from(line, cursor, Step::ForwardWord, count),
         Movement::StartOfLine => 0,

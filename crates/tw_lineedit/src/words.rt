@@ -1,24 +1,10 @@
 //! Steps over words, by the indices of characters.
 
 ghost use Rattle.std.specs.Prelude.{◌≡◌, ◌≤◌, length};
-ghost use Rattle.std.specs.Str.{IsCharBoundary};
-ghost use Rattle.tw_lineedit.specs.Text.{bytes_of, chars_of};
-ghost use Rattle.tw_lineedit.specs.Words.{kind_from, word_after, word_before, word_start};
+ghost use Rattle.tw_lineedit.specs.Text.{chars_of};
+ghost use Rattle.tw_lineedit.specs.Words.{kind_from, word_after, word_before};
 
 use crate::text::Text;
-
-/// Where steps back over words start: at the index of `at`, but before the last character at the
-/// end of the line.
-pub fn word_start(line: &Text, at: usize) -> usize
-    requires { IsCharBoundary (bytes_of line.now) at }
-    ensures index { result ≡ word_start (bytes_of line.now) at }
-    ensures within { result ≤ length (chars_of line.now) }
-{
-    if at < line.len() {
-        return line.index_of(at);
-    }
-    line.count().saturating_sub(1)
-}
 
 /// The start of the word before the index.
 pub fn word_before(line: &Text, index: usize) -> usize

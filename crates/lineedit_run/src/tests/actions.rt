@@ -47,7 +47,7 @@ fn actions_change_the_line(rt: HostRuntime) -> Result<(), Fail> {
     let alloc = rt.alloc();
     let host = &mut NopLineEditorHost::new(alloc);
     let kill_word = Action::Kill(Movement::BackwardWord(1));
-    expect_action(&rt, alloc, host, "a b", 3, kill_word, (0, "", 0))?;
+    expect_action(&rt, alloc, host, "a b", 3, kill_word, (0, "a ", 2))?;
     let kill_next = Action::Kill(Movement::ForwardChar(1));
     expect_action(&rt, alloc, host, "abc", 0, kill_next, (0, "bc", 1))?;
     let delete = Action::KillAndMove(Movement::ForwardChar(1), Movement::None);

@@ -249,7 +249,7 @@ history one
 history two
 events x Up Up Down Down Down Enter
 --
-Some(\"\")
+Some(\"x\")
 ==
 history one
 history two
@@ -261,7 +261,7 @@ history one
 history two
 events x Up Down Up Enter
 --
-Some(\"one\")
+Some(\"two\")
 ==
 history one
 history two
@@ -333,12 +333,19 @@ events C-R l End Down Down Enter
 --
 Some(\"\")
 ==
+history git log
+history ls
+history git push
+events C-R l End Down Down Up Enter
+--
+Some(\"git push\")
+==
 ";
 
 #[test]
 fn a_search_is_left_with_the_matching_line(rt: HostRuntime) -> Result<(), Fail> {
     let cases = expect_both(&rt, rt.alloc(), LEFT)?;
-    assert_eq!(rt; cases, 3);
+    assert_eq!(rt; cases, 4);
     Ok(())
 }
 

@@ -45,8 +45,12 @@ fn assert_cut(rt: &impl Abort, buffer: &LineEditBuffer, line: &str, cursor: usiz
 #[test]
 fn word_steps_go_by_whitespace(rt: HostRuntime) -> Result<(), Fail> {
     let rows = [
-        ("a b", 3, BackwardWord(0), 2),
-        ("a b", 3, BackwardWord(1), 0),
+        ("a b", 3, BackwardWord(0), 3),
+        ("a b", 3, BackwardWord(1), 2),
+        ("a b", 3, BackwardWord(2), 0),
+        ("a", 1, BackwardWord(1), 0),
+        ("foo ", 4, BackwardWord(1), 0),
+        ("foo  ", 5, BackwardWord(1), 4),
         ("hello world", 11, BackwardWord(1), 6),
         ("foo  bar", 8, BackwardWord(1), 5),
         ("foo  bar", 8, BackwardWord(2), 4),
@@ -152,7 +156,7 @@ fn kills_clamp_the_cursor_to_a_boundary(rt: HostRuntime) -> Result<(), Fail> {
         ("hello", 2, EndOfLine, EndOfLine, "he", 2),
         ("hello world", 5, word, Movement::None, " world", 5),
         ("hello world", 5, word, word, " world", 0),
-        ("a b", 3, word, word, "", 0),
+        ("a b", 3, word, word, "a ", 2),
         (
             "xe\u{301}b",
             2,

@@ -80,8 +80,8 @@ impl Session {
         Ok(())
     }
 
-    /// Takes the line after the position. Where there is none, the kept line comes back, or the line is
-    /// cleared. Without a position it does nothing.
+    /// Takes the line after the position, and leaves the history where there is none. Without a position it
+    /// does nothing.
     #[tactic(auto, unfolding(crate::specs::HistorySteps::next))]
     fn history_next<H: LineEditorHost>(&mut self, host: &mut H) -> Result<(), AllocError>
         ensures host { host.new ≡ host.old }
@@ -107,19 +107,21 @@ impl Session {
         Ok(())
     }
 
-    /// The kept line comes back, or the line is cleared.
+    /// Leaves the history: the kept line comes back, or the line is cleared. Where it is refused nothing is
+    /// changed.
     fn restore(&mut self) -> Result<(), AllocError>
-        ensures ok { OnOk result (self.new ≡ on_state (λ s. restored s s.kept) self.old) }
+        ensures ok { OnOk result (self.new ≡ on_state restored self.old) }
         ensures err { OnErr result (self.new ≡ self.old) }
     {
         match &self.kept {
             Some(kept) => {
                 let kept = kept.as_str();
                 self.line.set_line_and_cursor(kept, kept.len())?;
-                self.kept = None;
             }
             None => self.line.clear(),
         }
+        self.kept = None;
+        self.position = None;
         Ok(())
     }
 }

@@ -12,11 +12,10 @@ pub returns-in-BackwardWord-clause-value : goal.returns-in-BackwardWord-clause-v
 unfolding destination
 returns-in-BackwardWord-clause-value c =
     let line = bytes_of c.args.line.now in
-    let start = c.word_start.ensures in
     let keeps : (q : ℕ) → q ≤ length (chars line) → word_before (chars line) q ≤ length (chars line) = λ q low. omega (arith, word_before-le (chars line) q) in
     rw c.in-BackwardWord.is
     (c.steps_from.ensures.value
-    ∙ repeated-from line (IsUtf8-string_bytes c.args.line.now.line) (word_before (chars line)) keeps _ _ _ c.offset_of-start.ensures.boundary (c.offset_of-start.ensures.index ∙ start.index))
+    ∙ repeated-from line (IsUtf8-string_bytes c.args.line.now.line) (word_before (chars line)) keeps _ _ _ c.requires refl)
 
 pub returns-in-ForwardWord-clause-value : goal.returns-in-ForwardWord-clause-value
 unfolding destination
