@@ -1,3 +1,4 @@
 pub mod Numbers
 pub mod Writes
 pub mod Steadiness
+pub mod EscapeLemmas

@@ -1,6 +1,7 @@
 pub mod AskedHost
 pub mod ColumnHost
 pub mod Directives
+pub mod Escapes
 pub mod KeyNames
 pub mod Lines
 pub mod Written

@@ -1,6 +1,7 @@
 -- The host of a session.
 use Rattle.std.specs.Prelude.{◌≡◌, map, string_bytes}
 use Rattle.tw_lineedit.specs.CandidateView.{candidate_view}
+use Rattle.lineedit_run.specs.Escapes.{unescaped}
 use Rattle.lineedit_run.specs.ScriptRules.{Scripted, Remembers, with_candidate, with_preview}
 use Rattle.lineedit_run.specs.declared.script.Directive.{Directive}
 use Rattle.lineedit_run.specs.declared.script.Directive.TheVariants.{Preview, History, Candidate}
@@ -16,7 +17,7 @@ host_of session = record {
 
 -- what a directive does to the host's value
 abbrev pub Obeys : Directive → Scripted → Scripted → Type 0
-Obeys (Preview text) old new = new ≡ with_preview text.now old
+Obeys (Preview text) old new = new ≡ with_preview (unescaped text.now) old
 Obeys (History line) old new = Remembers line.now old new
 Obeys (Candidate range text) old new = new ≡ with_candidate (record { start = range.start; end = range.end; text = text.now }) old
 Obeys _ old new = new ≡ old

@@ -4,6 +4,7 @@
 
 mod answer;
 mod display;
+mod escapes;
 mod fault;
 mod host;
 mod input;

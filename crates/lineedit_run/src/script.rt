@@ -15,7 +15,7 @@ pub enum Directive<'a> {
     Cols(usize),
     /// The prompt from now on.
     Prompt(&'a str),
-    /// The preview from now on, and none where the text is empty.
+    /// The preview from now on, its rows parted by `\n`, and none where the text is empty.
     Preview(&'a str),
     /// One more line of the history.
     History(&'a str),

@@ -5,6 +5,7 @@ ghost use Rattle.lineedit_run.specs.Written.{Extends, IsOutside};
 
 use crate::answer::Answer;
 use crate::display::{play_all, show_screen};
+use crate::escapes::unescape;
 use crate::fault::RunFault;
 use crate::host::read_line;
 use crate::output::put;
@@ -69,7 +70,10 @@ impl Session {
                 self.clear_screen();
             }
             Directive::Prompt(prompt) => self.prompt = String::from_str(self.alloc, prompt)?,
-            Directive::Preview(preview) => self.host.set_preview(preview)?,
+            Directive::Preview(text) => {
+                let preview = unescape(self.alloc, text)?;
+                self.host.set_preview(preview.as_str())?;
+            }
             Directive::History(line) => self.host.remember(line)?,
             Directive::Candidate(range, text) => self.host.offer(range, text)?,
             Directive::Type(text) => self.type_text(text)?,

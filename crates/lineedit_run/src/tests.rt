@@ -12,6 +12,7 @@ mod idle;
 mod lines;
 mod lookups;
 mod names;
+mod previews;
 mod replay;
 mod screens;
 mod scripts;

@@ -232,39 +232,6 @@ cursor 0 2
 end 2 0
 -- ok
 ==
-cols 10
-preview ok
-type x
-key Enter
-read
---
-line x
-|> x       |
-cursor 0 3
-end 1 0
--- ok
-==
-cols 10
-preview ok
-type x
-read
-preview
-type y
-read
---
-line x
-|> x       |
-|ok        |
-cursor 0 3
-end 2 0
-line y
-|> x       |
-|ok        |
-|> y       |
-cursor 2 3
-end 3 0
--- ok
-==
 cols 0
 read
 cols 20
@@ -337,6 +304,19 @@ cursor 1 2
 end 2 0
 -- ok
 ==
+cols 20
+type a b
+key C-W
+type c
+key Enter
+read
+--
+line a c
+|> a c               |
+cursor 0 5
+end 1 0
+-- ok
+==
 ";
 
 /// Runs the cases, and says how many there were.
@@ -359,7 +339,7 @@ pub fn expect_cases(rt: &impl Abort, alloc: Global, cases: &str) -> Result<usize
 
 #[test]
 fn scripts_show_what_the_editor_shows(rt: HostRuntime) -> Result<(), Fail> {
-    assert_eq!(rt; expect_cases(&rt, rt.alloc(), CASES)?, 19);
+    assert_eq!(rt; expect_cases(&rt, rt.alloc(), CASES)?, 18);
     Ok(())
 }
 
