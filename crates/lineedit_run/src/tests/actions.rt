@@ -1,10 +1,12 @@
 //! Actions on a line that is set, and several readings with one editor.
 
-use super::support::{answer_text, batches_text, terminal_of};
+use super::support::{answer_text, batches_text, remember_all, terminal_of};
 use std::alloc::Global;
 use std::process::Abort;
 use std::test::Fail;
-use tw_lineedit::{Action, Error, LineEditor, LineEditorHost, Movement, NopLineEditorHost};
+use tw_lineedit::{
+    Action, BasicHistory, Error, LineEditor, LineEditorHost, Movement, NopLineEditorHost,
+};
 use tw_terminal::ScriptTerminal;
 
 /// Applies an action with an editor. Wanted are the refusal's number, or 0, and the line and cursor then.
@@ -86,6 +88,22 @@ fn end_of_file_leaves_the_line(rt: HostRuntime) -> Result<(), Fail> {
     let alloc = rt.alloc();
     let host = &mut NopLineEditorHost::new(alloc);
     expect_action(&rt, alloc, host, "ab", 1, Action::EndOfFile, (1, "ab", 1))
+}
+
+/// A history that is emptied on the way is left with the typed line.
+#[test]
+fn an_emptied_history_gives_the_typed_line_back(rt: HostRuntime) -> Result<(), Fail> {
+    let alloc = rt.alloc();
+    let host = &mut NopLineEditorHost::new(alloc);
+    remember_all(host, &["one", "two"])?;
+    let mut terminal = terminal_of(alloc, 80, "")?;
+    let mut editor = LineEditor::new(alloc, &mut terminal)?;
+    editor.set_line_and_cursor("x", 1)?;
+    let previous = Action::HistoryPrevious;
+    expect_step(&rt, &mut editor, host, previous, (0, "two", 3));
+    *host.history() = BasicHistory::new(alloc);
+    expect_step(&rt, &mut editor, host, Action::HistoryNext, (0, "x", 1));
+    Ok(())
 }
 
 fn expect_answer(

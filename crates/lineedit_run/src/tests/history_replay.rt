@@ -1,7 +1,7 @@
 //! The answers of the original crate to scripts with a history, walks and searches, played again. They were
 //! made as those of `replay`: termwiz 0.23.3's own line editor, compiled over a small shim, on random scripts
-//! from a fixed seed. Kept are the scripts on which the rules of this editor agree with it; where they differ,
-//! the original panics or goes on. Four of them have a carriage return in a text, which the shim measures as no
+//! from a fixed seed. Kept are the scripts on which the rules of this editor agree with it; docs/DIFFERENCES.md
+//! says where they differ. Four of them have a carriage return in a text, which the shim measures as no
 //! column and this editor as one: those lines are gone before anything is told.
 
 use super::replay::replay;

@@ -1,8 +1,8 @@
 //! The answers of the original crate, played again. They are those of termwiz 0.23.3's own line editor,
 //! compiled over a small shim for the types below it (measuring, key codes, a model screen) and run on random
 //! scripts from a fixed seed. Kept are the scripts on which the rules of this editor agree with it. Left out are
-//! those where they differ (there the original panics or goes on) and those with a carriage return in a text,
-//! which the shim measures as no column and this editor as one.
+//! those where they differ (docs/DIFFERENCES.md says where) and those with a carriage return in a text, which the
+//! shim measures as no column and this editor as one.
 
 use super::scripts::expect_run;
 use std::alloc::Global;
