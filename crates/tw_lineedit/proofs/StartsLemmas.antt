@@ -1,13 +1,16 @@
 -- The starts of characters, and binary digits.
-use Rattle.std.proofs.Common.{◌≡◌, ℕ, zero, suc, ◌+◌, ◌-◌, ◌*◌, ◌^◌, ◌<◌, ◌≤◌, Bool, true, List, [], ◌∷◌, ◌++◌, length, map, take, drop, slice_index, All, unwrap_or, refl, sym, ap, subst, ◌∙◌, arith, ⊎_elim, length-append, length-take-le, append_assoc, take_at, drop_at}
-use Rattle.std.proofs.lemmas.Bool.{lt-ltb, ltb-true, cases_lt, cases_eq, cases_Bool}
+use Rattle.std.proofs.Common.{◌≡◌, ℕ, zero, suc, ◌+◌, ◌-◌, ◌^◌, ◌<◌, ◌≤◌, Bool, true, List, [], ◌∷◌, ◌++◌, length, map, take, drop, slice_index, All, unwrap_or, refl, sym, ap, subst, ◌∙◌, arith, ⊎_elim, length-append, length-take-le, append_assoc, take_at, drop_at}
+use Rattle.std.proofs.lemmas.Bool.{lt-ltb, ltb-true, cases_lt, cases_eq, cases_Bool, false≢true}
 use Rattle.std.proofs.lemmas.List.Kept.{AllPairs-from_increasing}
-use Rattle.std.proofs.Math.Nat.{pow-suc, mul_assoc, two-mul, mul-le-mul_left, le-mul_of_pos_right}
-use Rattle.std.proofs.Math.Pow.{pow-lt, pow_mono}
-use Rattle.std.proofs.lemmas.List.{take-append-drop, get_or_default}
+use Rattle.std.proofs.Math.ListN.{get_or-append}
+use Rattle.std.proofs.Math.Nat.{pow-suc}
+use Rattle.std.proofs.Math.Pow.{pow-lt}
+use Rattle.std.proofs.Math.Seq.{get_or-append_seam}
+use Rattle.std.proofs.lemmas.List.{take-append-drop, get_or_default, get_or-append-add}
+use Rattle.std.proofs.lemmas.List.FromFn.{length-map-range_with_len, get_or-map-range_with_len}
 use Rattle.std.proofs.lemmas.Str.{chars-append, chars-nil, chars_past_char, encodes-chars, scalars-chars, IsCharBoundary-from_take, IsUtf8-append, IsUtf8-take}
 use Rattle.std.specs.Prelude.{encode_utf8, encode_utf8_all, nat_lt}
-use Rattle.std.specs.List.{insert_slice, remove_range}
+use Rattle.std.specs.List.{insert_slice, remove_range, range_with_len}
 use Rattle.std.specs.Str.{chars, IsUtf8, IsCharBoundary}
 use Rattle.std.specs.List.Sorted.{IsStrictlyIncreasing}
 use Rattle.unicode_segmentation.proofs.TextLemmas.{encode_utf8_nonempty}
@@ -18,146 +21,76 @@ use Rattle.tw_lineedit.specs.Starts.{starts_from, starts_of, binary_digits}
 use Rattle.tw_lineedit.proofs.BoundaryLemmas.{boundary_below-is}
 use Rattle.tw_lineedit.proofs.IndexLemmas.{front_is, index_of-le, offset_of-index, offset_of-le, offset_of-whole, scalars-take}
 
+-- two lists of the same values
+map-shifted : (f g : ℕ → ℕ) → ((k : ℕ) → f (suc k) ≡ g k) → (from n : ℕ) → map f (range_with_len (suc from) n) ≡ map g (range_with_len from n)
+map-shifted f g same from zero = refl
+map-shifted f g same from (suc n) =
+    let e : suc from + 1 ≡ suc (from + 1) = omega arith in
+    ap (λ x. x ∷ map f (range_with_len (suc from + 1) n)) (same from) ∙ ap (λ t. g from ∷ t) (ap (λ m. map f (range_with_len m n)) e ∙ map-shifted f g same (from + 1) n)
+
+-- nothing starts where there are no characters
+starts_from-nil : (at : ℕ) → starts_from at [] ≡ []
+unfolding starts_from
+starts_from-nil at = refl
+
+-- the first character starts at `at`, and the others behind it
+starts_from-cons : (at c : ℕ) (cs : List ℕ) → starts_from at (c ∷ cs) ≡ at ∷ starts_from (at + length (encode_utf8 c)) cs
+unfolding starts_from
+starts_from-cons at c cs =
+    let f : ℕ → ℕ = λ k. at + length (encode_utf8_all (take k (c ∷ cs))) in
+    let first : at + 0 ≡ at = omega arith in
+    ap (λ n. n ∷ map f (range_with_len 1 (length cs))) first
+    ∙ ap (λ t. at ∷ t) (map-shifted f (λ k. at + length (encode_utf8 c) + length (encode_utf8_all (take k cs)))
+    (λ k. omega (arith, length-append (encode_utf8 c) (encode_utf8_all (take k cs)))) 0 (length cs))
+
 -- as many starts as characters
 pub length-starts_from : (at : ℕ) (cs : List ℕ) → length (starts_from at cs) ≡ length cs
 unfolding starts_from
-length-starts_from at [] = refl
-length-starts_from at (c ∷ cs) = ap suc (length-starts_from (at + length (encode_utf8 c)) cs)
-
--- one character stands behind the others
-pub starts_from-append : (at : ℕ) (cs ds : List ℕ) → starts_from at (cs ++ ds) ≡ starts_from at cs ++ starts_from (at + length (encode_utf8_all cs)) ds
-unfolding starts_from
-starts_from-append at [] ds = let e : at + 0 ≡ at = omega arith in ap (λ n. starts_from n ds) (sym e)
-starts_from-append at (c ∷ cs) ds =
-    let e : at + length (encode_utf8 c) + length (encode_utf8_all cs) ≡ at + length (encode_utf8_all (c ∷ cs)) =
-    omega (arith, length-append (encode_utf8 c) (encode_utf8_all cs)) in
-    ap (λ t. at ∷ t) (starts_from-append (at + length (encode_utf8 c)) cs ds ∙ ap (λ n. starts_from (at + length (encode_utf8 c)) cs ++ starts_from n ds) e)
-
--- the same characters, standing later
-pub starts_from-raised : (at by : ℕ) (cs : List ℕ) → map (λ n. n + by) (starts_from at cs) ≡ starts_from (at + by) cs
-unfolding starts_from
-starts_from-raised at by [] = refl
-starts_from-raised at by (c ∷ cs) =
-    let e : at + length (encode_utf8 c) + by ≡ at + by + length (encode_utf8 c) = omega arith in
-    ap (λ t. (at + by) ∷ t) (starts_from-raised (at + length (encode_utf8 c)) by cs ∙ ap (λ n. starts_from n cs) e)
-
--- the same characters, standing earlier
-pub starts_from-lowered : (at by : ℕ) (cs : List ℕ) → map (λ n. n - by) (starts_from (at + by) cs) ≡ starts_from at cs
-unfolding starts_from
-starts_from-lowered at by [] = refl
-starts_from-lowered at by (c ∷ cs) =
-    let here : at + by - by ≡ at = omega arith in
-    let e : at + by + length (encode_utf8 c) ≡ at + length (encode_utf8 c) + by = omega arith in
-    ap (λ n. n ∷ map (λ k. k - by) (starts_from (at + by + length (encode_utf8 c)) cs)) here
-    ∙ ap (λ t. at ∷ t) (ap (λ n. map (λ k. k - by) (starts_from n cs)) e ∙ starts_from-lowered (at + length (encode_utf8 c)) by cs)
+length-starts_from at cs = length-map-range_with_len _ 0 (length cs)
 
 -- where the character of an index starts
 pub slice_index-starts_from : (at : ℕ) (cs : List ℕ) (k : ℕ) → k < length cs → slice_index (starts_from at cs) k ≡ at + length (encode_utf8_all (take k cs))
 unfolding starts_from
-slice_index-starts_from at [] k h = absurd (omega arith)
-slice_index-starts_from at (c ∷ cs) zero h = omega arith
-slice_index-starts_from at (c ∷ cs) (suc k) h =
-    omega (arith, slice_index-starts_from (at + length (encode_utf8 c)) cs k (omega arith), length-append (encode_utf8 c) (encode_utf8_all (take k cs)))
+slice_index-starts_from at cs k low = get_or-map-range_with_len _ 0 (length cs) k k 0 low (omega arith)
 
--- each character starts behind the one before
-pub IsStrictlyIncreasing-starts_from : (at : ℕ) (cs : List ℕ) → IsStrictlyIncreasing (starts_from at cs)
-unfolding starts_from
-IsStrictlyIncreasing-starts_from at [] = λ k h. absurd (omega arith)
-IsStrictlyIncreasing-starts_from at (c ∷ cs) = λ k h. increasing_from at c cs k (IsStrictlyIncreasing-starts_from (at + length (encode_utf8 c)) cs) h
-  where
-    increasing_from : (at c : ℕ) (cs : List ℕ) (k : ℕ) → IsStrictlyIncreasing (starts_from (at + length (encode_utf8 c)) cs) → k + 1 < length (starts_from at (c ∷ cs))
-        → slice_index (starts_from at (c ∷ cs)) k < slice_index (starts_from at (c ∷ cs)) (k + 1)
-    increasing_from at c [] k rest h = absurd (omega arith)
-    increasing_from at c (d ∷ cs) zero rest h = let some = encode_utf8_nonempty c in omega arith
-    increasing_from at c (d ∷ cs) (suc k) rest h =
-        let next : suc k + 1 ≡ suc (k + 1) = omega arith in
-        let later = starts_from (at + length (encode_utf8 c)) (d ∷ cs) in
-        rw next (rest k (omega arith))
+-- some characters stand behind the others
+pub starts_from-append : (at : ℕ) (cs ds : List ℕ) → starts_from at (cs ++ ds) ≡ starts_from at cs ++ starts_from (at + length (encode_utf8_all cs)) ds
+starts_from-append at [] ds =
+    let e : at ≡ at + 0 = omega arith in
+    ap (λ n. starts_from n ds) e ∙ ap (λ t. t ++ starts_from (at + 0) ds) (sym (starts_from-nil at))
+starts_from-append at (c ∷ cs) ds =
+    let behind = at + length (encode_utf8 c) in
+    let e : behind + length (encode_utf8_all cs) ≡ at + length (encode_utf8_all (c ∷ cs)) =
+    omega (arith, length-append (encode_utf8 c) (encode_utf8_all cs)) in
+    starts_from-cons at c (cs ++ ds)
+    ∙ ap (λ t. at ∷ t) (starts_from-append behind cs ds ∙ ap (λ n. starts_from behind cs ++ starts_from n ds) e)
+    ∙ ap (λ t. t ++ starts_from (at + length (encode_utf8_all (c ∷ cs))) ds) (sym (starts_from-cons at c cs))
 
--- numbers that rise are below what the last of them is below
-pub below_up_to : (xs : List ℕ) (m at : ℕ) → IsStrictlyIncreasing xs → m < length xs → slice_index xs m < at → (k : ℕ) → k < m + 1 → slice_index xs k < at
-below_up_to xs m at rises inside low k h =
-    ⊎_elim (λ same. rw same low) (λ other. let step = AllPairs-from_increasing xs rises k m 0 (omega arith) inside in omega arith) (cases_eq k m)
+-- the same characters, standing later
+pub starts_from-raised : (at by : ℕ) (cs : List ℕ) → map (λ n. n + by) (starts_from at cs) ≡ starts_from (at + by) cs
+starts_from-raised at by [] = ap (map (λ n. n + by)) (starts_from-nil at) ∙ sym (starts_from-nil (at + by))
+starts_from-raised at by (c ∷ cs) =
+    let behind = at + length (encode_utf8 c) in
+    let e : behind + by ≡ at + by + length (encode_utf8 c) = omega arith in
+    ap (map (λ n. n + by)) (starts_from-cons at c cs) ∙ ap (λ t. (at + by) ∷ t) (starts_from-raised behind by cs ∙ ap (λ n. starts_from n cs) e)
+    ∙ sym (starts_from-cons (at + by) c cs)
 
--- and they are not below what the first of them is not below
-pub not_below_from : (xs : List ℕ) (m at : ℕ) → IsStrictlyIncreasing xs → at ≤ slice_index xs m → (k : ℕ) → m ≤ k → k < length xs → at ≤ slice_index xs k
-not_below_from xs m at rises high k h inside =
-    ⊎_elim (λ same. rw same high) (λ other. let step = AllPairs-from_increasing xs rises m k 0 (omega arith) inside in omega arith) (cases_eq k m)
+-- numbers that are raised and lowered again
+map-lowered : (by : ℕ) (xs : List ℕ) → map (λ n. n - by) (map (λ n. n + by) xs) ≡ xs
+map-lowered by [] = refl
+map-lowered by (x ∷ xs) =
+    let e : x + by - by ≡ x = omega arith in
+    ap (λ n. n ∷ map (λ m. m - by) (map (λ m. m + by) xs)) e ∙ ap (λ t. x ∷ t) (map-lowered by xs)
 
--- a number is below the power of two with so many digits
-below_power : (n : ℕ) → n < 2 ^ n
-below_power zero = omega arith
-below_power (suc n) = let low = below_power n in let step = pow-lt {i = n} {j = suc n} (omega arith) in omega arith
-
--- what the least number is, where the one in its place passes too
-least_from-passes : (p : ℕ → Bool) (count from d : ℕ) → p d ≡ true → p (unwrap_or (least_from p from count) d) ≡ true
-unfolding least_from
-least_from-passes p zero from d passes = passes
-least_from-passes p (suc count) from d passes =
-    ⊎_elim (λ here. rw here here) (λ not_here. rw not_here (least_from-passes p count (suc from) d passes)) (cases_Bool (p from))
-
--- a number is below the power of two of its number of digits
-below_digits : (n : ℕ) → n < 2 ^ binary_digits n
-unfolding binary_digits
-below_digits n = ltb-true n _ (least_from-passes (λ d. nat_lt n (2 ^ d)) (n + 1) 0 n (lt-ltb n (2 ^ n) (below_power n)))
-
--- a count of halvings that left something before the last one
-pub few_digits : (n count : ℕ) → (0 < count → 2 ^ (count - 1) ≤ n) → count ≤ binary_digits n
-few_digits n count halved =
-    ⊎_elim
-    (λ high. let half = halved (omega arith) in let power = pow_mono {i = binary_digits n} {j = count - 1} (omega arith) in let below = below_digits n in absurd (omega arith))
-    (λ low. low)
-    (cases_lt (binary_digits n) count)
-
-twice : (p n : ℕ) → p * 2 * n ≡ p * (n + n)
-twice p n = mul_assoc p 2 n ∙ ap (λ m. p * m) (two-mul n)
-
--- what is left is halved
-pub halved_again : (count left half n : ℕ) → 2 ^ count * left ≤ n → half + half ≤ left → 2 ^ (count + 1) * half ≤ n
-halved_again count left half n h e =
-    let suc_is : count + 1 ≡ suc count = omega arith in
-    let power : 2 ^ (count + 1) * half ≡ 2 ^ count * (half + half) = ap (λ k. 2 ^ k * half) suc_is ∙ ap (λ p. p * half) (pow-suc 2 count) ∙ twice (2 ^ count) half in
-    let both = mul-le-mul_left {m = half + half} {n = left} (2 ^ count) e in
-    rw power (omega arith)
-
--- something is left
-pub power_within : (count left n : ℕ) → 2 ^ count * left ≤ n → 0 < left → 2 ^ count ≤ n
-power_within count left n h some = let low = le-mul_of_pos_right {m = left} (2 ^ count) some in omega arith
-
--- so often can no number be halved
-pub count_fits : (count left n : ℕ) → 2 ^ count * left ≤ n → 0 < left → n < 2 ^ 64 → count < 64
-count_fits count left n h some fits =
-    ⊎_elim (λ low. low) (λ high. let power = pow_mono {i = 64} {j = count} high in let within = power_within count left n h some in absurd (omega arith)) (cases_lt count 64)
-
--- the starts of a text that begins with a character
-pub starts_from-char : (at c : ℕ) (bs rest : List ℕ) → IsUtf8 bs → bs ≡ encode_utf8 c ++ rest → starts_from at (chars bs) ≡ at ∷ starts_from (at + length (encode_utf8 c)) (chars rest)
-unfolding starts_from
-starts_from-char at c bs rest u e = ap (starts_from at) (chars_past_char bs rest c u e)
-
--- it has a character more than what follows
-pub length-chars_past_char : (c : ℕ) (bs rest : List ℕ) → IsUtf8 bs → bs ≡ encode_utf8 c ++ rest → length (chars bs) ≡ length (chars rest) + 1
-length-chars_past_char c bs rest u e = let more = ap length (chars_past_char bs rest c u e) in omega arith
-
--- nothing starts in the empty text
-pub starts_from-none : (at : ℕ) (bs : List ℕ) → bs ≡ [] → starts_from at (chars bs) ≡ []
-unfolding starts_from
-starts_from-none at bs e = ap (λ t. starts_from at (chars t)) e ∙ ap (starts_from at) chars-nil
-
--- the starts of a text in two parts
-pub starts_from-text : (at : ℕ) (a b : List ℕ) → IsUtf8 a → starts_from at (chars (a ++ b)) ≡ starts_from at (chars a) ++ starts_from (at + length a) (chars b)
-starts_from-text at a b u =
-    ap (starts_from at) (chars-append a b u) ∙ starts_from-append at (chars a) (chars b)
-    ∙ ap (λ t. starts_from at (chars a) ++ starts_from (at + length t) (chars b)) (encodes-chars a u)
+-- the same characters, standing earlier
+pub starts_from-lowered : (at by : ℕ) (cs : List ℕ) → map (λ n. n - by) (starts_from (at + by) cs) ≡ starts_from at cs
+starts_from-lowered at by cs = ap (map (λ n. n - by)) (sym (starts_from-raised at by cs)) ∙ map-lowered by (starts_from at cs)
 
 -- no character starts before the first one
 pub starts_from-above : (at : ℕ) (cs : List ℕ) → All (λ n. at ≤ n) (starts_from at cs)
-unfolding starts_from
-starts_from-above at [] = λ k d h. absurd (omega arith)
-starts_from-above at (c ∷ cs) = λ k d h. first at c cs (starts_from-above (at + length (encode_utf8 c)) cs) k d h
-  where
-    first : (at c : ℕ) (cs : List ℕ) → All (λ n. at + length (encode_utf8 c) ≤ n) (starts_from (at + length (encode_utf8 c)) cs) → All (λ n. at ≤ n) (starts_from at (c ∷ cs))
-    first at c cs rest zero d h = omega arith
-    first at c cs rest (suc k) d h = let later = rest k d (omega arith) in omega arith
+starts_from-above at cs k d h =
+    let start = slice_index-starts_from at cs k (omega (arith, length-starts_from at cs)) in
+    subst (λ n. at ≤ n) (sym (get_or_default (starts_from at cs) k d 0 h)) (omega arith)
 
 -- fewer characters take fewer bytes
 encodes_rise : (cs : List ℕ) (i j : ℕ) → i < j → j ≤ length cs → length (encode_utf8_all (take i cs)) < length (encode_utf8_all (take j cs))
@@ -171,6 +104,131 @@ encodes_rise (c ∷ cs) (suc i) (suc j) low within =
       length-append (encode_utf8 c) (encode_utf8_all (take i cs)),
       length-append (encode_utf8 c) (encode_utf8_all (take j cs)),
     )
+
+-- each character starts behind the one before
+pub IsStrictlyIncreasing-starts_from : (at : ℕ) (cs : List ℕ) → IsStrictlyIncreasing (starts_from at cs)
+IsStrictlyIncreasing-starts_from at cs k h =
+    let inside : k + 1 < length cs = omega (arith, length-starts_from at cs) in
+    omega (
+      arith,
+      slice_index-starts_from at cs k (omega arith),
+      slice_index-starts_from at cs (k + 1) inside,
+      encodes_rise cs k (k + 1) (omega arith) (omega arith),
+    )
+
+-- rising numbers, cut before and behind one of them
+module _ (starts front later : List ℕ) (middle at : ℕ) (whole : starts ≡ front ++ middle ∷ later) (rises : IsStrictlyIncreasing starts) where
+  -- how many there are
+  parts : length starts ≡ length front + 1 + length later
+  parts = omega (arith, ap length whole, length-append front (middle ∷ later))
+
+  -- the one in the middle
+  at_middle : slice_index starts (length front) ≡ middle
+  at_middle = ap (λ s. slice_index s (length front)) whole ∙ get_or-append_seam front middle later 0
+
+  -- those behind it
+  at_later : (i k : ℕ) → i ≡ length front + 1 + k → slice_index starts i ≡ slice_index later k
+  at_later i k e =
+      let place : i ≡ length front + suc k = omega arith in
+      ap (slice_index starts) place ∙ ap (λ s. slice_index s (length front + suc k)) whole ∙ get_or-append-add front (middle ∷ later) (suc k) 0
+
+  -- one that stands before another is less
+  less_before : (i j : ℕ) → i < j → j < length starts → slice_index starts i < slice_index starts j
+  less_before i j low inside = AllPairs-from_increasing starts rises i j 0 low inside
+
+  -- those behind the middle rise
+  pub later_rises : IsStrictlyIncreasing later
+  later_rises k h =
+      let step = less_before (length front + 1 + k) (length front + 1 + (k + 1)) (omega arith) (omega (arith, parts)) in
+      omega (arith, at_later (length front + 1 + k) k (omega arith), at_later (length front + 1 + (k + 1)) (k + 1) (omega arith))
+
+  -- where the middle is below a number, all up to it are, and so many behind it
+  pub below_later : middle < at → (count : ℕ) → ((k : ℕ) → k < count → slice_index later k < at) → (k : ℕ) → k < length front + 1 + count → slice_index starts k < at
+  below_later low count below k h =
+      ⊎_elim
+      (λ behind. omega (arith, at_later k (k - (length front + 1)) (omega arith), below (k - (length front + 1)) (omega arith)))
+      (λ up_to. ⊎_elim (λ same. omega (arith, ap (slice_index starts) same, at_middle)) (λ other. omega (arith, less_before k (length front) (omega arith) (omega (arith, parts)), at_middle)) (cases_eq k (length front)))
+      (cases_lt (length front) k)
+
+  -- the others are not
+  pub rest_later : (count : ℕ) → ((k : ℕ) → count ≤ k → k < length later → at ≤ slice_index later k)
+      → (k : ℕ) → length front + 1 + count ≤ k → k < length starts → at ≤ slice_index starts k
+  rest_later count rest k low inside =
+      omega (arith, at_later k (k - (length front + 1)) (omega arith), rest (k - (length front + 1)) (omega arith) (omega (arith, parts)))
+
+  -- where the middle is not below it, none behind is
+  pub rest_front : at ≤ middle → (count : ℕ) → ((k : ℕ) → count ≤ k → k < length front → at ≤ slice_index front k)
+      → (k : ℕ) → count ≤ k → k < length starts → at ≤ slice_index starts k
+  rest_front high count rest k low inside =
+      ⊎_elim
+      (λ before. omega (arith, ap (λ s. slice_index s k) whole, get_or-append front (middle ∷ later) 0 k before, rest k low before))
+      (λ from. ⊎_elim (λ same. omega (arith, ap (slice_index starts) same, at_middle)) (λ other. omega (arith, less_before (length front) k (omega arith) inside, at_middle)) (cases_eq k (length front)))
+      (cases_lt k (length front))
+
+-- a number is below the power of two of itself
+below_power : (n : ℕ) → n < 2 ^ n
+below_power zero = omega arith
+below_power (suc n) = let low = below_power n in let step = pow-lt {i = n} {j = suc n} (omega arith) in omega arith
+
+-- what the least number is, where the one in its place passes too
+least_from-passes : (p : ℕ → Bool) (count from d : ℕ) → p d ≡ true → p (unwrap_or (least_from p from count) d) ≡ true
+unfolding least_from
+least_from-passes p zero from d passes = passes
+least_from-passes p (suc count) from d passes =
+    ⊎_elim (λ here. rw here here) (λ not_here. rw not_here (least_from-passes p count (suc from) d passes)) (cases_Bool (p from))
+
+-- the least number is not above one of the range that passes
+least_from-least : (p : ℕ → Bool) (count from d n : ℕ) → from ≤ n → n < from + count → p n ≡ true → unwrap_or (least_from p from count) d ≤ n
+unfolding least_from
+least_from-least p zero from d n low high passes = absurd (omega arith)
+least_from-least p (suc count) from d n low high passes =
+    ⊎_elim
+    (λ here. rw here low)
+    (λ not_here. ⊎_elim
+    (λ same. absurd (false≢true (sym not_here ∙ ap p same ∙ passes)))
+    (λ other. rw not_here (least_from-least p count (suc from) d n (omega arith) (omega arith) passes))
+    (cases_eq from n))
+    (cases_Bool (p from))
+
+-- a number is below the power of two of its number of digits
+below_digits : (n : ℕ) → n < 2 ^ binary_digits n
+unfolding binary_digits
+below_digits n = ltb-true n _ (least_from-passes (λ d. nat_lt n (2 ^ d)) (n + 1) 0 n (lt-ltb n (2 ^ n) (below_power n)))
+
+-- no number has more digits than a power of two above it says
+pub binary_digits-le : (n d : ℕ) → n < 2 ^ d → binary_digits n ≤ d
+unfolding binary_digits
+binary_digits-le n d low =
+    ⊎_elim
+    (λ small. least_from-least (λ e. nat_lt n (2 ^ e)) (n + 1) 0 n d (omega arith) (omega arith) (lt-ltb n (2 ^ d) low))
+    (λ great. let own = least_from-least (λ e. nat_lt n (2 ^ e)) (n + 1) 0 n n (omega arith) (omega arith) (lt-ltb n (2 ^ n) (below_power n)) in omega arith)
+    (cases_lt d (n + 1))
+
+-- a half of a number has a digit less
+half_below : (d half n : ℕ) → n < 2 ^ d → half + half ≤ n → 0 < n → binary_digits half + 1 ≤ d
+half_below zero half n low halved some = absurd (omega arith)
+half_below (suc d) half n low halved some = let digits = binary_digits-le half d (omega (arith, pow-suc 2 d)) in omega arith
+
+pub binary_digits-half : (half n : ℕ) → half + half ≤ n → 0 < n → binary_digits half + 1 ≤ binary_digits n
+binary_digits-half half n halved some = half_below (binary_digits n) half n (below_digits n) halved some
+
+-- the starts of a text that begins with a character
+pub starts_from-char : (at c : ℕ) (bs rest : List ℕ) → IsUtf8 bs → bs ≡ encode_utf8 c ++ rest → starts_from at (chars bs) ≡ at ∷ starts_from (at + length (encode_utf8 c)) (chars rest)
+starts_from-char at c bs rest u e = ap (starts_from at) (chars_past_char bs rest c u e) ∙ starts_from-cons at c (chars rest)
+
+-- it has a character more than what follows
+pub length-chars_past_char : (c : ℕ) (bs rest : List ℕ) → IsUtf8 bs → bs ≡ encode_utf8 c ++ rest → length (chars bs) ≡ length (chars rest) + 1
+length-chars_past_char c bs rest u e = let more = ap length (chars_past_char bs rest c u e) in omega arith
+
+-- nothing starts in the empty text
+pub starts_from-none : (at : ℕ) (bs : List ℕ) → bs ≡ [] → starts_from at (chars bs) ≡ []
+starts_from-none at bs e = ap (λ t. starts_from at (chars t)) e ∙ ap (starts_from at) chars-nil ∙ starts_from-nil at
+
+-- the starts of a text in two parts
+pub starts_from-text : (at : ℕ) (a b : List ℕ) → IsUtf8 a → starts_from at (chars (a ++ b)) ≡ starts_from at (chars a) ++ starts_from (at + length a) (chars b)
+starts_from-text at a b u =
+    ap (starts_from at) (chars-append a b u) ∙ starts_from-append at (chars a) (chars b)
+    ∙ ap (λ t. starts_from at (chars a) ++ starts_from (at + length t) (chars b)) (encodes-chars a u)
 
 module _ (text : List ℕ) (u : IsUtf8 text) where
   -- where the character of an index starts

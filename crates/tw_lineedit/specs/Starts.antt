@@ -1,12 +1,12 @@
 -- The byte offsets at which the characters of a text start, and the digits of a number.
-use Rattle.std.specs.Prelude.{ℕ, ◌+◌, ◌^◌, nat_lt, List, [], ◌∷◌, length, encode_utf8, unwrap_or}
+use Rattle.std.specs.Prelude.{ℕ, ◌+◌, ◌^◌, nat_lt, List, length, map, take, encode_utf8_all, unwrap_or}
+use Rattle.std.specs.List.{range_with_len}
 use Rattle.std.specs.Str.{chars}
 use Rattle.tw_lineedit.specs.Extremes.{least_from}
 
--- the offsets at which these characters start where they stand one after the other from `at` on
+-- the offsets at which these characters start where they stand one after the other from `at` on: each stands behind those before it
 unfoldable pub starts_from : ℕ → List ℕ → List ℕ
-starts_from at [] = []
-starts_from at (c ∷ cs) = at ∷ starts_from (at + length (encode_utf8 c)) cs
+starts_from at cs = map (λ k. at + length (encode_utf8_all (take k cs))) (range_with_len 0 (length cs))
 
 -- the offsets at which the characters of the text start
 abbrev pub starts_of : List ℕ → List ℕ

@@ -94,7 +94,7 @@ impl LineEditBuffer {
         ensures some { 0 < length (chars self.now.line) → 0 < result.1 }
         ensures few { result.1 ≤ binary_digits (length (chars self.now.line)) }
     {
-        self.line.find(self.cursor)
+        self.line.find_index(self.cursor)
     }
 
     /// Empties the line. It keeps the memory.

@@ -16,8 +16,8 @@ fn is_below(offset: usize, at: usize, comparisons: &mut u32) -> bool
     offset < at
 }
 
-/// How many of the rising offsets are below `at`, and how many comparisons found it. Each
-/// comparison halves what is left.
+/// How many of the rising offsets are below `at`, and how many comparisons found it. One comparison
+/// with the middle offset leaves a half to be searched.
 pub fn count_below(starts: &[usize], at: usize) -> (usize, u32)
     requires { IsStrictlyIncreasing starts.now }
     ensures within { result.0 ≤ length starts.now }
@@ -26,18 +26,18 @@ pub fn count_below(starts: &[usize], at: usize) -> (usize, u32)
     ensures some { 0 < length starts.now → 0 < result.1 }
     ensures few { result.1 ≤ binary_digits (length starts.now) }
 {
+    let (front, back) = starts.split_at(starts.len() / 2);
+    let Some((middle, later)) = back.split_first() else {
+        return (0, 0);
+    };
     let mut comparisons = 0;
-    let mut low = 0;
-    let mut high = starts.len();
-    while low < high {
-        let middle = low + (high - low) / 2;
-        if is_below(starts[middle], at, &mut comparisons) {
-            low = middle + 1;
-        } else {
-            high = middle;
-        }
+    if is_below(*middle, at, &mut comparisons) {
+        let (count, more) = count_below(later, at);
+        (front.len() + 1 + count, comparisons + more)
+    } else {
+        let (count, more) = count_below(front, at);
+        (count, comparisons + more)
     }
-    (low, comparisons)
 }
 
 /// Adds to each offset.

@@ -171,7 +171,7 @@ impl Text {
     }
 
     /// How many characters stand before the boundary `at`, and how many comparisons found it.
-    pub fn find(&self, at: usize) -> (usize, u32)
+    pub fn find_index(&self, at: usize) -> (usize, u32)
         requires { IsCharBoundary (bytes_of self.now) at }
         ensures index { result.0 ≡ index_in self.now at }
         ensures some { 0 < length (chars_of self.now) → 0 < result.1 }
@@ -186,7 +186,7 @@ impl Text {
         ensures index { result ≡ index_in self.now at }
         ensures within { result ≤ length (chars_of self.now) }
     {
-        let (index, _) = self.find(at);
+        let (index, _) = self.find_index(at);
         index
     }
 

@@ -288,7 +288,7 @@ fn the_cursor_is_found_at_each_boundary(rt: HostRuntime) -> Result<(), Fail> {
 }
 
 #[test]
-fn the_cursor_is_found_inside_a_cluster(rt: HostRuntime) -> Result<(), Fail> {
+fn the_cursor_is_found_in_short_lines(rt: HostRuntime) -> Result<(), Fail> {
     let rows = [
         ("", 0, 0),
         ("a\u{e9}", 1, 1),
@@ -305,6 +305,7 @@ fn the_cursor_is_found_inside_a_cluster(rt: HostRuntime) -> Result<(), Fail> {
 #[test]
 fn the_cursor_is_found_after_each_edit(rt: HostRuntime) -> Result<(), Fail> {
     let mut buffer = LineEditBuffer::empty(rt.alloc());
+    assert_eq!(rt; buffer.find_cursor(), (0, 0));
     buffer.insert_text("a\u{e9}\u{20ac}")?;
     assert_eq!(rt; buffer.find_cursor().0, 3);
     buffer.exec_movement(BackwardChar(2));

@@ -7,4 +7,4 @@ use Rattle.tw_lineedit.proofs.text.Text.index_of.Goals as goal
 pub returns-clause-within : goal.returns-clause-within
 returns-clause-within c =
     let text = c.args.self.now in
-    omega (arith, c.find-index.ensures.index, index_of-le (bytes_of text) (bytes_utf8 text) c.args.at c.requires)
+    omega (arith, c.find_index-index.ensures.index, index_of-le (bytes_of text) (bytes_utf8 text) c.args.at c.requires)

@@ -3,7 +3,7 @@ use Rattle.std.specs.List.Sorted.{IsStrictlyIncreasing}
 use Rattle.tw_lineedit.specs.Text.{bytes_of, chars_of}
 use Rattle.tw_lineedit.proofs.StartsLemmas.{index_of-from_starts, length-starts_from}
 use Rattle.tw_lineedit.proofs.TextLemmas.{bytes_utf8, starts-rise}
-use Rattle.tw_lineedit.proofs.text.Text.find.Goals as goal
+use Rattle.tw_lineedit.proofs.text.Text.find_index.Goals as goal
 
 pub count_below-requires : goal.count_below-requires
 count_below-requires c = subst IsStrictlyIncreasing (sym c.deref.ensures.value) (starts-rise c.args.self.now)
