@@ -93,5 +93,7 @@ impl LineEditorHost for BenchHost {
 
     ghost held_back = { λ host. refl };
 
+    ghost held_put = { λ host history. refl };
+
     ghost held_lines = { λ host. refl };
 }

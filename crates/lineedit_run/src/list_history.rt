@@ -72,6 +72,8 @@ impl LentLines for ListHistory {
 impl History for ListHistory {
     ghost lines = { λ h. h };
 
+    ghost add_gives = { λ history line grown. grown ≡ with_line history line };
+
     /// The line at `idx`, which is lent and not copied. Takes no memory.
     fn get(&self, _alloc: Global, idx: HistoryIndex) -> Result<Option<CowStr<'_>>, AllocError>
         ensures line { IsOkAnd result (λ line. option_map cow_str_bytes line ≡ slice_get self.now idx) }

@@ -114,5 +114,7 @@ impl<L: History> LineEditorHost for ScriptHost<L> {
 
     ghost held_back = { λ host. refl };
 
+    ghost held_put = { λ host history. refl };
+
     ghost held_lines = { λ host. refl };
 }

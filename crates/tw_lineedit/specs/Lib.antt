@@ -36,6 +36,7 @@ pub mod Run
 pub mod Frame
 pub mod Lent
 pub mod Reading
+pub mod Remembering
 pub mod Stations
 pub mod ScreenRuns
 pub mod HistoryLaws

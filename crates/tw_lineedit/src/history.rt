@@ -78,6 +78,8 @@ pub struct SearchResult<'a> {
 pub trait History {
     ghost lines: { Self → List (List ℕ) };
 
+    ghost add_gives: { Self → List ℕ → Self → Type 0 } = { λ history line grown. Unit {0} };
+
     /// The line at `idx`, or `None` where no line has that index. A history that makes its answer may lack
     /// memory for it.
     fn get(&self, alloc: Global, idx: HistoryIndex) -> Result<Option<CowStr<'_>>, AllocError>
@@ -91,7 +93,8 @@ pub trait History {
     /// memory is lacking, the lines stay as they were.
     fn add(&mut self, line: &str) -> Result<(), AllocError>
         ensures last { OnOk result (last_line (lines self.new) ≡ Some line.now) }
-        ensures refused { OnErr result (lines self.new ≡ lines self.old) };
+        ensures refused { OnErr result (lines self.new ≡ lines self.old) }
+        ensures added { OnOk result (add_gives self.old line.now self.new) };
 
     /// The nearest line from `idx` on, the one at `idx` included, that contains the pattern, with the byte
     /// offset at which the pattern stands first in it. `None` where no line on that side contains the
@@ -208,6 +211,8 @@ impl LentLines for BasicHistory {
 
 impl History for BasicHistory {
     ghost lines = { λ h. h };
+
+    ghost add_gives = { λ history line grown. grown ≡ with_line history line };
 
     /// The line at `idx`, which is lent and not copied. Takes no memory.
     fn get(&self, _alloc: Global, idx: HistoryIndex) -> Result<Option<CowStr<'_>>, AllocError>

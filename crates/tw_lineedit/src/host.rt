@@ -1,6 +1,6 @@
 //! What an application tells the editor.
 
-ghost use Rattle.std.specs.Prelude.{◌≡◌, ℕ, List, [], IfOk, OnErr, map, option_map, refl};
+ghost use Rattle.std.specs.Prelude.{◌≡◌, ℕ, List, [], IfOk, OnErr, OnOk, Some, map, option_map, refl};
 ghost use Rattle.std.specs.Borrow.{Lends, sem};
 ghost use Rattle.tw_input.specs.EventView.{event_view};
 ghost use Rattle.tw_lineedit.specs.ActionView.{action_view};
@@ -9,6 +9,7 @@ ghost use Rattle.tw_lineedit.specs.Cut.{cut_at};
 ghost use Rattle.tw_lineedit.specs.ElementView.{element_view};
 ghost use Rattle.tw_lineedit.specs.CandidateView.{candidate_view};
 ghost use Rattle.tw_lineedit.specs.HostRules.{HostRules, plain_text, plain_rules};
+ghost use Rattle.tw_lineedit.specs.Near.{last_line};
 ghost use Rattle.tw_lineedit.specs.PlainAnswers.{IsPlainBut, nothing_own, plain_is_plain};
 
 use crate::actions::Action;
@@ -200,7 +201,20 @@ pub trait LineEditorHost {
 
     ghost held_back: { (host : Self) → with_held host (held host) ≡ host };
 
+    ghost held_put: { (host : Self) (history : Self.Hist) → held (with_held host history) ≡ history };
+
     ghost held_lines: { (host : Self) → Self.Hist.lines (held host) ≡ rules.lines (value host) };
+
+    /// Adds a line to the history, which the editor itself never does. The rest of the host stays as it was.
+    /// Where memory is lacking, the history's lines stay too.
+    final fn remember(&mut self, line: &str) -> Result<(), AllocError>
+        ensures kept { self.new ≡ with_held self.old (held self.new) }
+        ensures last { OnOk result (last_line (rules.lines (value self.new)) ≡ Some line.now) }
+        ensures added { OnOk result (Self.Hist.add_gives (held self.old) line.now (held self.new)) }
+        ensures refused { OnErr result (rules.lines (value self.new) ≡ rules.lines (value self.old)) }
+    {
+        self.history().add(line)
+    }
 }
 
 /// A host with the default answers and a history in memory.
@@ -245,6 +259,8 @@ impl LineEditorHost for NopLineEditorHost {
     ghost plain_answers = { plain_is_plain (λ lines. lines) };
 
     ghost held_back = { λ host. refl };
+
+    ghost held_put = { λ host history. refl };
 
     ghost held_lines = { λ host. refl };
 }

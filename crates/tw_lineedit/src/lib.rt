@@ -12,6 +12,7 @@ mod keys;
 pub mod laws;
 mod movements;
 mod painter;
+mod remembering;
 mod session;
 mod starts;
 mod text;

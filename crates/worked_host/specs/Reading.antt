@@ -1,11 +1,13 @@
 -- A line that is read by a new editor with the worked host, which then has it in its history.
-use Rattle.std.specs.Prelude.{◌≡◌, ℕ, List, Option, Some, None, Ok}
+use Rattle.std.specs.Prelude.{◌≡◌, ℕ, List, Option, Some, None, Ok, ◌⊎◌}
 use Rattle.tw_terminal.specs.TerminalState.{TerminalState}
 use Rattle.tw_lineedit.specs.Added.{with_line}
 use Rattle.tw_lineedit.specs.EditState.{Inactive}
-use Rattle.tw_lineedit.specs.Reading.{start, Reads}
+use Rattle.tw_lineedit.specs.Reading.{start, Reads, FailsToRead}
+use Rattle.tw_lineedit.specs.Refusal.{IsMemory}
 use Rattle.tw_lineedit.specs.Run.{Frame, Ending, run_of}
 use Rattle.tw_lineedit.specs.SessionView.{new_state}
+use Rattle.tw_lineedit.specs.declared.error.Error.{Error}
 use Rattle.worked_host.specs.Commands.{Commands}
 use Rattle.worked_host.specs.CommandRules.{command_rules}
 
@@ -30,3 +32,26 @@ remembered v (Some line) = record v { lines = with_line v.lines line }
 pub record ReadsCommand (v w : Commands) (old new : TerminalState) (line : Option (List ℕ)) : Type 0 where
   pub reads : Reads (run_for v old) (before v old) (after (run_for v old) new) (Ok line)
   pub host : w ≡ remembered (run_for v old).value line
+
+-- the editor could not be made: memory was lacking, and the host is as it was
+pub record IsNotMade (v w : Commands) (e : Error) : Type 0 where
+  pub memory : IsMemory e
+  pub host : w ≡ v
+
+-- the reading was refused: the terminal and the host are those of the editor, which is gone since
+pub record IsTurnedAway (v w : Commands) (old new : TerminalState) (e : Error) : Type 0 where
+  pub editor : Frame Commands
+  pub reads : FailsToRead command_rules None (before v old) editor e
+  pub terminal : new ≡ editor.terminal
+  pub host : w ≡ editor.value
+
+-- a line was read, and memory was lacking to add it: the host is as the reading left it
+pub record IsForgotten (v w : Commands) (old new : TerminalState) (e : Error) : Type 0 where
+  pub line : List ℕ
+  pub reads : Reads (run_for v old) (before v old) (after (run_for v old) new) (Ok (Some line))
+  pub host : w ≡ (run_for v old).value
+  pub memory : IsMemory e
+
+-- what a refused call leaves
+abbrev pub FailsToReadCommand : Commands → Commands → TerminalState → TerminalState → Error → Type 0
+FailsToReadCommand v w old new e = IsNotMade v w e ⊎ (IsTurnedAway v w old new e ⊎ IsForgotten v w old new e)

@@ -170,5 +170,7 @@ impl LineEditorHost for CommandHost {
 
     ghost held_back = { λ host. refl };
 
+    ghost held_put = { λ host history. refl };
+
     ghost held_lines = { λ host. refl };
 }

@@ -61,6 +61,8 @@ impl LineEditorHost for ColumnHost {
 
     ghost held_back = { λ host. refl };
 
+    ghost held_put = { λ host history. refl };
+
     ghost held_lines = { λ host. refl };
 }
 
@@ -172,6 +174,8 @@ impl LineEditorHost for ResolvingHost {
     ghost plain_answers = { resolving_is_plain };
 
     ghost held_back = { λ host. refl };
+
+    ghost held_put = { λ host history. refl };
 
     ghost held_lines = { λ host. refl };
 }

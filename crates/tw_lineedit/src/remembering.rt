@@ -1,0 +1,41 @@
+//! Reading a line that the host then has in its history.
+
+ghost use Rattle.std.specs.Prelude.{◌≡◌, ◌≢◌, Err, IfErr, IfOk, None, option_map, string_bytes};
+ghost use Rattle.tw_lineedit.specs.EditState.{Inactive};
+ghost use Rattle.tw_lineedit.specs.Frame.{frame};
+ghost use Rattle.tw_lineedit.specs.Reading.{FailuresTell, start};
+ghost use Rattle.tw_lineedit.specs.Remembering.{FailsToReadAndRemember, ReadsAndRemembers};
+ghost use Rattle.tw_lineedit.specs.ScreenRuns.{ClearedIsFresh, ClosesBelow, FirstIsFresh, LaterIsFresh};
+
+use crate::editor::LineEditor;
+use crate::error::Error;
+use crate::host::LineEditorHost;
+use tw_terminal::Terminal;
+
+impl<'term, T: Terminal> LineEditor<'term, T> {
+    /// Reads a line as `read_line` does, and adds it to the host's history. Where the reading was cancelled
+    /// nothing is added.
+    ///
+    /// A reading that is refused leaves what a refused `read_line` leaves, and nothing is added. Where memory
+    /// is lacking to add the line, the reading is over and the history's lines are as it left them.
+    pub fn read_line_and_remember<H: LineEditorHost>(
+        &mut self,
+        host: &mut H,
+    ) -> Result<Option<String>, Error>
+        ensures same_reference { self.new.terminal.ghost_name ≡ self.old.terminal.ghost_name }
+        ensures recursive { self.old.session.state.mode ≢ Inactive → (result ≡ Err Error.Recursive) × (frame T.state H.value self.new host.new ≡ frame T.state H.value self.old host.old) }
+        ensures ok { self.old.session.state.mode ≡ Inactive → IfOk result (λ line. ReadsAndRemembers H.rules H.value H.held H.with_held H.Hist.add_gives (frame T.state H.value self.old host.old) (frame T.state H.value self.new) host.new (option_map string_bytes line)) }
+        ensures err { self.old.session.state.mode ≡ Inactive → IfErr result (FailsToReadAndRemember H.rules H.value H.held H.with_held H.Hist.add_gives (frame T.state H.value self.old host.old) (frame T.state H.value self.new) host.new) }
+        ensures first_painting { FirstIsFresh H.rules (start None (frame T.state H.value self.old host.old)) }
+        ensures later_painting { LaterIsFresh H.rules (start None (frame T.state H.value self.old host.old)) }
+        ensures cleared_painting { ClearedIsFresh H.rules (start None (frame T.state H.value self.old host.old)) }
+        ensures closing_batch { ClosesBelow H.rules (start None (frame T.state H.value self.old host.old)) }
+        ensures failures { FailuresTell result (T.state self.old.terminal.now).failures (T.state self.new.terminal.now).failures }
+    {
+        let line = self.read_line(host)?;
+        if let Some(line) = &line {
+            host.remember(line.as_str())?;
+        }
+        Ok(line)
+    }
+}
