@@ -2,7 +2,7 @@
 
 ghost use Rattle.std.specs.Prelude.{◌≡◌, map, string_bytes, OnOk, OnErr, refl};
 ghost use Rattle.tw_lineedit.specs.CandidateView.{candidate_view};
-ghost use Rattle.lineedit_run.specs.ScriptRules.{Scripted, Remembers, history_only, with_candidate, with_preview, script_rules, script_own, script_is_plain};
+ghost use Rattle.lineedit_run.specs.ScriptRules.{Scripted, history_only, with_candidate, with_preview, script_rules, script_own, script_is_plain};
 
 use std::alloc::{AllocError, Global};
 use std::ops::Range;
@@ -29,14 +29,6 @@ impl<L: History> ScriptHost<L> {
             preview: String::new(alloc),
             candidates: Vec::new(alloc),
         }
-    }
-
-    /// Adds a line to the history. Where it is refused nothing is changed.
-    pub fn remember(&mut self, line: &str) -> Result<(), AllocError>
-        ensures last { OnOk result (Remembers line.now (⟦<ScriptHost<L> as LineEditorHost>⟧.value self.old) (⟦<ScriptHost<L> as LineEditorHost>⟧.value self.new)) }
-        ensures refused { OnErr result (⟦<ScriptHost<L> as LineEditorHost>⟧.value self.new ≡ ⟦<ScriptHost<L> as LineEditorHost>⟧.value self.old) }
-    {
-        self.history.add(line)
     }
 
     /// Shows this preview from now on, and none where it is empty. Where it is refused nothing is changed.

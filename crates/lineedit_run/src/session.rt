@@ -15,7 +15,7 @@ use std::alloc::{AllocError, Global};
 use std::io::Write;
 use std::mem;
 use tw_input::{InputEvent, KeyCode, KeyEvent, Modifiers};
-use tw_lineedit::BasicHistory;
+use tw_lineedit::{BasicHistory, LineEditorHost};
 use tw_surface::{Change, Screen, ScreenFault};
 use tw_terminal::{ScreenSize, ScriptTerminal};
 
