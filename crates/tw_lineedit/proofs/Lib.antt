@@ -1,6 +1,7 @@
 pub mod ExtremesLemmas
 pub mod SearchLemmas
 pub mod JoinedLemmas
+pub mod BoundedLemmas
 pub mod BoundaryLemmas
 pub mod ClusterLemmas
 pub mod IndexLemmas

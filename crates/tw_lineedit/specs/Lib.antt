@@ -13,6 +13,7 @@ pub mod Patterns
 pub mod Near
 pub mod Added
 pub mod Joined
+pub mod Bounded
 pub mod Laws
 pub mod ActionView
 pub mod KeyTable

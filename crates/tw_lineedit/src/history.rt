@@ -8,8 +8,10 @@ ghost use Rattle.tw_lineedit.specs.Joined.{AreEnds, ends_from, lines_from};
 ghost use Rattle.tw_lineedit.specs.Near.{last_index, last_line, line_at, near, next_index};
 ghost use Rattle.tw_lineedit.specs.Patterns.{first};
 
+mod bounded;
 mod nearest;
 
+pub use bounded::BoundedHistory;
 pub use nearest::{LentLines, nearest_line};
 use std::alloc::{AllocError, Global};
 use std::borrow::CowStr;

@@ -23,7 +23,7 @@ pub use buffer::LineEditBuffer;
 pub use editor::{EditorOver, LineEditor};
 pub use error::Error;
 pub use history::{
-    BasicHistory, History, HistoryIndex, LentLines, SearchDirection, SearchResult, SearchStyle,
+    BasicHistory, BoundedHistory, History, HistoryIndex, LentLines, SearchDirection, SearchResult, SearchStyle,
     nearest_line,
 };
 pub use host::{CompletionCandidate, LineEditorHost, NopLineEditorHost, OutputElement, OwnAnswers};

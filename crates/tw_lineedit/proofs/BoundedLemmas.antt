@@ -1,9 +1,8 @@
--- The last of the newest lines.
-use Rattle.std.proofs.Common.{◌≡◌, ℕ, ◌-◌, ◌<◌, List, [], ◌∷◌, ◌++◌, length, Some, refl, ap, ◌∙◌, arith, length-append, ⊎_elim}
-use Rattle.std.proofs.lemmas.Bool.{cases_lt, lt-ltb, le-ltb}
+-- The newest of the lines of a history.
+use Rattle.std.proofs.Common.{◌≡◌, ℕ, ◌-◌, ◌<◌, ◌≤◌, zero, suc, List, [], ◌∷◌, ◌++◌, length, drop, Some, refl, ap, ◌∙◌, arith, length-append}
 use Rattle.std.specs.List.{slice_get}
 use Rattle.tw_lineedit.specs.Near.{last_line}
-use Rattle.newest_history.specs.Newest.{newest}
+use Rattle.tw_lineedit.specs.Bounded.{newest}
 
 at_end : (xs : List (List ℕ)) (x : List ℕ) → slice_get (xs ++ x ∷ []) (length xs) ≡ Some x
 at_end [] x = refl
@@ -14,9 +13,11 @@ last_line-push xs x =
     let last : length (xs ++ x ∷ []) - 1 ≡ length xs = omega (arith, length-append xs (x ∷ [])) in
     ap (slice_get (xs ++ x ∷ [])) last ∙ at_end xs x
 
+last_line-drop : (k : ℕ) (xs : List (List ℕ)) (x : List ℕ) → k ≤ length xs → last_line (drop k (xs ++ x ∷ [])) ≡ Some x
+last_line-drop zero xs x low = last_line-push xs x
+last_line-drop (suc k) [] x low = absurd (omega (arith, low))
+last_line-drop (suc k) (y ∷ xs) x low = last_line-drop k xs x (omega (arith, low))
+
 -- a line that is put behind others is the last of the newest
 pub last_line_newest : (limit : ℕ) (xs : List (List ℕ)) (x : List ℕ) → 0 < limit → last_line (newest limit (xs ++ x ∷ [])) ≡ Some x
-last_line_newest limit [] x some = rw (le-ltb limit 1 (omega (arith, some))) refl
-last_line_newest limit (y ∷ xs) x some =
-    let count = length (y ∷ (xs ++ x ∷ [])) in
-    ⊎_elim (λ over. rw (lt-ltb limit count over) (last_line-push xs x)) (λ fits. rw (le-ltb limit count fits) (last_line-push (y ∷ xs) x)) (cases_lt limit count)
+last_line_newest limit xs x some = last_line-drop _ xs x (omega (arith, some, length-append xs (x ∷ [])))

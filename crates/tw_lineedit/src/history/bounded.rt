@@ -1,70 +1,59 @@
 //! A history that forgets its oldest lines.
 
 ghost use Rattle.std.specs.Cow.{IsBorrowedStr, cow_str_bytes};
-ghost use Rattle.std.specs.Prelude.{◌≡◌, ◌<◌, ◌++◌, ◌∷◌, [], IfOk, IfSome, IsCharBoundary, IsOkAnd, OnErr, OnOk, Some, option_map, slice_get};
+ghost use Rattle.std.specs.Prelude.{◌≡◌, ◌<◌, ◌≤◌, ◌++◌, ◌∷◌, [], IfOk, IfSome, IsCharBoundary, IsOk, IsOkAnd, OnErr, OnOk, Some, length, map, option_map, slice_get, string_bytes};
 ghost use Rattle.tw_lineedit.specs.Added.{is_line, match_view};
+ghost use Rattle.tw_lineedit.specs.Bounded.{newest, no_lines, with_newest};
 ghost use Rattle.tw_lineedit.specs.Near.{last_line, near};
 
+use crate::history::{
+    History, HistoryIndex, LentLines, SearchDirection, SearchResult, SearchStyle, nearest_line,
+};
 use std::alloc::{AllocError, Global};
 use std::borrow::CowStr;
 use std::collections::VecDeque;
 use std::marker::Model;
-use tw_lineedit::{
-    History, HistoryIndex, LentLines, SearchDirection, SearchResult, SearchStyle, nearest_line,
-};
 
-/// A history in memory, which keeps so many lines at most, the newest. It lends its lines and copies none of
-/// them.
+/// A history in memory that keeps so many lines at most, the newest: where one more is added than it is to
+/// keep, it forgets its oldest line, and the others then have smaller indices. It lends its lines and copies
+/// none of them.
 #[derive(Debug, Drop)]
-pub struct NewestHistory {
+pub struct BoundedHistory {
     entries: VecDeque<String>,
     limit: usize,
     alloc: Global,
 }
 
-impl Model for NewestHistory {
-    ghost use Rattle.std.specs.Prelude.{◌<◌, map, string_bytes};
-    ghost use Rattle.newest_history.specs.Newest.{Newest};
+impl Model for BoundedHistory {
+    ghost use Rattle.std.specs.Prelude.{◌<◌, ◌≤◌, length, map, string_bytes};
+    ghost use Rattle.tw_lineedit.specs.Bounded.{Bounded};
 
-    ghost Value = { Newest };
+    ghost Value = { Bounded };
 
     ghost view = { λ h. record { lines = map string_bytes h.entries.items; limit = h.limit } };
 
-    ghost invariant = { λ h. 0 < h.limit };
+    ghost invariant = { λ h. (0 < h.limit) × (length h.entries.items ≤ h.limit) };
 }
 
-impl NewestHistory {
-    ghost use Rattle.newest_history.specs.Newest.{newest, no_lines, with_lines};
-
+impl BoundedHistory {
     /// The history of no lines, which is to keep `limit` at most, one at least. Takes no memory: each `add`
     /// takes it from `alloc`.
     pub fn with_limit(alloc: Global, limit: usize) -> Self
         requires { 0 < limit }
         ensures { result ≡ no_lines limit }
     {
-        NewestHistory {
+        BoundedHistory {
             entries: VecDeque::new(alloc),
             limit,
             alloc,
         }
     }
 
-    fn append(&mut self, line: &str) -> Result<(), AllocError>
-        ensures ok { OnOk result (self.new ≡ with_lines self.old (self.old.lines ++ line.now ∷ [])) }
-        ensures err { OnErr result (self.new ≡ self.old) }
+    /// How many lines are kept at most. Takes no memory.
+    pub fn limit(&self) -> usize
+        ensures { result ≡ self.now.limit }
     {
-        let line = String::from_str(self.alloc, line)?;
-        self.entries.push_back(line)?;
-        Ok(())
-    }
-
-    fn forget_surplus(&mut self)
-        ensures value { self.new ≡ with_lines self.old (newest self.old.limit self.old.lines) }
-        ensures limit { 0 < self.old.limit }
-    {
-        if self.entries.len() > self.limit {
-            let _oldest = self.entries.pop_front();
-        }
+        self.limit
     }
 
     fn ends_with(&self, line: &str) -> bool
@@ -77,7 +66,25 @@ impl NewestHistory {
     }
 }
 
-impl LentLines for NewestHistory {
+/// Puts an entry behind the others, and takes the first one away where there are more than `limit` then.
+fn push_newest(
+    entries: &mut VecDeque<String>,
+    entry: String,
+    limit: usize,
+) -> Result<(), AllocError>
+    requires { length entries.old.items ≤ limit }
+    ensures ok { OnOk result (map string_bytes entries.new.items ≡ newest limit (map string_bytes entries.old.items ++ string_bytes entry ∷ [])) }
+    ensures fits { length entries.new.items ≤ limit }
+    ensures err { OnErr result (map string_bytes entries.new.items ≡ map string_bytes entries.old.items) }
+{
+    entries.push_back(entry)?;
+    if entries.len() > limit {
+        let _oldest = entries.pop_front();
+    }
+    Ok(())
+}
+
+impl LentLines for BoundedHistory {
     ghost lines = { λ h. h.lines };
 
     fn line_count(&self) -> usize {
@@ -89,11 +96,12 @@ impl LentLines for NewestHistory {
     }
 }
 
-impl History for NewestHistory {
-    ghost use Rattle.newest_history.specs.Newest.{with_newest};
-
+impl History for BoundedHistory {
     ghost lines = { λ h. h.lines };
 
+    ghost add_gives = { λ history line grown. grown ≡ with_newest history line };
+
+    /// The line at `idx`, which is lent and not copied. Takes no memory.
     fn get(&self, _alloc: Global, idx: HistoryIndex) -> Result<Option<CowStr<'_>>, AllocError>
         ensures line { IsOkAnd result (λ line. option_map cow_str_bytes line ≡ slice_get self.now.lines idx) }
         ensures borrowed { IfOk result (λ line. IfSome line IsBorrowedStr) }
@@ -109,21 +117,23 @@ impl History for NewestHistory {
     }
 
     /// Adds a line at the end, unless it is the last line already, and forgets the oldest line where there
-    /// are too many then. Where memory is lacking, the lines stay as they were.
-    #[tactic(auto, using(crate::proofs::NewestLemmas::last_line_newest))]
+    /// are too many then. Takes memory for a new line only. Where that is lacking, the lines stay as they
+    /// were.
+    #[tactic(auto, using(crate::proofs::BoundedLemmas::last_line_newest))]
     fn add(&mut self, line: &str) -> Result<(), AllocError>
         ensures last { OnOk result (last_line self.new.lines ≡ Some line.now) }
         ensures refused { OnErr result (self.new ≡ self.old) }
         ensures added { OnOk result (self.new ≡ with_newest self.old line.now) }
+        ensures doubled { last_line self.old.lines ≡ Some line.now → IsOk result }
     {
         if self.ends_with(line) {
             return Ok(());
         }
-        self.append(line)?;
-        self.forget_surplus();
-        Ok(())
+        let entry = String::from_str(self.alloc, line)?;
+        push_newest(&mut self.entries, entry, self.limit)
     }
 
+    /// The nearest match. Each line on the side is read once at most, and none is copied. Takes no memory.
     fn search(
         &self,
         _alloc: Global,
@@ -141,6 +151,3 @@ impl History for NewestHistory {
         Ok(nearest_line(self, idx, style, direction, pattern))
     }
 }
-
-#[cfg(test)]
-mod tests;
