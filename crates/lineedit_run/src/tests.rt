@@ -2,6 +2,7 @@
 
 mod actions;
 mod all_replay;
+mod bounded;
 mod calls;
 mod completions;
 mod faults;

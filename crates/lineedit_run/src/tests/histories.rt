@@ -80,7 +80,7 @@ fn missing_line<'a>(wanted: &'a str, told: &str) -> Option<&'a str> {
 
 /// Runs the cases, each over a history that is empty at first, and says how many there were. A case has the
 /// lines of `case_of`, and below `--` lines that are among those of `told_of`; `==` ends it.
-fn expect_histories<L: History + Drop, F: Fn(Global) -> L + Drop>(
+pub fn expect_histories<L: History + Drop, F: Fn(Global) -> L + Drop>(
     rt: &impl Abort,
     alloc: Global,
     empty: F,
