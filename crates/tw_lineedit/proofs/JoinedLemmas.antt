@@ -43,16 +43,16 @@ pub line_range : (text ends : List ℕ) (i : ℕ) → IsUtf8 text → AreEnds te
 line_range text ends i utf8 are inside = ends_cut text 0 ends i (IsCharBoundary-start text utf8) are inside
 
 -- the lines make up the text
-pub concat-lines_from : (text : List ℕ) (start : ℕ) (ends : List ℕ) → AreEnds text start ends → concat (lines_from text start ends) ≡ drop start text
-concat-lines_from text start [] are = sym (drop_all start text (omega (arith, are)))
-concat-lines_from text start (end ∷ ends) are = ap (λ rest. slice_range text start end ++ rest) (concat-lines_from text end ends are.rest) ∙ sym (drop_split text start end are.order)
+pub concat_lines_from : (text : List ℕ) (start : ℕ) (ends : List ℕ) → AreEnds text start ends → concat (lines_from text start ends) ≡ drop start text
+concat_lines_from text start [] are = sym (drop_all start text (omega (arith, are)))
+concat_lines_from text start (end ∷ ends) are = ap (λ rest. slice_range text start end ++ rest) (concat_lines_from text end ends are.rest) ∙ sym (drop_split text start end are.order)
 
 -- the end offsets are those of the lines
-pub ends_from-lines : (text : List ℕ) (start : ℕ) (ends : List ℕ) → AreEnds text start ends → ends_from start (lines_from text start ends) ≡ ends
-ends_from-lines text start [] are = refl
-ends_from-lines text start (end ∷ ends) are =
+pub ends_from_lines : (text : List ℕ) (start : ℕ) (ends : List ℕ) → AreEnds text start ends → ends_from start (lines_from text start ends) ≡ ends
+ends_from_lines text start [] are = refl
+ends_from_lines text start (end ∷ ends) are =
     let here : start + length (slice_range text start end) ≡ end = omega (arith, length-slice_range text start end are.boundary.0, are.order) in
-    rw here (ap (λ rest. end ∷ rest) (ends_from-lines text end ends are.rest))
+    rw here (ap (λ rest. end ∷ rest) (ends_from_lines text end ends are.rest))
 
 -- the text can be cut at each end offset
 pub boundaries : (text : List ℕ) (start : ℕ) (ends : List ℕ) → AreEnds text start ends → All (IsCharBoundary text) ends
