@@ -26,10 +26,10 @@ impl Workload {
     /// A history of this many lines, at least one.
     pub fn new(alloc: Global, lines: usize) -> Result<Self, AllocError> {
         let mut host = NopLineEditorHost::new(alloc);
-        host.history().add(FIRST)?;
+        host.remember(FIRST)?;
         for number in 1..lines {
             let line = format!(in alloc; "command number {number}")?;
-            host.history().add(line.as_str())?;
+            host.remember(line.as_str())?;
         }
         Ok(Workload { alloc, host, lines })
     }

@@ -14,6 +14,7 @@ mod lines;
 mod lookups;
 mod names;
 mod previews;
+mod remembering;
 mod replay;
 mod screens;
 mod scripts;

@@ -23,8 +23,8 @@ pub use buffer::LineEditBuffer;
 pub use editor::{EditorOver, LineEditor};
 pub use error::Error;
 pub use history::{
-    BasicHistory, BoundedHistory, History, HistoryIndex, LentLines, SearchDirection, SearchResult, SearchStyle,
-    nearest_line,
+    BasicHistory, BoundedHistory, History, HistoryIndex, LentLines, SearchDirection, SearchResult,
+    SearchStyle, nearest_line,
 };
 pub use host::{CompletionCandidate, LineEditorHost, NopLineEditorHost, OutputElement, OwnAnswers};
 pub use keys::default_action;

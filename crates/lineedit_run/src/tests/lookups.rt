@@ -6,7 +6,14 @@ use std::alloc::{AllocError, Global};
 use std::borrow::CowStr;
 use std::process::Abort;
 use std::test::Fail;
-use tw_lineedit::{BasicHistory, History, SearchDirection, SearchResult, SearchStyle};
+use tw_lineedit::{
+    BasicHistory, BoundedHistory, History, SearchDirection, SearchResult, SearchStyle,
+};
+
+/// A history of as many lines as the cases have at most, which forgets none of them.
+fn five_kept(alloc: Global) -> BoundedHistory {
+    BoundedHistory::with_limit(alloc, 5)
+}
 
 /// Adds the lines in turn.
 fn add_all<L: History>(history: &mut L, lines: &[&str]) -> Result<(), AllocError> {
@@ -66,8 +73,10 @@ fn added_lines_are_the_last(rt: HostRuntime) -> Result<(), Fail> {
     let alloc = rt.alloc();
     expect_added(&rt, alloc, &mut BasicHistory::new(alloc))?;
     expect_added(&rt, alloc, &mut ListHistory::new(alloc))?;
+    expect_added(&rt, alloc, &mut five_kept(alloc))?;
     expect_empty_lines(&rt, alloc, &mut BasicHistory::new(alloc))?;
     expect_empty_lines(&rt, alloc, &mut ListHistory::new(alloc))?;
+    expect_empty_lines(&rt, alloc, &mut five_kept(alloc))?;
     Ok(())
 }
 
@@ -139,5 +148,6 @@ fn expect_searches<L: History + Drop, F: Fn(Global) -> L + Drop>(
 fn searches_find_the_nearest_line(rt: HostRuntime) -> Result<(), Fail> {
     expect_searches(&rt, rt.alloc(), BasicHistory::new)?;
     expect_searches(&rt, rt.alloc(), ListHistory::new)?;
+    expect_searches(&rt, rt.alloc(), five_kept)?;
     Ok(())
 }
