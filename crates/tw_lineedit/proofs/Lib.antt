@@ -30,3 +30,4 @@ pub mod LandingLemmas
 pub mod CandidateLemmas
 pub mod AdvanceLemmas
 pub mod CycleLemmas
+pub mod SeamLemmas

@@ -1,8 +1,8 @@
 //! Steps over legacy grapheme clusters.
 
-ghost use Rattle.std.specs.Prelude.{◌≡◌};
+ghost use Rattle.std.specs.Prelude.{◌≡◌, ◌≤◌, ◌<◌, true, length};
 ghost use Rattle.std.specs.Str.{IsCharBoundary};
-ghost use Rattle.tw_lineedit.specs.Clusters.{cluster_after, cluster_before};
+ghost use Rattle.tw_lineedit.specs.Clusters.{is_cluster_boundary, cluster_after, cluster_before};
 ghost use Rattle.tw_lineedit.specs.Extremes.{repeated};
 
 use crate::actions::RepeatCount;
@@ -37,6 +37,30 @@ pub fn clusters_after(line: &str, at: usize, count: RepeatCount) -> usize
         }
     }
     end
+}
+
+/// Whether `at` is a cluster boundary, and the least one above it, or `at` where there is none. What stands
+/// before the cluster boundary `from` is not looked at.
+pub fn cluster_from(line: &str, from: usize, at: usize) -> (bool, usize)
+    requires start { IsCharBoundary line.now from }
+    requires begins { is_cluster_boundary line.now from ≡ true }
+    requires order { from ≤ at }
+    requires boundary { IsCharBoundary line.now at }
+    ensures begins { result.0 ≡ is_cluster_boundary line.now at }
+    ensures value { result.1 ≡ cluster_after line.now at }
+    ensures boundary { IsCharBoundary line.now result.1 }
+    ensures ahead { at < length line.now → at < result.1 }
+{
+    let part = &line[from..];
+    let mut cursor = GraphemeCursor::new(at - from, part.len(), IS_EXTENDED);
+    let Ok(begins) = cursor.is_boundary(part, 0) else {
+        unreachable!()
+    };
+    match cursor.next_boundary(part, 0) {
+        Ok(Some(next)) => (begins, from + next),
+        Ok(None) => (begins, at),
+        Err(_) => unreachable!(),
+    }
 }
 
 /// Where `count` steps back lead from `at`. One cursor takes them all, and it returns as soon as
