@@ -31,3 +31,4 @@ pub mod CandidateLemmas
 pub mod AdvanceLemmas
 pub mod CycleLemmas
 pub mod SeamLemmas
+pub mod WorkedRuns
