@@ -66,10 +66,10 @@ before_kill = at_kill 0 ∷ at_kill 1 ∷ at_kill 2 ∷ []
 plain_kill : All (IsPlainAt 5) (map (sized_scene rules) (before_kill ++ at_kill 3 ∷ []))
 unfolding pieces column_width painted_on apply destination again sought boundary_below is_boundary repeated greatest_below
 plain_kill =
-    All-cons (IsPlainAt 5) _ _ (refl, record { prompt = refl; line = refl; lower = tt })
-    (All-cons (IsPlainAt 5) _ _ (refl, record { prompt = refl; line = refl; lower = tt })
-    (All-cons (IsPlainAt 5) _ _ (refl, record { prompt = refl; line = refl; lower = tt })
-    (All-cons (IsPlainAt 5) _ [] (refl, record { prompt = refl; line = refl; lower = tt }) (All-nil (IsPlainAt 5)))))
+    All-cons (IsPlainAt 5) (sized_scene rules (at_kill 0)) (sized_scene rules (at_kill 1) ∷ sized_scene rules (at_kill 2) ∷ sized_scene rules (at_kill 3) ∷ []) (refl, record { prompt = refl; line = refl; lower = tt })
+    (All-cons (IsPlainAt 5) (sized_scene rules (at_kill 1)) (sized_scene rules (at_kill 2) ∷ sized_scene rules (at_kill 3) ∷ []) (refl, record { prompt = refl; line = refl; lower = tt })
+    (All-cons (IsPlainAt 5) (sized_scene rules (at_kill 2)) (sized_scene rules (at_kill 3) ∷ []) (refl, record { prompt = refl; line = refl; lower = tt })
+    (All-cons (IsPlainAt 5) (sized_scene rules (at_kill 3)) [] (refl, record { prompt = refl; line = refl; lower = tt }) (All-nil (IsPlainAt 5)))))
 
 comes_kill : Comes rules killed 5 before_kill (at_kill 3) [] full
 unfolding pieces column_width painted_on apply destination again sought boundary_below is_boundary repeated greatest_below
@@ -111,9 +111,9 @@ before_clearing = at_clearing 0 ∷ at_clearing 1 ∷ []
 plain_clearing : All (IsPlainAt 10) (map (sized_scene rules) (before_clearing ++ at_clearing 2 ∷ []))
 unfolding pieces column_width painted_on apply destination again sought boundary_below is_boundary repeated greatest_below
 plain_clearing =
-    All-cons (IsPlainAt 10) _ _ (refl, record { prompt = refl; line = refl; lower = tt })
-    (All-cons (IsPlainAt 10) _ _ (refl, record { prompt = refl; line = refl; lower = tt })
-    (All-cons (IsPlainAt 10) _ [] (refl, record { prompt = refl; line = refl; lower = tt }) (All-nil (IsPlainAt 10))))
+    All-cons (IsPlainAt 10) (sized_scene rules (at_clearing 0)) (sized_scene rules (at_clearing 1) ∷ sized_scene rules (at_clearing 2) ∷ []) (refl, record { prompt = refl; line = refl; lower = tt })
+    (All-cons (IsPlainAt 10) (sized_scene rules (at_clearing 1)) (sized_scene rules (at_clearing 2) ∷ []) (refl, record { prompt = refl; line = refl; lower = tt })
+    (All-cons (IsPlainAt 10) (sized_scene rules (at_clearing 2)) [] (refl, record { prompt = refl; line = refl; lower = tt }) (All-nil (IsPlainAt 10))))
 
 comes_clearing : Comes rules cleared 10 before_clearing (at_clearing 2) [] full
 unfolding pieces column_width painted_on apply destination again sought boundary_below is_boundary repeated greatest_below
@@ -149,8 +149,8 @@ at_refusal n = nth (stations_of rules refused) n
 plain_refusal : All (IsPlainAt 4) (map (sized_scene rules) (at_refusal 0 ∷ at_refusal 1 ∷ []))
 unfolding pieces column_width painted_on apply destination again sought boundary_below is_boundary repeated greatest_below
 plain_refusal =
-    All-cons (IsPlainAt 4) _ _ (refl, record { prompt = refl; line = refl; lower = tt })
-    (All-cons (IsPlainAt 4) _ [] (refl, record { prompt = refl; line = refl; lower = tt }) (All-nil (IsPlainAt 4)))
+    All-cons (IsPlainAt 4) (sized_scene rules (at_refusal 0)) (sized_scene rules (at_refusal 1) ∷ []) (refl, record { prompt = refl; line = refl; lower = tt })
+    (All-cons (IsPlainAt 4) (sized_scene rules (at_refusal 1)) [] (refl, record { prompt = refl; line = refl; lower = tt }) (All-nil (IsPlainAt 4)))
 
 comes_refusal : Comes rules refused 4 (at_refusal 0 ∷ []) (at_refusal 1) (at_refusal 2 ∷ []) full
 unfolding pieces column_width painted_on apply destination again sought boundary_below is_boundary repeated greatest_below
