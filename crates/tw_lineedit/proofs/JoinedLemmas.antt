@@ -1,13 +1,12 @@
 -- Lines that stand one after the other in one text.
 use Rattle.std.proofs.Common.{◌≡◌, ℕ, zero, suc, ◌+◌, ◌-◌, ◌<◌, ◌≤◌, List, [], ◌∷◌, ◌++◌, length, get_or, take, drop, refl, sym, ap, subst, ◌∙◌, arith, length-append, length-drop, ⊎_elim}
 use Rattle.std.proofs.lemmas.Bool.{cases_lt}
-use Rattle.std.proofs.lemmas.List.{take_all, drop_all, drop_at, take-append-le, drop-append-le}
+use Rattle.std.proofs.lemmas.List.{take_all, drop_all, drop_at, length-take-le, take-append-le, drop-append-le}
 use Rattle.std.proofs.Math.ListN.{get_or-append}
 use Rattle.std.proofs.lemmas.List.Folds.{drop_split}
 use Rattle.std.proofs.lemmas.Str.{IsCharBoundary-start, IsCharBoundary-end, IsCharBoundary-at_seam}
 use Rattle.std.specs.List.{All, concat, slice_range}
 use Rattle.std.specs.Str.{IsUtf8, IsCharBoundary}
-use Rattle.unicode_segmentation.proofs.TextLemmas.{length-slice_range}
 use Rattle.tw_lineedit.specs.Joined.{ends_from, lines_from, AreEnds}
 use Rattle.tw_lineedit.specs.Near.{line_at}
 
@@ -51,7 +50,7 @@ concat_lines_from text start (end ∷ ends) are = ap (λ rest. slice_range text 
 pub ends_from_lines : (text : List ℕ) (start : ℕ) (ends : List ℕ) → AreEnds text start ends → ends_from start (lines_from text start ends) ≡ ends
 ends_from_lines text start [] are = refl
 ends_from_lines text start (end ∷ ends) are =
-    let here : start + length (slice_range text start end) ≡ end = omega (arith, length-slice_range text start end are.boundary.0, are.order) in
+    let here : start + length (slice_range text start end) ≡ end = omega (arith, length-take-le (end - start) (drop start text) (omega (arith, are.boundary.0, length-drop start text)), are.order) in
     rw here (ap (λ rest. end ∷ rest) (ends_from_lines text end ends are.rest))
 
 -- the text can be cut at each end offset
