@@ -1,10 +1,11 @@
 -- What stands before a cluster boundary decides nothing behind it, where clusters are not extended.
-use Rattle.std.proofs.Common.{◌≡◌, ℕ, ◌+◌, ◌-◌, ◌<◌, ◌≤◌, Bool, true, false, not, ◌&&◌, ◌||◌, List, [], ◌∷◌, ◌++◌, length, take, drop, reverse, unwrap_or, refl, sym, ap, ap₂, subst, ◌∙◌, arith, ⊎_elim, append_assoc, length-drop, length-take-le}
-use Rattle.std.proofs.lemmas.Bool.{cases_Bool, cases_eq, not-true, and_left, false≢true}
+use Rattle.std.proofs.Common.{◌≡◌, ℕ, ◌+◌, ◌-◌, ◌<◌, ◌≤◌, Bool, true, false, not, ◌&&◌, ◌||◌, List, [], ◌∷◌, ◌++◌, length, take, drop, reverse, unwrap_or, refl, sym, ap, ap₂, subst, ◌∙◌, arith, ⊎_elim, append_assoc, length-append, length-drop, length-take-le, take_at, drop_at}
+use Rattle.std.proofs.lemmas.Bool.{cases_Bool, cases_eq, cases_lt, not-true, false≢true}
 use Rattle.std.proofs.lemmas.List.{reverse-append, drop-drop, take-append-drop}
-use Rattle.std.proofs.lemmas.Str.{chars-append, encodes-chars, IsUtf8-take, IsUtf8-drop, IsCharBoundary-from_rest, IsCharBoundary-from_drop}
+use Rattle.std.proofs.lemmas.Str.{chars-append, encodes-chars, IsUtf8-take, IsUtf8-drop, IsCharBoundary-from_rest, IsCharBoundary-from_drop, IsCharBoundary-from_take, IsCharBoundary-start, IsUtf8-between}
 use Rattle.std.proofs.Math.Seq.{take-add}
-use Rattle.std.specs.Prelude.{encode_utf8_all}
+use Rattle.std.specs.List.{insert_slice}
+use Rattle.std.specs.Prelude.{encode_utf8_all, slice_range}
 use Rattle.std.specs.Str.{chars, IsUtf8, IsCharBoundary}
 use Rattle.ucd_table.proofs.Facts.{Stepped-everywhere}
 use Rattle.ucd_table.proofs.Stepped.{zip_stepped}
@@ -19,6 +20,7 @@ use Rattle.ucd_emoji.proofs.Computing.{ucd_emoji}
 use Rattle.unicode_segmentation.specs.Grapheme.{break_by_pair, is_extend, is_zwj, is_regional, ends_in_pictograph, joins_emoji, ends_in_half_flag, is_grapheme_break}
 use Rattle.unicode_segmentation.specs.Segments.{chars_before, chars_from, breaks_at}
 use Rattle.unicode_segmentation.proofs.BoolLemmas.{or-true}
+use Rattle.unicode_segmentation.proofs.TextLemmas.{length-slice_range, take_split}
 use Rattle.unicode_segmentation.proofs.CursorLemmas.{break_between_regionals, breaks_at-start}
 use Rattle.tw_lineedit.specs.Clusters.{is_cluster_boundary, cluster_after}
 use Rattle.tw_lineedit.proofs.BoundaryLemmas.{is_boundary-from}
@@ -182,3 +184,78 @@ module _ (text : List ℕ) (u : IsUtf8 text) (from : ℕ) (cut : IsCharBoundary 
       let e : from + (k - from) ≡ k = omega arith in
       let inside = IsCharBoundary-part k (omega arith) cut_k in
       ap (breaks_at (is_grapheme_break false) text) (sym e) ∙ breaks_behind (k - from) (omega arith) inside ∙ none (k - from) (omega arith) (omega arith) inside)
+
+-- the start of a text is a cluster boundary
+pub is_cluster_boundary-start : (text : List ℕ) → IsUtf8 text → is_cluster_boundary text 0 ≡ true
+is_cluster_boundary-start text u = cluster_boundary_is text 0 (IsCharBoundary-start text u) ∙ sym (breaks_at-start false text 0 refl)
+
+-- of what follows, the rule reads one character
+next_alone : (before : List ℕ) (c : ℕ) (a b : List ℕ) → is_grapheme_break false before (c ∷ a) ≡ is_grapheme_break false before (c ∷ b)
+unfolding is_grapheme_break
+next_alone [] c a b = refl
+next_alone (last ∷ before) c a b = refl
+
+-- a boundary of a text before another one, behind which the text may change
+module _ (text : List ℕ) (u : IsUtf8 text) (from at : ℕ) (cut_from : IsCharBoundary text from) (cut_at : IsCharBoundary text at) (low : from < at) where
+  front_width : length (take from text) ≡ from
+  front_width = length-take-le from text cut_from.0
+
+  -- it stays where it is
+  take_before : (rest : List ℕ) → take from (take at text ++ rest) ≡ take from text
+  take_before rest =
+      ap (λ t. take from (t ++ rest)) (take_split text from at (omega arith)) ∙ ap (take from) (append_assoc (take from text) (slice_range text from at) rest)
+      ∙ take_at (take from text) (slice_range text from at ++ rest) from front_width
+
+  drop_before : (rest : List ℕ) → drop from (take at text ++ rest) ≡ slice_range text from at ++ rest
+  drop_before rest =
+      ap (λ t. drop from (t ++ rest)) (take_split text from at (omega arith)) ∙ ap (drop from) (append_assoc (take from text) (slice_range text from at) rest)
+      ∙ drop_at (take from text) (slice_range text from at ++ rest) from front_width
+
+  between_utf8 : IsUtf8 (slice_range text from at)
+  between_utf8 = IsUtf8-between text from at u (omega arith) cut_from cut_at
+
+  breaks_before : (cs rest : List ℕ) → chars (slice_range text from at) ≡ cs → breaks_at (is_grapheme_break false) (take at text ++ rest) from ≡ is_grapheme_break false (chars_before text from) (cs ++ [])
+  breaks_before [] rest e =
+      let none : length (slice_range text from at) ≡ 0 = ap length (sym (encodes-chars (slice_range text from at) between_utf8)) ∙ ap (λ t. length (encode_utf8_all t)) e in
+      absurd (omega (arith, length-slice_range text from at cut_at.0))
+  breaks_before (c ∷ cs) rest e =
+      ap₂ (is_grapheme_break false) (ap (λ t. reverse (chars t)) (take_before rest)) (ap chars (drop_before rest) ∙ chars-append (slice_range text from at) rest between_utf8 ∙ ap (λ t. t ++ chars rest) e)
+      ∙ next_alone (chars_before text from) c (cs ++ chars rest) (cs ++ [])
+
+  breaks_still : (rest other : List ℕ) → breaks_at (is_grapheme_break false) (take at text ++ rest) from ≡ breaks_at (is_grapheme_break false) (take at text ++ other) from
+  breaks_still rest other = breaks_before _ rest refl ∙ sym (breaks_before _ other refl)
+
+  -- an insertion behind it leaves it a cluster boundary
+  begins_before : (t : List ℕ) → IsUtf8 (insert_slice text at t) → is_cluster_boundary text from ≡ true
+      → IsCharBoundary (insert_slice text at t) from × (is_cluster_boundary (insert_slice text at t) from ≡ true)
+  begins_before t v begins =
+      let split : insert_slice text at t ≡ take at text ++ (t ++ drop at text) = append_assoc (take at text) t (drop at text) in
+      let fits : at ≤ length text = cut_at.0 in
+      let longer : from ≤ length (insert_slice text at t) = omega (arith, ap length split, length-append (take at text) (t ++ drop at text), length-take-le at text fits) in
+      let cut = IsCharBoundary-from_take (insert_slice text at t) from v longer (subst IsUtf8 (sym (ap (take from) split ∙ take_before (t ++ drop at text))) (IsUtf8-take text from u cut_from)) in
+      (cut,
+      cluster_boundary_is _ from cut ∙ ap (λ s. breaks_at (is_grapheme_break false) s from) split ∙ breaks_still (t ++ drop at text) (drop at text)
+      ∙ ap (λ s. breaks_at (is_grapheme_break false) s from) (take-append-drop at text) ∙ sym (cluster_boundary_is text from cut_from) ∙ begins)
+
+-- the same of a boundary that is the start of the text or before the insertion
+pub begins-insert : (text t : List ℕ) (from at : ℕ) → IsUtf8 text → IsCharBoundary text from → IsCharBoundary text at → (0 < from → from < at) → IsUtf8 (insert_slice text at t)
+    → is_cluster_boundary text from ≡ true → IsCharBoundary (insert_slice text at t) from × (is_cluster_boundary (insert_slice text at t) from ≡ true)
+begins-insert text t from at u cut_from cut_at low v begins =
+    ⊎_elim
+    (λ some. begins_before text u from at cut_from cut_at (low some) t v begins)
+    (λ none.
+    let e : 0 ≡ from = omega arith in
+    subst (λ n. IsCharBoundary (insert_slice text at t) n × (is_cluster_boundary (insert_slice text at t) n ≡ true)) e (IsCharBoundary-start _ v, is_cluster_boundary-start _ v))
+    (cases_lt 0 from)
+
+-- a cluster boundary that is known up to a cursor
+pub record KnownBoundary (text : List ℕ) (from cursor : ℕ) : Type 0 where
+  pub boundary : IsCharBoundary text from
+  pub begins : is_cluster_boundary text from ≡ true
+  pub order : from ≤ cursor
+  pub before : 0 < from → from < cursor
+
+-- the start is one
+pub KnownBoundary-start : (text : List ℕ) (cursor : ℕ) → IsUtf8 text → KnownBoundary text 0 cursor
+KnownBoundary-start text cursor u =
+    record { boundary = IsCharBoundary-start text u; begins = is_cluster_boundary-start text u; order = omega arith; before = λ some. absurd (omega arith) }

@@ -4,7 +4,7 @@ ghost use Rattle.std.specs.Prelude.{◌≡◌, ◌+◌, ◌*◌, ◌^◌, ◌<�
 ghost use Rattle.std.specs.Str.{chars, IsCharBoundary};
 
 use crate::actions::{Movement, RepeatCount};
-use crate::clusters::cluster_after;
+use crate::clusters::{cluster_after, cluster_from};
 use crate::movements::destination;
 use crate::text::Text;
 use std::alloc::{AllocError, Global};
@@ -144,11 +144,17 @@ impl LineEditBuffer {
             return Err(AllocError);
         };
         self.line.reserve(more, count)?;
+        // A cluster boundary up to the cursor, so that no round looks at what stands before it.
+        let mut from = 0;
         for _round in 0..count {
             let Ok(()) = self.line.insert_char(self.cursor, c) else {
                 unreachable!()
             };
-            self.cursor = cluster_after(self.line.as_str(), self.cursor);
+            let (begins, next) = cluster_from(self.line.as_str(), from, self.cursor);
+            if begins {
+                from = self.cursor;
+            }
+            self.cursor = next;
         }
         Ok(())
     }

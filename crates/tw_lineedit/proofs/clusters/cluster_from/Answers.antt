@@ -1,7 +1,7 @@
-use Rattle.std.proofs.Common.{◌≡◌, ◌+◌, ◌-◌, ◌<◌, ◌≤◌, length, drop, refl, sym, ap, subst, ◌∙◌, arith, rules, true, false}
+use Rattle.std.proofs.Common.{◌≡◌, ◌-◌, length, refl, sym, subst, ◌∙◌, arith, rules, false}
 use Rattle.std.proofs.lemmas.Str.{IsCharBoundary-from_rest}
 use Rattle.std.specs.Str.{IsCharBoundary}
-use Rattle.unicode_segmentation.specs.Cursor.{IsCursorOn, IsNextBoundary, cursor_offset}
+use Rattle.unicode_segmentation.specs.Cursor.{IsCursorOn, IsNextBoundary}
 use Rattle.unicode_segmentation.specs.Grapheme.{is_grapheme_break}
 use Rattle.unicode_segmentation.specs.Segments.{breaks_at}
 use Rattle.unicode_segmentation.proofs.CursorLemmas.{IsChunkOf-whole}
