@@ -3,7 +3,7 @@
 use std::alloc::{AllocError, Global};
 use std::fmt::{self, Display, Formatter, Write};
 use std::time::Duration;
-use tw_lineedit::{LineEditBuffer, Movement};
+use tw_lineedit::{Action, LineEditBuffer, Movement};
 
 /// How often each operation is done. It is even, so that each step ahead has its step back.
 const ROUNDS: u32 = 50;
@@ -22,7 +22,7 @@ pub enum Kind {
 
 impl Kind {
     /// The character that is not a space.
-    fn character(self) -> char {
+    pub fn character(self) -> char {
         match self {
             Kind::Ascii => 'a',
             Kind::TwoBytes => '\u{e9}',
@@ -143,6 +143,17 @@ impl Workload {
         let (index, _) = self.buffer.find_cursor();
         (index, self.buffer.get_line().len())
     }
+}
+
+/// The actions that make a line of so many characters, with the cursor in its middle.
+pub fn split_line(alloc: Global, kind: Kind, characters: usize) -> Result<[Action; 3], AllocError> {
+    let back = kind.line(alloc, characters / 2)?;
+    let front = kind.line(alloc, characters / 2)?;
+    Ok([
+        Action::InsertText(1, back),
+        Action::Move(Movement::StartOfLine),
+        Action::InsertText(1, front),
+    ])
 }
 
 /// The nanoseconds of each round.
