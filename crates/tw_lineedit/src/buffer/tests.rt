@@ -209,6 +209,24 @@ fn counted_insertions_repeat_the_insertion(rt: HostRuntime) -> Result<(), Fail> 
     Ok(())
 }
 
+// Two regional indicators make a flag, counted from where their run begins. Each round inserts behind the flag that the
+// round before made with what stood there.
+#[test]
+fn counted_flags_pair_up(rt: HostRuntime) -> Result<(), Fail> {
+    let rows = [
+        (8, 3, "\u{1f1e9}\u{1f1ea}\u{1f1e6}\u{1f1eb}\u{1f1e6}\u{1f1f7}\u{1f1e6}", 28),
+        (4, 2, "\u{1f1e9}\u{1f1e6}\u{1f1e6}\u{1f1ea}\u{1f1eb}\u{1f1f7}", 16),
+        (16, 2, "\u{1f1e9}\u{1f1ea}\u{1f1eb}\u{1f1f7}\u{1f1e6}\u{1f1e6}", 24),
+    ];
+    for (cursor, count, want, target) in rows {
+        let line = "\u{1f1e9}\u{1f1ea}\u{1f1eb}\u{1f1f7}";
+        let mut buffer = buffer_at(&rt, rt.alloc(), line, cursor)?;
+        buffer.insert_char_times(count, '\u{1f1e6}')?;
+        assert_cut(&rt, &buffer, want, target);
+    }
+    Ok(())
+}
+
 #[test]
 fn insertions_of_nothing_change_nothing(rt: HostRuntime) -> Result<(), Fail> {
     let mut buffer = buffer_at(&rt, rt.alloc(), "ab", 1)?;
