@@ -232,10 +232,11 @@ module _ (text : List ℕ) (u : IsUtf8 text) (from at : ℕ) (cut_from : IsCharB
       let split : insert_slice text at t ≡ take at text ++ (t ++ drop at text) = append_assoc (take at text) t (drop at text) in
       let fits : at ≤ length text = cut_at.0 in
       let longer : from ≤ length (insert_slice text at t) = omega (arith, ap length split, length-append (take at text) (t ++ drop at text), length-take-le at text fits) in
-      let cut = IsCharBoundary-from_take (insert_slice text at t) from v longer (subst IsUtf8 (sym (ap (take from) split ∙ take_before (t ++ drop at text))) (IsUtf8-take text from u cut_from)) in
-      (cut,
-      cluster_boundary_is _ from cut ∙ ap (λ s. breaks_at (is_grapheme_break false) s from) split ∙ breaks_still (t ++ drop at text) (drop at text)
-      ∙ ap (λ s. breaks_at (is_grapheme_break false) s from) (take-append-drop at text) ∙ sym (cluster_boundary_is text from cut_from) ∙ begins)
+      let cut = IsCharBoundary-from_take (insert_slice text at t) from v longer (subst IsUtf8 (sym (ap (take from) split ∙ take_before (t ++ drop at text))) (IsUtf8-take text from u cut_from)) in (
+        cut,
+        cluster_boundary_is _ from cut ∙ ap (λ s. breaks_at (is_grapheme_break false) s from) split ∙ breaks_still (t ++ drop at text) (drop at text)
+            ∙ ap (λ s. breaks_at (is_grapheme_break false) s from) (take-append-drop at text) ∙ sym (cluster_boundary_is text from cut_from) ∙ begins,
+      )
 
 -- the same of a boundary that is the start of the text or before the insertion
 pub begins-insert : (text t : List ℕ) (from at : ℕ) → IsUtf8 text → IsCharBoundary text from → IsCharBoundary text at → (0 < from → from < at) → IsUtf8 (insert_slice text at t)

@@ -214,9 +214,24 @@ fn counted_insertions_repeat_the_insertion(rt: HostRuntime) -> Result<(), Fail> 
 #[test]
 fn counted_flags_pair_up(rt: HostRuntime) -> Result<(), Fail> {
     let rows = [
-        (8, 3, "\u{1f1e9}\u{1f1ea}\u{1f1e6}\u{1f1eb}\u{1f1e6}\u{1f1f7}\u{1f1e6}", 28),
-        (4, 2, "\u{1f1e9}\u{1f1e6}\u{1f1e6}\u{1f1ea}\u{1f1eb}\u{1f1f7}", 16),
-        (16, 2, "\u{1f1e9}\u{1f1ea}\u{1f1eb}\u{1f1f7}\u{1f1e6}\u{1f1e6}", 24),
+        (
+            8,
+            3,
+            "\u{1f1e9}\u{1f1ea}\u{1f1e6}\u{1f1eb}\u{1f1e6}\u{1f1f7}\u{1f1e6}",
+            28,
+        ),
+        (
+            4,
+            2,
+            "\u{1f1e9}\u{1f1e6}\u{1f1e6}\u{1f1ea}\u{1f1eb}\u{1f1f7}",
+            16,
+        ),
+        (
+            16,
+            2,
+            "\u{1f1e9}\u{1f1ea}\u{1f1eb}\u{1f1f7}\u{1f1e6}\u{1f1e6}",
+            24,
+        ),
     ];
     for (cursor, count, want, target) in rows {
         let line = "\u{1f1e9}\u{1f1ea}\u{1f1eb}\u{1f1f7}";
