@@ -146,7 +146,7 @@ impl BasicHistory {
     }
 
     /// All lines one after the other as one text, and the end offset of each line in it. Takes no memory.
-    #[tactic(auto, using(crate::proofs::JoinedLemmas::concat_lines_from, crate::proofs::JoinedLemmas::ends_from_lines, crate::proofs::JoinedLemmas::boundaries,))]
+    #[tactic(auto, using(crate::proofs::JoinedLemmas::concat_lines_from, crate::proofs::JoinedLemmas::ends_from_lines, crate::proofs::JoinedLemmas::boundaries))]
     pub fn joined(&self) -> (&str, &[usize])
         ensures text { result.0.now ≡ concat self.now }
         ensures ends { result.1.now ≡ ends_from 0 self.now }

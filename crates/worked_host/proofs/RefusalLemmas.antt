@@ -30,17 +30,17 @@ module _ (state : EditState) (last : Option Mark) (new : TerminalState) where
     Fails f = FailsToReadAndRemember command_rules commands (λ h. h.history) with_lines gives f seen host
 
     refused : (e : Error) → Fails (before v old) e → FailsToReadCommand v (commands host) old new e
-    refused e (inl fails) = inr (inl (record { editor = seen host; reads = fails; terminal = refl; host = refl }))
+    refused e (inl fails) = inl (record { editor = seen host; reads = fails; terminal = refl; host = refl })
     refused e (inr fails) =
         let same : commands host ≡ commands fails.between =
         ap commands fails.fails.kept ∙ ap (λ lines. commands (with_lines fails.between lines)) fails.fails.lines in
         let reads = fails.reads in
-        inr (inr (record {
+        inr (record {
           line = fails.line;
           reads = record { answer_is = reads.answer_is; batches = reads.batches; left = reads.left; size = reads.size; state = refl; value = refl; flushed = reads.flushed; failures = reads.failures };
           host = same ∙ reads.value;
           memory = fails.memory;
-        }))
+        })
 
     -- a call on the editor f, which is new, over a terminal that is the editor's at the end
     pub refused-command : {A : Type 0} (r : Result A Error) (f : Frame Commands) (terminal : TerminalState) → f ≡ before v old → new ≡ terminal

@@ -33,11 +33,6 @@ pub record ReadsCommand (v w : Commands) (old new : TerminalState) (line : Optio
   pub reads : Reads (run_for v old) (before v old) (after (run_for v old) new) (Ok line)
   pub host : w ≡ remembered (run_for v old).value line
 
--- the editor could not be made: memory was lacking, and the host is as it was
-pub record IsNotMade (v w : Commands) (e : Error) : Type 0 where
-  pub memory : IsMemory e
-  pub host : w ≡ v
-
 -- the reading was refused: the terminal and the host are those of the editor, which is gone since
 pub record IsTurnedAway (v w : Commands) (old new : TerminalState) (e : Error) : Type 0 where
   pub editor : Frame Commands
@@ -54,4 +49,4 @@ pub record IsForgotten (v w : Commands) (old new : TerminalState) (e : Error) : 
 
 -- what a refused call leaves
 abbrev pub FailsToReadCommand : Commands → Commands → TerminalState → TerminalState → Error → Type 0
-FailsToReadCommand v w old new e = IsNotMade v w e ⊎ (IsTurnedAway v w old new e ⊎ IsForgotten v w old new e)
+FailsToReadCommand v w old new e = IsTurnedAway v w old new e ⊎ IsForgotten v w old new e

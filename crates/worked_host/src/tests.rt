@@ -2,7 +2,7 @@ use super::*;
 use std::alloc::{AllocError, Global};
 use std::test::Fail;
 use tw_input::{InputEvent, KeyCode, KeyEvent, Modifiers};
-use tw_lineedit::Error;
+use tw_lineedit::{Error, History, LineEditorHost};
 use tw_surface::{AttributeChange, Change, Intensity};
 use tw_terminal::{ScreenSize, ScriptTerminal};
 
@@ -79,6 +79,19 @@ fn read_lines_come_back(rt: HostRuntime) -> Result<(), Fail> {
         let line = read(alloc, &mut host, keys)?;
         assert!(rt; line.as_deref() == answer, "{keys:?}");
     }
+    Ok(())
+}
+
+/// A call of the terminal is refused in the midst of the line.
+#[test]
+fn a_refused_reading_adds_nothing(rt: HostRuntime) -> Result<(), Fail> {
+    let alloc = rt.alloc();
+    let mut host = host_of_three(alloc)?;
+    let mut terminal = terminal_of(alloc, "copy\n")?;
+    terminal.fail_at(5, 0);
+    let refused = read_command(alloc, &mut terminal, &mut host);
+    assert_eq!(rt; refused.err().map(|error| error.number()), Some(7));
+    assert_eq!(rt; host.history().last(), None);
     Ok(())
 }
 
