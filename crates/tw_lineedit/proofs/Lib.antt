@@ -24,6 +24,7 @@ pub mod FailureLemmas
 pub mod StationLemmas
 pub mod PaintLemmas
 pub mod ScreenRunLemmas
+pub mod WorkedRuns
 pub mod WalkLemmas
 pub mod EnumerationLemmas
 pub mod LandingLemmas
@@ -31,4 +32,3 @@ pub mod CandidateLemmas
 pub mod AdvanceLemmas
 pub mod CycleLemmas
 pub mod SeamLemmas
-pub mod WorkedRuns

@@ -311,7 +311,7 @@ module _ {V : Type 0} (rules : HostRules V) where
       mark_from f.terminal.events false (progress_of f) ∙ ap (mark_after (stations_of rules f)) h.nothing_painted
       ∙ ap (λ (stations : List (Station V)). mark_after stations None) h.stations ∙ no_later_mark earlier station later None painted none in (
         taken-is f w earlier station later before h
-        ∙ ap (λ (b : List Batch). f.terminal.batches ++ b) (no_more_batches earlier station later None painted none),
+            ∙ ap (λ (b : List Batch). f.terminal.batches ++ b) (no_more_batches earlier station later None painted none),
         rw (marks, closing_is_shots earlier station None painted, played-is f w earlier station later before h, scenes) closed,
       )
 

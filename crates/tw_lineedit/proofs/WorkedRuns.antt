@@ -1,10 +1,10 @@
 -- Worked runs, by computation: the premises of what a screen shows are met, and its conclusions are what is seen.
-use Rattle.std.proofs.Common.{◌≡◌, ℕ, zero, suc, pos, List, [], ◌∷◌, ◌++◌, true, false, refl, map, None, Result, Ok, Err, arith}
+use Rattle.std.proofs.Common.{◌≡◌, ℕ, zero, suc, pos, List, [], ◌∷◌, ◌++◌, false, refl, map, None, Result, Ok, Err, arith}
 use Rattle.std.specs.List.{All}
-use Rattle.std.proofs.lemmas.List.Elements.{All-nil, All-cons}
+use Rattle.std.proofs.lemmas.List.Elements.{All-from_recursion}
 use Rattle.tw_surface.specs.Width.{column_width}
 use Rattle.tw_surface.specs.Places.{pieces}
-use Rattle.tw_surface.specs.Pictures.{Picture, cursor_at}
+use Rattle.tw_surface.specs.Pictures.{Picture}
 use Rattle.tw_surface.specs.Paintings.{Painting}
 use Rattle.tw_surface.specs.Shots.{IsPlainAt, play_batches}
 use Rattle.tw_input.specs.EventView.{EventView, Key, Resized, Paste}
@@ -66,10 +66,7 @@ before_kill = at_kill 0 ∷ at_kill 1 ∷ at_kill 2 ∷ []
 plain_kill : All (IsPlainAt 5) (map (sized_scene rules) (before_kill ++ at_kill 3 ∷ []))
 unfolding pieces column_width painted_on apply destination again sought boundary_below is_boundary repeated greatest_below
 plain_kill =
-    All-cons (IsPlainAt 5) (sized_scene rules (at_kill 0)) (sized_scene rules (at_kill 1) ∷ sized_scene rules (at_kill 2) ∷ sized_scene rules (at_kill 3) ∷ []) (refl, record { prompt = refl; line = refl; lower = tt })
-    (All-cons (IsPlainAt 5) (sized_scene rules (at_kill 1)) (sized_scene rules (at_kill 2) ∷ sized_scene rules (at_kill 3) ∷ []) (refl, record { prompt = refl; line = refl; lower = tt })
-    (All-cons (IsPlainAt 5) (sized_scene rules (at_kill 2)) (sized_scene rules (at_kill 3) ∷ []) (refl, record { prompt = refl; line = refl; lower = tt })
-    (All-cons (IsPlainAt 5) (sized_scene rules (at_kill 3)) [] (refl, record { prompt = refl; line = refl; lower = tt }) (All-nil (IsPlainAt 5)))))
+    All-from_recursion (IsPlainAt 5) (map (sized_scene rules) (before_kill ++ at_kill 3 ∷ [])) ((refl, record { prompt = refl; line = refl; lower = tt }), ((refl, record { prompt = refl; line = refl; lower = tt }), ((refl, record { prompt = refl; line = refl; lower = tt }), ((refl, record { prompt = refl; line = refl; lower = tt }), tt))))
 
 comes_kill : Comes rules killed 5 before_kill (at_kill 3) [] full
 unfolding pieces column_width painted_on apply destination again sought boundary_below is_boundary repeated greatest_below
@@ -111,9 +108,7 @@ before_clearing = at_clearing 0 ∷ at_clearing 1 ∷ []
 plain_clearing : All (IsPlainAt 10) (map (sized_scene rules) (before_clearing ++ at_clearing 2 ∷ []))
 unfolding pieces column_width painted_on apply destination again sought boundary_below is_boundary repeated greatest_below
 plain_clearing =
-    All-cons (IsPlainAt 10) (sized_scene rules (at_clearing 0)) (sized_scene rules (at_clearing 1) ∷ sized_scene rules (at_clearing 2) ∷ []) (refl, record { prompt = refl; line = refl; lower = tt })
-    (All-cons (IsPlainAt 10) (sized_scene rules (at_clearing 1)) (sized_scene rules (at_clearing 2) ∷ []) (refl, record { prompt = refl; line = refl; lower = tt })
-    (All-cons (IsPlainAt 10) (sized_scene rules (at_clearing 2)) [] (refl, record { prompt = refl; line = refl; lower = tt }) (All-nil (IsPlainAt 10))))
+    All-from_recursion (IsPlainAt 10) (map (sized_scene rules) (before_clearing ++ at_clearing 2 ∷ [])) ((refl, record { prompt = refl; line = refl; lower = tt }), ((refl, record { prompt = refl; line = refl; lower = tt }), ((refl, record { prompt = refl; line = refl; lower = tt }), tt)))
 
 comes_clearing : Comes rules cleared 10 before_clearing (at_clearing 2) [] full
 unfolding pieces column_width painted_on apply destination again sought boundary_below is_boundary repeated greatest_below
@@ -149,8 +144,7 @@ at_refusal n = nth (stations_of rules refused) n
 plain_refusal : All (IsPlainAt 4) (map (sized_scene rules) (at_refusal 0 ∷ at_refusal 1 ∷ []))
 unfolding pieces column_width painted_on apply destination again sought boundary_below is_boundary repeated greatest_below
 plain_refusal =
-    All-cons (IsPlainAt 4) (sized_scene rules (at_refusal 0)) (sized_scene rules (at_refusal 1) ∷ []) (refl, record { prompt = refl; line = refl; lower = tt })
-    (All-cons (IsPlainAt 4) (sized_scene rules (at_refusal 1)) [] (refl, record { prompt = refl; line = refl; lower = tt }) (All-nil (IsPlainAt 4)))
+    All-from_recursion (IsPlainAt 4) (map (sized_scene rules) (at_refusal 0 ∷ at_refusal 1 ∷ [])) ((refl, record { prompt = refl; line = refl; lower = tt }), ((refl, record { prompt = refl; line = refl; lower = tt }), tt))
 
 comes_refusal : Comes rules refused 4 (at_refusal 0 ∷ []) (at_refusal 1) (at_refusal 2 ∷ []) full
 unfolding pieces column_width painted_on apply destination again sought boundary_below is_boundary repeated greatest_below
@@ -166,7 +160,7 @@ comes_refusal = record {
 
 nothing_rendered : All (RendersNothing rules) (at_refusal 2 ∷ [])
 unfolding pieces column_width painted_on apply destination again sought boundary_below is_boundary repeated greatest_below
-nothing_rendered = All-cons (RendersNothing rules) (at_refusal 2) [] (record { refused = (ZeroSize, refl); not_cleared = refl }) (All-nil (RendersNothing rules))
+nothing_rendered = All-from_recursion (RendersNothing rules) (at_refusal 2 ∷ []) (record { refused = (ZeroSize, refl); not_cleared = refl }, tt)
 
 abbrev after_refusal : Picture
 after_refusal = play_batches 4 (closing_if (run_of rules refused).last) (play_batches 4 (batches_of rules (at_refusal 0 ∷ at_refusal 1 ∷ [])) full)
