@@ -2,7 +2,7 @@
 use Rattle.std.specs.Prelude.{ℕ, Bool, true, false, ⊤, List, [], ◌∷◌, Option, Some, None, take, drop, refl}
 use Rattle.std.proofs.Common.{subst}
 use Rattle.tw_surface.specs.declared.cell.AttributeChange.TheVariants.{Reverse}
-use Rattle.tw_lineedit.specs.declared.host.OwnAnswers.{OwnAnswers}
+use Rattle.tw_lineedit.specs.declared.OwnAnswers.{OwnAnswers}
 use Rattle.tw_lineedit.specs.Cut.{Cut}
 use Rattle.tw_lineedit.specs.ElementView.{ElementView, Attribute, Text}
 use Rattle.tw_lineedit.specs.HostRules.{HostRules, plain_text, unresolved}

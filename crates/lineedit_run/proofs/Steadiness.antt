@@ -9,8 +9,8 @@ use Rattle.tw_lineedit.specs.Outcomes.{Outcome, is_over}
 use Rattle.tw_lineedit.specs.Painting.{Rendered}
 use Rattle.tw_lineedit.specs.Run.{Frame, Progress, Ending, Moment, Cause, painting_at, state_after, shown, handled, at_end, after_event, at_event, run, run_of, CanStop, unmeasured, unpainted, half_painted, unpolled, uncopied, unresolved, unapplied, half_cleared, later}
 use Rattle.tw_lineedit.specs.Reading.{start, Reads, FailsToRead, Starves, Halts, ClosesBadly}
-use Rattle.tw_lineedit.specs.declared.error.Error.{Error}
-use Rattle.tw_lineedit.specs.declared.error.Error.TheVariants.{Memory, Terminal}
+use Rattle.tw_lineedit.specs.declared.Error.{Error}
+use Rattle.tw_lineedit.specs.declared.Error.TheVariants.{Memory, Terminal}
 use Rattle.lineedit_run.specs.Reading.{IsSteady}
 
 module _ {V : Type 0} (rules : HostRules V) (steady : IsSteady rules) where

@@ -1,6 +1,6 @@
 -- A host that counts how often it is asked, and answers plainly.
 use Rattle.std.specs.Prelude.{ℕ, true, false, List, refl}
-use Rattle.tw_lineedit.specs.declared.host.OwnAnswers.{OwnAnswers}
+use Rattle.tw_lineedit.specs.declared.OwnAnswers.{OwnAnswers}
 use Rattle.tw_lineedit.specs.HostRules.{plain_rules}
 use Rattle.tw_lineedit.specs.PlainAnswers.{IsPlainBut}
 

@@ -1,7 +1,7 @@
 -- A host that puts the cursor of every line at one column.
 use Rattle.std.specs.Prelude.{ℕ, true, false, List, [], refl}
 use Rattle.std.proofs.lemmas.Bool.{true≢false}
-use Rattle.tw_lineedit.specs.declared.host.OwnAnswers.{OwnAnswers}
+use Rattle.tw_lineedit.specs.declared.OwnAnswers.{OwnAnswers}
 use Rattle.tw_lineedit.specs.HostRules.{HostRules, plain_text, unresolved}
 use Rattle.tw_lineedit.specs.PlainAnswers.{IsPlainBut}
 

@@ -4,7 +4,7 @@ use Rattle.std.proofs.lemmas.Bool.{true≢false}
 use Rattle.tw_input.specs.declared.key.KeyCode.{KeyCode}
 use Rattle.tw_input.specs.declared.key.KeyCode.TheVariants.{Escape, Function}
 use Rattle.tw_input.specs.EventView.{EventView, Key}
-use Rattle.tw_lineedit.specs.declared.host.OwnAnswers.{OwnAnswers}
+use Rattle.tw_lineedit.specs.declared.OwnAnswers.{OwnAnswers}
 use Rattle.tw_lineedit.specs.ActionView.{Cancel, NoAction}
 use Rattle.tw_lineedit.specs.Cut.{Cut, cut_at}
 use Rattle.tw_lineedit.specs.HostRules.{HostRules, Resolution, plain_text, plain_highlight, unresolved}

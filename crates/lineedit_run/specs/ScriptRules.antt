@@ -1,7 +1,7 @@
 -- The host of a script: one preview under every line, and the same candidates at every request.
 use Rattle.std.specs.Prelude.{◌≡◌, ℕ, true, false, List, [], ◌∷◌, ◌++◌, Some, refl}
 use Rattle.std.proofs.lemmas.Bool.{true≢false}
-use Rattle.tw_lineedit.specs.declared.host.OwnAnswers.{OwnAnswers}
+use Rattle.tw_lineedit.specs.declared.OwnAnswers.{OwnAnswers}
 use Rattle.tw_lineedit.specs.CandidateView.{CandidateView}
 use Rattle.tw_lineedit.specs.ElementView.{ElementView}
 use Rattle.tw_lineedit.specs.HostRules.{HostRules, plain_text, plain_highlight, unresolved}

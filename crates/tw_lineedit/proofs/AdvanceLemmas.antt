@@ -3,13 +3,13 @@ use Rattle.std.proofs.Common.{◌≡◌, ℕ, ◌+◌, ◌%◌, ◌<◌, List, l
 use Rattle.std.proofs.Math.Nat.{mod-lt}
 use Rattle.std.proofs.lemmas.List.{length-map}
 use Rattle.std.proofs.lemmas.Option.{slice_get-map, slice_get_read}
-use Rattle.tw_lineedit.specs.Cut.{Cut}
-use Rattle.tw_lineedit.specs.CandidateView.{candidate_view, completed_by}
+use Rattle.tw_line.specs.Cut.{Cut}
+use Rattle.tw_host.specs.CandidateView.{candidate_view, completed_by}
 use Rattle.tw_lineedit.specs.Completion.{next_in}
 use Rattle.tw_lineedit.specs.CompletionSteps.{Advances, FailsToAdvance, IsMisfit}
-use Rattle.tw_lineedit.specs.EditState.{CycleView}
-use Rattle.tw_lineedit.specs.declared.error.Error.{Error}
-use Rattle.tw_lineedit.specs.declared.host.CompletionCandidate.{CompletionCandidate}
+use Rattle.tw_painter.specs.EditState.{CycleView}
+use Rattle.tw_painter.specs.declared.error.Error.{Error}
+use Rattle.tw_host.specs.declared.host.CompletionCandidate.{CompletionCandidate}
 
 module _ (items : List CompletionCandidate) (index at : ℕ) (original : Cut) (c : CompletionCandidate) (low : index < length items) (on : at ≡ (index + 1) % length items) (there : c ≡ get_or items at c) where
   -- a cycle of these candidates

@@ -2,9 +2,9 @@
 use Rattle.std.proofs.Common.{◌≡◌, ℕ, ◌+◌, ◌-◌, ◌<◌, ◌≤◌, true, false, List, ◌++◌, length, take, drop, append_assoc, refl, arith}
 use Rattle.std.proofs.lemmas.Bool.{and_parts, leb-true, le-leb, false_from_ne_true}
 use Rattle.std.specs.Str.{IsCharBoundary}
-use Rattle.tw_lineedit.specs.Cut.{Cut, cut_at}
-use Rattle.tw_lineedit.specs.CandidateView.{CandidateView, fits, replaced, landing}
-use Rattle.tw_lineedit.proofs.BoundaryLemmas.{is_boundary-from, IsCharBoundary-from}
+use Rattle.tw_line.specs.Cut.{Cut, cut_at}
+use Rattle.tw_host.specs.CandidateView.{CandidateView, fits, replaced, landing}
+use Rattle.tw_line.proofs.BoundaryLemmas.{is_boundary-from, IsCharBoundary-from}
 use Rattle.tw_lineedit.proofs.LandingLemmas.{boundary_behind, boundary_before, boundary_was_before, boundary_inside, boundary_was_inside}
 
 -- the parts of the test, as facts

@@ -3,16 +3,16 @@ use Rattle.std.proofs.Common.{◌≡◌, ℕ, List, IsSome, [], ◌++◌, length
 use Rattle.std.proofs.lemmas.List.{append-nil}
 use Rattle.tw_surface.specs.ChangeView.{Batch}
 use Rattle.tw_terminal.specs.TerminalState.{TerminalState, count_up, RenderFails}
-use Rattle.tw_lineedit.specs.HostRules.{HostRules}
-use Rattle.tw_lineedit.specs.EditState.{EditState, Inactive}
-use Rattle.tw_lineedit.specs.Refusal.{refusal_of}
+use Rattle.tw_host.specs.HostRules.{HostRules}
+use Rattle.tw_painter.specs.EditState.{EditState, Inactive}
+use Rattle.tw_painter.specs.Refusal.{refusal_of}
 use Rattle.tw_lineedit.specs.Outcomes.{Outcome}
-use Rattle.tw_lineedit.specs.Painting.{Mark, closing, closing_if}
+use Rattle.tw_painter.specs.Painting.{Mark, closing, closing_if}
 use Rattle.tw_lineedit.specs.Run.{Frame, Ending, Moment, run_of, ending, StandsAt, Quiet, IsAnswered, IsRefused}
 use Rattle.tw_lineedit.specs.Frame.{Closes, CutsClosing, MissesFlush, FailsToClose}
 use Rattle.tw_lineedit.specs.Reading.{start, unbegun, Reads, paused, ClosesWhole, ClosesInPart, ClosesUnflushed, ClosesBadly, Starves, Faults, Halts, FailsToRead, IsTurnedDown}
-use Rattle.tw_lineedit.specs.declared.error.Error.{Error}
-use Rattle.tw_lineedit.specs.declared.error.Error.TheVariants.{Memory, Terminal}
+use Rattle.tw_painter.specs.declared.error.Error.{Error}
+use Rattle.tw_painter.specs.declared.error.Error.TheVariants.{Memory, Terminal}
 
 module _ {V : Type 0} where
   -- the mode once the run is closed

@@ -5,11 +5,11 @@ use Rattle.std.proofs.Math.Nat.{mod-lt, mod-eq_of_lt, mod-add-mod}
 use Rattle.std.proofs.lemmas.Bool.{lt-ltb}
 use Rattle.std.proofs.lemmas.List.Sums.{AllPass-from_list_all}
 use Rattle.std.proofs.lemmas.Option.{slice_get-get_or}
-use Rattle.tw_lineedit.specs.Cut.{Cut, cut_at}
-use Rattle.tw_lineedit.specs.CandidateView.{CandidateView, fits, replaced, landing, completed_by}
-use Rattle.tw_lineedit.specs.ActionView.{Complete}
-use Rattle.tw_lineedit.specs.HostRules.{HostRules}
-use Rattle.tw_lineedit.specs.EditState.{EditState, ModeView, Inactive, Editing, Cancelled, Accepted, Searching}
+use Rattle.tw_line.specs.Cut.{Cut, cut_at}
+use Rattle.tw_host.specs.CandidateView.{CandidateView, fits, replaced, landing, completed_by}
+use Rattle.tw_host.specs.ActionView.{Complete}
+use Rattle.tw_host.specs.HostRules.{HostRules}
+use Rattle.tw_painter.specs.EditState.{EditState, ModeView, Inactive, Editing, Cancelled, Accepted, Searching}
 use Rattle.tw_lineedit.specs.Searches.{IsSearching, left_in}
 use Rattle.tw_lineedit.specs.Completion.{completed}
 use Rattle.tw_lineedit.specs.Steps.{apply}

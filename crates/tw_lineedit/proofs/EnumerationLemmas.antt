@@ -2,20 +2,20 @@
 use Rattle.std.proofs.Common.{◌≡◌, ℕ, zero, suc, ◌+◌, ◌-◌, ◌<◌, ◌≤◌, min, Bool, cond, List, [], ◌∷◌, ◌++◌, length, take, reverse, filter, replicate, slice_get, Option, Some, None, option_map, Result, Ok, IsOkAnd, refl, ap, sym, subst, ◌∙◌, arith, ⊎_elim}
 use Rattle.std.proofs.lemmas.Bool.{cases_Bool, lt-ltb, ne_eqb}
 use Rattle.std.proofs.lemmas.List.{take_more, take_all, reverse-append}
-use Rattle.tw_lineedit.specs.Cut.{Cut, cut_at}
-use Rattle.tw_lineedit.specs.Extremes.{greatest_below, repeated}
-use Rattle.tw_lineedit.specs.Patterns.{contains}
-use Rattle.tw_lineedit.specs.Near.{MatchView, line_at, last_index, matches, match_at, near}
-use Rattle.tw_lineedit.specs.ActionView.{InsertChar, InsertText, HistoryIncSearchBackwards}
-use Rattle.tw_lineedit.specs.HostRules.{HostRules}
-use Rattle.tw_lineedit.specs.Refusal.{Refusal}
-use Rattle.tw_lineedit.specs.EditState.{EditState, Searching}
-use Rattle.tw_lineedit.specs.Edits.{with_char, with_text}
+use Rattle.tw_line.specs.Cut.{Cut, cut_at}
+use Rattle.tw_extremes.specs.Extremes.{greatest_below, repeated}
+use Rattle.tw_history.specs.Patterns.{contains}
+use Rattle.tw_history.specs.Near.{MatchView, line_at, last_index, matches, match_at, near}
+use Rattle.tw_host.specs.ActionView.{InsertChar, InsertText, HistoryIncSearchBackwards}
+use Rattle.tw_host.specs.HostRules.{HostRules}
+use Rattle.tw_painter.specs.Refusal.{Refusal}
+use Rattle.tw_painter.specs.EditState.{EditState, Searching}
+use Rattle.tw_line.specs.Edits.{with_char, with_text}
 use Rattle.tw_lineedit.specs.Searches.{near_from, shown_match, again, sought}
 use Rattle.tw_lineedit.specs.Steps.{apply, edited, uncycled}
 use Rattle.tw_lineedit.specs.HistoryLaws.{newest, match_in, apply_all, Enumerates}
-use Rattle.tw_lineedit.specs.declared.history.SearchStyle.{SearchStyle}
-use Rattle.tw_lineedit.specs.declared.history.SearchDirection.TheVariants.{Backwards}
+use Rattle.tw_history.specs.declared.history.SearchStyle.{SearchStyle}
+use Rattle.tw_history.specs.declared.history.SearchDirection.TheVariants.{Backwards}
 use Rattle.tw_lineedit.proofs.WalkLemmas.{IsOkAnd-step}
 
 -- the greatest number below a bound is below it

@@ -2,11 +2,11 @@
 use Rattle.std.proofs.Common.{◌≡◌, ℕ, ◌+◌, ◌<◌, ◌≤◌, ◌==◌, List, Option, cond, Bool, true, false, refl, inl, inr, Err, arith, ◌⊎◌}
 use Rattle.std.proofs.lemmas.Bool.{eqb-true}
 use Rattle.tw_terminal.specs.TerminalState.{count_up}
-use Rattle.tw_lineedit.specs.HostRules.{HostRules}
+use Rattle.tw_host.specs.HostRules.{HostRules}
 use Rattle.tw_lineedit.specs.Run.{Frame}
 use Rattle.tw_lineedit.specs.Reading.{FailsToRead, FailuresTell}
-use Rattle.tw_lineedit.specs.declared.error.Error.{Error}
-use Rattle.tw_lineedit.specs.declared.error.Error.TheVariants.{Memory, Terminal}
+use Rattle.tw_painter.specs.declared.error.Error.{Error}
+use Rattle.tw_painter.specs.declared.error.Error.TheVariants.{Memory, Terminal}
 
 -- the count rose, or could not
 abbrev Rose : ℕ → ℕ → Type 0

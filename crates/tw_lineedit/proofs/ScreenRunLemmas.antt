@@ -12,11 +12,11 @@ use Rattle.tw_surface.specs.Shots.{Shot, SizedScene, IsPlainAt, shot_of, clearin
 use Rattle.tw_surface.specs.Shots as shots
 use Rattle.tw_surface.proofs.SizedScenes.{every_painting, last_painting}
 use Rattle.tw_input.specs.EventView.{EventView}
-use Rattle.tw_lineedit.specs.EditState.{EditState}
-use Rattle.tw_lineedit.specs.HostRules.{HostRules}
+use Rattle.tw_painter.specs.EditState.{EditState}
+use Rattle.tw_host.specs.HostRules.{HostRules}
 use Rattle.tw_lineedit.specs.Outcomes.{is_over, answer_at}
-use Rattle.tw_lineedit.specs.Painting.{Mark, mark_of, start_batch, closing_if, Rendered, rendered, painted_on, is_paintable}
-use Rattle.tw_lineedit.specs.Refusal.{Refusal, ZeroSize, SizeOutOfRange}
+use Rattle.tw_painter.specs.Painting.{Mark, mark_of, start_batch, closing_if, Rendered, rendered, painted_on, is_paintable}
+use Rattle.tw_painter.specs.Refusal.{Refusal, ZeroSize, SizeOutOfRange}
 use Rattle.tw_surface.specs.Scenes.{Scene}
 use Rattle.tw_terminal.specs.declared.terminal.ScreenSize.{ScreenSize}
 use Rattle.tw_lineedit.specs.Run.{Frame, Progress, progress_of, run, run_of, ends, at_end, at_event, after_event, painting_at, shown, chosen, state_after, handled}

@@ -4,12 +4,12 @@ use Rattle.std.proofs.lemmas.List.{append-nil}
 use Rattle.tw_surface.specs.ChangeView.{Batch}
 use Rattle.tw_surface.specs.Paintings.{Painting}
 use Rattle.tw_input.specs.EventView.{EventView}
-use Rattle.tw_lineedit.specs.ActionView.{ActionView, AcceptLine, Cancel, EndOfFile, InsertChar, InsertText, Repaint, Move, Kill, KillAndMove, HistoryPrevious, HistoryNext, Complete, NoAction, HistoryIncSearchBackwards, HistoryIncSearchForwards}
-use Rattle.tw_lineedit.specs.EditState.{EditState}
-use Rattle.tw_lineedit.specs.HostRules.{HostRules}
+use Rattle.tw_host.specs.ActionView.{ActionView, AcceptLine, Cancel, EndOfFile, InsertChar, InsertText, Repaint, Move, Kill, KillAndMove, HistoryPrevious, HistoryNext, Complete, NoAction, HistoryIncSearchBackwards, HistoryIncSearchForwards}
+use Rattle.tw_painter.specs.EditState.{EditState}
+use Rattle.tw_host.specs.HostRules.{HostRules}
 use Rattle.tw_lineedit.specs.Outcomes.{is_over, answer_at}
-use Rattle.tw_lineedit.specs.Painting.{mark_of, start_batch, Rendered, rendered, painted_on}
-use Rattle.tw_lineedit.specs.Refusal.{Refusal}
+use Rattle.tw_painter.specs.Painting.{mark_of, start_batch, Rendered, rendered, painted_on}
+use Rattle.tw_painter.specs.Refusal.{Refusal}
 use Rattle.tw_lineedit.specs.Run.{Progress, progress_of, run, ends, at_end, at_event, after_event, painting_at, shown, chosen, state_after, handled}
 use Rattle.tw_lineedit.specs.Stations.{is_repaint, clear_if, station_at, painting_of, batches_by, batches_after, stations_after, stations_unless, stations_by, stations_from, BatchesByStations}
 use Rattle.tw_lineedit.specs.Steps.{clears_if}

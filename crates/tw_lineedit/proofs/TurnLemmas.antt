@@ -4,16 +4,16 @@ use Rattle.std.proofs.lemmas.List.{append-nil}
 use Rattle.tw_surface.specs.ChangeView.{Batch}
 use Rattle.tw_input.specs.EventView.{EventView}
 use Rattle.tw_terminal.specs.TerminalState.{TerminalState, Fails, RenderFails, count_up, size_after}
-use Rattle.tw_lineedit.specs.EditState.{EditState}
-use Rattle.tw_lineedit.specs.Refusal.{Refusal, refusal_of, IsMemory}
+use Rattle.tw_painter.specs.EditState.{EditState}
+use Rattle.tw_painter.specs.Refusal.{Refusal, refusal_of, IsMemory}
 use Rattle.tw_lineedit.specs.Outcomes.{is_over, answer_at, IsLine}
 use Rattle.tw_lineedit.specs.Steps.{clears_if}
-use Rattle.tw_lineedit.specs.Painting.{Mark, Rendered, clear_batch}
+use Rattle.tw_painter.specs.Painting.{Mark, Rendered, clear_batch}
 use Rattle.tw_lineedit.specs.Run.{Frame, Progress, Moment, Cause, want, fault, run, ends, ending, at_end, at_event, after_event, chosen, state_after, answered, polled, shown, painting_at, moment, progress_of, CanStop, CanStopFrom, unmeasured, unpainted, half_painted, unpolled, uncopied, unresolved, unapplied, half_cleared, later, StandsAt, Quiet, FailsOnce, IsStarved, IsRefused, Follows, Continues, IsEnded}
 use Rattle.tw_lineedit.specs.Frame.{Paints, FailsToPaint, Keeps, CallFails, TakesEvent, HasNoEvent, Handles, FailsToHandle, answered_frame}
-use Rattle.tw_lineedit.specs.declared.error.Error.{Error}
-use Rattle.tw_lineedit.specs.declared.error.Error.TheVariants.{Memory, Terminal}
-use Rattle.tw_lineedit.specs.HostRules.{HostRules}
+use Rattle.tw_painter.specs.declared.error.Error.{Error}
+use Rattle.tw_painter.specs.declared.error.Error.TheVariants.{Memory, Terminal}
+use Rattle.tw_host.specs.HostRules.{HostRules}
 
 module _ {V : Type 0} (rules : HostRules V) where
   -- the run, case by case

@@ -1,17 +1,17 @@
 -- Steps back through the history and as many steps forth give the typed line, and leave the history.
 use Rattle.std.proofs.Common.{◌≡◌, ℕ, zero, suc, ◌+◌, ◌-◌, ◌<◌, ◌≤◌, List, [], ◌∷◌, ◌++◌, length, replicate, Some, None, Ok, IsOkAnd, refl, sym, ap, ◌∙◌, arith}
 use Rattle.std.proofs.lemmas.Option.{slice_get-get_or, slice_get_past}
-use Rattle.tw_lineedit.specs.Cut.{Cut, at_end}
-use Rattle.tw_lineedit.specs.Near.{line_at, last_index, last_line}
-use Rattle.tw_lineedit.specs.ActionView.{ActionView, HistoryPrevious, HistoryNext}
-use Rattle.tw_lineedit.specs.HostRules.{HostRules}
-use Rattle.tw_lineedit.specs.EditState.{EditState, ModeView, Inactive, Editing, Cancelled, Accepted, Searching}
+use Rattle.tw_line.specs.Cut.{Cut, at_end}
+use Rattle.tw_history.specs.Near.{line_at, last_index, last_line}
+use Rattle.tw_host.specs.ActionView.{ActionView, HistoryPrevious, HistoryNext}
+use Rattle.tw_host.specs.HostRules.{HostRules}
+use Rattle.tw_painter.specs.EditState.{EditState, ModeView, Inactive, Editing, Cancelled, Accepted, Searching}
 use Rattle.tw_lineedit.specs.HistorySteps.{previous, next}
 use Rattle.tw_lineedit.specs.Searches.{IsSearching}
 use Rattle.tw_lineedit.specs.Steps.{apply, stepped, uncycled}
 use Rattle.tw_lineedit.specs.HistoryLaws.{apply_all, LeavesHistory, WalksBack}
-use Rattle.tw_lineedit.specs.declared.history.SearchDirection.{SearchDirection}
-use Rattle.tw_lineedit.specs.declared.history.SearchDirection.TheVariants.{Backwards, Forwards}
+use Rattle.tw_history.specs.declared.history.SearchDirection.{SearchDirection}
+use Rattle.tw_history.specs.declared.history.SearchDirection.TheVariants.{Backwards, Forwards}
 
 -- a step through the history in a mode without a search
 stepped-plain : (lines : List (List ℕ)) (direction : SearchDirection) (step : EditState → EditState) (s : EditState) (mode : ModeView) → ¬ (IsSearching mode) → stepped lines direction step s mode ≡ step s

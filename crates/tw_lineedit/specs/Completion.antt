@@ -1,9 +1,9 @@
 -- Completion: candidates that come in in turn.
 use Rattle.std.specs.Prelude.{ℕ, ◌+◌, ◌%◌, nat_lt, List, length, Option, Some, None, Result, Ok, Err, if◌then◌else◌, slice_get}
-use Rattle.tw_lineedit.specs.Cut.{Cut}
-use Rattle.tw_lineedit.specs.CandidateView.{CandidateView, completed_by}
-use Rattle.tw_lineedit.specs.EditState.{EditState, CycleView}
-use Rattle.tw_lineedit.specs.Refusal.{Refusal, CandidateDoesNotFit}
+use Rattle.tw_line.specs.Cut.{Cut}
+use Rattle.tw_host.specs.CandidateView.{CandidateView, completed_by}
+use Rattle.tw_painter.specs.EditState.{EditState, CycleView}
+use Rattle.tw_painter.specs.Refusal.{Refusal, CandidateDoesNotFit}
 
 -- a cut text comes in, with a cycle; where there is none the candidate did not fit
 abbrev pub put_in : EditState → Option CycleView → Option Cut → Result EditState Refusal

@@ -1,10 +1,10 @@
 -- A law of completions, over the definitions alone.
 use Rattle.std.specs.Prelude.{◌≡◌, ℕ, ◌-◌, ◌%◌, ◌≤◌, true, length, replicate, slice_get, Some, None, IsOkAnd}
 use Rattle.std.specs.List.{list_all}
-use Rattle.tw_lineedit.specs.CandidateView.{CandidateView, fits, completed_by}
-use Rattle.tw_lineedit.specs.ActionView.{Complete}
-use Rattle.tw_lineedit.specs.HostRules.{HostRules}
-use Rattle.tw_lineedit.specs.EditState.{EditState}
+use Rattle.tw_host.specs.CandidateView.{CandidateView, fits, completed_by}
+use Rattle.tw_host.specs.ActionView.{Complete}
+use Rattle.tw_host.specs.HostRules.{HostRules}
+use Rattle.tw_painter.specs.EditState.{EditState}
 use Rattle.tw_lineedit.specs.Searches.{IsSearching}
 use Rattle.tw_lineedit.specs.HistoryLaws.{apply_all}
 

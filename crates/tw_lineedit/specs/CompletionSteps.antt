@@ -1,11 +1,11 @@
 -- What a session's completion does.
 use Rattle.std.specs.Prelude.{◌≡◌, Some, None, slice_get}
-use Rattle.tw_lineedit.specs.Cut.{Cut}
-use Rattle.tw_lineedit.specs.CandidateView.{CandidateView, completed_by}
-use Rattle.tw_lineedit.specs.EditState.{CycleView}
+use Rattle.tw_line.specs.Cut.{Cut}
+use Rattle.tw_host.specs.CandidateView.{CandidateView, completed_by}
+use Rattle.tw_painter.specs.EditState.{CycleView}
 use Rattle.tw_lineedit.specs.Completion.{next_in}
-use Rattle.tw_lineedit.specs.declared.error.Error.{Error}
-use Rattle.tw_lineedit.specs.declared.error.Error.TheVariants.{Memory, CandidateDoesNotFit}
+use Rattle.tw_painter.specs.declared.error.Error.{Error}
+use Rattle.tw_painter.specs.declared.error.Error.TheVariants.{Memory, CandidateDoesNotFit}
 
 -- why a candidate is not put in: memory, or it does not fit
 abbrev pub IsMisfit : CandidateView → Cut → Error → Type 0

@@ -1,8 +1,8 @@
 -- The edits of a session.
 use Rattle.std.specs.Prelude.{⊤}
-use Rattle.tw_lineedit.specs.Cut.{Cut}
-use Rattle.tw_lineedit.specs.Extremes.{repeated}
-use Rattle.tw_lineedit.specs.Edits.{with_char, with_text, killed}
+use Rattle.tw_line.specs.Cut.{Cut}
+use Rattle.tw_extremes.specs.Extremes.{repeated}
+use Rattle.tw_line.specs.Edits.{with_char, with_text, killed}
 use Rattle.tw_lineedit.specs.declared.session.edit.Edit.{Edit}
 use Rattle.tw_lineedit.specs.declared.session.edit.Edit.TheVariants.{InsertChar, InsertText, Kill}
 

@@ -3,18 +3,18 @@ use Rattle.std.specs.Prelude.{◌≡◌, ◌++◌, [], length, Option, Some, Ok,
 use Rattle.tw_surface.specs.ChangeView.{Batch}
 use Rattle.tw_input.specs.EventView.{EventView}
 use Rattle.tw_terminal.specs.TerminalState.{TerminalState, Fails, Takes, Renders, RenderFails, count_up}
-use Rattle.tw_lineedit.specs.ActionView.{ActionView, Repaint}
-use Rattle.tw_lineedit.specs.HostRules.{HostRules}
-use Rattle.tw_lineedit.specs.EditState.{Inactive}
+use Rattle.tw_host.specs.ActionView.{ActionView, Repaint}
+use Rattle.tw_host.specs.HostRules.{HostRules}
+use Rattle.tw_painter.specs.EditState.{Inactive}
 use Rattle.tw_lineedit.specs.SessionView.{SessionView}
-use Rattle.tw_lineedit.specs.Refusal.{refusal_of}
+use Rattle.tw_painter.specs.Refusal.{refusal_of}
 use Rattle.tw_lineedit.specs.Steps.{apply_if, clears_if, TakesMemory}
-use Rattle.tw_lineedit.specs.Painting.{Mark, Rendered, closing, closing_if, clear_batch}
+use Rattle.tw_painter.specs.Painting.{Mark, Rendered, closing, closing_if, clear_batch}
 use Rattle.tw_lineedit.specs.Run.{Frame, progress_of, painting_at, chosen, answered}
-use Rattle.tw_lineedit.specs.Draws.{IsSized}
+use Rattle.tw_painter.specs.Draws.{IsSized}
 use Rattle.tw_lineedit.specs.declared.editor.EditorOver.{EditorOver}
-use Rattle.tw_lineedit.specs.declared.error.Error.{Error}
-use Rattle.tw_lineedit.specs.declared.error.Error.TheVariants.{Memory, Terminal}
+use Rattle.tw_painter.specs.declared.error.Error.{Error}
+use Rattle.tw_painter.specs.declared.error.Error.TheVariants.{Memory, Terminal}
 
 -- an editor with its host and its terminal
 abbrev pub frame : {T H V : Type 0} → (T → TerminalState) → (H → V) → EditorOver T SessionView → H → Frame V

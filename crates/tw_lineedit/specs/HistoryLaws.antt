@@ -1,25 +1,16 @@
--- Laws of walks and searches, over the definitions alone.
+-- Laws of walks and of searches in turn, over the definitions alone.
 use Rattle.std.specs.Prelude.{⊤, ◌≡◌, ℕ, ◌-◌, ◌≤◌, ◌++◌, min, List, [], ◌∷◌, length, replicate, reverse, filter, slice_get, Option, Some, None, Result, Ok, Err, IsOkAnd}
-use Rattle.tw_lineedit.specs.Cut.{Cut, at_end}
-use Rattle.tw_lineedit.specs.Patterns.{contains, IsFirst}
-use Rattle.tw_lineedit.specs.Near.{near, last_line, IsNear}
-use Rattle.tw_lineedit.specs.ActionView.{ActionView, InsertChar, InsertText, HistoryPrevious, HistoryNext, HistoryIncSearchBackwards}
-use Rattle.tw_lineedit.specs.HostRules.{HostRules}
-use Rattle.tw_lineedit.specs.Refusal.{Refusal}
-use Rattle.tw_lineedit.specs.EditState.{EditState, ModeView, Searching}
+use Rattle.tw_line.specs.Cut.{Cut, at_end}
+use Rattle.tw_history.specs.Patterns.{contains}
+use Rattle.tw_history.specs.Near.{near, last_line, IsNear}
+use Rattle.tw_host.specs.ActionView.{ActionView, InsertChar, InsertText, HistoryPrevious, HistoryNext, HistoryIncSearchBackwards}
+use Rattle.tw_host.specs.HostRules.{HostRules}
+use Rattle.tw_painter.specs.Refusal.{Refusal}
+use Rattle.tw_painter.specs.EditState.{EditState, ModeView, Searching}
 use Rattle.tw_lineedit.specs.Searches.{IsSearching}
 use Rattle.tw_lineedit.specs.Steps.{apply}
-use Rattle.tw_lineedit.specs.declared.history.SearchStyle.{SearchStyle}
-use Rattle.tw_lineedit.specs.declared.history.SearchDirection.{SearchDirection}
-use Rattle.tw_lineedit.specs.declared.history.SearchDirection.TheVariants.{Backwards}
-
--- the function finds the first offset of every pattern in every line
-abbrev pub FindsFirst : (List ℕ → List ℕ → Option ℕ) → Type 0
-FindsFirst find = (pattern line : List ℕ) → IsFirst pattern line (find pattern line)
-
--- the nearest match is the one that the relation describes
-abbrev pub FindsNearest : Type 0
-FindsNearest = (lines : List (List ℕ)) (idx : ℕ) (direction : SearchDirection) (pattern : List ℕ) → IsNear lines idx direction pattern (near lines idx direction pattern)
+use Rattle.tw_history.specs.declared.history.SearchStyle.{SearchStyle}
+use Rattle.tw_history.specs.declared.history.SearchDirection.TheVariants.{Backwards}
 
 -- the rest of a list of actions, where the first one leads to a state
 abbrev pub and_then : (EditState → Result EditState Refusal) → Result EditState Refusal → Result EditState Refusal

@@ -1,8 +1,8 @@
 -- Steps through the history, while not searching.
 use Rattle.std.specs.Prelude.{ℕ, ◌+◌, ◌-◌, List, Option, Some, None, slice_get}
-use Rattle.tw_lineedit.specs.Cut.{Cut, at_end, empty_cut}
-use Rattle.tw_lineedit.specs.Near.{last_index}
-use Rattle.tw_lineedit.specs.EditState.{EditState}
+use Rattle.tw_line.specs.Cut.{Cut, at_end, empty_cut}
+use Rattle.tw_history.specs.Near.{last_index}
+use Rattle.tw_painter.specs.EditState.{EditState}
 
 -- the line of an index comes in
 abbrev pub taken : EditState → ℕ → List ℕ → EditState

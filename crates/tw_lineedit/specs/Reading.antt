@@ -2,15 +2,15 @@
 use Rattle.std.specs.Prelude.{◌≡◌, ℕ, ◌<◌, ◌++◌, length, List, Option, Some, None, Result, Err, IsSome, ◌⊎◌}
 use Rattle.tw_surface.specs.ChangeView.{Batch}
 use Rattle.tw_terminal.specs.TerminalState.{count_up, IsPart}
-use Rattle.tw_lineedit.specs.HostRules.{HostRules}
-use Rattle.tw_lineedit.specs.EditState.{Inactive}
+use Rattle.tw_host.specs.HostRules.{HostRules}
+use Rattle.tw_painter.specs.EditState.{Inactive}
 use Rattle.tw_lineedit.specs.SessionView.{initial_cut, begun}
-use Rattle.tw_lineedit.specs.Refusal.{refusal_of}
+use Rattle.tw_painter.specs.Refusal.{refusal_of}
 use Rattle.tw_lineedit.specs.Outcomes.{Outcome}
-use Rattle.tw_lineedit.specs.Painting.{Mark, closing, closing_if}
+use Rattle.tw_painter.specs.Painting.{Mark, closing, closing_if}
 use Rattle.tw_lineedit.specs.Run.{Frame, Ending, Moment, want, fault, progress_of, moment, run_of, ending, CanStopFrom, IsPartOf, StandsAt, Quiet, FailsOnce}
-use Rattle.tw_lineedit.specs.declared.error.Error.{Error}
-use Rattle.tw_lineedit.specs.declared.error.Error.TheVariants.{Memory, Terminal}
+use Rattle.tw_painter.specs.declared.error.Error.{Error}
+use Rattle.tw_painter.specs.declared.error.Error.TheVariants.{Memory, Terminal}
 
 module _ {V : Type 0} where
   -- where a call with an initial value begins

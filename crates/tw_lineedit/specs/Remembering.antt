@@ -1,11 +1,11 @@
 -- What reading a line and adding it to the host's history leaves.
 use Rattle.std.specs.Prelude.{◌≡◌, ℕ, List, Option, Some, None, Ok, ◌⊎◌}
-use Rattle.tw_lineedit.specs.HostRules.{HostRules}
-use Rattle.tw_lineedit.specs.Near.{last_line}
+use Rattle.tw_host.specs.HostRules.{HostRules}
+use Rattle.tw_history.specs.Near.{last_line}
 use Rattle.tw_lineedit.specs.Reading.{start, Reads, FailsToRead}
-use Rattle.tw_lineedit.specs.Refusal.{IsMemory}
+use Rattle.tw_painter.specs.Refusal.{IsMemory}
 use Rattle.tw_lineedit.specs.Run.{Frame, run_of}
-use Rattle.tw_lineedit.specs.declared.error.Error.{Error}
+use Rattle.tw_painter.specs.declared.error.Error.{Error}
 
 -- What a host is: its rules, its value, its history, the host with another history, and what an addition to that gives.
 module _ {H Hist V : Type 0} (rules : HostRules V) (value : H → V) (held : H → Hist) (with_held : H → Hist → H) (gives : Hist → List ℕ → Hist → Type 0) where

@@ -4,17 +4,17 @@ use Rattle.tw_surface.specs.ChangeView.{Batch}
 use Rattle.tw_input.specs.EventView.{EventView}
 use Rattle.tw_terminal.specs.TerminalState.{TerminalState, count_up, size_after, IsPart}
 use Rattle.tw_terminal.specs.declared.terminal.ScreenSize.{ScreenSize}
-use Rattle.tw_lineedit.specs.ActionView.{ActionView}
-use Rattle.tw_lineedit.specs.HostRules.{HostRules, Resolution, or_default}
-use Rattle.tw_lineedit.specs.ActionView.{Repaint}
-use Rattle.tw_lineedit.specs.EditState.{EditState}
-use Rattle.tw_lineedit.specs.Refusal.{Refusal, refusal_of}
+use Rattle.tw_host.specs.ActionView.{ActionView}
+use Rattle.tw_host.specs.HostRules.{HostRules, Resolution, or_default}
+use Rattle.tw_host.specs.ActionView.{Repaint}
+use Rattle.tw_painter.specs.EditState.{EditState}
+use Rattle.tw_painter.specs.Refusal.{Refusal, refusal_of}
 use Rattle.tw_lineedit.specs.Outcomes.{Outcome, answer_at, IsLine, is_over}
 use Rattle.tw_lineedit.specs.Steps.{apply_if, clears_if, TakesMemory}
-use Rattle.tw_lineedit.specs.Painting.{Mark, Rendered, rendered, painted_on, scene_of, clear_batch}
-use Rattle.tw_lineedit.specs.Draws.{IsSized}
-use Rattle.tw_lineedit.specs.declared.error.Error.{Error}
-use Rattle.tw_lineedit.specs.declared.error.Error.TheVariants.{Memory, Terminal}
+use Rattle.tw_painter.specs.Painting.{Mark, Rendered, rendered, painted_on, scene_of, clear_batch}
+use Rattle.tw_painter.specs.Draws.{IsSized}
+use Rattle.tw_painter.specs.declared.error.Error.{Error}
+use Rattle.tw_painter.specs.declared.error.Error.TheVariants.{Memory, Terminal}
 
 -- how far a run has come: the state, the host's value and the screen's size, the mark of the painting before, and the batches so far
 pub record Progress (V : Type 0) : Type 0 where

@@ -6,9 +6,9 @@ use Rattle.tw_surface.specs.Paintings.{Painting}
 use Rattle.tw_surface.specs.Pictures.{Picture}
 use Rattle.tw_surface.specs.Fresh.{IsFresh, IsSameAbove, IsClosed, last_row}
 use Rattle.tw_surface.specs.Shots.{SizedScene, IsPlainAt, play_batches, scenes_of, start_row}
-use Rattle.tw_lineedit.specs.HostRules.{HostRules}
-use Rattle.tw_lineedit.specs.Painting.{scene_of, closing_if}
-use Rattle.tw_lineedit.specs.Refusal.{Refusal}
+use Rattle.tw_host.specs.HostRules.{HostRules}
+use Rattle.tw_painter.specs.Painting.{scene_of, closing_if}
+use Rattle.tw_painter.specs.Refusal.{Refusal}
 use Rattle.tw_lineedit.specs.Run.{Frame, run_of}
 use Rattle.tw_lineedit.specs.Stations.{Station, painting_of, batches_after, stations_of}
 

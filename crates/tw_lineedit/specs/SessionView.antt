@@ -1,20 +1,20 @@
 -- What an editor holds beside its terminal.
 use Rattle.std.specs.Prelude.{ℕ, List, ◌≡◌, codes, String, string_bytes, Option, Some, None, Ok, Err}
 use Rattle.std.specs.declared.alloc.Global.{Global}
-use Rattle.tw_lineedit.specs.Cut.{Cut, at_end, empty_cut}
-use Rattle.tw_lineedit.specs.EditState.{EditState, ModeView, Inactive, Editing, Cancelled, Accepted, Searching}
-use Rattle.tw_lineedit.specs.EditState as view
-use Rattle.tw_lineedit.specs.ActionView.{ActionView}
-use Rattle.tw_lineedit.specs.HostRules.{HostRules}
+use Rattle.tw_line.specs.Cut.{Cut, at_end, empty_cut}
+use Rattle.tw_painter.specs.EditState.{EditState, ModeView, Inactive, Editing, Cancelled, Accepted, Searching}
+use Rattle.tw_painter.specs.EditState as view
+use Rattle.tw_host.specs.ActionView.{ActionView}
+use Rattle.tw_host.specs.HostRules.{HostRules}
 use Rattle.tw_lineedit.specs.Steps.{apply, TakesMemory}
-use Rattle.tw_lineedit.specs.Near.{MatchView}
-use Rattle.tw_lineedit.specs.Painting.{Mark}
+use Rattle.tw_history.specs.Near.{MatchView}
+use Rattle.tw_painter.specs.Painting.{Mark}
 use Rattle.tw_lineedit.specs.declared.session.search.Found.{Found}
-use Rattle.tw_lineedit.specs.Refusal.{refusal_of}
+use Rattle.tw_painter.specs.Refusal.{refusal_of}
 use Rattle.tw_lineedit.specs.declared.session.Mode.{Mode}
 use Rattle.tw_lineedit.specs.declared.session.Mode.TheVariants as mode
-use Rattle.tw_lineedit.specs.declared.error.Error.{Error}
-use Rattle.tw_lineedit.specs.declared.error.Error.TheVariants.{Memory, Terminal}
+use Rattle.tw_painter.specs.declared.error.Error.{Error}
+use Rattle.tw_painter.specs.declared.error.Error.TheVariants.{Memory, Terminal}
 
 -- the state, and the mark of the last painting, if there was one
 pub record SessionView : Type 0 where

@@ -1,21 +1,21 @@
 -- What each action does to the editor's state.
 use Rattle.std.specs.Prelude.{ℕ, List, [], ◌∷◌, Option, Some, None, Result, Ok, Err}
 use Rattle.tw_surface.specs.ChangeView.{Batch}
-use Rattle.tw_lineedit.specs.Painting.{clear_batch}
-use Rattle.tw_lineedit.specs.Cut.{Cut}
-use Rattle.tw_lineedit.specs.Extremes.{repeated}
-use Rattle.tw_lineedit.specs.Movements.{moved}
-use Rattle.tw_lineedit.specs.Edits.{with_char, with_text, killed}
-use Rattle.tw_lineedit.specs.ActionView.{ActionView, AcceptLine, Cancel, EndOfFile, InsertChar, InsertText, Repaint, Move, Kill, KillAndMove, HistoryPrevious, HistoryNext, Complete, NoAction, HistoryIncSearchBackwards, HistoryIncSearchForwards}
-use Rattle.tw_lineedit.specs.HostRules.{HostRules}
+use Rattle.tw_painter.specs.Painting.{clear_batch}
+use Rattle.tw_line.specs.Cut.{Cut}
+use Rattle.tw_extremes.specs.Extremes.{repeated}
+use Rattle.tw_line.specs.Movements.{moved}
+use Rattle.tw_line.specs.Edits.{with_char, with_text, killed}
+use Rattle.tw_host.specs.ActionView.{ActionView, AcceptLine, Cancel, EndOfFile, InsertChar, InsertText, Repaint, Move, Kill, KillAndMove, HistoryPrevious, HistoryNext, Complete, NoAction, HistoryIncSearchBackwards, HistoryIncSearchForwards}
+use Rattle.tw_host.specs.HostRules.{HostRules}
 use Rattle.tw_lineedit.specs.Completion.{completed}
 use Rattle.tw_lineedit.specs.HistorySteps.{previous, next}
 use Rattle.tw_lineedit.specs.Searches.{IsSearching, left, again, sought}
-use Rattle.tw_lineedit.specs.Refusal.{Refusal}
-use Rattle.tw_lineedit.specs.Refusal as refusal
-use Rattle.tw_lineedit.specs.EditState.{EditState, ModeView, Cancelled, Accepted, Searching}
-use Rattle.tw_lineedit.specs.declared.history.SearchDirection.{SearchDirection}
-use Rattle.tw_lineedit.specs.declared.history.SearchDirection.TheVariants.{Backwards, Forwards}
+use Rattle.tw_painter.specs.Refusal.{Refusal}
+use Rattle.tw_painter.specs.Refusal as refusal
+use Rattle.tw_painter.specs.EditState.{EditState, ModeView, Cancelled, Accepted, Searching}
+use Rattle.tw_history.specs.declared.history.SearchDirection.{SearchDirection}
+use Rattle.tw_history.specs.declared.history.SearchDirection.TheVariants.{Backwards, Forwards}
 
 -- an edit of the cut text; a search applies its pattern again
 abbrev pub edited : List (List ℕ) → (Cut → Cut) → EditState → EditState

@@ -1,15 +1,15 @@
 //! Reading a line that the host then has in its history.
 
 ghost use Rattle.std.specs.Prelude.{◌≡◌, ◌≢◌, Err, IfErr, IfOk, None, option_map, string_bytes};
-ghost use Rattle.tw_lineedit.specs.EditState.{Inactive};
+ghost use Rattle.tw_painter.specs.EditState.{Inactive};
 ghost use Rattle.tw_lineedit.specs.Frame.{frame};
 ghost use Rattle.tw_lineedit.specs.Reading.{FailuresTell, start};
 ghost use Rattle.tw_lineedit.specs.Remembering.{FailsToReadAndRemember, ReadsAndRemembers};
 ghost use Rattle.tw_lineedit.specs.ScreenRuns.{ClearedIsFresh, ClosesBelow, FirstIsFresh, LaterIsFresh};
 
 use crate::editor::LineEditor;
-use crate::error::Error;
-use crate::host::LineEditorHost;
+use tw_host::LineEditorHost;
+use tw_painter::Error;
 use tw_terminal::Terminal;
 
 impl<'term, T: Terminal> LineEditor<'term, T> {

@@ -4,22 +4,20 @@ ghost use Rattle.std.specs.Prelude.{◌≡◌, Ok, Err, Some, None, IfOk, IfErr,
 ghost use Rattle.std.specs.Str.{IsCharBoundary};
 ghost use Rattle.tw_surface.specs.ChangeView.{batch_view};
 ghost use Rattle.tw_input.specs.EventView.{event_view};
-ghost use Rattle.tw_lineedit.specs.ActionView.{action_view};
-ghost use Rattle.tw_lineedit.specs.Cut.{cut_at, empty_cut};
-ghost use Rattle.tw_lineedit.specs.EditState.{Inactive as InactiveView};
+ghost use Rattle.tw_host.specs.ActionView.{action_view};
+ghost use Rattle.tw_line.specs.Cut.{cut_at, empty_cut};
+ghost use Rattle.tw_painter.specs.EditState.{Inactive as InactiveView};
 ghost use Rattle.tw_lineedit.specs.Outcomes.{outcome_of, answer_at, IsLine, is_over};
-ghost use Rattle.tw_lineedit.specs.Painting.{painted_on, scene_of, shown_in, rendered};
-ghost use Rattle.tw_lineedit.specs.Draws.{IsUnpainted};
+ghost use Rattle.tw_painter.specs.Painting.{painted_on, scene_of, shown_in, rendered};
+ghost use Rattle.tw_painter.specs.Draws.{IsUnpainted};
 
-use crate::actions::Action;
-use crate::buffer::LineEditBuffer;
-use crate::error::Error;
-use crate::history::{HistoryIndex, SearchDirection, SearchStyle};
-use crate::host::LineEditorHost;
-use crate::painter::{Below, Painted, paint};
 use std::alloc::{AllocError, Global};
 use std::marker::Model;
+use tw_history::{HistoryIndex, SearchDirection, SearchStyle};
+use tw_host::{Action, LineEditorHost};
 use tw_input::InputEvent;
+use tw_line::LineEditBuffer;
+use tw_painter::{Below, Error, Painted, paint};
 use tw_surface::Change;
 use tw_terminal::ScreenSize;
 

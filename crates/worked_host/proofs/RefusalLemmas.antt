@@ -6,7 +6,7 @@ use Rattle.tw_lineedit.specs.EditState.{EditState}
 use Rattle.tw_lineedit.specs.Painting.{Mark}
 use Rattle.tw_lineedit.specs.Remembering.{FailsToReadAndRemember}
 use Rattle.tw_lineedit.specs.Run.{Frame}
-use Rattle.tw_lineedit.specs.declared.error.Error.{Error}
+use Rattle.tw_lineedit.specs.declared.Error.{Error}
 use Rattle.worked_host.specs.declared.host.CommandHost.{CommandHost}
 use Rattle.worked_host.specs.Commands.{Commands}
 use Rattle.worked_host.specs.CommandRules.{command_rules}

@@ -6,7 +6,7 @@ use Rattle.tw_surface.specs.declared.cell.Intensity.TheVariants.{Normal, Bold}
 use Rattle.tw_input.specs.declared.key.KeyCode.TheVariants.{Char, Escape}
 use Rattle.tw_input.specs.declared.key.KeyEvent.{KeyEvent}
 use Rattle.tw_input.specs.EventView.{EventView, Key, Resized, Paste, Wake}
-use Rattle.tw_lineedit.specs.declared.actions.Movement.TheVariants.{StartOfLine}
+use Rattle.tw_lineedit.specs.declared.Movement.TheVariants.{StartOfLine}
 use Rattle.tw_lineedit.specs.ActionView.{ActionView, Cancel, Kill}
 use Rattle.tw_lineedit.specs.CandidateView.{CandidateView}
 use Rattle.tw_lineedit.specs.Cut.{Cut}

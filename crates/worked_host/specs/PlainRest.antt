@@ -1,7 +1,7 @@
 -- Which answers are the worked host's own, and that the others are the plain ones.
 use Rattle.std.specs.Prelude.{true, false, refl}
 use Rattle.std.proofs.lemmas.Bool.{true≢false}
-use Rattle.tw_lineedit.specs.declared.host.OwnAnswers.{OwnAnswers}
+use Rattle.tw_lineedit.specs.declared.OwnAnswers.{OwnAnswers}
 use Rattle.tw_lineedit.specs.PlainAnswers.{IsPlainBut}
 use Rattle.worked_host.specs.CommandRules.{command_rules}
 

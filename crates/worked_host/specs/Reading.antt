@@ -7,7 +7,7 @@ use Rattle.tw_lineedit.specs.Reading.{start, Reads, FailsToRead}
 use Rattle.tw_lineedit.specs.Refusal.{IsMemory}
 use Rattle.tw_lineedit.specs.Run.{Frame, Ending, run_of}
 use Rattle.tw_lineedit.specs.SessionView.{new_state}
-use Rattle.tw_lineedit.specs.declared.error.Error.{Error}
+use Rattle.tw_lineedit.specs.declared.Error.{Error}
 use Rattle.worked_host.specs.Commands.{Commands}
 use Rattle.worked_host.specs.CommandRules.{command_rules}
 

@@ -2,19 +2,19 @@
 
 ghost use Rattle.std.specs.Prelude.{◌≡◌, ◌<◌, length, map, MatchOption, IfOk, IfErr, OnOk, Some, None, false, true, vec_len};
 ghost use Rattle.std.specs.Str.{IsCharBoundary};
-ghost use Rattle.tw_lineedit.specs.Cut.{cut_at};
-ghost use Rattle.tw_lineedit.specs.CandidateView.{candidate_view, fits, landing, completed_by};
-ghost use Rattle.tw_lineedit.specs.ActionView.{Complete};
+ghost use Rattle.tw_line.specs.Cut.{cut_at};
+ghost use Rattle.tw_host.specs.CandidateView.{candidate_view, fits, landing, completed_by};
+ghost use Rattle.tw_host.specs.ActionView.{Complete};
 ghost use Rattle.tw_lineedit.specs.CompletionSteps.{Advances, FailsToAdvance, IsMisfit};
 ghost use Rattle.tw_lineedit.specs.SessionView.{ActsOn, FailsToActOn};
 
 use super::Session;
-use crate::buffer::LineEditBuffer;
-use crate::error::Error;
-use crate::host::{CompletionCandidate, LineEditorHost};
 use std::alloc::{AllocError, Global};
 use std::marker::Model;
 use std::mem;
+use tw_host::{CompletionCandidate, LineEditorHost};
+use tw_line::LineEditBuffer;
+use tw_painter::Error;
 
 /// Candidates for a line, of which one has come in.
 #[derive(Debug, Drop)]
@@ -26,8 +26,8 @@ pub struct Cycle {
 
 impl Model for Cycle {
     ghost use Rattle.std.specs.Prelude.{◌<◌, map, length};
-    ghost use Rattle.tw_lineedit.specs.CandidateView.{candidate_view};
-    ghost use Rattle.tw_lineedit.specs.EditState.{CycleView};
+    ghost use Rattle.tw_host.specs.CandidateView.{candidate_view};
+    ghost use Rattle.tw_painter.specs.EditState.{CycleView};
 
     ghost Value = { CycleView };
 

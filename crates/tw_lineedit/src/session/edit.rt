@@ -7,10 +7,9 @@ ghost use Rattle.tw_lineedit.specs.Searches.{IsSearching};
 ghost use Rattle.tw_lineedit.specs.SessionView.{on_state};
 
 use super::{Mode, Session};
-use crate::actions::{Movement, RepeatCount};
-use crate::buffer::LineEditBuffer;
-use crate::host::LineEditorHost;
 use std::alloc::AllocError;
+use tw_host::LineEditorHost;
+use tw_line::{LineEditBuffer, Movement, RepeatCount};
 
 /// An edit of the line.
 #[derive(Clone, Copy, Debug)]

@@ -1,16 +1,16 @@
 //! Incremental search of the history.
 
 ghost use Rattle.std.specs.Prelude.{◌≡◌, IfOk, OnOk, OnErr, option_map};
-ghost use Rattle.tw_lineedit.specs.Near.{near, last_index};
+ghost use Rattle.tw_history.specs.Near.{near, last_index};
 ghost use Rattle.tw_lineedit.specs.Searches.{left, again, sought, near_from, begun_search};
 ghost use Rattle.tw_lineedit.specs.SessionView.{on_state, found_view};
 
 use super::{Mode, Session};
-use crate::buffer::LineEditBuffer;
-use crate::history::{History, HistoryIndex, SearchDirection, SearchStyle};
-use crate::host::LineEditorHost;
 use std::alloc::{AllocError, Global};
 use std::mem;
+use tw_history::{History, HistoryIndex, SearchDirection, SearchStyle};
+use tw_host::LineEditorHost;
+use tw_line::LineEditBuffer;
 
 /// A line that was found, copied, with its cursor where the pattern stands.
 #[derive(Debug, Drop)]

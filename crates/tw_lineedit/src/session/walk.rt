@@ -7,10 +7,10 @@ ghost use Rattle.tw_lineedit.specs.HistorySteps.{previous, next, taken, restored
 ghost use Rattle.tw_lineedit.specs.SessionView.{on_state};
 
 use super::{Mode, Session};
-use crate::history::{History, HistoryIndex, SearchDirection};
-use crate::host::LineEditorHost;
 use std::alloc::{AllocError, Global};
 use std::borrow::CowStr;
+use tw_history::{History, HistoryIndex, SearchDirection};
+use tw_host::LineEditorHost;
 
 /// The line behind an index, if there is one.
 fn line_after<L: History>(

@@ -1,7 +1,7 @@
 use Rattle.std.proofs.Common.{◌≡◌, Bool, true, false, refl, ap, subst, ◌∙◌}
 use Rattle.std.proofs.lemmas.Bool.{and_parts, and_from, false≢true}
 use mathlib.Core.Bool.{beq}
-use Rattle.tw_lineedit.specs.declared.host.OwnAnswers.{OwnAnswers}
+use Rattle.tw_host.specs.declared.host.OwnAnswers.{OwnAnswers}
 use Rattle.tw_lineedit.proofs.laws.equality.Goals as goal
 
 beq-is : (a b : Bool) → beq a b ≡ true → a ≡ b

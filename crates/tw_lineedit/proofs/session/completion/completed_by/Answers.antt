@@ -1,5 +1,5 @@
 use Rattle.std.proofs.Common.{rules, ◌≡◌, true}
-use Rattle.tw_lineedit.specs.CandidateView.{candidate_view, fits}
+use Rattle.tw_host.specs.CandidateView.{candidate_view, fits}
 use Rattle.tw_lineedit.proofs.CandidateLemmas.{IsFitting-from, lands-in}
 use Rattle.tw_lineedit.proofs.session.completion.completed_by.Goals as goal
 

@@ -1,0 +1,131 @@
+-- The key table: which action an event stands for.
+use Rattle.std.specs.Prelude.{⊤, ℕ, Bool, true, false, ◌&&◌, ◌||◌, ◌==◌, if◌then◌else◌, List, [], ◌∷◌, Option, Some, None}
+use Rattle.std.specs.Option.{option_or}
+use Rattle.tw_input.specs.declared.key.KeyCode.{KeyCode}
+use Rattle.tw_input.specs.declared.key.KeyCode.TheVariants.{Char, Backspace, Tab, Enter, Escape, Insert, Delete, Home, End, PageUp, PageDown, LeftArrow, RightArrow, UpArrow, DownArrow, ApplicationLeftArrow, ApplicationRightArrow, ApplicationUpArrow, ApplicationDownArrow, Function}
+use Rattle.tw_input.specs.declared.key.KeyEvent.{KeyEvent}
+use Rattle.tw_input.specs.EventView.{EventView, Key, Resized, Paste, Wake}
+use Rattle.tw_input.specs.Modifiers.{modifier_bits, modifiers_of}
+use Rattle.tw_host.specs.ActionView.{ActionView, AcceptLine, Cancel, EndOfFile, InsertChar, InsertText, Repaint, Move, Kill, KillAndMove, HistoryPrevious, HistoryNext, Complete, HistoryIncSearchBackwards, HistoryIncSearchForwards}
+use Rattle.tw_line.specs.declared.movements.Movement.TheVariants as movement
+
+-- the bits where no modifier is held
+abbrev pub none : ℕ
+none = 0
+
+-- the bits where SHIFT alone is held
+abbrev pub shift : ℕ
+shift = 2
+
+-- the bits where ALT alone is held
+abbrev pub alt : ℕ
+alt = 4
+
+-- the bits where CTRL alone is held
+abbrev pub ctrl : ℕ
+ctrl = 8
+
+-- a key with the bits of its modifiers
+abbrev pub pressed : ℕ → KeyCode → KeyEvent
+pressed bits key = record { key = key; modifiers = modifiers_of bits }
+
+-- the keys with an action of their own
+abbrev pub key_table : List (KeyEvent × ActionView)
+key_table =
+    (pressed ctrl (Char 67), Cancel)
+    ∷ (pressed ctrl (Char 68), EndOfFile)
+    ∷ (pressed ctrl (Char 74), AcceptLine)
+    ∷ (pressed ctrl (Char 77), AcceptLine)
+    ∷ (pressed ctrl (Char 72), Kill (movement.BackwardChar 1))
+    ∷ (pressed ctrl (Char 80), HistoryPrevious)
+    ∷ (pressed ctrl (Char 78), HistoryNext)
+    ∷ (pressed ctrl (Char 66), Move (movement.BackwardChar 1))
+    ∷ (pressed ctrl (Char 70), Move (movement.ForwardChar 1))
+    ∷ (pressed ctrl (Char 87), Kill (movement.BackwardWord 1))
+    ∷ (pressed ctrl (Char 65), Move movement.StartOfLine)
+    ∷ (pressed ctrl (Char 69), Move movement.EndOfLine)
+    ∷ (pressed ctrl (Char 76), Repaint)
+    ∷ (pressed ctrl (Char 75), Kill movement.EndOfLine)
+    ∷ (pressed ctrl (Char 82), HistoryIncSearchBackwards)
+    ∷ (pressed ctrl (Char 83), HistoryIncSearchForwards)
+    ∷ (pressed none Tab, Complete)
+    ∷ (pressed none Enter, AcceptLine)
+    ∷ (pressed none Backspace, Kill (movement.BackwardChar 1))
+    ∷ (pressed none Delete, KillAndMove (movement.ForwardChar 1) movement.None)
+    ∷ (pressed none UpArrow, HistoryPrevious)
+    ∷ (pressed none ApplicationUpArrow, HistoryPrevious)
+    ∷ (pressed none DownArrow, HistoryNext)
+    ∷ (pressed none ApplicationDownArrow, HistoryNext)
+    ∷ (pressed none LeftArrow, Move (movement.BackwardChar 1))
+    ∷ (pressed none ApplicationLeftArrow, Move (movement.BackwardChar 1))
+    ∷ (pressed none RightArrow, Move (movement.ForwardChar 1))
+    ∷ (pressed none ApplicationRightArrow, Move (movement.ForwardChar 1))
+    ∷ (pressed none Home, Move movement.StartOfLine)
+    ∷ (pressed none End, Move movement.EndOfLine)
+    ∷ (pressed alt (Char 98), Move (movement.BackwardWord 1))
+    ∷ (pressed alt LeftArrow, Move (movement.BackwardWord 1))
+    ∷ (pressed alt ApplicationLeftArrow, Move (movement.BackwardWord 1))
+    ∷ (pressed alt (Char 102), Move (movement.ForwardWord 1))
+    ∷ (pressed alt RightArrow, Move (movement.ForwardWord 1))
+    ∷ (pressed alt ApplicationRightArrow, Move (movement.ForwardWord 1))
+    ∷ []
+
+-- whether two keys are one
+abbrev pub is_same_code : KeyCode → KeyCode → Bool
+is_same_code (Char a) (Char b) = a == b
+is_same_code Backspace Backspace = true
+is_same_code Tab Tab = true
+is_same_code Enter Enter = true
+is_same_code Escape Escape = true
+is_same_code Insert Insert = true
+is_same_code Delete Delete = true
+is_same_code Home Home = true
+is_same_code End End = true
+is_same_code PageUp PageUp = true
+is_same_code PageDown PageDown = true
+is_same_code LeftArrow LeftArrow = true
+is_same_code RightArrow RightArrow = true
+is_same_code UpArrow UpArrow = true
+is_same_code DownArrow DownArrow = true
+is_same_code ApplicationLeftArrow ApplicationLeftArrow = true
+is_same_code ApplicationRightArrow ApplicationRightArrow = true
+is_same_code ApplicationUpArrow ApplicationUpArrow = true
+is_same_code ApplicationDownArrow ApplicationDownArrow = true
+is_same_code (Function a) (Function b) = a == b
+is_same_code _ _ = false
+
+-- whether two keys are one, and their modifiers too
+abbrev pub is_same_key : KeyEvent → KeyEvent → Bool
+is_same_key a b = (modifier_bits a.modifiers == modifier_bits b.modifiers) && is_same_code a.key b.key
+
+-- the action of the first row with this key
+abbrev pub looked_up : List (KeyEvent × ActionView) → KeyEvent → Option ActionView
+looked_up [] k = None
+looked_up (row ∷ rest) k = if is_same_key row.0 k then Some row.1 else looked_up rest k
+
+-- the character that a key types is inserted once
+abbrev pub typed_code : KeyCode → Option ActionView
+typed_code (Char c) = Some (InsertChar 1 c)
+typed_code _ = None
+
+-- a character is typed with no modifier, or with SHIFT alone
+abbrev pub typed : KeyEvent → Option ActionView
+typed k = if (modifier_bits k.modifiers == none) || (modifier_bits k.modifiers == shift) then typed_code k.key else None
+
+-- the action of a key: its row's, or the typed character's
+abbrev pub key_action_of : KeyEvent → Option ActionView
+key_action_of k = option_or (looked_up key_table k) (typed k)
+
+-- the action of an event: a pasted text is inserted once
+abbrev pub action_of : EventView → Option ActionView
+action_of (Key k) = key_action_of k
+action_of (Paste text) = Some (InsertText 1 text)
+action_of (Resized cols rows) = None
+action_of Wake = None
+
+-- a text was pasted
+abbrev pub IsPaste : EventView → Type 0
+IsPaste (Paste text) = ⊤
+IsPaste (Key k) = ⊥
+IsPaste (Resized cols rows) = ⊥
+IsPaste Wake = ⊥

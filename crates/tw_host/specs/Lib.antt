@@ -1,0 +1,6 @@
+pub mod ActionView
+pub mod KeyTable
+pub mod ElementView
+pub mod CandidateView
+pub mod HostRules
+pub mod PlainAnswers

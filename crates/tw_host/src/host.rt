@@ -1,0 +1,266 @@
+//! What an application tells the editor.
+
+ghost use Rattle.std.specs.Prelude.{◌≡◌, ℕ, List, [], IfOk, OnErr, OnOk, Some, map, option_map, refl};
+ghost use Rattle.std.specs.Borrow.{Lends, sem};
+ghost use Rattle.tw_input.specs.EventView.{event_view};
+ghost use Rattle.tw_host.specs.ActionView.{action_view};
+ghost use Rattle.std.specs.Str.{IsCharBoundary};
+ghost use Rattle.tw_line.specs.Cut.{cut_at};
+ghost use Rattle.tw_host.specs.ElementView.{element_view};
+ghost use Rattle.tw_host.specs.CandidateView.{candidate_view};
+ghost use Rattle.tw_host.specs.HostRules.{HostRules, plain_text, plain_rules};
+ghost use Rattle.tw_history.specs.Near.{last_line};
+ghost use Rattle.tw_host.specs.PlainAnswers.{IsPlainBut, nothing_own, plain_is_plain};
+
+use crate::actions::Action;
+use std::alloc::{AllocError, Global};
+use std::ops::Range;
+use tw_history::{BasicHistory, History};
+use tw_input::InputEvent;
+use tw_line::LineEditBuffer;
+use tw_surface::{AttributeChange, CellAttributes, Change, unicode_column_width};
+
+/// A part of what is shown.
+#[derive(Debug, Drop)]
+pub enum OutputElement {
+    /// Sets one attribute of the text that follows.
+    Attribute(AttributeChange),
+    /// Sets all attributes of the text that follows.
+    AllAttributes(CellAttributes),
+    /// A text.
+    Text(String),
+}
+
+impl From<OutputElement> for Change {
+    ghost use Rattle.std.specs.Prelude.{◌≡◌};
+    ghost use Rattle.tw_surface.specs.ChangeView.{change_view};
+    ghost use Rattle.tw_host.specs.ElementView.{element_view, element_change};
+
+    ghost from_gives = { λ element made. change_view made ≡ element_change (element_view element) };
+
+    fn from(element: OutputElement) -> Change {
+        match element {
+            OutputElement::Attribute(change) => Change::Attribute(change),
+            OutputElement::AllAttributes(attributes) => Change::AllAttributes(attributes),
+            OutputElement::Text(text) => Change::Text(text),
+        }
+    }
+}
+
+/// A text that can take the place of a part of the line.
+#[derive(Debug, Drop)]
+pub struct CompletionCandidate {
+    /// The part of the line, by byte offsets.
+    pub range: Range<usize>,
+    /// The text.
+    pub text: String,
+}
+
+/// Which calls a host answers for itself. The default bodies answer the others.
+#[derive(Clone, Copy, Debug, PartialEq, Eq)]
+pub struct OwnAnswers {
+    /// `render_prompt`
+    pub prompt: bool,
+    /// `render_preview`
+    pub preview: bool,
+    /// `highlight_line`
+    pub highlight: bool,
+    /// `complete`
+    pub complete: bool,
+    /// `resolve_action`
+    pub resolve: bool,
+}
+
+impl OwnAnswers {
+    /// All answers are those of the default bodies.
+    pub const NONE: OwnAnswers = OwnAnswers {
+        prompt: false,
+        preview: false,
+        highlight: false,
+        complete: false,
+        resolve: false,
+    };
+}
+
+/// One element: the text as it is.
+fn plain_element(alloc: Global, text: &str) -> Result<Vec<OutputElement>, AllocError>
+    ensures { IfOk result (λ elements. map element_view elements.items ≡ plain_text text.now) }
+{
+    let text = String::from_str(alloc, text)?;
+    let elements = vec![in alloc; OutputElement::Text(text)]?;
+    Ok(elements)
+}
+
+/// What an application tells the editor. A host answers by rules, which are functions of the value that it
+/// holds and of the arguments; contracts see `value` and `rules`, and nothing else of a host.
+///
+/// A host that answers a call for itself says so in `OWN`, since a default body is proved once for all hosts:
+/// where `OWN` names a call whose body was not written, the default refuses it.
+pub trait LineEditorHost {
+    ghost use Rattle.tw_host.specs.declared.host.OwnAnswers.{OwnAnswers};
+
+    /// The host's history.
+    type Hist: History;
+
+    ghost Value: { Type 0 };
+
+    ghost value: { Self → Value };
+
+    ghost rules: { HostRules Value };
+
+    ghost held: { Self → Self.Hist };
+
+    ghost with_held: { Self → Self.Hist → Self };
+
+    ghost OWN: { OwnAnswers };
+
+    /// Which calls the host answers for itself.
+    const OWN: OwnAnswers;
+
+    /// Lends the history. Given back as it was, the host is as it was.
+    fn history(&mut self) -> &mut Self::Hist
+        ensures* lends { sem 𝓛 (Lends Self.row Self.Hist.row self.entry result (with_held self.old)) }
+        ensures shows { result.now ≡ held self.old };
+
+    /// The prompt as it is shown. By default the text itself.
+    fn render_prompt(&self, alloc: Global, prompt: &str) -> Result<Vec<OutputElement>, AllocError>
+        ensures { IfOk result (λ elements. map element_view elements.items ≡ rules.prompt (value self.now) prompt.now) }
+    {
+        if Self::OWN.prompt {
+            return Err(AllocError);
+        }
+        plain_element(alloc, prompt)
+    }
+
+    /// What is shown under the line while it is edited. By default nothing.
+    fn render_preview(&self, alloc: Global, line: &str) -> Result<Vec<OutputElement>, AllocError>
+        ensures { IfOk result (λ elements. map element_view elements.items ≡ rules.preview (value self.now) line.now) }
+    {
+        if Self::OWN.preview {
+            return Err(AllocError);
+        }
+        Ok(Vec::new(alloc))
+    }
+
+    /// The line as it is shown, and the column of its cursor, counted from where the line begins. By
+    /// default the text itself, and the columns of the text before the cursor.
+    fn highlight_line(
+        &self,
+        alloc: Global,
+        line: &str,
+        cursor_position: usize,
+    ) -> Result<(Vec<OutputElement>, usize), AllocError>
+        requires { IsCharBoundary line.now cursor_position }
+        ensures elements { IfOk result (λ shown. map element_view shown.0.items ≡ (rules.highlight (value self.now) (cut_at line.now cursor_position)).elements) }
+        ensures column { IfOk result (λ shown. shown.1 ≡ (rules.highlight (value self.now) (cut_at line.now cursor_position)).column) }
+    {
+        if Self::OWN.highlight {
+            return Err(AllocError);
+        }
+        let elements = plain_element(alloc, line)?;
+        Ok((elements, unicode_column_width(&line[..cursor_position])))
+    }
+
+    /// The texts that can complete a line with its cursor at a byte offset, in the order in which they are
+    /// put in. By default there are none.
+    fn complete(
+        &self,
+        alloc: Global,
+        line: &str,
+        cursor_position: usize,
+    ) -> Result<Vec<CompletionCandidate>, AllocError>
+        requires { IsCharBoundary line.now cursor_position }
+        ensures { IfOk result (λ candidates. map candidate_view candidates.items ≡ rules.candidates (value self.now) (cut_at line.now cursor_position)) }
+    {
+        if Self::OWN.complete {
+            return Err(AllocError);
+        }
+        Ok(Vec::new(alloc))
+    }
+
+    /// What the host makes of an event before the key table does: it may change itself and the line, and
+    /// may name an action. By default it does nothing. Where it is refused nothing is changed.
+    fn resolve_action(
+        &mut self,
+        alloc: Global,
+        event: &InputEvent,
+        editor: &mut LineEditBuffer,
+    ) -> Result<Option<Action>, AllocError>
+        ensures ok { IfOk result (λ action. rules.resolve (value self.old) (event_view event.now) editor.old
+            ≡ record { value = value self.new; cut = editor.new; action = option_map action_view action }) }
+        ensures refused { OnErr result (value self.new ≡ value self.old) }
+        ensures refused_cut { OnErr result (editor.new ≡ editor.old) }
+    {
+        if Self::OWN.resolve {
+            return Err(AllocError);
+        }
+        Ok(None)
+    }
+
+    ghost plain_answers: { IsPlainBut rules OWN };
+
+    ghost held_back: { (host : Self) → with_held host (held host) ≡ host };
+
+    ghost held_put: { (host : Self) (history : Self.Hist) → held (with_held host history) ≡ history };
+
+    ghost held_lines: { (host : Self) → Self.Hist.lines (held host) ≡ rules.lines (value host) };
+
+    /// Adds a line to the history, which the editor itself never does. The rest of the host stays as it was.
+    /// Where memory is lacking, the history's lines stay too.
+    final fn remember(&mut self, line: &str) -> Result<(), AllocError>
+        ensures kept { self.new ≡ with_held self.old (held self.new) }
+        ensures last { OnOk result (last_line (rules.lines (value self.new)) ≡ Some line.now) }
+        ensures added { OnOk result (Self.Hist.add_gives (held self.old) line.now (held self.new)) }
+        ensures refused { OnErr result (rules.lines (value self.new) ≡ rules.lines (value self.old)) }
+    {
+        self.history().add(line)
+    }
+}
+
+/// A host with the default answers and a history in memory.
+#[derive(Debug, Drop)]
+pub struct NopLineEditorHost {
+    history: BasicHistory,
+}
+
+impl NopLineEditorHost {
+    /// The host with an empty history. It takes no memory.
+    pub fn new(alloc: Global) -> Self
+        ensures rules { ⟦<NopLineEditorHost as LineEditorHost>⟧.rules ≡ plain_rules (λ lines. lines) }
+        ensures empty { ⟦<NopLineEditorHost as LineEditorHost>⟧.value result ≡ [] }
+    {
+        NopLineEditorHost {
+            history: BasicHistory::new(alloc),
+        }
+    }
+}
+
+impl LineEditorHost for NopLineEditorHost {
+    type Hist = BasicHistory;
+
+    ghost Value = { List (List ℕ) };
+
+    ghost value = { λ host. host.history };
+
+    ghost rules = { plain_rules (λ lines. lines) };
+
+    ghost held = { λ host. host.history };
+
+    ghost with_held = { λ host history. record host { history = history } };
+
+    ghost OWN = { nothing_own };
+
+    const OWN: OwnAnswers = OwnAnswers::NONE;
+
+    fn history(&mut self) -> &mut BasicHistory {
+        &mut self.history
+    }
+
+    ghost plain_answers = { plain_is_plain (λ lines. lines) };
+
+    ghost held_back = { λ host. refl };
+
+    ghost held_put = { λ host history. refl };
+
+    ghost held_lines = { λ host. refl };
+}

@@ -1,0 +1,12 @@
+pub mod BoundaryLemmas
+pub mod ClusterLemmas
+pub mod IndexLemmas
+pub mod StartsLemmas
+pub mod TextLemmas
+pub mod WordLemmas
+pub mod OffsetStepLemmas
+pub mod EditLemmas
+pub mod RepeatLemmas
+pub mod CountLawLemmas
+pub mod StepLawLemmas
+pub mod SeamLemmas

@@ -1,0 +1,11 @@
+pub mod Cut
+pub mod Boundaries
+pub mod Clusters
+pub mod Indices
+pub mod Starts
+pub mod Text
+pub mod Words
+pub mod Movements
+pub mod OffsetSteps
+pub mod Edits
+pub mod Laws

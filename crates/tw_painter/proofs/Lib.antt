@@ -1,0 +1,4 @@
+pub mod DrawLemmas
+pub mod DrawingLimits
+pub mod PaintingSteps
+pub mod PaintedSizes

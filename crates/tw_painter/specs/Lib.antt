@@ -1,0 +1,4 @@
+pub mod Refusal
+pub mod EditState
+pub mod Painting
+pub mod Draws

@@ -1,0 +1,153 @@
+//! What the editor answers in place of a line.
+
+use std::alloc::{AllocError, AllocFailed};
+use thiserror::Error;
+use tw_surface::{AddFault, SizeFault};
+use tw_terminal::TerminalFault;
+
+/// Why the editor refused a call.
+#[derive(Debug, Drop, Error)]
+pub enum Error {
+    /// The action `EndOfFile` was asked for.
+    #[error("End Of File")]
+    EndOfFile,
+    /// A line is being read already.
+    #[error("recursive call to read_line!")]
+    Recursive,
+    /// The screen has no row or no column.
+    #[error("screen size is zero")]
+    ZeroSize,
+    /// The screen, or what is to be painted on it, is too large.
+    #[error("size out of range")]
+    SizeOutOfRange,
+    /// A completion candidate does not fit the line.
+    #[error("completion candidate does not fit")]
+    CandidateDoesNotFit,
+    /// A growth was refused.
+    #[error("out of memory")]
+    Memory(AllocError),
+    /// A call of the terminal failed.
+    #[error("terminal fault")]
+    Terminal(TerminalFault),
+}
+
+impl Error {
+    ghost use Rattle.std.specs.Prelude.{◌≡◌};
+    ghost use Rattle.tw_painter.specs.Refusal.{error_number};
+
+    /// The error's number, from 1 to 7 in the order of the variants.
+    pub fn number(&self) -> u8
+        ensures { result ≡ error_number self.now }
+    {
+        match self {
+            Error::EndOfFile => 1,
+            Error::Recursive => 2,
+            Error::ZeroSize => 3,
+            Error::SizeOutOfRange => 4,
+            Error::CandidateDoesNotFit => 5,
+            Error::Memory(_) => 6,
+            Error::Terminal(_) => 7,
+        }
+    }
+}
+
+impl From<AllocError> for Error {
+    ghost use Rattle.std.specs.Prelude.{◌≡◌};
+    ghost use Rattle.tw_painter.specs.declared.error.Error.TheVariants.{Memory};
+
+    ghost from_gives = { λ refused error. error ≡ Memory refused };
+
+    fn from(refused: AllocError) -> Error {
+        Error::Memory(refused)
+    }
+}
+
+impl<T: Drop> From<AllocFailed<T>> for Error {
+    ghost use Rattle.std.specs.Prelude.{◌≡◌, alloc_error};
+    ghost use Rattle.tw_painter.specs.declared.error.Error.TheVariants.{Memory};
+
+    ghost from_gives = { λ _ error. error ≡ Memory alloc_error };
+
+    fn from(_refused: AllocFailed<T>) -> Error {
+        Error::Memory(AllocError)
+    }
+}
+
+impl From<AddFault> for Error {
+    ghost use Rattle.std.specs.Prelude.{◌≡◌};
+    ghost use Rattle.tw_painter.specs.Draws.{add_error};
+
+    ghost from_gives = { λ fault error. error ≡ add_error fault };
+
+    fn from(fault: AddFault) -> Error {
+        match fault {
+            AddFault::Memory => Error::Memory(AllocError),
+            AddFault::OutOfRange => Error::SizeOutOfRange,
+        }
+    }
+}
+
+impl From<SizeFault> for Error {
+    ghost use Rattle.std.specs.Prelude.{◌≡◌};
+    ghost use Rattle.tw_painter.specs.Draws.{size_error};
+
+    ghost from_gives = { λ fault error. error ≡ size_error fault };
+
+    fn from(fault: SizeFault) -> Error {
+        match fault {
+            SizeFault::ZeroSize => Error::ZeroSize,
+            SizeFault::OutOfRange => Error::SizeOutOfRange,
+        }
+    }
+}
+
+impl From<TerminalFault> for Error {
+    ghost use Rattle.std.specs.Prelude.{◌≡◌};
+    ghost use Rattle.tw_painter.specs.declared.error.Error.TheVariants.{Terminal};
+
+    ghost from_gives = { λ fault error. error ≡ Terminal fault };
+
+    fn from(fault: TerminalFault) -> Error {
+        Error::Terminal(fault)
+    }
+}
+
+#[cfg(test)]
+mod tests {
+    use super::*;
+    use std::test::Fail;
+
+    #[test]
+    fn errors_have_texts_and_numbers(rt: HostRuntime) -> Result<(), Fail> {
+        for (error, number, text) in [
+            (Error::EndOfFile, 1, "End Of File"),
+            (Error::Recursive, 2, "recursive call to read_line!"),
+            (Error::ZeroSize, 3, "screen size is zero"),
+            (Error::SizeOutOfRange, 4, "size out of range"),
+            (
+                Error::CandidateDoesNotFit,
+                5,
+                "completion candidate does not fit",
+            ),
+            (Error::from(AllocError), 6, "out of memory"),
+            (Error::from(TerminalFault::Device), 7, "terminal fault"),
+            (Error::from(TerminalFault::Memory), 7, "terminal fault"),
+        ] {
+            assert_eq!(rt; error.number(), number, "{error:?}");
+            let shown = format!(in rt.alloc(); "{error}")?;
+            assert_eq!(rt; shown.as_str(), text);
+        }
+        Ok(())
+    }
+
+    /// Fails as a refused push does.
+    fn refused() -> Result<(), Error> {
+        let failed: Result<(), AllocFailed<u8>> = Err(AllocFailed { value: 1 });
+        Ok(failed?)
+    }
+
+    #[test]
+    fn refused_push_is_memory(rt: HostRuntime) {
+        assert!(rt; matches!(refused(), Err(Error::Memory(AllocError))));
+    }
+}

@@ -1,0 +1,8 @@
+//! How a line editor is painted, and what it answers in place of a line.
+#![tactic(auto)]
+
+mod error;
+mod painter;
+
+pub use error::Error;
+pub use painter::{Below, Painted, paint};
