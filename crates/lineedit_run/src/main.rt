@@ -2,23 +2,7 @@
 //! standard output.
 #![tactic(auto)]
 
-mod answer;
-mod display;
-mod escapes;
-mod fault;
-mod host;
-mod input;
-mod keys;
-mod list_history;
-mod number;
-mod output;
-mod player;
-mod script;
-mod script_host;
-mod session;
-
-use fault::RunFault;
-use player::run;
+use script_player::{RunFault, run};
 use std::process::ExitCode;
 
 fn main(rt: HostRuntime) -> ExitCode {
@@ -30,6 +14,3 @@ fn main(rt: HostRuntime) -> ExitCode {
         Err(RunFault::Io | RunFault::Memory) => ExitCode::from(2),
     }
 }
-
-#[cfg(test)]
-mod tests;

@@ -1,0 +1,3 @@
+pub mod AskedHost
+pub mod ColumnHost
+pub mod ResolvingHost

@@ -1,0 +1,245 @@
+//! A terminal that fails at one of its calls.
+
+use crate::support::{answer_text, expect_readings, terminal_of, terminal_text};
+use std::alloc::Global;
+use std::process::Abort;
+use std::test::Fail;
+use tw_input::InputEvent;
+use tw_lineedit::{Action, Error, LineEditor, NopLineEditorHost};
+use tw_surface::Change;
+use tw_terminal::{ScreenSize, ScriptTerminal, Terminal, TerminalFault};
+
+const EACH_CALL: &str = "\
+events a Enter
+fail 0 0
+--
+refusal 7, 2 left, 0 flushed, 1 failed
+==
+events a Enter
+fail 1 0
+--
+refusal 7, 2 left, 0 flushed, 1 failed
+==
+events a Enter
+fail 2 0
+--
+refusal 7, 2 left, 2 flushed, 1 failed
+ClearToEndOfScreen, AllAttributes, Text(\"> \"), AllAttributes, Text(\"\"), CP(R(0), R(0))
+CP(A(0), R(1)), ClearToEndOfScreen
+==
+events a Enter
+fail 3 0
+--
+refusal 7, 1 left, 2 flushed, 1 failed
+ClearToEndOfScreen, AllAttributes, Text(\"> \"), AllAttributes, Text(\"\"), CP(R(0), R(0))
+CP(A(0), R(1)), ClearToEndOfScreen
+==
+events a Enter
+fail 4 0
+--
+refusal 7, 1 left, 2 flushed, 1 failed
+ClearToEndOfScreen, AllAttributes, Text(\"> \"), AllAttributes, Text(\"\"), CP(R(0), R(0))
+CP(A(0), R(1)), ClearToEndOfScreen
+==
+events a Enter
+fail 5 0
+--
+refusal 7, 1 left, 3 flushed, 1 failed
+ClearToEndOfScreen, AllAttributes, Text(\"> \"), AllAttributes, Text(\"\"), CP(R(0), R(0))
+CP(A(0), R(0)), ClearToEndOfScreen, AllAttributes, Text(\"> \"), AllAttributes, Text(\"a\"), CP(R(0), R(0))
+CP(A(0), R(1)), ClearToEndOfScreen
+==
+events a Enter
+fail 6 0
+--
+refusal 7, 0 left, 3 flushed, 1 failed
+ClearToEndOfScreen, AllAttributes, Text(\"> \"), AllAttributes, Text(\"\"), CP(R(0), R(0))
+CP(A(0), R(0)), ClearToEndOfScreen, AllAttributes, Text(\"> \"), AllAttributes, Text(\"a\"), CP(R(0), R(0))
+CP(A(0), R(1)), ClearToEndOfScreen
+==
+events a Enter
+fail 7 0
+--
+refusal 7, 0 left, 3 flushed, 1 failed
+ClearToEndOfScreen, AllAttributes, Text(\"> \"), AllAttributes, Text(\"\"), CP(R(0), R(0))
+CP(A(0), R(0)), ClearToEndOfScreen, AllAttributes, Text(\"> \"), AllAttributes, Text(\"a\"), CP(R(0), R(0))
+CP(A(0), R(1)), ClearToEndOfScreen
+==
+events a Enter
+fail 8 0
+--
+refusal 7, 0 left, 0 flushed, 1 failed
+ClearToEndOfScreen, AllAttributes, Text(\"> \"), AllAttributes, Text(\"\"), CP(R(0), R(0))
+CP(A(0), R(0)), ClearToEndOfScreen, AllAttributes, Text(\"> \"), AllAttributes, Text(\"a\"), CP(R(0), R(0))
+CP(A(0), R(0)), ClearToEndOfScreen, AllAttributes, Text(\"> \"), AllAttributes, Text(\"a\"), CP(R(0), R(0))
+==
+events a Enter
+fail 9 0
+--
+refusal 7, 0 left, 0 flushed, 1 failed
+ClearToEndOfScreen, AllAttributes, Text(\"> \"), AllAttributes, Text(\"\"), CP(R(0), R(0))
+CP(A(0), R(0)), ClearToEndOfScreen, AllAttributes, Text(\"> \"), AllAttributes, Text(\"a\"), CP(R(0), R(0))
+CP(A(0), R(0)), ClearToEndOfScreen, AllAttributes, Text(\"> \"), AllAttributes, Text(\"a\"), CP(R(0), R(0))
+CP(A(0), R(1)), ClearToEndOfScreen
+==
+";
+
+#[test]
+fn a_fault_at_each_call_is_the_answer(rt: HostRuntime) -> Result<(), Fail> {
+    assert_eq!(rt; expect_readings(&rt, rt.alloc(), EACH_CALL)?, 10);
+    Ok(())
+}
+
+const IN_PART: &str = "\
+events a Enter
+fail 1 2
+--
+refusal 7, 2 left, 1 flushed, 1 failed
+ClearToEndOfScreen, AllAttributes
+==
+events a Enter
+fail 4 2
+--
+refusal 7, 1 left, 3 flushed, 1 failed
+ClearToEndOfScreen, AllAttributes, Text(\"> \"), AllAttributes, Text(\"\"), CP(R(0), R(0))
+CP(A(0), R(0)), ClearToEndOfScreen
+CP(A(0), R(1)), ClearToEndOfScreen
+==
+events a Enter
+fail 8 1
+--
+refusal 7, 0 left, 0 flushed, 1 failed
+ClearToEndOfScreen, AllAttributes, Text(\"> \"), AllAttributes, Text(\"\"), CP(R(0), R(0))
+CP(A(0), R(0)), ClearToEndOfScreen, AllAttributes, Text(\"> \"), AllAttributes, Text(\"a\"), CP(R(0), R(0))
+CP(A(0), R(0)), ClearToEndOfScreen, AllAttributes, Text(\"> \"), AllAttributes, Text(\"a\"), CP(R(0), R(0))
+CP(A(0), R(1))
+==
+";
+
+#[test]
+fn a_fault_leaves_a_beginning_of_the_batch(rt: HostRuntime) -> Result<(), Fail> {
+    assert_eq!(rt; expect_readings(&rt, rt.alloc(), IN_PART)?, 3);
+    Ok(())
+}
+
+const CLOSING: &str = "\
+events Enter
+fail 5 0
+--
+refusal 7, 0 left, 0 flushed, 1 failed
+ClearToEndOfScreen, AllAttributes, Text(\"> \"), AllAttributes, Text(\"\"), CP(R(0), R(0))
+CP(A(0), R(0)), ClearToEndOfScreen, AllAttributes, Text(\"> \"), AllAttributes, Text(\"\"), CP(R(0), R(0))
+==
+";
+
+#[test]
+fn a_fault_of_the_closing_batch_comes_before_the_line(rt: HostRuntime) -> Result<(), Fail> {
+    assert_eq!(rt; expect_readings(&rt, rt.alloc(), CLOSING)?, 1);
+    Ok(())
+}
+
+/// A repaint that fails leaves the line, the cursor and the mode as they were.
+#[test]
+fn a_refused_repaint_leaves_the_editor(rt: HostRuntime) -> Result<(), Fail> {
+    let alloc = rt.alloc();
+    let mut terminal = terminal_of(alloc, 80, "")?;
+    terminal.fail_at(0, 0);
+    {
+        let mut host = NopLineEditorHost::new(alloc);
+        let mut editor = LineEditor::new(alloc, &mut terminal)?;
+        editor.set_line_and_cursor("ab", 0)?;
+        match editor.apply_action(&mut host, Action::Repaint) {
+            Ok(()) => assert!(rt; false, "no refusal"),
+            Err(error) => assert_eq!(rt; error.number(), 7),
+        }
+        assert_eq!(rt; editor.get_line_and_cursor(), ("ab", 0));
+        let answer = editor.read_line(&mut host);
+        let shown = answer_text(alloc, &answer)?;
+        assert_eq!(rt; shown.as_str(), "Some(\"\")");
+    }
+    let told = terminal_text(alloc, &terminal)?;
+    assert!(rt; told.as_str().starts_with("0 left, 2 flushed, 1 failed\n"));
+    Ok(())
+}
+
+/// A scripted terminal that answers one fault, whatever its script answers.
+#[derive(Drop)]
+struct Faulty {
+    script: ScriptTerminal,
+    fault: TerminalFault,
+}
+
+impl Terminal for Faulty {
+    ghost state = { λ faulty. faulty.script.terminal };
+
+    fn get_screen_size(&mut self) -> Result<ScreenSize, TerminalFault> {
+        self.script.get_screen_size().or(Err(self.fault))
+    }
+
+    fn poll_input(&mut self) -> Result<Option<InputEvent>, TerminalFault> {
+        self.script.poll_input().or(Err(self.fault))
+    }
+
+    fn render(&mut self, changes: &[Change]) -> Result<(), TerminalFault> {
+        self.script.render(changes).or(Err(self.fault))
+    }
+
+    fn flush(&mut self) -> Result<(), TerminalFault> {
+        self.script.flush().or(Err(self.fault))
+    }
+}
+
+/// A terminal that answers this fault at the call of this number.
+fn faulty_at(
+    alloc: Global,
+    events: &str,
+    call: usize,
+    fault: TerminalFault,
+) -> Result<Faulty, Fail> {
+    let mut script = terminal_of(alloc, 80, events)?;
+    script.fail_at(call, 0);
+    Ok(Faulty { script, fault })
+}
+
+fn expect_fault<A: Drop>(
+    rt: &impl Abort,
+    answer: Result<A, Error>,
+    call: usize,
+    wanted: TerminalFault,
+) {
+    match answer {
+        Err(Error::Terminal(fault)) => assert_eq!(rt; fault, wanted, "at {call}"),
+        _ => assert!(rt; false, "no fault at {call}"),
+    }
+}
+
+#[test]
+fn the_answer_is_the_very_fault(rt: HostRuntime) -> Result<(), Fail> {
+    let alloc = rt.alloc();
+    for fault in [TerminalFault::Device, TerminalFault::Memory] {
+        for call in 0..14 {
+            let mut terminal = faulty_at(alloc, "a C-L Enter", call, fault)?;
+            {
+                let mut host = NopLineEditorHost::new(alloc);
+                let mut editor = LineEditor::new(alloc, &mut terminal)?;
+                let answer = editor.read_line(&mut host);
+                expect_fault(&rt, answer, call, fault);
+            }
+            assert_eq!(rt; terminal.script.failures(), 1, "at {call}");
+        }
+    }
+    Ok(())
+}
+
+#[test]
+fn a_refused_repaint_is_the_very_fault(rt: HostRuntime) -> Result<(), Fail> {
+    let alloc = rt.alloc();
+    for fault in [TerminalFault::Device, TerminalFault::Memory] {
+        let mut terminal = faulty_at(alloc, "", 0, fault)?;
+        let mut host = NopLineEditorHost::new(alloc);
+        let mut editor = LineEditor::new(alloc, &mut terminal)?;
+        let answer = editor.apply_action(&mut host, Action::Repaint);
+        expect_fault(&rt, answer, 0, fault);
+    }
+    Ok(())
+}

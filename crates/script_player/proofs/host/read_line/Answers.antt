@@ -1,0 +1,10 @@
+use Rattle.std.proofs.Common.{rules, ◌≡◌, Ok}
+use Rattle.tw_lineedit.specs.EditState.{Inactive}
+use Rattle.tw_lineedit.specs.Outcomes.{outcome_of}
+use Rattle.script_player.proofs.Steadiness.{reading-value}
+use Rattle.script_player.proofs.host.read_line.Goals as goal
+
+pub returns-clause-kept : goal.returns-clause-kept
+returns-clause-kept g c steady =
+    let inactive : c.set_prompt.new.self.session.state.mode ≡ Inactive = search rules in
+    reading-value g.H.LineEditorHost.rules steady _ _ c.read_line.result (λ it. outcome_of (Ok it)) (c.read_line.ensures.ok inactive) (c.read_line.ensures.err inactive)

@@ -1,0 +1,24 @@
+//! The editor that a script plays on.
+
+ghost use Rattle.std.specs.Prelude.{◌≡◌, Ok, IfOk};
+ghost use Rattle.tw_lineedit.specs.Outcomes.{outcome_of};
+ghost use Rattle.script_player.specs.Reading.{ReadsLine, IsSteady};
+
+use std::alloc::Global;
+use tw_lineedit::{Error, LineEditor, LineEditorHost};
+use tw_terminal::ScriptTerminal;
+
+/// Reads a line from the terminal with a new editor of this prompt, which is gone afterwards.
+pub fn read_line<H: LineEditorHost>(
+    alloc: Global,
+    terminal: &mut ScriptTerminal,
+    host: &mut H,
+    prompt: &str,
+) -> Result<Option<String>, Error>
+    ensures read { IfOk result (λ line. ReadsLine H.rules prompt.now (H.value host.old) (H.value host.new) terminal.old terminal.new (outcome_of (Ok line))) }
+    ensures kept { IsSteady H.rules → H.value host.new ≡ H.value host.old }
+{
+    let mut editor = LineEditor::new(alloc, terminal)?;
+    editor.set_prompt(prompt)?;
+    editor.read_line(host)
+}

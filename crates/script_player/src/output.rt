@@ -1,0 +1,27 @@
+//! Writing what is shown.
+
+ghost use Rattle.std.specs.Prelude.{◌≡◌, OnOk, IfErr};
+ghost use Rattle.std.specs.Io.KnownBytes.{Appends};
+ghost use Rattle.script_player.specs.Written.{ExtendsInPart};
+
+use crate::fault::RunFault;
+use std::io::Write;
+
+/// Writes the whole text, or a beginning of it. A write that takes no byte has failed.
+pub fn put<W: Write>(writer: &mut W, text: &str) -> Result<(), RunFault>
+    ensures ok { OnOk result (Appends (W.contents writer.old) (W.contents writer.new) text.now) }
+    ensures part { ExtendsInPart (W.contents writer.old) (W.contents writer.new) text.now }
+    ensures fault { IfErr result (λ fault. fault ≡ RunFault.Io) }
+{
+    let mut rest = text.as_bytes();
+    while !rest.is_empty() {
+        let Ok(count) = writer.write(rest) else {
+            return Err(RunFault::Io);
+        };
+        if count == 0 {
+            return Err(RunFault::Io);
+        }
+        rest = &rest[count..];
+    }
+    Ok(())
+}

@@ -1,0 +1,88 @@
+//! Running a script.
+
+ghost use Rattle.std.specs.Prelude.{◌≡◌, ◌<◌, length, string_bytes, IfErr, IfOk, OnOk};
+ghost use Rattle.std.specs.Io.KnownBytes.{IsAtEnd};
+ghost use Rattle.script_player.specs.Lines.{IsFirstLine};
+ghost use Rattle.script_player.specs.Written.{Extends, NamesBadLine, bad_line};
+
+use crate::fault::RunFault;
+use crate::input::read_script;
+use crate::output::put;
+use crate::script::parse_line;
+use crate::session::Session;
+use std::alloc::{AllocError, Global};
+use std::io::{Read, Write};
+
+/// Reads a script, runs it line by line, and writes what it shows. A line that is no directive ends the run
+/// and is named in what is written; an empty line is passed over.
+pub fn run<R: Read, W: Write>(alloc: Global, reader: &mut R, writer: &mut W) -> Result<(), RunFault>
+    ensures kept { Extends (W.contents writer.old) (W.contents writer.new) }
+    ensures bad_line { IfErr result (NamesBadLine (W.contents writer.old) (W.contents writer.new)) }
+    ensures end { OnOk result (IsAtEnd (R.remaining reader.new)) }
+{
+    let script = read_script(alloc, reader)?;
+    play_script(alloc, script.as_slice(), writer)?;
+    match writer.flush() {
+        Ok(()) => Ok(()),
+        Err(_) => Err(RunFault::Io),
+    }
+}
+
+/// Runs a script line by line.
+fn play_script<W: Write>(alloc: Global, script: &[u8], writer: &mut W) -> Result<(), RunFault>
+    ensures kept { Extends (W.contents writer.old) (W.contents writer.new) }
+    ensures bad_line { IfErr result (NamesBadLine (W.contents writer.old) (W.contents writer.new)) }
+{
+    let mut session = Session::new(alloc)?;
+    let mut rest = script;
+    let mut number: u64 = 0;
+    while !rest.is_empty() {
+        let (line, after) = split_line(rest);
+        number = number.saturating_add(1);
+        play_line(alloc, &mut session, number, line, writer)?;
+        rest = after;
+    }
+    Ok(())
+}
+
+/// The first line, without the line feed that ends it, and what follows.
+fn split_line(script: &[u8]) -> (&[u8], &[u8])
+    requires { 0 < length script.now }
+    ensures line { IsFirstLine script.now result.0.now result.1.now }
+    ensures shorter { length result.1.now < length script.now }
+{
+    match script.iter().position(|byte| *byte == b'\n') {
+        Some(end) => (&script[..end], &script[end + 1..]),
+        None => (script, &script[script.len()..]),
+    }
+}
+
+/// Does what a line asks for. Where it is no directive, writes its number.
+fn play_line<W: Write>(
+    alloc: Global,
+    session: &mut Session,
+    number: u64,
+    line: &[u8],
+    writer: &mut W,
+) -> Result<(), RunFault>
+    requires { 0 < number }
+    ensures kept { Extends (W.contents writer.old) (W.contents writer.new) }
+    ensures bad_line { IfErr result (NamesBadLine (W.contents writer.old) (W.contents writer.new)) }
+{
+    if line.is_empty() {
+        return Ok(());
+    }
+    let Some(directive) = parse_line(line) else {
+        let shown = bad_line_text(alloc, number)?;
+        put(writer, shown.as_str())?;
+        return Err(RunFault::BadLine(number));
+    };
+    session.obey(directive, writer)
+}
+
+/// The line that names a bad line.
+fn bad_line_text(alloc: Global, number: u64) -> Result<String, AllocError>
+    ensures { IfOk result (λ text. string_bytes text ≡ bad_line number) }
+{
+    format!(in alloc; "bad line {number}\n")
+}

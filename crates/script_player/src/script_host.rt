@@ -1,0 +1,112 @@
+//! The host of a script.
+
+ghost use Rattle.std.specs.Prelude.{◌≡◌, map, string_bytes, OnOk, OnErr, refl};
+ghost use Rattle.tw_lineedit.specs.CandidateView.{candidate_view};
+ghost use Rattle.script_player.specs.ScriptRules.{Scripted, history_only, with_candidate, with_preview, script_rules, script_own, script_is_plain};
+
+use std::alloc::{AllocError, Global};
+use std::ops::Range;
+use tw_lineedit::{CompletionCandidate, History, LineEditorHost, OutputElement, OwnAnswers};
+
+/// A host with a history, a preview under every line, and candidates that it answers to every request. Its
+/// other answers are the default ones.
+#[derive(Drop)]
+pub struct ScriptHost<L> {
+    alloc: Global,
+    history: L,
+    preview: String,
+    candidates: Vec<CompletionCandidate>,
+}
+
+impl<L: History> ScriptHost<L> {
+    /// The host with this history, without a preview and without candidates.
+    pub fn new(alloc: Global, history: L) -> Self
+        ensures { ⟦<ScriptHost<L> as LineEditorHost>⟧.value result ≡ history_only (L.lines history) }
+    {
+        ScriptHost {
+            alloc,
+            history,
+            preview: String::new(alloc),
+            candidates: Vec::new(alloc),
+        }
+    }
+
+    /// Shows this preview from now on, and none where it is empty. Where it is refused nothing is changed.
+    pub fn set_preview(&mut self, preview: &str) -> Result<(), AllocError>
+        ensures set { OnOk result (⟦<ScriptHost<L> as LineEditorHost>⟧.value self.new ≡ with_preview preview.now (⟦<ScriptHost<L> as LineEditorHost>⟧.value self.old)) }
+        ensures refused { OnErr result (⟦<ScriptHost<L> as LineEditorHost>⟧.value self.new ≡ ⟦<ScriptHost<L> as LineEditorHost>⟧.value self.old) }
+    {
+        self.preview = String::from_str(self.alloc, preview)?;
+        Ok(())
+    }
+
+    /// Adds a candidate behind the others. Where it is refused nothing is changed.
+    pub fn offer(&mut self, range: Range<usize>, text: &str) -> Result<(), AllocError>
+        ensures last { OnOk result (⟦<ScriptHost<L> as LineEditorHost>⟧.value self.new
+            ≡ with_candidate (record { start = range.start; end = range.end; text = text.now }) (⟦<ScriptHost<L> as LineEditorHost>⟧.value self.old)) }
+        ensures refused { OnErr result (⟦<ScriptHost<L> as LineEditorHost>⟧.value self.new ≡ ⟦<ScriptHost<L> as LineEditorHost>⟧.value self.old) }
+    {
+        let text = String::from_str(self.alloc, text)?;
+        self.candidates.push(CompletionCandidate { range, text })?;
+        Ok(())
+    }
+}
+
+impl<L: History> LineEditorHost for ScriptHost<L> {
+    type Hist = L;
+
+    ghost Value = { Scripted };
+
+    ghost value = { λ host. record { lines = L.lines host.history; preview = string_bytes host.preview; candidates = map candidate_view host.candidates.items } };
+
+    ghost rules = { script_rules };
+
+    ghost held = { λ host. host.history };
+
+    ghost with_held = { λ host history. record host { history = history } };
+
+    ghost OWN = { script_own };
+
+    const OWN: OwnAnswers = OwnAnswers {
+        preview: true,
+        complete: true,
+        ..OwnAnswers::NONE
+    };
+
+    fn history(&mut self) -> &mut L {
+        &mut self.history
+    }
+
+    fn render_preview(&self, alloc: Global, _line: &str) -> Result<Vec<OutputElement>, AllocError> {
+        let mut elements = Vec::new(alloc);
+        if !self.preview.is_empty() {
+            let text = String::from_str(alloc, self.preview.as_str())?;
+            elements.push(OutputElement::Text(text))?;
+        }
+        Ok(elements)
+    }
+
+    fn complete(
+        &self,
+        alloc: Global,
+        _line: &str,
+        _cursor_position: usize,
+    ) -> Result<Vec<CompletionCandidate>, AllocError> {
+        let mut copies = Vec::new(alloc);
+        for candidate in &self.candidates {
+            copies.push(CompletionCandidate {
+                range: candidate.range.start..candidate.range.end,
+                text: String::from_str(alloc, candidate.text.as_str())?,
+            })?;
+        }
+        Ok(copies)
+    }
+
+    ghost plain_answers = { script_is_plain };
+
+    ghost held_back = { λ host. refl };
+
+    ghost held_put = { λ host history. refl };
+
+    ghost held_lines = { λ host. refl };
+}

@@ -1,0 +1,153 @@
+//! What a script keeps from line to line.
+
+ghost use Rattle.std.specs.Prelude.{◌≡◌, [], IfErr, IfOk, OnOk};
+ghost use Rattle.script_player.specs.Written.{Extends, IsOutside};
+
+use crate::answer::Answer;
+use crate::display::{play_all, show_screen};
+use crate::escapes::unescape;
+use crate::fault::RunFault;
+use crate::host::read_line;
+use crate::output::put;
+use crate::script::Directive;
+use crate::script_host::ScriptHost;
+use std::alloc::{AllocError, Global};
+use std::io::Write;
+use std::mem;
+use tw_input::{InputEvent, KeyCode, KeyEvent, Modifiers};
+use tw_lineedit::{BasicHistory, LineEditorHost};
+use tw_surface::{Change, Screen, ScreenFault};
+use tw_terminal::{ScreenSize, ScriptTerminal};
+
+/// The rows of each terminal.
+const ROWS: usize = 24;
+
+/// The columns of a terminal, where the script names none.
+const COLS: usize = 80;
+
+/// The columns, the prompt and the events for the next line, and the host and the screen of all lines.
+#[derive(Drop)]
+pub struct Session {
+    alloc: Global,
+    cols: usize,
+    prompt: String,
+    events: Vec<InputEvent>,
+    host: ScriptHost<BasicHistory>,
+    screen: Option<Screen>,
+}
+
+impl Session {
+    ghost use Rattle.script_player.specs.ScriptRules.{history_only};
+    ghost use Rattle.script_player.specs.Sessions.{host_of, Obeys};
+
+    /// The session at the start of a script.
+    pub fn new(alloc: Global) -> Result<Self, AllocError>
+        ensures { IfOk result (λ session. host_of session ≡ history_only []) }
+    {
+        Ok(Session {
+            alloc,
+            cols: COLS,
+            prompt: String::from_str(alloc, "> ")?,
+            events: Vec::new(alloc),
+            host: ScriptHost::new(alloc, BasicHistory::new(alloc)),
+            screen: Screen::new(alloc, COLS).ok(),
+        })
+    }
+
+    /// Does what a line of the script asks for.
+    pub fn obey<W: Write>(
+        &mut self,
+        directive: Directive<'_>,
+        writer: &mut W,
+    ) -> Result<(), RunFault>
+        ensures kept { Extends (W.contents writer.old) (W.contents writer.new) }
+        ensures fault { IfErr result IsOutside }
+        ensures host { OnOk result (Obeys directive.entry (host_of self.old) (host_of self.new)) }
+    {
+        match directive {
+            Directive::Cols(cols) => {
+                self.cols = cols;
+                self.clear_screen();
+            }
+            Directive::Prompt(prompt) => self.prompt = String::from_str(self.alloc, prompt)?,
+            Directive::Preview(text) => {
+                let preview = unescape(self.alloc, text)?;
+                self.host.set_preview(preview.as_str())?;
+            }
+            Directive::History(line) => self.host.remember(line)?,
+            Directive::Candidate(range, text) => self.host.offer(range, text)?,
+            Directive::Type(text) => self.type_text(text)?,
+            Directive::Paste(text) => {
+                let text = String::from_str(self.alloc, text)?;
+                self.events.push(InputEvent::Paste(text))?;
+            }
+            Directive::Key(key) => self.events.push(InputEvent::Key(key))?,
+            Directive::Read => {
+                let shown = self.read()?;
+                put(writer, shown.as_str())?;
+            }
+        }
+        Ok(())
+    }
+
+    /// A new screen, or none where no screen has so many columns.
+    fn clear_screen(&mut self)
+        ensures { host_of self.new ≡ host_of self.old }
+    {
+        self.screen = Screen::new(self.alloc, self.cols).ok();
+    }
+
+    /// A key for each character.
+    fn type_text(&mut self, text: &str) -> Result<(), AllocError>
+        ensures { host_of self.new ≡ host_of self.old }
+    {
+        for character in text.chars() {
+            self.events.push(InputEvent::Key(KeyEvent {
+                key: KeyCode::Char(character),
+                modifiers: Modifiers::NONE,
+            }))?;
+        }
+        Ok(())
+    }
+
+    /// Reads a line from the events, and tells the answer and what the screen then shows.
+    fn read(&mut self) -> Result<String, RunFault>
+        ensures fault { IfErr result IsOutside }
+        ensures host { host_of self.new ≡ host_of self.old }
+    {
+        let events = mem::replace(&mut self.events, Vec::new(self.alloc));
+        let size = ScreenSize {
+            rows: ROWS,
+            cols: self.cols,
+        };
+        let mut terminal = ScriptTerminal::new(self.alloc, size, events);
+        let prompt = self.prompt.as_str();
+        let outcome = read_line(self.alloc, &mut terminal, &mut self.host, prompt);
+        let answer = Answer::new(outcome)?;
+        let mut shown = format!(in self.alloc; "{answer}\n")?;
+        self.show(terminal.batches(), &mut shown)?;
+        Ok(shown)
+    }
+
+    /// Plays the batches on the screen, and adds what it then shows.
+    fn show(&mut self, batches: &[Vec<Change>], shown: &mut String) -> Result<(), RunFault>
+        ensures fault { IfErr result IsOutside }
+        ensures host { host_of self.new ≡ host_of self.old }
+    {
+        let Some((closing, paintings)) = batches.split_last() else {
+            return Ok(());
+        };
+        let Some(screen) = &mut self.screen else {
+            return Ok(());
+        };
+        match play_all(screen, paintings, closing) {
+            Ok(cursor) => show_screen(screen, self.cols, cursor, shown)?,
+            Err(ScreenFault::NotPlain) => {
+                self.clear_screen();
+                shown.push_str("screen not plain\n")?;
+            }
+            Err(ScreenFault::Memory | ScreenFault::OutOfRange) => return Err(RunFault::Memory),
+        }
+        Ok(())
+    }
+}
