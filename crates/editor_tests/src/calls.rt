@@ -199,6 +199,8 @@ impl LineEditorHost for AskedHost {
 
     ghost held_back = { λ host. refl };
 
+    ghost held_put = { λ host history. refl };
+
     ghost held_lines = { λ host. refl };
 }
 
