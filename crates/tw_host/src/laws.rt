@@ -4,6 +4,13 @@ ghost use Rattle.std.specs.Prelude.{◌≡◌, ◌≢◌, Some, None, All, AllPa
 ghost use Rattle.tw_input.specs.Equality.{ComparesValues};
 ghost use Rattle.tw_host.specs.KeyTable.{is_same_key, key_table, looked_up, typed};
 
+use crate::host::OwnAnswers;
+
+/// `==` of `OwnAnswers` is equality of values.
+pub fn own_answers()
+    ensures { ComparesValues ⟦<OwnAnswers as PartialEq>⟧.eq }
+{}
+
 /// No key stands in two rows of the key table, each row is found by its key, and no row is a typed character.
 /// Keys are one exactly where they are equal.
 pub fn key_table()

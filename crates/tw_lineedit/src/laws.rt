@@ -1,24 +1,14 @@
 //! Laws over the definitions alone: each is the contract of a function that does nothing.
 
-ghost use Rattle.std.specs.Prelude.{◌≡◌, ◌≢◌, ℕ, List, Some, None, All, AllPairs};
-ghost use Rattle.tw_input.specs.Equality.{ComparesValues, ComparesViews};
-ghost use Rattle.tw_history.specs.Added.{match_view};
 ghost use Rattle.tw_lineedit.specs.CompletionLaws.{GoesRound};
 ghost use Rattle.tw_lineedit.specs.HistoryLaws.{Enumerates, LeavesHistory, WalksBack};
 ghost use Rattle.tw_lineedit.specs.ScreenRuns.{CallsStack};
 ghost use Rattle.tw_lineedit.specs.Stations.{BatchesByStations};
 
-use tw_history::{SearchDirection, SearchResult, SearchStyle};
-use tw_host::{LineEditorHost, OwnAnswers};
-
-/// `==` is equality of values. Answers of a search are compared by their views, so a text by its characters,
-/// whether it is borrowed or owned.
-pub fn equality<'a>()
-    ensures search_style { ComparesValues ⟦<SearchStyle as PartialEq>⟧.eq }
-    ensures search_direction { ComparesValues ⟦<SearchDirection as PartialEq>⟧.eq }
-    ensures search_result { ComparesViews match_view ⟦<SearchResult<'a> as PartialEq>⟧.eq }
-    ensures own_answers { ComparesValues ⟦<OwnAnswers as PartialEq>⟧.eq }
-{}
+pub use tw_history::laws::{equality, searches};
+use tw_host::LineEditorHost;
+pub use tw_host::laws::{key_table, own_answers};
+pub use tw_line::laws::{counts, steps};
 
 /// The batches that a run takes are a function of its stations alone: the states, the host's values and the
 /// sizes at which it paints, and whether the screen was cleared just before.

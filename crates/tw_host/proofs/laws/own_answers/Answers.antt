@@ -2,7 +2,7 @@ use Rattle.std.proofs.Common.{◌≡◌, Bool, true, false, refl, ap, subst, ◌
 use Rattle.std.proofs.lemmas.Bool.{and_parts, and_from, false≢true}
 use mathlib.Core.Bool.{beq}
 use Rattle.tw_host.specs.declared.host.OwnAnswers.{OwnAnswers}
-use Rattle.tw_lineedit.proofs.laws.equality.Goals as goal
+use Rattle.tw_host.proofs.laws.own_answers.Goals as goal
 
 beq-is : (a b : Bool) → beq a b ≡ true → a ≡ b
 beq-is true true h = refl
@@ -26,8 +26,8 @@ joined a b e0 e1 e2 e3 e4 =
     ∙ ap (λ x. record a { prompt = b.prompt; preview = b.preview; highlight = b.highlight; complete = x }) e3
     ∙ ap (λ x. record a { prompt = b.prompt; preview = b.preview; highlight = b.highlight; complete = b.complete; resolve = x }) e4
 
-pub returns-clause-own_answers : goal.returns-clause-own_answers
-returns-clause-own_answers c a b = (
+pub returns : goal.returns
+returns c a b = (
   (λ h.
       let s0 = and_parts _ _ h in
       let s1 = and_parts _ _ s0.1 in
