@@ -1,6 +1,7 @@
 //! Scripts from a seed. What stands more than once in a list is picked more often.
 
-use crate::script::{Entry, Input, Script};
+use crate::script::{Input, Script};
+use fresh_table::{Entry, Numbers};
 use std::alloc::{AllocError, Global};
 use tw_input::KeyCode;
 
@@ -56,51 +57,34 @@ const COMMANDS: [Input; 18] = [
     Input::Control('S'),
 ];
 
-/// Numbers in a scattered order, the same for each seed.
+/// Scripts in a scattered order, the same for each seed.
 #[derive(Debug, Clone, Copy)]
 pub struct Generator {
-    state: u64,
+    numbers: Numbers,
 }
 
 impl Generator {
-    /// The numbers of a seed that is not 0.
+    /// The scripts of a seed that is not 0.
     pub fn new(seed: u64) -> Self {
-        Generator { state: seed }
-    }
-
-    /// The next number.
-    fn number(&mut self) -> u64 {
-        self.state ^= self.state << 13;
-        self.state ^= self.state >> 7;
-        self.state ^= self.state << 17;
-        self.state
-    }
-
-    /// A number below the bound, or 0 where there is none.
-    fn below(&mut self, bound: u64) -> u64 {
-        self.number().checked_rem(bound).unwrap_or(0)
-    }
-
-    /// One of the items, or the other one where there are none.
-    fn pick<T: Copy>(&mut self, items: &[T], other: T) -> T {
-        let at = self.below(items.len() as u64);
-        items.get(at as usize).copied().unwrap_or(other)
+        Generator {
+            numbers: Numbers::new(seed),
+        }
     }
 
     /// Something that is typed: most often a letter.
     fn input(&mut self) -> Input {
-        match self.below(40) {
+        match self.numbers.below(40) {
             0 => Input::Control('L'),
             1 => Input::Key(KeyCode::Enter),
-            2 => Input::Paste(self.pick(&PASTES, "")),
-            3..=17 => self.pick(&COMMANDS, Input::Control('K')),
-            _ => Input::Key(KeyCode::Char(self.pick(&LETTERS, ' '))),
+            2 => Input::Paste(self.numbers.pick(&PASTES, "")),
+            3..=17 => self.numbers.pick(&COMMANDS, Input::Control('K')),
+            _ => Input::Key(KeyCode::Char(self.numbers.pick(&LETTERS, ' '))),
         }
     }
 
     /// One of the two screens.
     fn entry(&mut self) -> Entry {
-        if self.below(2) == 0 {
+        if self.numbers.below(2) == 0 {
             Entry::Blank
         } else {
             Entry::Full
@@ -109,7 +93,7 @@ impl Generator {
 
     fn inputs(&mut self, alloc: Global) -> Result<Vec<Input>, AllocError> {
         let mut inputs = Vec::new(alloc);
-        for _ in 0..self.below(26).saturating_add(5) {
+        for _ in 0..self.numbers.below(26).saturating_add(5) {
             inputs.push(self.input())?;
         }
         Ok(inputs)
@@ -117,8 +101,8 @@ impl Generator {
 
     fn history(&mut self, alloc: Global) -> Result<Vec<&'static str>, AllocError> {
         let mut lines = Vec::new(alloc);
-        for _ in 0..self.below(6) {
-            lines.push(self.pick(&LINES, ""))?;
+        for _ in 0..self.numbers.below(6) {
+            lines.push(self.numbers.pick(&LINES, ""))?;
         }
         Ok(lines)
     }
@@ -127,12 +111,12 @@ impl Generator {
     pub fn case(&mut self, alloc: Global) -> Result<Case, AllocError> {
         Ok(Case {
             entry: self.entry(),
-            prompt: self.pick(&PROMPTS, ""),
-            preview: self.pick(&PREVIEWS, ""),
+            prompt: self.numbers.pick(&PROMPTS, ""),
+            preview: self.numbers.pick(&PREVIEWS, ""),
             history: self.history(alloc)?,
-            column: self.pick(&COLUMNS, None),
+            column: self.numbers.pick(&COLUMNS, None),
             inputs: self.inputs(alloc)?,
-            readings: 1 + self.below(4) as usize / 3,
+            readings: 1 + self.numbers.below(4) as usize / 3,
         })
     }
 }

@@ -6,17 +6,15 @@
 #![tactic(auto)]
 
 mod generator;
-mod host;
 mod play;
-mod scene;
 mod script;
-mod table;
 mod worked;
 
 use crate::generator::Generator;
 use crate::play::{Count, play};
-use crate::script::{Entry, Script};
+use crate::script::Script;
 use crate::worked::{WORKED, Worked};
+use fresh_table::Entry;
 use std::alloc::Global;
 use std::time::Instant;
 

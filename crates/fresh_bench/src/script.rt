@@ -32,15 +32,6 @@ fn pressed(key: KeyCode, modifiers: Modifiers) -> InputEvent {
     InputEvent::Key(KeyEvent { key, modifiers })
 }
 
-/// How a screen is at first.
-#[derive(Debug, Clone, Copy)]
-pub enum Entry {
-    /// It is blank, and entered at its first row.
-    Blank,
-    /// Its first rows are full, and it is entered at one of them.
-    Full,
-}
-
 /// What an editor is given, and what is typed. The texts are printable ASCII, but for the line breaks of the
 /// preview.
 #[derive(Debug, Clone, Copy)]

@@ -3,7 +3,6 @@
 ghost use Rattle.std.specs.Prelude.{◌<◌};
 
 use crate::scene::Scene;
-use crate::script::Entry;
 use std::alloc::{AllocError, Global};
 use tw_surface::Screen;
 
@@ -15,6 +14,15 @@ pub const FULL_ENTRY: usize = 5;
 
 /// What fills a full screen.
 pub const FILLING: char = '#';
+
+/// How a screen is at first.
+#[derive(Debug, Clone, Copy)]
+pub enum Entry {
+    /// It is blank, and entered at its first row.
+    Blank,
+    /// Its first rows are full, and it is entered at one of them.
+    Full,
+}
 
 /// The characters of the first rows, and the cursor.
 #[derive(Drop)]
