@@ -316,6 +316,33 @@ cursor 0 5
 end 1 0
 -- ok
 ==
+cols 5
+prompt > \r
+read
+--
+line\x20
+|>    |
+cursor 0 0
+end 1 0
+-- ok
+==
+cols 5
+paste a\0b
+read
+paste \u{feff}
+read
+read
+--
+line a\0b
+screen not plain
+line \u{feff}
+screen not plain
+line\x20
+|>    |
+cursor 0 2
+end 1 0
+-- ok
+==
 ";
 
 /// Runs the cases, and says how many there were.
@@ -338,7 +365,7 @@ pub fn expect_cases(rt: &impl Abort, alloc: Global, cases: &str) -> Result<usize
 
 #[test]
 fn scripts_show_what_the_editor_shows(rt: HostRuntime) -> Result<(), Fail> {
-    assert_eq!(rt; expect_cases(&rt, rt.alloc(), CASES)?, 18);
+    assert_eq!(rt; expect_cases(&rt, rt.alloc(), CASES)?, 20);
     Ok(())
 }
 
@@ -418,6 +445,16 @@ key A-Home
 key A-Up
 key A-AppDown
 key S-Left
+\r
+cols 5\r
+key Enter\r
+\0
+read\0
+cols 5\0
+\u{feff}read
+cols 12345678901234567890
+cols 00000000000000000005
+cand 0 18446744073709551616 x
 ";
 
 #[test]
@@ -435,7 +472,7 @@ fn a_line_that_is_no_directive_ends_the_run(rt: HostRuntime) -> Result<(), Fail>
         );
         count = count.saturating_add(1);
     }
-    assert_eq!(rt; count, 58);
+    assert_eq!(rt; count, 68);
     Ok(())
 }
 
@@ -445,6 +482,7 @@ fn a_line_that_is_no_text_is_bad(rt: HostRuntime) {
         b"\n\xff\nread".as_slice(),
         b"\ntype \xc3\n".as_slice(),
         b"\nprompt \xed\xa0\x80".as_slice(),
+        b"\nhistory \xc0\xaf\nread".as_slice(),
     ] {
         expect_run(
             &rt,
