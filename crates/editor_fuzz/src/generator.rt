@@ -68,7 +68,7 @@ fn size(numbers: &mut Numbers, plain: bool) -> ScreenSize {
     }
     ScreenSize {
         rows: 24,
-        cols: 2 + numbers.below(20) as usize,
+        cols: (numbers.below(20) as usize).saturating_add(2),
     }
 }
 
