@@ -6,11 +6,17 @@ use std::alloc::{AllocError, Global};
 use tw_input::{InputEvent, KeyCode, KeyEvent, Modifiers};
 use tw_terminal::ScreenSize;
 
-/// Sizes at which something is decided.
-pub const SIZES: [ScreenSize; 12] = [
+/// Sizes at which something is decided, and usual ones.
+pub const SIZES: [ScreenSize; 18] = [
+    ScreenSize { rows: 24, cols: 80 },
     ScreenSize { rows: 24, cols: 80 },
     ScreenSize { rows: 24, cols: 10 },
+    ScreenSize { rows: 24, cols: 10 },
+    ScreenSize { rows: 50, cols: 7 },
+    ScreenSize { rows: 24, cols: 3 },
     ScreenSize { rows: 24, cols: 2 },
+    ScreenSize { rows: 24, cols: 1 },
+    ScreenSize { rows: 1, cols: 80 },
     ScreenSize { rows: 1, cols: 1 },
     ScreenSize { rows: 0, cols: 0 },
     ScreenSize { rows: 0, cols: 80 },

@@ -6,6 +6,7 @@ use crate::round::{Round, Step};
 use crate::texts::PREVIEWS;
 use fresh_table::{Entry, Numbers};
 use std::alloc::{AllocError, Global};
+use tw_input::InputEvent;
 use tw_terminal::ScreenSize;
 
 const COLUMNS: [Option<usize>; 9] = [
@@ -20,10 +21,15 @@ const COLUMNS: [Option<usize>; 9] = [
     Some(100),
 ];
 
-const WILD_COLUMNS: [Option<usize>; 7] = [
+const WILD_COLUMNS: [Option<usize>; 12] = [
     None,
     None,
     None,
+    None,
+    None,
+    None,
+    None,
+    Some(0),
     Some(25),
     Some(2_147_483_640),
     Some(2_147_483_647),
@@ -129,7 +135,7 @@ fn events(
     alloc: Global,
     numbers: &mut Numbers,
     plain: bool,
-) -> Result<Vec<tw_input::InputEvent>, AllocError> {
+) -> Result<Vec<InputEvent>, AllocError> {
     let mut events = Vec::new(alloc);
     for _ in 0..numbers.below(60) {
         events.push(event(alloc, numbers, plain)?)?;
