@@ -25,10 +25,10 @@ pub fn judge(alloc: Global, seed: u64) -> Result<(Count, String), anyhow::Error>
     judge_terminal(&mut notes, &terminal)?;
     judge_size(&mut notes, &round)?;
     let other = play(alloc, round_of(alloc, seed)?, ListHistory::new(alloc))?;
-    judge_alike(&mut notes, &terminal, &other, "a list of strings")?;
+    judge_alike(alloc, &mut notes, &terminal, &other, "a list of strings")?;
     let bounded = BoundedHistory::with_limit(alloc, MANY_LINES);
     let other = play(alloc, round_of(alloc, seed)?, bounded)?;
-    judge_alike(&mut notes, &terminal, &other, "a bounded history")?;
+    judge_alike(alloc, &mut notes, &terminal, &other, "a bounded history")?;
     if round.plain {
         judge_screen(alloc, &mut notes, &round, &terminal)?;
     }
@@ -81,6 +81,7 @@ fn is_resized(event: &InputEvent) -> bool {
 
 /// Another history of the same lines has the same answers.
 fn judge_alike(
+    alloc: Global,
     notes: &mut Notes,
     terminal: &ScriptTerminal,
     other: &(Notes, ScriptTerminal),
@@ -92,7 +93,8 @@ fn judge_alike(
         && played.flushed() == terminal.flushed()
         && played.failures() == terminal.failures()
         && played.events_left() == terminal.events_left();
-    notes.expect(alike, name)
+    let broken = format!(in alloc; "{name} has other answers")?;
+    notes.expect(alike, broken.as_str())
 }
 
 /// After each batch the screen holds what a fresh painting would show.
