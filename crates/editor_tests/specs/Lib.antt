@@ -1,3 +1,4 @@
 pub mod AskedHost
 pub mod ColumnHost
 pub mod ResolvingHost
+pub mod StrayHost

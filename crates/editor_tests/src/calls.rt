@@ -19,13 +19,14 @@ use tw_terminal::{ScreenSize, ScriptTerminal, Terminal, TerminalFault};
 
 /// A scripted terminal that lists its calls.
 #[derive(Drop)]
-struct Listing {
-    script: ScriptTerminal,
-    calls: String,
+pub struct Listing {
+    pub script: ScriptTerminal,
+    pub calls: String,
 }
 
 impl Listing {
-    fn new(alloc: Global, events: &str) -> Result<Self, Fail> {
+    /// A terminal of 24 rows and 80 columns that was not called yet.
+    pub fn new(alloc: Global, events: &str) -> Result<Self, Fail> {
         Ok(Listing {
             script: terminal_of(alloc, 80, events)?,
             calls: String::new(alloc),

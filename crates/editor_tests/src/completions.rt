@@ -8,13 +8,36 @@ use tw_lineedit::{Action, BasicHistory, LineEditor, Movement};
 
 /// Each case is a line and its cursor, a candidate, and the refusal's number, or 0, with the line and cursor
 /// then.
-const FITTING: [(&str, usize, &str, (u8, &str, usize)); 6] = [
+const FITTING: [(&str, usize, &str, (u8, &str, usize)); 10] = [
     ("why he", 6, "cand 4 6 hello", (0, "why hello", 9)),
     ("ab", 0, "cand 0 2 ", (5, "ab", 0)),
     ("ab", 0, "cand 2 1 x", (5, "ab", 0)),
     ("a", 0, "cand 1 1 xy", (0, "axy", 2)),
     ("a", 0, "cand 1 1 \u{e9}", (5, "a", 0)),
     ("\u{e9}", 0, "cand 1 2 e", (5, "\u{e9}", 0)),
+    ("abc", 3, "cand 0 3 ", (0, "", 0)),
+    ("ab", 0, "cand 0 2 \u{e9}", (0, "\u{e9}", 0)),
+    ("\u{e9}a", 2, "cand 0 0 \u{e9}", (0, "\u{e9}\u{e9}a", 4)),
+    ("a\u{4e00}b", 1, "cand 1 4 \u{e9}", (0, "a\u{e9}b", 0)),
+];
+
+/// Each case is a line and its cursor, and a candidate that misfits: its range ends behind the line, is reversed or
+/// cuts a character, or the cursor would come before the line or into a character.
+const MISFITS: [(&str, usize, &str); 14] = [
+    ("ab", 1, "cand 3 3 x"),
+    ("ab", 1, "cand 1 3 x"),
+    ("ab", 1, "cand 0 18446744073709551615 x"),
+    ("ab", 1, "cand 18446744073709551615 18446744073709551615 x"),
+    ("ab", 1, "cand 18446744073709551615 0 x"),
+    ("ab", 2, "cand 1 0 x"),
+    ("\u{e9}", 0, "cand 0 1 e"),
+    ("\u{e9}\u{e9}", 4, "cand 1 3 x"),
+    ("a\u{4e00}", 4, "cand 1 3 x"),
+    ("abc", 1, "cand 0 3 "),
+    ("a\u{e9}", 0, "cand 0 1 "),
+    ("ab", 1, "cand 0 2 \u{e9}"),
+    ("\u{e9}", 0, "cand 2 2 x"),
+    ("\u{e9}ab", 3, "cand 2 4 "),
 ];
 
 #[test]
@@ -32,6 +55,19 @@ fn a_candidate_is_put_in_where_it_fits(rt: HostRuntime) -> Result<(), Fail> {
             Action::Complete,
             wanted,
         )?;
+    }
+    Ok(())
+}
+
+#[test]
+fn a_candidate_that_misfits_leaves_the_line(rt: HostRuntime) -> Result<(), Fail> {
+    let alloc = rt.alloc();
+    for (line, cursor, candidate) in MISFITS {
+        let case = case_of(alloc, candidate)?;
+        let mut host = host_of(alloc, BasicHistory::new(alloc), &case)?;
+        let complete = Action::Complete;
+        let wanted = (5, line, cursor);
+        expect_action(&rt, alloc, &mut host, line, cursor, complete, wanted)?;
     }
     Ok(())
 }

@@ -1,6 +1,9 @@
 //! A terminal that fails at one of its calls.
 
-use crate::support::{answer_text, expect_readings, terminal_of, terminal_text};
+use crate::calls::Listing;
+use crate::support::{
+    answer_text, batches_text, expect_readings, terminal_of, terminal_text, write_batch,
+};
 use std::alloc::Global;
 use std::process::Abort;
 use std::test::Fail;
@@ -162,43 +165,43 @@ fn a_refused_repaint_leaves_the_editor(rt: HostRuntime) -> Result<(), Fail> {
     Ok(())
 }
 
-/// A scripted terminal that answers one fault, whatever its script answers.
+/// A scripted terminal that lists its calls and answers one fault, whatever its script answers.
 #[derive(Drop)]
 struct Faulty {
-    script: ScriptTerminal,
+    listing: Listing,
     fault: TerminalFault,
 }
 
 impl Terminal for Faulty {
-    ghost state = { λ faulty. faulty.script.terminal };
+    ghost state = { λ faulty. faulty.listing.script.terminal };
 
     fn get_screen_size(&mut self) -> Result<ScreenSize, TerminalFault> {
-        self.script.get_screen_size().or(Err(self.fault))
+        self.listing.get_screen_size().or(Err(self.fault))
     }
 
     fn poll_input(&mut self) -> Result<Option<InputEvent>, TerminalFault> {
-        self.script.poll_input().or(Err(self.fault))
+        self.listing.poll_input().or(Err(self.fault))
     }
 
     fn render(&mut self, changes: &[Change]) -> Result<(), TerminalFault> {
-        self.script.render(changes).or(Err(self.fault))
+        self.listing.render(changes).or(Err(self.fault))
     }
 
     fn flush(&mut self) -> Result<(), TerminalFault> {
-        self.script.flush().or(Err(self.fault))
+        self.listing.flush().or(Err(self.fault))
     }
 }
 
-/// A terminal that answers this fault at the call of this number.
+/// A terminal that answers this fault at the call of this number, of whose batch it takes so many changes.
 fn faulty_at(
     alloc: Global,
     events: &str,
-    call: usize,
+    (call, taken): (usize, usize),
     fault: TerminalFault,
 ) -> Result<Faulty, Fail> {
-    let mut script = terminal_of(alloc, 80, events)?;
-    script.fail_at(call, 0);
-    Ok(Faulty { script, fault })
+    let mut listing = Listing::new(alloc, events)?;
+    listing.script.fail_at(call, taken);
+    Ok(Faulty { listing, fault })
 }
 
 fn expect_fault<A: Drop>(
@@ -218,14 +221,14 @@ fn the_answer_is_the_very_fault(rt: HostRuntime) -> Result<(), Fail> {
     let alloc = rt.alloc();
     for fault in [TerminalFault::Device, TerminalFault::Memory] {
         for call in 0..14 {
-            let mut terminal = faulty_at(alloc, "a C-L Enter", call, fault)?;
+            let mut terminal = faulty_at(alloc, "a C-L Enter", (call, 0), fault)?;
             {
                 let mut host = NopLineEditorHost::new(alloc);
                 let mut editor = LineEditor::new(alloc, &mut terminal)?;
                 let answer = editor.read_line(&mut host);
                 expect_fault(&rt, answer, call, fault);
             }
-            assert_eq!(rt; terminal.script.failures(), 1, "at {call}");
+            assert_eq!(rt; terminal.listing.script.failures(), 1, "at {call}");
         }
     }
     Ok(())
@@ -235,11 +238,111 @@ fn the_answer_is_the_very_fault(rt: HostRuntime) -> Result<(), Fail> {
 fn a_refused_repaint_is_the_very_fault(rt: HostRuntime) -> Result<(), Fail> {
     let alloc = rt.alloc();
     for fault in [TerminalFault::Device, TerminalFault::Memory] {
-        let mut terminal = faulty_at(alloc, "", 0, fault)?;
+        let mut terminal = faulty_at(alloc, "", (0, 0), fault)?;
         let mut host = NopLineEditorHost::new(alloc);
         let mut editor = LineEditor::new(alloc, &mut terminal)?;
         let answer = editor.apply_action(&mut host, Action::Repaint);
         expect_fault(&rt, answer, 0, fault);
+    }
+    Ok(())
+}
+
+/// The call that fails, the events that are left then, and the calls of the reading.
+const CALLS: [(usize, usize, &str); 10] = [
+    (0, 2, "size flush "),
+    (1, 2, "size render flush "),
+    (2, 2, "size render poll render flush "),
+    (3, 1, "size render poll size render flush "),
+    (4, 1, "size render poll size render render flush "),
+    (5, 1, "size render poll size render poll render flush "),
+    (6, 0, "size render poll size render poll size render flush "),
+    (
+        7,
+        0,
+        "size render poll size render poll size render render flush ",
+    ),
+    (
+        8,
+        0,
+        "size render poll size render poll size render render ",
+    ),
+    (
+        9,
+        0,
+        "size render poll size render poll size render render flush ",
+    ),
+];
+
+/// No call is tried again. The painting before is closed, and all is flushed, unless the closing batch itself is
+/// refused.
+#[test]
+fn a_fault_ends_the_calls(rt: HostRuntime) -> Result<(), Fail> {
+    let alloc = rt.alloc();
+    for fault in [TerminalFault::Device, TerminalFault::Memory] {
+        for (call, left, calls) in CALLS {
+            let mut terminal = faulty_at(alloc, "a Enter", (call, 0), fault)?;
+            {
+                let mut host = NopLineEditorHost::new(alloc);
+                let mut editor = LineEditor::new(alloc, &mut terminal)?;
+                let answer = editor.read_line(&mut host);
+                expect_fault(&rt, answer, call, fault);
+            }
+            let listing = &terminal.listing;
+            assert_eq!(rt; listing.calls.as_str(), calls, "at {call}");
+            assert_eq!(rt; listing.script.events_left(), left, "at {call}");
+        }
+    }
+    Ok(())
+}
+
+/// Reads the line of `a Enter` with a terminal that fails at this call, if at one, behind so many changes.
+fn batches_of(
+    alloc: Global,
+    fault: Option<(usize, usize)>,
+    kind: TerminalFault,
+) -> Result<ScriptTerminal, Fail> {
+    let call = fault.unwrap_or((usize::MAX, 0));
+    let mut terminal = faulty_at(alloc, "a Enter", call, kind)?;
+    {
+        let mut host = NopLineEditorHost::new(alloc);
+        let mut editor = LineEditor::new(alloc, &mut terminal)?;
+        let answer = editor.read_line(&mut host);
+        if answer.is_ok() != fault.is_none() {
+            return Err(Fail::from("another answer"));
+        }
+    }
+    Ok(terminal.listing.script)
+}
+
+/// A refused batch is taken up to its fault, as a batch of its own if anything of it was taken. Behind it stands the
+/// closing batch of the painting before, if there was one.
+#[test]
+fn a_refused_batch_is_taken_up_to_its_fault(rt: HostRuntime) -> Result<(), Fail> {
+    let alloc = rt.alloc();
+    let whole = batches_of(alloc, None, TerminalFault::Device)?;
+    assert_eq!(rt; whole.batches().len(), 4);
+    let closing = "CP(A(0), R(1)), ClearToEndOfScreen\n";
+    let mut before = String::new(alloc);
+    for ((call, behind), batch) in [(1, ""), (4, closing), (7, closing), (8, "")]
+        .iter()
+        .zip(whole.batches())
+    {
+        for taken in 0..9 {
+            let part = &batch[..taken.min(batch.len())];
+            let mut wanted = before.clone()?;
+            if !part.is_empty() {
+                write_batch(&mut wanted, part)?;
+                wanted.push('\n')?;
+            }
+            wanted.push_str(behind)?;
+            for kind in [TerminalFault::Device, TerminalFault::Memory] {
+                let terminal = batches_of(alloc, Some((*call, taken)), kind)?;
+                let shown = batches_text(alloc, terminal.batches())?;
+                assert_eq!(rt; shown.as_str(), wanted.as_str(), "{taken} at {call}");
+            }
+        }
+        write_batch(&mut before, batch.as_slice())?;
+        before.push('\n')?;
     }
     Ok(())
 }

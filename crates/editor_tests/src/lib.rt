@@ -29,3 +29,5 @@ mod remembering;
 mod screens;
 #[cfg(test)]
 mod support;
+#[cfg(test)]
+mod unkind;
