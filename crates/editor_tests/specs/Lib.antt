@@ -1,4 +1,5 @@
 pub mod AskedHost
 pub mod ColumnHost
+pub mod PiecesHost
 pub mod ResolvingHost
 pub mod StrayHost

@@ -26,6 +26,8 @@ mod previews;
 #[cfg(test)]
 mod remembering;
 #[cfg(test)]
+mod scale;
+#[cfg(test)]
 mod screens;
 #[cfg(test)]
 mod support;

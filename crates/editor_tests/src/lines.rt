@@ -219,3 +219,65 @@ fn a_size_out_of_range_is_refused(rt: HostRuntime) -> Result<(), Fail> {
     assert_eq!(rt; expect_readings(&rt, rt.alloc(), SIZES)?, 7);
     Ok(())
 }
+
+const LIMITS: &str = "\
+events a 1x24 Enter
+--
+Some(\"a\"), 0 left, 5 flushed, 0 failed
+ClearToEndOfScreen, AllAttributes, Text(\"> \"), AllAttributes, Text(\"\"), CP(R(0), R(0))
+CP(A(0), R(0)), ClearToEndOfScreen, AllAttributes, Text(\"> \"), AllAttributes, Text(\"a\"), CP(R(0), R(0))
+CP(A(0), R(0)), ClearToEndOfScreen, AllAttributes, Text(\"> \"), AllAttributes, Text(\"a\"), Text(\" \"), CP(R(-1), R(0))
+CP(A(0), R(-3)), ClearToEndOfScreen, AllAttributes, Text(\"> \"), AllAttributes, Text(\"a\"), Text(\" \"), CP(R(-1), R(0))
+CP(A(0), R(1)), ClearToEndOfScreen
+==
+events a 65535x65535 Enter
+--
+Some(\"a\"), 0 left, 5 flushed, 0 failed
+ClearToEndOfScreen, AllAttributes, Text(\"> \"), AllAttributes, Text(\"\"), CP(R(0), R(0))
+CP(A(0), R(0)), ClearToEndOfScreen, AllAttributes, Text(\"> \"), AllAttributes, Text(\"a\"), CP(R(0), R(0))
+CP(A(0), R(0)), ClearToEndOfScreen, AllAttributes, Text(\"> \"), AllAttributes, Text(\"a\"), CP(R(0), R(0))
+CP(A(0), R(0)), ClearToEndOfScreen, AllAttributes, Text(\"> \"), AllAttributes, Text(\"a\"), CP(R(0), R(0))
+CP(A(0), R(1)), ClearToEndOfScreen
+==
+";
+
+#[test]
+fn a_new_size_at_the_limits_is_painted(rt: HostRuntime) -> Result<(), Fail> {
+    assert_eq!(rt; expect_readings(&rt, rt.alloc(), LIMITS)?, 2);
+    Ok(())
+}
+
+const BEYOND: &str = ", 1 left, 3 flushed, 0 failed
+ClearToEndOfScreen, AllAttributes, Text(\"> \"), AllAttributes, Text(\"\"), CP(R(0), R(0))
+CP(A(0), R(0)), ClearToEndOfScreen, AllAttributes, Text(\"> \"), AllAttributes, Text(\"a\"), CP(R(0), R(0))
+CP(A(0), R(1)), ClearToEndOfScreen
+";
+
+/// A size that comes while a line is read, or stands from the beginning on: zero is tested before what is too large.
+#[test]
+fn a_size_beyond_the_limits_is_refused(rt: HostRuntime) -> Result<(), Fail> {
+    let alloc = rt.alloc();
+    let most = usize::MAX;
+    for (cols, rows, number) in [
+        (0, 24, 3),
+        (80, 0, 3),
+        (0, 0, 3),
+        (65_536, 0, 3),
+        (0, 65_536, 3),
+        (most, 0, 3),
+        (65_536, 24, 4),
+        (80, 65_536, 4),
+        (65_536, 65_536, 4),
+        (most, most, 4),
+    ] {
+        let later = format!(in alloc;
+            "events a {cols}x{rows} b\n--\nrefusal {number}{BEYOND}==\n"
+        )?;
+        assert_eq!(rt; expect_readings(&rt, alloc, later.as_str())?, 1);
+        let first = format!(in alloc;
+            "size {rows} {cols}\nevents a\n--\nrefusal {number}, 1 left, 0 flushed, 0 failed\n==\n"
+        )?;
+        assert_eq!(rt; expect_readings(&rt, alloc, first.as_str())?, 1);
+    }
+    Ok(())
+}
