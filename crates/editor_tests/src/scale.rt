@@ -16,12 +16,12 @@ use tw_lineedit::{
 use tw_terminal::{ScreenSize, ScriptTerminal};
 
 /// Reads a line that begins with this one, and compares it.
-fn expect_line<H: LineEditorHost>(
+fn expect_line<'a, H: LineEditorHost>(
     rt: &impl Abort,
     alloc: Global,
     host: &mut H,
-    initial: &str,
-    events: &str,
+    initial: &'a str,
+    events: &'a str,
     wanted: &str,
 ) -> Result<(), Fail> {
     let mut case = case_of(alloc, "")?;
