@@ -1,5 +1,4 @@
 pub mod AskedHost
-pub mod ColumnHost
 pub mod PiecesHost
 pub mod ResolvingHost
 pub mod StrayHost

@@ -1,12 +1,12 @@
 //! Hosts that answer for themselves.
 
 ghost use Rattle.std.specs.Prelude.{ℕ, List, refl};
-ghost use Rattle.editor_tests.specs.ColumnHost.{Placed, column_rules, highlight_own, column_is_plain};
 ghost use Rattle.editor_tests.specs.ResolvingHost.{resolving_rules, resolve_own, resolving_is_plain};
 
 use crate::actions::expect_action;
 use crate::histories::told_of;
 use crate::support::{case_of, readings_of, terminal_text};
+use case_player::ColumnHost;
 use std::alloc::{AllocError, Global};
 use std::test::Fail;
 use tw_input::{InputEvent, KeyCode, KeyEvent};
@@ -15,63 +15,11 @@ use tw_lineedit::{
     OwnAnswers,
 };
 
-/// A host that puts the cursor of every line at one column.
-#[derive(Drop)]
-struct ColumnHost {
-    history: BasicHistory,
-    column: usize,
-}
-
-impl LineEditorHost for ColumnHost {
-    type Hist = BasicHistory;
-
-    ghost Value = { Placed };
-
-    ghost value = { λ host. record { lines = host.history; column = host.column } };
-
-    ghost rules = { column_rules };
-
-    ghost held = { λ host. host.history };
-
-    ghost with_held = { λ host history. record host { history = history } };
-
-    ghost OWN = { highlight_own };
-
-    const OWN: OwnAnswers = OwnAnswers {
-        highlight: true,
-        ..OwnAnswers::NONE
-    };
-
-    fn history(&mut self) -> &mut BasicHistory {
-        &mut self.history
-    }
-
-    fn highlight_line(
-        &self,
-        alloc: Global,
-        line: &str,
-        _cursor_position: usize,
-    ) -> Result<(Vec<OutputElement>, usize), AllocError> {
-        let text = String::from_str(alloc, line)?;
-        let elements = vec![in alloc; OutputElement::Text(text)]?;
-        Ok((elements, self.column))
-    }
-
-    ghost plain_answers = { column_is_plain };
-
-    ghost held_back = { λ host. refl };
-
-    ghost held_put = { λ host history. refl };
-
-    ghost held_lines = { λ host. refl };
-}
-
 /// What is shown of a reading without events, on a terminal of so many columns.
 fn shown_at(alloc: Global, cols: usize, column: usize) -> Result<String, Fail> {
     let mut case = case_of(alloc, "")?;
     case.size.cols = cols;
-    let history = BasicHistory::new(alloc);
-    let mut host = ColumnHost { history, column };
+    let mut host = ColumnHost::new(alloc, column);
     let (answer, terminal) = readings_of(alloc, &case, &mut host)?;
     let told = terminal_text(alloc, &terminal)?;
     Ok(format!(in alloc; "{answer}, {told}")?)
@@ -104,11 +52,7 @@ fn a_host_places_the_cursor(rt: HostRuntime) -> Result<(), Fail> {
 fn a_cursor_behind_the_line_stands_in_its_cell(rt: HostRuntime) -> Result<(), Fail> {
     let alloc = rt.alloc();
     let case = case_of(alloc, "size 24 10\n")?;
-    let history = BasicHistory::new(alloc);
-    let mut host = ColumnHost {
-        history,
-        column: 25,
-    };
+    let mut host = ColumnHost::new(alloc, 25);
     let told = told_of(alloc, &case, &mut host)?;
     let wanted = "screen |>         |\ncursor 2 7\nend 1 0\n";
     assert!(rt; told.as_str().contains(wanted), "{told}");

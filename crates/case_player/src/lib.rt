@@ -1,0 +1,13 @@
+//! Cases of a line editor as text: what an editor is to do, and what came of it. The tests of the crates above are
+//! written in them.
+#![tactic(auto)]
+
+mod case;
+mod column_host;
+mod events;
+mod told;
+
+pub use case::{Case, case_of, host_of, readings_of, remember_all};
+pub use column_host::ColumnHost;
+pub use events::{events_of, terminal_of};
+pub use told::{answer_text, batches_text, terminal_text, write_batch};

@@ -1,0 +1,26 @@
+//! Calls whose requests for memory are refused, each in turn, and calls that make none. The gate runs these tests
+//! with a request refused between their marks; alone they pass too.
+#![tactic(auto)]
+
+#[cfg(test)]
+mod actions;
+#[cfg(test)]
+mod buffers;
+#[cfg(test)]
+mod drawings;
+#[cfg(test)]
+mod free_calls;
+#[cfg(test)]
+mod free_steps;
+#[cfg(test)]
+mod histories;
+#[cfg(test)]
+mod marks;
+#[cfg(test)]
+mod readings;
+#[cfg(test)]
+mod rows;
+#[cfg(test)]
+mod scripts;
+#[cfg(test)]
+mod terminals;

@@ -1,0 +1,295 @@
+//! Readings of a line with requests for memory refused, beside the same readings with memory.
+
+use crate::marks::mark;
+use case_player::{Case, answer_text, batches_text, events_of};
+use std::alloc::{AllocError, Global};
+use std::cell::Cell;
+use std::process::Abort;
+use std::test::Fail;
+use tw_input::InputEvent;
+use tw_lineedit::{Error, LineEditor, LineEditorHost};
+use tw_surface::{Change, ColorAttribute};
+use tw_terminal::{ScreenSize, ScriptTerminal, Terminal, TerminalFault};
+
+/// How far a terminal has come: how often it was asked for its size and flushed, how many batches it has taken, and
+/// how many events it has left.
+#[derive(Clone, Copy, Debug, PartialEq, Eq)]
+pub struct Seen {
+    pub sizes: usize,
+    pub flushes: usize,
+    pub taken: usize,
+    pub left: usize,
+}
+
+/// A scripted terminal that tells how far it has come while an editor has it.
+#[derive(Drop)]
+struct Watched<'a> {
+    script: ScriptTerminal,
+    seen: &'a Cell<Seen>,
+}
+
+impl Watched<'_> {
+    /// Tells how far the terminal has come, with so many calls more for its size and to flush.
+    fn tell(&self, sizes: usize, flushes: usize) {
+        let seen = self.seen.get();
+        self.seen.set(Seen {
+            sizes: seen.sizes.saturating_add(sizes),
+            flushes: seen.flushes.saturating_add(flushes),
+            taken: self.script.batches().len(),
+            left: self.script.events_left(),
+        });
+    }
+}
+
+impl Terminal for Watched<'_> {
+    ghost state = { λ watched. watched.script.terminal };
+
+    fn get_screen_size(&mut self) -> Result<ScreenSize, TerminalFault> {
+        let size = self.script.get_screen_size();
+        self.tell(1, 0);
+        size
+    }
+
+    fn poll_input(&mut self) -> Result<Option<InputEvent>, TerminalFault> {
+        let event = self.script.poll_input();
+        self.tell(0, 0);
+        event
+    }
+
+    fn render(&mut self, changes: &[Change]) -> Result<(), TerminalFault> {
+        let rendered = self.script.render(changes);
+        self.tell(0, 0);
+        rendered
+    }
+
+    fn flush(&mut self) -> Result<(), TerminalFault> {
+        let flushed = self.script.flush();
+        self.tell(0, 1);
+        flushed
+    }
+}
+
+/// How a case is played: how many of its events come, which call of the terminal fails, and whether marks stand round
+/// its last reading.
+#[derive(Clone, Copy)]
+pub struct Play {
+    pub events: usize,
+    pub fault: Option<(usize, usize)>,
+    pub marked: bool,
+}
+
+/// What came of the last reading of a case: the answer, the line then, how far the terminal had come before and after
+/// it, the number of the refusal of one more reading, and the terminal at last.
+#[derive(Drop)]
+pub struct Reading {
+    pub answer: Result<Option<String>, Error>,
+    pub line: String,
+    before: Seen,
+    after: Seen,
+    next: Option<u8>,
+    terminal: ScriptTerminal,
+}
+
+impl Reading {
+    /// The batches that the terminal took.
+    pub fn batches(&self) -> &[Vec<Change>] {
+        self.terminal
+            .batches()
+            .get(self.before.taken..self.after.taken)
+            .unwrap_or(&[])
+    }
+
+    /// How often the terminal was flushed.
+    pub fn flushes(&self) -> usize {
+        self.after.flushes.saturating_sub(self.before.flushes)
+    }
+
+    /// How often the terminal was asked for its size.
+    pub fn sizes(&self) -> usize {
+        self.after.sizes.saturating_sub(self.before.sizes)
+    }
+
+    /// How many events were taken.
+    fn polled(&self) -> usize {
+        self.before.left.saturating_sub(self.after.left)
+    }
+
+    /// Whether another reading came to the same.
+    fn is_as(&self, alloc: Global, other: &Reading) -> Result<bool, AllocError> {
+        let answer = answer_text(alloc, &self.answer)?;
+        let wanted = answer_text(alloc, &other.answer)?;
+        Ok(
+            answer == wanted
+                && self.batches() == other.batches()
+                && self.before == other.before
+                && self.after == other.after,
+        )
+    }
+}
+
+/// Plays a case with one editor up to its last reading, and that one.
+pub fn last_reading<H: LineEditorHost>(
+    alloc: Global,
+    case: &Case<'_>,
+    host: &mut H,
+    play: Play,
+) -> Result<Reading, Fail> {
+    let mut events = events_of(alloc, case.events)?;
+    events.truncate(play.events);
+    let seen = Cell::new(Seen {
+        sizes: 0,
+        flushes: 0,
+        taken: 0,
+        left: events.len(),
+    });
+    let mut script = ScriptTerminal::new(alloc, case.size, events);
+    if let Some((call, taken)) = play.fault {
+        script.fail_at(call, taken);
+    }
+    let mut terminal = Watched {
+        script,
+        seen: &seen,
+    };
+    let mut editor = LineEditor::new(alloc, &mut terminal)?;
+    editor.set_prompt(case.prompt)?;
+    for _ in 1..case.readings {
+        let _ = editor.read_line(host);
+    }
+    let before = seen.get();
+    if play.marked {
+        mark(alloc)?;
+    }
+    let answer = editor.read_line_with_optional_initial_value(host, case.initial);
+    if play.marked {
+        mark(alloc)?;
+    }
+    let after = seen.get();
+    let line = String::from_str(alloc, editor.get_line_and_cursor().0)?;
+    let next = editor.read_line(host).err().map(|error| error.number());
+    drop(editor);
+    let Watched {
+        script: terminal,
+        seen: _,
+    } = terminal;
+    Ok(Reading {
+        answer,
+        line,
+        before,
+        after,
+        next,
+        terminal,
+    })
+}
+
+/// The batches without a clearing of the screen behind them.
+fn without_clearing(batches: &[Vec<Change>]) -> &[Vec<Change>] {
+    match batches {
+        [before @ .., last]
+            if last.as_slice() == [Change::ClearScreen(ColorAttribute::Default)].as_slice() => {
+            before
+        }
+        _ => batches,
+    }
+}
+
+/// The paintings of a refused reading, and its closing batch where it was rendered: the terminal was flushed then.
+fn parts_of(refused: &Reading) -> (&[Vec<Change>], Option<&[Change]>) {
+    let batches = refused.batches();
+    if refused.flushes() == 0 {
+        return (batches, None);
+    }
+    match batches {
+        [] => (batches, None),
+        [begun @ .., closing] => (begun, Some(closing.as_slice())),
+    }
+}
+
+/// Whether a refused reading was stopped where the events of another one end: it painted the same, and closed
+/// likewise. It may have taken one event more, and cleared the screen for that.
+fn stops_at(refused: &Reading, cut: &Reading) -> bool {
+    let (begun, closing) = parts_of(refused);
+    let Some((cut_closing, cut_begun)) = cut.batches().split_last() else {
+        return false;
+    };
+    let painted = begun == cut_begun || without_clearing(begun) == cut_begun;
+    let closed = match closing {
+        Some(closing) => closing == cut_closing.as_slice(),
+        None => refused.flushes() == 0,
+    };
+    let more = refused.polled().saturating_sub(cut.polled());
+    painted && closed && more <= 1 && cut.polled() <= refused.polled()
+}
+
+/// Tests that a reading was refused for memory, or by the terminal where a call of it was to fail.
+fn expect_refusal(
+    rt: &impl Abort,
+    alloc: Global,
+    case: &Case<'_>,
+    refused: &Reading,
+) -> Result<(), Fail> {
+    let events = case.events;
+    match &refused.answer {
+        Err(Error::Memory(_)) => assert_eq!(rt; refused.flushes(), 1, "{events}"),
+        Err(Error::Terminal(TerminalFault::Memory)) => {}
+        Err(Error::Terminal(TerminalFault::Device)) => assert!(rt;
+            case.fault.is_some(),
+            "{events}"
+        ),
+        answer => {
+            let shown = answer_text(alloc, answer)?;
+            assert!(rt; false, "{events}: {shown}");
+        }
+    }
+    assert!(rt; refused.next != Some(2), "{events}");
+    Ok(())
+}
+
+/// Reads the last line of a case, whose answer is wanted, between marks. Where it is refused, what the terminal took
+/// is a beginning of what it takes with memory, and the closing batch of the last painting follows; the editor can
+/// read again.
+pub fn expect_reading<H: LineEditorHost>(
+    rt: &impl Abort,
+    alloc: Global,
+    case: &Case<'_>,
+    host: &mut H,
+    wanted: &str,
+) -> Result<(), Fail> {
+    let all = events_of(alloc, case.events)?.len();
+    let whole = Play {
+        events: all,
+        fault: case.fault,
+        marked: false,
+    };
+    let with_memory = last_reading(alloc, case, host, whole)?;
+    let answer = answer_text(alloc, &with_memory.answer)?;
+    assert_eq!(rt; answer.as_str(), wanted, "{}", case.events);
+    let marked = Play {
+        marked: true,
+        ..whole
+    };
+    let reading = last_reading(alloc, case, host, marked)?;
+    if reading.is_as(alloc, &with_memory)? {
+        return Ok(());
+    }
+    expect_refusal(rt, alloc, case, &reading)?;
+    let (begun, closing) = parts_of(&reading);
+    assert!(rt; with_memory.batches().starts_with(begun), "{}", case.events);
+    if begun.is_empty() {
+        assert!(rt; closing.is_none(), "{}", case.events);
+        assert_eq!(rt; reading.flushes(), 1, "{}", case.events);
+        return Ok(());
+    }
+    let mut is_found = false;
+    for events in 0..=all {
+        let play = Play {
+            events,
+            fault: None,
+            marked: false,
+        };
+        let cut = last_reading(alloc, case, host, play)?;
+        is_found = is_found || stops_at(&reading, &cut);
+    }
+    let shown = batches_text(alloc, reading.batches())?;
+    assert!(rt; is_found, "{}: {shown}", case.events);
+    Ok(())
+}
