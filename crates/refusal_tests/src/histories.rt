@@ -34,17 +34,18 @@ fn expect_added<L: History>(
     history: &mut L,
     additions: &[(&str, &[&str])],
 ) -> Result<(), AllocError> {
-    let mut before: &[&str] = &[];
-    for (line, after) in additions {
+    for (at, (line, after)) in additions.iter().enumerate() {
         mark(alloc)?;
         let added = history.add(line);
         mark(alloc)?;
         if added.is_err() {
-            expect_lines(rt, alloc, history, before)?;
+            match additions[..at].last() {
+                Some((_, before)) => expect_lines(rt, alloc, history, before)?,
+                None => expect_lines(rt, alloc, history, &[])?,
+            }
             history.add(line)?;
         }
         expect_lines(rt, alloc, history, after)?;
-        before = after;
     }
     Ok(())
 }

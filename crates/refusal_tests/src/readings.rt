@@ -78,56 +78,109 @@ pub struct Play {
     pub marked: bool,
 }
 
-/// What came of the last reading of a case: the answer, the line then, how far the terminal had come before and after
-/// it, the number of the refusal of one more reading, and the terminal at last.
+/// What an editor has at the end of the last reading of a case: the answer, the line, how far the terminal had come
+/// before and after the reading, and the number of the refusal of one more.
 #[derive(Drop)]
-pub struct Reading {
-    pub answer: Result<Option<String>, Error>,
-    pub line: String,
+struct End {
+    answer: Result<Option<String>, Error>,
+    line: String,
     before: Seen,
     after: Seen,
     next: Option<u8>,
+}
+
+/// The last reading of a case, and the terminal at last.
+#[derive(Drop)]
+pub struct Reading {
+    end: End,
     terminal: ScriptTerminal,
 }
 
 impl Reading {
+    /// What it answered.
+    pub fn answer(&self) -> &Result<Option<String>, Error> {
+        &self.end.answer
+    }
+
+    /// The line then.
+    pub fn line(&self) -> &str {
+        self.end.line.as_str()
+    }
+
     /// The batches that the terminal took.
     pub fn batches(&self) -> &[Vec<Change>] {
         self.terminal
             .batches()
-            .get(self.before.taken..self.after.taken)
+            .get(self.end.before.taken..self.end.after.taken)
             .unwrap_or(&[])
     }
 
     /// How often the terminal was flushed.
     pub fn flushes(&self) -> usize {
-        self.after.flushes.saturating_sub(self.before.flushes)
+        self.end
+            .after
+            .flushes
+            .saturating_sub(self.end.before.flushes)
     }
 
     /// How often the terminal was asked for its size.
     pub fn sizes(&self) -> usize {
-        self.after.sizes.saturating_sub(self.before.sizes)
+        self.end.after.sizes.saturating_sub(self.end.before.sizes)
     }
 
     /// How many events were taken.
     fn polled(&self) -> usize {
-        self.before.left.saturating_sub(self.after.left)
+        self.end.before.left.saturating_sub(self.end.after.left)
     }
 
     /// Whether another reading came to the same.
     fn is_as(&self, alloc: Global, other: &Reading) -> Result<bool, AllocError> {
-        let answer = answer_text(alloc, &self.answer)?;
-        let wanted = answer_text(alloc, &other.answer)?;
+        let answer = answer_text(alloc, self.answer())?;
+        let wanted = answer_text(alloc, other.answer())?;
         Ok(
             answer == wanted
                 && self.batches() == other.batches()
-                && self.before == other.before
-                && self.after == other.after,
+                && self.end.before == other.end.before
+                && self.end.after == other.end.after,
         )
     }
 }
 
-/// Plays a case with one editor up to its last reading, and that one.
+/// Plays a case with one editor on the terminal.
+fn end_of<H: LineEditorHost>(
+    alloc: Global,
+    case: &Case<'_>,
+    host: &mut H,
+    marked: bool,
+    terminal: &mut Watched<'_>,
+) -> Result<End, Fail> {
+    let seen = terminal.seen;
+    let mut editor = LineEditor::new(alloc, terminal)?;
+    editor.set_prompt(case.prompt)?;
+    for _ in 1..case.readings {
+        let _ = editor.read_line(host);
+    }
+    let before = seen.get();
+    if marked {
+        mark(alloc)?;
+    }
+    let answer = editor.read_line_with_optional_initial_value(host, case.initial);
+    if marked {
+        mark(alloc)?;
+    }
+    let after = seen.get();
+    let line = String::from_str(alloc, editor.get_line_and_cursor().0)?;
+    let next = editor.read_line(host).err().map(|error| error.number());
+    Ok(End {
+        answer,
+        line,
+        before,
+        after,
+        next,
+    })
+}
+
+/// Plays a case up to its last reading, and that one.
 pub fn last_reading<H: LineEditorHost>(
     alloc: Global,
     case: &Case<'_>,
@@ -150,35 +203,12 @@ pub fn last_reading<H: LineEditorHost>(
         script,
         seen: &seen,
     };
-    let mut editor = LineEditor::new(alloc, &mut terminal)?;
-    editor.set_prompt(case.prompt)?;
-    for _ in 1..case.readings {
-        let _ = editor.read_line(host);
-    }
-    let before = seen.get();
-    if play.marked {
-        mark(alloc)?;
-    }
-    let answer = editor.read_line_with_optional_initial_value(host, case.initial);
-    if play.marked {
-        mark(alloc)?;
-    }
-    let after = seen.get();
-    let line = String::from_str(alloc, editor.get_line_and_cursor().0)?;
-    let next = editor.read_line(host).err().map(|error| error.number());
-    drop(editor);
+    let end = end_of(alloc, case, host, play.marked, &mut terminal)?;
     let Watched {
         script: terminal,
         seen: _,
     } = terminal;
-    Ok(Reading {
-        answer,
-        line,
-        before,
-        after,
-        next,
-        terminal,
-    })
+    Ok(Reading { end, terminal })
 }
 
 /// The batches without a clearing of the screen behind them.
@@ -228,7 +258,7 @@ fn expect_refusal(
     refused: &Reading,
 ) -> Result<(), Fail> {
     let events = case.events;
-    match &refused.answer {
+    match refused.answer() {
         Err(Error::Memory(_)) => assert_eq!(rt; refused.flushes(), 1, "{events}"),
         Err(Error::Terminal(TerminalFault::Memory)) => {}
         Err(Error::Terminal(TerminalFault::Device)) => assert!(rt;
@@ -240,7 +270,7 @@ fn expect_refusal(
             assert!(rt; false, "{events}: {shown}");
         }
     }
-    assert!(rt; refused.next != Some(2), "{events}");
+    assert!(rt; refused.end.next != Some(2), "{events}");
     Ok(())
 }
 
@@ -261,7 +291,7 @@ pub fn expect_reading<H: LineEditorHost>(
         marked: false,
     };
     let with_memory = last_reading(alloc, case, host, whole)?;
-    let answer = answer_text(alloc, &with_memory.answer)?;
+    let answer = answer_text(alloc, with_memory.answer())?;
     assert_eq!(rt; answer.as_str(), wanted, "{}", case.events);
     let marked = Play {
         marked: true,

@@ -260,12 +260,12 @@ fn an_initial_value_refused_in_turn(rt: HostRuntime) -> Result<(), Fail> {
     };
     let reading = last_reading(alloc, &case, &mut host, play)?;
     if reading.sizes() == 0 {
-        assert!(rt; matches!(reading.answer, Err(Error::Memory(_))));
-        assert_eq!(rt; reading.line.as_str(), "");
+        assert!(rt; matches!(reading.answer(), Err(Error::Memory(_))));
+        assert_eq!(rt; reading.line(), "");
         assert_eq!(rt; reading.batches().len(), 0);
         assert_eq!(rt; reading.flushes(), 1);
     } else {
-        assert_eq!(rt; reading.line.as_str(), "hi");
+        assert_eq!(rt; reading.line(), "hi");
     }
     Ok(())
 }
