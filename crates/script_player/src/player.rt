@@ -1,6 +1,6 @@
 //! Running a script.
 
-ghost use Rattle.std.specs.Prelude.{◌≡◌, ◌<◌, length, string_bytes, IfErr, IfOk, OnOk};
+ghost use Rattle.std.specs.Prelude.{◌≡◌, ◌<◌, ◌⊎◌, length, string_bytes, IfErr, IfOk, OnOk};
 ghost use Rattle.std.specs.Io.KnownBytes.{IsAtEnd};
 ghost use Rattle.script_player.specs.Lines.{IsFirstLine};
 ghost use Rattle.script_player.specs.Written.{Extends, NamesBadLine, bad_line};
@@ -19,6 +19,7 @@ pub fn run<R: Read, W: Write>(alloc: Global, reader: &mut R, writer: &mut W) -> 
     ensures kept { Extends (W.contents writer.old) (W.contents writer.new) }
     ensures bad_line { IfErr result (NamesBadLine (W.contents writer.old) (W.contents writer.new)) }
     ensures end { OnOk result (IsAtEnd (R.remaining reader.new)) }
+    ensures unread { IsAtEnd (R.remaining reader.new) ⊎ (writer.new ≡ writer.old) }
 {
     let script = read_script(alloc, reader)?;
     play_script(alloc, script.as_slice(), writer)?;

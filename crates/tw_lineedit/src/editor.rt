@@ -6,7 +6,7 @@ ghost use Rattle.std.specs.Str.{IsCharBoundary};
 ghost use Rattle.tw_surface.specs.ChangeView.{batch_view};
 ghost use Rattle.tw_input.specs.EventView.{event_view};
 ghost use Rattle.tw_terminal.specs.TerminalState.{Flushes};
-ghost use Rattle.tw_host.specs.ActionView.{action_view};
+ghost use Rattle.tw_host.specs.ActionView.{action_view, Repaint};
 ghost use Rattle.tw_line.specs.Cut.{cut_at};
 ghost use Rattle.tw_host.specs.KeyTable.{action_of};
 ghost use Rattle.tw_painter.specs.EditState.{Inactive};
@@ -141,6 +141,7 @@ impl<'term, T: Terminal> LineEditor<'term, T> {
     ) -> Result<(), Error>
         ensures same_reference { self.new.terminal.ghost_name ≡ self.old.terminal.ghost_name }
         ensures host { host.new ≡ host.old }
+        ensures uncalled { action_view action ≢ Repaint → self.new.terminal.now ≡ self.old.terminal.now }
         ensures ok { OnOk result (Applies H.rules (Some (action_view action)) (frame T.state H.value self.old host.old) (frame T.state H.value self.new host.new)) }
         ensures err { IfErr result (FailsToApply H.rules (Some (action_view action)) (frame T.state H.value self.old host.old) (frame T.state H.value self.new host.new)) }
         ensures failures { FailuresTell result (T.state self.old.terminal.now).failures (T.state self.new.terminal.now).failures }
@@ -153,6 +154,7 @@ impl<'term, T: Terminal> LineEditor<'term, T> {
     fn act<H: LineEditorHost>(&mut self, host: &mut H, action: Action) -> Result<(), Error>
         ensures same_reference { self.new.terminal.ghost_name ≡ self.old.terminal.ghost_name }
         ensures host { host.new ≡ host.old }
+        ensures uncalled { action_view action ≢ Repaint → self.new.terminal.now ≡ self.old.terminal.now }
         ensures ok { OnOk result (Applies H.rules (Some (action_view action)) (frame T.state H.value self.old host.old) (frame T.state H.value self.new host.new)) }
         ensures err { IfErr result (FailsToApply H.rules (Some (action_view action)) (frame T.state H.value self.old host.old) (frame T.state H.value self.new host.new)) }
     {
@@ -376,6 +378,7 @@ impl<'term, T: Terminal> LineEditor<'term, T> {
     ) -> Result<Option<String>, Error>
         ensures same_reference { self.new.terminal.ghost_name ≡ self.old.terminal.ghost_name }
         ensures recursive { self.old.session.state.mode ≢ Inactive → (result ≡ Err Error.Recursive) × (frame T.state H.value self.new host.new ≡ frame T.state H.value self.old host.old) }
+        ensures untouched { self.old.session.state.mode ≢ Inactive → (self.new.terminal.now ≡ self.old.terminal.now) × (host.new ≡ host.old) }
         ensures ok { self.old.session.state.mode ≡ Inactive → IfOk result (λ it. Reads (run_of H.rules (start (option_map (λ s. s.now) initial_value.entry) (frame T.state H.value self.old host.old))) (frame T.state H.value self.old host.old) (frame T.state H.value self.new host.new) (outcome_of (Ok it))) }
         ensures err { self.old.session.state.mode ≡ Inactive → IfErr result (FailsToRead H.rules (option_map (λ s. s.now) initial_value.entry) (frame T.state H.value self.old host.old) (frame T.state H.value self.new host.new)) }
         ensures first_painting { FirstIsFresh H.rules (start (option_map (λ s. s.now) initial_value.entry) (frame T.state H.value self.old host.old)) }
@@ -394,6 +397,7 @@ impl<'term, T: Terminal> LineEditor<'term, T> {
     pub fn read_line<H: LineEditorHost>(&mut self, host: &mut H) -> Result<Option<String>, Error>
         ensures same_reference { self.new.terminal.ghost_name ≡ self.old.terminal.ghost_name }
         ensures recursive { self.old.session.state.mode ≢ Inactive → (result ≡ Err Error.Recursive) × (frame T.state H.value self.new host.new ≡ frame T.state H.value self.old host.old) }
+        ensures untouched { self.old.session.state.mode ≢ Inactive → (self.new.terminal.now ≡ self.old.terminal.now) × (host.new ≡ host.old) }
         ensures ok { self.old.session.state.mode ≡ Inactive → IfOk result (λ it. Reads (run_of H.rules (start None (frame T.state H.value self.old host.old))) (frame T.state H.value self.old host.old) (frame T.state H.value self.new host.new) (outcome_of (Ok it))) }
         ensures err { self.old.session.state.mode ≡ Inactive → IfErr result (FailsToRead H.rules None (frame T.state H.value self.old host.old) (frame T.state H.value self.new host.new)) }
         ensures first_painting { FirstIsFresh H.rules (start None (frame T.state H.value self.old host.old)) }
