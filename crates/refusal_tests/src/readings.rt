@@ -5,6 +5,7 @@ use case_player::{Case, answer_text, batches_text, events_of};
 use std::alloc::{AllocError, Global};
 use std::cell::Cell;
 use std::process::Abort;
+use std::rc::Rc;
 use std::test::Fail;
 use tw_input::InputEvent;
 use tw_lineedit::{Error, LineEditor, LineEditorHost};
@@ -23,12 +24,12 @@ pub struct Seen {
 
 /// A scripted terminal that tells how far it has come while an editor has it.
 #[derive(Drop)]
-struct Watched<'a> {
+struct Watched {
     script: ScriptTerminal,
-    seen: &'a Cell<Seen>,
+    seen: Rc<Cell<Seen>>,
 }
 
-impl Watched<'_> {
+impl Watched {
     /// Tells how far the terminal has come, with so many calls more for its size and to flush.
     fn tell(&self, sizes: usize, flushes: usize) {
         let seen = self.seen.get();
@@ -41,7 +42,7 @@ impl Watched<'_> {
     }
 }
 
-impl Terminal for Watched<'_> {
+impl Terminal for Watched {
     ghost state = { λ watched. watched.script.terminal };
 
     fn get_screen_size(&mut self) -> Result<ScreenSize, TerminalFault> {
@@ -152,9 +153,9 @@ fn end_of<H: LineEditorHost>(
     case: &Case<'_>,
     host: &mut H,
     marked: bool,
-    terminal: &mut Watched<'_>,
+    terminal: &mut Watched,
 ) -> Result<End, Fail> {
-    let seen = terminal.seen;
+    let seen = Rc::clone(&terminal.seen)?;
     let mut editor = LineEditor::new(alloc, terminal)?;
     editor.set_prompt(case.prompt)?;
     for _ in 1..case.readings {
@@ -195,14 +196,12 @@ pub fn last_reading<H: LineEditorHost>(
         taken: 0,
         left: events.len(),
     });
+    let seen = Rc::new(alloc, seen)?;
     let mut script = ScriptTerminal::new(alloc, case.size, events);
     if let Some((call, taken)) = play.fault {
         script.fail_at(call, taken);
     }
-    let mut terminal = Watched {
-        script,
-        seen: &seen,
-    };
+    let mut terminal = Watched { script, seen };
     let end = end_of(alloc, case, host, play.marked, &mut terminal)?;
     let Watched {
         script: terminal,
