@@ -2,7 +2,7 @@
 use Rattle.std.specs.Prelude.{⊤, ◌≡◌, ℕ, ◌-◌, ◌≤◌, ◌++◌, min, List, [], ◌∷◌, length, replicate, reverse, filter, slice_get, Option, Some, None, Result, Ok, Err, IsOkAnd}
 use Rattle.tw_line.specs.Cut.{Cut, at_end}
 use Rattle.tw_history.specs.Patterns.{contains}
-use Rattle.tw_history.specs.Near.{near, last_line, IsNear}
+use Rattle.tw_history.specs.Near.{last_line}
 use Rattle.tw_host.specs.ActionView.{ActionView, InsertChar, InsertText, HistoryPrevious, HistoryNext, HistoryIncSearchBackwards}
 use Rattle.tw_host.specs.HostRules.{HostRules}
 use Rattle.tw_painter.specs.Refusal.{Refusal}
