@@ -308,6 +308,10 @@ pub fn expect_reading<H: LineEditorHost>(
         assert_eq!(rt; reading.flushes(), 1, "{}", case.events);
         return Ok(());
     }
+    if closing.is_none() && case.fault.is_none() {
+        let paintings = with_memory.batches().len().saturating_sub(1);
+        assert_eq!(rt; begun.len(), paintings, "{}", case.events);
+    }
     let mut is_found = false;
     for events in 0..=all {
         let play = Play {
