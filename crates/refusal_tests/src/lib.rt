@@ -17,9 +17,9 @@ mod histories;
 #[cfg(test)]
 mod marks;
 #[cfg(test)]
-mod readings;
+mod read_lines;
 #[cfg(test)]
-mod rows;
+mod readings;
 #[cfg(test)]
 mod scripts;
 #[cfg(test)]
