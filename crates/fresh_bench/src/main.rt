@@ -1,8 +1,9 @@
 //! Each painting of the line editor beside a fresh one. An editor paints over what it painted before, by
 //! moves from where it left the cursor. Whatever it has taken, the screen is to show what one painting of
-//! its state shows. The program plays scripts at widths from 2 to 17, on a blank screen and on a full one.
-//! After each batch it compares the screen with a table whose places are found by division alone. What it
-//! found goes to standard output, and the times to standard error.
+//! its state shows. The program plays scripts at widths from 2 to 17, on a blank screen and on a full one,
+//! without a bottom row and with one, at heights from 1 to 30. After each batch it compares the screen with a
+//! table whose places are found by division alone; with a bottom row only while no painting has more rows. What
+//! it found goes to standard output, and the times to standard error.
 #![tactic(auto)]
 
 mod generator;
@@ -16,11 +17,16 @@ use crate::script::Script;
 use crate::worked::{WORKED, Worked};
 use fresh_table::Entry;
 use std::alloc::Global;
+use std::ops::RangeInclusive;
 use std::time::Instant;
 
 const FIRST_WIDTH: usize = 2;
 
 const LAST_WIDTH: usize = 17;
+
+const FIRST_HEIGHT: usize = 1;
+
+const LAST_HEIGHT: usize = 30;
 
 const SEED: u64 = 20_250_719;
 
@@ -49,7 +55,7 @@ fn main(rt: HostRuntime) -> Result<(), anyhow::Error> {
     Ok(())
 }
 
-/// Plays a worked script at each width, on both screens.
+/// Plays a worked script at each width and each height, on both screens.
 fn play_worked(
     rt: &(impl Print + Alloc<A = Global>),
     worked: &Worked,
@@ -57,7 +63,7 @@ fn play_worked(
     let mut count = Count::default();
     for width in FIRST_WIDTH..=LAST_WIDTH {
         for entry in [Entry::Blank, Entry::Full] {
-            count.add(play_one(rt, width, entry, &worked.script)?);
+            count.add(play_one(rt, width, FIRST_HEIGHT..=LAST_HEIGHT, entry, &worked.script)?);
         }
     }
     let name = worked.name;
@@ -65,16 +71,17 @@ fn play_worked(
     Ok(count)
 }
 
-/// Generates scripts and plays them at one width.
+/// Generates scripts and plays them at one width, each at one of the heights.
 fn play_generated(
     rt: &(impl Print + Alloc<A = Global>),
     width: usize,
     generator: &mut Generator,
 ) -> Result<Count, anyhow::Error> {
     let mut count = Count::default();
-    for _ in 0..CASES {
+    for number in 0..CASES {
         let case = generator.case(rt.alloc())?;
-        count.add(play_one(rt, width, case.entry, &case.script())?);
+        let rows = FIRST_HEIGHT + number % LAST_HEIGHT;
+        count.add(play_one(rt, width, rows..=rows, case.entry, &case.script())?);
     }
     println!(rt; "{CASES} scripts at {width} columns: {count}")?;
     Ok(count)
@@ -84,10 +91,11 @@ fn play_generated(
 fn play_one(
     rt: &(impl Print + Alloc<A = Global>),
     width: usize,
+    heights: RangeInclusive<usize>,
     entry: Entry,
     script: &Script<'_>,
 ) -> Result<Count, anyhow::Error> {
-    let count = play(rt.alloc(), width, entry, script)?;
+    let count = play(rt.alloc(), width, heights, entry, script)?;
     if count.differences > 0 {
         println!(rt; "at {width} columns, screen {entry:?}: {count}: {script:?}")?;
     }

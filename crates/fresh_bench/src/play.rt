@@ -1,9 +1,10 @@
 //! Plays a script on an editor, and what the editor paints on a screen.
 
 use crate::script::Script;
-use fresh_table::{Entry, MarkedHost, Stage};
+use fresh_table::{Entry, MarkedHost, ScrollingStage, Stage};
 use std::alloc::Global;
 use std::fmt;
+use std::ops::RangeInclusive;
 use tw_lineedit::{BasicHistory, History, LineEditor};
 use tw_terminal::{ScreenSize, ScriptTerminal};
 
@@ -17,6 +18,10 @@ pub struct Count {
     pub readings: u64,
     /// The batches after which the screen was compared.
     pub batches: u64,
+    /// The batches after which the screens with a bottom row were compared.
+    pub scrolled: u64,
+    /// The batches after which they were not, behind a painting that has more rows.
+    pub skipped: u64,
     /// The cells that differed.
     pub differences: u64,
 }
@@ -26,6 +31,8 @@ impl Count {
     pub fn add(&mut self, other: Count) {
         self.readings = self.readings.saturating_add(other.readings);
         self.batches = self.batches.saturating_add(other.batches);
+        self.scrolled = self.scrolled.saturating_add(other.scrolled);
+        self.skipped = self.skipped.saturating_add(other.skipped);
         self.differences = self.differences.saturating_add(other.differences);
     }
 }
@@ -34,16 +41,17 @@ impl fmt::Display for Count {
     fn fmt<W: fmt::Write>(&self, f: &mut fmt::Formatter<W>) -> fmt::Result {
         write!(
             f,
-            "{} readings, {} batches, {} cells differ",
-            self.readings, self.batches, self.differences
+            "{} readings, {} batches, {} with a bottom row, {} too high for it, {} cells differ",
+            self.readings, self.batches, self.scrolled, self.skipped, self.differences
         )
     }
 }
 
-/// Plays a script on a screen of this width.
+/// Plays a script on a screen of this width: one without a bottom, and one of each of these numbers of rows.
 pub fn play(
     alloc: Global,
     width: usize,
+    heights: RangeInclusive<usize>,
     entry: Entry,
     script: &Script<'_>,
 ) -> Result<Count, anyhow::Error> {
@@ -62,6 +70,29 @@ pub fn play(
         count.batches = count.batches.saturating_add(1);
         let differences = stage.take(batch.as_slice(), script.column)?;
         count.differences = count.differences.saturating_add(differences as u64);
+    }
+    for rows in heights {
+        let stage = ScrollingStage::new(alloc, rows, width, entry)?;
+        count.add(play_scrolling(stage, &terminal, script.column)?);
+    }
+    Ok(count)
+}
+
+/// Plays the batches of a terminal on a screen with a bottom row.
+fn play_scrolling(
+    mut stage: ScrollingStage,
+    terminal: &ScriptTerminal,
+    column: Option<usize>,
+) -> Result<Count, anyhow::Error> {
+    let mut count = Count::default();
+    for batch in terminal.batches() {
+        match stage.take(batch.as_slice(), column)? {
+            None => count.skipped = count.skipped.saturating_add(1),
+            Some(differences) => {
+                count.scrolled = count.scrolled.saturating_add(1);
+                count.differences = count.differences.saturating_add(differences as u64);
+            }
+        }
     }
     Ok(count)
 }

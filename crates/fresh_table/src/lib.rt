@@ -5,11 +5,13 @@
 mod host;
 mod numbers;
 mod scene;
+mod shows;
 mod stage;
 mod table;
 
 pub use host::MarkedHost;
 pub use numbers::Numbers;
 pub use scene::{Batch, Scene};
-pub use stage::Stage;
+pub use shows::Shows;
+pub use stage::{ScrollingStage, Stage};
 pub use table::{Entry, Table};

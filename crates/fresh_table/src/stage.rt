@@ -1,11 +1,12 @@
-//! A screen on which batches are played, beside the table of what it is to hold.
+//! Screens on which batches are played, beside the tables of what they are to hold.
 
-use crate::scene::Batch;
-use crate::table::{Entry, FILLING, FULL_ENTRY, ROWS, Table};
+use crate::scene::{Batch, Scene};
+use crate::shows::Shows;
+use crate::table::{Entry, FILLING, ROWS, Table};
 use std::alloc::Global;
-use tw_surface::{Change, Position, Screen};
+use tw_surface::{Change, Position, Screen, ScrollingScreen};
 
-/// A screen, and beside it what it is to hold.
+/// A screen without a bottom, and beside it what it is to hold.
 #[derive(Drop)]
 pub struct Stage {
     screen: Screen,
@@ -16,10 +17,8 @@ impl Stage {
     /// A screen of this width, and the table beside it.
     pub fn new(alloc: Global, width: usize, entry: Entry) -> Result<Self, anyhow::Error> {
         let mut screen = Screen::new(alloc, width)?;
-        let table = Table::new(alloc, width, entry)?;
-        if let Entry::Full = entry {
-            fill(alloc, width, &mut screen)?;
-        }
+        let table = Table::new(alloc, ROWS, width, entry)?;
+        enter(alloc, ROWS, width, entry, &mut screen)?;
         Ok(Stage { screen, table })
     }
 
@@ -30,29 +29,113 @@ impl Stage {
         batch: &[Change],
         column: Option<usize>,
     ) -> Result<usize, anyhow::Error> {
-        for change in batch {
-            self.screen.apply(change)?;
-        }
+        play(&mut self.screen, batch)?;
         match Batch::read(batch) {
             Batch::Clears => self.table.clear(),
             Batch::Paints(scene) => self.table.paint(&scene, column),
-            Batch::Closes => self.table.close(),
+            Batch::Closes => self.table.close(self.table.next_row()),
             Batch::Unknown => return Ok(1),
         }
         Ok(self.table.differences(&self.screen))
     }
 }
 
-/// Fills the first rows of a screen, and enters it at one of them.
-fn fill(alloc: Global, width: usize, screen: &mut Screen) -> Result<(), anyhow::Error> {
+/// A screen of some rows, which scrolls, and beside it what it is to hold.
+#[derive(Drop)]
+pub struct ScrollingStage {
+    screen: ScrollingScreen,
+    table: Table,
+    rows: usize,
+    is_known: bool,
+}
+
+impl ScrollingStage {
+    /// A screen of some rows and this width, and the table beside it.
+    pub fn new(
+        alloc: Global,
+        rows: usize,
+        width: usize,
+        entry: Entry,
+    ) -> Result<Self, anyhow::Error> {
+        let mut screen = ScrollingScreen::new(alloc, rows, width)?;
+        let table = Table::new(alloc, rows, width, entry)?;
+        enter(alloc, rows, width, entry, &mut screen)?;
+        Ok(ScrollingStage {
+            screen,
+            table,
+            rows,
+            is_known: true,
+        })
+    }
+
+    /// Plays a batch, and answers how many cells differ from what they are to hold, as a stage without a bottom
+    /// does. Behind a painting that has more rows than the screen nothing is known until the screen is cleared.
+    pub fn take(
+        &mut self,
+        batch: &[Change],
+        column: Option<usize>,
+    ) -> Result<Option<usize>, anyhow::Error> {
+        play(&mut self.screen, batch)?;
+        match Batch::read(batch) {
+            Batch::Clears => {
+                self.table.clear();
+                self.is_known = true;
+            }
+            Batch::Paints(scene) => self.paint(&scene, column),
+            Batch::Closes => self.close(),
+            Batch::Unknown => return Ok(Some(1)),
+        }
+        Ok(self.is_known.then(|| self.table.differences(&self.screen)))
+    }
+
+    /// The scene is painted from the first row on, or from as far above as it needs.
+    fn paint(&mut self, scene: &Scene<'_>, column: Option<usize>) {
+        let needed = self.table.rows_of(scene, column);
+        if needed > self.rows {
+            self.is_known = false;
+            return;
+        }
+        let end = self.table.first_row().saturating_add(needed);
+        self.table.raise(end.saturating_sub(self.rows));
+        self.table.paint(scene, column);
+    }
+
+    /// The reading has ended. The next one enters the screen in the row under the last one, which is scrolled into
+    /// sight.
+    fn close(&mut self) {
+        let under = self.table.next_row();
+        let row = under.min(self.rows.saturating_sub(1));
+        self.table.raise(under.saturating_sub(row));
+        self.table.close(row);
+    }
+}
+
+fn play(screen: &mut impl Shows, batch: &[Change]) -> Result<(), anyhow::Error> {
+    for change in batch {
+        screen.apply(change)?;
+    }
+    Ok(())
+}
+
+/// Fills the first rows of a screen that is full at first, and enters it at one of them.
+fn enter(
+    alloc: Global,
+    rows: usize,
+    width: usize,
+    entry: Entry,
+    screen: &mut impl Shows,
+) -> Result<(), anyhow::Error> {
+    if let Entry::Blank = entry {
+        return Ok(());
+    }
     let mut text = String::new(alloc);
-    for _ in 0..width.saturating_mul(ROWS) {
+    for _ in 0..width.saturating_mul(rows) {
         text.push(FILLING)?;
     }
     screen.apply(&Change::Text(text))?;
     screen.apply(&Change::CursorPosition {
         x: Position::Absolute(0),
-        y: Position::Absolute(FULL_ENTRY),
+        y: Position::Absolute(entry.row(rows)),
     })?;
     Ok(())
 }

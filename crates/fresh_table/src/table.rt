@@ -3,14 +3,14 @@
 ghost use Rattle.std.specs.Prelude.{◌<◌};
 
 use crate::scene::Scene;
+use crate::shows::Shows;
 use std::alloc::{AllocError, Global};
-use tw_surface::Screen;
 
-/// The rows that are compared.
+/// The rows that are compared on a screen without a bottom.
 pub const ROWS: usize = 41;
 
-/// The row at which a full screen is entered.
-pub const FULL_ENTRY: usize = 5;
+/// The row at which a full screen is entered, where it has that row.
+const FULL_ENTRY: usize = 5;
 
 /// What fills a full screen.
 pub const FILLING: char = '#';
@@ -22,6 +22,16 @@ pub enum Entry {
     Blank,
     /// Its first rows are full, and it is entered at one of them.
     Full,
+}
+
+impl Entry {
+    /// The row at which a screen is entered, of which so many rows are compared.
+    pub fn row(self, rows: usize) -> usize {
+        match self {
+            Entry::Blank => 0,
+            Entry::Full => FULL_ENTRY.min(rows.saturating_sub(1)),
+        }
+    }
 }
 
 /// The characters of the first rows, and the cursor.
@@ -36,15 +46,16 @@ pub struct Table {
 }
 
 impl Table {
-    /// A screen as it is at first.
-    pub fn new(alloc: Global, width: usize, entry: Entry) -> Result<Self, AllocError>
+    /// A screen as it is at first, of which so many rows are compared.
+    pub fn new(alloc: Global, rows: usize, width: usize, entry: Entry) -> Result<Self, AllocError>
         requires { 0 < width }
     {
-        let (first_row, filling) = match entry {
-            Entry::Blank => (0, ' '),
-            Entry::Full => (FULL_ENTRY, FILLING),
+        let filling = match entry {
+            Entry::Blank => ' ',
+            Entry::Full => FILLING,
         };
-        let cells = vec![in alloc; filling; width.saturating_mul(ROWS)]?;
+        let first_row = entry.row(rows);
+        let cells = vec![in alloc; filling; width.saturating_mul(rows)]?;
         Ok(Table {
             width,
             cells,
@@ -60,6 +71,45 @@ impl Table {
         self.last_row = 0;
         self.cursor = (0, 0);
         self.clear_from(0);
+    }
+
+    /// How many rows a scene takes, down to its last one or to the cursor's. The column of the cursor is the one
+    /// given, or else the number of characters before the cursor.
+    pub fn rows_of(&self, scene: &Scene<'_>, column: Option<usize>) -> usize {
+        let line = scene.prompt.len();
+        let end = line
+            .saturating_add(scene.front.len())
+            .saturating_add(scene.back.len());
+        let cursor = line.saturating_add(column.unwrap_or(scene.front.len()));
+        let lower = match scene.lower {
+            Some(lower) => self.lower_rows(lower),
+            None => 0,
+        };
+        let last = (end / self.width).saturating_add(lower);
+        last.max(cursor / self.width).saturating_add(1)
+    }
+
+    /// The row from which the next scene is painted.
+    pub fn first_row(&self) -> usize {
+        self.first_row
+    }
+
+    /// The row under the last one that was painted.
+    pub fn next_row(&self) -> usize {
+        self.last_row.saturating_add(1)
+    }
+
+    /// All goes up by so many rows, and blank ones come in below.
+    pub fn raise(&mut self, count: usize) {
+        let gone = self.index_of(count, 0).min(self.cells.len());
+        self.cells.rotate_left(gone);
+        let kept = self.cells.len().saturating_sub(gone);
+        for cell in self.cells.iter_mut().skip(kept) {
+            *cell = ' ';
+        }
+        self.first_row = self.first_row.saturating_sub(count);
+        self.last_row = self.last_row.saturating_sub(count);
+        self.cursor.0 = self.cursor.0.saturating_sub(count);
     }
 
     /// The scene is painted from the row on where the screen was entered. The column of the cursor is the one
@@ -83,9 +133,8 @@ impl Table {
         }
     }
 
-    /// The reading has ended. The next one enters the screen in the row under the last one.
-    pub fn close(&mut self) {
-        let row = self.last_row.saturating_add(1);
+    /// The reading has ended. The next one enters the screen in this row, under the last one.
+    pub fn close(&mut self, row: usize) {
         self.clear_from(row);
         self.first_row = row;
         self.last_row = row;
@@ -93,7 +142,7 @@ impl Table {
     }
 
     /// How many cells of the screen hold something else. A cursor that stands elsewhere counts as one more.
-    pub fn differences(&self, screen: &Screen) -> usize {
+    pub fn differences(&self, screen: &impl Shows) -> usize {
         let width = self.width;
         let cells = self
             .cells
@@ -137,10 +186,23 @@ impl Table {
     /// Puts each of the lower lines in the row under what stands above it.
     fn put_lower(&mut self, lower: &str) {
         for line in lower.split("\r\n") {
-            let row = self.last_row.saturating_add(1);
+            let row = self.next_row();
             self.put_text(row, 0, line);
-            let rows = line.len().div_ceil(self.width).max(1);
-            self.last_row = self.last_row.saturating_add(rows);
+            self.last_row = self.last_row.saturating_add(self.line_rows(line));
         }
+    }
+
+    /// How many rows the lower lines take.
+    fn lower_rows(&self, lower: &str) -> usize {
+        let mut rows: usize = 0;
+        for line in lower.split("\r\n") {
+            rows = rows.saturating_add(self.line_rows(line));
+        }
+        rows
+    }
+
+    /// How many rows a line under the line takes.
+    fn line_rows(&self, line: &str) -> usize {
+        line.len().div_ceil(self.width).max(1)
     }
 }

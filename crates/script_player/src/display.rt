@@ -49,8 +49,6 @@ fn show_row(
     shown: &mut String,
 ) -> Result<(), AllocError> {
     shown.push('|')?;
-    for col in 0..cols {
-        shown.push(screen.char_at(row, col))?;
-    }
+    screen.push_row(row, cols, shown)?;
     shown.push_str("|\n")
 }

@@ -4,3 +4,4 @@ pub mod ElementView
 pub mod CandidateView
 pub mod HostRules
 pub mod PlainAnswers
+pub mod Faithful

@@ -1,5 +1,6 @@
 -- Which of a host's answers are the plain ones.
-use Rattle.std.specs.Prelude.{ℕ, ◌≡◌, false, List, [], refl}
+use Rattle.std.specs.Prelude.{ℕ, ◌≡◌, true, false, List, [], refl}
+use Rattle.std.proofs.lemmas.Bool.{true≢false}
 use Rattle.tw_host.specs.declared.host.OwnAnswers.{OwnAnswers}
 use Rattle.tw_line.specs.Cut.{Cut}
 use Rattle.tw_host.specs.HostRules.{HostRules, plain_text, plain_highlight, unresolved, plain_rules}
@@ -8,6 +9,10 @@ use Rattle.tw_input.specs.EventView.{EventView}
 -- no answer of its own
 abbrev pub nothing_own : OwnAnswers
 nothing_own = record { prompt = false; preview = false; highlight = false; complete = false; resolve = false }
+
+-- all answers of its own
+abbrev pub all_own : OwnAnswers
+all_own = record { prompt = true; preview = true; highlight = true; complete = true; resolve = true }
 
 -- what the host does not answer for itself is the plain answer
 pub record IsPlainBut {V : Type 0} (rules : HostRules V) (own : OwnAnswers) : Type 0 where
@@ -25,4 +30,14 @@ plain_is_plain lines = record {
   highlight = λ e v cut. refl;
   complete = λ e v cut. refl;
   resolve = λ e v event cut. refl;
+}
+
+-- a host that answers all for itself leaves nothing to be plain
+pub no_plain_left : {V : Type 0} {rules : HostRules V} → IsPlainBut rules all_own
+no_plain_left = record {
+  prompt = λ e v text. absurd (true≢false e);
+  preview = λ e v line. absurd (true≢false e);
+  highlight = λ e v cut. absurd (true≢false e);
+  complete = λ e v cut. absurd (true≢false e);
+  resolve = λ e v event cut. absurd (true≢false e);
 }

@@ -8,7 +8,7 @@ ghost use Rattle.std.specs.Str.{IsCharBoundary};
 ghost use Rattle.tw_line.specs.Cut.{cut_at};
 ghost use Rattle.tw_host.specs.ElementView.{element_view};
 ghost use Rattle.tw_host.specs.CandidateView.{candidate_view};
-ghost use Rattle.tw_host.specs.HostRules.{HostRules, plain_text, plain_rules};
+ghost use Rattle.tw_host.specs.HostRules.{HostRules, plain_text, plain_highlight, plain_rules};
 ghost use Rattle.tw_history.specs.Near.{last_line};
 ghost use Rattle.tw_host.specs.PlainAnswers.{IsPlainBut, nothing_own, plain_is_plain};
 
@@ -80,15 +80,39 @@ impl OwnAnswers {
         complete: false,
         resolve: false,
     };
+
+    /// All answers are the host's own.
+    pub const ALL: OwnAnswers = OwnAnswers {
+        prompt: true,
+        preview: true,
+        highlight: true,
+        complete: true,
+        resolve: true,
+    };
 }
 
-/// One element: the text as it is.
-fn plain_element(alloc: Global, text: &str) -> Result<Vec<OutputElement>, AllocError>
+/// One element: the text as it is. It is what a host answers that shows a text plainly.
+pub fn plain_element(alloc: Global, text: &str) -> Result<Vec<OutputElement>, AllocError>
     ensures { IfOk result (λ elements. map element_view elements.items ≡ plain_text text.now) }
 {
     let text = String::from_str(alloc, text)?;
     let elements = vec![in alloc; OutputElement::Text(text)]?;
     Ok(elements)
+}
+
+/// The line as it is, and the columns of the text before its cursor, which is a boundary of the line. It is what a
+/// host answers that shows the line plainly.
+pub fn plain_line(
+    alloc: Global,
+    line: &str,
+    cursor: usize,
+) -> Result<(Vec<OutputElement>, usize), AllocError>
+    requires { IsCharBoundary line.now cursor }
+    ensures elements { IfOk result (λ shown. map element_view shown.0.items ≡ (plain_highlight (cut_at line.now cursor)).elements) }
+    ensures column { IfOk result (λ shown. shown.1 ≡ (plain_highlight (cut_at line.now cursor)).column) }
+{
+    let elements = plain_element(alloc, line)?;
+    Ok((elements, unicode_column_width(&line[..cursor])))
 }
 
 /// What an application tells the editor. A host answers by rules, which are functions of the value that it
@@ -157,8 +181,7 @@ pub trait LineEditorHost {
         if Self::OWN.highlight {
             return Err(AllocError);
         }
-        let elements = plain_element(alloc, line)?;
-        Ok((elements, unicode_column_width(&line[..cursor_position])))
+        plain_line(alloc, line, cursor_position)
     }
 
     /// The texts that can complete a line with its cursor at a byte offset, in the order in which they are

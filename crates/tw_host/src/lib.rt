@@ -7,5 +7,8 @@ mod keys;
 pub mod laws;
 
 pub use actions::Action;
-pub use host::{CompletionCandidate, LineEditorHost, NopLineEditorHost, OutputElement, OwnAnswers};
+pub use host::{
+    CompletionCandidate, LineEditorHost, NopLineEditorHost, OutputElement, OwnAnswers,
+    plain_element, plain_line,
+};
 pub use keys::default_action;

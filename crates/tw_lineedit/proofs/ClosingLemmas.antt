@@ -5,14 +5,16 @@ use Rattle.tw_surface.specs.ChangeView.{Batch}
 use Rattle.tw_terminal.specs.TerminalState.{TerminalState, count_up, RenderFails}
 use Rattle.tw_host.specs.HostRules.{HostRules}
 use Rattle.tw_painter.specs.EditState.{EditState, Inactive}
-use Rattle.tw_painter.specs.Refusal.{refusal_of}
-use Rattle.tw_lineedit.specs.Outcomes.{Outcome}
+use Rattle.tw_painter.specs.Refusal.{Refusal, refusal_of, IsMemory}
+use Rattle.tw_lineedit.specs.Outcomes.{Outcome, answer_at, IsLine, IsRefusal}
 use Rattle.tw_painter.specs.Painting.{Mark, closing, closing_if}
-use Rattle.tw_lineedit.specs.Run.{Frame, Ending, Moment, run_of, ending, StandsAt, Quiet, IsAnswered, IsRefused}
-use Rattle.tw_lineedit.specs.Frame.{Closes, CutsClosing, MissesFlush, FailsToClose}
-use Rattle.tw_lineedit.specs.Reading.{start, unbegun, Reads, paused, ClosesWhole, ClosesInPart, ClosesUnflushed, ClosesBadly, Starves, Faults, Halts, FailsToRead, IsTurnedDown}
+use Rattle.tw_lineedit.specs.Run.{Frame, Ending, Moment, run_of, ending, StandsAt, Quiet, IsAnswered, IsRefused, moment, progress_of, IsRefusedIn}
+use Rattle.tw_lineedit.specs.Frame.{Closes, CutsClosing, MissesFlush, FailsToClose, GivesUp}
+use Rattle.tw_lineedit.specs.Reading.{start, unbegun, Reads, paused, ClosesWhole, ClosesInPart, ClosesUnflushed, ClosesBadly, Starves, Faults, Halts, FailsToRead, IsTurnedDown, HaltsIn, HaltsRefused, FailsIn}
 use Rattle.tw_painter.specs.declared.error.Error.{Error}
 use Rattle.tw_painter.specs.declared.error.Error.TheVariants.{Memory, Terminal}
+use Rattle.tw_lineedit.specs.Feeding.{Uncopied, FailsToFinish, begun_run, WantsToBegin, FaultsToBegin, IsNotBegun, FailsToBegin}
+use Rattle.tw_lineedit.proofs.StandLemmas.{stands_here}
 
 module _ {V : Type 0} where
   -- the mode once the run is closed
@@ -36,6 +38,7 @@ module _ {V : Type 0} where
       size = ap (λ (t : TerminalState). t.size) c.terminal ∙ st.size;
       state = inactive m h g st c.state;
       value = c.value ∙ st.value;
+      last = c.last;
     };
     flushed = ap (λ (t : TerminalState). t.flushed) c.terminal ∙ ap (λ (t : TerminalState). length t.batches) (sym c.terminal);
   }
@@ -56,6 +59,7 @@ module _ {V : Type 0} where
             size = ap (λ (t : TerminalState). t.size) fails.rest ∙ st.size;
             state = inactive m h g st c.state;
             value = c.value ∙ st.value;
+            last = c.last;
           },
         );
         flushed = ap (λ (t : TerminalState). t.flushed) fails.rest ∙ hf;
@@ -76,6 +80,7 @@ module _ {V : Type 0} where
       size = ap (λ (t : TerminalState). t.size) c.terminal ∙ st.size;
       state = inactive m h g st c.state;
       value = c.value ∙ st.value;
+      last = c.last;
     };
     flushed = ap (λ (t : TerminalState). t.flushed) c.terminal ∙ hf;
   }
@@ -94,9 +99,10 @@ module _ {V : Type 0} where
     | inr missed ↦ ap (λ (t : TerminalState). t.failures) missed.terminal
   ]
 
-module _ {V : Type 0} (rules : HostRules V) (initial : Option (List ℕ)) (f : Frame V) where
+-- A run from f with this ending.
+module _ {V : Type 0} (run : Ending V) (f : Frame V) where
   -- the run ended, and the closing is whole
-  pub reads : (h g : Frame V) (answer : Outcome) → run_of rules (start initial f) ≡ ending answer h → Quiet f h → Closes h g → Reads (run_of rules (start initial f)) f g answer
+  pub reads : (h g : Frame V) (answer : Outcome) → run ≡ ending answer h → Quiet f h → Closes h g → Reads run f g answer
   reads h g answer r q c = subst (λ (x : Ending V). Reads x f g answer) (sym r) (record {
     answer_is = refl;
     batches = ap (λ (t : TerminalState). t.batches) c.terminal;
@@ -104,54 +110,74 @@ module _ {V : Type 0} (rules : HostRules V) (initial : Option (List ℕ)) (f : F
     size = ap (λ (t : TerminalState). t.size) c.terminal;
     state = c.state;
     value = c.value;
+    last = c.last;
     flushed = ap (λ (t : TerminalState). t.flushed) c.terminal ∙ ap (λ (t : TerminalState). length t.batches) (sym c.terminal);
     failures = ap (λ (t : TerminalState). t.failures) c.terminal ∙ q.failures;
   })
 
   -- a run stands at its ending
-  stands_ended : (h : Frame V) (answer : Outcome) → run_of rules (start initial f) ≡ ending answer h → StandsAt (paused (run_of rules (start initial f))) h
+  stands_ended : (h : Frame V) (answer : Outcome) → run ≡ ending answer h → StandsAt (paused run) h
   stands_ended h answer r = subst (λ (x : Ending V). StandsAt (paused x) h) (sym r)
       (record { state = refl; value = refl; size = refl; last = refl; left = refl; part = ([], refl, sym (append-nil h.terminal.batches)) })
 
+  -- a run that ends with a refusal does not end with a line
+  ends_refused : (h : Frame V) (r : Refusal) → run ≡ ending (Err r) h → IsRefusal run.answer
+  ends_refused h r same = subst (λ (x : Ending V). IsRefusal x.answer) (sym same) tt
+
+-- Memory and the terminal can stop it at these moments; at the last ones no call of the terminal was refused.
+module _ {V : Type 0} (run : Ending V) (Starves Faults Halts : Moment V → Type 0) (f : Frame V) where
   -- what a fault of the terminal leaves
   abbrev Fault : Frame V → Type 0
   Fault g = (m : Moment V) × (
-      (Faults rules initial f m × ClosesWhole m g × (g.terminal.failures ≡ count_up f.terminal.failures))
-      ⊎ ((Faults rules initial f m × ClosesBadly m f g × (g.terminal.failures ≡ count_up (count_up f.terminal.failures)))
-      ⊎ (Halts rules initial f m × ClosesBadly m f g × (g.terminal.failures ≡ count_up f.terminal.failures))))
+      (Faults m × ClosesWhole m g × (g.terminal.failures ≡ count_up f.terminal.failures))
+      ⊎ ((Faults m × ClosesBadly m f g × (g.terminal.failures ≡ count_up (count_up f.terminal.failures)))
+      ⊎ (Halts m × ClosesBadly m f g × (g.terminal.failures ≡ count_up f.terminal.failures))))
 
   -- no fault but that of the closing
-  halted : (m : Moment V) (h g : Frame V) → Halts rules initial f m → StandsAt m h → Quiet f h → CutsClosing h g ⊎ MissesFlush h g → Fault g
+  halted : (m : Moment V) (h g : Frame V) → Halts m → StandsAt m h → Quiet f h → CutsClosing h g ⊎ MissesFlush h g → Fault g
   halted m h g can st q c = (m, inr (inr (can, closes_badly m f h g st q.flushed c, one_more h g c ∙ ap count_up q.failures)))
 
   -- the run ended, and the closing is refused
-  ended : (h g : Frame V) (answer : Outcome) → run_of rules (start initial f) ≡ ending answer h → Quiet f h → CutsClosing h g ⊎ MissesFlush h g → Fault g
-  ended h g answer r q c = halted (paused (run_of rules (start initial f))) h g (inl refl) (stands_ended h answer r) q c
+  ended : (h g : Frame V) (answer : Outcome) → Halts (paused run) → run ≡ ending answer h → Quiet f h → CutsClosing h g ⊎ MissesFlush h g → Fault g
+  ended h g answer can r q c = halted (paused run) h g can (stands_ended run f h answer r) q c
 
   -- an answer, and the closing is refused
-  pub answered_unclosed : (h g : Frame V) (answer : Outcome) (e : Error) → IsAnswered rules (start initial f) h answer → FailsToClose h g e → FailsToRead rules initial f g e
-  answered_unclosed h g answer (Terminal x) a c = ended h g answer a.run (record { flushed = a.quiet.flushed; failures = a.quiet.failures }) c
-  answered_unclosed h g answer _ a bad = absurd bad
+  pub ended_unclosed : (h g : Frame V) (answer : Outcome) (e : Error) → Halts (paused run) → run ≡ ending answer h → Quiet f h → FailsToClose h g e → FailsIn run Starves Faults Halts f g e
+  ended_unclosed h g answer (Terminal x) can r q c = ended h g answer can r q c
+  ended_unclosed h g answer _ can r q bad = absurd bad
 
   -- a refusal, and the closing is whole
-  pub refused_closed : (h g : Frame V) (e : Error) → IsTurnedDown rules initial f h e → Closes h g → FailsToRead rules initial f g e
+  refused_closed : (h g : Frame V) (e : Error) → IsRefusedIn run Starves Faults f h e → Closes h g → FailsIn run Starves Faults Halts f g e
   refused_closed h g (Memory x) ((m, can, idle, st), q) c = (m, can, idle, closes_whole m h g st c, ap (λ (t : TerminalState). t.failures) c.terminal ∙ q.failures)
   refused_closed h g (Terminal x) ((m, can, st), q) c = (m, inl (can, closes_whole m h g st c, ap (λ (t : TerminalState). t.failures) c.terminal ∙ q.failures))
-  refused_closed h g e (r, q) c = reads h g (Err (refusal_of e)) r q c
+  refused_closed h g e (r, q) c = reads run f h g (Err (refusal_of e)) r q c
 
-  -- a refusal, and then that of the closing
-  refused_then : (h g : Frame V) (x : Error) → IsTurnedDown rules initial f h x → CutsClosing h g ⊎ MissesFlush h g → Fault g
-  refused_then h g (Memory y) ((m, can, idle, st), q) c = halted m h g (inr (can, idle)) st q c
-  refused_then h g (Terminal y) ((m, can, st), q) c = (m, inr (inl (can, closes_badly m f h g st q.flushed c, one_more h g c ∙ ap count_up q.failures)))
-  refused_then h g y (r, q) c = ended h g (Err (refusal_of y)) r q c
+  -- Among those are a refusal of memory and an ending with a refusal.
+  module _ (starved : (m : Moment V) → Starves m × (m.rendering ≡ None) → Halts m) (refused : IsRefusal run.answer → Halts (paused run)) where
+    -- a refusal, and then that of the closing
+    refused_then : (h g : Frame V) (x : Error) → IsRefusedIn run Starves Faults f h x → CutsClosing h g ⊎ MissesFlush h g → Fault g
+    refused_then h g (Memory y) ((m, can, idle, st), q) c = halted m h g (starved m (can, idle)) st q c
+    refused_then h g (Terminal y) ((m, can, st), q) c = (m, inr (inl (can, closes_badly m f h g st q.flushed c, one_more h g c ∙ ap count_up q.failures)))
+    refused_then h g y (r, q) c = ended h g (Err (refusal_of y)) (refused (ends_refused run f h (refusal_of y) r)) r q c
 
-  -- a refusal, and the closing is refused
-  pub refused_unclosed : (h g : Frame V) (x e : Error) → IsTurnedDown rules initial f h x → FailsToClose h g e → FailsToRead rules initial f g e
-  refused_unclosed h g x (Terminal y) r c = refused_then h g x r c
-  refused_unclosed h g x _ r bad = absurd bad
+    -- a refusal, and the closing is refused
+    refused_unclosed : (h g : Frame V) (x e : Error) → IsRefusedIn run Starves Faults f h x → FailsToClose h g e → FailsIn run Starves Faults Halts f g e
+    refused_unclosed h g x (Terminal y) r c = refused_then h g x r c
+    refused_unclosed h g x _ r bad = absurd bad
 
-  -- the start
+    -- a refusal, and the closing
+    pub gives_up : (h g : Frame V) (x e : Error) → IsRefusedIn run Starves Faults f h x → GivesUp x h g e → FailsIn run Starves Faults Halts f g e
+    gives_up h g x e r c = elim c [
+      | inl closed ↦ subst (λ (y : Error). FailsIn run Starves Faults Halts f g y) (sym closed.0) (refused_closed h g x r closed.1)
+      | inr unclosed ↦ refused_unclosed h g x e r unclosed
+    ]
 
+-- A line that nothing but a refusal closes.
+module _ {V : Type 0} (run : Ending V) (Starves Faults : Moment V → Type 0) (f : Frame V) where
+  pub gives_up_refused : (h g : Frame V) (x e : Error) → IsRefusedIn run Starves Faults f h x → GivesUp x h g e → FailsIn run Starves Faults (HaltsRefused run Starves) f g e
+  gives_up_refused h g x e r c = gives_up run Starves Faults (HaltsRefused run Starves) f (λ m can. inr can) (λ is. inl (is, refl)) h g x e r c
+
+module _ {V : Type 0} (rules : HostRules V) (initial : Option (List ℕ)) (f : Frame V) where
   -- a refusal of the run from its start
   at_start : (h : Frame V) (e : Error) → IsRefused rules (start initial f) h e → IsTurnedDown rules initial f h e
   at_start h (Memory x) ((m, can, idle, st), q) = ((m, inl can, idle, st), record { flushed = q.flushed; failures = q.failures })
@@ -163,8 +189,50 @@ module _ {V : Type 0} (rules : HostRules V) (initial : Option (List ℕ)) (f : F
   begun_refused s h e same r = at_start h e (subst (λ (y : Frame V). IsRefused rules y h e) same r)
 
   -- the initial value found no memory
-  pub not_begun : (h : Frame V) → h ≡ start None f → IsSome initial → ((m : Moment V) × Starves rules initial f m × (m.rendering ≡ None) × StandsAt m h) × Quiet f h
-  not_begun h same some = subst (λ (y : Frame V). ((m : Moment V) × Starves rules initial f m × (m.rendering ≡ None) × StandsAt m y) × Quiet f y) (sym same) (
+  pub not_begun : (h : Frame V) → h ≡ start None f → IsSome initial → ((m : Moment V) × WantsToBegin rules initial f m × (m.rendering ≡ None) × StandsAt m h) × Quiet f h
+  not_begun h same some = subst (λ (y : Frame V). ((m : Moment V) × WantsToBegin rules initial f m × (m.rendering ≡ None) × StandsAt m y) × Quiet f y) (sym same) (
     (unbegun f, inr (some, refl), refl, record { state = refl; value = refl; size = refl; last = refl; left = refl; part = ([], refl, sym (append-nil f.terminal.batches)) }),
     record { flushed = refl; failures = refl },
   )
+
+  -- a line that is not begun is closed
+  pub begun_given_up : (h g : Frame V) (x e : Error) → IsNotBegun rules initial f h x → GivesUp x h g e → FailsToBegin rules initial f g e
+  begun_given_up h g x e r c = gives_up_refused (begun_run rules initial f) (WantsToBegin rules initial f) (FaultsToBegin rules initial f) f h g x e r c
+
+  -- a call is answered, and the closing is refused
+  pub answered_unclosed : (h g : Frame V) (answer : Outcome) (e : Error) → IsAnswered rules (start initial f) h answer → FailsToClose h g e → FailsToRead rules initial f g e
+  answered_unclosed h g answer e a c = ended_unclosed (run_of rules (start initial f)) (Starves rules initial f) (Faults rules initial f) (Halts rules initial f) f h g answer e (inl refl) a.run (record { flushed = a.quiet.flushed; failures = a.quiet.failures }) c
+
+  -- a call is answered, and closed
+  pub answered_closed : (h g : Frame V) (answer : Outcome) → IsAnswered rules (start initial f) h answer → Closes h g → Reads (run_of rules (start initial f)) f g answer
+  answered_closed h g answer a c = reads (run_of rules (start initial f)) f h g answer a.run (record { flushed = a.quiet.flushed; failures = a.quiet.failures }) c
+
+  -- a call is refused, and closed
+  pub call_given_up : (h g : Frame V) (x e : Error) → IsTurnedDown rules initial f h x → GivesUp x h g e → FailsToRead rules initial f g e
+  call_given_up h g x e r c = gives_up (run_of rules (start initial f)) (Starves rules initial f) (Faults rules initial f) (Halts rules initial f) f (λ m can. inr can) (λ is. inl refl) h g x e r c
+
+module _ {V : Type 0} (f : Frame V) where
+  -- where a line is answered
+  abbrev answered_run : Ending V
+  answered_run = ending (answer_at f.state) f
+
+  -- the closing of a line that is answered is refused
+  pub finish_unclosed : (h g : Frame V) (e : Error) → h ≡ f → FailsToClose h g e → FailsToFinish f g e
+  finish_unclosed h g e same c = ended_unclosed answered_run (Uncopied f) (λ m. ⊥) (HaltsIn answered_run (Uncopied f)) f h g (answer_at f.state) e (inl refl)
+      (ap (ending (answer_at f.state)) (sym same)) (subst (λ (y : Frame V). Quiet f y) (sym same) (record { flushed = refl; failures = refl })) c
+
+  -- a line that is answered is closed
+  pub finish_closed : (h g : Frame V) (answer : Outcome) → h ≡ f → answer ≡ answer_at f.state → Closes h g → Reads answered_run f g answer
+  finish_closed h g answer same is c = subst (λ (x : Outcome). Reads answered_run f g x) (sym is)
+      (reads answered_run f h g (answer_at f.state)
+      (ap (ending (answer_at f.state)) (sym same)) (subst (λ (y : Frame V). Quiet f y) (sym same) (record { flushed = refl; failures = refl })) c)
+
+  -- a line that is not answered
+  finish_refused : (h : Frame V) (x : Error) → h ≡ f → IsMemory x → IsLine (answer_at f.state) → IsRefusedIn answered_run (Uncopied f) (λ m. ⊥) f h x
+  finish_refused h (Memory y) same m l = subst (λ (k : Frame V). IsRefusedIn answered_run (Uncopied f) (λ m. ⊥) f k (Memory y)) (sym same)
+      ((moment None f.terminal.events (progress_of f), (l, refl), refl, stands_here f), record { flushed = refl; failures = refl })
+  finish_refused h _ same bad l = absurd bad
+
+  -- and what closing it leaves
+  pub finish_given_up : (h g : Frame V) (x e : Error) → h ≡ f → IsMemory x → IsLine (answer_at f.state) → GivesUp x h g e → FailsToFinish f g e
+  finish_given_up h g x e same m l c = gives_up answered_run (Uncopied f) (λ m. ⊥) (HaltsIn answered_run (Uncopied f)) f (λ m can. inr can) (λ is. inl refl) h g x e (finish_refused h x same m l) c

@@ -1,10 +1,9 @@
 -- What the count of failures tells.
-use Rattle.std.proofs.Common.{◌≡◌, ℕ, ◌+◌, ◌<◌, ◌≤◌, ◌==◌, List, Option, cond, Bool, true, false, refl, inl, inr, Err, arith, ◌⊎◌}
+use Rattle.std.proofs.Common.{◌≡◌, ℕ, ◌+◌, ◌<◌, ◌≤◌, ◌==◌, cond, Bool, true, false, refl, inl, inr, Err, arith, ◌⊎◌}
 use Rattle.std.proofs.lemmas.Bool.{eqb-true}
 use Rattle.tw_terminal.specs.TerminalState.{count_up}
-use Rattle.tw_host.specs.HostRules.{HostRules}
-use Rattle.tw_lineedit.specs.Run.{Frame}
-use Rattle.tw_lineedit.specs.Reading.{FailsToRead, FailuresTell}
+use Rattle.tw_lineedit.specs.Run.{Ending, Frame, Moment}
+use Rattle.tw_lineedit.specs.Reading.{FailsIn, FailuresTell}
 use Rattle.tw_painter.specs.declared.error.Error.{Error}
 use Rattle.tw_painter.specs.declared.error.Error.TheVariants.{Memory, Terminal}
 
@@ -38,14 +37,14 @@ rose_once n m h = rose n m (omega arith)
 rose_twice : (n m : ℕ) → m ≡ count_up (count_up n) → Rose n m
 rose_twice n m e = rose n m (let l : count_up n ≤ count_up (count_up n) = le_count (count_up n) in omega arith)
 
--- what a refused call tells of the count
-pub told : {V : Type 0} (A : Type 0) (rules : HostRules V) (initial : Option (List ℕ)) (f g : Frame V) (e : Error) → FailsToRead rules initial f g e → FailuresTell {A = A} (Err e) f.terminal.failures g.terminal.failures
-told A rules initial f g (Memory x) h = h.4
-told A rules initial f g (Terminal x) (m, h) = elim h [
+-- what a refusal tells of the count
+pub told : {V : Type 0} (A : Type 0) (run : Ending V) (Starves Faults Halts : Moment V → Type 0) (f g : Frame V) (e : Error) → FailsIn run Starves Faults Halts f g e → FailuresTell {A = A} (Err e) f.terminal.failures g.terminal.failures
+told A run Starves Faults Halts f g (Memory x) h = h.4
+told A run Starves Faults Halts f g (Terminal x) (m, h) = elim h [
   | inl a ↦ rose_once f.terminal.failures g.terminal.failures a.2
   | inr other ↦ elim other [
     | inl b ↦ rose_twice f.terminal.failures g.terminal.failures b.2
     | inr c ↦ rose_once f.terminal.failures g.terminal.failures c.2
   ]
 ]
-told A rules initial f g e h = h.failures
+told A run Starves Faults Halts f g e h = h.failures

@@ -1,10 +1,17 @@
+pub mod StandLemmas
+pub mod ModeLemmas
 pub mod TurnLemmas
+pub mod FeedingLemmas
 pub mod ClosingLemmas
 pub mod FailureLemmas
 pub mod StationLemmas
 pub mod PaintLemmas
 pub mod ScreenRunLemmas
 pub mod WorkedRuns
+pub mod ScrollingRunLemmas
+pub mod HealedRunLemmas
+pub mod CutRunLemmas
+pub mod WorkedScrolledRuns
 pub mod WalkLemmas
 pub mod EnumerationLemmas
 pub mod LandingLemmas

@@ -86,16 +86,16 @@ module _ {V : Type 0} (rules : HostRules V) where
   first_not_cleared f station later h = sym (ap first_cleared h) ∙ first_from f.terminal.events (progress_of f)
 
   -- the station's painting is not refused
-  abbrev IsPainted : Station V → Type 0
+  abbrev pub IsPainted : Station V → Type 0
   IsPainted s = (p : Painting) × (painting_of rules s ≡ Ok p)
 
   -- all stations are painted
-  abbrev ArePainted : List (Station V) → Type 0
+  abbrev pub ArePainted : List (Station V) → Type 0
   ArePainted [] = Unit {0}
   ArePainted (s ∷ more) = IsPainted s × ArePainted more
 
   -- all stations but the last are painted
-  abbrev ArePaintedButLast : List (Station V) → Type 0
+  abbrev pub ArePaintedButLast : List (Station V) → Type 0
   ArePaintedButLast [] = Unit {0}
   ArePaintedButLast (s ∷ []) = Unit {0}
   ArePaintedButLast (s ∷ next ∷ more) = IsPainted s × ArePaintedButLast (next ∷ more)
@@ -111,7 +111,7 @@ module _ {V : Type 0} (rules : HostRules V) where
   rendered-ok last (Err r) p h = absurd (subst IsErrRendered h tt)
 
   -- all stations of a run but the last are painted
-  painted_from : (es : List EventView) (cleared : Bool) (s : Progress V) → ArePaintedButLast (stations_from rules es cleared s)
+  pub painted_from : (es : List EventView) (cleared : Bool) (s : Progress V) → ArePaintedButLast (stations_from rules es cleared s)
   painted_from [] cleared s = tt
   painted_from (e ∷ es) cleared s = by_painting (painted_from es) (painting_at rules s) refl
     where
@@ -133,14 +133,14 @@ module _ {V : Type 0} (rules : HostRules V) where
           by_over rest p (rendered-ok s.last (painting_of rules (station_at cleared s)) p (sym (rendered_at rules s cleared) ∙ h)) (is_over s.state.mode)
 
   -- the stations up to a painted one are painted
-  painted_up_to : (earlier : List (Station V)) (station : Station V) (later : List (Station V)) → ArePaintedButLast (earlier ++ station ∷ later)
+  pub painted_up_to : (earlier : List (Station V)) (station : Station V) (later : List (Station V)) → ArePaintedButLast (earlier ++ station ∷ later)
       → IsPainted station → ArePainted (earlier ++ station ∷ [])
   painted_up_to [] station later h one = (one, tt)
   painted_up_to (s ∷ []) station later h one = (h.0, (one, tt))
   painted_up_to (s ∷ next ∷ more) station later h one = (h.0, painted_up_to (next ∷ more) station later h.1 one)
 
   -- the batches of stations begin with those up to a painted one
-  beginning_after : (earlier : List (Station V)) (station : Station V) (later : List (Station V)) (last : Option Mark) → ArePainted (earlier ++ station ∷ [])
+  pub beginning_after : (earlier : List (Station V)) (station : Station V) (later : List (Station V)) (last : Option Mark) → ArePainted (earlier ++ station ∷ [])
       → (rest : List Batch) × (batches_after rules (earlier ++ station ∷ later) last ≡ batches_after rules (earlier ++ station ∷ []) last ++ rest)
   beginning_after [] station later last ((p, e), rest) = (
     batches_after rules later (Some (mark_of p)),
@@ -157,7 +157,7 @@ module _ {V : Type 0} (rules : HostRules V) where
   painting-is s p h = painted-is s.size (sized_scene rules s).scene p h
 
   -- painted stations have the batches of their scenes
-  batches_are_shots : (stations : List (Station V)) (last : Option Painting) → ArePainted stations
+  pub batches_are_shots : (stations : List (Station V)) (last : Option Painting) → ArePainted stations
       → batches_after rules stations (option_map mark_of last) ≡ shots.batches_after last (map shot_of (map (sized_scene rules) stations))
   batches_are_shots [] last h = refl
   batches_are_shots (s ∷ stations) last ((p, e), more) =
@@ -171,12 +171,12 @@ module _ {V : Type 0} (rules : HostRules V) where
   mark_by last rest (Ok p) = rest (Some (mark_of p))
 
   -- the mark that the paintings of stations leave
-  abbrev mark_after : List (Station V) → Option Mark → Option Mark
+  abbrev pub mark_after : List (Station V) → Option Mark → Option Mark
   mark_after [] last = last
   mark_after (s ∷ stations) last = mark_by last (mark_after stations) (painting_of rules s)
 
   -- a run leaves the mark of its stations
-  mark_from : (es : List EventView) (cleared : Bool) (s : Progress V) → (run rules es s).last ≡ mark_after (stations_from rules es cleared s) s.last
+  pub mark_from : (es : List EventView) (cleared : Bool) (s : Progress V) → (run rules es s).last ≡ mark_after (stations_from rules es cleared s) s.last
   mark_from [] cleared s =
       ap (λ (r : Result Rendered Refusal). (at_end rules s r).last) (rendered_at rules s cleared) ∙ by_painting (painting_of rules (station_at cleared s))
     where
@@ -213,7 +213,7 @@ module _ {V : Type 0} (rules : HostRules V) where
       by_painting rest (Ok p) = by_over rest p (is_over s.state.mode)
 
   -- painted stations leave what the closing batch of their scenes needs
-  closing_is_shots : (earlier : List (Station V)) (station : Station V) (last : Option Mark) → ArePainted (earlier ++ station ∷ [])
+  pub closing_is_shots : (earlier : List (Station V)) (station : Station V) (last : Option Mark) → ArePainted (earlier ++ station ∷ [])
       → closing_if (mark_after (earlier ++ station ∷ []) last) ≡ shots.closing_batch (map shot_of (map (sized_scene rules) (earlier ++ station ∷ [])))
   closing_is_shots [] station last ((p, e), more) = rw e (ap (λ (q : Painting). closing_if (Some (mark_of q))) (painting-is station p e))
   closing_is_shots (s ∷ []) station last ((p, e), more) = rw e (closing_is_shots [] station (Some (mark_of p)) more)
@@ -232,13 +232,13 @@ module _ {V : Type 0} (rules : HostRules V) where
   same_mark (s ∷ more) last h = rw (All-head (RendersNothing rules) s more h).refused.1 refl
 
   -- so stations at which nothing is rendered add no batches to those up to a painted one
-  no_more_batches : (earlier : List (Station V)) (station : Station V) (later : List (Station V)) (last : Option Mark) → ArePainted (earlier ++ station ∷ [])
+  pub no_more_batches : (earlier : List (Station V)) (station : Station V) (later : List (Station V)) (last : Option Mark) → ArePainted (earlier ++ station ∷ [])
       → All (RendersNothing rules) later → batches_after rules (earlier ++ station ∷ later) last ≡ batches_after rules (earlier ++ station ∷ []) last
   no_more_batches [] station later last ((p, e), more) h = rw (e, no_batches later (Some (mark_of p)) h) refl
   no_more_batches (s ∷ earlier) station later last ((p, e), more) h = rw (e, no_more_batches earlier station later (Some (mark_of p)) more h) refl
 
   -- and leave its mark
-  no_later_mark : (earlier : List (Station V)) (station : Station V) (later : List (Station V)) (last : Option Mark) → ArePainted (earlier ++ station ∷ [])
+  pub no_later_mark : (earlier : List (Station V)) (station : Station V) (later : List (Station V)) (last : Option Mark) → ArePainted (earlier ++ station ∷ [])
       → All (RendersNothing rules) later → mark_after (earlier ++ station ∷ later) last ≡ mark_after (earlier ++ station ∷ []) last
   no_later_mark [] station later last ((p, e), more) h = rw (e, same_mark later (Some (mark_of p)) h) refl
   no_later_mark (s ∷ earlier) station later last ((p, e), more) h = rw (e, no_later_mark earlier station later (Some (mark_of p)) more h) refl
@@ -251,17 +251,17 @@ module _ {V : Type 0} (rules : HostRules V) where
   module _ (f : Frame V) (w : ℕ) (earlier : List (Station V)) (station : Station V) (later : List (Station V)) (before : Picture)
       (h : Comes rules f w earlier station later before) where
     -- the stations up to the painted one are painted
-    all_painted : ArePainted (earlier ++ station ∷ [])
+    pub all_painted : ArePainted (earlier ++ station ∷ [])
     all_painted =
         painted_up_to earlier station later
         (subst ArePaintedButLast h.stations (painted_from f.terminal.events false (progress_of f))) (h.painting, h.painted)
 
     -- their batches are those of their scenes
-    played-is : batches_of rules (earlier ++ station ∷ []) ≡ shots.batches (map shot_of (map (sized_scene rules) (earlier ++ station ∷ [])))
+    pub played-is : batches_of rules (earlier ++ station ∷ []) ≡ shots.batches (map shot_of (map (sized_scene rules) (earlier ++ station ∷ [])))
     played-is = batches_are_shots (earlier ++ station ∷ []) None all_painted
 
     -- the batches of the run are those of all stations
-    taken-is : (run_of rules f).taken ≡ f.terminal.batches ++ batches_of rules (earlier ++ station ∷ later)
+    pub taken-is : (run_of rules f).taken ≡ f.terminal.batches ++ batches_of rules (earlier ++ station ∷ later)
     taken-is =
         batches_by_stations rules f
         ∙ ap (λ (last : Option Mark). f.terminal.batches ++ batches_after rules (stations_of rules f) last) h.nothing_painted

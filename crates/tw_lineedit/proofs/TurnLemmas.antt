@@ -1,248 +1,85 @@
 -- One turn of the editor's loop, against the run.
-use Rattle.std.proofs.Common.{◌≡◌, List, [], ◌∷◌, ◌++◌, cond, Bool, true, false, refl, sym, ◌∙◌, ap, subst, inl, inr, Option, Some, None, Ok, Err, arith}
-use Rattle.std.proofs.lemmas.List.{append-nil}
-use Rattle.tw_surface.specs.ChangeView.{Batch}
+use Rattle.std.proofs.Common.{◌≡◌, ℕ, IfErr, OnErr, Result, Ok, Err, Option, List, [], ◌∷◌, cond, Bool, true, false, refl, sym, ◌∙◌, ap, subst, inl, inr, None, arith}
 use Rattle.tw_input.specs.EventView.{EventView}
-use Rattle.tw_terminal.specs.TerminalState.{TerminalState, Fails, RenderFails, count_up, size_after}
-use Rattle.tw_painter.specs.EditState.{EditState}
-use Rattle.tw_painter.specs.Refusal.{Refusal, refusal_of, IsMemory}
-use Rattle.tw_lineedit.specs.Outcomes.{is_over, answer_at, IsLine}
-use Rattle.tw_lineedit.specs.Steps.{clears_if}
-use Rattle.tw_painter.specs.Painting.{Mark, Rendered, clear_batch}
-use Rattle.tw_lineedit.specs.Run.{Frame, Progress, Moment, Cause, want, fault, run, ends, ending, at_end, at_event, after_event, chosen, state_after, answered, polled, shown, painting_at, moment, progress_of, CanStop, CanStopFrom, unmeasured, unpainted, half_painted, unpolled, uncopied, unresolved, unapplied, half_cleared, later, StandsAt, Quiet, FailsOnce, IsStarved, IsRefused, Follows, Continues, IsEnded}
-use Rattle.tw_lineedit.specs.Frame.{Paints, FailsToPaint, Keeps, CallFails, TakesEvent, HasNoEvent, Handles, FailsToHandle, answered_frame}
+use Rattle.tw_terminal.specs.TerminalState.{TerminalState}
+use Rattle.tw_painter.specs.Refusal.{IsMemory}
+use Rattle.tw_lineedit.specs.Outcomes.{is_over, answer_at, IsLine, Outcome}
+use Rattle.tw_lineedit.specs.Run.{Frame, Progress, Moment, Cause, want, fault, run, ends, after_event, state_after, polled, moment, progress_of, CanStopFrom, Quiet, IsRefused, run_of, IsAnswered}
+use Rattle.tw_lineedit.specs.Frame.{CallFails, TakesEvent, HasNoEvent, Advances, FailsToAdvance}
 use Rattle.tw_painter.specs.declared.error.Error.{Error}
 use Rattle.tw_painter.specs.declared.error.Error.TheVariants.{Memory, Terminal}
 use Rattle.tw_host.specs.HostRules.{HostRules}
+use Rattle.tw_lineedit.specs.Feeding.{fed_run, run_on, CanRefuse, refused, CanStopOn, at_event, unpolled, uncopied, Begins, IsAnsweredOn, IsRefusedOn, Follows, Continues, IsEnded}
+use Rattle.tw_lineedit.specs.Reading.{start, IsTurnedDown}
+use Rattle.tw_lineedit.proofs.ClosingLemmas.{begun_refused}
+use Rattle.tw_lineedit.proofs.StandLemmas.{stands_here, stands_failed, quiet_self, quiet_on, failed, refused_later}
+use Rattle.tw_lineedit.proofs.FeedingLemmas.{refused_event, run_advanced, stops_advanced, refused_advance, quiet_advanced, left_advanced, same_progress}
 
 module _ {V : Type 0} (rules : HostRules V) where
-  -- the run, case by case
-
-  -- where the painting is refused the run ends
-  run_unpainted : (es : List EventView) (s : Progress V) (n : Refusal) → painting_at rules s ≡ Err n → run rules es s ≡ ends (Err n) es s
-  run_unpainted [] s n h = ap (at_end rules s) h
-  run_unpainted (e ∷ es) s n h = ap (at_event rules e es s (run rules es)) h
-
   -- where the mode ends the run
-  run_over : (es : List EventView) (s : Progress V) (p : Rendered) → painting_at rules s ≡ Ok p → is_over s.state.mode ≡ true → run rules es s ≡ ends (answer_at s.state) es (shown s p)
-  run_over [] s p h o = ap (at_end rules s) h
-  run_over (e ∷ es) s p h o =
-      ap (at_event rules e es s (run rules es)) h
-      ∙ ap (λ (b : Bool). cond b (ends (answer_at s.state) (e ∷ es) (shown s p)) (after_event rules e es (shown s p) (run rules es) (state_after rules s e))) o
-
-  -- where no event is left
-  run_done : (es : List EventView) (s : Progress V) (p : Rendered) → es ≡ [] → painting_at rules s ≡ Ok p → run rules es s ≡ ends (answer_at s.state) es (shown s p)
-  run_done es s p he h = subst (λ (xs : List EventView). run rules xs s ≡ ends (answer_at s.state) xs (shown s p)) (sym he) (ap (at_end rules s) h)
-
-  -- where an event is taken
-  run_event : (e : EventView) (es xs : List EventView) (s : Progress V) (p : Rendered) → xs ≡ e ∷ es → painting_at rules s ≡ Ok p → is_over s.state.mode ≡ false → run rules xs s ≡ after_event rules e es (shown s p) (run rules es) (state_after rules s e)
-  run_event e es xs s p he h o =
-      ap (λ (ys : List EventView). run rules ys s) he
-      ∙ ap (at_event rules e es s (run rules es)) h
-      ∙ ap (λ (b : Bool). cond b (ends (answer_at s.state) (e ∷ es) (shown s p)) (after_event rules e es (shown s p) (run rules es) (state_after rules s e))) o
-
-  -- frames
-
-  -- a frame of these parts
-  abbrev make : EditState → V → Option Mark → TerminalState → Frame V
-  make state host last terminal = record { state = state; value = host; last = last; terminal = terminal }
-
-  -- frames of the same parts are one
-  same_frame : (f g : Frame V) → f.state ≡ g.state → f.value ≡ g.value → f.last ≡ g.last → f.terminal ≡ g.terminal → f ≡ g
-  same_frame f g a d b c =
-      ap (λ (x : EditState). make x f.value f.last f.terminal) a
-      ∙ ap (λ (x : V). make g.state x f.last f.terminal) d
-      ∙ ap (λ (x : Option Mark). make g.state g.value x f.terminal) b
-      ∙ ap (λ (x : TerminalState). make g.state g.value g.last x) c
-
-  -- a terminal with these batches
-  abbrev with_batches : TerminalState → List Batch → TerminalState
-  with_batches t b = record t { batches = b }
-
-  -- a terminal once an event is taken
-  abbrev with_events : TerminalState → EventView → List EventView → TerminalState
-  with_events t e es = record t { events = es; size = size_after e t.size }
-
-  -- a frame once its painting is rendered
-  abbrev painted : Frame V → Rendered → Frame V
-  painted f p = make f.state f.value (Some p.mark) (with_batches f.terminal (f.terminal.batches ++ p.changes ∷ []))
-
-  -- a frame once an event is taken
-  abbrev given : Frame V → EventView → List EventView → Frame V
-  given f e es = make f.state f.value f.last (with_events f.terminal e es)
-
-  -- a frame once its event's action is applied
-  abbrev applied : Frame V → EventView → EditState → Frame V
-  applied f e state = make state (answered_frame rules e f).value f.last (with_batches f.terminal (f.terminal.batches ++ clears_if (chosen rules (progress_of f) e)))
-
-  -- what a painting leaves
-  painted_is : (f g : Frame V) (h : Paints rules f g) → g ≡ painted f h.picture.0
-  painted_is f g h = same_frame g (painted f h.picture.0) h.state h.value h.picture.2 h.picture.3
-
-  -- what the taking of an event leaves
-  given_is : (g h : Frame V) (e : EventView) → TakesEvent e g h → h ≡ given g e h.terminal.events
-  given_is g h e t = same_frame h (given g e h.terminal.events) t.keeps.state t.keeps.value t.keeps.last t.terminal.rest
-
-  -- what an action leaves
-  applied_is : (h k : Frame V) (e : EventView) → Handles rules e h k → k ≡ applied h e k.state
-  applied_is h k e a = same_frame k (applied h e k.state) refl a.value a.last a.terminal
-
-  -- where a run stands
-
-  -- a frame stands at its own moment
-  stands_here : (f : Frame V) → StandsAt (moment None f.terminal.events (progress_of f)) f
-  stands_here f = record { state = refl; value = refl; size = refl; last = refl; left = refl; part = ([], refl, sym (append-nil f.terminal.batches)) }
-
-  -- a refused call that took nothing changes no moment
-  stands_failed : (m : Moment V) (f g : Frame V) → Keeps f g → Fails f.terminal g.terminal → StandsAt m f → StandsAt m g
-  stands_failed m f g keeps fails st = record {
-    state = keeps.state ∙ st.state;
-    value = keeps.value ∙ st.value;
-    size = ap (λ (t : TerminalState). t.size) fails ∙ st.size;
-    last = keeps.last ∙ st.last;
-    left = ap (λ (t : TerminalState). t.events) fails ∙ st.left;
-    part = (st.part.0, st.part.1, ap (λ (t : TerminalState). t.batches) fails ∙ st.part.2);
-  }
-
-  -- a refused rendering has taken a beginning
-  stands_in_part : (b : Batch) (f g : Frame V) → Keeps f g → RenderFails b f.terminal g.terminal → StandsAt (moment (Some b) f.terminal.events (progress_of f)) g
-  stands_in_part b f g keeps fails = record {
-    state = keeps.state;
-    value = keeps.value;
-    size = ap (λ (t : TerminalState). t.size) fails.rest;
-    last = keeps.last;
-    left = ap (λ (t : TerminalState). t.events) fails.rest;
-    part = fails.part;
-  }
-
-  -- what is counted
-
-  -- nothing happened
-  quiet_self : (f : Frame V) → Quiet f f
-  quiet_self f = record { flushed = refl; failures = refl }
-
-  -- a frame that is the same
-  quiet_same : (f g : Frame V) → g ≡ f → Quiet f g
-  quiet_same f g same = record { flushed = ap (λ (y : Frame V). y.terminal.flushed) same; failures = ap (λ (y : Frame V). y.terminal.failures) same }
-
-  -- one quiet part after another
-  quiet_on : (f g h : Frame V) → Quiet f g → Quiet g h → Quiet f h
-  quiet_on f g h a b = record { flushed = b.flushed ∙ a.flushed; failures = b.failures ∙ a.failures }
-
-  -- a failure after a quiet part
-  fails_on : (f g h : Frame V) → Quiet f g → FailsOnce g h → FailsOnce f h
-  fails_on f g h a b = record { flushed = b.flushed ∙ a.flushed; failures = b.failures ∙ ap count_up a.failures }
-
-  -- a refused call is one failure
-  failed : (f g : Frame V) → Fails f.terminal g.terminal → FailsOnce f g
-  failed f g fails = record { flushed = ap (λ (t : TerminalState). t.flushed) fails; failures = ap (λ (t : TerminalState). t.failures) fails }
-
-  -- a refused rendering is one failure
-  render_failed : (b : Batch) (f g : Frame V) → RenderFails b f.terminal g.terminal → FailsOnce f g
-  render_failed b f g fails = record { flushed = ap (λ (t : TerminalState). t.flushed) fails.rest; failures = ap (λ (t : TerminalState). t.failures) fails.rest }
-
-  -- a painting is quiet
-  quiet_painted : (f g : Frame V) → Paints rules f g → Quiet f g
-  quiet_painted f g p = record { flushed = ap (λ (t : TerminalState). t.flushed) p.picture.3; failures = ap (λ (t : TerminalState). t.failures) p.picture.3 }
-
-  -- a refused painting
-
-  -- the painting is refused, by memory, by the terminal or by itself
-  pub paint_refused : (f g : Frame V) (e : Error) → FailsToPaint rules f g e → IsRefused rules f g e
-  paint_refused f g (Memory x) (same, sized) = subst (λ (y : Frame V). IsStarved rules f y × Quiet f y) (sym same) ((moment None f.terminal.events (progress_of f), unpainted sized, refl, stands_here f), quiet_self f)
-  paint_refused f g (Terminal x) (keeps, h) = elim h [
-    | inl fails ↦ ((moment None f.terminal.events (progress_of f), unmeasured, stands_failed _ f g keeps fails (stands_here f)), failed f g fails)
-    | inr part ↦ ((moment (Some part.0.changes) f.terminal.events (progress_of f), half_painted part.1, stands_in_part part.0.changes f g keeps part.2), render_failed part.0.changes f g part.2)
-  ]
-  paint_refused f g e (same, h) =
-      (run_unpainted f.terminal.events (progress_of f) (refusal_of e) h ∙ ap (ending (Err (refusal_of e))) (sym same), quiet_same f g same)
-
-  -- after the painting
+  run_over : (es : List EventView) (s : Progress V) → is_over s.state.mode ≡ true → run_on rules es s ≡ ends (answer_at s.state) es s
+  run_over [] s o = refl
+  run_over (e ∷ es) s o = ap (λ (b : Bool). cond b (ends (answer_at s.state) (e ∷ es) s) (after_event rules e es s (run rules es) (state_after rules s e))) o
 
   -- the mode ends the run
-  pub over : (f g : Frame V) → Paints rules f g → is_over g.state.mode ≡ true → IsEnded rules f g
-  over f g h o = subst (λ (y : Frame V). IsEnded rules f y) (sym (painted_is f g h)) (record {
-    run = run_over f.terminal.events (progress_of f) h.picture.0 h.picture.1 (subst (λ (x : EditState). is_over x.mode ≡ true) h.state o);
-    stops = λ l. uncopied h.picture.1 (inl (subst (λ (x : EditState). is_over x.mode ≡ true) h.state o)) l;
-    quiet = record { flushed = refl; failures = refl };
-  })
-
-  -- the run can be stopped once it is painted
-  painted_stops : (f g : Frame V) → Paints rules f g → is_over g.state.mode ≡ false → CanStopFrom rules fault f (moment None g.terminal.events (progress_of g))
-  painted_stops f g h o = subst (λ (y : Frame V). CanStopFrom rules fault f (moment None y.terminal.events (progress_of y))) (sym (painted_is f g h))
-      (unpolled h.picture.1 (subst (λ (x : EditState). is_over x.mode ≡ false) h.state o))
+  pub over : (f : Frame V) → is_over f.state.mode ≡ true → IsEnded rules f f
+  over f o = record { run = run_over f.terminal.events (progress_of f) o; stops = λ l. uncopied (inl o) l; quiet = quiet_self f }
 
   -- the terminal refuses to tell an event
-  pub poll_refused : (f g h : Frame V) (e : Error) → Paints rules f g → is_over g.state.mode ≡ false → CallFails g h e → IsRefused rules f h e
-  poll_refused f g h (Terminal x) p o (keeps, fails) = (
-    (moment None g.terminal.events (progress_of g), painted_stops f g p o, stands_failed _ g h keeps fails (stands_here g)),
-    fails_on f g h (quiet_painted f g p) (failed g h fails),
+  pub poll_refused : (f g : Frame V) (e : Error) → is_over f.state.mode ≡ false → CallFails f g e → IsRefusedOn rules f.terminal.events f g e
+  poll_refused f g (Terminal x) o (keeps, fails) = (
+    (moment None f.terminal.events (progress_of f), unpolled o, stands_failed _ f g keeps fails (stands_here f)),
+    failed f g fails,
   )
-  poll_refused f g h _ p o bad = absurd bad
+  poll_refused f g _ o bad = absurd bad
 
   -- no event is left
-  pub done : (f g h : Frame V) → Paints rules f g → HasNoEvent g h → IsEnded rules f h
-  done f g h p t =
-      let none : f.terminal.events ≡ [] = sym (ap (λ (x : TerminalState). x.events) p.picture.3) ∙ t.events in
-      subst (λ (y : Frame V). IsEnded rules f y) (sym (t.same ∙ painted_is f g p)) (record {
-        run = run_done f.terminal.events (progress_of f) p.picture.0 none p.picture.1;
-        stops = λ l. uncopied p.picture.1 (inr none) l;
-        quiet = record { flushed = refl; failures = refl };
-      })
+  pub done : (f g : Frame V) → HasNoEvent f g → IsEnded rules f g
+  done f g t = subst (λ (y : Frame V). IsEnded rules f y) (sym t.same) (record {
+    run = subst (λ (es : List EventView). run_on rules es (progress_of f) ≡ ends (answer_at f.state) es (progress_of f)) (sym t.events) refl;
+    stops = λ l. uncopied (inr t.events) l;
+    quiet = quiet_self f;
+  })
 
   -- with an event
 
-  module _ (f : Frame V) (p : Rendered) (ev : EventView) (es : List EventView)
-      (hp : painting_at rules (progress_of f) ≡ Ok p) (ho : is_over f.state.mode ≡ false) (he : f.terminal.events ≡ ev ∷ es) where
-    with_event : (c : Cause) (m : Moment V) → CanStop rules c (ev ∷ es) (progress_of f) m → CanStopFrom rules c f m
-    with_event c m h = subst (λ (xs : List EventView). CanStop rules c xs (progress_of f) m) (sym he) h
+  -- how far a frame has come that has taken an event
+  taken_is : (f g : Frame V) (e : EventView) → TakesEvent e f g → progress_of g ≡ polled (progress_of f) e
+  taken_is f g e t = same_progress (progress_of g) (polled (progress_of f) e) t.keeps.state t.keeps.value
+      (ap (λ (x : TerminalState). x.size) t.terminal.rest) t.keeps.last (ap (λ (x : TerminalState). x.batches) t.terminal.rest)
 
-    apply_refused : (k : Frame V) (e : Error) → FailsToHandle rules ev (given (painted f p) ev es) k e → IsRefused rules f k e
-    apply_refused k (Memory x) r = elim r [
-      | inl same ↦ subst (λ (y : Frame V). IsStarved rules f y × Quiet f y) (sym same)
-          ((moment None es (polled (shown (progress_of f) p) ev), with_event want _ (unresolved hp ho), refl, stands_here (given (painted f p) ev es)), record { flushed = refl; failures = refl })
-      | inr apart ↦ subst (λ (y : Frame V). IsStarved rules f y × Quiet f y) (sym apart.0)
-          ((moment None es (answered rules (shown (progress_of f) p) ev), with_event want _ (unapplied hp ho apart.1), refl, stands_here (answered_frame rules ev (given (painted f p) ev es))), record { flushed = refl; failures = refl })
-    ]
-    apply_refused k (Terminal x) r = (
-      (moment (Some clear_batch) es (answered rules (shown (progress_of f) p) ev), with_event fault _ (half_cleared hp ho r.0), stands_in_part clear_batch (answered_frame rules ev (given (painted f p) ev es)) k r.1 r.2),
-      record { flushed = ap (λ (t : TerminalState). t.flushed) r.2.rest; failures = ap (λ (t : TerminalState). t.failures) r.2.rest },
-    )
-    apply_refused k e r = (
-      run_event ev es f.terminal.events (progress_of f) p he hp ho ∙ ap (after_event rules ev es (shown (progress_of f) p) (run rules es)) r.1 ∙ ap (ending (Err (refusal_of e))) (sym r.0),
-      record { flushed = ap (λ (y : Frame V). y.terminal.flushed) r.0; failures = ap (λ (y : Frame V). y.terminal.failures) r.0 },
-    )
-
-    goes_on : (state : EditState) → state_after rules (progress_of f) ev ≡ Ok state → Continues rules f (applied (given (painted f p) ev es) ev state)
-    goes_on state h = record {
-      follows = record {
-        run = run_event ev es f.terminal.events (progress_of f) p he hp ho ∙ ap (after_event rules ev es (shown (progress_of f) p) (run rules es)) h;
-        stops = λ c m s. with_event c m (later hp ho h s);
-        quiet = record { flushed = refl; failures = refl };
-      };
-      fewer = rw he (omega arith);
-    }
-
-  -- the events before one is taken
-  events_are : (f g h : Frame V) (ev : EventView) → Paints rules f g → TakesEvent ev g h → f.terminal.events ≡ ev ∷ h.terminal.events
-  events_are f g h ev p t = sym (ap (λ (x : TerminalState). x.events) p.picture.3) ∙ t.terminal.events
-
-  -- what a painting and the taking of an event leave
-  given_after : (f g h : Frame V) (ev : EventView) (p : Paints rules f g) → TakesEvent ev g h → h ≡ given (painted f p.picture.0) ev h.terminal.events
-  given_after f g h ev p t = given_is g h ev t ∙ ap (λ (y : Frame V). given y ev h.terminal.events) (painted_is f g p)
+  -- the taking of an event is quiet
+  quiet_taken : (f g : Frame V) (e : EventView) → TakesEvent e f g → Quiet f g
+  quiet_taken f g e t = record { flushed = ap (λ (x : TerminalState). x.flushed) t.terminal.rest; failures = ap (λ (x : TerminalState). x.failures) t.terminal.rest }
 
   -- the event is refused
-  pub event_refused : (f g h k : Frame V) (ev : EventView) (e : Error) → Paints rules f g → is_over g.state.mode ≡ false → TakesEvent ev g h → FailsToHandle rules ev h k e → IsRefused rules f k e
-  event_refused f g h k ev e p o t a =
-      apply_refused f p.picture.0 ev h.terminal.events p.picture.1 (subst (λ (x : EditState). is_over x.mode ≡ false) p.state o) (events_are f g h ev p t) k e
-      (subst (λ (y : Frame V). FailsToHandle rules ev y k e) (given_after f g h ev p t) a)
+  pub event_refused : (f g k : Frame V) (e : EventView) (x : Error) → is_over f.state.mode ≡ false → TakesEvent e f g → FailsToAdvance rules e g k x → IsRefusedOn rules f.terminal.events f k x
+  event_refused f g k e x o t r =
+      let taken : f.terminal.events ≡ e ∷ g.terminal.events = t.terminal.events in
+      refused_later (run_on rules f.terminal.events (progress_of f)) (fed_run rules e g.terminal.events (progress_of f))
+      (CanStopOn rules want f.terminal.events (progress_of f)) (CanStopOn rules fault f.terminal.events (progress_of f)) (CanRefuse rules want e g.terminal.events (progress_of f)) (CanRefuse rules fault e g.terminal.events (progress_of f))
+      f g k
+      (λ n at. ap (λ (xs : List EventView). run_on rules xs (progress_of f)) taken ∙ refused_event rules e g.terminal.events (progress_of f) n k o at)
+      (λ m h. subst (λ (xs : List EventView). CanStopOn rules want xs (progress_of f) m) (sym taken) (at_event o (refused h)))
+      (λ m h. subst (λ (xs : List EventView). CanStopOn rules fault xs (progress_of f) m) (sym taken) (at_event o (refused h)))
+      (quiet_taken f g e t)
+      x (refused_advance rules (progress_of f) e g (taken_is f g e t) k x r)
 
   -- the run goes on
-  pub continues : (f g h k : Frame V) (ev : EventView) → Paints rules f g → is_over g.state.mode ≡ false → TakesEvent ev g h → Handles rules ev h k → Continues rules f k
-  continues f g h k ev p o t a =
-      let b : Handles rules ev (given (painted f p.picture.0) ev h.terminal.events) k = subst (λ (y : Frame V). Handles rules ev y k) (given_after f g h ev p t) a in
-      subst (λ (y : Frame V). Continues rules f y) (sym (applied_is (given (painted f p.picture.0) ev h.terminal.events) k ev b))
-      (goes_on f p.picture.0 ev h.terminal.events p.picture.1 (subst (λ (x : EditState). is_over x.mode ≡ false) p.state o) (events_are f g h ev p t) k.state b.state)
+  pub continues : (f g k : Frame V) (e : EventView) → is_over f.state.mode ≡ false → TakesEvent e f g → Advances rules e g k → Continues rules f k
+  continues f g k e o t a =
+      let left : k.terminal.events ≡ g.terminal.events = left_advanced rules e g k a in
+      let taken : f.terminal.events ≡ e ∷ k.terminal.events = t.terminal.events ∙ ap (λ (xs : List EventView). e ∷ xs) (sym left) in
+      record {
+        follows = record {
+          run = ap (λ (xs : List EventView). run_on rules xs (progress_of f)) taken
+              ∙ run_advanced rules (progress_of f) e g (taken_is f g e t) o k a k.terminal.events;
+          stops = λ c m h. subst (λ (xs : List EventView). CanStopOn rules c xs (progress_of f) m) (sym taken)
+              (at_event o (stops_advanced rules (progress_of f) e g (taken_is f g e t) k a c k.terminal.events m h));
+          quiet = quiet_on f g k (quiet_taken f g e t) (quiet_advanced rules e g k a);
+        };
+        fewer = rw taken (omega arith);
+      }
 
   -- turns in a row
 
@@ -251,13 +88,44 @@ module _ {V : Type 0} (rules : HostRules V) where
   ended_later f g h a b = record { run = a.run ∙ b.run; stops = λ l. a.stops want _ (b.stops l); quiet = quiet_on f g h a.quiet b.quiet }
 
   -- the run is refused later
-  pub refused_later : (f g h : Frame V) (e : Error) → Follows rules f g → IsRefused rules g h e → IsRefused rules f h e
-  refused_later f g h (Memory x) a (s, q) = ((s.0, a.stops want s.0 s.1, s.2, s.3), quiet_on f g h a.quiet q)
-  refused_later f g h (Terminal x) a (s, q) = ((s.0, a.stops fault s.0 s.1, s.2), fails_on f g h a.quiet q)
-  refused_later f g h e a (r, q) = (a.run ∙ r, quiet_on f g h a.quiet q)
+  pub turned_down_later : (f g h : Frame V) (e : Error) → Follows rules f g → IsRefusedOn rules g.terminal.events g h e → IsRefusedOn rules f.terminal.events f h e
+  turned_down_later f g h e a r = refused_later _ _ _ _ _ _ f g h (λ n at. a.run ∙ at) (a.stops want) (a.stops fault) a.quiet e r
 
   -- the answer was not copied
-  pub not_copied : (f g h : Frame V) (e : Error) → IsEnded rules f g → h ≡ g → IsMemory e → IsLine (answer_at g.state) → IsRefused rules f h e
-  not_copied f g h (Memory x) a same m l = subst (λ (y : Frame V). IsStarved rules f y × Quiet f y) (sym same)
+  not_copied : (f g h : Frame V) (e : Error) → IsEnded rules f g → h ≡ g → IsMemory e → IsLine (answer_at g.state) → IsRefusedOn rules f.terminal.events f h e
+  not_copied f g h (Memory x) a same m l = subst (λ (y : Frame V). IsRefusedOn rules f.terminal.events f y (Memory x)) (sym same)
       ((moment None g.terminal.events (progress_of g), a.stops l, refl, stands_here g), a.quiet)
   not_copied f g h _ a same bad l = absurd bad
+
+  -- behind the first painting
+
+  -- the run goes on from it
+  run_behind_first : (f g : Frame V) → Begins rules f g → run_of rules f ≡ run_on rules g.terminal.events (progress_of g)
+  run_behind_first f g b = b.run f.terminal.events ∙ ap (λ (xs : List EventView). run_on rules xs (progress_of g)) (sym b.left)
+
+  -- the run can be stopped behind it
+  stops_behind_first : (f g : Frame V) → Begins rules f g → (c : Cause) (m : Moment V) → CanStopOn rules c g.terminal.events (progress_of g) m → CanStopFrom rules c f m
+  stops_behind_first f g b c m h = b.stops c f.terminal.events m (subst (λ (xs : List EventView). CanStopOn rules c xs (progress_of g) m) b.left h)
+
+  -- the run is answered behind its first painting
+  answered_behind_first : (f g h : Frame V) (answer : Outcome) → Begins rules f g → IsAnsweredOn rules g h answer → IsAnswered rules f h answer
+  answered_behind_first f g h answer b a = record { run = run_behind_first f g b ∙ a.run; quiet = quiet_on f g h b.quiet a.quiet }
+
+  -- the run is refused behind its first painting
+  refused_behind_first : (f g h : Frame V) (e : Error) → Begins rules f g → IsRefusedOn rules g.terminal.events g h e → IsRefused rules f h e
+  refused_behind_first f g h e b r = refused_later (run_of rules f) (run_on rules g.terminal.events (progress_of g))
+      (CanStopFrom rules want f) (CanStopFrom rules fault f) (CanStopOn rules want g.terminal.events (progress_of g)) (CanStopOn rules fault g.terminal.events (progress_of g))
+      f g h (λ n at. run_behind_first f g b ∙ at) (stops_behind_first f g b want) (stops_behind_first f g b fault) b.quiet e r
+
+  -- a line that was begun is answered
+  pub answered_begun : (initial : Option (List ℕ)) (f g h : Frame V) (answer : Outcome) → Begins rules (start initial f) g → IsAnsweredOn rules g h answer → IsAnswered rules (start initial f) h answer
+  answered_begun initial f g h answer b a = answered_behind_first (start initial f) g h answer b a
+
+  -- a line that was begun is refused
+  pub refused_begun : (initial : Option (List ℕ)) (f g h : Frame V) → Begins rules (start initial f) g → (e : Error) → IsRefusedOn rules g.terminal.events g h e → IsTurnedDown rules initial f h e
+  refused_begun initial f g h b e r = begun_refused rules initial f (start initial f) h e refl (refused_behind_first (start initial f) g h e b r)
+
+  -- how the answer that comes last is refused
+  pub not_copied_if : (A : Type 0) (answer : Result A Error) (f g h : Frame V) → IsEnded rules f g → h ≡ g → IfErr answer IsMemory → OnErr answer (IsLine (answer_at g.state)) → IfErr answer (IsRefusedOn rules f.terminal.events f h)
+  not_copied_if A (Ok x) f g h a same m l = tt
+  not_copied_if A (Err e) f g h a same m l = not_copied f g h e a same m l

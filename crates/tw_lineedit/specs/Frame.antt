@@ -1,5 +1,5 @@
 -- What an editor is to its contracts, and what its parts do to it.
-use Rattle.std.specs.Prelude.{◌≡◌, ◌++◌, [], length, Option, Some, Ok, Err, ◌⊎◌}
+use Rattle.std.specs.Prelude.{◌≡◌, ◌++◌, [], length, Option, Some, None, Ok, Err, ◌⊎◌}
 use Rattle.tw_surface.specs.ChangeView.{Batch}
 use Rattle.tw_input.specs.EventView.{EventView}
 use Rattle.tw_terminal.specs.TerminalState.{TerminalState, Fails, Takes, Renders, RenderFails, count_up}
@@ -96,26 +96,41 @@ module _ {V : Type 0} (rules : HostRules V) where
   FailsToHandle e f g (Terminal x) = FailsToApply (chosen rules (progress_of f) e) (answered_frame e f) g (Terminal x)
   FailsToHandle e f g x = FailsToApply (chosen rules (progress_of f) e) (answered_frame e f) g x
 
+  -- the event was handled, and what came of it is painted
+  abbrev pub Advances : EventView → Frame V → Frame V → Type 0
+  Advances e f g = (h : Frame V) × Handles e f h × Paints h g
+
+  -- the event was not handled, or what came of it is not painted
+  abbrev pub FailsToAdvance : EventView → Frame V → Frame V → Error → Type 0
+  FailsToAdvance e f g x = FailsToHandle e f g x ⊎ ((h : Frame V) × Handles e f h × FailsToPaint h g x)
+
 module _ {V : Type 0} where
-  -- the editor is closed: its mode is Inactive, and the closing batch is rendered and flushed
+  -- the editor is closed: its mode is Inactive, nothing is painted any more, and the closing batch is rendered and flushed
   pub record Closes (f g : Frame V) : Type 0 where
     pub state : g.state ≡ record f.state { mode = Inactive }
     pub value : g.value ≡ f.value
+    pub last : g.last ≡ None
     pub terminal : g.terminal ≡ record f.terminal { batches = f.terminal.batches ++ closing_if f.last; flushed = length (f.terminal.batches ++ closing_if f.last) }
 
   -- its closing batch is rendered in part
   pub record CutsClosing (f g : Frame V) : Type 0 where
     pub state : g.state ≡ record f.state { mode = Inactive }
     pub value : g.value ≡ f.value
+    pub last : g.last ≡ None
     pub terminal : (p : Mark) × (f.last ≡ Some p) × RenderFails (closing p) f.terminal g.terminal
 
   -- its closing batch is rendered, and not flushed
   pub record MissesFlush (f g : Frame V) : Type 0 where
     pub state : g.state ≡ record f.state { mode = Inactive }
     pub value : g.value ≡ f.value
+    pub last : g.last ≡ None
     pub terminal : g.terminal ≡ record f.terminal { batches = f.terminal.batches ++ closing_if f.last; failures = count_up f.terminal.failures }
 
   -- the closing was refused
   abbrev pub FailsToClose : Frame V → Frame V → Error → Type 0
   FailsToClose f g (Terminal e) = CutsClosing f g ⊎ MissesFlush f g
   FailsToClose f g _ = ⊥
+
+  -- after a refusal the editor is closed, and the answer is that refusal, or else that of the closing
+  abbrev pub GivesUp : Error → Frame V → Frame V → Error → Type 0
+  GivesUp refusal f g e = ((e ≡ refusal) × Closes f g) ⊎ FailsToClose f g e

@@ -11,8 +11,12 @@ pub mod Frame
 pub mod Lent
 pub mod Reading
 pub mod Remembering
+pub mod Feeding
 pub mod Stations
 pub mod ScreenRuns
+pub mod ScrollingRuns
+pub mod HealedRuns
+pub mod CutRuns
 pub mod HistoryLaws
 pub mod CompletionLaws
 pub use Rattle.tw_extremes.specs.Extremes

@@ -2,7 +2,7 @@
 use Rattle.std.specs.Prelude.{ℕ, Bool, true, false, List, Option, Some, None, Result, Ok, Err, String, string_bytes, option_map}
 use Rattle.std.specs.declared.alloc.Global.{Global}
 use Rattle.tw_painter.specs.Refusal.{Refusal, refusal_of}
-use Rattle.tw_painter.specs.EditState.{EditState, ModeView, Cancelled, Accepted}
+use Rattle.tw_painter.specs.EditState.{EditState, ModeView, Editing, Cancelled, Accepted, Searching}
 use Rattle.tw_line.specs.Cut.{Cut}
 use Rattle.tw_painter.specs.declared.error.Error.{Error}
 
@@ -35,3 +35,14 @@ abbrev pub is_over : ModeView → Bool
 is_over Accepted = true
 is_over Cancelled = true
 is_over _ = false
+
+-- a mode in which a line takes events
+abbrev pub is_open : ModeView → Bool
+is_open Editing = true
+is_open (Searching style direction matching) = true
+is_open _ = false
+
+-- the outcome is a refusal
+abbrev pub IsRefusal : Outcome → Type 0
+IsRefusal (Err r) = Unit {0}
+IsRefusal (Ok line) = ⊥

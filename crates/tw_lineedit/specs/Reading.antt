@@ -6,9 +6,9 @@ use Rattle.tw_host.specs.HostRules.{HostRules}
 use Rattle.tw_painter.specs.EditState.{Inactive}
 use Rattle.tw_lineedit.specs.SessionView.{initial_cut, begun}
 use Rattle.tw_painter.specs.Refusal.{refusal_of}
-use Rattle.tw_lineedit.specs.Outcomes.{Outcome}
+use Rattle.tw_lineedit.specs.Outcomes.{Outcome, IsRefusal}
 use Rattle.tw_painter.specs.Painting.{Mark, closing, closing_if}
-use Rattle.tw_lineedit.specs.Run.{Frame, Ending, Moment, want, fault, progress_of, moment, run_of, ending, CanStopFrom, IsPartOf, StandsAt, Quiet, FailsOnce}
+use Rattle.tw_lineedit.specs.Run.{Frame, Ending, Moment, want, fault, progress_of, moment, run_of, CanStopFrom, IsPartOf, IsRefusedIn}
 use Rattle.tw_painter.specs.declared.error.Error.{Error}
 use Rattle.tw_painter.specs.declared.error.Error.TheVariants.{Memory, Terminal}
 
@@ -33,6 +33,7 @@ module _ {V : Type 0} where
     pub size : g.terminal.size ≡ run.size
     pub state : g.state ≡ record run.state { mode = Inactive }
     pub value : g.value ≡ run.value
+    pub last : g.last ≡ None
     pub flushed : g.terminal.flushed ≡ length g.terminal.batches
     pub failures : g.terminal.failures ≡ f.terminal.failures
 
@@ -43,6 +44,7 @@ module _ {V : Type 0} where
     pub size : g.terminal.size ≡ m.size
     pub state : g.state ≡ record m.state { mode = Inactive }
     pub value : g.value ≡ m.value
+    pub last : g.last ≡ None
 
   -- the closing batch is whole, and all is flushed
   pub record ClosesWhole (m : Moment V) (g : Frame V) : Type 0 where
@@ -63,6 +65,26 @@ module _ {V : Type 0} where
   abbrev pub ClosesBadly : Moment V → Frame V → Frame V → Type 0
   ClosesBadly m f g = ClosesInPart m f g ⊎ ClosesUnflushed m f g
 
+-- where no call of the terminal was refused before the closing, in a run with this ending that memory can stop at these moments
+abbrev pub HaltsIn : {V : Type 0} → Ending V → (Moment V → Type 0) → Moment V → Type 0
+HaltsIn run Starves m = (m ≡ paused run) ⊎ (Starves m × (m.rendering ≡ None))
+
+-- the same, where nothing but a refusal ends the run
+abbrev pub HaltsRefused : {V : Type 0} → Ending V → (Moment V → Type 0) → Moment V → Type 0
+HaltsRefused run Starves m = (IsRefusal run.answer × (m ≡ paused run)) ⊎ (Starves m × (m.rendering ≡ None))
+
+-- A run from f with this ending, which memory and the terminal can stop at these moments; at the last ones no call of the terminal was refused before the closing.
+module _ {V : Type 0} (run : Ending V) (Starves Faults Halts : Moment V → Type 0) (f : Frame V) where
+  -- what a refusal of the run leaves, once it is closed
+  abbrev pub FailsIn : Frame V → Error → Type 0
+  FailsIn g (Memory e) = (m : Moment V) × Starves m × (m.rendering ≡ None) × ClosesWhole m g
+      × (g.terminal.failures ≡ f.terminal.failures)
+  FailsIn g (Terminal e) = (m : Moment V) × (
+      (Faults m × ClosesWhole m g × (g.terminal.failures ≡ count_up f.terminal.failures))
+      ⊎ ((Faults m × ClosesBadly m f g × (g.terminal.failures ≡ count_up (count_up f.terminal.failures)))
+      ⊎ (Halts m × ClosesBadly m f g × (g.terminal.failures ≡ count_up f.terminal.failures))))
+  FailsIn g e = Reads run f g (Err (refusal_of e))
+
 -- A call on f with an initial value.
 module _ {V : Type 0} (rules : HostRules V) (initial : Option (List ℕ)) (f : Frame V) where
   -- where memory can be refused
@@ -75,23 +97,15 @@ module _ {V : Type 0} (rules : HostRules V) (initial : Option (List ℕ)) (f : F
 
   -- where no call of the terminal was refused before the closing
   abbrev pub Halts : Moment V → Type 0
-  Halts m = (m ≡ paused (run_of rules (start initial f))) ⊎ (Starves m × (m.rendering ≡ None))
+  Halts m = HaltsIn (run_of rules (start initial f)) Starves m
 
   -- what a refused call leaves
   abbrev pub FailsToRead : Frame V → Error → Type 0
-  FailsToRead g (Memory e) = (m : Moment V) × Starves m × (m.rendering ≡ None) × ClosesWhole m g
-      × (g.terminal.failures ≡ f.terminal.failures)
-  FailsToRead g (Terminal e) = (m : Moment V) × (
-      (Faults m × ClosesWhole m g × (g.terminal.failures ≡ count_up f.terminal.failures))
-      ⊎ ((Faults m × ClosesBadly m f g × (g.terminal.failures ≡ count_up (count_up f.terminal.failures)))
-      ⊎ (Halts m × ClosesBadly m f g × (g.terminal.failures ≡ count_up f.terminal.failures))))
-  FailsToRead g e = Reads (run_of rules (start initial f)) f g (Err (refusal_of e))
+  FailsToRead g e = FailsIn (run_of rules (start initial f)) Starves Faults Halts f g e
 
   -- what a refusal leaves, before the closing
   abbrev pub IsTurnedDown : Frame V → Error → Type 0
-  IsTurnedDown g (Memory e) = ((m : Moment V) × Starves m × (m.rendering ≡ None) × StandsAt m g) × Quiet f g
-  IsTurnedDown g (Terminal e) = ((m : Moment V) × Faults m × StandsAt m g) × FailsOnce f g
-  IsTurnedDown g e = (run_of rules (start initial f) ≡ ending (Err (refusal_of e)) g) × Quiet f g
+  IsTurnedDown g e = IsRefusedIn (run_of rules (start initial f)) Starves Faults f g e
 
 -- A terminal fault is answered where the count of failures rose or could not rise, and else the count is as it was.
 abbrev pub FailuresTell : {A : Type 0} → Result A Error → ℕ → ℕ → Type 0

@@ -1,5 +1,5 @@
 -- The run of an editor over a list of events, and the moments at which it can be stopped.
-use Rattle.std.specs.Prelude.{◌≡◌, ◌<◌, ◌++◌, ◌∷◌, [], ◌⊎◌, cond, true, false, length, List, Option, Some, None, Result, Ok, Err}
+use Rattle.std.specs.Prelude.{◌≡◌, ◌++◌, ◌∷◌, [], ◌⊎◌, cond, true, false, List, Option, Some, None, Result, Ok, Err}
 use Rattle.tw_surface.specs.ChangeView.{Batch}
 use Rattle.tw_input.specs.EventView.{EventView}
 use Rattle.tw_terminal.specs.TerminalState.{TerminalState, count_up, size_after, IsPart}
@@ -182,36 +182,17 @@ module _ {V : Type 0} where
     pub flushed : g.terminal.flushed ≡ f.terminal.flushed
     pub failures : g.terminal.failures ≡ count_up f.terminal.failures
 
+  -- What a refusal of a run leaves, before the closing: the run has this ending, and memory and the terminal can stop it at these moments.
+  module _ (run : Ending V) (Starves Faults : Moment V → Type 0) (f : Frame V) where
+    abbrev pub IsRefusedIn : Frame V → Error → Type 0
+    IsRefusedIn g (Memory e) = ((m : Moment V) × Starves m × (m.rendering ≡ None) × StandsAt m g) × Quiet f g
+    IsRefusedIn g (Terminal e) = ((m : Moment V) × Faults m × StandsAt m g) × FailsOnce f g
+    IsRefusedIn g e = (run ≡ ending (Err (refusal_of e)) g) × Quiet f g
+
 module _ {V : Type 0} (rules : HostRules V) where
-  -- the run from f was stopped at g, with nothing being rendered
-  abbrev pub IsStarved : Frame V → Frame V → Type 0
-  IsStarved f g = (m : Moment V) × CanStopFrom rules want f m × (m.rendering ≡ None) × StandsAt m g
-
-  -- the run from f was stopped at g by a fault
-  abbrev pub IsFaulted : Frame V → Frame V → Type 0
-  IsFaulted f g = (m : Moment V) × CanStopFrom rules fault f m × StandsAt m g
-
-  -- what a refusal leaves, before the closing
+  -- what a refusal of the run from f leaves, before the closing
   abbrev pub IsRefused : Frame V → Frame V → Error → Type 0
-  IsRefused f g (Memory e) = IsStarved f g × Quiet f g
-  IsRefused f g (Terminal e) = IsFaulted f g × FailsOnce f g
-  IsRefused f g e = (run_of rules f ≡ ending (Err (refusal_of e)) g) × Quiet f g
-
-  -- the run from f leads to g: it goes on from g as it does from f
-  pub record Follows (f g : Frame V) : Type 0 where
-    pub run : run_of rules f ≡ run_of rules g
-    pub stops : (c : Cause) (m : Moment V) → CanStopFrom rules c g m → CanStopFrom rules c f m
-    pub quiet : Quiet f g
-
-  pub record Continues (f g : Frame V) : Type 0 where
-    pub follows : Follows f g
-    pub fewer : length g.terminal.events < length f.terminal.events
-
-  -- the run from f ends at g without refusal
-  pub record IsEnded (f g : Frame V) : Type 0 where
-    pub run : run_of rules f ≡ ending (answer_at g.state) g
-    pub stops : IsLine (answer_at g.state) → CanStopFrom rules want f (moment None g.terminal.events (progress_of g))
-    pub quiet : Quiet f g
+  IsRefused f g e = IsRefusedIn (run_of rules f) (CanStopFrom rules want f) (CanStopFrom rules fault f) f g e
 
   -- the run from f ends at g with this answer
   pub record IsAnswered (f g : Frame V) (answer : Outcome) : Type 0 where

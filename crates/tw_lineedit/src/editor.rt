@@ -14,13 +14,20 @@ ghost use Rattle.tw_lineedit.specs.Outcomes.{outcome_of, answer_at, IsLine};
 ghost use Rattle.tw_painter.specs.Painting.{closing, clear_batch};
 ghost use Rattle.tw_lineedit.specs.SessionView.{new_session, on_state};
 ghost use Rattle.tw_painter.specs.Refusal.{IsMemory};
-ghost use Rattle.tw_lineedit.specs.Run.{progress_of, resolved, run_of, IsRefused, IsAnswered, Continues, IsEnded};
+ghost use Rattle.tw_lineedit.specs.Run.{progress_of, resolved, run_of, IsAnswered};
 ghost use Rattle.tw_lineedit.specs.Lent.{EndsAs, editor_row};
-ghost use Rattle.tw_lineedit.specs.Frame.{frame, Keeps, Closes, FailsToClose, CallFails, ShowsBatch, FailsToShow, Paints, FailsToPaint, Applies, FailsToApply, Handles, FailsToHandle, answered_frame, TakesEvent, HasNoEvent};
+ghost use Rattle.tw_lineedit.specs.Frame.{frame, Keeps, Closes, FailsToClose, CallFails, ShowsBatch, FailsToShow, Paints, FailsToPaint, Applies, FailsToApply, Handles, FailsToHandle, answered_frame, TakesEvent, HasNoEvent, Advances, FailsToAdvance, GivesUp};
+ghost use Rattle.tw_lineedit.specs.Feeding.{Begins, IsNotBegun, IsRefusedOn, Continues, IsEnded, IsAnsweredOn};
 ghost use Rattle.tw_lineedit.specs.ScreenRuns.{FirstIsFresh, LaterIsFresh, ClearedIsFresh, ClosesBelow};
+ghost use Rattle.tw_lineedit.specs.ScrollingRuns.{ScrolledIsFresh, ScrolledCloses};
+ghost use Rattle.tw_lineedit.specs.CutRuns.{CutCloses, CutIsFresh};
+ghost use Rattle.tw_lineedit.specs.HealedRuns.{HealedIsFresh, HealedCloses};
 ghost use Rattle.tw_lineedit.specs.Reading.{start, Reads, FailsToRead, IsTurnedDown, FailuresTell};
 
+mod feeding;
+
 use crate::session::Session;
+pub use feeding::LineStatus;
 use std::alloc::{AllocError, Global};
 use tw_host::{Action, LineEditorHost, default_action};
 use tw_input::InputEvent;
@@ -227,21 +234,31 @@ impl<'term, T: Terminal> LineEditor<'term, T> {
         self.session.resolve(host, event)
     }
 
-    /// Paints, and then takes and handles an event. It answers false where the run ends.
+    /// Handles the event, and paints.
+    #[tactic(auto, using(crate::proofs::FeedingLemmas::advances_if, crate::proofs::FeedingLemmas::stays_if))]
+    fn advance<H: LineEditorHost>(&mut self, host: &mut H, event: &InputEvent) -> Result<(), Error>
+        ensures same_reference { self.new.terminal.ghost_name ≡ self.old.terminal.ghost_name }
+        ensures ok { OnOk result (Advances H.rules (event_view event.now) (frame T.state H.value self.old host.old) (frame T.state H.value self.new host.new)) }
+        ensures err { IfErr result (FailsToAdvance H.rules (event_view event.now) (frame T.state H.value self.old host.old) (frame T.state H.value self.new host.new)) }
+    {
+        self.handle(host, event)?;
+        self.paint(host)
+    }
+
+    /// Takes an event, handles it, and paints. It answers false where the run ends.
     fn turn<H: LineEditorHost>(&mut self, host: &mut H) -> Result<bool, Error>
         ensures same_reference { self.new.terminal.ghost_name ≡ self.old.terminal.ghost_name }
         ensures ok { IfOk result (λ more. MatchBool more
             (Continues H.rules (frame T.state H.value self.old host.old) (frame T.state H.value self.new host.new))
             (IsEnded H.rules (frame T.state H.value self.old host.old) (frame T.state H.value self.new host.new))) }
-        ensures err { IfErr result (IsRefused H.rules (frame T.state H.value self.old host.old) (frame T.state H.value self.new host.new)) }
+        ensures err { IfErr result (IsRefusedOn H.rules (T.state self.old.terminal.now).events (frame T.state H.value self.old host.old) (frame T.state H.value self.new host.new)) }
     {
-        self.paint(host)?;
         if self.session.is_over() {
             return Ok(false);
         }
         match self.poll(host)? {
             Some(event) => {
-                self.handle(host, &event)?;
+                self.advance(host, &event)?;
                 Ok(true)
             }
             None => Ok(false),
@@ -249,11 +266,11 @@ impl<'term, T: Terminal> LineEditor<'term, T> {
     }
 
     /// Takes events up to the end of the run, and answers with a copy of the line.
-    #[tactic(auto, using(crate::proofs::TurnLemmas::ended_later, crate::proofs::TurnLemmas::not_copied))]
-    fn answer<H: LineEditorHost>(&mut self, host: &mut H) -> Result<Option<String>, Error>
+    #[tactic(auto, using(crate::proofs::TurnLemmas::ended_later, crate::proofs::TurnLemmas::not_copied_if))]
+    fn take_events<H: LineEditorHost>(&mut self, host: &mut H) -> Result<Option<String>, Error>
         ensures same_reference { self.new.terminal.ghost_name ≡ self.old.terminal.ghost_name }
-        ensures ok { IfOk result (λ it. IsAnswered H.rules (frame T.state H.value self.old host.old) (frame T.state H.value self.new host.new) (outcome_of (Ok it))) }
-        ensures err { IfErr result (IsRefused H.rules (frame T.state H.value self.old host.old) (frame T.state H.value self.new host.new)) }
+        ensures ok { IfOk result (λ it. IsAnsweredOn H.rules (frame T.state H.value self.old host.old) (frame T.state H.value self.new host.new) (outcome_of (Ok it))) }
+        ensures err { IfErr result (IsRefusedOn H.rules (T.state self.old.terminal.now).events (frame T.state H.value self.old host.old) (frame T.state H.value self.new host.new)) }
     {
         while self.turn(host)? {}
         self.answered(host)
@@ -290,14 +307,13 @@ impl<'term, T: Terminal> LineEditor<'term, T> {
         self.show(host, &painted.closing_batch())
     }
 
-    /// Ends the run: the mode is Inactive, and the closing batch is rendered and flushed.
+    /// Ends the run: the mode is Inactive, nothing counts as painted, and the closing batch is rendered and flushed.
     fn close<H: LineEditorHost>(&mut self, host: &H) -> Result<(), Error>
         ensures same_reference { self.new.terminal.ghost_name ≡ self.old.terminal.ghost_name }
         ensures ok { OnOk result (Closes (frame T.state H.value self.old host.now) (frame T.state H.value self.new host.now)) }
         ensures err { IfErr result (FailsToClose (frame T.state H.value self.old host.now) (frame T.state H.value self.new host.now)) }
     {
-        self.session.end();
-        match self.session.painted() {
+        match self.session.end() {
             None => self.flush(host),
             Some(painted) => {
                 self.show_closing(host, painted)?;
@@ -324,8 +340,25 @@ impl<'term, T: Terminal> LineEditor<'term, T> {
         }
     }
 
+    /// Begins a line and paints it.
+    #[tactic(auto, using(crate::proofs::FeedingLemmas::begins_if, crate::proofs::FeedingLemmas::not_begun_if))]
+    fn start_line<H: LineEditorHost>(
+        &mut self,
+        host: &H,
+        initial: Option<&str>,
+    ) -> Result<(), Error>
+        ensures same_reference { self.new.terminal.ghost_name ≡ self.old.terminal.ghost_name }
+        ensures ok { OnOk result (Begins H.rules (start (option_map (λ s. s.now) initial.entry) (frame T.state H.value self.old host.now)) (frame T.state H.value self.new host.now)) }
+        ensures err { IfErr result (IsNotBegun H.rules (option_map (λ s. s.now) initial.entry) (frame T.state H.value self.old host.now) (frame T.state H.value self.new host.now)) }
+    {
+        match self.begin(host, initial) {
+            Ok(()) => self.paint(host),
+            Err(e) => Err(Error::Memory(e)),
+        }
+    }
+
     /// Reads a line, all up to the closing.
-    #[tactic(auto, using(crate::proofs::ClosingLemmas::begun_refused))]
+    #[tactic(auto, using(crate::proofs::TurnLemmas::answered_begun, crate::proofs::FeedingLemmas::turned_down))]
     fn started<H: LineEditorHost>(
         &mut self,
         host: &mut H,
@@ -335,14 +368,23 @@ impl<'term, T: Terminal> LineEditor<'term, T> {
         ensures ok { IfOk result (λ it. IsAnswered H.rules (start (option_map (λ s. s.now) initial.entry) (frame T.state H.value self.old host.old)) (frame T.state H.value self.new host.new) (outcome_of (Ok it))) }
         ensures err { IfErr result (IsTurnedDown H.rules (option_map (λ s. s.now) initial.entry) (frame T.state H.value self.old host.old) (frame T.state H.value self.new host.new)) }
     {
-        match self.begin(host, initial) {
-            Ok(()) => self.answer(host),
-            Err(e) => Err(Error::Memory(e)),
+        self.start_line(host, initial)?;
+        self.take_events(host)
+    }
+
+    /// Closes after a refusal, and answers it, or else why the closing is refused.
+    fn give_up<H: LineEditorHost>(&mut self, host: &H, refusal: Error) -> Error
+        ensures same_reference { self.new.terminal.ghost_name ≡ self.old.terminal.ghost_name }
+        ensures gives_up { GivesUp refusal (frame T.state H.value self.old host.now) (frame T.state H.value self.new host.now) result }
+    {
+        match self.close(host) {
+            Ok(()) => refusal,
+            Err(fault) => fault,
         }
     }
 
     /// Reads a line and closes, whether it was refused or not.
-    #[tactic(auto, using(crate::proofs::ClosingLemmas::refused_unclosed, crate::proofs::ClosingLemmas::refused_closed))]
+    #[tactic(auto, using(crate::proofs::ClosingLemmas::call_given_up, crate::proofs::ClosingLemmas::answered_closed))]
     fn read<H: LineEditorHost>(
         &mut self,
         host: &mut H,
@@ -357,10 +399,7 @@ impl<'term, T: Terminal> LineEditor<'term, T> {
                 self.close(host)?;
                 Ok(line)
             }
-            Err(refusal) => {
-                self.close(host)?;
-                Err(refusal)
-            }
+            Err(refusal) => Err(self.give_up(host, refusal)),
         }
     }
 
@@ -385,6 +424,12 @@ impl<'term, T: Terminal> LineEditor<'term, T> {
         ensures later_painting { LaterIsFresh H.rules (start (option_map (λ s. s.now) initial_value.entry) (frame T.state H.value self.old host.old)) }
         ensures cleared_painting { ClearedIsFresh H.rules (start (option_map (λ s. s.now) initial_value.entry) (frame T.state H.value self.old host.old)) }
         ensures closing_batch { ClosesBelow H.rules (start (option_map (λ s. s.now) initial_value.entry) (frame T.state H.value self.old host.old)) }
+        ensures scrolled_painting { ScrolledIsFresh H.rules (start (option_map (λ s. s.now) initial_value.entry) (frame T.state H.value self.old host.old)) }
+        ensures scrolled_closing { ScrolledCloses H.rules (start (option_map (λ s. s.now) initial_value.entry) (frame T.state H.value self.old host.old)) }
+        ensures healed_painting { HealedIsFresh H.rules (start (option_map (λ s. s.now) initial_value.entry) (frame T.state H.value self.old host.old)) }
+        ensures healed_closing { HealedCloses H.rules (start (option_map (λ s. s.now) initial_value.entry) (frame T.state H.value self.old host.old)) }
+        ensures cut_painting { CutIsFresh H.rules (start (option_map (λ s. s.now) initial_value.entry) (frame T.state H.value self.old host.old)) }
+        ensures cut_closing { CutCloses H.rules (start (option_map (λ s. s.now) initial_value.entry) (frame T.state H.value self.old host.old)) }
         ensures failures { FailuresTell result (T.state self.old.terminal.now).failures (T.state self.new.terminal.now).failures }
     {
         if !self.session.is_inactive() {
@@ -404,6 +449,12 @@ impl<'term, T: Terminal> LineEditor<'term, T> {
         ensures later_painting { LaterIsFresh H.rules (start None (frame T.state H.value self.old host.old)) }
         ensures cleared_painting { ClearedIsFresh H.rules (start None (frame T.state H.value self.old host.old)) }
         ensures closing_batch { ClosesBelow H.rules (start None (frame T.state H.value self.old host.old)) }
+        ensures scrolled_painting { ScrolledIsFresh H.rules (start None (frame T.state H.value self.old host.old)) }
+        ensures scrolled_closing { ScrolledCloses H.rules (start None (frame T.state H.value self.old host.old)) }
+        ensures healed_painting { HealedIsFresh H.rules (start None (frame T.state H.value self.old host.old)) }
+        ensures healed_closing { HealedCloses H.rules (start None (frame T.state H.value self.old host.old)) }
+        ensures cut_painting { CutIsFresh H.rules (start None (frame T.state H.value self.old host.old)) }
+        ensures cut_closing { CutCloses H.rules (start None (frame T.state H.value self.old host.old)) }
         ensures failures { FailuresTell result (T.state self.old.terminal.now).failures (T.state self.new.terminal.now).failures }
     {
         self.read_line_with_optional_initial_value(host, None)

@@ -3,12 +3,14 @@
 ghost use Rattle.tw_lineedit.specs.CompletionLaws.{GoesRound};
 ghost use Rattle.tw_lineedit.specs.HistoryLaws.{Enumerates, LeavesHistory, WalksBack};
 ghost use Rattle.tw_lineedit.specs.ScreenRuns.{CallsStack};
+ghost use Rattle.tw_lineedit.specs.ScrollingRuns.{ScrolledCallsStack};
 ghost use Rattle.tw_lineedit.specs.Stations.{BatchesByStations};
 
 pub use tw_history::laws::{equality, searches};
 use tw_host::LineEditorHost;
 pub use tw_host::laws::{key_table, own_answers};
 pub use tw_line::laws::{counts, steps};
+pub use tw_painter::laws::faithful;
 
 /// The batches that a run takes are a function of its stations alone: the states, the host's values and the
 /// sizes at which it paints, and whether the screen was cleared just before.
@@ -38,4 +40,10 @@ pub fn cycle<H: LineEditorHost>()
 /// and changes nothing of that.
 pub fn stacking<H: LineEditorHost>()
     ensures { CallsStack H.rules }
+{}
+
+/// Calls stack on a screen that scrolls: what a second call paints is fresh, and what the first one left is as
+/// it was, moved up.
+pub fn scrolled_stacking<H: LineEditorHost>()
+    ensures { ScrolledCallsStack H.rules }
 {}

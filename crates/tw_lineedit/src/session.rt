@@ -7,7 +7,7 @@ ghost use Rattle.tw_input.specs.EventView.{event_view};
 ghost use Rattle.tw_host.specs.ActionView.{action_view};
 ghost use Rattle.tw_line.specs.Cut.{cut_at, empty_cut};
 ghost use Rattle.tw_painter.specs.EditState.{Inactive as InactiveView};
-ghost use Rattle.tw_lineedit.specs.Outcomes.{outcome_of, answer_at, IsLine, is_over};
+ghost use Rattle.tw_lineedit.specs.Outcomes.{outcome_of, answer_at, IsLine, is_over, is_open};
 ghost use Rattle.tw_painter.specs.Painting.{painted_on, scene_of, shown_in, rendered};
 ghost use Rattle.tw_painter.specs.Draws.{IsUnpainted};
 
@@ -140,18 +140,18 @@ impl Session {
         matches!(self.mode, Mode::Inactive)
     }
 
+    /// Whether a line takes events.
+    pub(crate) fn is_open(&self) -> bool
+        ensures { result ≡ is_open self.now.state.mode }
+    {
+        matches!(self.mode, Mode::Editing | Mode::Searching { .. })
+    }
+
     /// Whether the line was accepted or the run cancelled.
     pub(crate) fn is_over(&self) -> bool
         ensures { result ≡ is_over self.now.state.mode }
     {
         matches!(self.mode, Mode::Accepted | Mode::Cancelled)
-    }
-
-    /// The last painting, if there was one.
-    pub(crate) fn painted(&self) -> Option<Painted>
-        ensures { result ≡ self.now.last }
-    {
-        self.painted
     }
 
     /// Remembers the last painting.
@@ -173,11 +173,13 @@ impl Session {
         self.painted = None;
     }
 
-    /// Ends a run.
-    pub(crate) fn end(&mut self)
-        ensures { self.new ≡ on_state (λ state. record state { mode = InactiveView }) self.old }
+    /// Ends a run, and forgets its last painting, which it answers.
+    pub(crate) fn end(&mut self) -> Option<Painted>
+        ensures session { self.new ≡ record { state = record self.old.state { mode = InactiveView }; last = None } }
+        ensures painted { result ≡ self.old.last }
     {
         self.mode = Mode::Inactive;
+        self.painted.take()
     }
 
     /// Applies an action to the state. A `Repaint` changes nothing in it. An edit, a movement, and a step

@@ -1,4 +1,5 @@
 pub mod Refusal
 pub mod EditState
 pub mod Painting
+pub mod FaithfulLaws
 pub mod Draws

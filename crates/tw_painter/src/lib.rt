@@ -2,6 +2,7 @@
 #![tactic(auto)]
 
 mod error;
+pub mod laws;
 mod painter;
 
 pub use error::Error;

@@ -1,20 +1,14 @@
 -- What is left of cells in order after a clear, and their last row.
-use Rattle.std.proofs.Common.{◌≡◌, ◌≢◌, ℕ, ◌+◌, ◌-◌, ◌<◌, ◌≤◌, List, [], length, take, drop, refl, sym, ap, ◌∙◌, arith, ◌⊎◌, inl, inr, Some, Result, Ok, Err, IfOk, IfErr}
+use Rattle.std.proofs.Common.{◌≡◌, ◌≢◌, ℕ, ◌+◌, ◌*◌, ◌-◌, ◌<◌, ◌≤◌, List, [], length, take, drop, refl, sym, ap, ◌∙◌, arith, inl, inr, Some}
 use Rattle.std.specs.List.{All}
 use Rattle.std.proofs.Math.Path.{fun_ext}
 use Rattle.std.proofs.lemmas.Bool.{cases_eq, cases_lt, cases_order, eq-eqb, ne_eqb, lt-ltb, le-ltb, le-leb, lt-leb}
 use Rattle.std.proofs.lemmas.List.{get_or-take, get_or-drop, length-take-le, length-drop, take-append-drop, append-nil}
 use Rattle.std.proofs.lemmas.List.Elements.{All-take}
-use Rattle.tw_surface.specs.declared.screen.Cell.{Cell}
+use Rattle.tw_surface.specs.declared.screen.far.Cell.{Cell}
 use Rattle.tw_surface.specs.Pictures.{blank, cleared}
-use Rattle.tw_surface.specs.Cells.{cell_in, cell_at, IsBefore, IsInOrder, IsAt, IsGapFor, IsSparse, IsLastRow}
+use Rattle.tw_surface.specs.Cells.{cell_in, cell_at, IsBefore, IsInOrder, IsAt, IsGapFor, IsCut, IsSparse, IsLastRow}
 use Rattle.tw_surface.proofs.CellLookups.{StandsAt, cell_in-none, cell_in-same_front, before_found, behind_found, cell_in_at}
-
--- the cells below index i stand before a row and a column, and the others do not
-pub record IsCut (cells : List Cell) (row col i : ℕ) : Type 0 where
-  pub in_range : i ≤ length cells
-  pub before : (k : ℕ) → k < i → IsBefore (cell_at cells k).row (cell_at cells k).col row col
-  pub from : (k : ℕ) → i ≤ k → k < length cells → IsBefore (cell_at cells k).row (cell_at cells k).col row col → ⊥
 
 -- two places do not stand before each other
 not_both_before : (r c row col : ℕ) → IsBefore r c row col → IsBefore row col r c → ⊥
@@ -41,15 +35,6 @@ cut_at_gap cells row col i gap = record {
   before = gap.before;
   from = λ k le below earlier. not_both_before _ _ row col earlier (gap.behind k le below);
 }
-
--- so they are cut where a search ends
-pub cut_at_search : (cells : List Cell) → IsInOrder cells → (row col : ℕ) (r : Result ℕ ℕ) → IfOk r (IsAt cells row col) → IfErr r (IsGapFor cells row col)
-    → (i : ℕ) → (r ≡ Ok i) ⊎ (r ≡ Err i) → IsCut cells row col i
-cut_at_search cells ordered row col r found absent i ends =
-    elim ends [
-      | inl e ↦ cut_at cells ordered row col i (rw e at found)
-      | inr e ↦ cut_at_gap cells row col i (rw e at absent)
-    ]
 
 module _ (cells : List Cell) (row col i : ℕ) (cut : IsCut cells row col i) where
   -- before the place, the cells show what they showed
@@ -90,18 +75,20 @@ module _ (cells : List Cell) (row col i : ℕ) (cut : IsCut cells row col i) whe
   pub cleared_take : cell_in (take i cells) ≡ cleared (cell_in cells) row col
   cleared_take = fun_ext (λ r. fun_ext (λ c. cleared_at r c))
 
-  pub sparse_take : (width : ℕ) → IsSparse width cells → IsSparse width (take i cells)
-  sparse_take width sparse = record {
+  pub sparse_take : (width first : ℕ) → IsSparse width first cells → IsSparse width first (take i cells)
+  sparse_take width first sparse = record {
     ordered = λ a b d below within.
         let size : length (take i cells) ≡ i = length-take-le i cells cut.in_range in
         rw (get_or-take i cells a d (omega arith), get_or-take i cells b d (omega arith)) (sparse.ordered a b d below (omega (arith, cut.in_range)));
     inside = All-take (λ x. x.col < width) i cells sparse.inside;
     visible = All-take (λ x. x.ch ≢ blank) i cells sparse.visible;
+    ascii = All-take (λ x. x.ch < 128) i cells sparse.ascii;
+    behind = All-take (λ x. first ≤ x.row * width + x.col) i cells sparse.behind;
   }
 
 -- from the width on, a blank
-pub blank_outside : (width : ℕ) (cells : List Cell) (row col : ℕ) → IsSparse width cells → width ≤ col → cell_in cells row col ≡ blank
-blank_outside width cells row col sparse outside = cell_in-none cells row col (λ k below there. omega (arith, sparse.inside k (record { row = 0; col = 0; ch = 0 }) below, there.col_is))
+pub blank_outside : (width first : ℕ) (cells : List Cell) (row col : ℕ) → IsSparse width first cells → width ≤ col → cell_in cells row col ≡ blank
+blank_outside width first cells row col sparse outside = cell_in-none cells row col (λ k below there. omega (arith, sparse.inside k (record { row = 0; col = 0; ch = 0 }) below, there.col_is))
 
 -- the last cell stands in the last row
 pub last_row_is : (cells : List Cell) → IsInOrder cells → All (λ x. x.ch ≢ blank) cells → 0 < length cells → IsLastRow (cell_in cells) (Some (cell_at cells (length cells - 1)).row)
@@ -116,3 +103,25 @@ last_row_is cells ordered visible some =
             | inr other ↦ let earlier = before_found cells ordered last.row last.col i at k (omega arith) in omega (arith, earlier.rows, there.row_is)
           ]),
     )
+
+-- in a row, all behind the last cell before the width is blank
+pub blank_behind : (width first : ℕ) (cells : List Cell) (row col end : ℕ) → IsSparse width first cells → IsCut cells row width end
+    → ((0 < end) → (cell_at cells (end - 1)).row ≡ row → (cell_at cells (end - 1)).col < col) → cell_in cells row col ≡ blank
+blank_behind width first cells row col end sparse cut last = cell_in-none cells row col (λ k within there.
+    let inside : (cell_at cells k).col < width = sparse.inside k (record { row = 0; col = 0; ch = 0 }) within in
+    elim (cases_lt k end) [
+      | inr past ↦ cut.from k past within (record { rows = omega (arith, there.row_is); columns = λ e. inside })
+      | inl low ↦
+          let at_last = cut.before (end - 1) (omega arith) in
+          elim (cases_eq k (end - 1)) [
+            | inl same ↦
+                let behind = last (omega arith) (rw same at there.row_is) in
+                let col_is : (cell_at cells (end - 1)).col ≡ col = rw same at there.col_is in
+                omega (arith, behind, col_is)
+            | inr other ↦
+                let before : IsBefore (cell_at cells k).row (cell_at cells k).col (cell_at cells (end - 1)).row (cell_at cells (end - 1)).col = sparse.ordered k (end - 1) _ (omega arith) (omega (arith, cut.in_range)) in
+                let row_is : (cell_at cells (end - 1)).row ≡ row = omega (arith, before.rows, at_last.rows, there.row_is) in
+                let behind = last (omega arith) row_is in
+                omega (arith, behind, before.columns (there.row_is ∙ sym row_is), there.col_is)
+          ]
+    ])

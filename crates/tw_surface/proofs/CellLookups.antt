@@ -1,7 +1,9 @@
 -- What a list of cells shows at a row and a column.
-use Rattle.std.proofs.Common.{◌≡◌, ℕ, zero, suc, ◌<◌, List, [], ◌∷◌, ◌++◌, length, refl, ◌∙◌, arith, inl, inr}
+use Rattle.std.proofs.Common.{◌≡◌, ℕ, true, false, cond, eqb, ◌&&◌, zero, suc, ◌<◌, List, [], ◌∷◌, ◌++◌, length, refl, ◌∙◌, arith, inl, inr}
 use Rattle.std.proofs.lemmas.Bool.{cases_eq, cases_lt, eq-eqb, ne_eqb}
-use Rattle.tw_surface.specs.declared.screen.Cell.{Cell}
+use Rattle.std.specs.List.{All}
+use Rattle.std.proofs.lemmas.List.Elements.{All-head, All-tail}
+use Rattle.tw_surface.specs.declared.screen.far.Cell.{Cell}
 use Rattle.tw_surface.specs.Pictures.{blank}
 use Rattle.tw_surface.specs.Cells.{cell_in, cell_at, IsBefore, IsInOrder, IsAt, IsGapFor}
 
@@ -83,3 +85,12 @@ module _ (cells : List Cell) (row col i : ℕ) (gap : IsGapFor cells row col i) 
   -- a look-up that finds a gap
   pub cell_in_gap : cell_in cells row col ≡ blank
   cell_in_gap = cell_in-none cells row col none_at_gap
+
+-- a look-up gives a character of ASCII where all cells are
+pub cell_ascii : (cells : List Cell) → All (λ x. x.ch < 128) cells → (row col : ℕ) → cell_in cells row col < 128
+cell_ascii [] all row col = omega arith
+cell_ascii (cell ∷ cells) all row col =
+    elim (eqb cell.row row && eqb cell.col col) as (λ b. cond b cell.ch (cell_in cells row col) < 128) [
+      | true ↦ All-head (λ x. x.ch < 128) cell cells all
+      | false ↦ cell_ascii cells (All-tail (λ x. x.ch < 128) cell cells all) row col
+    ]

@@ -7,7 +7,7 @@ use Rattle.std.specs.Ordering.{nat_cmp, ordering_index, ordering_then, MatchOrde
 use Rattle.std.proofs.lemmas.Bool.Decides.{nat_tests}
 use Rattle.std.proofs.lemmas.Bool.{cases_lt}
 use Rattle.std.proofs.lemmas.Cmp.{ranked, by_ranked}
-use Rattle.tw_surface.specs.declared.screen.Cell.{Cell}
+use Rattle.tw_surface.specs.declared.screen.far.Cell.{Cell}
 use Rattle.tw_surface.specs.Cells.{cell_at, IsBefore, IsInOrder, IsAt, IsGapFor}
 
 -- how a row and a column compare with others

@@ -1,5 +1,5 @@
 -- What writing and clearing do to cells in order, and to what they show.
-use Rattle.std.proofs.Common.{◌≡◌, ◌≢◌, ℕ, suc, ◌+◌, ◌-◌, ◌<◌, ◌≤◌, List, ◌∷◌, ◌++◌, length, set, take, drop, refl, sym, ap, subst, ◌∙◌, arith, inl, inr}
+use Rattle.std.proofs.Common.{◌≡◌, ◌≢◌, ℕ, suc, ◌+◌, ◌*◌, ◌-◌, ◌<◌, ◌≤◌, List, ◌∷◌, ◌++◌, length, set, take, drop, refl, sym, ap, subst, ◌∙◌, arith, inl, inr}
 use Rattle.std.specs.List.{insert, remove}
 use Rattle.std.proofs.Math.Path.{fun_ext}
 use Rattle.std.proofs.Math.Seq.{drop-cons}
@@ -8,7 +8,7 @@ use Rattle.std.proofs.lemmas.List.{get_or_default, get_or-set_same, get_or-set_o
 use Rattle.std.proofs.lemmas.List.Edits.{length-insert, get_or-insert_below, get_or-insert_at, get_or-insert_above, length-remove, get_or-remove_below, get_or-remove_above}
 use Rattle.std.proofs.lemmas.List.Elements.{All-set, All-take, All-drop, All-append, All-cons}
 use Rattle.std.proofs.lemmas.List.Quantifiers.{all_pairs_remove}
-use Rattle.tw_surface.specs.declared.screen.Cell.{Cell}
+use Rattle.tw_surface.specs.declared.screen.far.Cell.{Cell}
 use Rattle.tw_surface.specs.Pictures.{blank, written}
 use Rattle.tw_surface.specs.Cells.{cell_in, cell_at, IsBefore, IsInOrder, IsAt, IsGapFor, IsSparse}
 use Rattle.tw_surface.proofs.CellLookups.{StandsAt, cell_in-past, cell_in-same_front, before_found, behind_found, cell_in_at, cell_in_gap}
@@ -89,11 +89,13 @@ module _ (cells : List Cell) (ordered : IsInOrder cells) (row col i : ℕ) (at :
             ∙ ap (λ l. cell_in l r c) (split_around cells i at.in_range);
       })
 
-  pub sparse_set : (ch width : ℕ) → ch ≢ blank → IsSparse width cells → col < width → IsSparse width (set cells i (new_cell row col ch))
-  sparse_set ch width visible sparse inside = record {
+  pub sparse_set : (ch width first : ℕ) → ch ≢ blank → ch < 128 → IsSparse width first cells → col < width → first ≤ row * width + col → IsSparse width first (set cells i (new_cell row col ch))
+  sparse_set ch width first visible ascii sparse inside behind = record {
     ordered = ordered_set ch;
     inside = All-set (λ x. x.col < width) cells i _ inside sparse.inside;
     visible = All-set (λ x. x.ch ≢ blank) cells i _ visible sparse.visible;
+    ascii = All-set (λ x. x.ch < 128) cells i _ ascii sparse.ascii;
+    behind = All-set (λ x. first ≤ x.row * width + x.col) cells i _ behind sparse.behind;
   }
 
   -- ---- a blank where a cell stands
@@ -119,11 +121,13 @@ module _ (cells : List Cell) (ordered : IsInOrder cells) (row col i : ℕ) (at :
         cell_in-same_front (take i cells) _ _ r c (sym old_past) ∙ ap (λ l. cell_in l r c) (split_around cells i at.in_range);
   })
 
-  pub sparse_remove : (width : ℕ) → IsSparse width cells → IsSparse width (remove cells i)
-  sparse_remove width sparse = record {
+  pub sparse_remove : (width first : ℕ) → IsSparse width first cells → IsSparse width first (remove cells i)
+  sparse_remove width first sparse = record {
     ordered = ordered_remove;
     inside = let P : Cell → Type 0 = λ x. x.col < width in All-append P _ _ (All-take P i cells sparse.inside) (All-drop P (suc i) cells sparse.inside);
     visible = let P : Cell → Type 0 = λ x. x.ch ≢ blank in All-append P _ _ (All-take P i cells sparse.visible) (All-drop P (suc i) cells sparse.visible);
+    ascii = let P : Cell → Type 0 = λ x. x.ch < 128 in All-append P _ _ (All-take P i cells sparse.ascii) (All-drop P (suc i) cells sparse.ascii);
+    behind = let P : Cell → Type 0 = λ x. first ≤ x.row * width + x.col in All-append P _ _ (All-take P i cells sparse.behind) (All-drop P (suc i) cells sparse.behind);
   }
 
 -- ---- a character and a blank where no cell stands
@@ -185,9 +189,11 @@ module _ (cells : List Cell) (row col i : ℕ) (gap : IsGapFor cells row col i) 
               cell_in-same_front (take i cells) _ _ r c new_past ∙ ap (λ l. cell_in l r c) (take-append-drop i cells);
         })
 
-    pub sparse_insert : (width : ℕ) → ch ≢ blank → IsSparse width cells → col < width → IsSparse width inserted
-    sparse_insert width shown sparse within = record {
+    pub sparse_insert : (width first : ℕ) → ch ≢ blank → ch < 128 → IsSparse width first cells → col < width → first ≤ row * width + col → IsSparse width first inserted
+    sparse_insert width first shown ascii sparse within behind = record {
       ordered = ordered_insert;
       inside = let P : Cell → Type 0 = λ x. x.col < width in All-append P _ _ (All-take P i cells sparse.inside) (All-cons P _ _ within (All-drop P i cells sparse.inside));
       visible = let P : Cell → Type 0 = λ x. x.ch ≢ blank in All-append P _ _ (All-take P i cells sparse.visible) (All-cons P _ _ shown (All-drop P i cells sparse.visible));
+      ascii = let P : Cell → Type 0 = λ x. x.ch < 128 in All-append P _ _ (All-take P i cells sparse.ascii) (All-cons P _ _ ascii (All-drop P i cells sparse.ascii));
+      behind = let P : Cell → Type 0 = λ x. first ≤ x.row * width + x.col in All-append P _ _ (All-take P i cells sparse.behind) (All-cons P _ _ behind (All-drop P i cells sparse.behind));
     }

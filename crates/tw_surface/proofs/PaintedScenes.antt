@@ -409,7 +409,7 @@ cursor_place-row w scene two plain =
     ap (λ i. (i + scene.column) / w) first.tracks.x in
     omega (arith, ints, first.tracks.y, q, x)
 
-none_above : (z : ℤ) → z ≤ℤ pos 0 → at_least_0 z ≡ 0
+pub none_above : (z : ℤ) → z ≤ℤ pos 0 → at_least_0 z ≡ 0
 none_above (pos n) h = omega (arith, ints)
 none_above (negsuc n) h = refl
 

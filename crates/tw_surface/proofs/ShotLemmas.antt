@@ -22,21 +22,21 @@ are_plain : (scenes : List Scene) → All IsPlain scenes → ArePlain scenes
 are_plain [] a = tt
 are_plain (scene ∷ more) a = (a 0 scene (omega arith), are_plain more (λ k d h. a (suc k) d (omega arith)))
 
-play_batches-append : (w : ℕ) (a b : List Batch) (t : Picture) → play_batches w (a ++ b) t ≡ play_batches w b (play_batches w a t)
+pub play_batches-append : (w : ℕ) (a b : List Batch) (t : Picture) → play_batches w (a ++ b) t ≡ play_batches w b (play_batches w a t)
 play_batches-append w [] b t = refl
 play_batches-append w (batch ∷ a) b t = play_batches-append w a b (play_all w batch t)
 
 -- the painting of the scene before, if there was one
-abbrev at_scene : ℕ → Option Scene → Option Painting
+abbrev pub at_scene : ℕ → Option Scene → Option Painting
 at_scene w None = None
 at_scene w (Some scene) = Some (painting w scene)
 
 -- where the cursor is before a painting: at column 0 of row s, or where the painting of an earlier scene from row s on left it
-record Entered (w s : ℕ) (scene : Scene) (t : Picture) : Type 0 where
+pub record Entered (w s : ℕ) (scene : Scene) (t : Picture) : Type 0 where
   pub row : t.row ≡ s + cursor_row w scene
   pub plain : IsPlain scene
 
-abbrev IsReady : ℕ → ℕ → Option Scene → Picture → Type 0
+abbrev pub IsReady : ℕ → ℕ → Option Scene → Picture → Type 0
 IsReady w s None t = (t.row ≡ s) × (t.col ≡ 0)
 IsReady w s (Some scene) t = Entered w s scene t
 
@@ -78,7 +78,7 @@ first_batches w earlier scene more t =
     play_batches-append w (clearing scene.cleared) ((start_of (at_scene w earlier) ++ (painting w scene).changes) ∷ batches_after (Some (painting w scene)) (shots w more)) t
 
 -- the scenes after a painted one
-painted_more : (w s : ℕ) (scene : Scene) (more : List Scene) (t : Picture) → 2 ≤ w → IsPlain scene → ArePlain more → IsFresh w s scene t
+pub painted_more : (w s : ℕ) (scene : Scene) (more : List Scene) (t : Picture) → 2 ≤ w → IsPlain scene → ArePlain more → IsFresh w s scene t
     → Painted w (start_row s more) (last_of scene more) t (play_batches w (batches_after (Some (painting w scene)) (shots w more)) t)
 painted_more w s scene [] t two plain others fresh = record { fresh = fresh; above = λ r c h k. refl }
 painted_more w s scene (next ∷ more) t two plain others fresh =

@@ -12,19 +12,19 @@ use Rattle.tw_surface.specs.Fresh.{IsFresh, IsSameAbove, IsClosed, last_row}
 use Rattle.tw_surface.specs.Shots.{Shot, SizedScene, IsPlainAt, shot_of, scenes_of, shots, batches, closing_batch, shows, closing_of, play_batches, last_of, start_row}
 
 -- stations that are plain and for w columns
-abbrev ArePlainAt : ℕ → List SizedScene → Type 0
+abbrev pub ArePlainAt : ℕ → List SizedScene → Type 0
 ArePlainAt w [] = Unit {0}
 ArePlainAt w (x ∷ xs) = IsPlainAt w x × ArePlainAt w xs
 
-are_plain_at : (w : ℕ) (xs : List SizedScene) → All (IsPlainAt w) xs → ArePlainAt w xs
+pub are_plain_at : (w : ℕ) (xs : List SizedScene) → All (IsPlainAt w) xs → ArePlainAt w xs
 are_plain_at w [] a = tt
 are_plain_at w (x ∷ xs) a = (a 0 x (omega arith), are_plain_at w xs (λ k d h. a (suc k) d (omega arith)))
 
-plain_scenes : (w : ℕ) (xs : List SizedScene) → ArePlainAt w xs → ArePlain (scenes_of xs)
+pub plain_scenes : (w : ℕ) (xs : List SizedScene) → ArePlainAt w xs → ArePlain (scenes_of xs)
 plain_scenes w [] a = tt
 plain_scenes w (x ∷ xs) a = (a.0.1, plain_scenes w xs a.1)
 
-same_shots : (w : ℕ) (xs : List SizedScene) → ArePlainAt w xs → map shot_of xs ≡ shots w (scenes_of xs)
+pub same_shots : (w : ℕ) (xs : List SizedScene) → ArePlainAt w xs → map shot_of xs ≡ shots w (scenes_of xs)
 same_shots w [] a = refl
 same_shots w (x ∷ xs) a =
     ap (λ cols. shot cols ∷ map shot_of xs) (a.0.0) ∙ ap (λ l. shot w ∷ l) (same_shots w xs a.1)
@@ -32,7 +32,7 @@ same_shots w (x ∷ xs) a =
     shot : ℕ → Shot
     shot cols = record { painting = painting cols x.scene; cleared = x.scene.cleared }
 
-last_of-push : (first : Scene) (more : List Scene) (last : Scene) → last_of first (more ++ last ∷ []) ≡ last
+pub last_of-push : (first : Scene) (more : List Scene) (last : Scene) → last_of first (more ++ last ∷ []) ≡ last
 last_of-push first [] last = refl
 last_of-push first (next ∷ more) last = last_of-push next more last
 
@@ -42,7 +42,7 @@ run_of w e [] last t two row col plain = painted_run w e last [] t two row col p
 run_of w e (first ∷ more) last t two row col plain =
     rw (last_of-push first more last) at (painted_run w e first (more ++ last ∷ []) t two row col plain)
 
-closing_push : (w : ℕ) (scenes : List Scene) (last : Scene) → closing_of w (scenes ++ last ∷ []) ≡ closing (painting w last) ∷ []
+pub closing_push : (w : ℕ) (scenes : List Scene) (last : Scene) → closing_of w (scenes ++ last ∷ []) ≡ closing (painting w last) ∷ []
 closing_push w [] last = refl
 closing_push w (first ∷ more) last =
     closing_of-is w first (more ++ last ∷ []) ∙ ap (λ x. closing (painting w x) ∷ []) (last_of-push first more last)
@@ -51,7 +51,7 @@ last_is_plain : (scenes : List Scene) (last : Scene) → ArePlain (scenes ++ las
 last_is_plain [] last a = a.0
 last_is_plain (x ∷ xs) last a = last_is_plain xs last a.1
 
-scenes-push : (earlier : List SizedScene) (station : SizedScene) → scenes_of (earlier ++ station ∷ []) ≡ scenes_of earlier ++ station.scene ∷ []
+pub scenes-push : (earlier : List SizedScene) (station : SizedScene) → scenes_of (earlier ++ station ∷ []) ≡ scenes_of earlier ++ station.scene ∷ []
 scenes-push [] station = refl
 scenes-push (x ∷ xs) station = ap (λ l. x.scene ∷ l) (scenes-push xs station)
 

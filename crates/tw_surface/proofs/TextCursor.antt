@@ -1,11 +1,13 @@
 -- Where a text leads the cursor: by the cursor alone, and never up the screen.
-use Rattle.std.proofs.Common.{◌≡◌, ℕ, ◌+◌, ◌<◌, ◌≤◌, List, [], ◌∷◌, length, get_or, drop, refl, sym, ap, ◌∙◌, arith, inl, inr}
+use Rattle.std.proofs.Common.{◌≡◌, ℕ, ◌+◌, ◌*◌, cond, eqb, ◌<◌, ◌≤◌, List, [], ◌∷◌, length, count_by, get_or, drop, refl, sym, ap, ◌∙◌, arith, inl, inr}
 use Rattle.std.proofs.lemmas.Bool.{cases_eq, eq-eqb, ne_eqb}
 use Rattle.std.proofs.lemmas.List.{at_drop_more}
-use Rattle.tw_surface.specs.declared.screen.Cell.{Cell}
+use Rattle.tw_surface.specs.declared.screen.far.Cell.{Cell}
+use Rattle.std.proofs.lemmas.List.Sums.{sum_by-cons}
 use Rattle.tw_surface.specs.Characters.{cr, lf}
 use Rattle.tw_surface.specs.Pictures.{Picture, put, play_char, play_text}
-use Rattle.tw_surface.specs.Cells.{picture_of}
+use Rattle.tw_surface.specs.Cells.{picture_of, reach_of}
+use Rattle.std.proofs.Math.Nat.{add-mul, one-mul}
 use Rattle.tw_surface.specs.Pictures.{cursor_at}
 
 -- a picture with its cells left out
@@ -66,6 +68,60 @@ text-row width (ch ∷ text) s =
     let more : (play_char width ch s).row ≤ (play_text width text (play_char width ch s)).row = text-row width text (play_char width ch s) in
     omega arith
 
+-- a printable character leads at most one row down
+put-row-most : (width ch : ℕ) (s : Picture) → (put width ch s).row ≤ s.row + 1
+put-row-most width ch s =
+    elim (cases_eq s.col width) [
+      | inl e ↦ rw (eq-eqb s.col width e) (omega arith)
+      | inr n ↦ rw (ne_eqb s.col width n) (omega arith)
+    ]
+
+-- so does any character
+char-row-most : (width ch : ℕ) (s : Picture) → (play_char width ch s).row ≤ s.row + 1
+char-row-most width ch s =
+    elim (cases_eq ch cr) [
+      | inl e ↦ rw (eq-eqb ch cr e) (omega arith)
+      | inr n ↦ elim (cases_eq ch lf) [
+        | inl e ↦ rw (ne_eqb ch cr n, eq-eqb ch lf e) (omega arith)
+        | inr m ↦ rw (ne_eqb ch cr n, ne_eqb ch lf m) (put-row-most width ch s)
+      ]
+    ]
+
+-- and a text at most one for each of its characters
+pub text_row_most : (width : ℕ) (text : List ℕ) (s : Picture) → (play_text width text s).row ≤ s.row + length text
+text_row_most width [] s = omega arith
+text_row_most width (ch ∷ text) s =
+    let one : (play_char width ch s).row ≤ s.row + 1 = char-row-most width ch s in
+    let more : (play_text width text (play_char width ch s)).row ≤ (play_char width ch s).row + length text = text_row_most width text (play_char width ch s) in
+    omega arith
+
+-- one more character leads a place on, and a line feed a row
+reach-cons : (width ch : ℕ) (text : List ℕ) → reach_of width (ch ∷ text) ≡ reach_of width text + 1 + cond (eqb ch lf) 1 0 * width
+reach-cons width ch text =
+    let counted : count_by (λ b. eqb b lf) (ch ∷ text) ≡ cond (eqb ch lf) 1 0 + count_by (λ b. eqb b lf) text = sum_by-cons (λ b. cond (eqb b lf) 1 0) ch text in
+    let places = ap (λ n. n * width) counted in
+    omega (arith, places, add-mul (cond (eqb ch lf) 1 0) (count_by (λ b. eqb b lf) text) width)
+
+-- a character leads on no further than it counts
+reach-char : (width ch : ℕ) (s : Picture) → s.col ≤ width
+    → (play_char width ch s).row * width + (play_char width ch s).col ≤ s.row * width + s.col + 1 + cond (eqb ch lf) 1 0 * width
+reach-char width ch s within =
+    elim (cases_eq ch cr) [
+      | inl e ↦ rw (eq-eqb ch cr e, ne_eqb ch lf (λ f. omega arith)) (omega arith)
+      | inr n ↦ elim (cases_eq ch lf) [
+        | inl e ↦ rw (ne_eqb ch cr n, eq-eqb ch lf e) (omega (arith, add-mul s.row 1 width, one-mul width))
+        | inr m ↦ rw (ne_eqb ch cr n, ne_eqb ch lf m) (elim (cases_eq s.col width) [
+          | inl e ↦ rw (eq-eqb s.col width e) (omega (arith, add-mul s.row 1 width, one-mul width))
+          | inr k ↦ rw (ne_eqb s.col width k) (omega arith)
+        ])
+      ]
+    ]
+
+-- so what is left to reach falls with each character
+pub reach_step : (width ch : ℕ) (text : List ℕ) (s : Picture) → s.col ≤ width
+    → (play_char width ch s).row * width + (play_char width ch s).col + reach_of width text ≤ s.row * width + s.col + reach_of width (ch ∷ text)
+reach_step width ch text s within = omega (arith, reach-cons width ch text, reach-char width ch s within)
+
 -- one character further, by the cursor alone
 pub end_step : (width : ℕ) (text : List ℕ) (i row col next_row next_col : ℕ) → i < length text
     → next_row ≡ (play_char width (get_or text i 0) (cursor_at row col)).row → next_col ≡ (play_char width (get_or text i 0) (cursor_at row col)).col
@@ -78,5 +134,9 @@ end_step width text i row col next_row next_col within row_is col_is =
     ∙ ap (λ k. (play_text width (drop (i + 1) text) (cursor_at next_row k)).row) (sym col_is))
 
 -- the row in which a text ends, by the cursor alone
-pub row_of_text : (width : ℕ) (text : List ℕ) (cells : List Cell) (row col : ℕ) → (play_text width text (picture_of cells row col)).row ≡ (play_text width text (cursor_at row col)).row
-row_of_text width text cells row col = ap (λ q. q.row) (text-cursor width text (picture_of cells row col))
+pub row_of_text : (width : ℕ) (text near : List ℕ) (far : List Cell) (row col : ℕ) → (play_text width text (picture_of width near far row col)).row ≡ (play_text width text (cursor_at row col)).row
+row_of_text width text near far row col = ap (λ q. q.row) (text-cursor width text (picture_of width near far row col))
+
+-- and the column
+pub col_of_text : (width : ℕ) (text near : List ℕ) (far : List Cell) (row col : ℕ) → (play_text width text (picture_of width near far row col)).col ≡ (play_text width text (cursor_at row col)).col
+col_of_text width text near far row col = ap (λ q. q.col) (text-cursor width text (picture_of width near far row col))

@@ -1,11 +1,10 @@
 -- What a measure knows on its way, and what it keeps.
-use Rattle.std.proofs.Common.{◌≡◌, ℕ, ◌+◌, ◌<◌, ◌≤◌, true, leb, nat_abs, List, [], ◌∷◌, length, map, drop, get_or, refl, add-one, arith}
+use Rattle.std.proofs.Common.{◌≡◌, ◌≤◌, true, leb, nat_abs, List, [], ◌∷◌, arith}
 use Rattle.std.specs.List.{list_all}
-use Rattle.std.proofs.Math.Seq.{drop-cons}
 use Rattle.std.proofs.lemmas.Bool.{and_parts, leb-true}
 use Rattle.std.proofs.lemmas.Int.{ints, clamps}
 use Rattle.tw_surface.specs.declared.measure.Track.{Track}
-use Rattle.tw_surface.specs.Places.{Place, plain_piece, is_in_range}
+use Rattle.tw_surface.specs.Places.{Place, is_in_range}
 use Rattle.tw_surface.specs.Tracks.{place_of, reach, reach_all, IsSound}
 
 -- a measure of all these places that has those left

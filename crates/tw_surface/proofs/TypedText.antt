@@ -10,7 +10,7 @@ use Rattle.tw_surface.specs.Places.{plain_piece, pieces, Place, next_place, end_
 
 -- ---- characters
 
-printable_play : (w ch : ℕ) (s : Picture) → is_printable ch ≡ true → play_char w ch s ≡ put w ch s
+pub printable_play : (w ch : ℕ) (s : Picture) → is_printable ch ≡ true → play_char w ch s ≡ put w ch s
 printable_play w ch s h =
     let low : 32 ≤ ch = leb-true _ _ (and_parts _ _ h).0 in
     rw (ne_eqb ch 13 (λ e. omega arith), ne_eqb ch 10 (λ e. omega arith)) refl

@@ -11,7 +11,7 @@ use Rattle.tw_surface.specs.Scenes.{Scene, Lower, IsPlain}
 use Rattle.tw_surface.specs.Defaults.{default_color, default_attributes}
 use Rattle.tw_surface.specs.Shots.{whole, shows, play_batches}
 
-abbrev scene_of : List ℕ → ℕ → Lower → Bool → Scene
+abbrev pub scene_of : List ℕ → ℕ → Lower → Bool → Scene
 scene_of line d lower cleared = record { prompt = Text (62 ∷ 32 ∷ []) ∷ []; line = Text line ∷ []; column = d; lower = lower; cleared = cleared }
 
 abbrev a_to_h : List ℕ
@@ -45,7 +45,7 @@ unfolding pieces
 preview_of_three_lines = refl
 
 -- six characters at five columns, then the cursor at the start of the line, then one character fewer
-abbrev a_to_f : List ℕ
+abbrev pub a_to_f : List ℕ
 a_to_f = 97 ∷ 98 ∷ 99 ∷ 100 ∷ 101 ∷ 102 ∷ []
 
 later_paintings : whole 5 (scene_of a_to_f 6 NoLower false ∷ scene_of a_to_f 0 NoLower false ∷ [])

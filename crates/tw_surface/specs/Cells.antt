@@ -1,7 +1,8 @@
--- What a screen holds: the cells that are not blank, in order.
-use Rattle.std.specs.Prelude.{ℕ, ◌≡◌, ◌≢◌, ◌<◌, ◌≤◌, ◌&&◌, eqb, if◌then◌else◌, Option, Some, None, List, [], ◌∷◌, length, slice_index_or}
-use Rattle.std.specs.List.{All, AllPairs}
-use Rattle.tw_surface.specs.declared.screen.Cell.{Cell}
+-- What a screen holds: the near cells in one line, and of the far ones those that are not blank, in order.
+use Rattle.std.specs.Prelude.{ℕ, ◌≡◌, ◌≢◌, ◌+◌, ◌-◌, ◌*◌, ◌<◌, ◌≤◌, ◌&&◌, eqb, ltb, if◌then◌else◌, Option, Some, None, List, [], ◌∷◌, ◌++◌, length, map, count_by, replicate, slice_index, slice_index_or}
+use Rattle.std.specs.List.{All, AllPairs, range_with_len}
+use Rattle.tw_surface.specs.declared.screen.far.Cell.{Cell}
+use Rattle.tw_surface.specs.Characters.{lf}
 use Rattle.tw_surface.specs.Pictures.{Picture, blank}
 
 -- the character that a list of cells shows at a row and a column: that of the first cell there, else a blank
@@ -9,24 +10,38 @@ abbrev pub cell_in : List Cell → ℕ → ℕ → ℕ
 cell_in [] row col = blank
 cell_in (cell ∷ cells) row col = if eqb cell.row row && eqb cell.col col then cell.ch else cell_in cells row col
 
--- what a screen holds: its width, its cursor and its cells
+-- the character at a row and a column: in the width from the near cells, row after row, as far as they go, and else from the far ones
+abbrev pub shown_at : ℕ → List ℕ → List Cell → ℕ → ℕ → ℕ
+shown_at width near far row col =
+    if ltb col width && ltb (row * width + col) (length near) then slice_index near (row * width + col) else cell_in far row col
+
+-- what a screen holds: its width, its cursor, its near and its far cells
 pub record ScreenView : Type 0 where
   pub width : ℕ
   pub row : ℕ
   pub col : ℕ
-  pub cells : List Cell
+  pub near : List ℕ
+  pub far : List Cell
 
--- a list of cells and a cursor, as a picture
-abbrev pub picture_of : List Cell → ℕ → ℕ → Picture
-picture_of cells row col = record { cell = cell_in cells; row = row; col = col }
+-- cells and a cursor, as a picture
+abbrev pub picture_of : ℕ → List ℕ → List Cell → ℕ → ℕ → Picture
+picture_of width near far row col = record { cell = shown_at width near far; row = row; col = col }
 
 -- the picture that a screen shows
 abbrev pub picture : ScreenView → Picture
-picture screen = picture_of screen.cells screen.row screen.col
+picture screen = picture_of screen.width screen.near screen.far screen.row screen.col
+
+-- the characters in the first columns of a row
+abbrev pub row_of : (ℕ → ℕ → ℕ) → ℕ → ℕ → List ℕ
+row_of cell row cols = map (cell row) (range_with_len 0 cols)
 
 -- a screen of a width, at first
 abbrev pub blank_screen : ℕ → ScreenView
-blank_screen width = record { width = width; row = 0; col = 0; cells = [] }
+blank_screen width = record { width = width; row = 0; col = 0; near = []; far = [] }
+
+-- how many places a text leads on at most
+abbrev pub reach_of : ℕ → List ℕ → ℕ
+reach_of width text = length text + count_by (λ b. eqb b lf) text * width
 
 -- a row and a column stand before others: in an earlier row, or in that row and an earlier column
 pub record IsBefore (row col later_row later_col : ℕ) : Type 0 where
@@ -53,22 +68,65 @@ pub record IsGapFor (cells : List Cell) (row col i : ℕ) : Type 0 where
   pub before : (k : ℕ) → k < i → IsBefore (cell_at cells k).row (cell_at cells k).col row col
   pub behind : (k : ℕ) → i ≤ k → k < length cells → IsBefore row col (cell_at cells k).row (cell_at cells k).col
 
--- the cells that a screen of a width may hold: in order, inside the width, and none blank
-pub record IsSparse (width : ℕ) (cells : List Cell) : Type 0 where
+-- the cells below index i stand before a row and a column, and the others do not
+pub record IsCut (cells : List Cell) (row col i : ℕ) : Type 0 where
+  pub in_range : i ≤ length cells
+  pub before : (k : ℕ) → k < i → IsBefore (cell_at cells k).row (cell_at cells k).col row col
+  pub from : (k : ℕ) → i ≤ k → k < length cells → IsBefore (cell_at cells k).row (cell_at cells k).col row col → ⊥
+
+-- the far cells that a screen of a width may hold: in order, inside the width, none blank, all of ASCII, and none in the first places
+pub record IsSparse (width first : ℕ) (cells : List Cell) : Type 0 where
   pub ordered : IsInOrder cells
   pub inside : All (λ x. x.col < width) cells
   pub visible : All (λ x. x.ch ≢ blank) cells
+  pub ascii : All (λ x. x.ch < 128) cells
+  pub behind : All (λ x. first ≤ x.row * width + x.col) cells
 
--- what is true of every screen
-pub record IsSound (width row col : ℕ) (cells : List Cell) : Type 0 where
+-- what is true while a text is played
+pub record IsSound (width row col : ℕ) (near : List ℕ) (far : List Cell) : Type 0 where
   pub width_above : 0 < width
   pub width_most : width ≤ 65535
   pub row_most : row ≤ 4294967295
   pub col_most : col ≤ width
-  pub sparse : IsSparse width cells
+  pub ascii : All (λ b. b < 128) near
+  pub sparse : IsSparse width (length near) far
+
+-- near cells end in one that is not blank, where there are any
+abbrev pub IsTrimmed : List ℕ → Type 0
+IsTrimmed near = 0 < length near → slice_index near (length near - 1) ≢ blank
+
+-- what is true of every screen
+pub record IsSettled (width row col : ℕ) (near : List ℕ) (far : List Cell) : Type 0 where
+  pub sound : IsSound width row col near far
+  pub trimmed : IsTrimmed near
+
+-- the far cells stand before a place
+abbrev pub IsWithin : ℕ → ℕ → List Cell → Type 0
+IsWithin width end cells = All (λ x. x.row * width + x.col < end) cells
 
 -- the greatest row with a character that is not blank, None where there is none
 abbrev pub IsLastRow : (ℕ → ℕ → ℕ) → Option ℕ → Type 0
 IsLastRow cell None = (row col : ℕ) → cell row col ≡ blank
 IsLastRow cell (Some last) =
     ((col : ℕ) × (cell last col ≢ blank)) × ((row col : ℕ) → last < row → cell row col ≡ blank)
+
+-- near cells with blanks added behind them
+pub record IsGrown (old new : List ℕ) : Type 0 where
+  pub more : ℕ
+  pub grown : new ≡ old ++ replicate more blank
+
+-- the cells below index i stand above a row, and the others do not
+pub record IsPartedAt (cells : List Cell) (row i : ℕ) : Type 0 where
+  pub in_range : i ≤ length cells
+  pub above : (k : ℕ) → k < i → (cell_at cells k).row < row
+  pub others : (k : ℕ) → i ≤ k → k < length cells → row ≤ (cell_at cells k).row
+
+-- a cell so many rows higher up
+abbrev pub raised : ℕ → Cell → Cell
+raised rows cell = record cell { row = cell.row - rows }
+
+-- near cells with these characters from a place on, and the others as they were
+pub record IsOverwritten (old new : List ℕ) (place : ℕ) (run : List ℕ) : Type 0 where
+  pub within : (k : ℕ) → k < length run → slice_index new (place + k) ≡ slice_index run k
+  pub below : (k : ℕ) → k < place → slice_index new k ≡ slice_index old k
+  pub above : (k : ℕ) → place + length run ≤ k → slice_index new k ≡ slice_index old k

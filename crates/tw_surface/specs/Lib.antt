@@ -15,4 +15,10 @@ pub mod Paintings
 pub mod Shots
 pub mod Fresh
 pub mod ScreenLaws
+pub mod Scrolling
+pub mod ScrollingLaws
+pub mod HealingLaws
 pub mod Cells
+pub mod ScrollingScreens
+pub mod Cutting
+pub mod Simple

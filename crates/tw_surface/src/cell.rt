@@ -5,7 +5,7 @@ ghost use Rattle.std.specs.List.{sum_by};
 ghost use Rattle.unicode_segmentation.specs.Grapheme.{graphemes};
 ghost use Rattle.tw_surface.specs.Width.{cluster_width, column_width};
 
-use crate::characters::is_printable_text;
+use crate::characters::{is_printable, is_printable_text};
 use crate::color::ColorAttribute;
 use unicode_segmentation::UnicodeSegmentation;
 use unicode_width::UnicodeWidthStr;
@@ -133,13 +133,24 @@ pub fn unicode_column_width(s: &str) -> usize
     }
 }
 
+/// The columns of a grapheme cluster. One character of printable ASCII, which most clusters are, is told at once.
+pub fn cluster_width(cluster: &str) -> usize
+    ensures value { result ≡ cluster_width cluster.now }
+    ensures bound { result ≤ 2 * length cluster.now }
+{
+    match cluster.as_bytes() {
+        [byte] if is_printable(*byte) => 1,
+        _ => cluster.width(),
+    }
+}
+
 fn clusters_width(text: &str) -> usize
     ensures value { result ≡ sum_by cluster_width (graphemes true text.now) }
     ensures bound { result ≤ 2 * length text.now }
 {
     let mut total: usize = 0;
     for cluster in text.graphemes(true) {
-        total += cluster.width();
+        total += cluster_width(cluster);
     }
     total
 }

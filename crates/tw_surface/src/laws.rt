@@ -14,6 +14,10 @@ ghost use Rattle.tw_surface.specs.declared.sequence.AddFault.{AddFault};
 ghost use Rattle.tw_surface.specs.declared.size.SizeFault.{SizeFault};
 ghost use Rattle.tw_surface.specs.ChangeView.{change_view};
 ghost use Rattle.tw_surface.specs.ScreenLaws.{FirstPainting, LaterPainting, ClearedPainting, IncrementalEqualsFresh, Beginning, ClosingBatch, Stacking, CountedRows, LinesOfText, RowsOfLine, OneFreshPainting, EveryPainting, LastPainting};
+ghost use Rattle.tw_surface.specs.Cutting.{CutClosing, CutPainting, SizedBatches};
+ghost use Rattle.tw_surface.specs.HealingLaws.{Healing};
+ghost use Rattle.tw_surface.specs.ScrollingLaws.{StaysWithin, ScrollsBehindChanges, ScrolledPainting, ScrolledClosing, ScrolledStacking, EveryScrolledPainting, LastScrolledPainting};
+ghost use Rattle.tw_surface.specs.Simple.{SimplePainting};
 ghost use Rattle.tw_surface.specs.Laws.{PlacesByRelation, PlacesCounted, LastPlace, HeightByExtremes};
 
 use crate::cell::{AttributeChange, Blink, CellAttributes, Intensity, Underline};
@@ -69,4 +73,38 @@ pub fn incremental_equals_fresh()
     ensures lines { LinesOfText }
     ensures rows { RowsOfLine }
     ensures one { OneFreshPainting }
+{}
+
+/// Incremental equals fresh on a screen of some rows, which scrolls: after each painting of a list of
+/// scenes that are low enough the screen shows the fresh painting of that scene, from as far up as it had
+/// to scroll.
+pub fn scrolling()
+    ensures within { StaysWithin }
+    ensures behind_changes { ScrollsBehindChanges }
+    ensures painted { ScrolledPainting }
+    ensures closed { ScrolledClosing }
+    ensures stacked { ScrolledStacking }
+    ensures every { EveryScrolledPainting }
+    ensures last { LastScrolledPainting }
+{}
+
+/// A clearing of the screen heals it: only what is painted from there on need be plain, for one number of
+/// columns and low enough.
+pub fn healing()
+    ensures { Healing }
+{}
+
+/// Incremental equals fresh on a screen whose number of columns changes, and which then cuts its rows: after each
+/// painting the screen shows the fresh painting of its scene at the columns of that time. It is not so where a screen
+/// breaks its rows anew.
+pub fn cutting()
+    ensures batches { SizedBatches }
+    ensures painted { CutPainting }
+    ensures closed { CutClosing }
+{}
+
+/// Of simple texts, whose characters take one column each: a painting, played character by character, is the fresh
+/// painting of these characters.
+pub fn simple_texts()
+    ensures { SimplePainting }
 {}

@@ -8,6 +8,7 @@ mod color;
 pub mod laws;
 mod measure;
 mod screen;
+mod scrolling_screen;
 mod sequence;
 mod size;
 
@@ -17,5 +18,6 @@ pub use cell::{
 pub use change::{Change, Position};
 pub use color::ColorAttribute;
 pub use screen::{Screen, ScreenFault};
+pub use scrolling_screen::ScrollingScreen;
 pub use sequence::{AddFault, ChangeSequence};
 pub use size::{MAX_REACH, SizeFault};

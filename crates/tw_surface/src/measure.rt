@@ -1,14 +1,15 @@
 //! How texts move the place of a sequence.
 
-ghost use Rattle.std.specs.Prelude.{◌≡◌, ◌≤◌, [], ◌∷◌, map, true};
+ghost use Rattle.std.specs.Prelude.{◌≡◌, ◌≤◌, [], ◌∷◌, map, replicate, true};
 ghost use Rattle.unicode_segmentation.specs.Grapheme.{graphemes};
+ghost use Rattle.tw_surface.specs.declared.measure.Piece.TheVariants.{Wide};
 ghost use Rattle.tw_surface.specs.Places.{plain_piece, cluster_piece, pieces, next_place, places_after, is_in_range};
 ghost use Rattle.tw_surface.specs.Tracks.{place_of, Measures, start_track};
 
-use crate::characters::is_plain_text;
+use crate::cell::cluster_width;
+use crate::characters::{is_plain_text, is_printable_text};
 use crate::size::MAX_REACH;
 use unicode_segmentation::UnicodeSegmentation;
-use unicode_width::UnicodeWidthStr;
 
 /// A piece of a text, by what it does to the cursor.
 #[derive(Debug, Copy, Clone, PartialEq, Eq)]
@@ -100,13 +101,30 @@ impl Piece {
     fn of_cluster(cluster: &str) -> Piece
         ensures { result ≡ cluster_piece cluster.now }
     {
-        match cluster {
-            "\r" => Piece::Cr,
-            "\n" => Piece::Lf,
-            "\r\n" => Piece::CrLf,
-            _ => Piece::Wide(cluster.width()),
+        match cluster.as_bytes() {
+            [b'\r'] => Piece::Cr,
+            [b'\n'] => Piece::Lf,
+            [b'\r', b'\n'] => Piece::CrLf,
+            _ => Piece::Wide(cluster_width(cluster)),
         }
     }
+}
+
+/// So many characters of one column: those that fit in a row are one step.
+fn measure_printable(cols: usize, start: Track, count: usize) -> Option<Track>
+    requires cols { cols ≤ 65535 }
+    requires range { is_in_range (place_of start) ≡ true }
+    ensures { Measures start (places_after cols (replicate count (Wide 1)) (place_of start)) result }
+{
+    let mut track = start;
+    let mut left = count;
+    while left > 0 {
+        track = track.advance(cols, Piece::Wide(1))?;
+        let more = cols.saturating_sub(track.x).min(left - 1);
+        track.x += more;
+        left -= 1 + more;
+    }
+    Some(track)
 }
 
 fn measure_plain(cols: usize, start: Track, text: &[u8]) -> Option<Track>
@@ -134,13 +152,15 @@ fn measure_clusters(cols: usize, start: Track, text: &str) -> Option<Track>
 }
 
 /// The track after a text on a screen of `cols` columns, or `None` where a place on the way is out of range.
-#[tactic(auto, unfolding(crate::specs::Places::pieces))]
+#[tactic(auto, using(crate::proofs::RowLemmas::printable_pieces), unfolding(crate::specs::Places::pieces))]
 pub fn measure_text(cols: usize, start: Track, text: &str) -> Option<Track>
     requires cols { cols ≤ 65535 }
     requires range { is_in_range (place_of start) ≡ true }
     ensures { Measures start (places_after cols (pieces text.now) (place_of start)) result }
 {
-    if is_plain_text(text.as_bytes()) {
+    if is_printable_text(text.as_bytes()) {
+        measure_printable(cols, start, text.len())
+    } else if is_plain_text(text.as_bytes()) {
         measure_plain(cols, start, text.as_bytes())
     } else {
         measure_clusters(cols, start, text)

@@ -1,23 +1,32 @@
 //! A model screen, which shows what a terminal would show after changes.
 
-ghost use Rattle.std.specs.Prelude.{◌≡◌, ◌≢◌, ℕ, ◌+◌, ◌-◌, min, ◌∷◌, [], ◌<◌, ◌≤◌, ◌↔◌, pos, true, false, List, count_by, vec_len, vec_capacity, Ok, Err, IfOk, IfErr, IsTrue, OnOk, OnErr};
+ghost use Rattle.std.specs.Prelude.{string_bytes, ◌++◌, ◌≡◌, ℕ, ◌+◌, ◌-◌, ◌*◌, min, length, ◌<◌, ◌≤◌, ◌↔◌, pos, true, false, List, Ok, Err, OnOk, OnErr};
 ghost use Rattle.std.specs.List.{All, list_all};
 ghost use Rattle.tw_surface.specs.ChangeView.{change_view, Text as TextView};
-ghost use Rattle.tw_surface.specs.Characters.{is_plain, is_printable};
+ghost use Rattle.tw_surface.specs.Characters.{is_plain};
 ghost use Rattle.tw_surface.specs.Positions.{moved, at_least_0};
-ghost use Rattle.tw_surface.specs.Pictures.{blank, cursor_at, written, cleared, play, play_char, play_text, can_play};
-ghost use Rattle.tw_surface.specs.Cells.{cell_in, picture, picture_of, blank_screen, IsInOrder, IsAt, IsGapFor, IsSparse, IsSound, IsLastRow};
+ghost use Rattle.tw_surface.specs.Pictures.{blank, cleared, play, play_text, can_play};
+ghost use Rattle.tw_surface.specs.Cells.{shown_at, picture, blank_screen, row_of, IsInOrder, IsSparse, IsTrimmed, IsLastRow};
+
+mod far;
+mod near;
+mod play;
+mod room;
+mod row;
+mod scroll;
 
 use crate::change::{Change, Position};
-use crate::characters::{is_plain_text, is_printable};
+use crate::characters::is_plain_text;
+use crate::screen::far::{Cell, char_in, clear_from, row_end};
+use crate::screen::near::{near_row, place_of, trim};
+use crate::screen::play::{LAST_ROW, ends_in_range, play_bytes, reach};
+use crate::screen::room::make_room;
+use crate::screen::row::{push_ascii, push_blanks};
 use crate::size::{MAX_SIZE, SizeFault};
-use std::alloc::Global;
+use std::alloc::{AllocError, Global};
 use std::error::Error;
 use std::fmt;
 use std::marker::Model;
-
-// The last row that a screen reaches.
-const LAST_ROW: usize = 4_294_967_295;
 
 /// Why a screen refuses a change. Each refusal leaves the screen as it was.
 #[derive(Debug, Copy, Clone, PartialEq, Eq)]
@@ -42,210 +51,51 @@ impl fmt::Display for ScreenFault {
 
 impl Error for ScreenFault {}
 
-// A cell that is not blank.
-#[derive(Debug, Copy, Clone)]
-struct Cell {
-    row: usize,
-    col: usize,
-    ch: char,
-}
-
-// The index of the cell at a row and a column, or where it would go.
-fn find_cell(cells: &[Cell], row: usize, col: usize) -> Result<usize, usize>
-    requires { IsInOrder cells.now }
-    ensures found { IfOk result (IsAt cells.now row col) }
-    ensures absent { IfErr result (IsGapFor cells.now row col) }
+fn shown_char(near: &[u8], far: &[Cell], width: usize, row: usize, col: usize) -> char
+    requires { IsInOrder far.now }
+    ensures { result ≡ shown_at width near.now far.now row col }
 {
-    cells.binary_search_by_key(&(row, col), |cell| (cell.row, cell.col))
-}
-
-fn char_in(cells: &[Cell], row: usize, col: usize) -> char
-    requires { IsInOrder cells.now }
-    ensures { result ≡ cell_in cells.now row col }
-{
-    match find_cell(cells, row, col) {
-        Ok(at) => cells[at].ch,
-        Err(_) => ' ',
-    }
-}
-
-// Puts a character that is not a blank.
-fn put_cell(cells: &mut Vec<Cell>, row: usize, col: usize, ch: char)
-    requires visible { ch ≢ blank }
-    requires room { vec_len cells.old < vec_capacity cells.old }
-    requires ordered { IsInOrder cells.old.items }
-    ensures written { cell_in cells.new.items ≡ written (cell_in cells.old.items) row col ch }
-    ensures sparse { (width : ℕ) → IsSparse width cells.old.items → col < width → IsSparse width cells.new.items }
-    ensures len { vec_len cells.new ≤ vec_len cells.old + 1 }
-    ensures capacity { vec_capacity cells.old ≤ vec_capacity cells.new }
-{
-    match find_cell(cells, row, col) {
-        Ok(at) => cells[at] = Cell { row, col, ch },
-        Err(at) => {
-            let _ = cells.insert(at, Cell { row, col, ch });
+    if col < width {
+        if let Some(byte) = near.get(place_of(width, row, col)) {
+            return *byte as char;
         }
     }
+    char_in(far, row, col)
 }
 
-// Puts a blank.
-fn remove_cell(cells: &mut Vec<Cell>, row: usize, col: usize)
-    requires { IsInOrder cells.old.items }
-    ensures written { cell_in cells.new.items ≡ written (cell_in cells.old.items) row col blank }
-    ensures sparse { (width : ℕ) → IsSparse width cells.old.items → col < width → IsSparse width cells.new.items }
-    ensures len { vec_len cells.new ≤ vec_len cells.old }
-    ensures capacity { vec_capacity cells.old ≤ vec_capacity cells.new }
+fn last_row_of(near: &[u8], far: &[Cell], width: usize) -> Option<usize>
+    requires width { 0 < width }
+    requires sparse { IsSparse width (length near.now) far.now }
+    requires trimmed { IsTrimmed near.now }
+    ensures { IsLastRow (shown_at width near.now far.now) result }
 {
-    if let Ok(at) = find_cell(cells, row, col) {
-        cells.remove(at);
-    }
-}
-
-fn write_cell(cells: &mut Vec<Cell>, row: usize, col: usize, ch: char)
-    requires room { vec_len cells.old < vec_capacity cells.old }
-    requires ordered { IsInOrder cells.old.items }
-    ensures written { cell_in cells.new.items ≡ written (cell_in cells.old.items) row col ch }
-    ensures sparse { (width : ℕ) → IsSparse width cells.old.items → col < width → IsSparse width cells.new.items }
-    ensures len { vec_len cells.new ≤ vec_len cells.old + 1 }
-    ensures capacity { vec_capacity cells.old ≤ vec_capacity cells.new }
-{
-    if ch == ' ' {
-        remove_cell(cells, row, col);
-    } else {
-        put_cell(cells, row, col, ch);
-    }
-}
-
-fn clear_from(cells: &mut Vec<Cell>, row: usize, col: usize)
-    requires { IsInOrder cells.old.items }
-    ensures cleared { cell_in cells.new.items ≡ cleared (cell_in cells.old.items) row col }
-    ensures sparse { (width : ℕ) → IsSparse width cells.old.items → IsSparse width cells.new.items }
-{
-    match find_cell(cells, row, col) {
-        Ok(at) | Err(at) => cells.truncate(at),
-    }
-}
-
-fn last_row_of(cells: &[Cell]) -> Option<usize>
-    requires ordered { IsInOrder cells.now }
-    requires visible { All (λ x. x.ch ≢ blank) cells.now }
-    ensures { IsLastRow (cell_in cells.now) result }
-{
-    match cells {
-        [] => None,
+    match far {
+        [] => Some(near.len().checked_sub(1)? / width),
         [.., last] => Some(last.row),
     }
 }
 
-// The cursor after a character of a text.
-fn next_cursor(width: usize, row: usize, col: usize, byte: u8) -> (usize, usize)
-    requires width_above { 0 < width }
-    requires width_most { width ≤ 65535 }
-    requires row { row ≤ 4294967295 }
-    requires col { col ≤ width }
-    ensures row { result.0 ≡ (play_char width byte (cursor_at row col)).row }
-    ensures col { result.1 ≡ (play_char width byte (cursor_at row col)).col }
-    ensures within { result.1 ≤ width }
-{
-    match byte {
-        b'\r' => (row, 0),
-        b'\n' => (row + 1, col),
-        _ if col == width => (row + 1, 1),
-        _ => (row, col + 1),
-    }
-}
-
-// Whether no row of a text passes the limit.
-fn ends_in_range(width: usize, start_row: usize, start_col: usize, text: &[u8]) -> bool
-    requires width_above { 0 < width }
-    requires width_most { width ≤ 65535 }
-    requires row { start_row ≤ 4294967295 }
-    requires col { start_col ≤ width }
-    ensures { IsTrue result ↔ ((play_text width text.now (cursor_at start_row start_col)).row ≤ 4294967295) }
-{
-    let mut row = start_row;
-    let mut col = start_col;
-    for byte in text {
-        (row, col) = next_cursor(width, row, col, *byte);
-        if row > LAST_ROW {
-            return false;
-        }
-    }
-    true
-}
-
-// The most cells that a text adds.
-fn printable_count(text: &[u8]) -> usize
-    ensures { result ≡ count_by is_printable text.now }
-{
-    text.iter().filter(|byte| is_printable(**byte)).count()
-}
-
-// Plays a character, and returns the cursor behind it.
-fn play_byte(
-    cells: &mut Vec<Cell>,
-    width: usize,
-    row: usize,
-    col: usize,
-    byte: u8,
-) -> (usize, usize)
-    requires sound { IsSound width row col cells.old.items }
-    requires plain { is_plain byte ≡ true }
-    requires room { vec_len cells.old + count_by is_printable (byte ∷ []) ≤ vec_capacity cells.old }
-    ensures played { picture_of cells.new.items result.0 result.1 ≡ play_char width byte (picture_of cells.old.items row col) }
-    ensures within { result.1 ≤ width }
-    ensures sparse { IsSparse width cells.new.items }
-    ensures len { vec_len cells.new ≤ vec_len cells.old + count_by is_printable (byte ∷ []) }
-    ensures capacity { vec_capacity cells.old ≤ vec_capacity cells.new }
-{
-    let (new_row, new_col) = next_cursor(width, row, col, byte);
-    if is_printable(byte) {
-        write_cell(cells, new_row, new_col - 1, byte as char);
-    }
-    (new_row, new_col)
-}
-
-// Plays a text, and returns the cursor behind it.
-fn play_bytes(
-    cells: &mut Vec<Cell>,
-    width: usize,
-    start_row: usize,
-    start_col: usize,
-    text: &[u8],
-) -> (usize, usize)
-    requires sound { IsSound width start_row start_col cells.old.items }
-    requires row { (play_text width text.now (picture_of cells.old.items start_row start_col)).row ≤ 4294967295 }
-    requires plain { list_all is_plain text.now ≡ true }
-    requires room { vec_len cells.old + count_by is_printable text.now ≤ vec_capacity cells.old }
-    ensures played { picture_of cells.new.items result.0 result.1 ≡ play_text width text.now (picture_of cells.old.items start_row start_col) }
-    ensures sound { IsSound width result.0 result.1 cells.new.items }
-{
-    let mut row = start_row;
-    let mut col = start_col;
-    for byte in text {
-        (row, col) = play_byte(cells, width, row, col, *byte);
-    }
-    (row, col)
-}
-
 /// A screen without a bottom: a character in each cell, blank at first, and a cursor. Rows and
 /// columns are numbered from 0, and the cursor's column is the width where it waits behind the last
-/// column. A screen keeps only the cells that are not blank, so a far row costs no memory.
+/// column. Of the rows far below all others a screen keeps only the cells that are not blank, so a
+/// far row costs no memory.
 #[derive(Debug, Drop)]
 pub struct Screen {
     width: usize,
     row: usize,
     col: usize,
-    cells: Vec<Cell>,
+    near: Vec<u8>,
+    far: Vec<Cell>,
 }
 
 impl Model for Screen {
-    ghost use Rattle.tw_surface.specs.Cells.{ScreenView, IsSound};
+    ghost use Rattle.tw_surface.specs.Cells.{ScreenView, IsSettled};
 
     ghost Value = { ScreenView };
 
-    ghost view = { λ s. record { width = s.width; row = s.row; col = s.col; cells = s.cells.items } };
+    ghost view = { λ s. record { width = s.width; row = s.row; col = s.col; near = s.near.items; far = s.far.items } };
 
-    ghost invariant = { λ s. IsSound s.width s.row s.col s.cells.items };
+    ghost invariant = { λ s. IsSettled s.width s.row s.col s.near.items s.far.items };
 }
 
 impl Screen {
@@ -265,7 +115,8 @@ impl Screen {
             width,
             row: 0,
             col: 0,
-            cells: Vec::new(alloc),
+            near: Vec::new(alloc),
+            far: Vec::new(alloc),
         })
     }
 
@@ -274,7 +125,24 @@ impl Screen {
         ensures shown { result ≡ (picture self.now).cell row col }
         ensures outside { self.now.width ≤ col → result ≡ blank }
     {
-        char_in(&self.cells, row, col)
+        shown_char(&self.near, &self.far, self.width, row, col)
+    }
+
+    /// Adds the characters in the first columns of a row to a text, or nothing where there is no memory.
+    pub fn push_row(&self, row: usize, cols: usize, shown: &mut String) -> Result<(), AllocError>
+        ensures added { OnOk result (string_bytes shown.new ≡ string_bytes shown.old ++ row_of (picture self.now).cell row cols) }
+        ensures refused { OnErr result (string_bytes shown.new ≡ string_bytes shown.old) }
+    {
+        shown.reserve(cols)?;
+        let first = near_row(&self.near, self.width, row, cols);
+        push_ascii(shown, first)?;
+        let end = row_end(&self.far, self.width, row)
+            .min(cols)
+            .max(first.len());
+        for col in first.len()..end {
+            shown.push(self.char_at(row, col))?;
+        }
+        push_blanks(shown, cols - end)
     }
 
     /// The cursor's row and column. The column is the width where the cursor waits behind the last.
@@ -291,7 +159,7 @@ impl Screen {
     pub fn last_row(&self) -> Option<usize>
         ensures { IsLastRow (picture self.now).cell result }
     {
-        last_row_of(&self.cells)
+        last_row_of(&self.near, &self.far, self.width)
     }
 
     /// Plays a change, or refuses it and leaves the screen as it was. Only a text takes memory, and
@@ -337,10 +205,19 @@ impl Screen {
         if !ends_in_range(self.width, self.row, self.col, text) {
             return Err(ScreenFault::OutOfRange);
         }
-        if self.cells.reserve(printable_count(text)).is_err() {
+        let end = place_of(self.width, self.row, self.col).saturating_add(reach(self.width, text));
+        if make_room(&mut self.near, &mut self.far, self.width, end, text.len()).is_err() {
             return Err(ScreenFault::Memory);
         }
-        let (row, col) = play_bytes(&mut self.cells, self.width, self.row, self.col, text);
+        let (row, col) = play_bytes(
+            &mut self.near,
+            &mut self.far,
+            self.width,
+            self.row,
+            self.col,
+            text,
+        );
+        trim(&mut self.near);
         self.row = row;
         self.col = col;
         Ok(())
@@ -349,7 +226,8 @@ impl Screen {
     fn clear(&mut self)
         ensures { self.new ≡ blank_screen self.old.width }
     {
-        self.cells.clear();
+        self.near.clear();
+        self.far.clear();
         self.row = 0;
         self.col = 0;
     }
@@ -358,7 +236,9 @@ impl Screen {
         ensures width { self.new.width ≡ self.old.width }
         ensures cleared { picture self.new ≡ record (picture self.old) { cell = cleared (picture self.old).cell self.old.row self.old.col } }
     {
-        clear_from(&mut self.cells, self.row, self.col);
+        self.near.truncate(place_of(self.width, self.row, self.col));
+        trim(&mut self.near);
+        clear_from(&mut self.far, self.row, self.col);
     }
 
     fn move_cursor(&mut self, x: Position, y: Position) -> Result<(), ScreenFault>

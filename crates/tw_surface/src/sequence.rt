@@ -1,6 +1,6 @@
 //! A sequence of changes, measured as it grows.
 
-ghost use Rattle.std.specs.Prelude.{◌≡◌, ◌+◌, ◌-◌, ◌<◌, ◌≤◌, ◌⊎◌, ◌↔◌, Ok, Err, OnOk, OnErr, MatchOption, [], ◌∷◌, ◌++◌, true, nat_abs};
+ghost use Rattle.std.specs.Prelude.{◌≡◌, ◌+◌, ◌-◌, ◌<◌, ◌≤◌, ◌⊎◌, ◌↔◌, Ok, Err, OnOk, OnErr, MatchOption, [], ◌∷◌, ◌++◌, true, nat_abs, is_ok, if◌then◌else◌};
 ghost use Rattle.tw_surface.specs.ChangeView.{change_view, batch_view};
 ghost use Rattle.tw_surface.specs.Positions.{moved};
 ghost use Rattle.tw_surface.specs.Places.{places_of_change, is_in_range, move_between};
@@ -11,7 +11,7 @@ ghost use Rattle.tw_surface.specs.Adding.{Adds};
 use crate::change::{Change, Position};
 use crate::measure::{Track, measure_text};
 use crate::size::{MAX_REACH, MAX_SIZE, SizeFault};
-use std::alloc::Global;
+use std::alloc::{AllocError, Global};
 use std::error::Error;
 use std::fmt;
 use std::marker::Model;
@@ -151,7 +151,7 @@ impl ChangeSequence {
         let Some(next) = measure_change(self.cols, self.reached, &change) else {
             return Err(AddFault::OutOfRange);
         };
-        if self.changes.push(change).is_err() {
+        if push_change(&mut self.changes, change).is_err() {
             return Err(AddFault::Memory);
         }
         self.reached = next;
@@ -180,6 +180,17 @@ impl ChangeSequence {
     {
         self.changes
     }
+}
+
+/// Adds a change at the end. The first one makes room for a whole painting.
+fn push_change(changes: &mut Vec<Change>, change: Change) -> Result<(), AllocError>
+    ensures items { changes.new.items ≡ (if is_ok result then changes.old.items ++ change ∷ [] else changes.old.items) }
+{
+    if changes.capacity() == 0 {
+        changes.reserve(8)?;
+    }
+    changes.push(change)?;
+    Ok(())
 }
 
 /// The relative move from where a track ends.

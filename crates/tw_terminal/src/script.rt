@@ -178,7 +178,7 @@ impl ScriptTerminal {
 fn copies(alloc: Global, changes: &[Change]) -> Result<Vec<Change>, AllocError>
     ensures { IfOk result (λ copies. batch_view copies.items ≡ batch_view changes.now) }
 {
-    let mut copies = Vec::new(alloc);
+    let mut copies = Vec::with_capacity(alloc, changes.len())?;
     for change in changes {
         copies.push(change.try_clone(alloc)?)?;
     }

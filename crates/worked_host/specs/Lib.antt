@@ -1,4 +1,2 @@
 pub mod Commands
 pub mod CommandRules
-pub mod PlainRest
-pub mod Reading

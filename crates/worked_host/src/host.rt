@@ -1,21 +1,21 @@
 //! A host for a small command prompt.
 
-ghost use Rattle.std.specs.Prelude.{◌≡◌, [], IfOk, map, option_map, string_bytes, refl};
-ghost use Rattle.tw_lineedit.specs.ActionView.{action_view};
-ghost use Rattle.tw_lineedit.specs.ElementView.{element_view, Text};
-ghost use Rattle.tw_lineedit.specs.HostRules.{plain_text};
-ghost use Rattle.tw_lineedit.specs.KeyTable.{looked_up};
-ghost use Rattle.worked_host.specs.Commands.{Commands, is_known, first_word, after_word};
-ghost use Rattle.worked_host.specs.CommandRules.{bold_then, own_keys, command_rules};
-ghost use Rattle.worked_host.specs.PlainRest.{command_own, rest_is_plain};
+ghost use Rattle.std.specs.Prelude.{◌≡◌, [], IfOk, map, refl, string_bytes};
+ghost use Rattle.tw_lineedit.specs.ElementView.{element_view};
+ghost use Rattle.tw_lineedit.specs.PlainAnswers.{all_own, no_plain_left};
+ghost use Rattle.worked_host.specs.CommandRules.{bold, command_rules, own_keys, shown_line};
+ghost use Rattle.worked_host.specs.Commands.{Commands};
 
 use std::alloc::{AllocError, Global};
+use tw_hosts::{
+    Binding, KeyBinding, complete_word, is_known, resolve_key, split_first_word, styled,
+};
 use tw_input::{InputEvent, KeyCode, KeyEvent, Modifiers};
 use tw_lineedit::{
     Action, BasicHistory, CompletionCandidate, LineEditBuffer, LineEditorHost, Movement,
-    OutputElement, OwnAnswers,
+    OutputElement, OwnAnswers, plain_element,
 };
-use tw_surface::{AttributeChange, Intensity, unicode_column_width};
+use tw_surface::{CellAttributes, Intensity, unicode_column_width};
 
 /// A host that knows some commands, with a history in memory. Where the first word of the line is a command
 /// it is bold; Tab completes commands; Escape cancels, and Ctrl-U kills to the start of the line.
@@ -36,62 +36,49 @@ impl CommandHost {
         }
     }
 
-    /// Whether a word is one of the commands.
-    fn is_known(&self, word: &str) -> bool
-        ensures { result ≡ is_known (map string_bytes self.now.known.items) word.now }
+    /// The line with its first word in bold, if it is a command.
+    fn show(&self, alloc: Global, line: &str) -> Result<Vec<OutputElement>, AllocError>
+        ensures { IfOk result (λ elements. map element_view elements.items ≡ shown_line (map string_bytes self.now.known.items) line.now) }
     {
-        self.known.iter().any(|command| command.as_str() == word)
+        let (word, rest) = split_first_word(line);
+        if !is_known(self.known.as_slice(), word) {
+            return plain_element(alloc, line);
+        }
+        let mut elements = styled(alloc, bold(), word)?;
+        elements.append(&mut plain_element(alloc, rest)?)?;
+        Ok(elements)
     }
 }
 
-/// The first word of a line, and what follows it.
-fn split_word(line: &str) -> (&str, &str)
-    ensures word { result.0.now ≡ first_word line.now }
-    ensures rest { result.1.now ≡ after_word line.now }
+/// Bold, and else as by default.
+fn bold() -> CellAttributes
+    ensures { result ≡ bold }
 {
-    match line.find(' ') {
-        Some(end) => line.split_at(end),
-        None => (line, ""),
-    }
+    let mut attributes = CellAttributes::default();
+    attributes.intensity = Intensity::Bold;
+    attributes
 }
 
-/// A text as it is.
-fn text(alloc: Global, text: &str) -> Result<OutputElement, AllocError>
-    ensures { IfOk result (λ element. element_view element ≡ Text text.now) }
+/// The keys of the host's own.
+fn own_keys() -> [KeyBinding; 2]
+    ensures { result ≡ own_keys }
 {
-    Ok(OutputElement::Text(String::from_str(alloc, text)?))
-}
-
-/// A line as it is.
-fn plain(alloc: Global, line: &str) -> Result<Vec<OutputElement>, AllocError>
-    ensures { IfOk result (λ elements. map element_view elements.items ≡ plain_text line.now) }
-{
-    let elements = vec![in alloc; text(alloc, line)?]?;
-    Ok(elements)
-}
-
-/// A word in bold, and the rest of the line as it is.
-fn bold_then(alloc: Global, word: &str, rest: &str) -> Result<Vec<OutputElement>, AllocError>
-    ensures { IfOk result (λ elements. map element_view elements.items ≡ bold_then word.now rest.now) }
-{
-    let elements = vec![in alloc;
-        OutputElement::Attribute(AttributeChange::Intensity(Intensity::Bold)),
-        text(alloc, word)?,
-        OutputElement::Attribute(AttributeChange::Intensity(Intensity::Normal)),
-        text(alloc, rest)?,
-    ]?;
-    Ok(elements)
-}
-
-/// The host's own action of a key, if it has one.
-fn own_action(key: KeyEvent) -> Option<Action>
-    ensures { option_map action_view result ≡ looked_up own_keys key }
-{
-    match (key.modifiers, key.key) {
-        (Modifiers::NONE, KeyCode::Escape) => Some(Action::Cancel),
-        (Modifiers::CTRL, KeyCode::Char('U')) => Some(Action::Kill(Movement::StartOfLine)),
-        _ => None,
-    }
+    [
+        KeyBinding {
+            key: KeyEvent {
+                key: KeyCode::Escape,
+                modifiers: Modifiers::NONE,
+            },
+            binding: Binding::Cancel,
+        },
+        KeyBinding {
+            key: KeyEvent {
+                key: KeyCode::Char('U'),
+                modifiers: Modifiers::CTRL,
+            },
+            binding: Binding::Kill(Movement::StartOfLine),
+        },
+    ]
 }
 
 impl LineEditorHost for CommandHost {
@@ -107,18 +94,20 @@ impl LineEditorHost for CommandHost {
 
     ghost with_held = { λ host history. record host { history = history } };
 
-    ghost OWN = { command_own };
+    ghost OWN = { all_own };
 
-    const OWN: OwnAnswers = OwnAnswers {
-        prompt: false,
-        preview: false,
-        highlight: true,
-        complete: true,
-        resolve: true,
-    };
+    const OWN: OwnAnswers = OwnAnswers::ALL;
 
     fn history(&mut self) -> &mut BasicHistory {
         &mut self.history
+    }
+
+    fn render_prompt(&self, alloc: Global, prompt: &str) -> Result<Vec<OutputElement>, AllocError> {
+        plain_element(alloc, prompt)
+    }
+
+    fn render_preview(&self, alloc: Global, _line: &str) -> Result<Vec<OutputElement>, AllocError> {
+        Ok(Vec::new(alloc))
     }
 
     fn highlight_line(
@@ -128,11 +117,7 @@ impl LineEditorHost for CommandHost {
         cursor_position: usize,
     ) -> Result<(Vec<OutputElement>, usize), AllocError> {
         let column = unicode_column_width(&line[..cursor_position]);
-        let (word, rest) = split_word(line);
-        if self.is_known(word) {
-            return Ok((bold_then(alloc, word, rest)?, column));
-        }
-        Ok((plain(alloc, line)?, column))
+        Ok((self.show(alloc, line)?, column))
     }
 
     fn complete(
@@ -141,32 +126,19 @@ impl LineEditorHost for CommandHost {
         line: &str,
         cursor_position: usize,
     ) -> Result<Vec<CompletionCandidate>, AllocError> {
-        let before = &line[..cursor_position];
-        let mut candidates = Vec::new(alloc);
-        for command in &self.known {
-            if command.as_str().starts_with(before) {
-                candidates.push(CompletionCandidate {
-                    range: 0..cursor_position,
-                    text: command.clone()?,
-                })?;
-            }
-        }
-        Ok(candidates)
+        complete_word(alloc, self.known.as_slice(), line, cursor_position)
     }
 
     fn resolve_action(
         &mut self,
         _alloc: Global,
         event: &InputEvent,
-        _editor: &mut LineEditBuffer,
+        editor: &mut LineEditBuffer,
     ) -> Result<Option<Action>, AllocError> {
-        match event {
-            InputEvent::Key(key) => Ok(own_action(*key)),
-            InputEvent::Resized { .. } | InputEvent::Paste(_) | InputEvent::Wake => Ok(None),
-        }
+        Ok(resolve_key(&own_keys(), event, editor))
     }
 
-    ghost plain_answers = { rest_is_plain };
+    ghost plain_answers = { no_plain_left };
 
     ghost held_back = { λ host. refl };
 

@@ -1,12 +1,10 @@
 //! A worked host of the line editor, for a small command prompt: it shows a known command in bold, completes
-//! commands, and has two keys of its own.
+//! commands, and has two keys of its own. It stands on the parts of `tw_hosts`.
 #![tactic(auto)]
 
 mod host;
-mod reading;
 
 pub use host::CommandHost;
-pub use reading::read_command;
 
 #[cfg(test)]
 mod tests;

@@ -1,9 +1,9 @@
 use super::*;
+use host_testing::{events_of, last_painting, marked_text};
 use std::alloc::{AllocError, Global};
 use std::test::Fail;
-use tw_input::{InputEvent, KeyCode, KeyEvent, Modifiers};
-use tw_lineedit::{Error, History, LineEditorHost};
-use tw_surface::{AttributeChange, Change, Intensity};
+use tw_lineedit::{History, LineEditor, LineEditorHost};
+use tw_surface::{CellAttributes, Intensity};
 use tw_terminal::{ScreenSize, ScriptTerminal};
 
 /// A host that knows three commands.
@@ -16,51 +16,38 @@ fn host_of_three(alloc: Global) -> Result<CommandHost, AllocError> {
     Ok(CommandHost::new(alloc, known))
 }
 
-/// The key of a character: `\t` is Tab, `\n` Enter, `!` Escape, `<` Ctrl-U and `^` the arrow up.
-fn key_of(character: char) -> InputEvent {
-    let (key, modifiers) = match character {
-        '\t' => (KeyCode::Tab, Modifiers::NONE),
-        '\n' => (KeyCode::Enter, Modifiers::NONE),
-        '!' => (KeyCode::Escape, Modifiers::NONE),
-        '<' => (KeyCode::Char('U'), Modifiers::CTRL),
-        '^' => (KeyCode::UpArrow, Modifiers::NONE),
-        _ => (KeyCode::Char(character), Modifiers::NONE),
-    };
-    InputEvent::Key(KeyEvent { key, modifiers })
-}
-
-/// A terminal of 80 columns with these keys.
-fn terminal_of(alloc: Global, keys: &str) -> Result<ScriptTerminal, AllocError> {
-    let mut events = Vec::new(alloc);
-    for character in keys.chars() {
-        events.push(key_of(character))?;
-    }
+/// A terminal of 80 columns with the events of a script.
+fn terminal_of(alloc: Global, script: &str) -> Result<ScriptTerminal, Fail> {
     let size = ScreenSize { rows: 24, cols: 80 };
-    Ok(ScriptTerminal::new(alloc, size, events))
+    Ok(ScriptTerminal::new(alloc, size, events_of(alloc, script)?))
 }
 
-/// What the host reads from these keys.
-fn read(alloc: Global, host: &mut CommandHost, keys: &str) -> Result<Option<String>, Error> {
-    let mut terminal = terminal_of(alloc, keys)?;
-    read_command(alloc, &mut terminal, host)
+/// What the host reads from a script.
+fn read(alloc: Global, host: &mut CommandHost, script: &str) -> Result<Option<String>, Fail> {
+    let mut terminal = terminal_of(alloc, script)?;
+    Ok(LineEditor::new(alloc, &mut terminal)?.read_line_and_remember(host)?)
 }
 
 #[test]
 fn keys_are_answered(rt: HostRuntime) -> Result<(), Fail> {
     let alloc = rt.alloc();
-    for (keys, answer) in [
-        ("copy a\n", Some("copy a")),
-        ("co\t\n", Some("copy")),
-        ("co\t\t\n", Some("count")),
-        ("co\t\t\t\n", Some("copy")),
-        ("mo\t x\n", Some("move x")),
-        ("ca\t\n", Some("ca")),
-        ("move x<copy\n", Some("copy")),
-        ("copy!", None),
+    for (script, answer) in [
+        ("type copy a\nkey Enter", Some("copy a")),
+        ("type co\nkey Tab\nkey Enter", Some("copy")),
+        ("type co\nkey Tab\nkey Tab\nkey Enter", Some("count")),
+        (
+            "type co\nkey Tab\nkey Tab\nkey Tab\nkey Enter",
+            Some("copy"),
+        ),
+        ("type mo\nkey Tab\ntype  x\nkey Enter", Some("move x")),
+        ("type move co\nkey Tab\nkey Enter", Some("move copy")),
+        ("type ca\nkey Tab\nkey Enter", Some("ca")),
+        ("type move x\nkey C-U\ntype copy\nkey Enter", Some("copy")),
+        ("type copy\nkey Escape", None),
     ] {
         let mut host = host_of_three(alloc)?;
-        let line = read(alloc, &mut host, keys)?;
-        assert!(rt; line.as_deref() == answer, "{keys:?}");
+        let line = read(alloc, &mut host, script)?;
+        assert!(rt; line.as_deref() == answer, "{script:?}");
     }
     Ok(())
 }
@@ -69,15 +56,15 @@ fn keys_are_answered(rt: HostRuntime) -> Result<(), Fail> {
 fn read_lines_come_back(rt: HostRuntime) -> Result<(), Fail> {
     let alloc = rt.alloc();
     let mut host = host_of_three(alloc)?;
-    for (keys, answer) in [
-        ("copy a\n", Some("copy a")),
-        ("move b\n", Some("move b")),
-        ("count!", None),
-        ("^\n", Some("move b")),
-        ("^^\n", Some("copy a")),
+    for (script, answer) in [
+        ("type copy a\nkey Enter", Some("copy a")),
+        ("type move b\nkey Enter", Some("move b")),
+        ("type count\nkey Escape", None),
+        ("key Up\nkey Enter", Some("move b")),
+        ("key Up\nkey Up\nkey Enter", Some("copy a")),
     ] {
-        let line = read(alloc, &mut host, keys)?;
-        assert!(rt; line.as_deref() == answer, "{keys:?}");
+        let line = read(alloc, &mut host, script)?;
+        assert!(rt; line.as_deref() == answer, "{script:?}");
     }
     Ok(())
 }
@@ -87,39 +74,30 @@ fn read_lines_come_back(rt: HostRuntime) -> Result<(), Fail> {
 fn a_refused_reading_adds_nothing(rt: HostRuntime) -> Result<(), Fail> {
     let alloc = rt.alloc();
     let mut host = host_of_three(alloc)?;
-    let mut terminal = terminal_of(alloc, "copy\n")?;
+    let mut terminal = terminal_of(alloc, "type copy\nkey Enter")?;
     terminal.fail_at(5, 0);
-    let refused = read_command(alloc, &mut terminal, &mut host);
+    let refused = LineEditor::new(alloc, &mut terminal)?.read_line_and_remember(&mut host);
     assert_eq!(rt; refused.err().map(|error| error.number()), Some(7));
     assert_eq!(rt; host.history().last(), None);
     Ok(())
 }
 
-/// The first changes that show the line in the last painting for these keys. Five changes stand before them.
-fn shown_line(alloc: Global, keys: &str, count: usize) -> Result<Vec<Change>, Fail> {
-    let mut host = host_of_three(alloc)?;
-    let mut terminal = terminal_of(alloc, keys)?;
-    read_command(alloc, &mut terminal, &mut host)?;
-    let mut changes = Vec::new(alloc);
-    let batches = terminal.batches();
-    let painting = batches.iter().rev().nth(1).ok_or("no painting")?;
-    for change in painting.iter().skip(5).take(count) {
-        changes.push(change.try_clone(alloc)?)?;
-    }
-    Ok(changes)
-}
-
 #[test]
 fn commands_are_bold(rt: HostRuntime) -> Result<(), Fail> {
     let alloc = rt.alloc();
-    let bold = [
-        Change::Attribute(AttributeChange::Intensity(Intensity::Bold)),
-        Change::Text(String::from_str(alloc, "copy")?),
-        Change::Attribute(AttributeChange::Intensity(Intensity::Normal)),
-        Change::Text(String::from_str(alloc, " copy")?),
-    ];
-    let plain = [Change::Text(String::from_str(alloc, "cop copy")?)];
-    assert!(rt; shown_line(alloc, "copy copy", 4)?.as_slice() == bold.as_slice());
-    assert!(rt; shown_line(alloc, "cop copy", 1)?.as_slice() == plain.as_slice());
+    let mut attributes = CellAttributes::default();
+    attributes.intensity = Intensity::Bold;
+    let bold = format!(in alloc; "{{}}> {{}}{{{attributes:?}}}copy{{}} copy")?;
+    for (script, shown) in [
+        ("type copy copy\nkey Enter", bold.as_str()),
+        ("type cop copy\nkey Enter", "{}> {}cop copy"),
+    ] {
+        let mut host = host_of_three(alloc)?;
+        let mut terminal = terminal_of(alloc, script)?;
+        LineEditor::new(alloc, &mut terminal)?.read_line_and_remember(&mut host)?;
+        let painting = last_painting(&terminal).ok_or("no painting")?;
+        let marked = marked_text(alloc, painting)?;
+        assert!(rt; marked.as_str() == shown, "{marked}");
+    }
     Ok(())
 }

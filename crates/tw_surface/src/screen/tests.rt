@@ -256,3 +256,143 @@ fn beyond_the_width(rt: HostRuntime) -> Result<(), Fail> {
     }
     Ok(())
 }
+
+fn assert_row(
+    rt: &(impl Abort + Print),
+    alloc: Global,
+    screen: &Screen,
+    row: usize,
+    shown: &str,
+) -> Result<(), Fail> {
+    let mut text = String::from_str(alloc, "|")?;
+    screen.push_row(row, 7, &mut text)?;
+    assert_eq!(rt; text.as_str(), shown, "in row {row}");
+    Ok(())
+}
+
+#[test]
+fn near_and_far_rows(rt: HostRuntime) -> Result<(), Fail> {
+    let mut screen = new_screen(rt.alloc(), 5)?;
+    assert_row(&rt, rt.alloc(), &screen, 0, "|       ")?;
+    for step in [
+        Step::Text("abcdefg"),
+        Step::To(LAST, 1),
+        Step::Text("far"),
+        Step::To(1, 1),
+        Step::Text("GHIJKL"),
+        Step::To(LAST, 2),
+        Step::Text("A"),
+    ] {
+        assert_eq!(rt;
+            apply_step(&mut screen, rt.alloc(), step)?,
+            Ok(()),
+            "at {step:?}"
+        );
+    }
+    for (row, shown) in [
+        (0, "|abcde  "),
+        (1, "|fGHIJ  "),
+        (2, "|KL     "),
+        (3, "|       "),
+        (LAST, "| fAr   "),
+        (usize::MAX, "|       "),
+    ] {
+        assert_row(&rt, rt.alloc(), &screen, row, shown)?;
+    }
+    assert_eq!(rt; screen.last_row(), Some(LAST));
+    assert_eq!(rt;
+        apply_step(&mut screen, rt.alloc(), Step::To(1, 3))?,
+        Ok(())
+    );
+    assert_eq!(rt;
+        apply_step(&mut screen, rt.alloc(), Step::ClearToEnd)?,
+        Ok(())
+    );
+    assert_row(&rt, rt.alloc(), &screen, 1, "|fGH    ")?;
+    assert_row(&rt, rt.alloc(), &screen, LAST, "|       ")?;
+    assert_eq!(rt; screen.last_row(), Some(1));
+    Ok(())
+}
+
+fn apply_all(
+    screen: &mut Screen,
+    rt: &impl Abort,
+    alloc: Global,
+    steps: &[Step],
+) -> Result<(), Fail> {
+    for step in steps {
+        assert_eq!(rt; apply_step(screen, alloc, *step)?, Ok(()), "at {step:?}");
+    }
+    Ok(())
+}
+
+// A far cell, and then texts that close the gap before it: 4,096 places and 32 more for each character.
+#[test]
+fn far_cells_become_near(rt: HostRuntime) -> Result<(), Fail> {
+    let mut screen = new_screen(rt.alloc(), 5)?;
+    let far = [Step::To(900, 1), Step::Text("far"), Step::To(0, 0)];
+    apply_all(&mut screen, &rt, rt.alloc(), &far)?;
+    assert_eq!(rt; (screen.near.len(), screen.far.len()), (0, 3));
+    apply_all(
+        &mut screen,
+        &rt,
+        rt.alloc(),
+        &[Step::To(100, 0), Step::Text("abcdefghij")],
+    )?;
+    assert_eq!(rt; (screen.near.len(), screen.far.len()), (4_504, 0));
+    for (row, shown) in [
+        (100, "|abcde  "),
+        (101, "|fghij  "),
+        (899, "|       "),
+        (900, "| far   "),
+    ] {
+        assert_row(&rt, rt.alloc(), &screen, row, shown)?;
+    }
+    assert_eq!(rt; screen.last_row(), Some(900));
+    Ok(())
+}
+
+#[test]
+fn near_cells_end_in_no_blank(rt: HostRuntime) -> Result<(), Fail> {
+    let mut screen = new_screen(rt.alloc(), 5)?;
+    for (step, near) in [
+        (Step::To(700, 0), 0),
+        (Step::Text(""), 0),
+        (Step::Text("   "), 0),
+        (Step::Text("\r\n"), 0),
+        (Step::Text(" a  "), 3_507),
+        (Step::To(700, 0), 3_507),
+        (Step::Text("b \r\n"), 3_507),
+        (Step::Text("  "), 3_501),
+        (Step::Clear, 0),
+    ] {
+        assert_eq!(rt;
+            apply_step(&mut screen, rt.alloc(), step)?,
+            Ok(()),
+            "at {step:?}"
+        );
+        assert_eq!(rt; screen.near.len(), near, "after {step:?}");
+        assert_eq!(rt; screen.far.len(), 0, "after {step:?}");
+    }
+    Ok(())
+}
+
+#[test]
+fn the_widest_screen_keeps_few_cells(rt: HostRuntime) -> Result<(), Fail> {
+    let mut screen = new_screen(rt.alloc(), 65_535)?;
+    for row in 0..100 {
+        apply_all(
+            &mut screen,
+            &rt,
+            rt.alloc(),
+            &[Step::To(row, 0), Step::Text("> line")],
+        )?;
+    }
+    assert_eq!(rt; (screen.near.len(), screen.far.len()), (6, 495));
+    assert_eq!(rt; screen.last_row(), Some(99));
+    let mut shown = String::new(rt.alloc());
+    screen.push_row(99, 65_535, &mut shown)?;
+    assert_eq!(rt; shown.len(), 65_535);
+    assert_eq!(rt; shown.trim_end(), "> line");
+    Ok(())
+}

@@ -1,28 +1,23 @@
 use Rattle.std.proofs.Common.{sym}
 use Rattle.std.proofs.lemmas.Result.{err_from_is_err_and}
-use Rattle.tw_lineedit.proofs.TurnLemmas.{paint_refused, over, done, poll_refused, event_refused, continues}
+use Rattle.tw_lineedit.proofs.TurnLemmas.{over, done, poll_refused, event_refused, continues}
 use Rattle.tw_lineedit.proofs.editor.LineEditor+T.turn.Goals as goal
 
-pub returns-in_err-paint-clause-err : goal.returns-in_err-paint-clause-err
-returns-in_err-paint-clause-err g c =
-    let p = err_from_is_err_and c.from_residual.result c.from_residual.ensures.1 in
-    rw (p.1, p.2) (paint_refused g.H.LineEditorHost.rules _ _ c.in_err-paint.field-0.0 c.in_err-paint.ensures.err)
-
 pub returns-then-is_over-clause-ok : goal.returns-then-is_over-clause-ok
-returns-then-is_over-clause-ok g c = over g.H.LineEditorHost.rules _ _ c.in_ok-paint.ensures.ok (sym c.if-is_over.ensures)
+returns-then-is_over-clause-ok g c = over g.H.LineEditorHost.rules _ (sym c.if-is_over.ensures)
 
 pub returns-in_err-event-clause-err : goal.returns-in_err-event-clause-err
 returns-in_err-event-clause-err g c =
-    let p = err_from_is_err_and c.from_residual-in_err-event.result c.from_residual-in_err-event.ensures.1 in
-    rw (p.1, p.2) (poll_refused g.H.LineEditorHost.rules _ _ _ c.in_err-event.field-0.0 c.in_ok-paint.ensures.ok (sym c.if-is_over.ensures) c.in_err-event.ensures.err)
+    let p = err_from_is_err_and c.from_residual.result c.from_residual.ensures.1 in
+    rw (p.1, p.2) (poll_refused g.H.LineEditorHost.rules _ _ c.in_err-event.field-0.0 (sym c.if-is_over.ensures) c.in_err-event.ensures.err)
 
-pub returns-in_err-handle-in-Some-clause-err : goal.returns-in_err-handle-in-Some-clause-err
-returns-in_err-handle-in-Some-clause-err g c =
-    let p = err_from_is_err_and c.from_residual-in_err-handle-in-Some.result c.from_residual-in_err-handle-in-Some.ensures.1 in
-    rw (p.1, p.2) (event_refused g.H.LineEditorHost.rules _ _ _ _ _ c.in_err-handle-in-Some.field-0.0 c.in_ok-paint.ensures.ok (sym c.if-is_over.ensures) (rw c.in-Some.is at c.in_ok-event.ensures.ok) c.in_err-handle-in-Some.ensures.err)
+pub returns-in_err-advance-in-Some-clause-err : goal.returns-in_err-advance-in-Some-clause-err
+returns-in_err-advance-in-Some-clause-err g c =
+    let p = err_from_is_err_and c.from_residual-in_err-advance-in-Some.result c.from_residual-in_err-advance-in-Some.ensures.1 in
+    rw (p.1, p.2) (event_refused g.H.LineEditorHost.rules _ _ _ _ c.in_err-advance-in-Some.field-0.0 (sym c.if-is_over.ensures) (rw c.in-Some.is at c.in_ok-event.ensures.ok) c.in_err-advance-in-Some.ensures.err)
 
-pub returns-in_ok-handle-in-Some-clause-ok : goal.returns-in_ok-handle-in-Some-clause-ok
-returns-in_ok-handle-in-Some-clause-ok g c = continues g.H.LineEditorHost.rules _ _ _ _ _ c.in_ok-paint.ensures.ok (sym c.if-is_over.ensures) (rw c.in-Some.is at c.in_ok-event.ensures.ok) c.in_ok-handle-in-Some.ensures.ok
+pub returns-in_ok-advance-in-Some-clause-ok : goal.returns-in_ok-advance-in-Some-clause-ok
+returns-in_ok-advance-in-Some-clause-ok g c = continues g.H.LineEditorHost.rules _ _ _ _ (sym c.if-is_over.ensures) (rw c.in-Some.is at c.in_ok-event.ensures.ok) c.in_ok-advance-in-Some.ensures.ok
 
 pub returns-in-None-clause-ok : goal.returns-in-None-clause-ok
-returns-in-None-clause-ok g c = done g.H.LineEditorHost.rules _ _ _ c.in_ok-paint.ensures.ok (rw c.in-None.is at c.in_ok-event.ensures.ok)
+returns-in-None-clause-ok g c = done g.H.LineEditorHost.rules _ _ (rw c.in-None.is at c.in_ok-event.ensures.ok)

@@ -1,9 +1,9 @@
 use Rattle.std.proofs.Common.{arith, ap}
-use Rattle.tw_surface.proofs.CellClears.{blank_outside}
+use Rattle.tw_surface.proofs.NearCells.{shown_outside}
 use Rattle.tw_surface.proofs.screen.Screen.char_at.Goals as goal
 
 -- no cell stands outside the width
 pub returns-clause-outside : goal.returns-clause-outside
 returns-clause-outside c = λ outside.
     let width_is = ap (λ screen. screen.width) c.self.view_is in
-    rw (c.char_in.ensures, c.deref.ensures.value) (blank_outside c.self.inside.width _ _ _ c.self.invariant.sparse (omega (arith, width_is)))
+    rw (c.shown_char.ensures, c.deref.ensures.value, c.deref-2.ensures.value) (shown_outside c.self.inside.width _ _ _ _ c.self.invariant.sound.sparse (omega (arith, width_is)))

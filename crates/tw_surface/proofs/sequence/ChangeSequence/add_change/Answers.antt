@@ -27,13 +27,13 @@ returns-then-is_err c =
     let e : stays_in_range c.args.self.now.cols (change_view c.args.change) (place c.args.self.now) ≡ true =
     ap (λ d. stays_in_range d.cols (change_view c.args.change) (place d)) (sym c.self.view_is)
     ∙ stays-measured d c.self.inside.reached (change_view c.args.change) true c.self.invariant c.in-Some.ensures.0 in
-    record { added = search rules; refused = rw (c.push.ensures.items, c.if-is_err.ensures.negation) c.self.view_is; range = in_range _ _ e (λ is. cc) }
+    record { added = search rules; refused = rw (c.push_change.ensures.items, c.if-is_err.ensures.negation) c.self.view_is; range = in_range _ _ e (λ is. cc) }
 
 pub invariant_of-self-2 : goal.invariant_of-self-2
 invariant_of-self-2 c =
     measured-add (record { cols = c.self.inside.cols; changes = batch_view c.self.inside.changes.items }) c.self.inside.reached c.in-Some.next (change_view c.args.change) _
     c.self.invariant c.in-Some.ensures.0 c.in-Some.ensures.1
-    (rw (c.push.ensures.items, c.if-is_err.ensures.negation) (map-append change_view c.self.inside.changes.items (c.args.change ∷ [])))
+    (rw (c.push_change.ensures.items, c.if-is_err.ensures.negation) (map-append change_view c.self.inside.changes.items (c.args.change ∷ [])))
 
 pub returns : goal.returns
 returns c =
@@ -42,7 +42,7 @@ returns c =
     ap (λ d. stays_in_range d.cols (change_view c.args.change) (place d)) (sym c.self.view_is)
     ∙ stays-measured d c.self.inside.reached (change_view c.args.change) true c.self.invariant c.in-Some.ensures.0 in
     record {
-      added = rw (c.push.ensures.items, c.if-is_err.ensures.negation, map-append change_view c.self.inside.changes.items (c.args.change ∷ [])) (ap (λ d. more d) c.self.view_is);
+      added = rw (c.push_change.ensures.items, c.if-is_err.ensures.negation, map-append change_view c.self.inside.changes.items (c.args.change ∷ [])) (ap (λ d. more d) c.self.view_is);
       refused = search rules;
       range = in_range _ _ e (λ is. cc);
     }

@@ -1,0 +1,4 @@
+pub mod WordLemmas
+pub mod CompletionLemmas
+pub mod TokenLemmas
+pub mod FaithfulLemmas

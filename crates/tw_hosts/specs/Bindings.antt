@@ -1,0 +1,58 @@
+-- A host's own keys, as a table.
+use Rattle.std.specs.Prelude.{List, [], ◌∷◌, Option, Some, None, option_map, if◌then◌else◌}
+use Rattle.tw_input.specs.declared.key.KeyEvent.{KeyEvent}
+use Rattle.tw_input.specs.EventView.{EventView, Key, Resized, Paste, Wake}
+use Rattle.tw_line.specs.declared.movements.Movement.TheVariants.{EndOfLine}
+use Rattle.tw_host.specs.ActionView.{ActionView}
+use Rattle.tw_host.specs.ActionView as view
+use Rattle.tw_line.specs.Cut.{Cut, empty_cut}
+use Rattle.tw_host.specs.HostRules.{Resolution}
+use Rattle.tw_host.specs.KeyTable.{is_same_key}
+use Rattle.tw_hosts.specs.declared.bindings.KeyBinding.{KeyBinding}
+use Rattle.tw_hosts.specs.declared.bindings.Binding.{Binding}
+use Rattle.tw_hosts.specs.declared.bindings.Binding.TheVariants.{Clear, Cancel, Accept, Move, Kill, Complete, Ignore}
+
+-- what the first row with this key says
+abbrev pub bound : List KeyBinding → KeyEvent → Option Binding
+bound [] key = None
+bound (row ∷ rest) key = if is_same_key row.key key then Some row.binding else bound rest key
+
+-- the action of a binding: a cleared line is killed to its end, which ends a completion
+abbrev pub binding_action : Binding → ActionView
+binding_action Clear = view.Kill EndOfLine
+binding_action Cancel = view.Cancel
+binding_action Accept = view.AcceptLine
+binding_action (Move movement) = view.Move movement
+binding_action (Kill movement) = view.Kill movement
+binding_action Complete = view.Complete
+binding_action Ignore = view.NoAction
+
+-- the line before that action: empty where it is to be cleared
+abbrev pub binding_cut : Binding → Cut → Cut
+binding_cut Clear cut = empty_cut
+binding_cut Cancel cut = cut
+binding_cut Accept cut = cut
+binding_cut (Move movement) cut = cut
+binding_cut (Kill movement) cut = cut
+binding_cut Complete cut = cut
+binding_cut Ignore cut = cut
+
+-- what a binding makes of the line, if there is one
+abbrev pub cut_by : Option Binding → Cut → Cut
+cut_by (Some binding) cut = binding_cut binding cut
+cut_by None cut = cut
+
+-- what the table says of an event: a key may have a row, and nothing else has one
+abbrev pub bound_event : List KeyBinding → EventView → Option Binding
+bound_event rows (Key key) = bound rows key
+bound_event rows (Resized cols height) = None
+bound_event rows (Paste text) = None
+bound_event rows Wake = None
+
+-- what the table makes of an event: the action of its binding, if it has one, on the line that the binding leaves
+abbrev pub resolved_event : {V : Type 0} → V → List KeyBinding → EventView → Cut → Resolution V
+resolved_event v rows event cut = record {
+  value = v;
+  cut = cut_by (bound_event rows event) cut;
+  action = option_map binding_action (bound_event rows event);
+}

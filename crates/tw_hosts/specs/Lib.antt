@@ -1,0 +1,7 @@
+pub mod Words
+pub mod WordCompletion
+pub mod Tokens
+pub mod Bindings
+pub mod Hints
+pub mod TableRules
+pub mod FaithfulParts

@@ -1,0 +1,52 @@
+-- How a line is cut into tokens, and how each is shown. A token is a quoted text, a space, or what stands up to one of them.
+use Rattle.std.specs.Prelude.{ℕ, zero, suc, ◌==◌, ◌+◌, Bool, false, List, [], ◌∷◌, ◌++◌, length, take, drop, min, if◌then◌else◌}
+use Rattle.std.specs.List.{position_or_len}
+use Rattle.tw_surface.specs.Defaults.{default_attributes}
+use Rattle.tw_surface.specs.declared.cell.CellAttributes.{CellAttributes}
+use Rattle.tw_host.specs.ElementView.{ElementView, AllAttributes, Text}
+use Rattle.tw_hosts.specs.Words.{is_known}
+use Rattle.tw_hosts.specs.declared.tokens.Styles.{Styles}
+
+-- how many bytes stand before the first such byte, or all
+abbrev pub up_to : ℕ → List ℕ → ℕ
+up_to mark text = position_or_len (λ byte. byte == mark) text
+
+-- whether a text begins with a quotation mark
+abbrev pub is_quote : List ℕ → Bool
+is_quote [] = false
+is_quote (byte ∷ rest) = byte == 39
+
+-- the length of a quoted text: up to the next mark, which is part of it, or to the end
+abbrev pub quote_len : List ℕ → ℕ
+quote_len text = min (up_to 39 (drop 1 text) + 2) (length text)
+
+-- the length of a word, or of one space
+abbrev pub word_len : List ℕ → ℕ
+word_len text = let end = min (up_to 32 text) (up_to 39 text) in if end == 0 then 1 else end
+
+-- the length of the first token of a text
+abbrev pub token_len : List ℕ → ℕ
+token_len text = if is_quote text then quote_len text else word_len text
+
+-- a text with these attributes, and the default ones behind it
+abbrev pub styled : CellAttributes → List ℕ → List ElementView
+styled attributes text = AllAttributes attributes ∷ Text text ∷ AllAttributes default_attributes ∷ []
+
+-- a quoted text and a keyword in their styles, all else as it is
+abbrev pub styled_token : Styles → List (List ℕ) → List ℕ → List ElementView
+styled_token styles keywords token =
+    if is_quote token then styled styles.quote token
+    else if is_known keywords token then styled styles.keyword token
+    else Text token ∷ []
+
+-- the first so many tokens of a text
+unfoldable pub styled_tokens : ℕ → Styles → List (List ℕ) → List ℕ → List ElementView
+styled_tokens zero styles keywords text = []
+styled_tokens (suc count) styles keywords [] = []
+styled_tokens (suc count) styles keywords (byte ∷ rest) =
+    let text = byte ∷ rest in
+    styled_token styles keywords (take (token_len text) text) ++ styled_tokens count styles keywords (drop (token_len text) text)
+
+-- all tokens of a line: it has no more than bytes
+abbrev pub styled_line : Styles → List (List ℕ) → List ℕ → List ElementView
+styled_line styles keywords line = styled_tokens (length line) styles keywords line

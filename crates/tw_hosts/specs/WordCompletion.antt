@@ -1,0 +1,17 @@
+-- Completing the word before the cursor.
+use Rattle.std.specs.Prelude.{ℕ, ◌-◌, List, length, take, map, filter}
+use Rattle.tw_host.specs.CandidateView.{CandidateView}
+use Rattle.tw_line.specs.Cut.{Cut}
+use Rattle.tw_hosts.specs.Words.{begins_with, last_word}
+
+-- a text in the place of a part of the line
+abbrev pub candidate : ℕ → ℕ → List ℕ → CandidateView
+candidate start end text = record { start = start; end = end; text = text }
+
+-- those of the words that begin with the one before a cursor, each in its place
+abbrev pub offered : ℕ → List ℕ → List (List ℕ) → List CandidateView
+offered cursor word words = map (candidate (cursor - length word) cursor) (filter (begins_with word) words)
+
+-- what completes the word before the cursor
+abbrev pub completions : List (List ℕ) → Cut → List CandidateView
+completions words cut = offered cut.cursor (last_word (take cut.cursor cut.line)) words

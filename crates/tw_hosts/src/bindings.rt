@@ -1,0 +1,99 @@
+//! A host's own keys, as a table.
+
+ghost use Rattle.std.specs.Prelude.{◌≡◌, option_map};
+ghost use Rattle.tw_input.specs.EventView.{event_view};
+ghost use Rattle.tw_host.specs.ActionView.{action_view};
+ghost use Rattle.tw_host.specs.KeyTable.{is_same_key};
+ghost use Rattle.tw_hosts.specs.Bindings.{binding_action, binding_cut, bound, bound_event, cut_by};
+
+use tw_host::Action;
+use tw_input::{InputEvent, KeyEvent};
+use tw_line::{LineEditBuffer, Movement};
+
+/// What a key does.
+#[derive(Clone, Copy, Debug)]
+pub enum Binding {
+    /// Clears the line, and ends a completion.
+    Clear,
+    /// Ends the editing, with no line.
+    Cancel,
+    /// Ends the editing, with the line.
+    Accept,
+    /// Moves the cursor.
+    Move(Movement),
+    /// Removes what lies up to where the movement leads.
+    Kill(Movement),
+    /// Completes.
+    Complete,
+    /// Nothing, also where the editor's key table has an action.
+    Ignore,
+}
+
+/// A key with its modifiers, and what it does.
+#[derive(Clone, Copy, Debug)]
+pub struct KeyBinding {
+    /// The key. A letter with CTRL is written in upper case, as in the editor's key table.
+    pub key: KeyEvent,
+    /// What it does.
+    pub binding: Binding,
+}
+
+fn is_same(key: KeyEvent, other: KeyEvent) -> bool
+    ensures { result ≡ is_same_key key other }
+{
+    key == other
+}
+
+/// What the first row with this key says. It takes no memory.
+pub fn bound(rows: &[KeyBinding], key: KeyEvent) -> Option<Binding>
+    ensures { result ≡ bound rows.now key }
+{
+    for row in rows {
+        if is_same(row.key, key) {
+            return Some(row.binding);
+        }
+    }
+    None
+}
+
+/// The action of a binding. A line that is to be cleared is killed up to its end, which ends a completion.
+pub fn binding_action(binding: Binding) -> Action
+    ensures { action_view result ≡ binding_action binding }
+{
+    match binding {
+        Binding::Clear => Action::Kill(Movement::EndOfLine),
+        Binding::Cancel => Action::Cancel,
+        Binding::Accept => Action::AcceptLine,
+        Binding::Move(movement) => Action::Move(movement),
+        Binding::Kill(movement) => Action::Kill(movement),
+        Binding::Complete => Action::Complete,
+        Binding::Ignore => Action::NoAction,
+    }
+}
+
+/// Empties the line where a binding clears it.
+fn clear_if(binding: Binding, editor: &mut LineEditBuffer)
+    ensures { editor.new ≡ binding_cut binding editor.old }
+{
+    if let Binding::Clear = binding {
+        editor.clear();
+    }
+}
+
+/// What the table makes of an event, for a host's `resolve_action`: the action of a key that has a row, and none for
+/// every other event. It takes no memory.
+pub fn resolve_key(
+    rows: &[KeyBinding],
+    event: &InputEvent,
+    editor: &mut LineEditBuffer,
+) -> Option<Action>
+    ensures cut { editor.new ≡ cut_by (bound_event rows.now (event_view event.now)) editor.old }
+    ensures action { option_map action_view result ≡ option_map binding_action (bound_event rows.now (event_view event.now)) }
+{
+    let InputEvent::Key(key) = event else {
+        return None;
+    };
+    let binding = bound(rows, *key)?;
+    clear_if(binding, editor);
+    Some(binding_action(binding))
+}

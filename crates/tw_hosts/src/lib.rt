@@ -1,0 +1,23 @@
+//! Ready parts of hosts for the line editor, each a function with a contract beside the rule that it answers by, and a
+//! host of tables that stands on them.
+//!
+//! `words` has the words of a line and what completes them; `tokens` how a line is cut into tokens and shown with
+//! keywords and quoted texts in their styles; `bindings` a host's own keys; `hints` what is shown under the line;
+//! `table_host` the host that holds these as plain data.
+#![tactic(auto)]
+
+mod bindings;
+mod hints;
+pub mod laws;
+mod table_host;
+mod tokens;
+mod words;
+
+pub use bindings::{Binding, KeyBinding, binding_action, bound, resolve_key};
+pub use hints::{Hint, show_hint};
+pub use table_host::{TableHost, Tables};
+pub use tokens::{Styles, highlight_tokens, split_token, styled};
+pub use words::{complete_word, first_word, is_known, last_word, split_first_word};
+
+#[cfg(test)]
+mod tests;

@@ -1,0 +1,125 @@
+//! How a line is cut into tokens, and how each is shown.
+
+ghost use Rattle.std.specs.Prelude.{◌≡◌, ◌<◌, IfOk, IsCharBoundary, drop, length, map, string_bytes, take};
+ghost use Rattle.tw_host.specs.ElementView.{element_view};
+ghost use Rattle.tw_hosts.specs.Tokens.{is_quote, styled, styled_line, styled_token, token_len, up_to};
+
+use crate::words::is_known;
+use std::alloc::{AllocError, Global};
+use tw_host::{OutputElement, plain_element};
+use tw_surface::CellAttributes;
+
+/// The attributes in which keywords and quoted texts are shown.
+#[derive(Clone, Copy, Debug, PartialEq, Eq)]
+pub struct Styles {
+    /// Those of a keyword.
+    pub keyword: CellAttributes,
+    /// Those of a quoted text, with its marks.
+    pub quote: CellAttributes,
+}
+
+/// How many bytes stand before the first mark, or all where there is none.
+fn up_to(text: &str, mark: char) -> usize
+    requires { mark < 128 }
+    ensures value { result ≡ up_to mark text.now }
+    ensures boundary { IsCharBoundary text.now result }
+{
+    match text.find(mark) {
+        Some(at) => at,
+        None => text.len(),
+    }
+}
+
+/// Whether a text begins with a quotation mark.
+fn is_quote(text: &str) -> bool
+    ensures { result ≡ is_quote text.now }
+{
+    text.starts_with('\'')
+}
+
+/// The length of the first token of a text, in bytes.
+fn token_len(text: &str) -> usize
+    requires { 0 < length text.now }
+    ensures value { result ≡ token_len text.now }
+    ensures boundary { IsCharBoundary text.now result }
+{
+    if is_quote(text) {
+        let (_, body) = text.split_at(1);
+        let end = up_to(body, '\'');
+        if end < body.len() {
+            return end + 2;
+        }
+        return text.len();
+    }
+    let end = up_to(text, ' ').min(up_to(text, '\''));
+    if end == 0 { 1 } else { end }
+}
+
+/// The first token of a text that is not empty, and what follows it. A token is a text in single quotation marks, or
+/// up to the end where the second mark is missing; a space; or what stands up to one of them.
+pub fn split_token(text: &str) -> (&str, &str)
+    requires { 0 < length text.now }
+    ensures token { result.0.now ≡ take (token_len text.now) text.now }
+    ensures rest { result.1.now ≡ drop (token_len text.now) text.now }
+{
+    text.split_at(token_len(text))
+}
+
+/// A text with these attributes: they are set before it, and the default ones behind it.
+pub fn styled(
+    alloc: Global,
+    attributes: CellAttributes,
+    text: &str,
+) -> Result<Vec<OutputElement>, AllocError>
+    ensures { IfOk result (λ elements. map element_view elements.items ≡ styled attributes text.now) }
+{
+    let elements = vec![in alloc;
+        OutputElement::AllAttributes(attributes),
+        OutputElement::Text(String::from_str(alloc, text)?),
+        OutputElement::AllAttributes(CellAttributes::default()),
+    ]?;
+    Ok(elements)
+}
+
+/// A token as it is shown.
+fn show_token(
+    alloc: Global,
+    styles: Styles,
+    keywords: &[String],
+    token: &str,
+) -> Result<Vec<OutputElement>, AllocError>
+    ensures { IfOk result (λ elements. map element_view elements.items
+        ≡ styled_token styles (map string_bytes keywords.now) token.now) }
+{
+    if is_quote(token) {
+        return styled(alloc, styles.quote, token);
+    }
+    if is_known(keywords, token) {
+        return styled(alloc, styles.keyword, token);
+    }
+    plain_element(alloc, token)
+}
+
+/// The tokens of a line, one after the other: a quoted text and a keyword in their styles, all else as it is.
+pub fn highlight_tokens(
+    alloc: Global,
+    styles: Styles,
+    keywords: &[String],
+    line: &str,
+) -> Result<Vec<OutputElement>, AllocError>
+    ensures { IfOk result (λ elements. map element_view elements.items
+        ≡ styled_line styles (map string_bytes keywords.now) line.now) }
+{
+    let mut elements = Vec::new(alloc);
+    let mut rest = line;
+    for _ in 0..line.len() {
+        if rest.is_empty() {
+            break;
+        }
+        let (token, after) = split_token(rest);
+        let mut shown = show_token(alloc, styles, keywords, token)?;
+        elements.append(&mut shown)?;
+        rest = after;
+    }
+    Ok(elements)
+}

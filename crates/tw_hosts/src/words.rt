@@ -1,0 +1,72 @@
+//! Words of a line, and what completes the one before the cursor.
+
+ghost use Rattle.std.specs.Prelude.{◌≡◌, ◌≤◌, IfOk, IsCharBoundary, length, map, string_bytes, take};
+ghost use Rattle.tw_host.specs.CandidateView.{candidate_view};
+ghost use Rattle.tw_line.specs.Cut.{cut_at};
+ghost use Rattle.tw_hosts.specs.WordCompletion.{completions};
+ghost use Rattle.tw_hosts.specs.Words.{after_word, first_word, is_known, last_word};
+
+use std::alloc::{AllocError, Global};
+use tw_host::CompletionCandidate;
+
+/// Whether a word is one of these.
+pub fn is_known(words: &[String], word: &str) -> bool
+    ensures { result ≡ is_known (map string_bytes words.now) word.now }
+{
+    words.iter().any(|known| known.as_str() == word)
+}
+
+/// What stands before the first space of a text, or all of it where it has none, and what follows it.
+pub fn split_first_word(text: &str) -> (&str, &str)
+    ensures word { result.0.now ≡ first_word text.now }
+    ensures rest { result.1.now ≡ after_word text.now }
+{
+    match text.find(' ') {
+        Some(end) => text.split_at(end),
+        None => (text, ""),
+    }
+}
+
+/// What stands before the first space of a text, or all of it where it has none.
+pub fn first_word(text: &str) -> &str
+    ensures { result.now ≡ first_word text.now }
+{
+    split_first_word(text).0
+}
+
+/// What stands behind the last space of a text, or all of it where it has none.
+pub fn last_word(text: &str) -> &str
+    ensures value { result.now ≡ last_word text.now }
+    ensures length { length result.now ≤ length text.now }
+{
+    match text.rsplit_once(' ') {
+        Some((_, word)) => word,
+        None => text,
+    }
+}
+
+/// The candidates for the word before a cursor, which is a boundary of the line: those of the words that begin with
+/// it, in their order, each in its place.
+pub fn complete_word(
+    alloc: Global,
+    words: &[String],
+    line: &str,
+    cursor: usize,
+) -> Result<Vec<CompletionCandidate>, AllocError>
+    requires { IsCharBoundary line.now cursor }
+    ensures { IfOk result (λ candidates. map candidate_view candidates.items
+        ≡ completions (map string_bytes words.now) (cut_at line.now cursor)) }
+{
+    let begun = last_word(&line[..cursor]);
+    let start = cursor - begun.len();
+    let mut candidates = Vec::new(alloc);
+    for word in words {
+        if word.as_str().starts_with(begun) {
+            candidates.push(CompletionCandidate {
+                range: start..cursor,
+                text: word.clone()?,
+            })?;
+        }
+    }
+    Ok(candidates)
+}

@@ -1,0 +1,14 @@
+use Rattle.std.proofs.lemmas.Result.{err_from_is_err_and}
+use Rattle.tw_lineedit.specs.Frame.{frame}
+use Rattle.tw_lineedit.proofs.TurnLemmas.{turned_down_later, not_copied_if, ended_later}
+use Rattle.tw_lineedit.proofs.editor.LineEditor+T.take_events.Goals as goal
+
+pub returns-in_err-turn-clause-err : goal.returns-in_err-turn-clause-err
+returns-in_err-turn-clause-err g c =
+    let p = err_from_is_err_and c.from_residual.result c.from_residual.ensures.1 in
+    rw (p.1, p.2)
+    (turned_down_later g.H.LineEditorHost.rules (frame g.T.Terminal.state g.H.LineEditorHost.value c.args.self.now c.args.host.now) (frame g.T.Terminal.state g.H.LineEditorHost.value c.loop.self c.loop.host) (frame g.T.Terminal.state g.H.LineEditorHost.value c.turn.new.self c.turn.new.host)
+    c.in_err-turn.field-0.0 c.loop.invariant.follows c.in_err-turn.ensures.err)
+
+pub returns-clause-err : goal.returns-clause-err
+returns-clause-err g c = not_copied_if g.H.LineEditorHost.rules _ c.answered.result (frame g.T.Terminal.state g.H.LineEditorHost.value c.args.self.now c.args.host.now) _ _ (ended_later g.H.LineEditorHost.rules _ _ _ c.loop.invariant.follows (rw c.if-branch.false at c.in_ok-turn.ensures.ok)) c.answered.ensures.same c.answered.ensures.err c.answered.ensures.line

@@ -1,0 +1,13 @@
+use Rattle.std.proofs.Common.{◌≡◌, length}
+use Rattle.tw_lineedit.specs.Frame.{frame}
+use Rattle.tw_lineedit.specs.Feeding.{Follows}
+use Rattle.tw_lineedit.proofs.editor.LineEditor+T.take_events.Given as goal
+
+abbrev pub invariant-loop : goal.invariant-loop
+invariant-loop g l = record {
+  same_reference : l.self.terminal.ghost_name ≡ l.fn.self.terminal.ghost_name;
+  follows : Follows g.H.LineEditorHost.rules (frame g.T.Terminal.state g.H.LineEditorHost.value l.fn.self l.fn.host) (frame g.T.Terminal.state g.H.LineEditorHost.value l.self l.host);
+}
+
+abbrev pub decreases-loop : goal.decreases-loop
+decreases-loop g l = length (g.T.Terminal.state l.self.terminal.now).events

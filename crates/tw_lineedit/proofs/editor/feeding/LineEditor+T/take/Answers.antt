@@ -1,0 +1,9 @@
+use Rattle.tw_lineedit.specs.Frame.{frame}
+use Rattle.tw_lineedit.proofs.FeedingLemmas.{fed, fed_given_up}
+use Rattle.tw_lineedit.proofs.editor.feeding.LineEditor+T.take.Goals as goal
+
+pub returns-in-Ok-clause-ok : goal.returns-in-Ok-clause-ok
+returns-in-Ok-clause-ok g c = fed g.H.LineEditorHost.rules _ _ _ c.requires.told c.requires.open c.in-Ok.ensures.ok
+
+pub returns-in-Err-clause-err : goal.returns-in-Err-clause-err
+returns-in-Err-clause-err g c = fed_given_up g.H.LineEditorHost.rules _ (frame g.T.Terminal.state g.H.LineEditorHost.value c.args.self.now c.args.host.now) _ _ c.in-Err.refusal c.give_up.result c.requires.told c.in-Err.ensures.err c.give_up.ensures.gives_up

@@ -1,0 +1,174 @@
+-- A line that is fed its events, one after another.
+use Rattle.std.specs.Prelude.{◌≡◌, ◌≢◌, ℕ, ◌<◌, ◌∷◌, [], ◌⊎◌, cond, Bool, true, false, length, List, Option, Some, None, IsSome, Result, Ok, Err}
+use Rattle.tw_input.specs.EventView.{EventView}
+use Rattle.tw_host.specs.ActionView.{Repaint}
+use Rattle.tw_host.specs.HostRules.{HostRules}
+use Rattle.tw_painter.specs.Draws.{IsSized}
+use Rattle.tw_painter.specs.EditState.{EditState, Inactive}
+use Rattle.tw_painter.specs.Painting.{Rendered, clear_batch}
+use Rattle.tw_painter.specs.Refusal.{Refusal}
+use Rattle.tw_painter.specs.declared.error.Error.{Error}
+use Rattle.tw_lineedit.specs.Outcomes.{Outcome, answer_at, IsLine, is_over}
+use Rattle.tw_lineedit.specs.Steps.{TakesMemory}
+use Rattle.tw_lineedit.specs.Run.{Progress, Ending, Moment, Cause, want, fault, Frame, ends, ending, shown, polled, moment, progress_of, painting_at, chosen, answered, handled, state_after, after_event, run, CanStop, Quiet, IsRefusedIn}
+use Rattle.tw_lineedit.specs.Frame.{Paints, Advances}
+use Rattle.tw_lineedit.specs.Reading.{start, unbegun, FailsIn, HaltsIn, HaltsRefused}
+use Rattle.tw_lineedit.specs.declared.editor.feeding.LineStatus.{LineStatus}
+use Rattle.tw_lineedit.specs.declared.editor.feeding.LineStatus.TheVariants.{Open, Ended}
+
+-- whether a line takes more events
+abbrev pub status_if : Bool → LineStatus
+status_if true = Open
+status_if false = Ended
+
+-- the ending behind a painting, or its refusal; no event is taken
+abbrev pub paint_end : {V : Type 0} → List EventView → Progress V → Result Rendered Refusal → Ending V
+paint_end es s (Err n) = ends (Err n) es s
+paint_end es s (Ok p) = ends (answer_at s.state) es (shown s p)
+
+module _ {V : Type 0} (rules : HostRules V) where
+  -- the run that paints, and takes no event
+  abbrev pub painted_run : List EventView → Progress V → Ending V
+  painted_run es s = paint_end es s (painting_at rules s)
+
+  -- the run from a painting on that takes one event; the others are left
+  abbrev pub fed_run : EventView → List EventView → Progress V → Ending V
+  fed_run e es s = after_event rules e es s (painted_run es) (state_after rules s e)
+
+  -- the run from a painting on, over the events behind it
+  abbrev pub run_on : List EventView → Progress V → Ending V
+  run_on [] s = ends (answer_at s.state) [] s
+  run_on (e ∷ es) s = cond (is_over s.state.mode)
+      (ends (answer_at s.state) (e ∷ es) s)
+      (after_event rules e es s (run rules es) (state_after rules s e))
+
+  -- the moments at which a painting can be refused, by the cause
+  pub data CanMiss : Cause → List EventView → Progress V → Moment V → Type 0 where
+    -- the size was not told
+    unmeasured : {es : List EventView} {s : Progress V} → CanMiss fault es s (moment None es s)
+    -- it found no memory; a size that is refused takes none
+    unpainted : {es : List EventView} {s : Progress V} → IsSized s.size → CanMiss want es s (moment None es s)
+    -- it was not rendered
+    half_painted : {es : List EventView} {s : Progress V} {p : Rendered} → painting_at rules s ≡ Ok p → CanMiss fault es s (moment (Some p.changes) es s)
+
+  -- the moments at which an event that is fed can be refused, by the cause
+  pub data CanRefuse : Cause → EventView → List EventView → Progress V → Moment V → Type 0 where
+    -- the host refused the event
+    unresolved : {e : EventView} {es : List EventView} {s : Progress V} → CanRefuse want e es s (moment None es (polled s e))
+    -- the action or its making was refused
+    unapplied : {e : EventView} {es : List EventView} {s : Progress V} → TakesMemory (chosen rules s e) s.state.mode → CanRefuse want e es s (moment None es (answered rules s e))
+    -- the clearing of the screen was not rendered
+    half_cleared : {e : EventView} {es : List EventView} {s : Progress V} → chosen rules s e ≡ Some Repaint → CanRefuse fault e es s (moment (Some clear_batch) es (answered rules s e))
+    -- the painting behind it was refused
+    missed : {c : Cause} {e : EventView} {es : List EventView} {s : Progress V} {state : EditState} {m : Moment V} → state_after rules s e ≡ Ok state → CanMiss c es (handled rules s e state) m → CanRefuse c e es s m
+
+  -- the moments at which the run that takes an event can be stopped, by the cause
+  pub data CanStopAt : Cause → EventView → List EventView → Progress V → Moment V → Type 0 where
+    -- at the event
+    refused : {c : Cause} {e : EventView} {es : List EventView} {s : Progress V} {m : Moment V} → CanRefuse c e es s m → CanStopAt c e es s m
+    -- behind it
+    later : {c : Cause} {e : EventView} {es : List EventView} {s : Progress V} {state : EditState} {m : Moment V} → state_after rules s e ≡ Ok state → CanStop rules c es (handled rules s e state) m → CanStopAt c e es s m
+
+  -- the moments at which the run from a painting on can be stopped
+  pub data CanStopOn : Cause → List EventView → Progress V → Moment V → Type 0 where
+    -- no event was told
+    unpolled : {es : List EventView} {s : Progress V} → is_over s.state.mode ≡ false → CanStopOn fault es s (moment None es s)
+    -- the run ended with a line, and the line was not copied
+    uncopied : {es : List EventView} {s : Progress V} → (is_over s.state.mode ≡ true) ⊎ (es ≡ []) → IsLine (answer_at s.state) → CanStopOn want es s (moment None es s)
+    -- at an event, or behind it
+    at_event : {c : Cause} {e : EventView} {es : List EventView} {s : Progress V} {m : Moment V} → is_over s.state.mode ≡ false → CanStopAt c e es s m → CanStopOn c (e ∷ es) s m
+
+  -- the run from f over these events, before its first painting, goes on from g as one that is painted
+  pub record Begins (f g : Frame V) : Type 0 where
+    pub paints : Paints rules f g
+    pub run : (es : List EventView) → run rules es (progress_of f) ≡ run_on es (progress_of g)
+    pub stops : (c : Cause) (es : List EventView) (m : Moment V) → CanStopOn c es (progress_of g) m → CanStop rules c es (progress_of f) m
+    pub quiet : Quiet f g
+    pub left : g.terminal.events ≡ f.terminal.events
+
+  -- The event was handled and painted: whatever comes later, the run over it and what comes later goes on from g over what comes later.
+  pub record IsFed (e : EventView) (f g : Frame V) : Type 0 where
+    pub advances : Advances rules e f g
+    pub run : (es : List EventView) → run_on (e ∷ es) (progress_of f) ≡ run_on es (progress_of g)
+    pub stops : (c : Cause) (es : List EventView) (m : Moment V) → CanStopOn c es (progress_of g) m → CanStopAt c e es (progress_of f) m
+    pub begun : g.state.mode ≢ Inactive
+    pub quiet : Quiet f g
+    pub left : g.terminal.events ≡ f.terminal.events
+
+  -- what a refusal of the run over these events leaves, before the closing
+  abbrev pub IsRefusedOn : List EventView → Frame V → Frame V → Error → Type 0
+  IsRefusedOn es f g e = IsRefusedIn (run_on es (progress_of f)) (CanStopOn want es (progress_of f)) (CanStopOn fault es (progress_of f)) f g e
+
+  -- A line that begins at f with an initial value.
+  module _ (initial : Option (List ℕ)) (f : Frame V) where
+    -- the run that paints it
+    abbrev pub begun_run : Ending V
+    begun_run = painted_run f.terminal.events (progress_of (start initial f))
+
+    -- where memory can be refused
+    abbrev pub WantsToBegin : Moment V → Type 0
+    WantsToBegin m = CanMiss want f.terminal.events (progress_of (start initial f)) m ⊎ (IsSome initial × (m ≡ unbegun f))
+
+    -- where the terminal can refuse a call before the closing
+    abbrev pub FaultsToBegin : Moment V → Type 0
+    FaultsToBegin m = CanMiss fault f.terminal.events (progress_of (start initial f)) m
+
+    -- what a refused beginning leaves, before the closing
+    abbrev pub IsNotBegun : Frame V → Error → Type 0
+    IsNotBegun g e = IsRefusedIn begun_run WantsToBegin FaultsToBegin f g e
+
+    -- what a refused beginning leaves, once the line is closed
+    abbrev pub FailsToBegin : Frame V → Error → Type 0
+    FailsToBegin g e = FailsIn begun_run WantsToBegin FaultsToBegin (HaltsRefused begun_run WantsToBegin) f g e
+
+  -- An event that is fed to a line at f; those that are left at the terminal come behind it.
+  module _ (e : EventView) (f : Frame V) where
+    -- the run that takes it
+    abbrev pub event_run : Ending V
+    event_run = fed_run e f.terminal.events (progress_of f)
+
+    -- where memory can be refused
+    abbrev pub WantsToFeed : Moment V → Type 0
+    WantsToFeed m = CanRefuse want e f.terminal.events (progress_of f) m
+
+    -- where the terminal can refuse a call before the closing
+    abbrev pub FaultsToFeed : Moment V → Type 0
+    FaultsToFeed m = CanRefuse fault e f.terminal.events (progress_of f) m
+
+    -- what a refused event leaves, once the line is closed
+    abbrev pub FailsToFeed : Frame V → Error → Type 0
+    FailsToFeed g x = FailsIn event_run WantsToFeed FaultsToFeed (HaltsRefused event_run WantsToFeed) f g x
+
+  -- the run from a painting of f leads to one of g: it goes on from g as it does from f
+  pub record Follows (f g : Frame V) : Type 0 where
+    pub run : run_on f.terminal.events (progress_of f) ≡ run_on g.terminal.events (progress_of g)
+    pub stops : (c : Cause) (m : Moment V) → CanStopOn c g.terminal.events (progress_of g) m → CanStopOn c f.terminal.events (progress_of f) m
+    pub quiet : Quiet f g
+
+  pub record Continues (f g : Frame V) : Type 0 where
+    pub follows : Follows f g
+    pub fewer : length g.terminal.events < length f.terminal.events
+
+  -- the run from a painting of f ends at g without refusal
+  pub record IsEnded (f g : Frame V) : Type 0 where
+    pub run : run_on f.terminal.events (progress_of f) ≡ ending (answer_at g.state) g
+    pub stops : IsLine (answer_at g.state) → CanStopOn want f.terminal.events (progress_of f) (moment None g.terminal.events (progress_of g))
+    pub quiet : Quiet f g
+
+  -- the run from a painting of f ends at g with this answer
+  pub record IsAnsweredOn (f g : Frame V) (answer : Outcome) : Type 0 where
+    pub run : run_on f.terminal.events (progress_of f) ≡ ending answer g
+    pub quiet : Quiet f g
+
+module _ {V : Type 0} where
+  -- an editor as if these were the events left
+  abbrev pub as_if : List EventView → Frame V → Frame V
+  as_if es f = record f { terminal = record f.terminal { events = es } }
+
+  -- where the copy of the line finds no memory
+  abbrev pub Uncopied : Frame V → Moment V → Type 0
+  Uncopied f m = IsLine (answer_at f.state) × (m ≡ moment None f.terminal.events (progress_of f))
+
+  -- what a refused answer leaves, once it is closed
+  abbrev pub FailsToFinish : Frame V → Frame V → Error → Type 0
+  FailsToFinish f g e = FailsIn (ending (answer_at f.state) f) (Uncopied f) (λ m. ⊥) (HaltsIn (ending (answer_at f.state) f) (Uncopied f)) f g e

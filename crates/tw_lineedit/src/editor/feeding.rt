@@ -1,0 +1,177 @@
+//! A line that is fed its events as they come.
+
+ghost use Rattle.std.specs.Prelude.{◌≡◌, ◌≢◌, Ok, Err, None, IfOk, IfErr, OnOk, option_map, List, true, false};
+ghost use Rattle.std.specs.Borrow.{sem};
+ghost use Rattle.tw_lineedit.specs.Lent.{LendsTerminal};
+ghost use Rattle.tw_input.specs.EventView.{event_view, EventView};
+ghost use Rattle.tw_terminal.specs.TerminalState.{size_after};
+ghost use Rattle.tw_painter.specs.EditState.{Inactive};
+ghost use Rattle.tw_lineedit.specs.Outcomes.{outcome_of, answer_at, is_open};
+ghost use Rattle.tw_lineedit.specs.Run.{ending};
+ghost use Rattle.tw_lineedit.specs.Frame.{frame};
+ghost use Rattle.tw_lineedit.specs.Feeding.{as_if, status_if, Begins, FailsToBegin, IsFed, FailsToFeed, FailsToFinish};
+ghost use Rattle.tw_lineedit.specs.ScreenRuns.{FirstIsFresh, LaterIsFresh, ClearedIsFresh, ClosesBelow};
+ghost use Rattle.tw_lineedit.specs.ScrollingRuns.{ScrolledIsFresh, ScrolledCloses};
+ghost use Rattle.tw_lineedit.specs.CutRuns.{CutCloses, CutIsFresh};
+ghost use Rattle.tw_lineedit.specs.HealedRuns.{HealedIsFresh, HealedCloses};
+ghost use Rattle.tw_lineedit.specs.Reading.{start, Reads, FailuresTell};
+
+use crate::editor::LineEditor;
+use tw_host::LineEditorHost;
+use tw_input::InputEvent;
+use tw_painter::Error;
+use tw_terminal::Terminal;
+
+/// Whether a line that is fed its events takes more of them.
+#[derive(Debug, Clone, Copy, PartialEq, Eq)]
+pub enum LineStatus {
+    /// It takes more.
+    Open,
+    /// It was accepted or cancelled.
+    Ended,
+}
+
+impl<'term, T: Terminal> LineEditor<'term, T> {
+    /// Begins a line that is fed its events: it is painted, and takes no event of the terminal. The line begins
+    /// with the initial value, its cursor at the end. `Recursive` leaves all as it was. Every other refusal leaves no
+    /// line open: the closing batch is rendered and flushed, unless the terminal refuses that too, which is then
+    /// the answer.
+    ///
+    /// Whatever events the line is fed, a screen shows what `read_line` says of it.
+    pub fn begin_line<H: LineEditorHost>(
+        &mut self,
+        host: &H,
+        initial_value: Option<&str>,
+    ) -> Result<(), Error>
+        ensures same_reference { self.new.terminal.ghost_name ≡ self.old.terminal.ghost_name }
+        ensures recursive { self.old.session.state.mode ≢ Inactive → (result ≡ Err Error.Recursive) × (frame T.state H.value self.new host.now ≡ frame T.state H.value self.old host.now) }
+        ensures untouched { self.old.session.state.mode ≢ Inactive → self.new.terminal.now ≡ self.old.terminal.now }
+        ensures ok { self.old.session.state.mode ≡ Inactive → OnOk result (Begins H.rules (start (option_map (λ s. s.now) initial_value.entry) (frame T.state H.value self.old host.now)) (frame T.state H.value self.new host.now)) }
+        ensures open { self.old.session.state.mode ≡ Inactive → OnOk result (is_open self.new.session.state.mode ≡ true) }
+        ensures err { self.old.session.state.mode ≡ Inactive → IfErr result (FailsToBegin H.rules (option_map (λ s. s.now) initial_value.entry) (frame T.state H.value self.old host.now) (frame T.state H.value self.new host.now)) }
+        ensures first_painting { (events : List EventView) → FirstIsFresh H.rules (as_if events (start (option_map (λ s. s.now) initial_value.entry) (frame T.state H.value self.old host.now))) }
+        ensures later_painting { (events : List EventView) → LaterIsFresh H.rules (as_if events (start (option_map (λ s. s.now) initial_value.entry) (frame T.state H.value self.old host.now))) }
+        ensures cleared_painting { (events : List EventView) → ClearedIsFresh H.rules (as_if events (start (option_map (λ s. s.now) initial_value.entry) (frame T.state H.value self.old host.now))) }
+        ensures closing_batch { (events : List EventView) → ClosesBelow H.rules (as_if events (start (option_map (λ s. s.now) initial_value.entry) (frame T.state H.value self.old host.now))) }
+        ensures scrolled_painting { (events : List EventView) → ScrolledIsFresh H.rules (as_if events (start (option_map (λ s. s.now) initial_value.entry) (frame T.state H.value self.old host.now))) }
+        ensures scrolled_closing { (events : List EventView) → ScrolledCloses H.rules (as_if events (start (option_map (λ s. s.now) initial_value.entry) (frame T.state H.value self.old host.now))) }
+        ensures healed_painting { (events : List EventView) → HealedIsFresh H.rules (as_if events (start (option_map (λ s. s.now) initial_value.entry) (frame T.state H.value self.old host.now))) }
+        ensures healed_closing { (events : List EventView) → HealedCloses H.rules (as_if events (start (option_map (λ s. s.now) initial_value.entry) (frame T.state H.value self.old host.now))) }
+        ensures cut_painting { (events : List EventView) → CutIsFresh H.rules (as_if events (start (option_map (λ s. s.now) initial_value.entry) (frame T.state H.value self.old host.now))) }
+        ensures cut_closing { (events : List EventView) → CutCloses H.rules (as_if events (start (option_map (λ s. s.now) initial_value.entry) (frame T.state H.value self.old host.now))) }
+        ensures failures { FailuresTell result (T.state self.old.terminal.now).failures (T.state self.new.terminal.now).failures }
+    {
+        if self.session.is_inactive() {
+            self.open(host, initial_value)
+        } else {
+            Err(Error::Recursive)
+        }
+    }
+
+    /// Handles an event and paints, and says whether the line takes more events. Where no line takes events nothing
+    /// is done, and the answer is `Ended`. A `Resized` has to tell the size that the terminal has already.
+    ///
+    /// A refusal leaves no line open: the host refused the event, or the action was refused, or the clearing of
+    /// the screen, or the painting. The closing batch is rendered and flushed, unless the terminal refuses that
+    /// too, which is then the answer.
+    pub fn feed<H: LineEditorHost>(
+        &mut self,
+        host: &mut H,
+        event: &InputEvent,
+    ) -> Result<LineStatus, Error>
+        requires { size_after (event_view event.now) (T.state self.old.terminal.now).size ≡ (T.state self.old.terminal.now).size }
+        ensures same_reference { self.new.terminal.ghost_name ≡ self.old.terminal.ghost_name }
+        ensures ended { is_open self.old.session.state.mode ≡ false → (result ≡ Ok LineStatus.Ended) × (frame T.state H.value self.new host.new ≡ frame T.state H.value self.old host.old) }
+        ensures untouched { is_open self.old.session.state.mode ≡ false → (self.new.terminal.now ≡ self.old.terminal.now) × (host.new ≡ host.old) }
+        ensures ok { is_open self.old.session.state.mode ≡ true → OnOk result (IsFed H.rules (event_view event.now) (frame T.state H.value self.old host.old) (frame T.state H.value self.new host.new)) }
+        ensures status { IfOk result (λ status. status ≡ status_if (is_open self.new.session.state.mode)) }
+        ensures err { IfErr result (FailsToFeed H.rules (event_view event.now) (frame T.state H.value self.old host.old) (frame T.state H.value self.new host.new)) }
+        ensures failures { FailuresTell result (T.state self.old.terminal.now).failures (T.state self.new.terminal.now).failures }
+    {
+        if self.session.is_open() {
+            self.take(host, event)?;
+        }
+        Ok(self.status())
+    }
+
+    /// Ends a line that was fed its events: it answers the line, and none where it was cancelled. A line that takes
+    /// more events is answered as it stands. The closing batch is rendered and flushed. No line is open then,
+    /// whether it is refused or not. Where no line was begun nothing is done, and the answer is none.
+    pub fn finish_line<H: LineEditorHost>(&mut self, host: &H) -> Result<Option<String>, Error>
+        ensures same_reference { self.new.terminal.ghost_name ≡ self.old.terminal.ghost_name }
+        ensures inactive { self.old.session.state.mode ≡ Inactive → (result ≡ Ok None) × (frame T.state H.value self.new host.now ≡ frame T.state H.value self.old host.now) }
+        ensures untouched { self.old.session.state.mode ≡ Inactive → self.new.terminal.now ≡ self.old.terminal.now }
+        ensures ok { self.old.session.state.mode ≢ Inactive → IfOk result (λ it. Reads (ending (answer_at self.old.session.state) (frame T.state H.value self.old host.now)) (frame T.state H.value self.old host.now) (frame T.state H.value self.new host.now) (outcome_of (Ok it))) }
+        ensures err { IfErr result (FailsToFinish (frame T.state H.value self.old host.now) (frame T.state H.value self.new host.now)) }
+        ensures failures { FailuresTell result (T.state self.old.terminal.now).failures (T.state self.new.terminal.now).failures }
+    {
+        if self.session.is_inactive() {
+            return Ok(None);
+        }
+        self.end_line(host)
+    }
+
+    /// Answers the line, and closes, whether it was refused or not.
+    #[tactic(auto, using(crate::proofs::ClosingLemmas::finish_closed, crate::proofs::ClosingLemmas::finish_given_up))]
+    fn end_line<H: LineEditorHost>(&mut self, host: &H) -> Result<Option<String>, Error>
+        ensures same_reference { self.new.terminal.ghost_name ≡ self.old.terminal.ghost_name }
+        ensures ok { IfOk result (λ it. Reads (ending (answer_at self.old.session.state) (frame T.state H.value self.old host.now)) (frame T.state H.value self.old host.now) (frame T.state H.value self.new host.now) (outcome_of (Ok it))) }
+        ensures err { IfErr result (FailsToFinish (frame T.state H.value self.old host.now) (frame T.state H.value self.new host.now)) }
+    {
+        match self.answered(host) {
+            Ok(line) => {
+                self.close(host)?;
+                Ok(line)
+            }
+            Err(refusal) => Err(self.give_up(host, refusal)),
+        }
+    }
+
+    /// Lends the terminal, to set its size or to print on it while a line is open. The editor goes on with it as it is
+    /// given back.
+    pub fn terminal(&mut self) -> &mut T
+        ensures* lends { sem 𝓛 (LendsTerminal T.row self.entry result) }
+        ensures shows { result.now ≡ self.old.terminal.now }
+    {
+        self.terminal
+    }
+
+    /// Whether the line takes more events.
+    fn status(&self) -> LineStatus
+        ensures { result ≡ status_if (is_open self.now.session.state.mode) }
+    {
+        if self.session.is_open() {
+            LineStatus::Open
+        } else {
+            LineStatus::Ended
+        }
+    }
+
+    /// Begins a line and paints it, and closes where that is refused.
+    #[tactic(auto, using(crate::proofs::ClosingLemmas::begun_given_up))]
+    fn open<H: LineEditorHost>(&mut self, host: &H, initial: Option<&str>) -> Result<(), Error>
+        ensures same_reference { self.new.terminal.ghost_name ≡ self.old.terminal.ghost_name }
+        ensures ok { OnOk result (Begins H.rules (start (option_map (λ s. s.now) initial.entry) (frame T.state H.value self.old host.now)) (frame T.state H.value self.new host.now)) }
+        ensures err { IfErr result (FailsToBegin H.rules (option_map (λ s. s.now) initial.entry) (frame T.state H.value self.old host.now) (frame T.state H.value self.new host.now)) }
+    {
+        match self.start_line(host, initial) {
+            Ok(()) => Ok(()),
+            Err(refusal) => Err(self.give_up(host, refusal)),
+        }
+    }
+
+    /// Handles an event and paints, and closes where that is refused.
+    #[tactic(auto, using(crate::proofs::FeedingLemmas::fed, crate::proofs::FeedingLemmas::fed_given_up))]
+    fn take<H: LineEditorHost>(&mut self, host: &mut H, event: &InputEvent) -> Result<(), Error>
+        requires told { size_after (event_view event.now) (T.state self.old.terminal.now).size ≡ (T.state self.old.terminal.now).size }
+        requires open { is_open self.old.session.state.mode ≡ true }
+        ensures same_reference { self.new.terminal.ghost_name ≡ self.old.terminal.ghost_name }
+        ensures ok { OnOk result (IsFed H.rules (event_view event.now) (frame T.state H.value self.old host.old) (frame T.state H.value self.new host.new)) }
+        ensures err { IfErr result (FailsToFeed H.rules (event_view event.now) (frame T.state H.value self.old host.old) (frame T.state H.value self.new host.new)) }
+    {
+        match self.advance(host, event) {
+            Ok(()) => Ok(()),
+            Err(refusal) => Err(self.give_up(host, refusal)),
+        }
+    }
+}

@@ -1,0 +1,5 @@
+use Rattle.tw_surface.proofs.NearCells.{trimmed_at}
+use Rattle.tw_surface.proofs.screen.near.trim.Goals as goal
+
+pub returns-clause-kept : goal.returns-clause-kept
+returns-clause-kept c = rw c.truncate.ensures.items (trimmed_at c.args.near.now.items c.loop-end.end c.loop-end.invariant.in_range c.loop-end.invariant.blanks)

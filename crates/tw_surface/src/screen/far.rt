@@ -1,0 +1,113 @@
+//! Far cells: behind the near ones a screen keeps the cells that are not blank, in order, and so no others.
+
+ghost use Rattle.std.specs.Prelude.{◌≡◌, ◌≢◌, ℕ, ◌+◌, ◌*◌, ◌<◌, ◌≤◌, vec_len, vec_capacity, IfOk, IfErr};
+ghost use Rattle.tw_surface.specs.Pictures.{blank, written, cleared};
+ghost use Rattle.tw_surface.specs.Cells.{cell_in, IsInOrder, IsAt, IsGapFor, IsCut, IsSparse};
+
+// A cell that is not blank.
+#[derive(Debug, Copy, Clone)]
+pub struct Cell {
+    pub row: usize,
+    pub col: usize,
+    pub ch: char,
+}
+
+// The index of the cell at a row and a column, or where it would go.
+pub fn find_cell(cells: &[Cell], row: usize, col: usize) -> Result<usize, usize>
+    requires { IsInOrder cells.now }
+    ensures found { IfOk result (IsAt cells.now row col) }
+    ensures absent { IfErr result (IsGapFor cells.now row col) }
+{
+    cells.binary_search_by_key(&(row, col), |cell| (cell.row, cell.col))
+}
+
+// The character at a row and a column.
+pub fn char_in(cells: &[Cell], row: usize, col: usize) -> char
+    requires { IsInOrder cells.now }
+    ensures { result ≡ cell_in cells.now row col }
+{
+    match find_cell(cells, row, col) {
+        Ok(at) => cells[at].ch,
+        Err(_) => ' ',
+    }
+}
+
+// Puts a character that is not a blank.
+fn put_cell(cells: &mut Vec<Cell>, row: usize, col: usize, ch: char)
+    requires visible { ch ≢ blank }
+    requires ascii { ch < 128 }
+    requires room { vec_len cells.old < vec_capacity cells.old }
+    requires ordered { IsInOrder cells.old.items }
+    ensures written { cell_in cells.new.items ≡ written (cell_in cells.old.items) row col ch }
+    ensures sparse { (width first : ℕ) → IsSparse width first cells.old.items → col < width → first ≤ row * width + col → IsSparse width first cells.new.items }
+    ensures len { vec_len cells.new ≤ vec_len cells.old + 1 }
+    ensures capacity { vec_capacity cells.old ≤ vec_capacity cells.new }
+{
+    match find_cell(cells, row, col) {
+        Ok(at) => cells[at] = Cell { row, col, ch },
+        Err(at) => {
+            let _ = cells.insert(at, Cell { row, col, ch });
+        }
+    }
+}
+
+// Puts a blank.
+fn remove_cell(cells: &mut Vec<Cell>, row: usize, col: usize)
+    requires { IsInOrder cells.old.items }
+    ensures written { cell_in cells.new.items ≡ written (cell_in cells.old.items) row col blank }
+    ensures sparse { (width first : ℕ) → IsSparse width first cells.old.items → col < width → first ≤ row * width + col → IsSparse width first cells.new.items }
+    ensures len { vec_len cells.new ≤ vec_len cells.old }
+    ensures capacity { vec_capacity cells.old ≤ vec_capacity cells.new }
+{
+    if let Ok(at) = find_cell(cells, row, col) {
+        cells.remove(at);
+    }
+}
+
+// Puts a character into a cell.
+pub fn write_cell(cells: &mut Vec<Cell>, row: usize, col: usize, ch: char)
+    requires ascii { ch < 128 }
+    requires room { vec_len cells.old < vec_capacity cells.old }
+    requires ordered { IsInOrder cells.old.items }
+    ensures written { cell_in cells.new.items ≡ written (cell_in cells.old.items) row col ch }
+    ensures sparse { (width first : ℕ) → IsSparse width first cells.old.items → col < width → first ≤ row * width + col → IsSparse width first cells.new.items }
+    ensures len { vec_len cells.new ≤ vec_len cells.old + 1 }
+    ensures capacity { vec_capacity cells.old ≤ vec_capacity cells.new }
+{
+    if ch == ' ' {
+        remove_cell(cells, row, col);
+    } else {
+        put_cell(cells, row, col, ch);
+    }
+}
+
+// How many cells stand before a row and a column.
+fn count_before(cells: &[Cell], row: usize, col: usize) -> usize
+    requires { IsInOrder cells.now }
+    ensures { IsCut cells.now row col result }
+{
+    match find_cell(cells, row, col) {
+        Ok(at) => at,
+        Err(at) => at,
+    }
+}
+
+// Removes the cells at a row and a column and behind.
+pub fn clear_from(cells: &mut Vec<Cell>, row: usize, col: usize)
+    requires { IsInOrder cells.old.items }
+    ensures cleared { cell_in cells.new.items ≡ cleared (cell_in cells.old.items) row col }
+    ensures sparse { (width first : ℕ) → IsSparse width first cells.old.items → IsSparse width first cells.new.items }
+{
+    cells.truncate(count_before(cells, row, col));
+}
+
+// The column behind the last cell of a row, 0 where there is none.
+pub fn row_end(cells: &[Cell], width: usize, row: usize) -> usize
+    requires { (first : ℕ) × IsSparse width first cells.now }
+    ensures { (col : ℕ) → result ≤ col → cell_in cells.now row col ≡ blank }
+{
+    match &cells[..count_before(cells, row, width)] {
+        [.., last] if last.row == row => last.col + 1,
+        _ => 0,
+    }
+}
