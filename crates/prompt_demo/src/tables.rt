@@ -1,0 +1,69 @@
+//! What the prompt knows: its commands, hints and keys.
+
+use std::alloc::{AllocError, Global};
+use tw_hosts::{Binding, Hint, KeyBinding, Styles, Tables};
+use tw_input::{KeyCode, KeyEvent, Modifiers};
+use tw_lineedit::Movement;
+use tw_surface::{CellAttributes, ColorAttribute, Intensity};
+
+/// The commands, which are shown in bold and completed.
+const COMMANDS: &str = "copy count move quit";
+
+/// What is shown under a line that begins with a question mark.
+const HELP: &str = "Tab completes\r\nUp recalls a line";
+
+/// The words of a text, which spaces part.
+fn words(alloc: Global, text: &str) -> Result<Vec<String>, AllocError> {
+    let mut words = Vec::new(alloc);
+    for word in text.split(' ') {
+        words.push(String::from_str(alloc, word)?)?;
+    }
+    Ok(words)
+}
+
+/// Commands are bold, and quoted texts green.
+fn styles() -> Styles {
+    let mut keyword = CellAttributes::default();
+    keyword.intensity = Intensity::Bold;
+    let mut quote = CellAttributes::default();
+    quote.foreground = ColorAttribute::PaletteIndex(2);
+    Styles { keyword, quote }
+}
+
+/// Escape cancels, and Ctrl-U kills to the start of the line.
+fn keys(alloc: Global) -> Result<Vec<KeyBinding>, AllocError> {
+    let escape = KeyEvent {
+        key: KeyCode::Escape,
+        modifiers: Modifiers::NONE,
+    };
+    let ctrl_u = KeyEvent {
+        key: KeyCode::Char('U'),
+        modifiers: Modifiers::CTRL,
+    };
+    let keys = vec![in alloc;
+        KeyBinding {
+            key: escape,
+            binding: Binding::Cancel
+        },
+        KeyBinding {
+            key: ctrl_u,
+            binding: Binding::Kill(Movement::StartOfLine)
+        },
+    ]?;
+    Ok(keys)
+}
+
+/// The tables of the prompt.
+pub fn tables(alloc: Global) -> Result<Tables, AllocError> {
+    let hint = Hint {
+        word: String::from_str(alloc, "?")?,
+        text: String::from_str(alloc, HELP)?,
+    };
+    Ok(Tables {
+        keywords: words(alloc, COMMANDS)?,
+        words: words(alloc, COMMANDS)?,
+        hints: vec![in alloc; hint]?,
+        keys: keys(alloc)?,
+        styles: styles(),
+    })
+}

@@ -1,0 +1,16 @@
+pub mod Appends
+pub mod Numbers
+pub mod Pastes
+pub mod Tokens
+pub mod Pieces
+pub mod Keys
+pub mod WideCharacters
+pub mod Reports
+pub mod LostBytes
+pub mod Unknowns
+pub mod EcmaSequences
+pub mod EcmaScrolls
+pub mod EcmaWrites
+pub mod EcmaTexts
+pub mod EcmaMoves
+pub mod EcmaBatches

@@ -1,0 +1,140 @@
+-- Laws of the tokens.
+use Rattle.std.specs.Prelude.{◌≡◌, ◌≢◌, ◌≤◌, ◌<◌, ◌+◌, ◌*◌, ◌^◌, min, ℕ, Bool, true, false, List, [], ◌∷◌, ◌++◌, Some, None, IfSome, IsSome, ◌⊎◌, take, length, encode_utf8}
+use Rattle.std.specs.Char.{IsScalar}
+use Rattle.std.specs.Fmt.{decimal}
+use Rattle.std.specs.List.{AllByRecursion, list_all}
+use Rattle.tw_input.specs.declared.key.KeyCode.{KeyCode}
+use Rattle.tw_input.specs.declared.key.KeyCode.TheVariants.{Char, Escape, Tab}
+use Rattle.tw_ansi.specs.declared.token.Token.{Token}
+use Rattle.tw_ansi.specs.declared.token.Token.TheVariants.{Size, Paste, Unknown}
+use Rattle.tw_ansi.specs.declared.token.Scanned.{Scanned}
+use Rattle.tw_ansi.specs.KeyBytes.{token_at, found, pressed, none, shift, alt, ctrl, behind_escape, key_in, control_characters, application_keys, letter_keys, number_keys, most, paste_end, replaced, following_len, is_continuation, is_parameter, is_letter}
+use Rattle.tw_ansi.specs.Sequences.{sequence}
+
+-- an ESC alone is Escape, and may begin another key where bytes follow
+abbrev pub lone_escape : List ℕ
+lone_escape = 27 ∷ []
+
+-- what is found stays found, whatever bytes follow: so tokens do not depend on how the bytes come in pieces
+abbrev pub StaysFound : Type 0
+StaysFound = (is_last : Bool) (bytes more : List ℕ) (s : Scanned)
+    → bytes ≢ lone_escape → token_at false bytes ≡ Some s → token_at is_last (bytes ++ more) ≡ Some s
+
+-- a token takes at least one byte, and none that is not there
+abbrev pub TakesBytes : Type 0
+TakesBytes = (is_last : Bool) (bytes : List ℕ) → IfSome (token_at is_last bytes) (λ s. (0 < s.used) × (s.used ≤ length bytes))
+
+-- where no bytes follow there is a token
+abbrev pub EndsWithToken : Type 0
+EndsWithToken = (bytes : List ℕ) → 0 < length bytes → IsSome (token_at true bytes)
+
+-- bytes that give a token and are taken whole, whatever bytes follow
+abbrev pub IsTaken : List ℕ → Token → Type 0
+IsTaken bytes token = (is_last : Bool) (rest : List ℕ) → token_at is_last (bytes ++ rest) ≡ found token (length bytes)
+
+-- bytes that give a key with these modifiers and are taken whole, whatever bytes follow
+abbrev pub IsTyped : List ℕ → KeyCode → ℕ → Type 0
+IsTyped bytes key bits = IsTaken bytes (pressed key bits)
+
+-- a printable character of ASCII is the key of that character
+abbrev pub PrintableKeys : Type 0
+PrintableKeys = (b : ℕ) → 32 ≤ b → b < 127 → IsTyped (b ∷ []) (Char b) none
+
+-- ESC where no byte follows
+abbrev pub EscapeKey : Type 0
+EscapeKey = (is_last : Bool) → token_at is_last lone_escape ≡ found (pressed Escape none) 1
+
+-- ESC before another ESC
+abbrev pub EscapePair : Type 0
+EscapePair = (is_last : Bool) (rest : List ℕ) → token_at is_last (27 ∷ 27 ∷ rest) ≡ found (pressed Escape none) 1
+
+-- ESC before a key's bytes that begin no sequence with it is ALT
+abbrev pub AltKeys : Type 0
+AltKeys = (is_last : Bool) (b : ℕ) (rest : List ℕ) → b ≢ 27 → b ≢ 91 → b ≢ 79
+    → token_at is_last (27 ∷ b ∷ rest) ≡ behind_escape (token_at is_last (b ∷ rest))
+
+-- a character of several bytes in UTF-8 is the key of that character
+abbrev pub CharacterKeys : Type 0
+CharacterKeys = (c : ℕ) → 128 ≤ c → IsScalar c → IsTyped (encode_utf8 c) (Char c) none
+
+-- and with ESC before it the key with ALT
+abbrev pub AltCharacterKeys : Type 0
+AltCharacterKeys = (c : ℕ) → 128 ≤ c → IsScalar c → IsTyped (27 ∷ encode_utf8 c) (Char c) alt
+
+-- a control character with a row of its own, but for ESC
+abbrev pub ControlKeys : Type 0
+ControlKeys = AllByRecursion (λ row. row.0 ≢ 27 → IsTyped (row.0 ∷ []) row.1 none) control_characters
+
+-- any other control character is a letter or a sign with CTRL
+abbrev pub ControlLetters : Type 0
+ControlLetters = (b : ℕ) → 0 < b → b < 32 → key_in control_characters b ≡ None → IsTyped (b ∷ []) (Char (b + 64)) ctrl
+
+-- ESC O and a letter
+abbrev pub ApplicationKeys : Type 0
+ApplicationKeys = AllByRecursion (λ row. IsTyped (27 ∷ 79 ∷ row.0 ∷ []) row.1 none) application_keys
+
+-- ESC [ and a letter
+abbrev pub LetterKeys : Type 0
+LetterKeys = AllByRecursion (λ row. IsTyped (27 ∷ 91 ∷ row.0 ∷ []) row.1 none) letter_keys
+
+-- ESC [, 1, a semicolon, one more than the sum of the modifiers, and a letter
+abbrev pub HeldLetterKeys : Type 0
+HeldLetterKeys = AllByRecursion (λ row. (sum : ℕ) → sum < 16 → IsTyped (sequence (49 ∷ 59 ∷ decimal (sum + 1)) (row.0 ∷ [])) row.1 (sum * 2)) letter_keys
+
+-- ESC [, a number and ~
+abbrev pub NumberKeys : Type 0
+NumberKeys = AllByRecursion (λ row. IsTyped (sequence (decimal row.0) (126 ∷ [])) row.1 none) number_keys
+
+-- ESC [, a number, a semicolon, one more than the sum of the modifiers, and ~
+abbrev pub HeldNumberKeys : Type 0
+HeldNumberKeys = AllByRecursion (λ row. (sum : ℕ) → sum < 16 → IsTyped (sequence (decimal row.0 ++ 59 ∷ decimal (sum + 1)) (126 ∷ [])) row.1 (sum * 2)) number_keys
+
+-- Tab with SHIFT
+abbrev pub BackTab : Type 0
+BackTab = IsTyped (27 ∷ 91 ∷ 90 ∷ []) Tab shift
+
+-- a report of the cursor's place: ESC [, its row, a semicolon, its column and R
+-- a number above the greatest one that is told counts as that
+abbrev pub CursorReports : Type 0
+CursorReports = (row col : ℕ) → 1 < row → row < 2 ^ 64 → 0 < col → col < 2 ^ 64
+    → IsTaken (sequence (decimal row ++ 59 ∷ decimal col) (82 ∷ [])) (Size (min col most) (min row most))
+
+-- what begins a pasted text: ESC [ 200 ~
+abbrev pub paste_start : List ℕ
+paste_start = 27 ∷ 91 ∷ 50 ∷ 48 ∷ 48 ∷ 126 ∷ []
+
+-- a pasted text stands behind ESC [ 200 ~ and before the first ESC [ 201 ~
+abbrev pub PastedTexts : Type 0
+PastedTexts = (text : List ℕ) → ((front back : List ℕ) → text ≢ front ++ paste_end ++ back)
+    → IsTaken (paste_start ++ text ++ paste_end) (Paste (length paste_start) (length text))
+
+-- ESC [, bytes from 32 to 63, and at most one from 64 to 126
+pub record IsControlSequence (bytes : List ℕ) : Type 0 where
+  pub parameters : List ℕ
+  pub final : List ℕ
+  pub parts : bytes ≡ sequence parameters final
+  pub between : list_all is_parameter parameters ≡ true
+  pub ends : list_all is_letter final ≡ true
+  pub at_most_one : length final ≤ 1
+
+-- what is not known is a control sequence, and no byte behind it
+abbrev pub UnknownSequences : Type 0
+UnknownSequences = (is_last : Bool) (bytes : List ℕ) (used : ℕ) → token_at is_last bytes ≡ found Unknown used → IsControlSequence (take used bytes)
+
+-- a byte of 128 or above where no character's bytes stand is U+FFFD, and takes no other byte
+abbrev pub LostBytes : Type 0
+LostBytes = (is_last : Bool) (b : ℕ) (bytes : List ℕ) → 128 ≤ b → ((c : ℕ) (rest : List ℕ) → IsScalar c → b ∷ bytes ≢ encode_utf8 c ++ rest)
+    → IfSome (token_at is_last (b ∷ bytes)) (λ s. Some s ≡ replaced)
+
+-- a byte of 128 or above that can begin no character is U+FFFD, whatever follows
+abbrev pub LoneBytes : Type 0
+LoneBytes = (b : ℕ) → 128 ≤ b → (b < 194) ⊎ (245 ≤ b) → IsTyped (b ∷ []) (Char 65533) none
+
+-- and so is one that can, where a byte that cannot follow stands among those that should
+abbrev pub CutCharacters : Type 0
+CutCharacters = (is_last : Bool) (b d : ℕ) (front rest : List ℕ) → 128 ≤ b → length front < following_len b → is_continuation d ≡ false
+    → token_at is_last (b ∷ front ++ d ∷ rest) ≡ replaced
+
+-- more bytes are wanted behind such a byte only where fewer stand there than should, and each of them can follow
+abbrev pub WaitsForCharacter : Type 0
+WaitsForCharacter = (b : ℕ) (bytes : List ℕ) → 128 ≤ b → token_at false (b ∷ bytes) ≡ None → (length bytes < following_len b) × (list_all is_continuation bytes ≡ true)

@@ -1,0 +1,236 @@
+//! Control sequences: ESC [, parameters and a letter.
+
+ghost use Rattle.std.specs.Prelude.{◌≡◌, ◌+◌, ◌<◌, ◌≤◌, ◌^◌, length, List, [], IfSome, MatchOption};
+ghost use Rattle.std.specs.List.{list_all, prefix_len, position_or_len};
+ghost use Rattle.tw_input.specs.Modifiers.{modifier_bits};
+ghost use Rattle.tw_ansi.specs.KeyBytes.{is_parameter, is_numeric, is_semicolon, is_letter, number_of, first_number, second_number, held, sequence_key, numbers_token, paste_len, paste_of, paste_at, sequence_at, control_at, number_keys, letter_keys, key_in};
+
+use crate::token::{Scanned, Token, key};
+use bitflags::Flags;
+use tw_input::{KeyCode, KeyEvent, Modifiers};
+
+/// What ends a pasted text.
+const PASTE_END: [u8; 6] = *b"\x1b[201~";
+
+/// How many bytes are at the front that can stand in a control sequence before its letter.
+fn parameters_len(bytes: &[u8]) -> usize
+    ensures value { result ≡ prefix_len is_parameter bytes.now }
+    ensures bound { result ≤ length bytes.now }
+{
+    for (i, byte) in bytes.iter().enumerate() {
+        if !(0x20..=0x3f).contains(byte) {
+            return i;
+        }
+    }
+    bytes.len()
+}
+
+/// The bytes before the first semicolon.
+fn semicolon_at(bytes: &[u8]) -> usize
+    ensures value { result ≡ position_or_len is_semicolon bytes.now }
+    ensures bound { result ≤ length bytes.now }
+{
+    for (i, byte) in bytes.iter().enumerate() {
+        if *byte == b';' {
+            return i;
+        }
+    }
+    bytes.len()
+}
+
+/// The number that digits write, or the greatest one in place of one above it.
+fn number_of(digits: &[u8]) -> u32
+    ensures { result ≡ number_of digits.now }
+{
+    let mut number: u32 = 0;
+    for byte in digits {
+        let digit = byte.saturating_sub(b'0') as u32;
+        number = number.saturating_mul(10).saturating_add(digit);
+    }
+    number
+}
+
+/// The first number of some parameters, 0 where none stands there.
+fn first_number(parameters: &[u8]) -> u32
+    ensures { result ≡ first_number parameters.now }
+{
+    number_of(&parameters[..semicolon_at(parameters)])
+}
+
+/// The second number of some parameters.
+fn second_number(parameters: &[u8]) -> u32
+    ensures { result ≡ second_number parameters.now }
+{
+    let end = semicolon_at(parameters);
+    if end < parameters.len() {
+        first_number(&parameters[end + 1..])
+    } else {
+        0
+    }
+}
+
+/// The modifiers that a number tells: one more than a sum of 1 for SHIFT, 2 for ALT, 4 for CTRL and 8 for SUPER.
+fn held(number: u32) -> Modifiers
+    ensures { modifier_bits result ≡ held number }
+{
+    let sum = number.saturating_sub(1) % 16;
+    Modifiers::from_bits_retain(sum as u16 * 2)
+}
+
+/// The key of a sequence that ends in a letter.
+fn letter_key(letter: u8) -> Option<KeyCode>
+    ensures { result ≡ key_in letter_keys letter }
+{
+    Some(match letter {
+        b'A' => KeyCode::UpArrow,
+        b'B' => KeyCode::DownArrow,
+        b'C' => KeyCode::RightArrow,
+        b'D' => KeyCode::LeftArrow,
+        b'F' => KeyCode::End,
+        b'H' => KeyCode::Home,
+        b'P' => KeyCode::Function(1),
+        b'Q' => KeyCode::Function(2),
+        b'R' => KeyCode::Function(3),
+        b'S' => KeyCode::Function(4),
+        _ => return None,
+    })
+}
+
+/// The key of a sequence that ends in a tilde.
+fn number_key(number: u32) -> Option<KeyCode>
+    ensures { result ≡ key_in number_keys number }
+{
+    Some(match number {
+        1 | 7 => KeyCode::Home,
+        2 => KeyCode::Insert,
+        3 => KeyCode::Delete,
+        4 | 8 => KeyCode::End,
+        5 => KeyCode::PageUp,
+        6 => KeyCode::PageDown,
+        11 => KeyCode::Function(1),
+        12 => KeyCode::Function(2),
+        13 => KeyCode::Function(3),
+        14 => KeyCode::Function(4),
+        15 => KeyCode::Function(5),
+        17 => KeyCode::Function(6),
+        18 => KeyCode::Function(7),
+        19 => KeyCode::Function(8),
+        20 => KeyCode::Function(9),
+        21 => KeyCode::Function(10),
+        23 => KeyCode::Function(11),
+        24 => KeyCode::Function(12),
+        _ => return None,
+    })
+}
+
+/// What two numbers and a letter say.
+fn numbers_token(first: u32, second: u32, letter: u8) -> Token
+    ensures { result ≡ numbers_token first second letter }
+{
+    if letter == b'R' && first > 1 && second > 0 {
+        return Token::Size {
+            cols: second as usize,
+            rows: first as usize,
+        };
+    }
+    if letter == b'Z' {
+        return Token::Key(KeyEvent {
+            key: KeyCode::Tab,
+            modifiers: Modifiers::SHIFT,
+        });
+    }
+    let code = if letter == b'~' {
+        number_key(first)
+    } else {
+        letter_key(letter)
+    };
+    match code {
+        Some(key) => Token::Key(KeyEvent {
+            key,
+            modifiers: held(second),
+        }),
+        None => Token::Unknown,
+    }
+}
+
+/// How many bytes stand before the first end of a pasted text.
+fn paste_len(bytes: &[u8]) -> Option<usize>
+    ensures value { result ≡ paste_len bytes.now }
+    ensures bound { IfSome result (λ len. len + 6 ≤ length bytes.now) }
+{
+    for i in 0..bytes.len() {
+        if bytes[i..].starts_with(&PASTE_END) {
+            return Some(i);
+        }
+    }
+    None
+}
+
+/// A pasted text behind a sequence of so many bytes.
+fn paste_at(from: usize, bytes: &[u8], is_last: bool) -> Option<Scanned>
+    requires { from + length bytes.now < 2 ^ 64 }
+    ensures { result ≡ paste_at is_last from bytes.now }
+{
+    match paste_len(bytes) {
+        Some(len) => Some(Scanned {
+            token: Token::Paste { from, len },
+            used: from + len + PASTE_END.len(),
+        }),
+        None if is_last => Some(Scanned {
+            token: Token::Paste {
+                from,
+                len: bytes.len(),
+            },
+            used: from + bytes.len(),
+        }),
+        None => None,
+    }
+}
+
+/// Whether only digits and semicolons stand there.
+fn all_numeric(bytes: &[u8]) -> bool
+    ensures { result ≡ list_all is_numeric bytes.now }
+{
+    bytes
+        .iter()
+        .all(|byte| (b'0'..=b'9').contains(byte) || *byte == b';')
+}
+
+/// A sequence with these parameters and this letter, and what stands behind it.
+fn sequence_at(parameters: &[u8], letter: u8, bytes: &[u8], is_last: bool) -> Option<Scanned>
+    requires { length parameters.now + length bytes.now + 3 < 2 ^ 64 }
+    ensures { result ≡ sequence_at is_last parameters.now letter bytes.now }
+{
+    let used = 3 + parameters.len();
+    if !all_numeric(parameters) {
+        return Some(Scanned {
+            token: Token::Unknown,
+            used,
+        });
+    }
+    let first = first_number(parameters);
+    if letter == b'~' && first == 200 {
+        return paste_at(used, bytes, is_last);
+    }
+    Some(Scanned {
+        token: numbers_token(first, second_number(parameters), letter),
+        used,
+    })
+}
+
+/// What stands behind ESC [.
+pub fn control_at(bytes: &[u8], is_last: bool) -> Option<Scanned>
+    requires { length bytes.now + 3 < 2 ^ 64 }
+    ensures { result ≡ control_at is_last bytes.now }
+{
+    let len = parameters_len(bytes);
+    match &bytes[len..] {
+        [] if is_last => key(KeyCode::Char('['), Modifiers::ALT, 2),
+        [] => None,
+        [letter @ 0x40..=0x7e, rest @ ..] => sequence_at(&bytes[..len], *letter, rest, is_last),
+        _ => Some(Scanned {
+            token: Token::Unknown,
+            used: 2 + len,
+        }),
+    }
+}

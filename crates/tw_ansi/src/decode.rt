@@ -1,0 +1,87 @@
+//! What the bytes from a terminal say.
+
+ghost use Rattle.std.specs.Prelude.{◌≡◌, ◌+◌, ◌<◌, ◌≤◌, ◌^◌, length, true, IfSome, IsSome};
+ghost use Rattle.tw_ansi.specs.KeyBytes.{token_at, escape_at, application_at, application_keys, key_in};
+
+use crate::characters::character_at;
+use crate::control::control_at;
+use crate::token::{Scanned, key, with_alt};
+use tw_input::{KeyCode, Modifiers};
+
+const ESC: u8 = 0x1b;
+
+/// The token at the front of the bytes, or none where more bytes are wanted. An ESC alone is the key Escape.
+/// Where these are the last bytes there is always one.
+pub fn scan(bytes: &[u8], is_last: bool) -> Option<Scanned>
+    requires { 0 < length bytes.now }
+    ensures value { result ≡ token_at is_last bytes.now }
+    ensures takes { IfSome result (λ s. 0 < s.used) }
+    ensures within { IfSome result (λ s. s.used ≤ length bytes.now) }
+    ensures ends { is_last ≡ true → IsSome result }
+{
+    token_at(bytes, is_last)
+}
+
+#[tactic(auto, unfolding(crate::specs::KeyBytes::token_at))]
+fn token_at(bytes: &[u8], is_last: bool) -> Option<Scanned>
+    ensures { result ≡ token_at is_last bytes.now }
+{
+    match bytes {
+        [] => None,
+        [ESC, rest @ ..] => escape_at(rest, is_last),
+        [first, rest @ ..] => character_at(*first, rest, is_last),
+    }
+}
+
+/// What stands behind an ESC.
+fn escape_at(bytes: &[u8], is_last: bool) -> Option<Scanned>
+    ensures { result ≡ escape_at is_last bytes.now }
+{
+    match bytes {
+        [] | [ESC, ..] => key(KeyCode::Escape, Modifiers::NONE, 1),
+        [b'[', rest @ ..] => control_at(rest, is_last),
+        [b'O', rest @ ..] => application_at(rest, is_last),
+        [first, rest @ ..] => {
+            let Scanned { token, used } = character_at(*first, rest, is_last)?;
+            Some(Scanned {
+                token: with_alt(token),
+                used: used + 1,
+            })
+        }
+    }
+}
+
+/// The key of ESC O and a letter.
+fn application_key(letter: u8) -> Option<KeyCode>
+    ensures { result ≡ key_in application_keys letter }
+{
+    Some(match letter {
+        b'A' => KeyCode::ApplicationUpArrow,
+        b'B' => KeyCode::ApplicationDownArrow,
+        b'C' => KeyCode::ApplicationRightArrow,
+        b'D' => KeyCode::ApplicationLeftArrow,
+        b'F' => KeyCode::End,
+        b'H' => KeyCode::Home,
+        b'M' => KeyCode::Enter,
+        b'P' => KeyCode::Function(1),
+        b'Q' => KeyCode::Function(2),
+        b'R' => KeyCode::Function(3),
+        b'S' => KeyCode::Function(4),
+        _ => return None,
+    })
+}
+
+/// What stands behind ESC O: a key of the application mode, or ALT and O were pressed.
+fn application_at(bytes: &[u8], is_last: bool) -> Option<Scanned>
+    ensures { result ≡ application_at is_last bytes.now }
+{
+    let alt_o = key(KeyCode::Char('O'), Modifiers::ALT, 2);
+    match bytes {
+        [] if is_last => alt_o,
+        [] => None,
+        [letter, ..] => match application_key(*letter) {
+            Some(code) => key(code, Modifiers::NONE, 3),
+            None => alt_o,
+        },
+    }
+}

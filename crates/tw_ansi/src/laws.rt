@@ -1,0 +1,81 @@
+//! Laws of this crate's definitions: each function does nothing, and its contract is the law.
+
+ghost use Rattle.tw_ansi.specs.EcmaLaws.{AttributeShowsNothing, ColumnsAreReached, RowsAboveAreReached, ClearsBelow, ClearsAll};
+ghost use Rattle.tw_ansi.specs.EcmaTexts.{PlainTextIsShown};
+ghost use Rattle.tw_ansi.specs.EcmaBatches.{FirstIsShown, ChangeIsShown, BatchIsShown};
+ghost use Rattle.tw_ansi.specs.KeyLaws.{StaysFound, TakesBytes, EndsWithToken, PrintableKeys, CharacterKeys, AltCharacterKeys, EscapeKey, EscapePair, AltKeys, ControlKeys, ControlLetters, ApplicationKeys, LetterKeys, HeldLetterKeys, NumberKeys, HeldNumberKeys, BackTab, CursorReports, PastedTexts, UnknownSequences, LostBytes, LoneBytes, CutCharacters, WaitsForCharacter};
+
+/// Tokens do not depend on how the bytes come in pieces: what is found stays found, whatever follows. An ESC alone is
+/// Escape, and may begin another key where bytes follow. No token takes nothing, or bytes that are not there, and where
+/// the bytes are the last ones there always is one.
+#[tactic(auto, using(crate::proofs::Pieces::stays_found, crate::proofs::Tokens::takes_bytes, crate::proofs::Tokens::token_ends))]
+pub fn pieces()
+    ensures stays { StaysFound }
+    ensures takes { TakesBytes }
+    ensures ends { EndsWithToken }
+{}
+
+/// A key's bytes give that key, and are taken whole, whatever bytes follow.
+#[tactic(auto, using(crate::proofs::Keys::escape_key, crate::proofs::Keys::escape_pair, crate::proofs::Keys::back_tab, crate::proofs::Keys::control_keys, crate::proofs::Keys::application_keys_typed, crate::proofs::Keys::letter_keys_typed, crate::proofs::Keys::number_keys_typed, crate::proofs::Keys::alt_keys, crate::proofs::Keys::printable_keys, crate::proofs::WideCharacters::character_keys, crate::proofs::WideCharacters::alt_character_keys, crate::proofs::Keys::control_letters, crate::proofs::Keys::held_letter_keys, crate::proofs::Keys::held_number_keys))]
+pub fn keys()
+    ensures escape { EscapeKey }
+    ensures two_escapes { EscapePair }
+    ensures back_tab { BackTab }
+    ensures alt { AltKeys }
+    ensures printable { PrintableKeys }
+    ensures characters { CharacterKeys }
+    ensures alt_characters { AltCharacterKeys }
+    ensures control { ControlKeys }
+    ensures control_letters { ControlLetters }
+    ensures application { ApplicationKeys }
+    ensures letters { LetterKeys }
+    ensures held_letters { HeldLetterKeys }
+    ensures numbers { NumberKeys }
+    ensures held_numbers { HeldNumberKeys }
+{}
+
+/// A report of the cursor's place is a size, and a text between the marks of a paste is that text, whatever bytes follow.
+#[tactic(auto, using(crate::proofs::Reports::cursor_reports, crate::proofs::Reports::pasted_texts))]
+pub fn reports()
+    ensures cursor { CursorReports }
+    ensures pastes { PastedTexts }
+{}
+
+/// Bytes that say nothing swallow no key: what is not known is one control sequence, and a byte that is no part of a
+/// character is U+FFFD and takes no byte but itself. More bytes are wanted for a character only where those that are
+/// there can follow its first one.
+#[tactic(auto, using(crate::proofs::Unknowns::unknown_sequences, crate::proofs::LostBytes::lost_bytes, crate::proofs::LostBytes::lone_bytes, crate::proofs::LostBytes::cut_characters))]
+pub fn malformed()
+    ensures sequences { UnknownSequences }
+    ensures lost { LostBytes }
+    ensures lone { LoneBytes }
+    ensures cut { CutCharacters }
+    ensures waits { WaitsForCharacter }
+{}
+
+/// What a terminal after ECMA-48 does at the sequences that are sent, byte by byte.
+#[tactic(auto, using(crate::proofs::EcmaSequences::columns_are_reached, crate::proofs::EcmaSequences::rows_above_are_reached, crate::proofs::EcmaSequences::attribute_shows_nothing, crate::proofs::EcmaSequences::clears_below, crate::proofs::EcmaSequences::clears_all))]
+pub fn sequences()
+    ensures columns { ColumnsAreReached }
+    ensures rows_above { RowsAboveAreReached }
+    ensures attributes { AttributeShowsNothing }
+    ensures below { ClearsBelow }
+    ensures all { ClearsAll }
+{}
+
+/// A terminal after ECMA-48 that shows a picture of h rows, and is sent the bytes of a plain text, shows the picture on
+/// which that text was played, scrolled as it needs.
+#[tactic(auto, using(crate::proofs::EcmaTexts::plain_text_is_shown))]
+pub fn texts()
+    ensures { PlainTextIsShown }
+{}
+
+/// A terminal after ECMA-48 whose cursor stands in column 0 shows its own cells to a new encoder. One that shows a
+/// picture of h rows, and is sent the bytes of a change or of a batch, shows the picture on which it was played,
+/// scrolled as it needs, where each change is one whose bytes do what it does.
+#[tactic(auto, using(crate::proofs::EcmaBatches::first_is_shown, crate::proofs::EcmaBatches::change_is_shown, crate::proofs::EcmaBatches::batch_is_shown))]
+pub fn batches()
+    ensures first { FirstIsShown }
+    ensures change { ChangeIsShown }
+    ensures batch { BatchIsShown }
+{}

@@ -1,0 +1,59 @@
+//! What stands at the front of the bytes from a terminal.
+
+ghost use Rattle.std.specs.Prelude.{◌≡◌};
+ghost use Rattle.tw_ansi.specs.KeyBytes.{pressed, found, replaced, with_alt};
+ghost use Rattle.tw_input.specs.Modifiers.{modifier_bits};
+
+use bitflags::Flags;
+use tw_input::{KeyCode, KeyEvent, Modifiers};
+
+/// What stands at the front of some bytes.
+#[derive(Debug, Clone, Copy, PartialEq, Eq)]
+pub enum Token {
+    /// A key.
+    Key(KeyEvent),
+    /// The place of the cursor, counted from 1. A terminal that was sent to the last cell tells its size by it. From
+    /// row 1 it is not told from F3, which is then taken.
+    Size { cols: usize, rows: usize },
+    /// A pasted text: so many bytes that are no part of it, and so many bytes of text. Its end takes six more.
+    Paste { from: usize, len: usize },
+    /// A control sequence that means nothing here.
+    Unknown,
+}
+
+/// A token, and how many bytes it takes.
+#[derive(Debug, Clone, Copy, PartialEq, Eq)]
+pub struct Scanned {
+    pub token: Token,
+    pub used: usize,
+}
+
+/// A key that takes so many bytes.
+pub fn key(key: KeyCode, modifiers: Modifiers, used: usize) -> Option<Scanned>
+    ensures { result ≡ found (pressed key (modifier_bits modifiers)) used }
+{
+    Some(Scanned {
+        token: Token::Key(KeyEvent { key, modifiers }),
+        used,
+    })
+}
+
+/// What a byte that is no part of a character is shown as.
+pub fn replaced() -> Option<Scanned>
+    ensures { result ≡ replaced }
+{
+    key(KeyCode::Char('\u{fffd}'), Modifiers::NONE, 1)
+}
+
+/// The same key, with ALT held too.
+pub fn with_alt(token: Token) -> Token
+    ensures { result ≡ with_alt token }
+{
+    match token {
+        Token::Key(event) => Token::Key(KeyEvent {
+            key: event.key,
+            modifiers: Modifiers::from_bits_retain(event.modifiers.bits() | Modifiers::ALT.bits()),
+        }),
+        other => other,
+    }
+}

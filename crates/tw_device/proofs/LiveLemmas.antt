@@ -1,0 +1,434 @@
+-- A line that is fed what a source tells, against the run.
+use Rattle.std.proofs.Common.{◌≡◌, ◌≢◌, ◌+◌, length, arith, IfOk, OnOk, IfErr, ℕ, List, [], ◌∷◌, ◌++◌, cond, Bool, true, false, refl, sym, ◌∙◌, ap, subst, inl, inr, Option, None, Some, IsSome, String, Result, Ok, Err, ◌⊎◌}
+use Rattle.std.proofs.lemmas.Bool.{false≢true}
+use Rattle.std.proofs.lemmas.List.{append-nil, append_assoc, length-append}
+use Rattle.std.specs.declared.alloc.Global.{Global}
+use Rattle.tw_input.specs.EventView.{EventView, Key, Resized, Paste, Wake}
+use Rattle.tw_terminal.specs.TerminalState.{TerminalState, size_after, count_up}
+use Rattle.tw_terminal.specs.declared.terminal.ScreenSize.{ScreenSize}
+use Rattle.tw_lineedit.specs.Cut.{Cut}
+use Rattle.tw_lineedit.specs.EditState.{EditState, ModeView, Inactive, Editing, Cancelled, Accepted, Searching}
+use Rattle.tw_lineedit.specs.HostRules.{HostRules}
+use Rattle.tw_lineedit.specs.Painting.{Rendered, clear_batch}
+use Rattle.tw_lineedit.specs.Outcomes.{Outcome, outcome_of, answer_at, line_in, is_over, is_open}
+use Rattle.tw_lineedit.specs.Refusal.{Refusal, refusal_of, IsMemory}
+use Rattle.tw_lineedit.specs.Feeding.{paint_end, painted_run, fed_run, run_on, CanMiss, CanRefuse, unresolved, unapplied, half_cleared, missed, CanStopAt, refused, later, CanStopOn, uncopied, at_event, Begins, begun_run, WantsToBegin, FaultsToBegin, FailsToBegin, IsFed, event_run, WantsToFeed, FaultsToFeed, FailsToFeed, FailsToFinish, Uncopied}
+use Rattle.tw_lineedit.specs.Reading.{start, Reads, FailsIn, HaltsIn, HaltsRefused, ClosesBadly, ClosesWhole, ClosesInPart, ClosesUnflushed, paused}
+use Rattle.tw_lineedit.specs.Run.{Frame, Progress, Ending, Moment, Cause, want, fault, run, ends, ending, at_end, moment, progress_of, painting_at, polled, answered, handled, state_after, after_event, CanStop, Quiet}
+use Rattle.tw_lineedit.specs.SessionView.{SessionView}
+use Rattle.tw_lineedit.specs.declared.Error.{Error}
+use Rattle.tw_lineedit.specs.declared.Error.TheVariants.{Memory, Terminal}
+use Rattle.tw_lineedit.proofs.FeedingLemmas.{open_goes_on, stops_unpainted}
+use Rattle.tw_device.specs.Live.{resized, frame_of, Opens, Comes, ComesBy, Left, FailsFrom, FailsBy, FailsOver, FailsTold, ReadsTold, run_over, IsRead, outcome_in, was_ended, IsStopped, IsCut, answer_from}
+use Rattle.tw_device.specs.Live as live
+use Rattle.tw_device.specs.declared.keys.SourceState.{SourceState}
+use Rattle.tw_device.specs.declared.reading.Answer.{Answer}
+use Rattle.tw_device.specs.declared.reading.Stop.{Stop}
+use Rattle.tw_device.specs.declared.reading.Stop.TheVariants.{Ended, SourceEnd as source_end, SourceFault as source_fault, Endless}
+
+-- a size that an event tells twice
+size_twice : (e : EventView) (z : ScreenSize) → size_after e (size_after e z) ≡ size_after e z
+size_twice (Key key) z = refl
+size_twice (Resized cols rows) z = refl
+size_twice (Paste text) z = refl
+size_twice Wake z = refl
+
+module _ {V : Type 0} where
+  -- a progress of this size
+  abbrev with_size : Progress V → ScreenSize → Progress V
+  with_size s z = record s { size = z }
+
+  -- one quiet part after another
+  quiet_on : (f g h : Frame V) → Quiet f g → Quiet g h → Quiet f h
+  quiet_on f g h a b = record { flushed = b.flushed ∙ a.flushed; failures = b.failures ∙ a.failures }
+
+module _ {V : Type 0} (m : Moment V) (f g h : Frame V) (q : Quiet f g) where
+  -- a refused closing, seen from an earlier frame
+  closes_badly_later : ClosesBadly m g h → ClosesBadly m f h
+  closes_badly_later c = elim c [
+    | inl part ↦ inl (record { leaves = part.leaves; flushed = part.flushed ∙ q.flushed })
+    | inr whole ↦ inr (record { leaves = whole.leaves; flushed = whole.flushed ∙ q.flushed })
+  ]
+
+-- A run that leads to another one.
+module _ {V : Type 0} (run rest : Ending V) (same : run ≡ rest) (f g h : Frame V) (q : Quiet f g) where
+  -- the end of the other one
+  pub reads_later : (answer : Outcome) → Reads rest g h answer → Reads run f h answer
+  reads_later answer r = subst (λ (x : Ending V). Reads x f h answer) (sym same) (record {
+    answer_is = r.answer_is;
+    batches = r.batches;
+    left = r.left;
+    size = r.size;
+    state = r.state;
+    value = r.value;
+    last = r.last;
+    flushed = r.flushed;
+    failures = r.failures ∙ q.failures;
+  })
+
+  -- where the other one halts
+  pub halts_in : (Starves Starves_later : Moment V → Type 0) → ((m : Moment V) → Starves_later m → Starves m) → (m : Moment V) → HaltsIn rest Starves_later m → HaltsIn run Starves m
+  halts_in Starves Starves_later starves m r = elim r [
+    | inl at ↦ inl (at ∙ ap paused (sym same))
+    | inr can ↦ inr (starves m can.0, can.1)
+  ]
+
+  -- and where it halts with a refusal
+  pub halts_refused : (Starves Starves_later : Moment V → Type 0) → ((m : Moment V) → Starves_later m → Starves m) → (m : Moment V) → HaltsRefused rest Starves_later m → HaltsIn run Starves m
+  halts_refused Starves Starves_later starves m r = elim r [
+    | inl at ↦ inl (at.1 ∙ ap paused (sym same))
+    | inr can ↦ inr (starves m can.0, can.1)
+  ]
+
+  module _ (Starves Faults Starves_later Faults_later Halts_later : Moment V → Type 0) (starves : (m : Moment V) → Starves_later m → Starves m) (faults : (m : Moment V) → Faults_later m → Faults m)
+      (halts : (m : Moment V) → Halts_later m → HaltsIn run Starves m) where
+    -- a refusal of the other one
+    pub fails_later : (e : Error) → FailsIn rest Starves_later Faults_later Halts_later g h e → FailsIn run Starves Faults (HaltsIn run Starves) f h e
+    fails_later (Memory x) (m, can, idle, closes, count) = (m, starves m can, idle, closes, count ∙ q.failures)
+    fails_later (Terminal x) (m, r) = (
+      m,
+      elim r [
+        | inl a ↦ inl (faults m a.0, a.1, a.2 ∙ ap count_up q.failures)
+        | inr other ↦ inr (elim other [
+          | inl b ↦ inl (faults m b.0, closes_badly_later m f g h q b.1, b.2 ∙ ap (λ (n : ℕ). count_up (count_up n)) q.failures)
+          | inr c ↦ inr (halts m c.0, closes_badly_later m f g h q c.1, c.2 ∙ ap count_up q.failures)
+        ])
+      ],
+    )
+    fails_later e r = reads_later (Err (refusal_of e)) r
+
+module _ {V : Type 0} (rules : HostRules V) where
+  -- an event is taken at the size that it tells
+
+  polled_twice : (s : Progress V) (e : EventView) → polled (polled s e) e ≡ polled s e
+  polled_twice s e = ap (with_size s) (size_twice e s.size)
+
+  answered_twice : (s : Progress V) (e : EventView) → answered rules (polled s e) e ≡ answered rules s e
+  answered_twice s e = ap (with_size (answered rules s e)) (size_twice e s.size)
+
+  handled_twice : (s : Progress V) (e : EventView) (state : EditState) → handled rules (polled s e) e state ≡ handled rules s e state
+  handled_twice s e state = ap (with_size (handled rules s e state)) (size_twice e s.size)
+
+  after_twice : (s : Progress V) (e : EventView) (es : List EventView) (r : Result EditState Refusal) → after_event rules e es (polled s e) (run rules es) r ≡ after_event rules e es s (run rules es) r
+  after_twice s e es (Ok state) = ap (run rules es) (handled_twice s e state)
+  after_twice s e es (Err n) = ap (ends (Err n) es) (answered_twice s e)
+
+  run_twice : (s : Progress V) (e : EventView) (es : List EventView) → is_over s.state.mode ≡ false → run_on rules (e ∷ es) (polled s e) ≡ run_on rules (e ∷ es) s
+  run_twice s e es o =
+      ap (λ (b : Bool). cond b (ends (answer_at s.state) (e ∷ es) (polled s e)) (after_event rules e es (polled s e) (run rules es) (state_after rules s e))) o
+      ∙ after_twice s e es (state_after rules s e)
+      ∙ sym (ap (λ (b : Bool). cond b (ends (answer_at s.state) (e ∷ es) s) (after_event rules e es s (run rules es) (state_after rules s e))) o)
+
+  refuse_twice : (c : Cause) (e : EventView) (es : List EventView) (s : Progress V) (m : Moment V) → CanRefuse rules c e es (polled s e) m → CanRefuse rules c e es s m
+  refuse_twice c e es s m unresolved = subst (λ (t : Progress V). CanRefuse rules want e es s (moment None es t)) (sym (polled_twice s e)) unresolved
+  refuse_twice c e es s m (unapplied t) = subst (λ (y : Progress V). CanRefuse rules want e es s (moment None es y)) (sym (answered_twice s e)) (unapplied t)
+  refuse_twice c e es s m (half_cleared r) = subst (λ (y : Progress V). CanRefuse rules fault e es s (moment (Some clear_batch) es y)) (sym (answered_twice s e)) (half_cleared r)
+  refuse_twice c e es s m (missed st r) = missed st (subst (λ (y : Progress V). CanMiss rules c es y m) (handled_twice s e _) r)
+
+  stop_twice : (c : Cause) (e : EventView) (es : List EventView) (s : Progress V) (m : Moment V) → CanStopAt rules c e es (polled s e) m → CanStopAt rules c e es s m
+  stop_twice c e es s m (refused r) = refused (refuse_twice c e es s m r)
+  stop_twice c e es s m (later st r) = later st (subst (λ (y : Progress V). CanStop rules c es y m) (handled_twice s e _) r)
+
+  -- a run that is over once its last painting is shown
+
+  painted_last : (s : Progress V) (r : Result Rendered Refusal) → at_end rules s r ≡ paint_end [] s r
+  painted_last s (Ok p) = refl
+  painted_last s (Err n) = refl
+
+  -- the run over no event
+  run_none : (es : List EventView) (s : Progress V) → es ≡ [] → run rules [] s ≡ painted_run rules es s
+  run_none es s none = painted_last s (painting_at rules s) ∙ ap (λ (xs : List EventView). painted_run rules xs s) (sym none)
+
+  -- behind an event at the size that it tells
+  after_last : (s : Progress V) (e : EventView) (r : Result EditState Refusal) → after_event rules e [] s (run rules []) r ≡ after_event rules e [] (polled s e) (painted_run rules []) r
+  after_last s e (Ok state) = ap (run rules []) (sym (handled_twice s e state)) ∙ run_none [] (handled rules (polled s e) e state) refl
+  after_last s e (Err n) = ap (ends (Err n) []) (sym (answered_twice s e))
+
+  -- the run over one event
+  run_one : (es : List EventView) (s : Progress V) (e : EventView) → is_over s.state.mode ≡ false → es ≡ [] → run_on rules (e ∷ []) s ≡ fed_run rules e es (polled s e)
+  run_one es s e o none =
+      ap (λ (b : Bool). cond b (ends (answer_at s.state) (e ∷ []) s) (after_event rules e [] s (run rules []) (state_after rules s e))) o
+      ∙ after_last s e (state_after rules s e)
+      ∙ ap (λ (xs : List EventView). fed_run rules e xs (polled s e)) (sym none)
+
+  -- events in a row
+
+  -- a line is begun
+  pub opened : (f g : Frame V) → Begins rules f g → Opens rules f g
+  opened f g b = record { run = b.run; stops = b.stops; quiet = b.quiet; left = b.left }
+
+  -- no event is taken
+  pub comes_nowhere : (f : Frame V) → Comes rules [] f f
+  comes_nowhere f = record { run = λ xs. refl; stops = λ c xs m r. r; quiet = record { flushed = refl; failures = refl }; left = refl }
+
+  -- an event is taken
+  pub comes_one : (e : EventView) (f g : Frame V) → is_over f.state.mode ≡ false → IsFed rules e (resized e f) g → Comes rules (e ∷ []) f g
+  comes_one e f g o t = record {
+    run = λ xs. sym (run_twice (progress_of f) e xs o) ∙ t.run xs;
+    stops = λ c xs m r. at_event o (stop_twice c e xs (progress_of f) m (t.stops c xs m r));
+    quiet = record { flushed = t.quiet.flushed; failures = t.quiet.failures };
+    left = t.left;
+  }
+
+  -- an event is taken by an open editor
+  pub comes_fed : (e : EventView) (f h k : Frame V) → is_open f.state.mode ≡ true → h ≡ resized e f → (is_open h.state.mode ≡ true → IsFed rules e h k) → Comes rules (e ∷ []) f k
+  comes_fed e f h k o hf t =
+      comes_one e f k (open_goes_on f.state.mode o) (subst (λ (y : Frame V). IsFed rules e y k) hf (t (subst (λ (y : Frame V). is_open y.state.mode ≡ true) (sym hf) o)))
+
+  -- and the line is not closed
+  pub begun_fed : (e : EventView) (f h k : Frame V) → is_open f.state.mode ≡ true → h ≡ resized e f → (is_open h.state.mode ≡ true → IsFed rules e h k) → k.state.mode ≢ Inactive
+  begun_fed e f h k o hf t = (t (subst (λ (y : Frame V). is_open y.state.mode ≡ true) (sym hf) o)).begun
+
+  -- more events are taken
+  pub comes_on : (xs ys : List EventView) (f g h : Frame V) → Comes rules xs f g → Comes rules ys g h → Comes rules (xs ++ ys) f h
+  comes_on xs ys f g h a b = record {
+    run = λ zs. ap (λ (es : List EventView). run_on rules es (progress_of f)) (append_assoc xs ys zs) ∙ a.run (ys ++ zs) ∙ b.run zs;
+    stops = λ c zs m r. subst (λ (es : List EventView). CanStopOn rules c es (progress_of f) m) (sym (append_assoc xs ys zs)) (a.stops c (ys ++ zs) m (b.stops c zs m r));
+    quiet = quiet_on f g h a.quiet b.quiet;
+    left = b.left ∙ a.left;
+  }
+
+  -- refusals
+
+  -- a line is not begun; nothing is left at the terminal
+  pub unopened : (f h : Frame V) (e : Error) → f.terminal.events ≡ [] → FailsToBegin rules None f h e → FailsOver rules [] (start None f) h e
+  unopened f h e none r =
+      let s : Progress V = progress_of (start None f) in
+      let same : run rules [] s ≡ begun_run rules None f = run_none f.terminal.events s none in
+      let starves : (m : Moment V) → WantsToBegin rules None f m → CanStop rules want [] s m = λ m can. elim can [
+        | inl miss ↦ stops_unpainted rules want [] s m (subst (λ (es : List EventView). CanMiss rules want es s m) none miss)
+        | inr given ↦ absurd (false≢true given.0)
+      ] in
+      fails_later (run rules [] s) (begun_run rules None f) same
+      (start None f) f h (record { flushed = refl; failures = refl })
+      (CanStop rules want [] s) (CanStop rules fault [] s) (WantsToBegin rules None f) (FaultsToBegin rules None f) (HaltsRefused (begun_run rules None f) (WantsToBegin rules None f))
+      starves
+      (λ m can. stops_unpainted rules fault [] s m (subst (λ (es : List EventView). CanMiss rules fault es s m) none can))
+      (halts_refused (run rules [] s) (begun_run rules None f) same (start None f) f h (record { flushed = refl; failures = refl }) (CanStop rules want [] s) (WantsToBegin rules None f) starves)
+      e r
+
+  -- an event is refused
+  pub refused_one : (e : EventView) (f h : Frame V) (x : Error) → is_over f.state.mode ≡ false → f.terminal.events ≡ [] → FailsToFeed rules e (resized e f) h x → FailsFrom rules (e ∷ []) f h x
+  refused_one e f h x o none r =
+      let s : Progress V = progress_of f in
+      let rest : Ending V = event_run rules e (resized e f) in
+      let same : run_on rules (e ∷ []) s ≡ rest = run_one f.terminal.events s e o none in
+      let stops : (c : Cause) (m : Moment V) → CanRefuse rules c e f.terminal.events (polled s e) m → CanStopOn rules c (e ∷ []) s m =
+      λ c m can. at_event o (refused (refuse_twice c e [] s m (subst (λ (es : List EventView). CanRefuse rules c e es (polled s e) m) none can))) in
+      fails_later (run_on rules (e ∷ []) s) rest same
+      f (resized e f) h (record { flushed = refl; failures = refl })
+      (CanStopOn rules want (e ∷ []) s) (CanStopOn rules fault (e ∷ []) s) (WantsToFeed rules e (resized e f)) (FaultsToFeed rules e (resized e f)) (HaltsRefused rest (WantsToFeed rules e (resized e f)))
+      (stops want) (stops fault)
+      (halts_refused (run_on rules (e ∷ []) s) rest same f (resized e f) h (record { flushed = refl; failures = refl }) (CanStopOn rules want (e ∷ []) s) (WantsToFeed rules e (resized e f)) (stops want))
+      x r
+
+  -- it is refused after others
+  pub refused_on : (xs ys : List EventView) (f g h : Frame V) (x : Error) → Comes rules xs f g → FailsFrom rules ys g h x → FailsFrom rules (xs ++ ys) f h x
+  refused_on xs ys f g h x a r = fails_later (run_on rules (xs ++ ys) (progress_of f)) (run_on rules ys (progress_of g)) (a.run ys) f g h a.quiet
+      (CanStopOn rules want (xs ++ ys) (progress_of f)) (CanStopOn rules fault (xs ++ ys) (progress_of f)) (CanStopOn rules want ys (progress_of g)) (CanStopOn rules fault ys (progress_of g))
+      (HaltsIn (run_on rules ys (progress_of g)) (CanStopOn rules want ys (progress_of g)))
+      (a.stops want ys) (a.stops fault ys)
+      (halts_in (run_on rules (xs ++ ys) (progress_of f)) (run_on rules ys (progress_of g)) (a.run ys) f g h a.quiet (CanStopOn rules want (xs ++ ys) (progress_of f)) (CanStopOn rules want ys (progress_of g)) (a.stops want ys))
+      x r
+
+  -- an open line is refused
+  pub refused_open : (events : List EventView) (f g h : Frame V) (x : Error) → Opens rules f g → FailsFrom rules events g h x → FailsOver rules events f h x
+  refused_open events f g h x a r = fails_later (run rules events (progress_of f)) (run_on rules events (progress_of g)) (a.run events) f g h a.quiet
+      (CanStop rules want events (progress_of f)) (CanStop rules fault events (progress_of f)) (CanStopOn rules want events (progress_of g)) (CanStopOn rules fault events (progress_of g))
+      (HaltsIn (run_on rules events (progress_of g)) (CanStopOn rules want events (progress_of g)))
+      (a.stops want events) (a.stops fault events)
+      (halts_in (run rules events (progress_of f)) (run_on rules events (progress_of g)) (a.run events) f g h a.quiet (CanStop rules want events (progress_of f)) (CanStopOn rules want events (progress_of g)) (a.stops want events))
+      x r
+
+  -- the end
+
+  -- the run over the events that were taken ends where the line stands
+  ends_here : (events : List EventView) (f g : Frame V) → f.terminal.events ≡ [] → Comes rules events f g → run_on rules events (progress_of f) ≡ ending (answer_at g.state) g
+  ends_here events f g none c =
+      ap (λ (es : List EventView). run_on rules es (progress_of f)) (sym (append-nil events))
+      ∙ c.run []
+      ∙ ap (λ (es : List EventView). ends (answer_at g.state) es (progress_of g)) (sym (c.left ∙ none))
+
+  -- where its line is not copied
+  uncopied_at : (events : List EventView) (f g : Frame V) → f.terminal.events ≡ [] → Comes rules events f g → (m : Moment V) → Uncopied g m → CanStopOn rules want events (progress_of f) m
+  uncopied_at events f g none c m (line, here) =
+      let at : m ≡ moment None [] (progress_of g) = here ∙ ap (λ (es : List EventView). moment None es (progress_of g)) (c.left ∙ none) in
+      subst (λ (es : List EventView). CanStopOn rules want es (progress_of f) m) (append-nil events)
+      (c.stops want [] m (subst (λ (x : Moment V). CanStopOn rules want [] (progress_of g) x) (sym at) (uncopied (inr refl) line)))
+
+  -- the end is refused
+  pub refused_end : (events : List EventView) (f g h : Frame V) (x : Error) → f.terminal.events ≡ [] → Comes rules events f g → FailsToFinish g h x → FailsFrom rules events f h x
+  refused_end events f g h x none c r =
+      let here : Ending V = ending (answer_at g.state) g in
+      fails_later (run_on rules events (progress_of f)) here (ends_here events f g none c) f g h c.quiet
+      (CanStopOn rules want events (progress_of f)) (CanStopOn rules fault events (progress_of f)) (Uncopied g) (λ m. ⊥) (HaltsIn here (Uncopied g))
+      (λ m can. uncopied_at events f g none c m can)
+      (λ m can. absurd can)
+      (halts_in (run_on rules events (progress_of f)) here (ends_here events f g none c) f g h c.quiet (CanStopOn rules want events (progress_of f)) (Uncopied g) (λ m can. uncopied_at events f g none c m can))
+      x r
+
+  -- a line is read
+  pub reads_open : (events : List EventView) (f g h k : Frame V) (answer : Outcome) → g.terminal.events ≡ [] → Opens rules f g → Comes rules events g h → Reads (ending (answer_at h.state) h) h k answer → Reads (run_over rules events f) f k answer
+  reads_open events f g h k answer none o c r = reads_later (run_over rules events f) (ending (answer_at h.state) h) (o.run events ∙ ends_here events g h none c) f h k (quiet_on f g h o.quiet c.quiet) answer r
+
+  -- whether the events ended it
+  pub ended_open : (events : List EventView) (f g h : Frame V) → g.terminal.events ≡ [] → Opens rules f g → Comes rules events g h → is_over (run_over rules events f).state.mode ≡ is_over h.state.mode
+  ended_open events f g h none o c = ap (λ (x : Ending V). is_over x.state.mode) (o.run events ∙ ends_here events g h none c)
+
+  -- a mode that is neither open nor Inactive ended the line
+  ended_mode : (m : ModeView) → m ≢ Inactive → is_open m ≡ false → is_over m ≡ true
+  ended_mode Inactive b o = absurd (b refl)
+  ended_mode Editing b o = absurd (false≢true (sym o))
+  ended_mode Cancelled b o = refl
+  ended_mode Accepted b o = refl
+  ended_mode (Searching style direction matching) b o = absurd (false≢true (sym o))
+
+  -- the same, with the frames of an editor's parts
+
+  -- an event is refused
+  pub refused_fed : (e : EventView) (f h k : Frame V) (x : Error) → is_open f.state.mode ≡ true → f.terminal.events ≡ [] → h ≡ resized e f → FailsToFeed rules e h k x → FailsFrom rules (e ∷ []) f k x
+  refused_fed e f h k x o none hf r = refused_one e f k x (open_goes_on f.state.mode o) none (subst (λ (y : Frame V). FailsToFeed rules e y k x) hf r)
+
+  -- a line is not begun
+  pub unopened_at : (f s h g : Frame V) (x : Error) → f.terminal.events ≡ [] → s ≡ start None f → g ≡ h → FailsToBegin rules None f h x → FailsOver rules [] s g x
+  unopened_at f s h g x none sf gh r = subst (λ (y : Frame V). FailsOver rules [] y g x) (sym sf)
+      (subst (λ (y : Frame V). FailsOver rules [] (start None f) y x) (sym gh) (unopened f h x none r))
+
+  -- an editor whose terminal has the size that an event tells
+  pub resized_is : (e : EventView) (f : Frame V) (t u : TerminalState) → (let r : TerminalState = record u { size = size_after e u.size } in t ≡ r) → u ≡ f.terminal → (let r : Frame V = record f { terminal = t } in r ≡ resized e f)
+  resized_is e f t u tu uf = ap (λ (y : TerminalState). let r : Frame V = record f { terminal = y } in r) (tu ∙ ap (λ (y : TerminalState). let r : TerminalState = record y { size = size_after e y.size } in r) uf)
+
+  -- how an event that is fed last is answered
+  pub comes_if : (A : Type 0) (answer : Result A Error) (e : EventView) (f h k : Frame V) → is_open f.state.mode ≡ true → h ≡ resized e f → (is_open h.state.mode ≡ true → OnOk answer (IsFed rules e h k)) → OnOk answer (Comes rules (e ∷ []) f k)
+  comes_if A (Ok x) e f h k o hf t = comes_fed e f h k o hf t
+  comes_if A (Err x) e f h k o hf t = tt
+
+  -- and refused
+  pub refused_if : (A : Type 0) (answer : Result A Error) (e : EventView) (f h k : Frame V) → is_open f.state.mode ≡ true → f.terminal.events ≡ [] → h ≡ resized e f → IfErr answer (FailsToFeed rules e h k) → IfErr answer (FailsFrom rules (e ∷ []) f k)
+  refused_if A (Ok x) e f h k o none hf r = tt
+  refused_if A (Err x) e f h k o none hf r = refused_fed e f h k x o none hf r
+
+  -- what the source told
+
+  -- nothing so far
+  pub by_none : (old : List EventView) (f : Frame V) → ComesBy rules old old f f
+  by_none old f = ([], sym (append-nil old), comes_nowhere f)
+
+  -- one event more
+  told_one : (old mid new xs : List EventView) (e : EventView) → mid ≡ old ++ xs → new ≡ mid ++ e ∷ [] → new ≡ old ++ (xs ++ e ∷ [])
+  told_one old mid new xs e a b = b ∙ ap (λ (ys : List EventView). ys ++ e ∷ []) a ∙ append_assoc old xs (e ∷ [])
+
+  -- and it is taken
+  pub by_one : (old mid new : List EventView) (e : EventView) (f g h : Frame V) → ComesBy rules old mid f g → new ≡ mid ++ e ∷ [] → Comes rules (e ∷ []) g h → ComesBy rules old new f h
+  by_one old mid new e f g h (xs, told, a) more b = (xs ++ e ∷ [], told_one old mid new xs e told more, comes_on xs (e ∷ []) f g h a b)
+
+  -- or refused
+  pub fails_by_one : (old mid new : List EventView) (e : EventView) (f g h : Frame V) (x : Error) → ComesBy rules old mid f g → new ≡ mid ++ e ∷ []
+      → FailsFrom rules (e ∷ []) g h x → FailsBy rules old new f h x
+  fails_by_one old mid new e f g h x (xs, told, a) more r = (xs ++ e ∷ [], told_one old mid new xs e told more, refused_on xs (e ∷ []) f g h x a r)
+
+  -- a line that was begun, fed and ended
+
+  -- it is read
+  reads_told : (old new : List EventView) (f g h k : Frame V) (answer : Outcome) → g.terminal.events ≡ [] → Opens rules f g → ComesBy rules old new g h
+      → Reads (ending (answer_at h.state) h) h k answer → ReadsTold rules old new f k answer (is_over h.state.mode)
+  reads_told old new f g h k answer none o (xs, told, c) r = (xs, told, sym (ended_open xs f g h none o c), reads_open xs f g h k answer none o c r)
+
+  -- it is not begun
+  pub fails_first : (old : List EventView) (f g : Frame V) (x : Error) → FailsOver rules [] f g x → FailsTold rules old old f g x
+  fails_first old f g x r = ([], sym (append-nil old), r)
+
+  -- an event is refused
+  pub fails_then : (old new : List EventView) (f g h : Frame V) (x : Error) → Opens rules f g → FailsBy rules old new g h x → FailsTold rules old new f h x
+  fails_then old new f g h x o (xs, told, r) = (xs, told, refused_open xs f g h x o r)
+
+  -- its end is refused
+  pub fails_last : (old new : List EventView) (f g h k : Frame V) (x : Error) → g.terminal.events ≡ [] → Opens rules f g → ComesBy rules old new g h
+      → FailsToFinish h k x → FailsTold rules old new f k x
+  fails_last old new f g h k x none o (xs, told, c) r = (xs, told, refused_open xs f g k x o (refused_end xs g h k x none c r))
+
+  -- how a line that was fed so is answered
+
+  -- whether an outcome is a line
+  abbrev has_line : Outcome → Bool
+  has_line (Ok (Some line)) = true
+  has_line _ = false
+
+  -- an open line is no cancelled one
+  open_line : (cut : Cut) (m : ModeView) → is_open m ≡ true → (let x : Outcome = Ok None in x ≡ Ok (line_in cut m)) → ⊥
+  open_line cut Inactive o at = false≢true o
+  open_line cut Editing o at = false≢true (ap has_line at)
+  open_line cut Cancelled o at = false≢true o
+  open_line cut Accepted o at = false≢true o
+  open_line cut (Searching style direction matching) o at = false≢true (ap has_line at)
+
+  module _ (old new : List EventView) (state : SourceState) (f g h k : Frame V) (none : g.terminal.events ≡ []) (o : Opens rules f g) (c : ComesBy rules old new g h) (b : h.state.mode ≢ Inactive) where
+    -- as an event ended it
+    read_ended : (answer : Outcome) → is_open h.state.mode ≡ false → Reads (ending (answer_at h.state) h) h k answer → ReadsTold rules old new f k answer true
+    read_ended answer at r = subst (λ (x : Bool). ReadsTold rules old new f k answer x) (ended_mode h.state.mode b at) (reads_told old new f g h k answer none o c r)
+
+    -- as no event ended it
+    read_open : (answer : Outcome) → is_open h.state.mode ≡ true → Reads (ending (answer_at h.state) h) h k answer → ReadsTold rules old new f k answer false
+    read_open answer at r = subst (λ (x : Bool). ReadsTold rules old new f k answer x) (open_goes_on h.state.mode at) (reads_told old new f g h k answer none o c r)
+
+  module _ (old new : List EventView) (state : SourceState) (f g h : Frame V) (s : SessionView) (v : V) (t : TerminalState) (none : g.terminal.events ≡ []) (o : Opens rules f g) (c : ComesBy rules old new g h) (b : h.state.mode ≢ Inactive) where
+    -- the line is closed
+    abbrev Closed : Option (String Global) → Type 0
+    Closed line = Reads (ending (answer_at h.state) h) h (frame_of s v t) (outcome_of (Ok line))
+
+    -- and read
+    read_from : (line : Option (String Global)) (stop : Stop) → IsStopped stop (is_open h.state.mode) state old new → Closed line → IfOk (answer_from line stop) (IsRead rules old new state f v t)
+    read_from line (source_fault why) at r = tt
+    read_from line Endless at r = tt
+    read_from None Ended at r = ((s, read_ended old new state f g h (frame_of s v t) none o c b (Ok None) at r), λ open_end. absurd (false≢true (sym open_end)))
+    read_from None source_end at r = absurd (open_line h.state.cut h.state.mode at.0 r.answer_is)
+    read_from (Some line) Ended at r = ((s, read_ended old new state f g h (frame_of s v t) none o c b (outcome_of (Ok (Some line))) at r), λ open_end. absurd (false≢true (sym open_end)))
+    read_from (Some line) source_end at r = ((s, read_open old new state f g h (frame_of s v t) none o c b (outcome_of (Ok (Some line))) at.0 r), λ same. at.1)
+
+    -- or cut off
+    cut_from : (line : Option (String Global)) (stop : Stop) → IsStopped stop (is_open h.state.mode) state old new → Closed line → IfErr (answer_from line stop) (live.FailsToRead rules old new state f v t)
+    cut_from line (source_fault why) at r = inr (inl (inl at.1, (s, (outcome_of (Ok line), read_open old new state f g h (frame_of s v t) none o c b (outcome_of (Ok line)) at.0 r))))
+    cut_from line Endless at r = inr (inl (inr (refl, at.1), (s, (outcome_of (Ok line), read_open old new state f g h (frame_of s v t) none o c b (outcome_of (Ok line)) at.0 r))))
+    cut_from None Ended at r = tt
+    cut_from None source_end at r = tt
+    cut_from (Some line) Ended at r = tt
+    cut_from (Some line) source_end at r = tt
+
+    -- the answer
+    pub read_as : (line : Option (String Global)) (stop : Stop) (answer : Result Answer Error) → answer ≡ answer_from line stop → IsStopped stop (is_open h.state.mode) state old new → Closed line → IfOk answer (IsRead rules old new state f v t)
+    read_as line stop answer same at r = subst (λ (x : Result Answer Error). IfOk x (IsRead rules old new state f v t)) (sym same) (read_from line stop at r)
+
+    -- the refusal
+    pub cut_as : (line : Option (String Global)) (stop : Stop) (answer : Result Answer Error) → answer ≡ answer_from line stop → IsStopped stop (is_open h.state.mode) state old new → Closed line → IfErr answer (live.FailsToRead rules old new state f v t)
+    cut_as line stop answer same at r = subst (λ (x : Result Answer Error). IfErr x (live.FailsToRead rules old new state f v t)) (sym same) (cut_from line stop at r)
+
+  -- the same, where the terminal is given back
+
+  -- a line is begun by an editor of this prompt
+  pub opened_at : (f s g : Frame V) → s ≡ start None f → Begins rules (start None f) g → Opens rules s g
+  opened_at f s g sf b = subst (λ (y : Frame V). Opens rules y g) (sym sf) (opened (start None f) g b)
+
+  module _ (old new : List EventView) (state : SourceState) (f : Frame V) (s : SessionView) (v : V) (t : TerminalState) (k : Frame V) (at : frame_of s v t ≡ k) (x : Error) where
+    -- what is told of the last frame
+    back : FailsTold rules old new f k x → live.FailsToRead rules old new state f v t x
+    back r = inl (s, subst (λ (y : Frame V). FailsTold rules old new f y x) (sym at) r)
+
+    -- an event was refused
+    pub stopped_at : (g : Frame V) → Opens rules f g → FailsBy rules old new g k x → live.FailsToRead rules old new state f v t x
+    stopped_at g o r = back (fails_then old new f g k x o r)
+
+    -- the end was refused
+    pub ended_at : (g h : Frame V) → g.terminal.events ≡ [] → Opens rules f g → ComesBy rules old new g h → FailsToFinish h k x → live.FailsToRead rules old new state f v t x
+    ended_at g h none o c r = back (fails_last old new f g h k x none o c r)
+
+  -- the line was not begun
+  pub unbegun_at : (old : List EventView) (state : SourceState) (f : Frame V) (s : SessionView) (v : V) (t : TerminalState) (k : Frame V) → frame_of s v t ≡ k → (x : Error) (i : Frame V) → i.terminal.events ≡ [] → f ≡ start None i → FailsToBegin rules None i k x → live.FailsToRead rules old old state f v t x
+  unbegun_at old state f s v t k at x i none fi r = back old old state f s v t k at x (fails_first old f k x (unopened_at i f k k x none fi refl r))
+
+  -- a line is closed
+  pub closed_at : (h k : Frame V) (s : SessionView) (v : V) (t : TerminalState) (answer : Outcome) → frame_of s v t ≡ k → Reads (ending (answer_at h.state) h) h k answer → Reads (ending (answer_at h.state) h) h (frame_of s v t) answer
+  closed_at h k s v t answer at r = subst (λ (y : Frame V). Reads (ending (answer_at h.state) h) h y answer) (sym at) r
+
+  -- how many events were told
+  pub counted : (old mid new : List EventView) (e : EventView) (n : ℕ) → length mid ≡ length old + n → new ≡ mid ++ e ∷ [] → length new ≡ length old + (n + 1)
+  counted old mid new e n a b = ap (λ (xs : List EventView). length xs) b ∙ length-append mid (e ∷ []) ∙ omega (arith, a)

@@ -1,0 +1,67 @@
+use Rattle.std.proofs.Common.{rules, refl}
+use Rattle.std.proofs.lemmas.Result.{err_from_is_err_and}
+use Rattle.tw_lineedit.specs.Frame.{frame}
+use Rattle.tw_device.specs.Live.{fresh}
+use Rattle.tw_device.specs.contracts.terminal.AnsiTerminalTerminal.TheImpl as terminal
+use Rattle.tw_device.proofs.LiveLemmas.{opened_at, unbegun_at, stopped_at, ended_at, closed_at, read_as, cut_as}
+use Rattle.tw_device.proofs.reading.read_line_from.Goals as goal
+
+pub returns-in_err-begin_line-clause-err : goal.returns-in_err-begin_line-clause-err
+returns-in_err-begin_line-clause-err g c =
+    let p = err_from_is_err_and c.from_residual-in_err-begin_line.result c.from_residual-in_err-begin_line.ensures.1 in
+    let state = (terminal.ghosts g.row.W g.W.Write g.W.Write-dict).state in
+    let value = g.H.LineEditorHost.value in
+    let i = frame state value c.set_prompt.new.self c.args.host.now in
+    let f = fresh c.args.prompt.now (value c.args.host.now) (state c.args.terminal.now) in
+    let painted = frame state value c.begin_line.new.self c.args.host.now in
+    rw (p.1, p.2) (unbegun_at g.H.LineEditorHost.rules (g.S.EventSource.told c.args.source.now) (g.S.EventSource.state c.args.source.now) f c.begin_line.new.self.session _ _ painted (search rules)
+    c.in_err-begin_line.field-0.0 i refl (search rules) (c.in_err-begin_line.ensures.err (search rules)))
+
+pub returns-in_err-stop-clause-err : goal.returns-in_err-stop-clause-err
+returns-in_err-stop-clause-err g c =
+    let p = err_from_is_err_and c.from_residual-in_err-stop.result c.from_residual-in_err-stop.ensures.1 in
+    let state = (terminal.ghosts g.row.W g.W.Write g.W.Write-dict).state in
+    let value = g.H.LineEditorHost.value in
+    let i = frame state value c.set_prompt.new.self c.args.host.now in
+    let f = fresh c.args.prompt.now (value c.args.host.now) (state c.args.terminal.now) in
+    let painted = frame state value c.begin_line.new.self c.args.host.now in
+    rw (p.1, p.2) (stopped_at g.H.LineEditorHost.rules (g.S.EventSource.told c.args.source.now) (g.S.EventSource.told c.take_events.new.source) (g.S.EventSource.state c.take_events.new.source) f c.take_events.new.editor.session _ _
+    (frame state value c.take_events.new.editor c.take_events.new.host) (search rules) c.in_err-stop.field-0.0 painted
+    (opened_at g.H.LineEditorHost.rules i f painted (search rules) (c.in_ok-begin_line.ensures.ok (search rules))) c.in_err-stop.ensures.err)
+
+pub returns-in_err-line-clause-err : goal.returns-in_err-line-clause-err
+returns-in_err-line-clause-err g c =
+    let p = err_from_is_err_and c.from_residual-in_err-line.result c.from_residual-in_err-line.ensures.1 in
+    let state = (terminal.ghosts g.row.W g.W.Write g.W.Write-dict).state in
+    let value = g.H.LineEditorHost.value in
+    let i = frame state value c.set_prompt.new.self c.args.host.now in
+    let f = fresh c.args.prompt.now (value c.args.host.now) (state c.args.terminal.now) in
+    let painted = frame state value c.begin_line.new.self c.args.host.now in
+    rw (p.1, p.2) (ended_at g.H.LineEditorHost.rules (g.S.EventSource.told c.args.source.now) (g.S.EventSource.told c.take_events.new.source) (g.S.EventSource.state c.take_events.new.source) f c.finish_line.new.self.session _ _
+    (frame state value c.finish_line.new.self c.take_events.new.host) (search rules) c.in_err-line.field-0.0 painted
+    (frame state value c.take_events.new.editor c.take_events.new.host) refl
+    (opened_at g.H.LineEditorHost.rules i f painted (search rules) (c.in_ok-begin_line.ensures.ok (search rules))) c.in_ok-stop.ensures.ok c.in_err-line.ensures.err)
+
+pub returns-clause-ok : goal.returns-clause-ok
+returns-clause-ok g c =
+    let state = (terminal.ghosts g.row.W g.W.Write g.W.Write-dict).state in
+    let value = g.H.LineEditorHost.value in
+    let i = frame state value c.set_prompt.new.self c.args.host.now in
+    let f = fresh c.args.prompt.now (value c.args.host.now) (state c.args.terminal.now) in
+    let painted = frame state value c.begin_line.new.self c.args.host.now in
+    let fed = frame state value c.take_events.new.editor c.take_events.new.host in
+    read_as g.H.LineEditorHost.rules (g.S.EventSource.told c.args.source.now) (g.S.EventSource.told c.take_events.new.source) (g.S.EventSource.state c.take_events.new.source) f painted fed c.finish_line.new.self.session _ _ refl
+    (opened_at g.H.LineEditorHost.rules i f painted (search rules) (c.in_ok-begin_line.ensures.ok (search rules))) c.in_ok-stop.ensures.ok c.in_ok-stop.ensures.begun c.in_ok-line.line c.in_ok-stop.stop c.answer_of.result c.answer_of.ensures c.in_ok-stop.ensures.stopped
+    (closed_at g.H.LineEditorHost.rules fed (frame state value c.finish_line.new.self c.take_events.new.host) c.finish_line.new.self.session _ _ _ (search rules) (c.in_ok-line.ensures.ok c.in_ok-stop.ensures.begun))
+
+pub returns-clause-err : goal.returns-clause-err
+returns-clause-err g c =
+    let state = (terminal.ghosts g.row.W g.W.Write g.W.Write-dict).state in
+    let value = g.H.LineEditorHost.value in
+    let i = frame state value c.set_prompt.new.self c.args.host.now in
+    let f = fresh c.args.prompt.now (value c.args.host.now) (state c.args.terminal.now) in
+    let painted = frame state value c.begin_line.new.self c.args.host.now in
+    let fed = frame state value c.take_events.new.editor c.take_events.new.host in
+    cut_as g.H.LineEditorHost.rules (g.S.EventSource.told c.args.source.now) (g.S.EventSource.told c.take_events.new.source) (g.S.EventSource.state c.take_events.new.source) f painted fed c.finish_line.new.self.session _ _ refl
+    (opened_at g.H.LineEditorHost.rules i f painted (search rules) (c.in_ok-begin_line.ensures.ok (search rules))) c.in_ok-stop.ensures.ok c.in_ok-stop.ensures.begun c.in_ok-line.line c.in_ok-stop.stop c.answer_of.result c.answer_of.ensures c.in_ok-stop.ensures.stopped
+    (closed_at g.H.LineEditorHost.rules fed (frame state value c.finish_line.new.self c.take_events.new.host) c.finish_line.new.self.session _ _ _ (search rules) (c.in_ok-line.ensures.ok c.in_ok-stop.ensures.begun))

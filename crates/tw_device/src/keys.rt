@@ -1,0 +1,199 @@
+//! Events that nobody knows before they come.
+
+ghost use Rattle.std.specs.Prelude.{◌≡◌, ◌++◌, ◌∷◌, [], List, IfOk, IfErr, OnErr, MatchOption};
+ghost use Rattle.tw_input.specs.EventView.{event_view, EventView};
+ghost use Rattle.tw_device.specs.Logs.{events_of};
+ghost use Rattle.tw_device.specs.declared.keys.SourceState.TheVariants.{AtEnd, Refused as HasRefused};
+
+use crate::logs::EventLog;
+use std::alloc::{AllocError, AllocFailed, Global};
+use std::io::Read;
+use tw_ansi::{Scanned, Token, scan};
+use tw_input::InputEvent;
+use tw_terminal::TerminalFault;
+
+/// What a source answered last.
+#[derive(Debug, Clone, Copy, PartialEq, Eq)]
+pub enum SourceState {
+    /// An event, or nothing yet.
+    Going,
+    /// That it had no more events.
+    AtEnd,
+    /// A refusal.
+    Refused(TerminalFault),
+}
+
+/// A source of events, as its contracts see it: the events that it told so far, and what it answered last.
+pub trait EventSource {
+    ghost use Rattle.tw_device.specs.declared.keys.SourceState.{SourceState};
+
+    ghost told: { Self → List EventView };
+
+    ghost state: { Self → SourceState };
+
+    /// The next event, or none where there are no more. A refusal tells none, and loses none: a later call tells it.
+    fn next_event(&mut self) -> Result<Option<InputEvent>, TerminalFault>
+        ensures ok { IfOk result (λ event. MatchOption event
+            ((told self.new ≡ told self.old) × (state self.new ≡ AtEnd))
+            (λ event. told self.new ≡ told self.old ++ event_view event ∷ [])) }
+        ensures told { OnErr result (told self.new ≡ told self.old) }
+        ensures refused { IfErr result (λ fault. state self.new ≡ HasRefused fault) };
+}
+
+/// Why no event is told.
+#[derive(Debug, Clone, Copy, PartialEq, Eq)]
+enum Refused {
+    Read,
+    Memory,
+}
+
+impl From<AllocError> for Refused {
+    fn from(_refused: AllocError) -> Refused {
+        Refused::Memory
+    }
+}
+
+impl<T: Drop> From<AllocFailed<T>> for Refused {
+    fn from(_refused: AllocFailed<T>) -> Refused {
+        Refused::Memory
+    }
+}
+
+impl From<Refused> for TerminalFault {
+    fn from(refused: Refused) -> TerminalFault {
+        match refused {
+            Refused::Read => TerminalFault::Device,
+            Refused::Memory => TerminalFault::Memory,
+        }
+    }
+}
+
+/// A reader of what is typed.
+#[derive(Drop)]
+pub struct KeyReader<R> {
+    alloc: Global,
+    reader: R,
+    /// The bytes that were read and not yet taken.
+    unread: Vec<u8>,
+    state: SourceState,
+    told: EventLog,
+}
+
+/// A pasted text: a space for each control character, and U+FFFD where the bytes are no text.
+fn pasted(alloc: Global, bytes: &[u8]) -> Result<String, AllocError> {
+    let text = String::from_utf8_lossy(alloc, bytes)?;
+    let mut shown = String::new(alloc);
+    for character in text.as_str().chars() {
+        shown.push(if character.is_control() {
+            ' '
+        } else {
+            character
+        })?;
+    }
+    Ok(shown)
+}
+
+impl<R: Read> KeyReader<R> {
+    /// A reader that has told no event. It takes no memory.
+    pub fn new(alloc: Global, reader: R) -> Self
+        ensures { ⟦<KeyReader<R> as EventSource>⟧.told result ≡ [] }
+    {
+        KeyReader {
+            alloc,
+            reader,
+            unread: Vec::new(alloc),
+            state: SourceState::Going,
+            told: EventLog::Nothing,
+        }
+    }
+
+    /// The next event, or none at the end of what is typed.
+    fn find(&mut self) -> Result<Option<InputEvent>, Refused>
+        ensures { events_of self.new.told ≡ events_of self.old.told }
+    {
+        let mut is_last = false;
+        for _ in 0..u64::MAX {
+            if self.unread.is_empty() {
+                if is_last {
+                    return Ok(None);
+                }
+            } else if let Some(found) = scan(self.unread.as_slice(), is_last) {
+                if let Some(event) = self.take(found)? {
+                    return Ok(Some(event));
+                }
+                continue;
+            }
+            is_last = !self.read_more()?;
+        }
+        Err(Refused::Read)
+    }
+
+    /// Takes a token. Bytes that mean nothing are taken and answer none. A refusal takes none, so that the next call
+    /// finds the token again.
+    fn take(&mut self, found: Scanned) -> Result<Option<InputEvent>, Refused>
+        ensures told { events_of self.new.told ≡ events_of self.old.told }
+        ensures kept { OnErr result (self.new.unread ≡ self.old.unread) }
+    {
+        let Scanned { token, used } = found;
+        let event = match token {
+            Token::Key(key) => Some(InputEvent::Key(key)),
+            Token::Size { cols, rows } => Some(InputEvent::Resized { cols, rows }),
+            Token::Paste { from, len } => {
+                let bytes = self.unread.as_slice();
+                let end = from.saturating_add(len).min(bytes.len());
+                Some(InputEvent::Paste(pasted(self.alloc, &bytes[from.min(end)..end])?))
+            }
+            Token::Unknown => None,
+        };
+        let mut rest = Vec::new(self.alloc);
+        rest.extend_from_slice(&self.unread.as_slice()[used.min(self.unread.len())..])?;
+        self.unread = rest;
+        Ok(event)
+    }
+
+    /// Reads what there is, and waits where there is nothing. It answers false at the end. It finds room for the
+    /// bytes before it reads, so that none is lost for want of memory.
+    fn read_more(&mut self) -> Result<bool, Refused>
+        ensures { events_of self.new.told ≡ events_of self.old.told }
+    {
+        let held = self.unread.len();
+        self.unread.resize(held.saturating_add(1024), 0)?;
+        let room = self.unread.as_mut_slice();
+        let at = held.min(room.len());
+        let result = self.reader.read(&mut room[at..]);
+        let count = match &result {
+            Ok(count) => *count,
+            Err(_) => 0,
+        };
+        self.unread.truncate(held.saturating_add(count));
+        match result {
+            Ok(count) => Ok(count > 0),
+            Err(_) => Err(Refused::Read),
+        }
+    }
+}
+
+impl<R: Read> EventSource for KeyReader<R> {
+    ghost told = { λ it. events_of it.told };
+
+    ghost state = { λ it. it.state };
+
+    fn next_event(&mut self) -> Result<Option<InputEvent>, TerminalFault> {
+        match self.find() {
+            Ok(Some(event)) => {
+                self.told = self.told.and(&event);
+                self.state = SourceState::Going;
+                Ok(Some(event))
+            }
+            Ok(None) => {
+                self.state = SourceState::AtEnd;
+                Ok(None)
+            }
+            Err(refused) => {
+                let fault = TerminalFault::from(refused);
+                self.state = SourceState::Refused(fault);
+                Err(fault)
+            }
+        }
+    }
+}

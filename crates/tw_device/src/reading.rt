@@ -1,0 +1,137 @@
+//! Reading a line from events that nobody knows before they come.
+
+ghost use Rattle.std.specs.Prelude.{◌≡◌, ◌≢◌, ◌∷◌, [], true, Ok, IfOk, IfErr, OnOk};
+ghost use Rattle.tw_input.specs.EventView.{event_view};
+ghost use Rattle.tw_terminal.specs.TerminalState.{size_after};
+ghost use Rattle.tw_lineedit.specs.EditState.{Inactive};
+ghost use Rattle.tw_lineedit.specs.Feeding.{status_if};
+ghost use Rattle.tw_lineedit.specs.Frame.{frame};
+ghost use Rattle.tw_lineedit.specs.Outcomes.{is_open};
+ghost use Rattle.tw_device.specs.Live.{fresh, Comes, ComesBy, FailsFrom, FailsBy, IsRead, FailsToRead, IsStopped, answer_from};
+
+use crate::keys::EventSource;
+use crate::terminal::AnsiTerminal;
+use std::alloc::Global;
+use std::io::Write;
+use tw_input::InputEvent;
+use tw_lineedit::{Error, LineEditor, LineEditorHost, LineStatus};
+use tw_terminal::{ScreenSize, Terminal, TerminalFault};
+
+/// How a reading ended.
+#[derive(Debug, Drop)]
+pub enum Answer {
+    /// The line was accepted.
+    Line(String),
+    /// The line was cancelled.
+    Cancelled,
+    /// The source had no more events, with this line.
+    End(String),
+}
+
+/// Why no more events are fed to a line.
+#[derive(Debug, Clone, Copy, PartialEq, Eq)]
+enum Stop {
+    /// The line was accepted or cancelled.
+    Ended,
+    /// The source has no more events.
+    SourceEnd,
+    /// The source refused.
+    SourceFault(TerminalFault),
+    /// The source told as many events as can be counted.
+    Endless,
+}
+
+/// Gives the terminal the size that an event tells.
+fn resize<W: Write>(terminal: &mut AnsiTerminal<W>, event: &InputEvent)
+    ensures { ⟦<AnsiTerminal<W> as Terminal>⟧.state terminal.new ≡ record (⟦<AnsiTerminal<W> as Terminal>⟧.state terminal.old) { size = size_after (event_view event.now) (⟦<AnsiTerminal<W> as Terminal>⟧.state terminal.old).size } }
+{
+    if let InputEvent::Resized { cols, rows } = event {
+        terminal.set_screen_size(ScreenSize {
+            rows: *rows,
+            cols: *cols,
+        });
+    }
+}
+
+/// Feeds an event to an open line, once the terminal has the size that it tells.
+fn feed<W: Write, H: LineEditorHost>(
+    editor: &mut LineEditor<'_, AnsiTerminal<W>>,
+    host: &mut H,
+    event: &InputEvent,
+) -> Result<LineStatus, Error>
+    requires { is_open editor.old.session.state.mode ≡ true }
+    ensures same_reference { editor.new.terminal.ghost_name ≡ editor.old.terminal.ghost_name }
+    ensures ok { OnOk result (Comes H.rules (event_view event.now ∷ []) (frame ⟦<AnsiTerminal<W> as Terminal>⟧.state H.value editor.old host.old) (frame ⟦<AnsiTerminal<W> as Terminal>⟧.state H.value editor.new host.new)) }
+    ensures begun { OnOk result (editor.new.session.state.mode ≢ Inactive) }
+    ensures status { IfOk result (λ status. status ≡ status_if (is_open editor.new.session.state.mode)) }
+    ensures err { IfErr result (FailsFrom H.rules (event_view event.now ∷ []) (frame ⟦<AnsiTerminal<W> as Terminal>⟧.state H.value editor.old host.old) (frame ⟦<AnsiTerminal<W> as Terminal>⟧.state H.value editor.new host.new)) }
+{
+    resize(editor.terminal(), event);
+    editor.feed(host, event)
+}
+
+/// Feeds an open line what the source tells, up to the line's end or the source's.
+#[tactic(auto, using(crate::proofs::LiveLemmas::counted))]
+fn take_events<S: EventSource, W: Write, H: LineEditorHost>(
+    source: &mut S,
+    editor: &mut LineEditor<'_, AnsiTerminal<W>>,
+    host: &mut H,
+) -> Result<Stop, Error>
+    requires { is_open editor.old.session.state.mode ≡ true }
+    ensures same_reference { editor.new.terminal.ghost_name ≡ editor.old.terminal.ghost_name }
+    ensures ok { OnOk result (ComesBy H.rules (S.told source.old) (S.told source.new) (frame ⟦<AnsiTerminal<W> as Terminal>⟧.state H.value editor.old host.old) (frame ⟦<AnsiTerminal<W> as Terminal>⟧.state H.value editor.new host.new)) }
+    ensures begun { OnOk result (editor.new.session.state.mode ≢ Inactive) }
+    ensures stopped { IfOk result (λ stop. IsStopped stop (is_open editor.new.session.state.mode) (S.state source.new) (S.told source.old) (S.told source.new)) }
+    ensures err { IfErr result (FailsBy H.rules (S.told source.old) (S.told source.new) (frame ⟦<AnsiTerminal<W> as Terminal>⟧.state H.value editor.old host.old) (frame ⟦<AnsiTerminal<W> as Terminal>⟧.state H.value editor.new host.new)) }
+{
+    for turn in 0..u64::MAX {
+        let _told = turn;
+        match source.next_event() {
+            Ok(Some(event)) => match feed(editor, host, &event)? {
+                LineStatus::Open => {}
+                LineStatus::Ended => return Ok(Stop::Ended),
+            },
+            Ok(None) => return Ok(Stop::SourceEnd),
+            Err(fault) => return Ok(Stop::SourceFault(fault)),
+        }
+    }
+    Ok(Stop::Endless)
+}
+
+/// What a line is that was fed so.
+fn answer_of(line: Option<String>, stop: Stop) -> Result<Answer, Error>
+    ensures { result ≡ answer_from line stop }
+{
+    match (line, stop) {
+        (_, Stop::SourceFault(fault)) => Err(Error::Terminal(fault)),
+        (_, Stop::Endless) => Err(Error::Terminal(TerminalFault::Device)),
+        (None, _) => Ok(Answer::Cancelled),
+        (Some(line), Stop::Ended) => Ok(Answer::Line(line)),
+        (Some(line), Stop::SourceEnd) => Ok(Answer::End(line)),
+    }
+}
+
+/// Reads a line with a new editor from the events of a source, up to that which ends the line or the end of the
+/// source. The answer, the batches, the screen's size and the host's value are those of the abstract editor's run
+/// over exactly the events that the source told. A `Resized` sets the terminal's size.
+///
+/// Where the source refuses, the line is closed as at the source's end, and the answer is the source's refusal;
+/// so it is, with `Device`, where one call was told 2^64 - 1 events and none of them ended the line. Every other
+/// refusal is as one of `read_line`.
+pub fn read_line_from<S: EventSource, W: Write, H: LineEditorHost>(
+    alloc: Global,
+    source: &mut S,
+    terminal: &mut AnsiTerminal<W>,
+    host: &mut H,
+    prompt: &str,
+) -> Result<Answer, Error>
+    ensures ok { IfOk result (IsRead H.rules (S.told source.old) (S.told source.new) (S.state source.new) (fresh prompt.now (H.value host.old) (⟦<AnsiTerminal<W> as Terminal>⟧.state terminal.old)) (H.value host.new) (⟦<AnsiTerminal<W> as Terminal>⟧.state terminal.new)) }
+    ensures err { IfErr result (FailsToRead H.rules (S.told source.old) (S.told source.new) (S.state source.new) (fresh prompt.now (H.value host.old) (⟦<AnsiTerminal<W> as Terminal>⟧.state terminal.old)) (H.value host.new) (⟦<AnsiTerminal<W> as Terminal>⟧.state terminal.new)) }
+{
+    let mut editor = LineEditor::new(alloc, terminal)?;
+    editor.set_prompt(prompt)?;
+    editor.begin_line(host, None)?;
+    let stop = take_events(source, &mut editor, host)?;
+    let line = editor.finish_line(host)?;
+    answer_of(line, stop)
+}

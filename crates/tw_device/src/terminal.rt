@@ -1,0 +1,165 @@
+//! A terminal over a writer. Its events are not its own affair: they are fed to the editor.
+
+ghost use Rattle.std.specs.Io.KnownBytes.{Appends};
+ghost use Rattle.std.specs.Prelude.{◌≡◌, ◌++◌, [], length, IfOk, OnOk, OnErr, string_bytes};
+ghost use Rattle.tw_surface.specs.ChangeView.{batch_view};
+ghost use Rattle.tw_terminal.specs.TerminalState.{RenderFails, Renders};
+ghost use Rattle.tw_ansi.specs.Encoding.{sent_batch};
+ghost use Rattle.tw_device.specs.Logs.{batches_of};
+
+use crate::logs::{BatchLog, ChangeLog};
+use std::alloc::{AllocError, AllocFailed, Global};
+use std::io::Write;
+use std::snapshot::Snapshot;
+use tw_ansi::Encoder;
+use tw_input::InputEvent;
+use tw_surface::Change;
+use tw_terminal::{ScreenSize, Terminal, TerminalFault};
+
+/// Why a call is refused.
+#[derive(Debug, Clone, Copy, PartialEq, Eq)]
+enum Refused {
+    Write,
+    Memory,
+}
+
+impl From<AllocError> for Refused {
+    fn from(_refused: AllocError) -> Refused {
+        Refused::Memory
+    }
+}
+
+impl<T: Drop> From<AllocFailed<T>> for Refused {
+    fn from(_refused: AllocFailed<T>) -> Refused {
+        Refused::Memory
+    }
+}
+
+/// What a terminal answers for it.
+fn fault_of(refused: Refused) -> TerminalFault {
+    match refused {
+        Refused::Write => TerminalFault::Device,
+        Refused::Memory => TerminalFault::Memory,
+    }
+}
+
+/// A terminal over a writer. It has no events, and the size that its owner gives it.
+#[derive(Drop)]
+pub struct AnsiTerminal<W> {
+    alloc: Global,
+    writer: W,
+    encoder: Encoder,
+    size: ScreenSize,
+    batches: BatchLog,
+    flushed: Snapshot<BatchLog>,
+    failures: usize,
+}
+
+impl<W: Write> AnsiTerminal<W> {
+    /// A terminal of this size, whose cursor stands in column 0.
+    pub fn new(alloc: Global, writer: W, size: ScreenSize) -> Self
+        ensures { ⟦<AnsiTerminal<W> as Terminal>⟧.state result ≡ record { size = size; events = []; batches = []; flushed = 0; failures = 0 } }
+    {
+        let batches = BatchLog::Nothing;
+        let flushed = Snapshot::of(&batches);
+        AnsiTerminal {
+            alloc,
+            writer,
+            encoder: Encoder::new(size.cols),
+            size,
+            batches,
+            flushed,
+            failures: 0,
+        }
+    }
+
+    /// Sets the size, which nothing else changes.
+    pub fn set_screen_size(&mut self, size: ScreenSize)
+        ensures { ⟦<AnsiTerminal<W> as Terminal>⟧.state self.new ≡ record (⟦<AnsiTerminal<W> as Terminal>⟧.state self.old) { size = size } }
+    {
+        self.encoder.set_cols(size.cols);
+        self.size = size;
+    }
+
+    /// Sends a text as it is. It has to leave the cursor in column 0.
+    pub fn send(&mut self, text: &str) -> Result<(), TerminalFault>
+        ensures { ⟦<AnsiTerminal<W> as Terminal>⟧.state self.new ≡ ⟦<AnsiTerminal<W> as Terminal>⟧.state self.old }
+    {
+        match self.writer.write_all(text.as_bytes()) {
+            Ok(()) => Ok(()),
+            Err(_) => Err(TerminalFault::Device),
+        }
+    }
+
+    /// Adds what a batch is sent as, and answers what is then known.
+    fn encode(&self, changes: &[Change], text: &mut String) -> Result<Encoder, AllocError>
+        ensures bytes { OnOk result (string_bytes text.new ≡ string_bytes text.old ++ (sent_batch (batch_view changes.now) self.now.encoder).bytes) }
+        ensures next { IfOk result (λ encoder. encoder ≡ (sent_batch (batch_view changes.now) self.now.encoder).next) }
+    {
+        let mut encoder = self.encoder;
+        for change in changes {
+            encoder.encode(change, text)?;
+        }
+        Ok(encoder)
+    }
+
+    /// Sends a batch.
+    fn put(&mut self, changes: &[Change]) -> Result<(), Refused>
+        ensures sent { OnOk result (Appends (W.contents self.old.writer) (W.contents self.new.writer) (sent_batch (batch_view changes.now) self.old.encoder).bytes) }
+        ensures next { OnOk result (self.new.encoder ≡ (sent_batch (batch_view changes.now) self.old.encoder).next) }
+        ensures ok { OnOk result (Renders (batch_view changes.now) (⟦<AnsiTerminal<W> as Terminal>⟧.state self.old) (⟦<AnsiTerminal<W> as Terminal>⟧.state self.new)) }
+        ensures err { OnErr result (⟦<AnsiTerminal<W> as Terminal>⟧.state self.new ≡ ⟦<AnsiTerminal<W> as Terminal>⟧.state self.old) }
+    {
+        let mut text = String::new(self.alloc);
+        let encoder = self.encode(changes, &mut text)?;
+        if self.writer.write_all(text.as_bytes()).is_err() {
+            return Err(Refused::Write);
+        }
+        self.encoder = encoder;
+        self.batches = self.batches.and(&ChangeLog::of(changes));
+        Ok(())
+    }
+}
+
+impl<W: Write> Terminal for AnsiTerminal<W> {
+    ghost state = { λ it. record {
+      size = it.size;
+      events = [];
+      batches = batches_of it.batches;
+      flushed = length (batches_of it.flushed.value);
+      failures = it.failures;
+    } };
+
+    fn get_screen_size(&mut self) -> Result<ScreenSize, TerminalFault> {
+        Ok(self.size)
+    }
+
+    fn poll_input(&mut self) -> Result<Option<InputEvent>, TerminalFault> {
+        Ok(None)
+    }
+
+    /// Sends the bytes of the changes at once. Where the writer is refused a beginning of them may have been sent.
+    fn render(&mut self, changes: &[Change]) -> Result<(), TerminalFault>
+        ensures ok { OnOk result (Renders (batch_view changes.now) (⟦<AnsiTerminal<W> as Terminal>⟧.state self.old) (⟦<AnsiTerminal<W> as Terminal>⟧.state self.new)) }
+        ensures err { OnErr result (RenderFails (batch_view changes.now) (⟦<AnsiTerminal<W> as Terminal>⟧.state self.old) (⟦<AnsiTerminal<W> as Terminal>⟧.state self.new)) }
+        ensures sent { OnOk result (Appends (W.contents self.old.writer) (W.contents self.new.writer) (sent_batch (batch_view changes.now) self.old.encoder).bytes) }
+        ensures next { OnOk result (self.new.encoder ≡ (sent_batch (batch_view changes.now) self.old.encoder).next) }
+    {
+        match self.put(changes) {
+            Ok(()) => Ok(()),
+            Err(refused) => {
+                self.failures = self.failures.saturating_add(1);
+                Err(fault_of(refused))
+            }
+        }
+    }
+
+    fn flush(&mut self) -> Result<(), TerminalFault> {
+        if self.writer.flush().is_err() {
+            self.failures = self.failures.saturating_add(1);
+            return Err(TerminalFault::Device);
+        }
+        self.flushed = Snapshot::of(&self.batches);
+        Ok(())
+    }
+}
