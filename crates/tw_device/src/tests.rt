@@ -85,12 +85,10 @@ struct Pieces {
 
 impl Read for Pieces {
     fn read(&mut self, buf: &mut [u8]) -> io::Result<usize> {
-        let mut count = 0;
-        while count < buf.len() && count < self.step && count < self.bytes.len() {
-            buf[count] = self.bytes[count];
-            count += 1;
-        }
-        self.bytes = &self.bytes[count..];
+        let count = self.step.min(buf.len()).min(self.bytes.len());
+        let (now, later) = self.bytes.split_at(count);
+        buf[..count].copy_from_slice(now);
+        self.bytes = later;
         Ok(count)
     }
 }
