@@ -1,5 +1,5 @@
 -- The key table: which action an event stands for.
-use Rattle.std.specs.Prelude.{⊤, ℕ, Bool, true, false, ◌&&◌, ◌||◌, ◌==◌, if◌then◌else◌, List, [], ◌∷◌, Option, Some, None}
+use Rattle.std.specs.Prelude.{⊤, ℕ, Bool, true, false, ◌&&◌, ◌||◌, ◌==◌, if◌then◌else◌, List, [], ◌∷◌, codes, Option, Some, None}
 use Rattle.std.specs.Option.{option_or}
 use Rattle.tw_input.specs.declared.key.KeyCode.{KeyCode}
 use Rattle.tw_input.specs.declared.key.KeyCode.TheVariants.{Char, Backspace, Tab, Enter, Escape, Insert, Delete, Home, End, PageUp, PageDown, LeftArrow, RightArrow, UpArrow, DownArrow, ApplicationLeftArrow, ApplicationRightArrow, ApplicationUpArrow, ApplicationDownArrow, Function}
@@ -29,25 +29,30 @@ ctrl = 8
 abbrev pub pressed : ℕ → KeyCode → KeyEvent
 pressed bits key = record { key = key; modifiers = modifiers_of bits }
 
+-- the key of a text's first character
+abbrev pub letter : List ℕ → KeyCode
+letter [] = Escape
+letter (c ∷ rest) = Char c
+
 -- the keys with an action of their own
 abbrev pub key_table : List (KeyEvent × ActionView)
 key_table =
-    (pressed ctrl (Char 67), Cancel)
-    ∷ (pressed ctrl (Char 68), EndOfFile)
-    ∷ (pressed ctrl (Char 74), AcceptLine)
-    ∷ (pressed ctrl (Char 77), AcceptLine)
-    ∷ (pressed ctrl (Char 72), Kill (movement.BackwardChar 1))
-    ∷ (pressed ctrl (Char 80), HistoryPrevious)
-    ∷ (pressed ctrl (Char 78), HistoryNext)
-    ∷ (pressed ctrl (Char 66), Move (movement.BackwardChar 1))
-    ∷ (pressed ctrl (Char 70), Move (movement.ForwardChar 1))
-    ∷ (pressed ctrl (Char 87), Kill (movement.BackwardWord 1))
-    ∷ (pressed ctrl (Char 65), Move movement.StartOfLine)
-    ∷ (pressed ctrl (Char 69), Move movement.EndOfLine)
-    ∷ (pressed ctrl (Char 76), Repaint)
-    ∷ (pressed ctrl (Char 75), Kill movement.EndOfLine)
-    ∷ (pressed ctrl (Char 82), HistoryIncSearchBackwards)
-    ∷ (pressed ctrl (Char 83), HistoryIncSearchForwards)
+    (pressed ctrl (letter (codes "C")), Cancel)
+    ∷ (pressed ctrl (letter (codes "D")), EndOfFile)
+    ∷ (pressed ctrl (letter (codes "J")), AcceptLine)
+    ∷ (pressed ctrl (letter (codes "M")), AcceptLine)
+    ∷ (pressed ctrl (letter (codes "H")), Kill (movement.BackwardChar 1))
+    ∷ (pressed ctrl (letter (codes "P")), HistoryPrevious)
+    ∷ (pressed ctrl (letter (codes "N")), HistoryNext)
+    ∷ (pressed ctrl (letter (codes "B")), Move (movement.BackwardChar 1))
+    ∷ (pressed ctrl (letter (codes "F")), Move (movement.ForwardChar 1))
+    ∷ (pressed ctrl (letter (codes "W")), Kill (movement.BackwardWord 1))
+    ∷ (pressed ctrl (letter (codes "A")), Move movement.StartOfLine)
+    ∷ (pressed ctrl (letter (codes "E")), Move movement.EndOfLine)
+    ∷ (pressed ctrl (letter (codes "L")), Repaint)
+    ∷ (pressed ctrl (letter (codes "K")), Kill movement.EndOfLine)
+    ∷ (pressed ctrl (letter (codes "R")), HistoryIncSearchBackwards)
+    ∷ (pressed ctrl (letter (codes "S")), HistoryIncSearchForwards)
     ∷ (pressed none Tab, Complete)
     ∷ (pressed none Enter, AcceptLine)
     ∷ (pressed none Backspace, Kill (movement.BackwardChar 1))
@@ -62,10 +67,10 @@ key_table =
     ∷ (pressed none ApplicationRightArrow, Move (movement.ForwardChar 1))
     ∷ (pressed none Home, Move movement.StartOfLine)
     ∷ (pressed none End, Move movement.EndOfLine)
-    ∷ (pressed alt (Char 98), Move (movement.BackwardWord 1))
+    ∷ (pressed alt (letter (codes "b")), Move (movement.BackwardWord 1))
     ∷ (pressed alt LeftArrow, Move (movement.BackwardWord 1))
     ∷ (pressed alt ApplicationLeftArrow, Move (movement.BackwardWord 1))
-    ∷ (pressed alt (Char 102), Move (movement.ForwardWord 1))
+    ∷ (pressed alt (letter (codes "f")), Move (movement.ForwardWord 1))
     ∷ (pressed alt RightArrow, Move (movement.ForwardWord 1))
     ∷ (pressed alt ApplicationRightArrow, Move (movement.ForwardWord 1))
     ∷ []
