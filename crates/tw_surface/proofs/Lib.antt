@@ -21,7 +21,9 @@ pub mod WorkedPaintings
 pub mod WorkedScrolling
 pub mod CutLists
 pub mod WorkedCutting
-pub mod TagLemmas
+pub mod RenamedPictures
+pub mod NamedPaintings
+pub mod MarkedPictures
 pub mod SimpleScenes
 pub mod WorkedSimple
 pub mod CellLookups

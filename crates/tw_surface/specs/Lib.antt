@@ -22,3 +22,4 @@ pub mod Cells
 pub mod ScrollingScreens
 pub mod Cutting
 pub mod Simple
+pub mod SimpleLaws

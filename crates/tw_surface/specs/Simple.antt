@@ -1,31 +1,22 @@
 -- Texts of characters that take one column each, and what a screen of characters shows of them.
-use Rattle.std.specs.Prelude.{ℕ, ◌≡◌, ◌≤◌, ◌||◌, eqb, false, chars, List, [], ◌∷◌, map}
+use Rattle.std.specs.Prelude.{ℕ, ◌≡◌, ◌≤◌, ◌||◌, Bool, eqb, false, chars, List, [], ◌∷◌, map}
 use Rattle.std.specs.List.{list_any}
-use Rattle.tw_surface.specs.declared.measure.Piece.TheVariants.{Wide}
+use Rattle.tw_surface.specs.declared.measure.Piece.{Piece}
+use Rattle.tw_surface.specs.declared.measure.Piece.TheVariants.{Cr, Lf, CrLf, Wide}
 use Rattle.tw_surface.specs.ChangeView.{ChangeView, Batch}
 use Rattle.tw_surface.specs.ChangeView.{Attribute, AllAttributes, Text, ClearScreen, ClearToEndOfScreen, CursorPosition}
 use Rattle.tw_surface.specs.Characters.{cr, lf}
-use Rattle.tw_surface.specs.Fresh.{IsFresh, IsSameAbove}
-use Rattle.tw_surface.specs.Pictures.{Picture, play_all}
-use Rattle.tw_surface.specs.Paintings.{painting}
-use Rattle.tw_surface.specs.Places.{pieces}
-use Rattle.tw_surface.specs.Scenes.{Scene}
-use Rattle.tw_surface.specs.Scenes.Lower.{NoLower}
+use Rattle.tw_surface.specs.Lines.{lines_of}
+use Rattle.tw_surface.specs.Places.{pieces, plain_piece}
+use Rattle.tw_surface.specs.Scenes.{Scene, Lower, typed}
+use Rattle.tw_surface.specs.Scenes.Lower.{NoLower, Preview, Search}
+use Rattle.tw_surface.specs.Shots.{SizedScene}
 
--- a text that is measured as so many pieces of one column as it has characters, none of them CR or LF
-pub record IsSimpleText (text : List ℕ) : Type 0 where
-  pub measured : pieces text ≡ map (λ ch. Wide 1) (chars text)
-  pub no_breaks : list_any (λ ch. eqb ch cr || eqb ch lf) (chars text) ≡ false
+-- CR or LF
+abbrev pub is_break : ℕ → Bool
+is_break ch = eqb ch cr || eqb ch lf
 
--- attributes and simple texts
-abbrev pub AreSimple : Batch → Type 0
-AreSimple [] = Unit {0}
-AreSimple (Text text ∷ changes) = IsSimpleText text × AreSimple changes
-AreSimple (Attribute a ∷ changes) = AreSimple changes
-AreSimple (AllAttributes a ∷ changes) = AreSimple changes
-AreSimple (ClearScreen color ∷ changes) = ⊥
-AreSimple (ClearToEndOfScreen color ∷ changes) = ⊥
-AreSimple (CursorPosition x y ∷ changes) = ⊥
+-- ---- spelled
 
 -- the characters of a change's text in place of its bytes
 abbrev pub spelled : ChangeView → ChangeView
@@ -39,18 +30,73 @@ spelled (CursorPosition x y) = CursorPosition x y
 abbrev pub spelled_all : Batch → Batch
 spelled_all changes = map spelled changes
 
--- a scene of simple texts, with nothing below the line
-pub record IsSimple (scene : Scene) : Type 0 where
-  pub prompt : AreSimple scene.prompt
-  pub line : AreSimple scene.line
-  pub lower : scene.lower ≡ NoLower
+abbrev pub spelled_batches : List Batch → List Batch
+spelled_batches played = map spelled_all played
+
+abbrev pub spelled_lower : Lower → Lower
+spelled_lower NoLower = NoLower
+spelled_lower (Preview elements) = Preview (spelled_all elements)
+spelled_lower (Search text) = Search (chars text)
 
 -- the scene with characters in place of bytes
 abbrev pub spelled_scene : Scene → Scene
-spelled_scene scene = record { prompt = spelled_all scene.prompt; line = spelled_all scene.line; column = scene.column; lower = NoLower; cleared = scene.cleared }
+spelled_scene scene = record { prompt = spelled_all scene.prompt; line = spelled_all scene.line; column = scene.column; lower = spelled_lower scene.lower; cleared = scene.cleared }
 
--- a painting of a simple scene, measured by its bytes and played by its characters, is the fresh one of its characters
-abbrev pub SimplePainting : Type 0
-SimplePainting = (w s : ℕ) (scene : Scene) (before : Picture) → 2 ≤ w → before.row ≡ s → before.col ≡ 0 → IsSimple scene
-    → let after = play_all w (spelled_all (painting w scene).changes) before in
-    IsFresh w s (spelled_scene scene) after × IsSameAbove w s before after
+-- ---- simple
+
+-- a text that is measured as so many pieces of one column as it has characters, none of them CR or LF
+pub record IsSimpleText (text : List ℕ) : Type 0 where
+  pub measured : pieces text ≡ map (λ ch. Wide 1) (chars text)
+  pub no_breaks : list_any is_break (chars text) ≡ false
+
+-- attributes and simple texts
+abbrev pub AreSimple : Batch → Type 0
+AreSimple [] = Unit {0}
+AreSimple (Text text ∷ changes) = IsSimpleText text × AreSimple changes
+AreSimple (Attribute a ∷ changes) = AreSimple changes
+AreSimple (AllAttributes a ∷ changes) = AreSimple changes
+AreSimple (ClearScreen color ∷ changes) = ⊥
+AreSimple (ClearToEndOfScreen color ∷ changes) = ⊥
+AreSimple (CursorPosition x y ∷ changes) = ⊥
+
+-- pieces with the pair CR LF taken apart
+abbrev pub parted : List Piece → List Piece
+parted [] = []
+parted (CrLf ∷ more) = Cr ∷ Lf ∷ parted more
+parted (Cr ∷ more) = Cr ∷ parted more
+parted (Lf ∷ more) = Lf ∷ parted more
+parted (Wide v ∷ more) = Wide v ∷ parted more
+
+-- a text that is measured by its characters: CR, LF, or one column each
+abbrev pub IsCounted : List ℕ → Type 0
+IsCounted text = parted (pieces text) ≡ map plain_piece (chars text)
+
+-- attributes and such texts
+abbrev pub AreCounted : Batch → Type 0
+AreCounted [] = Unit {0}
+AreCounted (Text text ∷ changes) = IsCounted text × AreCounted changes
+AreCounted (Attribute a ∷ changes) = AreCounted changes
+AreCounted (AllAttributes a ∷ changes) = AreCounted changes
+AreCounted (ClearScreen color ∷ changes) = ⊥
+AreCounted (ClearToEndOfScreen color ∷ changes) = ⊥
+AreCounted (CursorPosition x y ∷ changes) = ⊥
+
+-- a lower text that is measured by its characters, with no CR or LF but in pairs that end the lines of a preview
+abbrev pub IsSimpleLower : Lower → Type 0
+IsSimpleLower NoLower = Unit {0}
+IsSimpleLower (Preview elements) = AreCounted elements × (list_any (list_any is_break) (lines_of (typed (spelled_all elements))) ≡ false)
+IsSimpleLower (Search text) = IsCounted (cr ∷ lf ∷ text) × (list_any is_break (chars text) ≡ false)
+
+-- a scene of simple texts
+pub record IsSimple (scene : Scene) : Type 0 where
+  pub prompt : AreSimple scene.prompt
+  pub line : AreSimple scene.line
+  pub lower : IsSimpleLower scene.lower
+
+-- a simple scene that is painted for w columns
+abbrev pub IsSimpleAt : ℕ → SizedScene → Type 0
+IsSimpleAt w station = (station.cols ≡ w) × IsSimple station.scene
+
+-- a simple scene that is painted for two columns or more
+abbrev pub IsSimpleWide : SizedScene → Type 0
+IsSimpleWide station = (2 ≤ station.cols) × IsSimple station.scene

@@ -17,7 +17,7 @@ ghost use Rattle.tw_surface.specs.ScreenLaws.{FirstPainting, LaterPainting, Clea
 ghost use Rattle.tw_surface.specs.Cutting.{CutClosing, CutPainting, SizedBatches};
 ghost use Rattle.tw_surface.specs.HealingLaws.{Healing};
 ghost use Rattle.tw_surface.specs.ScrollingLaws.{StaysWithin, ScrollsBehindChanges, ScrolledPainting, ScrolledClosing, ScrolledStacking, EveryScrolledPainting, LastScrolledPainting};
-ghost use Rattle.tw_surface.specs.Simple.{SimplePainting};
+ghost use Rattle.tw_surface.specs.SimpleLaws.{SimplePainting};
 ghost use Rattle.tw_surface.specs.Laws.{PlacesByRelation, PlacesCounted, LastPlace, HeightByExtremes};
 
 use crate::cell::{AttributeChange, Blink, CellAttributes, Intensity, Underline};
