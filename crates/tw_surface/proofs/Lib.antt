@@ -24,7 +24,9 @@ pub mod WorkedCutting
 pub mod RenamedPictures
 pub mod NamedPaintings
 pub mod MarkedPictures
+pub mod NamedLists
 pub mod SimpleScenes
+pub mod SimpleLists
 pub mod WorkedSimple
 pub mod CellLookups
 pub mod CellOrder

@@ -17,7 +17,7 @@ ghost use Rattle.tw_surface.specs.ScreenLaws.{FirstPainting, LaterPainting, Clea
 ghost use Rattle.tw_surface.specs.Cutting.{CutClosing, CutPainting, SizedBatches};
 ghost use Rattle.tw_surface.specs.HealingLaws.{Healing};
 ghost use Rattle.tw_surface.specs.ScrollingLaws.{StaysWithin, ScrollsBehindChanges, ScrolledPainting, ScrolledClosing, ScrolledStacking, EveryScrolledPainting, LastScrolledPainting};
-ghost use Rattle.tw_surface.specs.SimpleLaws.{SimplePainting};
+ghost use Rattle.tw_surface.specs.SimpleLaws.{SimplePainting, SimplePaintings, SimpleClosing};
 ghost use Rattle.tw_surface.specs.Laws.{PlacesByRelation, PlacesCounted, LastPlace, HeightByExtremes};
 
 use crate::cell::{AttributeChange, Blink, CellAttributes, Intensity, Underline};
@@ -106,5 +106,7 @@ pub fn cutting()
 /// Of simple texts, whose characters take one column each: a painting, played character by character, is the fresh
 /// painting of these characters.
 pub fn simple_texts()
-    ensures { SimplePainting }
+    ensures one { SimplePainting }
+    ensures painted { SimplePaintings }
+    ensures closed { SimpleClosing }
 {}

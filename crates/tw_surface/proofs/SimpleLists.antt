@@ -1,0 +1,81 @@
+-- Lists of paintings of simple scenes, by way of plain ones in which one character at a time is marked.
+use Rattle.std.proofs.Common.{◌≡◌, ℕ, ◌+◌, ◌≤◌, false, List, [], ◌∷◌, ◌++◌, map, refl, sym, ap, ◌∙◌}
+use Rattle.std.specs.List.{All, list_any}
+use Rattle.std.proofs.lemmas.List.{map-append}
+use Rattle.std.proofs.lemmas.List.Elements.{All-map, All-weaker}
+use Rattle.tw_surface.specs.ChangeView.{Batch}
+use Rattle.tw_surface.specs.Fresh.{IsFresh, IsSameAbove, IsClosed, last_row}
+use Rattle.tw_surface.specs.Pictures.{Picture}
+use Rattle.tw_surface.specs.Scenes.{Scene}
+use Rattle.tw_surface.specs.Shots.{Shot, SizedScene, IsPlainAt, shot_of, scenes_of, batches, closing_batch, shows, closing_of, whole, play_batches, last_of, start_row}
+use Rattle.tw_surface.specs.Simple.{IsSimple, IsSimpleAt, spelled_batches, spelled_scene}
+use Rattle.tw_surface.specs.SimpleLaws.{SimplePaintings, SimpleClosing, SimpleStacking, EverySimplePainting, LastSimplePainting}
+use Rattle.tw_surface.proofs.PaintedScenes.{Painted}
+use Rattle.tw_surface.proofs.ShotLemmas.{incremental, closed_run, stacked}
+use Rattle.tw_surface.proofs.SizedScenes.{every_painting, last_painting}
+use Rattle.tw_surface.proofs.RenamedPictures.{renamed, named_batches, renamed-batches}
+use Rattle.tw_surface.proofs.NamedPaintings.{named_scene, plain-scene}
+use Rattle.tw_surface.proofs.NamedLists.{named_shot, named_station, batches-named, closing-named, shows-named, closing_of-named, whole-named, plain-scenes, last-named, start-named, cleared-named, played-named, scenes_played-named}
+use Rattle.tw_surface.proofs.MarkedPictures.{mark, mark-keeps, fresh_by, above_by, closed_by, last_row-named}
+
+pub Painted-at : (w s s' : ℕ) (scene scene' : Scene) (before after after' : Picture) → s ≡ s' → scene ≡ scene' → after ≡ after'
+    → IsFresh w s scene after × IsSameAbove w s before after → Painted w s' scene' before after'
+Painted-at w s s' scene scene' before after after' a b c h = rw (sym a, sym b, sym c) (record { fresh = h.0; above = h.1 })
+
+pub Closed-at : (w last last' : ℕ) (before before' after after' : Picture) → last ≡ last' → before ≡ before' → after ≡ after' → IsClosed w last before after → IsClosed w last' before' after'
+Closed-at w last last' before before' after after' a b c h = rw (sym a, sym b, sym c) h
+
+-- batches that are marked, on a marked picture
+marked_play : (w ch : ℕ) (marked played : List Batch) (before : Picture) → marked ≡ named_batches (mark ch) played
+    → play_batches w marked (renamed (mark ch) before) ≡ renamed (mark ch) (play_batches w (spelled_batches played) before)
+marked_play w ch marked played before e = ap (λ l. play_batches w l (renamed (mark ch) before)) e ∙ renamed-batches (mark ch) (mark-keeps ch) w played before
+
+-- ---- scenes
+
+module _ (w e : ℕ) (first : Scene) (more : List Scene) (before : Picture) (two : 2 ≤ w) (row : before.row ≡ e) (col : before.col ≡ 0) (all : All IsSimple (first ∷ more)) where
+  abbrev start : ℕ
+  start = start_row e (first ∷ more)
+
+  abbrev shown : Picture
+  shown = play_batches w (spelled_batches (shows w (first ∷ more))) before
+
+  abbrev entered : Picture
+  entered = play_batches w (spelled_batches (whole w (first ∷ more))) before
+
+  abbrev marked_scenes : ℕ → List Scene
+  marked_scenes ch = map (named_scene (mark ch)) (first ∷ more)
+
+  shown-marked : (ch : ℕ) → play_batches w (shows w (marked_scenes ch)) (renamed (mark ch) before) ≡ renamed (mark ch) shown
+  shown-marked ch = marked_play w ch (shows w (marked_scenes ch)) (shows w (first ∷ more)) before (shows-named (mark ch) (mark-keeps ch) w (first ∷ more) all)
+
+  pub entered-marked : (ch : ℕ) → play_batches w (whole w (marked_scenes ch)) (renamed (mark ch) before) ≡ renamed (mark ch) entered
+  entered-marked ch = marked_play w ch (whole w (marked_scenes ch)) (whole w (first ∷ more)) before (whole-named (mark ch) (mark-keeps ch) w (first ∷ more) all)
+
+  painted_marked : (ch : ℕ) → Painted w start (named_scene (mark ch) (last_of first more)) (renamed (mark ch) before) (renamed (mark ch) shown)
+  painted_marked ch =
+      Painted-at w _ start _ (named_scene (mark ch) (last_of first more)) (renamed (mark ch) before) _ (renamed (mark ch) shown)
+      (start-named (mark ch) (mark-keeps ch) e (first ∷ more)) (last-named (mark ch) (mark-keeps ch) first more) (shown-marked ch)
+      (incremental w e (named_scene (mark ch) first) (map (named_scene (mark ch)) more) (renamed (mark ch) before) two row col (plain-scenes (mark ch) (mark-keeps ch) (first ∷ more) all))
+
+  pub painted_list : IsFresh w start (spelled_scene (last_of first more)) shown × IsSameAbove w start before shown
+  painted_list = (fresh_by w start (last_of first more) shown (λ ch. (painted_marked ch).fresh), above_by w start before shown (λ ch. (painted_marked ch).above))
+
+  pub last-marked : (ch : ℕ) → last_row w (start_row e (marked_scenes ch)) (last_of (named_scene (mark ch) first) (map (named_scene (mark ch)) more)) ≡ last_row w start (spelled_scene (last_of first more))
+  last-marked ch =
+      ap (λ s. last_row w s (last_of (named_scene (mark ch) first) (map (named_scene (mark ch)) more))) (start-named (mark ch) (mark-keeps ch) e (first ∷ more))
+      ∙ ap (last_row w start) (last-named (mark ch) (mark-keeps ch) first more) ∙ last_row-named w start ch (last_of first more)
+
+  pub closed_list : IsClosed w (last_row w start (spelled_scene (last_of first more))) shown (play_batches w (spelled_batches (closing_of w (first ∷ more))) shown)
+  closed_list = closed_by w (last_row w start (spelled_scene (last_of first more))) shown (play_batches w (spelled_batches (closing_of w (first ∷ more))) shown) (λ ch.
+      Closed-at w _ (last_row w start (spelled_scene (last_of first more))) _ (renamed (mark ch) shown) _
+      (renamed (mark ch) (play_batches w (spelled_batches (closing_of w (first ∷ more))) shown))
+      (last-marked ch) (shown-marked ch)
+      (ap (play_batches w (closing_of w (marked_scenes ch))) (shown-marked ch)
+      ∙ marked_play w ch (closing_of w (marked_scenes ch)) (closing_of w (first ∷ more)) shown (closing_of-named (mark ch) (mark-keeps ch) w (first ∷ more) all))
+      (closed_run w e (named_scene (mark ch) first) (map (named_scene (mark ch)) more) (renamed (mark ch) before) two row col (plain-scenes (mark ch) (mark-keeps ch) (first ∷ more) all)))
+
+pub simple_paintings : SimplePaintings
+simple_paintings w e first more before two row col all = painted_list w e first more before two row col all
+
+pub simple_closing : SimpleClosing
+simple_closing w e first more before two row col all = closed_list w e first more before two row col all
