@@ -6,7 +6,7 @@ use Rattle.tw_terminal.specs.TerminalState.{TerminalState, count_up, RenderFails
 use Rattle.tw_host.specs.HostRules.{HostRules}
 use Rattle.tw_painter.specs.EditState.{EditState, Inactive}
 use Rattle.tw_painter.specs.Refusal.{Refusal, refusal_of, IsMemory}
-use Rattle.tw_lineedit.specs.Outcomes.{Outcome, answer_at, IsLine, IsRefusal}
+use Rattle.tw_session.specs.Outcomes.{Outcome, answer_at, IsLine, IsRefusal}
 use Rattle.tw_painter.specs.Painting.{Mark, closing, closing_if}
 use Rattle.tw_lineedit.specs.Run.{Frame, Ending, Moment, run_of, ending, StandsAt, Quiet, IsAnswered, IsRefused, moment, progress_of, IsRefusedIn}
 use Rattle.tw_lineedit.specs.Frame.{Closes, CutsClosing, MissesFlush, FailsToClose, GivesUp}

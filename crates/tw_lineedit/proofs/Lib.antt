@@ -1,5 +1,4 @@
 pub mod StandLemmas
-pub mod ModeLemmas
 pub mod TurnLemmas
 pub mod FeedingLemmas
 pub mod ClosingLemmas
@@ -12,9 +11,3 @@ pub mod ScrollingRunLemmas
 pub mod HealedRunLemmas
 pub mod CutRunLemmas
 pub mod WorkedScrolledRuns
-pub mod WalkLemmas
-pub mod EnumerationLemmas
-pub mod LandingLemmas
-pub mod CandidateLemmas
-pub mod AdvanceLemmas
-pub mod CycleLemmas

@@ -14,7 +14,7 @@ use Rattle.tw_surface.proofs.SizedScenes.{every_painting, last_painting}
 use Rattle.tw_input.specs.EventView.{EventView}
 use Rattle.tw_painter.specs.EditState.{EditState}
 use Rattle.tw_host.specs.HostRules.{HostRules}
-use Rattle.tw_lineedit.specs.Outcomes.{is_over, answer_at}
+use Rattle.tw_session.specs.Outcomes.{is_over, answer_at}
 use Rattle.tw_painter.specs.Painting.{Mark, mark_of, start_batch, closing_if, Rendered, rendered, painted_on, is_paintable}
 use Rattle.tw_painter.specs.Refusal.{Refusal, ZeroSize, SizeOutOfRange}
 use Rattle.tw_surface.specs.Scenes.{Scene}

@@ -7,12 +7,12 @@ use Rattle.tw_input.specs.EventView.{EventView}
 use Rattle.tw_host.specs.ActionView.{ActionView, AcceptLine, Cancel, EndOfFile, InsertChar, InsertText, Repaint, Move, Kill, KillAndMove, HistoryPrevious, HistoryNext, Complete, NoAction, HistoryIncSearchBackwards, HistoryIncSearchForwards}
 use Rattle.tw_painter.specs.EditState.{EditState}
 use Rattle.tw_host.specs.HostRules.{HostRules}
-use Rattle.tw_lineedit.specs.Outcomes.{is_over, answer_at}
+use Rattle.tw_session.specs.Outcomes.{is_over, answer_at}
 use Rattle.tw_painter.specs.Painting.{mark_of, start_batch, Rendered, rendered, painted_on}
 use Rattle.tw_painter.specs.Refusal.{Refusal}
 use Rattle.tw_lineedit.specs.Run.{Progress, progress_of, run, ends, at_end, at_event, after_event, painting_at, shown, chosen, state_after, handled}
 use Rattle.tw_lineedit.specs.Stations.{is_repaint, clear_if, station_at, painting_of, batches_by, batches_after, stations_after, stations_unless, stations_by, stations_from, BatchesByStations}
-use Rattle.tw_lineedit.specs.Steps.{clears_if}
+use Rattle.tw_session.specs.Steps.{clears_if}
 
 -- an action clears the screen where it is a Repaint
 clears_repaint : (action : Option ActionView) → clears_if action ≡ clear_if (is_repaint action)

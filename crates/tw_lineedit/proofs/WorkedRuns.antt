@@ -12,14 +12,14 @@ use Rattle.tw_input.specs.declared.key.KeyCode.TheVariants.{Char, Home}
 use Rattle.tw_host.specs.KeyTable.{pressed}
 use Rattle.tw_host.specs.HostRules.{HostRules, plain_rules}
 use Rattle.tw_painter.specs.Painting.{painted_on, closing_if}
-use Rattle.tw_lineedit.specs.SessionView.{new_state}
+use Rattle.tw_session.specs.SessionView.{new_state}
 use Rattle.tw_lineedit.specs.Reading.{start}
 use Rattle.tw_lineedit.specs.Run.{Frame, run_of}
 use Rattle.tw_extremes.specs.Extremes.{repeated, greatest_below}
 use Rattle.tw_line.specs.Movements.{destination}
 use Rattle.tw_line.specs.Boundaries.{boundary_below, is_boundary}
-use Rattle.tw_lineedit.specs.Searches.{again, sought}
-use Rattle.tw_lineedit.specs.Steps.{apply}
+use Rattle.tw_session.specs.Searches.{again, sought}
+use Rattle.tw_session.specs.Steps.{apply}
 use Rattle.tw_painter.specs.Refusal.{Refusal, ZeroSize}
 use Rattle.tw_lineedit.specs.Stations.{Station, painting_of, stations_of}
 use Rattle.tw_lineedit.specs.ScreenRuns.{Comes, RendersNothing, batches_of, sized_scene}

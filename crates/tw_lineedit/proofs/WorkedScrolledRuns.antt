@@ -26,10 +26,10 @@ use Rattle.tw_painter.specs.Refusal.{Refusal, ZeroSize}
 use Rattle.tw_lineedit.specs.Run.{Frame, run_of}
 use Rattle.tw_lineedit.specs.ScreenRuns.{batches_of, sized_scene, RendersNothing}
 use Rattle.tw_lineedit.specs.ScrollingRuns.{ComesOn}
-use Rattle.tw_lineedit.specs.Searches.{again, sought}
-use Rattle.tw_lineedit.specs.SessionView.{new_state}
+use Rattle.tw_session.specs.Searches.{again, sought}
+use Rattle.tw_session.specs.SessionView.{new_state}
 use Rattle.tw_lineedit.specs.Stations.{Station, painting_of, stations_of}
-use Rattle.tw_lineedit.specs.Steps.{apply}
+use Rattle.tw_session.specs.Steps.{apply}
 use Rattle.tw_lineedit.proofs.ScrollingRunLemmas.{scrolled_is_fresh, scrolled_closes}
 use Rattle.tw_lineedit.proofs.CutRunLemmas.{cut_is_fresh, cut_closes}
 use Rattle.tw_lineedit.proofs.HealedRunLemmas.{healed_is_fresh, healed_closes}

@@ -6,9 +6,9 @@ use Rattle.tw_terminal.specs.TerminalState.{TerminalState, Fails, Takes, Renders
 use Rattle.tw_host.specs.ActionView.{ActionView, Repaint}
 use Rattle.tw_host.specs.HostRules.{HostRules}
 use Rattle.tw_painter.specs.EditState.{Inactive}
-use Rattle.tw_lineedit.specs.SessionView.{SessionView}
+use Rattle.tw_session.specs.SessionView.{SessionView}
 use Rattle.tw_painter.specs.Refusal.{refusal_of}
-use Rattle.tw_lineedit.specs.Steps.{apply_if, clears_if, TakesMemory}
+use Rattle.tw_session.specs.Steps.{apply_if, clears_if, TakesMemory}
 use Rattle.tw_painter.specs.Painting.{Mark, Rendered, closing, closing_if, clear_batch}
 use Rattle.tw_lineedit.specs.Run.{Frame, progress_of, painting_at, chosen, answered}
 use Rattle.tw_painter.specs.Draws.{IsSized}

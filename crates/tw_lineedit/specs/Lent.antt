@@ -4,7 +4,7 @@ use Rattle.std.specs.Borrow.{Fml, RattleType, MutBor, follows_so, Lends}
 use mathlib.Core.Option.{none}
 use mir.Syntax.{named}
 use Rattle.tw_lineedit.specs.contracts.editor.EditorOver as editor
-use Rattle.tw_lineedit.specs.contracts.session.Session as session
+use Rattle.tw_session.specs.contracts.session.Session as session
 
 -- what is behind the reference is this value, once all that was lent of it is given back
 abbrev pub EndsAs : (R : RattleType) → MutBor R.Denot → R.Denot → Fml

@@ -1,11 +1,3 @@
-pub mod HistorySteps
-pub mod Searches
-pub mod Completion
-pub mod Steps
-pub mod EditSteps
-pub mod Outcomes
-pub mod SessionView
-pub mod CompletionSteps
 pub mod Run
 pub mod Frame
 pub mod Lent
@@ -17,8 +9,6 @@ pub mod ScreenRuns
 pub mod ScrollingRuns
 pub mod HealedRuns
 pub mod CutRuns
-pub mod HistoryLaws
-pub mod CompletionLaws
 pub use Rattle.tw_extremes.specs.Extremes
 pub use Rattle.tw_line.specs.Cut
 pub use Rattle.tw_line.specs.Boundaries
@@ -45,3 +35,13 @@ pub use Rattle.tw_painter.specs.Refusal
 pub use Rattle.tw_painter.specs.EditState
 pub use Rattle.tw_painter.specs.Painting
 pub use Rattle.tw_painter.specs.Draws
+pub use Rattle.tw_session.specs.HistorySteps
+pub use Rattle.tw_session.specs.Searches
+pub use Rattle.tw_session.specs.Completion
+pub use Rattle.tw_session.specs.Steps
+pub use Rattle.tw_session.specs.EditSteps
+pub use Rattle.tw_session.specs.Outcomes
+pub use Rattle.tw_session.specs.SessionView
+pub use Rattle.tw_session.specs.CompletionSteps
+pub use Rattle.tw_session.specs.HistoryLaws
+pub use Rattle.tw_session.specs.CompletionLaws

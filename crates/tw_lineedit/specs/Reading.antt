@@ -4,9 +4,9 @@ use Rattle.tw_surface.specs.ChangeView.{Batch}
 use Rattle.tw_terminal.specs.TerminalState.{count_up, IsPart}
 use Rattle.tw_host.specs.HostRules.{HostRules}
 use Rattle.tw_painter.specs.EditState.{Inactive}
-use Rattle.tw_lineedit.specs.SessionView.{initial_cut, begun}
+use Rattle.tw_session.specs.SessionView.{initial_cut, begun}
 use Rattle.tw_painter.specs.Refusal.{refusal_of}
-use Rattle.tw_lineedit.specs.Outcomes.{Outcome, IsRefusal}
+use Rattle.tw_session.specs.Outcomes.{Outcome, IsRefusal}
 use Rattle.tw_painter.specs.Painting.{Mark, closing, closing_if}
 use Rattle.tw_lineedit.specs.Run.{Frame, Ending, Moment, want, fault, progress_of, moment, run_of, CanStopFrom, IsPartOf, IsRefusedIn}
 use Rattle.tw_painter.specs.declared.error.Error.{Error}

@@ -7,7 +7,7 @@ use Rattle.tw_terminal.specs.declared.terminal.ScreenSize.{ScreenSize}
 use Rattle.tw_host.specs.ActionView.{ActionView, Repaint}
 use Rattle.tw_painter.specs.EditState.{EditState}
 use Rattle.tw_host.specs.HostRules.{HostRules}
-use Rattle.tw_lineedit.specs.Outcomes.{is_over}
+use Rattle.tw_session.specs.Outcomes.{is_over}
 use Rattle.tw_painter.specs.Painting.{Mark, mark_of, start_batch, clear_batch, Rendered, painted_on, scene_of}
 use Rattle.tw_painter.specs.Refusal.{Refusal}
 use Rattle.tw_lineedit.specs.Run.{Progress, Frame, run_of, progress_of, painting_at, shown, chosen, state_after, handled}

@@ -10,9 +10,9 @@ ghost use Rattle.tw_host.specs.ActionView.{action_view, Repaint};
 ghost use Rattle.tw_line.specs.Cut.{cut_at};
 ghost use Rattle.tw_host.specs.KeyTable.{action_of};
 ghost use Rattle.tw_painter.specs.EditState.{Inactive};
-ghost use Rattle.tw_lineedit.specs.Outcomes.{outcome_of, answer_at, IsLine};
+ghost use Rattle.tw_session.specs.Outcomes.{outcome_of, answer_at, IsLine};
 ghost use Rattle.tw_painter.specs.Painting.{closing, clear_batch};
-ghost use Rattle.tw_lineedit.specs.SessionView.{new_session, on_state};
+ghost use Rattle.tw_session.specs.SessionView.{new_session, on_state};
 ghost use Rattle.tw_painter.specs.Refusal.{IsMemory};
 ghost use Rattle.tw_lineedit.specs.Run.{progress_of, resolved, run_of, IsAnswered};
 ghost use Rattle.tw_lineedit.specs.Lent.{EndsAs, editor_row};
@@ -26,12 +26,12 @@ ghost use Rattle.tw_lineedit.specs.Reading.{start, Reads, FailsToRead, IsTurnedD
 
 mod feeding;
 
-use crate::session::Session;
 pub use feeding::LineStatus;
 use std::alloc::{AllocError, Global};
 use tw_host::{Action, LineEditorHost, default_action};
 use tw_input::InputEvent;
 use tw_painter::{Error, Painted};
+use tw_session::Session;
 use tw_surface::{Change, ColorAttribute};
 use tw_terminal::{ScreenSize, Terminal};
 
@@ -157,7 +157,7 @@ impl<'term, T: Terminal> LineEditor<'term, T> {
     }
 
     /// Applies an action.
-    #[tactic(auto, unfolding(crate::specs::Steps::apply))]
+    #[tactic(auto, unfolding(tw_session::specs::Steps::apply))]
     fn act<H: LineEditorHost>(&mut self, host: &mut H, action: Action) -> Result<(), Error>
         ensures same_reference { self.new.terminal.ghost_name ≡ self.old.terminal.ghost_name }
         ensures host { host.new ≡ host.old }

@@ -1,13 +1,11 @@
-//! A line editor: the line with its cursor, how keys change it, and how it is painted on a terminal.
+//! A line editor: it reads a line from a terminal, or is fed one, and shows it there.
 #![tactic(auto)]
 
 mod editor;
 pub mod laws;
 mod remembering;
-mod session;
 
 pub use editor::{EditorOver, LineEditor, LineStatus};
-pub use session::Session;
 pub use tw_history::{
     BasicHistory, BoundedHistory, History, HistoryIndex, LentLines, SearchDirection, SearchResult,
     SearchStyle, nearest_line,
@@ -18,3 +16,4 @@ pub use tw_host::{
 };
 pub use tw_line::{LineEditBuffer, Movement, RepeatCount};
 pub use tw_painter::Error;
+pub use tw_session::Session;

@@ -6,7 +6,7 @@ ghost use Rattle.tw_lineedit.specs.Lent.{LendsTerminal};
 ghost use Rattle.tw_input.specs.EventView.{event_view, EventView};
 ghost use Rattle.tw_terminal.specs.TerminalState.{size_after};
 ghost use Rattle.tw_painter.specs.EditState.{Inactive};
-ghost use Rattle.tw_lineedit.specs.Outcomes.{outcome_of, answer_at, is_open};
+ghost use Rattle.tw_session.specs.Outcomes.{outcome_of, answer_at, is_open};
 ghost use Rattle.tw_lineedit.specs.Run.{ending};
 ghost use Rattle.tw_lineedit.specs.Frame.{frame};
 ghost use Rattle.tw_lineedit.specs.Feeding.{as_if, status_if, Begins, FailsToBegin, IsFed, FailsToFeed, FailsToFinish};

@@ -1,5 +1,0 @@
-use Rattle.tw_lineedit.proofs.EnumerationLemmas.{enumerates}
-use Rattle.tw_lineedit.proofs.laws.enumeration.Goals as goal
-
-pub returns : goal.returns
-returns g c = enumerates g.H.LineEditorHost.rules

@@ -1,8 +1,0 @@
-use Rattle.tw_lineedit.proofs.WalkLemmas.{leaves, walks}
-use Rattle.tw_lineedit.proofs.laws.walk.Goals as goal
-
-pub returns-clause-typed : goal.returns-clause-typed
-returns-clause-typed g c = walks g.H.LineEditorHost.rules
-
-pub returns-clause-left : goal.returns-clause-left
-returns-clause-left g c = leaves g.H.LineEditorHost.rules

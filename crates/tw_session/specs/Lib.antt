@@ -1,0 +1,10 @@
+pub mod HistorySteps
+pub mod Searches
+pub mod Completion
+pub mod Steps
+pub mod EditSteps
+pub mod Outcomes
+pub mod SessionView
+pub mod CompletionSteps
+pub mod HistoryLaws
+pub mod CompletionLaws

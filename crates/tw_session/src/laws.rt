@@ -1,0 +1,24 @@
+//! Laws of the steps, over the definitions alone: each is the contract of a function that does nothing.
+
+ghost use Rattle.tw_session.specs.CompletionLaws.{GoesRound};
+ghost use Rattle.tw_session.specs.HistoryLaws.{Enumerates, LeavesHistory, WalksBack};
+
+use tw_host::LineEditorHost;
+
+/// Steps back through a host's history and as many steps forth give the typed line, and leave the history: a
+/// second walk begins at the last line again.
+pub fn walk<H: LineEditorHost>()
+    ensures typed { (v : H.Value) → WalksBack H.rules v }
+    ensures left { (v : H.Value) → LeavesHistory H.rules v }
+{}
+
+/// An insertion into a pattern that some line contains, and backward searches behind it, show the lines that
+/// contain the pattern from the newest on, and then the oldest.
+pub fn enumeration<H: LineEditorHost>()
+    ensures { (v : H.Value) → Enumerates H.rules v }
+{}
+
+/// Completions put in the candidates, which all fit, in turn, each on the original line.
+pub fn cycle<H: LineEditorHost>()
+    ensures { (v : H.Value) → GoesRound H.rules v }
+{}

@@ -1,0 +1,67 @@
+//! Edits of the line.
+
+ghost use Rattle.std.specs.Prelude.{◌≡◌, ◌⊎◌, OnOk, OnErr};
+ghost use Rattle.tw_session.specs.Steps.{edited};
+ghost use Rattle.tw_session.specs.EditSteps.{edit_of, TakesMemoryToEdit};
+ghost use Rattle.tw_session.specs.Searches.{IsSearching};
+ghost use Rattle.tw_session.specs.SessionView.{on_state};
+
+use super::{Mode, Session};
+use std::alloc::AllocError;
+use tw_host::LineEditorHost;
+use tw_line::{LineEditBuffer, Movement, RepeatCount};
+
+/// An edit of the line.
+#[derive(Clone, Copy, Debug)]
+pub(super) enum Edit<'a> {
+    InsertChar(RepeatCount, char),
+    InsertText(RepeatCount, &'a str),
+    Kill(Movement, Movement),
+}
+
+impl Edit<'_> {
+    /// Edits a line. Where it is refused the line is as it was; a kill is not refused.
+    fn apply(self, line: &mut LineEditBuffer) -> Result<(), AllocError>
+        ensures ok { OnOk result (line.new ≡ edit_of self.entry line.old) }
+        ensures err { OnErr result (line.new ≡ line.old) }
+        ensures memory { OnErr result (TakesMemoryToEdit self.entry) }
+    {
+        match self {
+            Edit::InsertChar(count, c) => line.insert_char_times(count, c),
+            Edit::InsertText(count, text) => line.insert_text_times(count, text),
+            Edit::Kill(kill, movement) => {
+                line.kill_text(kill, movement);
+                Ok(())
+            }
+        }
+    }
+}
+
+impl Session {
+    /// Edits the line; while searching, the pattern, which is then applied again. Where it is refused nothing
+    /// is changed.
+    #[tactic(auto, unfolding(crate::specs::Searches::again))]
+    pub(super) fn edit<H: LineEditorHost>(
+        &mut self,
+        host: &mut H,
+        edit: Edit<'_>,
+    ) -> Result<(), AllocError>
+        ensures host { host.new ≡ host.old }
+        ensures ok { OnOk result (self.new ≡ on_state (edited (H.rules.lines (H.value host.old)) (edit_of edit.entry)) self.old) }
+        ensures err { OnErr result (self.new ≡ self.old) }
+        ensures memory { OnErr result (TakesMemoryToEdit edit.entry ⊎ IsSearching self.old.state.mode) }
+    {
+        match self.mode {
+            Mode::Searching { .. } => {
+                let mut pattern = LineEditBuffer::new(
+                    self.alloc,
+                    self.line.get_line(),
+                    self.line.get_cursor(),
+                )?;
+                edit.apply(&mut pattern)?;
+                self.search_again(host, pattern)
+            }
+            _ => edit.apply(&mut self.line),
+        }
+    }
+}

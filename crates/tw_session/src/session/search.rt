@@ -1,0 +1,172 @@
+//! Incremental search of the history.
+
+ghost use Rattle.std.specs.Prelude.{◌≡◌, IfOk, OnOk, OnErr, option_map};
+ghost use Rattle.tw_history.specs.Near.{near, last_index};
+ghost use Rattle.tw_session.specs.Searches.{left, again, sought, near_from, begun_search};
+ghost use Rattle.tw_session.specs.SessionView.{on_state, found_view};
+
+use super::{Mode, Session};
+use std::alloc::{AllocError, Global};
+use std::mem;
+use tw_history::{History, HistoryIndex, SearchDirection, SearchStyle};
+use tw_host::LineEditorHost;
+use tw_line::LineEditBuffer;
+
+/// A line that was found, copied, with its cursor where the pattern stands.
+#[derive(Debug, Drop)]
+pub struct Found {
+    matching: LineEditBuffer,
+    idx: HistoryIndex,
+}
+
+/// The nearest line from an index on that contains the pattern.
+fn find<H: LineEditorHost>(
+    host: &mut H,
+    alloc: Global,
+    start: HistoryIndex,
+    style: SearchStyle,
+    direction: SearchDirection,
+    pattern: &str,
+) -> Result<Option<Found>, AllocError>
+    ensures found { IfOk result (λ found. option_map found_view found ≡ near (H.rules.lines (H.value host.old)) start direction pattern.now) }
+    ensures host { host.new ≡ host.old }
+{
+    match host
+        .history()
+        .search(alloc, start, style, direction, pattern)?
+    {
+        Some(found) => {
+            let matching = LineEditBuffer::new(alloc, found.line.as_str(), found.cursor)?;
+            Ok(Some(Found {
+                matching,
+                idx: found.idx,
+            }))
+        }
+        None => Ok(None),
+    }
+}
+
+/// The nearest line from the last one on that contains the pattern.
+fn find_from_last<H: LineEditorHost>(
+    host: &mut H,
+    alloc: Global,
+    style: SearchStyle,
+    direction: SearchDirection,
+    pattern: &str,
+) -> Result<Option<Found>, AllocError>
+    ensures found { IfOk result (λ found. option_map found_view found ≡ near_from (H.rules.lines (H.value host.old)) (last_index (H.rules.lines (H.value host.old))) direction pattern.now) }
+    ensures host { host.new ≡ host.old }
+{
+    match host.history().last() {
+        Some(last) => find(host, alloc, last, style, direction, pattern),
+        None => Ok(None),
+    }
+}
+
+impl Session {
+    /// Leaves a search: the matching line comes in. It takes no memory.
+    pub(super) fn leave_search(&mut self)
+        ensures { self.new ≡ on_state left self.old }
+    {
+        match mem::replace(&mut self.mode, Mode::Editing) {
+            Mode::Searching { matching, .. } => self.line = matching,
+            mode => self.mode = mode,
+        }
+    }
+
+    /// Makes this line the pattern and applies it from the last line on, while searching. Where it is refused
+    /// nothing is changed.
+    #[tactic(auto, unfolding(crate::specs::Searches::again))]
+    pub(super) fn search_again<H: LineEditorHost>(
+        &mut self,
+        host: &mut H,
+        line: LineEditBuffer,
+    ) -> Result<(), AllocError>
+        ensures host { host.new ≡ host.old }
+        ensures ok { OnOk result (self.new ≡ on_state (λ s. again (H.rules.lines (H.value host.old)) (record s { cut = line })) self.old) }
+        ensures err { OnErr result (self.new ≡ self.old) }
+    {
+        if let Mode::Searching {
+            style,
+            direction,
+            matching,
+        } = &mut self.mode
+        {
+            match find_from_last(host, self.alloc, *style, *direction, line.get_line())? {
+                Some(found) => {
+                    *matching = found.matching;
+                    self.position = Some(found.idx);
+                }
+                None => self.position = None,
+            }
+        }
+        self.line = line;
+        Ok(())
+    }
+
+    /// Begins a search, or goes on with it beside the position. Where it is refused nothing is changed.
+    #[tactic(auto, unfolding(crate::specs::Searches::sought))]
+    pub(super) fn search<H: LineEditorHost>(
+        &mut self,
+        host: &mut H,
+        direction: SearchDirection,
+    ) -> Result<(), AllocError>
+        ensures host { host.new ≡ host.old }
+        ensures ok { OnOk result (self.new ≡ on_state (sought (H.rules.lines (H.value host.old)) direction) self.old) }
+        ensures err { OnErr result (self.new ≡ self.old) }
+    {
+        match &mut self.mode {
+            Mode::Searching {
+                style,
+                direction: before,
+                matching,
+            } => {
+                let start = match self.position {
+                    Some(position) => direction.next(position),
+                    None => host.history().last(),
+                };
+                let Some(start) = start else {
+                    return Ok(());
+                };
+                let pattern = self.line.get_line();
+                if let Some(found) = find(host, self.alloc, start, *style, direction, pattern)? {
+                    *matching = found.matching;
+                    self.position = Some(found.idx);
+                }
+                *before = direction;
+                Ok(())
+            }
+            _ => self.begin_search(host, direction),
+        }
+    }
+
+    /// Begins a search with the empty pattern at the last line; with an empty history it clears the line alone.
+    fn begin_search<H: LineEditorHost>(
+        &mut self,
+        host: &mut H,
+        direction: SearchDirection,
+    ) -> Result<(), AllocError>
+        ensures host { host.new ≡ host.old }
+        ensures ok { OnOk result (self.new ≡ on_state (begun_search (H.rules.lines (H.value host.old)) direction) self.old) }
+        ensures err { OnErr result (self.new ≡ self.old) }
+    {
+        let style = SearchStyle::Substring;
+        let last = host.history().last();
+        let found = find_from_last(host, self.alloc, style, direction, "")?;
+        self.line.clear();
+        self.position = None;
+        if last.is_some() {
+            let mut matching = LineEditBuffer::empty(self.alloc);
+            if let Some(found) = found {
+                matching = found.matching;
+                self.position = Some(found.idx);
+            }
+            self.mode = Mode::Searching {
+                style,
+                direction,
+                matching,
+            };
+        }
+        Ok(())
+    }
+}

@@ -1,0 +1,127 @@
+//! Steps through the history.
+
+ghost use Rattle.std.specs.Prelude.{◌≡◌, ◌+◌, ◌<◌, ◌^◌, IfOk, IfSome, OnOk, OnErr, slice_get, option_map};
+ghost use Rattle.std.specs.Cow.{cow_str_bytes};
+ghost use Rattle.tw_session.specs.Steps.{stepped};
+ghost use Rattle.tw_session.specs.HistorySteps.{previous, next, taken, restored};
+ghost use Rattle.tw_session.specs.SessionView.{on_state};
+
+use super::{Mode, Session};
+use std::alloc::{AllocError, Global};
+use std::borrow::CowStr;
+use tw_history::{History, HistoryIndex, SearchDirection};
+use tw_host::LineEditorHost;
+
+/// The line behind an index, if there is one.
+fn line_after<L: History>(
+    history: &L,
+    alloc: Global,
+    idx: HistoryIndex,
+) -> Result<Option<CowStr<'_>>, AllocError>
+    ensures line { IfOk result (λ line. option_map cow_str_bytes line ≡ slice_get (L.lines history.now) (idx + 1)) }
+    ensures fits { IfOk result (λ line. IfSome line (λ it. idx + 1 < 2 ^ 64)) }
+{
+    match history.last() {
+        Some(last) if idx < last => history.get(alloc, idx + 1),
+        _ => Ok(None),
+    }
+}
+
+impl Session {
+    /// Takes the line before; while searching, searches backwards. Where it is refused nothing is changed.
+    pub(super) fn step_back<H: LineEditorHost>(&mut self, host: &mut H) -> Result<(), AllocError>
+        ensures host { host.new ≡ host.old }
+        ensures ok { OnOk result (self.new ≡ on_state (λ s. stepped (H.rules.lines (H.value host.old)) SearchDirection.Backwards (previous (H.rules.lines (H.value host.old))) s s.mode) self.old) }
+        ensures err { OnErr result (self.new ≡ self.old) }
+    {
+        match self.mode {
+            Mode::Searching { .. } => self.search(host, SearchDirection::Backwards),
+            _ => self.history_previous(host),
+        }
+    }
+
+    /// Takes the line after; while searching, searches forwards. Where it is refused nothing is changed.
+    pub(super) fn step_forth<H: LineEditorHost>(&mut self, host: &mut H) -> Result<(), AllocError>
+        ensures host { host.new ≡ host.old }
+        ensures ok { OnOk result (self.new ≡ on_state (λ s. stepped (H.rules.lines (H.value host.old)) SearchDirection.Forwards (next (H.rules.lines (H.value host.old))) s s.mode) self.old) }
+        ensures err { OnErr result (self.new ≡ self.old) }
+    {
+        match self.mode {
+            Mode::Searching { .. } => self.search(host, SearchDirection::Forwards),
+            _ => self.history_next(host),
+        }
+    }
+
+    /// Takes the line before the position, or without one the last line, and keeps the typed one.
+    #[tactic(auto, unfolding(crate::specs::HistorySteps::previous))]
+    fn history_previous<H: LineEditorHost>(&mut self, host: &mut H) -> Result<(), AllocError>
+        ensures host { host.new ≡ host.old }
+        ensures ok { OnOk result (self.new ≡ on_state (previous (H.rules.lines (H.value host.old))) self.old) }
+        ensures err { OnErr result (self.new ≡ self.old) }
+    {
+        let history = host.history();
+        match self.position {
+            Some(position) => {
+                let before = position.saturating_sub(1);
+                if let Some(line) = history.get(self.alloc, before)? {
+                    self.take(before, line.as_str())?;
+                }
+            }
+            None => {
+                if let Some(last) = history.last() {
+                    let typed = String::from_str(self.alloc, self.line.get_line())?;
+                    if let Some(line) = history.get(self.alloc, last)? {
+                        self.take(last, line.as_str())?;
+                    }
+                    self.kept = Some(typed);
+                }
+            }
+        }
+        Ok(())
+    }
+
+    /// Takes the line after the position, and leaves the history where there is none. Without a position it
+    /// does nothing.
+    #[tactic(auto, unfolding(crate::specs::HistorySteps::next))]
+    fn history_next<H: LineEditorHost>(&mut self, host: &mut H) -> Result<(), AllocError>
+        ensures host { host.new ≡ host.old }
+        ensures ok { OnOk result (self.new ≡ on_state (next (H.rules.lines (H.value host.old))) self.old) }
+        ensures err { OnErr result (self.new ≡ self.old) }
+    {
+        let Some(position) = self.position else {
+            return Ok(());
+        };
+        match line_after(host.history(), self.alloc, position)? {
+            Some(line) => self.take(position + 1, line.as_str()),
+            None => self.restore(),
+        }
+    }
+
+    /// Takes the line of an index, its cursor at the end.
+    fn take(&mut self, idx: HistoryIndex, line: &str) -> Result<(), AllocError>
+        ensures ok { OnOk result (self.new ≡ on_state (λ s. taken s idx line.now) self.old) }
+        ensures err { OnErr result (self.new ≡ self.old) }
+    {
+        self.line.set_line_and_cursor(line, line.len())?;
+        self.position = Some(idx);
+        Ok(())
+    }
+
+    /// Leaves the history: the kept line comes back, or the line is cleared. Where it is refused nothing is
+    /// changed.
+    fn restore(&mut self) -> Result<(), AllocError>
+        ensures ok { OnOk result (self.new ≡ on_state restored self.old) }
+        ensures err { OnErr result (self.new ≡ self.old) }
+    {
+        match &self.kept {
+            Some(kept) => {
+                let kept = kept.as_str();
+                self.line.set_line_and_cursor(kept, kept.len())?;
+            }
+            None => self.line.clear(),
+        }
+        self.kept = None;
+        self.position = None;
+        Ok(())
+    }
+}
