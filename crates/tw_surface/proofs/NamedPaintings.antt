@@ -93,7 +93,17 @@ wide-parted : (text : List ℕ) → parted (map (λ ch. Wide 1) text) ≡ map (�
 wide-parted [] = refl
 wide-parted (ch ∷ text) = ap (λ l. Wide 1 ∷ l) (wide-parted text)
 
-wide-plain : (text : List ℕ) → list_any is_break text ≡ false → map plain_piece text ≡ map (λ ch. Wide 1) text
+pub plain-parted : (text : List ℕ) → parted (map plain_piece text) ≡ map plain_piece text
+plain-parted [] = refl
+plain-parted (ch ∷ text) = by_kind (eqb ch cr) (eqb ch lf) (plain-parted text)
+  where
+    by_kind : (e d : Bool) → parted (map plain_piece text) ≡ map plain_piece text
+        → parted ((if e then Cr else if d then Lf else Wide 1) ∷ map plain_piece text) ≡ (if e then Cr else if d then Lf else Wide 1) ∷ map plain_piece text
+    by_kind true d rest = ap (λ l. Cr ∷ l) rest
+    by_kind false true rest = ap (λ l. Lf ∷ l) rest
+    by_kind false false rest = ap (λ l. Wide 1 ∷ l) rest
+
+pub wide-plain : (text : List ℕ) → list_any is_break text ≡ false → map plain_piece text ≡ map (λ ch. Wide 1) text
 wide-plain [] h = refl
 wide-plain (ch ∷ text) h =
     let parts = or_parts (is_break ch) (list_any is_break text) h in
@@ -173,16 +183,6 @@ module _ (f : ℕ → ℕ) (keeps : Keeps f) where
   plain-named : (text : List ℕ) → list_all is_plain (map f text) ≡ true
   plain-named [] = refl
   plain-named (ch ∷ text) = rw (keeps.plain ch, plain-named text) refl
-
-  plain-parted : (text : List ℕ) → parted (map plain_piece text) ≡ map plain_piece text
-  plain-parted [] = refl
-  plain-parted (ch ∷ text) = by_kind (eqb ch cr) (eqb ch lf) (plain-parted text)
-    where
-      by_kind : (e d : Bool) → parted (map plain_piece text) ≡ map plain_piece text
-          → parted ((if e then Cr else if d then Lf else Wide 1) ∷ map plain_piece text) ≡ (if e then Cr else if d then Lf else Wide 1) ∷ map plain_piece text
-      by_kind true d rest = ap (λ l. Cr ∷ l) rest
-      by_kind false true rest = ap (λ l. Lf ∷ l) rest
-      by_kind false false rest = ap (λ l. Wide 1 ∷ l) rest
 
   counted-named : (text : List ℕ) → IsCounted text → parted (pieces (map f (chars text))) ≡ parted (pieces text)
   unfolding pieces

@@ -17,7 +17,7 @@ ghost use Rattle.tw_surface.specs.ScreenLaws.{FirstPainting, LaterPainting, Clea
 ghost use Rattle.tw_surface.specs.Cutting.{CutClosing, CutPainting, SizedBatches};
 ghost use Rattle.tw_surface.specs.HealingLaws.{Healing};
 ghost use Rattle.tw_surface.specs.ScrollingLaws.{StaysWithin, ScrollsBehindChanges, ScrolledPainting, ScrolledClosing, ScrolledStacking, EveryScrolledPainting, LastScrolledPainting};
-ghost use Rattle.tw_surface.specs.SimpleLaws.{SimplePainting, SimplePaintings, SimpleClosing};
+ghost use Rattle.tw_surface.specs.SimpleLaws.{PlainIsSimple, SimplePainting, SimplePaintings, SimpleClosing, SimpleStacking, EverySimplePainting, LastSimplePainting};
 ghost use Rattle.tw_surface.specs.Laws.{PlacesByRelation, PlacesCounted, LastPlace, HeightByExtremes};
 
 use crate::cell::{AttributeChange, Blink, CellAttributes, Intensity, Underline};
@@ -106,7 +106,11 @@ pub fn cutting()
 /// Of simple texts, whose characters take one column each: a painting, played character by character, is the fresh
 /// painting of these characters.
 pub fn simple_texts()
+    ensures plain { PlainIsSimple }
     ensures one { SimplePainting }
     ensures painted { SimplePaintings }
+    ensures every { EverySimplePainting }
+    ensures last { LastSimplePainting }
     ensures closed { SimpleClosing }
+    ensures stacked { SimpleStacking }
 {}

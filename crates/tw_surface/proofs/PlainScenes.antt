@@ -1,0 +1,142 @@
+-- Plain scenes are simple ones.
+use Rattle.std.proofs.Common.{◌≡◌, ℕ, ◌<◌, ◌≤◌, Bool, true, false, ◌&&◌, ◌||◌, List, [], ◌∷◌, ◌++◌, map, refl, sym, ap, ◌∙◌, arith, eqb, leb, inl, inr}
+use Rattle.std.specs.Prelude.{chars}
+use Rattle.std.specs.Str.{IsAscii}
+use Rattle.std.specs.List.{list_all, list_any}
+use Rattle.std.proofs.lemmas.Bool.{and_parts, ne_eqb, leb-true, or_cases, eqb-true, false≢true}
+use Rattle.std.proofs.lemmas.List.Folds.{list_all-append}
+use Rattle.std.proofs.lemmas.Str.{chars-IsAscii}
+use Rattle.std.proofs.lemmas.Str.Ascii.{IsAscii-cons, IsAscii-nil}
+use Rattle.tw_surface.specs.declared.measure.Piece.TheVariants.{Wide}
+use Rattle.tw_surface.specs.ChangeView.{Batch}
+use Rattle.tw_surface.specs.ChangeView.{Attribute, AllAttributes, Text, ClearScreen, ClearToEndOfScreen, CursorPosition}
+use Rattle.tw_surface.specs.Characters.{is_plain, is_printable}
+use Rattle.tw_surface.specs.Lines.{lines_of}
+use Rattle.tw_surface.specs.Paintings.{lower_changes}
+use Rattle.tw_surface.specs.Places.{pieces, plain_piece}
+use Rattle.tw_surface.specs.Scenes.{Scene, Lower, IsPlain, IsPlainLower, is_typing, is_text, typed, lower_lines}
+use Rattle.tw_surface.specs.Scenes.Lower.{NoLower, Preview, Search}
+use Rattle.tw_surface.specs.Simple.{is_break, parted, spelled_all, spelled_lower, spelled_scene, AreSimple, AreCounted, IsCounted, IsSimpleText, IsSimple, IsSimpleLower}
+use Rattle.tw_surface.specs.SimpleLaws.{PlainIsSimple}
+use Rattle.tw_surface.proofs.LowerText.{lower-typed, lower-printable, breaks-plain}
+use Rattle.tw_surface.proofs.TypedChanges.{plain_from_printable}
+use Rattle.tw_surface.proofs.NamedPaintings.{plain-parted, wide-plain}
+
+-- ---- texts
+
+below_128 : (ch : ℕ) → is_plain ch ≡ true → ch < 128
+below_128 ch h = elim (or_cases (eqb ch 13 || eqb ch 10) (is_printable ch) h) [
+  | inl e ↦ elim (or_cases (eqb ch 13) (eqb ch 10) e) [
+    | inl x ↦ let same : ch ≡ 13 = eqb-true ch 13 x in omega arith
+    | inr x ↦ let same : ch ≡ 10 = eqb-true ch 10 x in omega arith
+  ]
+  | inr e ↦ let most : ch ≤ 126 = leb-true ch 126 (and_parts (leb 32 ch) (leb ch 126) e).1 in omega arith
+]
+
+plain_ascii : (text : List ℕ) → list_all is_plain text ≡ true → IsAscii text
+plain_ascii [] h = IsAscii-nil
+plain_ascii (ch ∷ text) h =
+    let both = and_parts (is_plain ch) (list_all is_plain text) h in
+    IsAscii-cons ch text (below_128 ch both.0) (plain_ascii text both.1)
+
+pub plain_chars : (text : List ℕ) → list_all is_plain text ≡ true → chars text ≡ text
+plain_chars text h = chars-IsAscii text (plain_ascii text h)
+
+unbroken : (text : List ℕ) → list_all is_printable text ≡ true → list_any is_break text ≡ false
+unbroken [] h = refl
+unbroken (ch ∷ text) h =
+    let both = and_parts (is_printable ch) (list_all is_printable text) h in
+    let low : 32 ≤ ch = leb-true 32 ch (and_parts (leb 32 ch) (leb ch 126) both.0).0 in
+    rw (ne_eqb ch 13 (λ e. omega arith), ne_eqb ch 10 (λ e. omega arith), unbroken text both.1) refl
+
+unbroken_lines : (lines : List (List ℕ)) → list_all (list_all is_printable) lines ≡ true → list_any (list_any is_break) lines ≡ false
+unbroken_lines [] h = refl
+unbroken_lines (line ∷ lines) h =
+    let both = and_parts (list_all is_printable line) (list_all (list_all is_printable) lines) h in
+    rw (unbroken line both.0, unbroken_lines lines both.1) refl
+
+simple_text : (text : List ℕ) → list_all is_printable text ≡ true → IsSimpleText text
+unfolding pieces
+simple_text text h =
+    let plain = plain_from_printable text h in
+    let same = plain_chars text plain in
+    record {
+      measured = rw (plain, same) (wide-plain text (unbroken text h));
+      no_breaks = ap (list_any is_break) same ∙ unbroken text h;
+    }
+
+counted_text : (text : List ℕ) → list_all is_plain text ≡ true → IsCounted text
+unfolding pieces
+counted_text text plain = rw (plain, plain_chars text plain) (plain-parted text)
+
+-- ---- changes
+
+simple_changes : (changes : Batch) → list_all is_typing changes ≡ true → AreSimple changes
+simple_changes [] a = tt
+simple_changes (Text text ∷ changes) a =
+    let both = and_parts (list_all is_printable text) (list_all is_typing changes) a in
+    (simple_text text both.0, simple_changes changes both.1)
+simple_changes (Attribute x ∷ changes) a = simple_changes changes a
+simple_changes (AllAttributes x ∷ changes) a = simple_changes changes a
+simple_changes (ClearScreen c ∷ changes) a = absurd (false≢true a)
+simple_changes (ClearToEndOfScreen c ∷ changes) a = absurd (false≢true a)
+simple_changes (CursorPosition x y ∷ changes) a = absurd (false≢true a)
+
+spelled_same : (changes : Batch) → list_all is_typing changes ≡ true → spelled_all changes ≡ changes
+spelled_same [] a = refl
+spelled_same (Text text ∷ changes) a =
+    let both = and_parts (list_all is_printable text) (list_all is_typing changes) a in
+    ap (λ l. Text l ∷ spelled_all changes) (plain_chars text (plain_from_printable text both.0)) ∙ ap (λ l. Text text ∷ l) (spelled_same changes both.1)
+spelled_same (Attribute x ∷ changes) a = ap (λ l. Attribute x ∷ l) (spelled_same changes a)
+spelled_same (AllAttributes x ∷ changes) a = ap (λ l. AllAttributes x ∷ l) (spelled_same changes a)
+spelled_same (ClearScreen c ∷ changes) a = absurd (false≢true a)
+spelled_same (ClearToEndOfScreen c ∷ changes) a = absurd (false≢true a)
+spelled_same (CursorPosition x y ∷ changes) a = absurd (false≢true a)
+
+-- attributes and plain texts
+counted_changes : (changes : Batch) → list_all is_text changes ≡ true → list_all is_plain (typed changes) ≡ true → AreCounted changes
+counted_changes [] a p = tt
+counted_changes (Text text ∷ changes) a p =
+    let both = and_parts (list_all is_plain text) (list_all is_plain (typed changes)) (sym (list_all-append is_plain text (typed changes)) ∙ p) in
+    (counted_text text both.0, counted_changes changes a both.1)
+counted_changes (Attribute x ∷ changes) a p = counted_changes changes a p
+counted_changes (AllAttributes x ∷ changes) a p = counted_changes changes a p
+counted_changes (ClearScreen c ∷ changes) a p = absurd (false≢true a)
+counted_changes (ClearToEndOfScreen c ∷ changes) a p = absurd (false≢true a)
+counted_changes (CursorPosition x y ∷ changes) a p = absurd (false≢true a)
+
+counted_same : (changes : Batch) → list_all is_text changes ≡ true → list_all is_plain (typed changes) ≡ true → spelled_all changes ≡ changes
+counted_same [] a p = refl
+counted_same (Text text ∷ changes) a p =
+    let both = and_parts (list_all is_plain text) (list_all is_plain (typed changes)) (sym (list_all-append is_plain text (typed changes)) ∙ p) in
+    ap (λ l. Text l ∷ spelled_all changes) (plain_chars text both.0) ∙ ap (λ l. Text text ∷ l) (counted_same changes a both.1)
+counted_same (Attribute x ∷ changes) a p = ap (λ l. Attribute x ∷ l) (counted_same changes a p)
+counted_same (AllAttributes x ∷ changes) a p = ap (λ l. AllAttributes x ∷ l) (counted_same changes a p)
+counted_same (ClearScreen c ∷ changes) a p = absurd (false≢true a)
+counted_same (ClearToEndOfScreen c ∷ changes) a p = absurd (false≢true a)
+counted_same (CursorPosition x y ∷ changes) a p = absurd (false≢true a)
+
+-- ---- the lower text
+
+lower_plain : (lower : Lower) → IsPlainLower lower → list_all is_plain (typed (lower_changes lower)) ≡ true
+lower_plain lower a = ap (list_all is_plain) (lower-typed lower) ∙ breaks-plain (lower_lines lower) (lower-printable lower a)
+
+simple_lower : (lower : Lower) → IsPlainLower lower → IsSimpleLower lower × (spelled_lower lower ≡ lower)
+simple_lower NoLower a = (tt, refl)
+simple_lower (Preview elements) a =
+    let plain : list_all is_plain (typed elements) ≡ true = lower_plain (Preview elements) a in
+    let same = counted_same elements a.0 plain in
+    ((counted_changes elements a.0 plain, ap (λ l. list_any (list_any is_break) (lines_of (typed l))) same ∙ unbroken_lines (lines_of (typed elements)) a.1), ap Preview same)
+simple_lower (Search text) a =
+    let plain = plain_from_printable text a in
+    let same = plain_chars text plain in
+    ((counted_text (13 ∷ 10 ∷ text) plain, ap (list_any is_break) same ∙ unbroken text a), ap Search same)
+
+pub plain_is_simple : PlainIsSimple
+plain_is_simple scene plain =
+    let low = simple_lower scene.lower plain.lower in (
+      record { prompt = simple_changes scene.prompt plain.prompt; line = simple_changes scene.line plain.line; lower = low.0 },
+      ap (λ l. record { prompt = l; line = spelled_all scene.line; column = scene.column; lower = spelled_lower scene.lower; cleared = scene.cleared }) (spelled_same scene.prompt plain.prompt)
+      ∙ ap (λ l. record { prompt = scene.prompt; line = l; column = scene.column; lower = spelled_lower scene.lower; cleared = scene.cleared }) (spelled_same scene.line plain.line)
+      ∙ ap (λ l. record { prompt = scene.prompt; line = scene.line; column = scene.column; lower = l; cleared = scene.cleared }) low.1,
+    )
