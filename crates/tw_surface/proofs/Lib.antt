@@ -27,6 +27,7 @@ pub mod MarkedPictures
 pub mod NamedLists
 pub mod SimpleScenes
 pub mod SimpleLists
+pub mod SimpleScrolling
 pub mod PlainScenes
 pub mod WorkedSimple
 pub mod CellLookups

@@ -128,18 +128,18 @@ simple_stacking w e first more second others before two row col all all' none = 
 -- ---- stations
 
 -- stations for w columns, in which each character has its mark
-plain_stations : (w ch : ℕ) (earlier : List SizedScene) (station : SizedScene) → All (IsSimpleAt w) (earlier ++ station ∷ [])
+pub plain_stations : (w ch : ℕ) (earlier : List SizedScene) (station : SizedScene) → All (IsSimpleAt w) (earlier ++ station ∷ [])
     → All (IsPlainAt w) (map (named_station (mark ch)) earlier ++ named_station (mark ch) station ∷ [])
 plain_stations w ch earlier station all =
     rw (map-append (named_station (mark ch)) earlier (station ∷ [])) at
     (All-map (IsPlainAt w) (named_station (mark ch)) (earlier ++ station ∷ [])
     (All-weaker (IsSimpleAt w) (λ x. IsPlainAt w (named_station (mark ch) x)) (λ x h. (h.0, plain-scene (mark ch) (mark-keeps ch) x.scene h.1)) (earlier ++ station ∷ []) all))
 
+pub simple_ones : (w : ℕ) (stations : List SizedScene) → All (IsSimpleAt w) stations → All (λ x. IsSimple x.scene) stations
+simple_ones w stations all = All-weaker (IsSimpleAt w) (λ x. IsSimple x.scene) (λ x h. h.1) stations all
+
 module _ (w e : ℕ) (earlier : List SizedScene) (station : SizedScene) (before : Picture) (two : 2 ≤ w) (row : before.row ≡ e) (col : before.col ≡ 0)
     (all : All (IsSimpleAt w) (earlier ++ station ∷ [])) where
-  simple_ones : All (λ x. IsSimple x.scene) (earlier ++ station ∷ [])
-  simple_ones = All-weaker (IsSimpleAt w) (λ x. IsSimple x.scene) (λ x h. h.1) (earlier ++ station ∷ []) all
-
   abbrev list_start : ℕ
   list_start = start_row e (scenes_of (earlier ++ station ∷ []))
 
@@ -159,7 +159,7 @@ module _ (w e : ℕ) (earlier : List SizedScene) (station : SizedScene) (before 
   list_shown-marked : (ch : ℕ) → play_batches w (batches (marked_shots ch)) (renamed (mark ch) before) ≡ renamed (mark ch) list_shown
   list_shown-marked ch =
       marked_play w ch (batches (marked_shots ch)) (batches list_shots) before
-      (ap batches (played-named (mark ch) (mark-keeps ch) earlier station simple_ones) ∙ batches-named (mark ch) None list_shots)
+      (ap batches (played-named (mark ch) (mark-keeps ch) earlier station (simple_ones w (earlier ++ station ∷ []) all)) ∙ batches-named (mark ch) None list_shots)
 
   every_marked : (ch : ℕ) → Painted w list_start (named_scene (mark ch) station.scene) (renamed (mark ch) before) (renamed (mark ch) list_shown)
   every_marked ch =
@@ -177,7 +177,7 @@ module _ (w e : ℕ) (earlier : List SizedScene) (station : SizedScene) (before 
       (list_shown-marked ch)
       (ap (play_batches w (closing_batch (marked_shots ch))) (list_shown-marked ch)
       ∙ marked_play w ch (closing_batch (marked_shots ch)) (closing_batch list_shots) list_shown
-      (ap closing_batch (played-named (mark ch) (mark-keeps ch) earlier station simple_ones) ∙ closing-named (mark ch) list_shots))
+      (ap closing_batch (played-named (mark ch) (mark-keeps ch) earlier station (simple_ones w (earlier ++ station ∷ []) all)) ∙ closing-named (mark ch) list_shots))
       (last_painting w e (map (named_station (mark ch)) earlier) (named_station (mark ch) station) (renamed (mark ch) before) two row col (plain_stations w ch earlier station all)))
 
 pub every_simple : EverySimplePainting

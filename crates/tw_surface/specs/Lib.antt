@@ -23,3 +23,4 @@ pub mod ScrollingScreens
 pub mod Cutting
 pub mod Simple
 pub mod SimpleLaws
+pub mod SimpleScreens

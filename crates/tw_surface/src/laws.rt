@@ -18,6 +18,7 @@ ghost use Rattle.tw_surface.specs.Cutting.{CutClosing, CutPainting, SizedBatches
 ghost use Rattle.tw_surface.specs.HealingLaws.{Healing};
 ghost use Rattle.tw_surface.specs.ScrollingLaws.{StaysWithin, ScrollsBehindChanges, ScrolledPainting, ScrolledClosing, ScrolledStacking, EveryScrolledPainting, LastScrolledPainting};
 ghost use Rattle.tw_surface.specs.SimpleLaws.{PlainIsSimple, SimplePainting, SimplePaintings, SimpleClosing, SimpleStacking, EverySimplePainting, LastSimplePainting};
+ghost use Rattle.tw_surface.specs.SimpleScreens.{ScrolledSimplePainting, ScrolledSimpleClosing, ScrolledSimpleStacking, EveryScrolledSimplePainting, LastScrolledSimplePainting};
 ghost use Rattle.tw_surface.specs.Laws.{PlacesByRelation, PlacesCounted, LastPlace, HeightByExtremes};
 
 use crate::cell::{AttributeChange, Blink, CellAttributes, Intensity, Underline};
@@ -113,4 +114,9 @@ pub fn simple_texts()
     ensures last { LastSimplePainting }
     ensures closed { SimpleClosing }
     ensures stacked { SimpleStacking }
+    ensures scrolled { ScrolledSimplePainting }
+    ensures scrolled_every { EveryScrolledSimplePainting }
+    ensures scrolled_last { LastScrolledSimplePainting }
+    ensures scrolled_closed { ScrolledSimpleClosing }
+    ensures scrolled_stacked { ScrolledSimpleStacking }
 {}

@@ -1,6 +1,7 @@
 use Rattle.tw_surface.proofs.PlainScenes.{plain_is_simple}
 use Rattle.tw_surface.proofs.SimpleScenes.{simple_painting}
 use Rattle.tw_surface.proofs.SimpleLists.{simple_paintings, every_simple, last_simple, simple_closing, simple_stacking}
+use Rattle.tw_surface.proofs.SimpleScrolling.{scrolled_simple, every_scrolled_simple, last_scrolled_simple, scrolled_simple_closing, scrolled_simple_stacking}
 use Rattle.tw_surface.proofs.laws.simple_texts.Goals as goal
 
 pub returns : goal.returns
@@ -12,4 +13,9 @@ returns c = record {
   last = last_simple;
   closed = simple_closing;
   stacked = simple_stacking;
+  scrolled = scrolled_simple;
+  scrolled_every = every_scrolled_simple;
+  scrolled_last = last_scrolled_simple;
+  scrolled_closed = scrolled_simple_closing;
+  scrolled_stacked = scrolled_simple_stacking;
 }
