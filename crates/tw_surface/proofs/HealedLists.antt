@@ -66,7 +66,7 @@ cursor-down cols scene h =
 -- ---- the paintings behind a clearing
 
 -- the painting before, if there was one, left the cursor in its first row or below
-abbrev IsDown : Option Painting → Type 0
+abbrev pub IsDown : Option Painting → Type 0
 IsDown None = Unit {0}
 IsDown (Some p) = pos 0 ≤ℤ p.row
 
@@ -118,17 +118,17 @@ healed_list_on h w last first more t two down fit cleared =
 -- ---- stations
 
 -- the last painting of a list, behind an earlier one
-abbrev last_painting : Option Painting → List Shot → Option Painting
+abbrev pub last_painting : Option Painting → List Shot → Option Painting
 last_painting earlier [] = earlier
 last_painting earlier (shot ∷ more) = last_painting (Some shot.painting) more
 
-batches_after-append : (earlier : Option Painting) (a b : List Shot) → batches_after earlier (a ++ b) ≡ batches_after earlier a ++ batches_after (last_painting earlier a) b
+pub batches_after-append : (earlier : Option Painting) (a b : List Shot) → batches_after earlier (a ++ b) ≡ batches_after earlier a ++ batches_after (last_painting earlier a) b
 batches_after-append earlier [] b = refl
 batches_after-append earlier (shot ∷ a) b =
     ap (λ l. clearing shot.cleared ++ (start_of earlier ++ shot.painting.changes) ∷ l) (batches_after-append (Some shot.painting) a b)
     ∙ sym (append_assoc (clearing shot.cleared) ((start_of earlier ++ shot.painting.changes) ∷ batches_after (Some shot.painting) a) (batches_after (last_painting (Some shot.painting) a) b))
 
-stations-down : (earlier : Option Painting) (xs : List SizedScene) → IsDown earlier → All HasTextPrompt xs → IsDown (last_painting earlier (map shot_of xs))
+pub stations-down : (earlier : Option Painting) (xs : List SizedScene) → IsDown earlier → All HasTextPrompt xs → IsDown (last_painting earlier (map shot_of xs))
 stations-down earlier [] down a = down
 stations-down earlier (x ∷ xs) down a =
     stations-down (Some (painting x.cols x.scene)) xs (cursor-down x.cols x.scene (a 0 x (omega arith))) (λ k d q. a (suc k) d (omega arith))
@@ -144,7 +144,7 @@ same_batches : (w : ℕ) (last : Option Painting) (x : SizedScene) (xs : List Si
 same_batches w last x xs station plain =
     ap (batches_after last) (same_shots w (x ∷ xs ++ station ∷ []) plain) ∙ ap (λ l. batches_after last (shots w (x.scene ∷ l))) (scenes-push xs station)
 
-healed_station : (w : ℕ) (last : Option Painting) (since : List SizedScene) (station : SizedScene) (t : Picture) → 2 ≤ w → IsDown last
+pub healed_station : (w : ℕ) (last : Option Painting) (since : List SizedScene) (station : SizedScene) (t : Picture) → 2 ≤ w → IsDown last
     → ArePlainAt w (since ++ station ∷ []) → begins_cleared (since ++ station ∷ []) ≡ true
     → IsFresh w 0 station.scene (play_batches w (batches_after last (map shot_of (since ++ station ∷ []))) t)
 healed_station w last [] station t two down plain cleared =
@@ -155,7 +155,7 @@ healed_station w last (x ∷ xs) station t two down plain cleared =
     let q = healed_list w last x.scene (scenes_of xs ++ station.scene ∷ []) t two down all cleared in
     rw (same_batches w last x xs station plain) (rw (last_of-push x.scene (scenes_of xs) station.scene) at q)
 
-healed_station_on : (h w : ℕ) (last : Option Painting) (since : List SizedScene) (station : SizedScene) (t : Picture) → 2 ≤ w → IsDown last
+pub healed_station_on : (h w : ℕ) (last : Option Painting) (since : List SizedScene) (station : SizedScene) (t : Picture) → 2 ≤ w → IsDown last
     → ArePlainAt w (since ++ station ∷ []) → AreFit h w (scenes_of (since ++ station ∷ [])) → begins_cleared (since ++ station ∷ []) ≡ true
     → IsFresh w 0 station.scene (play_batches_on h w (batches_after last (map shot_of (since ++ station ∷ []))) t)
 healed_station_on h w last [] station t two down plain fit cleared =
@@ -166,15 +166,15 @@ healed_station_on h w last (x ∷ xs) station t two down plain fit cleared =
     let q = healed_list_on h w last x.scene (scenes_of xs ++ station.scene ∷ []) t two down all cleared in
     rw (same_batches w last x xs station plain) (rw (last_of-push x.scene (scenes_of xs) station.scene) at q)
 
-last_plain_at : (w : ℕ) (xs : List SizedScene) (station : SizedScene) → ArePlainAt w (xs ++ station ∷ []) → IsPlainAt w station
+pub last_plain_at : (w : ℕ) (xs : List SizedScene) (station : SizedScene) → ArePlainAt w (xs ++ station ∷ []) → IsPlainAt w station
 last_plain_at w [] station a = a.0
 last_plain_at w (x ∷ xs) station a = last_plain_at w xs station a.1
 
-some_rows : (h w : ℕ) (xs : List SizedScene) (station : SizedScene) → AreFit h w (scenes_of (xs ++ station ∷ [])) → 0 < h
+pub some_rows : (h w : ℕ) (xs : List SizedScene) (station : SizedScene) → AreFit h w (scenes_of (xs ++ station ∷ [])) → 0 < h
 some_rows h w [] station a = omega (arith, a.0.1)
 some_rows h w (x ∷ xs) station a = some_rows h w xs station a.1
 
-closing_is : (w : ℕ) (earlier since : List SizedScene) (station : SizedScene) → station.cols ≡ w
+pub closing_is : (w : ℕ) (earlier since : List SizedScene) (station : SizedScene) → station.cols ≡ w
     → closing_batch (map shot_of (earlier ++ (since ++ station ∷ []))) ≡ closing (painting w station.scene) ∷ []
 closing_is w earlier since station cols =
     ap (λ l. closing_batch (map shot_of l)) (sym (append_assoc earlier since (station ∷ [])))

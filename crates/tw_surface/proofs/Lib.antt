@@ -28,6 +28,7 @@ pub mod NamedLists
 pub mod SimpleScenes
 pub mod SimpleLists
 pub mod SimpleScrolling
+pub mod SimpleHealing
 pub mod PlainScenes
 pub mod WorkedSimple
 pub mod CellLookups

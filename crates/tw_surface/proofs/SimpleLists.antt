@@ -26,7 +26,7 @@ pub Closed-at : (w last last' : ℕ) (before before' after after' : Picture) →
 Closed-at w last last' before before' after after' a b c h = rw (sym a, sym b, sym c) h
 
 -- batches that are marked, on a marked picture
-marked_play : (w ch : ℕ) (marked played : List Batch) (before : Picture) → marked ≡ named_batches (mark ch) played
+pub marked_play : (w ch : ℕ) (marked played : List Batch) (before : Picture) → marked ≡ named_batches (mark ch) played
     → play_batches w marked (renamed (mark ch) before) ≡ renamed (mark ch) (play_batches w (spelled_batches played) before)
 marked_play w ch marked played before e = ap (λ l. play_batches w l (renamed (mark ch) before)) e ∙ renamed-batches (mark ch) (mark-keeps ch) w played before
 

@@ -6,6 +6,7 @@ use Rattle.tw_surface.specs.Pictures.{Picture, blank}
 use Rattle.tw_surface.specs.Scenes.{Scene}
 use Rattle.tw_surface.specs.Fresh.{IsFresh, IsClosed, last_row}
 use Rattle.tw_surface.specs.Shots.{SizedScene, shot_of, scenes_of, batches, closing_batch, last_of, shows, closing_of, whole, play_batches, start_row}
+use Rattle.tw_surface.specs.HealingLaws.{begins_cleared, HasTextPrompt, IsFreshOnAny, IsFreshOnAnyOf}
 use Rattle.tw_surface.specs.Scrolling.{play_batches_on, IsLow, top_row, IsMovedUp, IsClosedOn}
 use Rattle.tw_surface.specs.Simple.{IsSimple, IsSimpleAt, IsSimpleWide, spelled_batches, spelled_scene}
 
@@ -57,3 +58,19 @@ LastScrolledSimplePainting = (h w : ℕ) (earlier : List SizedScene) (station : 
     let last = last_row w (top_row h w before.row (map spelled_scene (scenes_of (earlier ++ station ∷ [])))) (spelled_scene station.scene) in
     let after = play_batches_on h w (spelled_batches (batches all)) before in
     IsClosedOn h w last after (play_batches_on h w (spelled_batches (closing_batch all)) after)
+
+-- ---- behind a clearing
+
+-- a station with characters in place of bytes
+abbrev pub spelled_station : SizedScene → SizedScene
+spelled_station station = record { scene = spelled_scene station.scene; cols = station.cols }
+
+-- Only the stations from a clearing on need be simple and for w columns: their batches, played on any picture, leave the fresh painting of the last one.
+abbrev pub SimpleHealing : Type 0
+SimpleHealing = (w : ℕ) (earlier since : List SizedScene) (station : SizedScene)
+    → 2 ≤ w → All HasTextPrompt earlier → begins_cleared (since ++ station ∷ []) ≡ true → All (IsSimpleAt w) (since ++ station ∷ [])
+    → let all = map shot_of (earlier ++ (since ++ station ∷ [])) in
+    let closing = spelled_batches (closing_batch all) in
+    (played : List Batch) × (batches all ≡ batches (map shot_of earlier) ++ played)
+    × IsFreshOnAny w (spelled_batches played) (spelled_station station) closing
+    × ((h : ℕ) → All (IsLow h w) (map spelled_scene (scenes_of (since ++ station ∷ []))) → IsFreshOnAnyOf h w (spelled_batches played) (spelled_station station) closing)
