@@ -29,6 +29,7 @@ pub mod SimpleScenes
 pub mod SimpleLists
 pub mod SimpleScrolling
 pub mod SimpleHealing
+pub mod SimpleCutting
 pub mod PlainScenes
 pub mod WorkedSimple
 pub mod CellLookups

@@ -77,7 +77,7 @@ told ch b h = elim (cases_eq b ch) [
     by_kept n false true p q h = let small = kept_small ch q in absurd (omega (arith, h))
     by_kept n false false p q h = absurd (omega (arith, h))
 
-told_blank : (b : ℕ) → mark blank b ≡ blank → b ≡ blank
+pub told_blank : (b : ℕ) → mark blank b ≡ blank → b ≡ blank
 told_blank b h = told 32 b h
 
 -- ---- a fresh painting, by its text, its lower lines and the number of the cursor's cell

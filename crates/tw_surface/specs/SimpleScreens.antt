@@ -6,9 +6,10 @@ use Rattle.tw_surface.specs.Pictures.{Picture, blank}
 use Rattle.tw_surface.specs.Scenes.{Scene}
 use Rattle.tw_surface.specs.Fresh.{IsFresh, IsClosed, last_row}
 use Rattle.tw_surface.specs.Shots.{SizedScene, shot_of, scenes_of, batches, closing_batch, last_of, shows, closing_of, whole, play_batches, start_row}
+use Rattle.tw_surface.specs.Cutting.{cut_to, SizedBatch, sized_batches, play_cut, narrowest}
 use Rattle.tw_surface.specs.HealingLaws.{begins_cleared, HasTextPrompt, IsFreshOnAny, IsFreshOnAnyOf}
 use Rattle.tw_surface.specs.Scrolling.{play_batches_on, IsLow, top_row, IsMovedUp, IsClosedOn}
-use Rattle.tw_surface.specs.Simple.{IsSimple, IsSimpleAt, IsSimpleWide, spelled_batches, spelled_scene}
+use Rattle.tw_surface.specs.Simple.{IsSimple, IsSimpleAt, IsSimpleWide, spelled_all, spelled_batches, spelled_scene}
 
 -- ---- on h rows
 
@@ -74,3 +75,29 @@ SimpleHealing = (w : ℕ) (earlier since : List SizedScene) (station : SizedScen
     (played : List Batch) × (batches all ≡ batches (map shot_of earlier) ++ played)
     × IsFreshOnAny w (spelled_batches played) (spelled_station station) closing
     × ((h : ℕ) → All (IsLow h w) (map spelled_scene (scenes_of (since ++ station ∷ []))) → IsFreshOnAnyOf h w (spelled_batches played) (spelled_station station) closing)
+
+-- ---- on a screen that is cut
+
+-- batches with the characters of their texts in place of bytes
+abbrev pub spelled_sized : List SizedBatch → List SizedBatch
+spelled_sized played = map (λ sized. record { cols = sized.cols; batch = spelled_all sized.batch }) played
+
+-- After each station the screen shows the fresh painting of the characters of its scene at its columns. Above it, the columns that the screen had all along are as they were, and the others blank.
+abbrev pub CutSimplePainting : Type 0
+CutSimplePainting = (v : ℕ) (earlier : List SizedScene) (station : SizedScene) (before : Picture)
+    → before.col ≡ 0 → All IsSimpleWide (earlier ++ station ∷ [])
+    → let stations = earlier ++ station ∷ [] in
+    let s = start_row before.row (scenes_of stations) in
+    let least = narrowest v (map (λ station. station.cols) stations) in
+    let after = play_cut v (spelled_sized (sized_batches stations)) before in
+    IsFresh station.cols s (spelled_scene station.scene) after
+    × ((r c : ℕ) → r < s → c < station.cols → after.cell r c ≡ (if ltb c least then before.cell r c else blank))
+
+-- And where that painting is the last one, the closing batch leaves the cursor under it, at whatever columns the screen then has.
+abbrev pub CutSimpleClosing : Type 0
+CutSimpleClosing = (v w : ℕ) (earlier : List SizedScene) (station : SizedScene) (before : Picture)
+    → 2 ≤ w → before.col ≡ 0 → All IsSimpleWide (earlier ++ station ∷ [])
+    → let stations = earlier ++ station ∷ [] in
+    let last = last_row station.cols (start_row before.row (scenes_of stations)) (spelled_scene station.scene) in
+    let after = cut_to station.cols w (play_cut v (spelled_sized (sized_batches stations)) before) in
+    IsClosed w last after (play_batches w (spelled_batches (closing_batch (map shot_of stations))) after)

@@ -18,7 +18,7 @@ ghost use Rattle.tw_surface.specs.Cutting.{CutClosing, CutPainting, SizedBatches
 ghost use Rattle.tw_surface.specs.HealingLaws.{Healing};
 ghost use Rattle.tw_surface.specs.ScrollingLaws.{StaysWithin, ScrollsBehindChanges, ScrolledPainting, ScrolledClosing, ScrolledStacking, EveryScrolledPainting, LastScrolledPainting};
 ghost use Rattle.tw_surface.specs.SimpleLaws.{PlainIsSimple, SimplePainting, SimplePaintings, SimpleClosing, SimpleStacking, EverySimplePainting, LastSimplePainting};
-ghost use Rattle.tw_surface.specs.SimpleScreens.{ScrolledSimplePainting, ScrolledSimpleClosing, ScrolledSimpleStacking, EveryScrolledSimplePainting, LastScrolledSimplePainting, SimpleHealing};
+ghost use Rattle.tw_surface.specs.SimpleScreens.{ScrolledSimplePainting, ScrolledSimpleClosing, ScrolledSimpleStacking, EveryScrolledSimplePainting, LastScrolledSimplePainting, SimpleHealing, CutSimplePainting, CutSimpleClosing};
 ghost use Rattle.tw_surface.specs.Laws.{PlacesByRelation, PlacesCounted, LastPlace, HeightByExtremes};
 
 use crate::cell::{AttributeChange, Blink, CellAttributes, Intensity, Underline};
@@ -120,4 +120,6 @@ pub fn simple_texts()
     ensures scrolled_closed { ScrolledSimpleClosing }
     ensures scrolled_stacked { ScrolledSimpleStacking }
     ensures healed { SimpleHealing }
+    ensures cut { CutSimplePainting }
+    ensures cut_closed { CutSimpleClosing }
 {}
