@@ -3,11 +3,9 @@ use Rattle.std.proofs.Common.{◌≡◌, ℕ, Bool, true, false, ◌||◌, Optio
 use Rattle.std.specs.List.{All, list_any}
 use Rattle.std.proofs.lemmas.List.{map-append}
 use Rattle.std.proofs.lemmas.List.Elements.{All-head, All-tail, All-map, All-weaker}
-use Rattle.tw_surface.specs.ChangeView.{Batch}
 use Rattle.tw_surface.specs.ChangeView.{ClearScreen}
 use Rattle.tw_surface.specs.Defaults.{default_color}
 use Rattle.tw_surface.specs.Paintings.{Painting, painting, start_move}
-use Rattle.tw_surface.specs.Pictures.{Picture}
 use Rattle.tw_surface.specs.Scenes.{Scene, IsPlain}
 use Rattle.tw_surface.specs.Shots.{Shot, SizedScene, shot_of, scenes_of, clearing, start_of, batches_after, batches, closing_batch, shots, shows, closing_of, whole, last_of, start_row}
 use Rattle.tw_surface.specs.Simple.{IsSimple}

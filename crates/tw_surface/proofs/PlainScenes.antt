@@ -1,5 +1,5 @@
 -- Plain scenes are simple ones.
-use Rattle.std.proofs.Common.{◌≡◌, ℕ, ◌<◌, ◌≤◌, Bool, true, false, ◌&&◌, ◌||◌, List, [], ◌∷◌, ◌++◌, map, refl, sym, ap, ◌∙◌, arith, eqb, leb, inl, inr}
+use Rattle.std.proofs.Common.{◌≡◌, ℕ, ◌<◌, ◌≤◌, true, false, ◌||◌, List, [], ◌∷◌, refl, sym, ap, ◌∙◌, arith, eqb, leb, inl, inr}
 use Rattle.std.specs.Prelude.{chars}
 use Rattle.std.specs.Str.{IsAscii}
 use Rattle.std.specs.List.{list_all, list_any}
@@ -7,16 +7,15 @@ use Rattle.std.proofs.lemmas.Bool.{and_parts, ne_eqb, leb-true, or_cases, eqb-tr
 use Rattle.std.proofs.lemmas.List.Folds.{list_all-append}
 use Rattle.std.proofs.lemmas.Str.{chars-IsAscii}
 use Rattle.std.proofs.lemmas.Str.Ascii.{IsAscii-cons, IsAscii-nil}
-use Rattle.tw_surface.specs.declared.measure.Piece.TheVariants.{Wide}
 use Rattle.tw_surface.specs.ChangeView.{Batch}
 use Rattle.tw_surface.specs.ChangeView.{Attribute, AllAttributes, Text, ClearScreen, ClearToEndOfScreen, CursorPosition}
 use Rattle.tw_surface.specs.Characters.{is_plain, is_printable}
 use Rattle.tw_surface.specs.Lines.{lines_of}
 use Rattle.tw_surface.specs.Paintings.{lower_changes}
-use Rattle.tw_surface.specs.Places.{pieces, plain_piece}
-use Rattle.tw_surface.specs.Scenes.{Scene, Lower, IsPlain, IsPlainLower, is_typing, is_text, typed, lower_lines}
+use Rattle.tw_surface.specs.Places.{pieces}
+use Rattle.tw_surface.specs.Scenes.{Lower, IsPlainLower, is_typing, is_text, typed, lower_lines}
 use Rattle.tw_surface.specs.Scenes.Lower.{NoLower, Preview, Search}
-use Rattle.tw_surface.specs.Simple.{is_break, parted, spelled_all, spelled_lower, spelled_scene, AreSimple, AreCounted, IsCounted, IsSimpleText, IsSimple, IsSimpleLower}
+use Rattle.tw_surface.specs.Simple.{is_break, spelled_all, spelled_lower, AreSimple, AreCounted, IsCounted, IsSimpleText, IsSimpleLower}
 use Rattle.tw_surface.specs.SimpleLaws.{PlainIsSimple}
 use Rattle.tw_surface.proofs.LowerText.{lower-typed, lower-printable, breaks-plain}
 use Rattle.tw_surface.proofs.TypedChanges.{plain_from_printable}
@@ -137,6 +136,6 @@ plain_is_simple scene plain =
     let low = simple_lower scene.lower plain.lower in (
       record { prompt = simple_changes scene.prompt plain.prompt; line = simple_changes scene.line plain.line; lower = low.0 },
       ap (λ l. record { prompt = l; line = spelled_all scene.line; column = scene.column; lower = spelled_lower scene.lower; cleared = scene.cleared }) (spelled_same scene.prompt plain.prompt)
-      ∙ ap (λ l. record { prompt = scene.prompt; line = l; column = scene.column; lower = spelled_lower scene.lower; cleared = scene.cleared }) (spelled_same scene.line plain.line)
-      ∙ ap (λ l. record { prompt = scene.prompt; line = scene.line; column = scene.column; lower = l; cleared = scene.cleared }) low.1,
+          ∙ ap (λ l. record { prompt = scene.prompt; line = l; column = scene.column; lower = spelled_lower scene.lower; cleared = scene.cleared }) (spelled_same scene.line plain.line)
+          ∙ ap (λ l. record { prompt = scene.prompt; line = scene.line; column = scene.column; lower = l; cleared = scene.cleared }) low.1,
     )

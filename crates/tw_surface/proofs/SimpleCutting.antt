@@ -1,23 +1,20 @@
 -- Lists of paintings of simple scenes on a screen that is cut.
-use Rattle.std.proofs.Common.{◌≡◌, ℕ, ◌+◌, ◌≤◌, ◌<◌, Bool, true, false, Option, Some, None, List, [], ◌∷◌, ◌++◌, map, ltb, if◌then◌else◌, refl, sym, ap, ◌∙◌}
+use Rattle.std.proofs.Common.{◌≡◌, ℕ, ◌≤◌, ◌<◌, Bool, true, false, Option, Some, None, List, [], ◌∷◌, ◌++◌, map, ltb, if◌then◌else◌, refl, sym, ap, ◌∙◌}
 use Rattle.std.specs.List.{All}
 use Rattle.std.proofs.lemmas.List.{map-append}
 use Rattle.std.proofs.lemmas.List.Elements.{All-head, All-tail, All-map, All-weaker}
-use Rattle.tw_surface.specs.ChangeView.{Batch}
-use Rattle.tw_surface.specs.ChangeView.{ClearScreen}
 use Rattle.tw_surface.specs.Cutting.{cut_to, SizedBatch, sized_after, sized_batches, play_cut, narrowest, IsPlainWide}
-use Rattle.tw_surface.specs.Defaults.{default_color}
 use Rattle.tw_surface.specs.Fresh.{IsFresh, IsClosed, last_row}
-use Rattle.tw_surface.specs.Paintings.{Painting, painting, start_move}
+use Rattle.tw_surface.specs.Paintings.{Painting, painting}
 use Rattle.tw_surface.specs.Pictures.{Picture, blank, play_all}
 use Rattle.tw_surface.specs.Scenes.{Scene}
-use Rattle.tw_surface.specs.Shots.{Shot, SizedScene, shot_of, scenes_of, clearing, start_of, batches, closing_batch, play_batches, start_row}
+use Rattle.tw_surface.specs.Shots.{SizedScene, shot_of, scenes_of, clearing, start_of, closing_batch, play_batches, start_row}
 use Rattle.tw_surface.specs.Simple.{IsSimple, IsSimpleWide, spelled_all, spelled_batches, spelled_scene}
 use Rattle.tw_surface.specs.SimpleScreens.{spelled_sized, CutSimplePainting, CutSimpleClosing}
 use Rattle.tw_surface.proofs.CutLists.{cut_painting, cut_closing}
-use Rattle.tw_surface.proofs.RenamedPictures.{Keeps, renamed, named_all, named_batches, renamed-play_all, renamed-batches, renamed-cut}
+use Rattle.tw_surface.proofs.RenamedPictures.{Keeps, renamed, named_all, renamed-play_all, renamed-cut}
 use Rattle.tw_surface.proofs.NamedPaintings.{named_scene, named_painting, painting-named, plain-scene}
-use Rattle.tw_surface.proofs.NamedLists.{named_shot, named_earlier, named_station, closing-named, played-named, scenes_played-named, start-named}
+use Rattle.tw_surface.proofs.NamedLists.{named_earlier, named_station, closing-named, played-named, scenes_played-named, start-named}
 use Rattle.tw_surface.proofs.MarkedPictures.{mark, mark-keeps, told, told_blank, fresh_by, closed_by, last_row-named}
 use Rattle.tw_surface.proofs.SimpleLists.{marked_play, Closed-at}
 

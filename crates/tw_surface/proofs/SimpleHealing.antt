@@ -1,26 +1,26 @@
 -- After a clearing of the screen simple texts are fresh, whatever was painted before and at whatever size.
-use Rattle.std.proofs.Common.{◌≡◌, ℕ, ◌≤◌, ◌<◌, true, Option, Some, None, List, [], ◌∷◌, ◌++◌, map, refl, sym, ap, ◌∙◌}
+use Rattle.std.proofs.Common.{◌≡◌, ℕ, ◌≤◌, true, Option, Some, None, List, [], ◌∷◌, ◌++◌, map, refl, sym, ap, ◌∙◌}
 use Rattle.std.specs.List.{All}
 use Rattle.std.proofs.lemmas.List.{map-append}
 use Rattle.std.proofs.lemmas.List.Elements.{All-head, All-tail}
 use Rattle.tw_surface.specs.ChangeView.{Batch}
-use Rattle.tw_surface.specs.Fresh.{IsFresh, IsClosed, last_row, cursor_row}
+use Rattle.tw_surface.specs.Fresh.{IsFresh, IsClosed, last_row}
 use Rattle.tw_surface.specs.HealingLaws.{begins_cleared}
 use Rattle.tw_surface.specs.Paintings.{Painting, painting, closing}
 use Rattle.tw_surface.specs.Pictures.{Picture, play_all}
 use Rattle.tw_surface.specs.Scenes.{Scene}
 use Rattle.tw_surface.specs.Scrolling.{play_batches_on, play_all_on, IsLow, IsClosedOn}
-use Rattle.tw_surface.specs.Shots.{Shot, SizedScene, shot_of, scenes_of, batches, batches_after, closing_batch, play_batches}
+use Rattle.tw_surface.specs.Shots.{Shot, SizedScene, shot_of, scenes_of, batches, batches_after, play_batches}
 use Rattle.tw_surface.specs.Simple.{IsSimple, IsSimpleAt, spelled_all, spelled_batches, spelled_scene}
 use Rattle.tw_surface.specs.SimpleScreens.{SimpleHealing}
 use Rattle.tw_surface.proofs.PaintingHeights.{closed_painting}
 use Rattle.tw_surface.proofs.SizedScenes.{are_plain_at}
 use Rattle.tw_surface.proofs.ScrolledLists.{AreFit, fit_scenes, closed_on}
-use Rattle.tw_surface.proofs.HealedLists.{IsDown, last_painting, batches_after-append, stations-down, healed_station, healed_station_on, last_plain_at, some_rows, closing_is}
+use Rattle.tw_surface.proofs.HealedLists.{IsDown, last_painting, batches_after-append, stations-down, healed_station, healed_station_on, some_rows, closing_is}
 use Rattle.tw_surface.proofs.RenamedPictures.{renamed, named_batches, renamed-play_all, renamed-play_all_on}
 use Rattle.tw_surface.proofs.NamedPaintings.{named_scene, painting-named, plain-scene}
 use Rattle.tw_surface.proofs.NamedLists.{named_shot, named_earlier, named_station, batches-named, played-named, scenes_played-named}
-use Rattle.tw_surface.proofs.MarkedPictures.{mark, mark-keeps, fresh_by, closed_by, closed_on_by, last_row-named, cursor_row-named}
+use Rattle.tw_surface.proofs.MarkedPictures.{mark, mark-keeps, fresh_by, closed_by, closed_on_by, last_row-named}
 use Rattle.tw_surface.proofs.SimpleLists.{plain_stations, simple_ones, marked_play, Closed-at}
 use Rattle.tw_surface.proofs.SimpleScrolling.{low-named, marked_play_on, ClosedOn-at}
 

@@ -1,6 +1,6 @@
 -- Lists of paintings of simple scenes, by way of plain ones in which one character at a time is marked.
-use Rattle.std.proofs.Common.{◌≡◌, ℕ, ◌+◌, ◌≤◌, false, None, List, [], ◌∷◌, ◌++◌, map, refl, sym, ap, ◌∙◌}
-use Rattle.std.specs.List.{All, list_any}
+use Rattle.std.proofs.Common.{◌≡◌, ℕ, ◌+◌, ◌≤◌, None, List, [], ◌∷◌, ◌++◌, map, refl, sym, ap, ◌∙◌}
+use Rattle.std.specs.List.{All}
 use Rattle.std.proofs.lemmas.List.{map-append}
 use Rattle.std.proofs.lemmas.List.Elements.{All-map, All-weaker}
 use Rattle.tw_surface.specs.ChangeView.{Batch}
@@ -15,7 +15,7 @@ use Rattle.tw_surface.proofs.ShotLemmas.{incremental, closed_run, stacked}
 use Rattle.tw_surface.proofs.SizedScenes.{every_painting, last_painting}
 use Rattle.tw_surface.proofs.RenamedPictures.{renamed, named_batches, renamed-batches}
 use Rattle.tw_surface.proofs.NamedPaintings.{named_scene, plain-scene}
-use Rattle.tw_surface.proofs.NamedLists.{named_shot, named_station, batches-named, closing-named, shows-named, closing_of-named, whole-named, plain-scenes, last-named, start-named, cleared-named, played-named, scenes_played-named}
+use Rattle.tw_surface.proofs.NamedLists.{named_station, batches-named, closing-named, shows-named, closing_of-named, whole-named, plain-scenes, last-named, start-named, cleared-named, played-named, scenes_played-named}
 use Rattle.tw_surface.proofs.MarkedPictures.{mark, mark-keeps, fresh_by, above_by, closed_by, last_row-named}
 
 pub Painted-at : (w s s' : ℕ) (scene scene' : Scene) (before after after' : Picture) → s ≡ s' → scene ≡ scene' → after ≡ after'

@@ -121,18 +121,18 @@ scrolled_simple_closing h w first more before two inside col all low = closed_li
 pub scrolled_simple_stacking : ScrolledSimpleStacking
 scrolled_simple_stacking h w first more second others before two inside col all low all' low' =
     raised_by w s (below + 1 - s) (last_of second others) begun again (λ ch.
-        let places = ap (λ (t : Picture). top_row h w t.row (map (named_scene (mark ch)) (second ∷ others))) (entered-marked h w first more before two inside col all low ch)
-            ∙ top-named h w ch last_picture.row (second ∷ others) in
-        Raised-at w _ s _ (below + 1 - s) _ (named_scene (mark ch) (last_of second others)) _ (renamed (mark ch) begun) _ (renamed (mark ch) again)
-        places
-        (difference _ (below + 1) _ s (ap (λ n. n + 1) (last-marked h w first more before two inside col all low ch)) places)
-        (last-named (mark ch) (mark-keeps ch) second others)
-        (shown-marked h w first more before two inside col all low ch)
-        (ap (play_batches_on h w (shows w (map (named_scene (mark ch)) (second ∷ others)))) (entered-marked h w first more before two inside col all low ch)
-        ∙ marked_play_on h w ch (shows w (map (named_scene (mark ch)) (second ∷ others))) (shows w (second ∷ others)) last_picture (shows-named (mark ch) (mark-keeps ch) w (second ∷ others) all'))
-        (scrolled_stacking h w (named_scene (mark ch) first) (map (named_scene (mark ch)) more) (named_scene (mark ch) second) (map (named_scene (mark ch)) others) (renamed (mark ch) before) two inside col
-        (plain-scenes (mark ch) (mark-keeps ch) (first ∷ more) all) (low-named h w ch (first ∷ more) low)
-        (plain-scenes (mark ch) (mark-keeps ch) (second ∷ others) all') (low-named h w ch (second ∷ others) low')))
+    let places = ap (λ (t : Picture). top_row h w t.row (map (named_scene (mark ch)) (second ∷ others))) (entered-marked h w first more before two inside col all low ch)
+    ∙ top-named h w ch last_picture.row (second ∷ others) in
+    Raised-at w _ s _ (below + 1 - s) _ (named_scene (mark ch) (last_of second others)) _ (renamed (mark ch) begun) _ (renamed (mark ch) again)
+    places
+    (difference _ (below + 1) _ s (ap (λ n. n + 1) (last-marked h w first more before two inside col all low ch)) places)
+    (last-named (mark ch) (mark-keeps ch) second others)
+    (shown-marked h w first more before two inside col all low ch)
+    (ap (play_batches_on h w (shows w (map (named_scene (mark ch)) (second ∷ others)))) (entered-marked h w first more before two inside col all low ch)
+    ∙ marked_play_on h w ch (shows w (map (named_scene (mark ch)) (second ∷ others))) (shows w (second ∷ others)) last_picture (shows-named (mark ch) (mark-keeps ch) w (second ∷ others) all'))
+    (scrolled_stacking h w (named_scene (mark ch) first) (map (named_scene (mark ch)) more) (named_scene (mark ch) second) (map (named_scene (mark ch)) others) (renamed (mark ch) before) two inside col
+    (plain-scenes (mark ch) (mark-keeps ch) (first ∷ more) all) (low-named h w ch (first ∷ more) low)
+    (plain-scenes (mark ch) (mark-keeps ch) (second ∷ others) all') (low-named h w ch (second ∷ others) low')))
   where
     begun : Picture
     begun = play_batches_on h w (spelled_batches (shows w (first ∷ more))) before

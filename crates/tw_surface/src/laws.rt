@@ -104,8 +104,9 @@ pub fn cutting()
     ensures closed { CutClosing }
 {}
 
-/// Of simple texts, whose characters take one column each: a painting, played character by character, is the fresh
-/// painting of these characters.
+/// Incremental equals fresh for simple texts, whose characters take one column each: paintings are measured by their
+/// bytes, and played character by character they leave the fresh paintings of these characters. Plain scenes are among
+/// the simple ones.
 pub fn simple_texts()
     ensures plain { PlainIsSimple }
     ensures one { SimplePainting }
@@ -114,6 +115,10 @@ pub fn simple_texts()
     ensures last { LastSimplePainting }
     ensures closed { SimpleClosing }
     ensures stacked { SimpleStacking }
+{}
+
+/// The same on screens that scroll, behind a clearing, and on screens that are cut.
+pub fn simple_screens()
     ensures scrolled { ScrolledSimplePainting }
     ensures scrolled_every { EveryScrolledSimplePainting }
     ensures scrolled_last { LastScrolledSimplePainting }

@@ -1,9 +1,6 @@
 use Rattle.tw_surface.proofs.PlainScenes.{plain_is_simple}
 use Rattle.tw_surface.proofs.SimpleScenes.{simple_painting}
 use Rattle.tw_surface.proofs.SimpleLists.{simple_paintings, every_simple, last_simple, simple_closing, simple_stacking}
-use Rattle.tw_surface.proofs.SimpleScrolling.{scrolled_simple, every_scrolled_simple, last_scrolled_simple, scrolled_simple_closing, scrolled_simple_stacking}
-use Rattle.tw_surface.proofs.SimpleHealing.{simple_healing}
-use Rattle.tw_surface.proofs.SimpleCutting.{cut_simple, cut_simple_closing}
 use Rattle.tw_surface.proofs.laws.simple_texts.Goals as goal
 
 pub returns : goal.returns
@@ -15,12 +12,4 @@ returns c = record {
   last = last_simple;
   closed = simple_closing;
   stacked = simple_stacking;
-  scrolled = scrolled_simple;
-  scrolled_every = every_scrolled_simple;
-  scrolled_last = last_scrolled_simple;
-  scrolled_closed = scrolled_simple_closing;
-  scrolled_stacked = scrolled_simple_stacking;
-  healed = simple_healing;
-  cut = cut_simple;
-  cut_closed = cut_simple_closing;
 }
