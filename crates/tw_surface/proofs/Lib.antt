@@ -41,6 +41,10 @@ pub mod NearCells
 pub mod SettledCells
 pub mod RowLemmas
 pub mod ClusterLemmas
+pub mod ClusterSeams
+pub mod ClusterCuts
+pub mod LoneCharacters
+pub mod LoneWidths
 pub mod RunLemmas
 pub mod RaisedCells
 pub mod ScrollingScreenLemmas

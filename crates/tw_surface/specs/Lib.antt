@@ -4,6 +4,7 @@ pub mod Characters
 pub mod Positions
 pub mod Pictures
 pub mod Width
+pub mod Clusters
 pub mod Places
 pub mod Drawings
 pub mod Tracks

@@ -5,9 +5,9 @@ ghost use Rattle.std.specs.List.{sum_by};
 ghost use Rattle.unicode_segmentation.specs.Grapheme.{graphemes};
 ghost use Rattle.tw_surface.specs.Width.{cluster_width, column_width};
 
-use crate::characters::{is_printable, is_printable_text};
+use crate::characters::is_printable_text;
+use crate::clusters::{lone_len, split_cluster};
 use crate::color::ColorAttribute;
-use unicode_segmentation::UnicodeSegmentation;
 use unicode_width::UnicodeWidthStr;
 
 /// How strong a text is.
@@ -138,8 +138,9 @@ pub fn cluster_width(cluster: &str) -> usize
     ensures value { result ≡ cluster_width cluster.now }
     ensures bound { result ≤ 2 * length cluster.now }
 {
-    match cluster.as_bytes() {
-        [byte] if is_printable(*byte) => 1,
+    let bytes = cluster.as_bytes();
+    match bytes.first() {
+        Some(lead) if lone_len(*lead) == bytes.len() => { if bytes.len() == 3 { 2 } else { 1 } }
         _ => cluster.width(),
     }
 }
@@ -149,8 +150,10 @@ fn clusters_width(text: &str) -> usize
     ensures bound { result ≤ 2 * length text.now }
 {
     let mut total: usize = 0;
-    for cluster in text.graphemes(true) {
+    let mut rest = text;
+    while let Some((cluster, more)) = split_cluster(rest) {
         total += cluster_width(cluster);
+        rest = more;
     }
     total
 }

@@ -4,6 +4,7 @@
 mod cell;
 mod change;
 mod characters;
+mod clusters;
 mod color;
 pub mod laws;
 mod measure;

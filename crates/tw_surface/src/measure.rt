@@ -8,8 +8,8 @@ ghost use Rattle.tw_surface.specs.Tracks.{place_of, Measures, start_track};
 
 use crate::cell::cluster_width;
 use crate::characters::{is_plain_text, is_printable_text};
+use crate::clusters::split_cluster;
 use crate::size::MAX_REACH;
-use unicode_segmentation::UnicodeSegmentation;
 
 /// A piece of a text, by what it does to the cursor.
 #[derive(Debug, Copy, Clone, PartialEq, Eq)]
@@ -145,8 +145,10 @@ fn measure_clusters(cols: usize, start: Track, text: &str) -> Option<Track>
     ensures { Measures start (places_after cols (map cluster_piece (graphemes true text.now)) (place_of start)) result }
 {
     let mut track = start;
-    for cluster in text.graphemes(true) {
+    let mut rest = text;
+    while let Some((cluster, more)) = split_cluster(rest) {
         track = track.advance(cols, Piece::of_cluster(cluster))?;
+        rest = more;
     }
     Some(track)
 }

@@ -1,0 +1,57 @@
+//! Texts cut behind their first extended grapheme cluster.
+
+ghost use Rattle.std.specs.Prelude.{◌≡◌, ◌<◌, ◌≤◌, ◌∷◌, ◌++◌, [], length, true, MatchOption};
+ghost use Rattle.unicode_segmentation.specs.Grapheme.{graphemes};
+ghost use Rattle.tw_surface.specs.Clusters.{lone_len, IsFirstCluster};
+
+use unicode_segmentation::UnicodeSegmentation;
+
+/// The bytes of a character that begins with this byte, where it tells that the character is a cluster of its own
+/// before another one like it: printable ASCII, Latin (U+00C0 to U+02FF) and Han (U+4000 to U+9FFF). Else 0.
+pub fn lone_len(lead: u8) -> usize
+    ensures value { result ≡ lone_len lead }
+    ensures bound { result ≤ 3 }
+{
+    match lead {
+        b' '..=b'~' => 1,
+        0xC3..=0xCB => 2,
+        0xE4..=0xE9 => 3,
+        _ => 0,
+    }
+}
+
+/// The bytes of the first cluster of a text that is not empty. Two such characters in a row tell it at once.
+fn first_len(text: &str) -> usize
+    requires { 0 < length text.now }
+    ensures { IsFirstCluster text.now result }
+{
+    let bytes = text.as_bytes();
+    let len = lone_len(bytes[0]);
+    if len > 0 {
+        match bytes.get(len) {
+            Some(next) => {
+                if lone_len(*next) > 0 {
+                    return len;
+                }
+            }
+            None => return len,
+        }
+    }
+    match text.graphemes(true).next() {
+        Some(cluster) => cluster.len(),
+        None => unreachable!(),
+    }
+}
+
+/// The first cluster of a text and what follows it, or `None` where the text is empty.
+pub fn split_cluster(text: &str) -> Option<(&str, &str)>
+    ensures { MatchOption result
+        (graphemes true text.now ≡ [])
+        (λ (cluster, rest). (text.now ≡ cluster.now ++ rest.now) × (0 < length cluster.now)
+        × (graphemes true text.now ≡ cluster.now ∷ graphemes true rest.now)) }
+{
+    if text.is_empty() {
+        return None;
+    }
+    Some(text.split_at(first_len(text)))
+}
