@@ -20,6 +20,7 @@ use Rattle.unicode_segmentation.specs.Grapheme.{break_by_pair, ends_in_linker, i
 use Rattle.unicode_segmentation.specs.Segments.{cut}
 use Rattle.unicode_segmentation.proofs.BoolLemmas.{or-true}
 use Rattle.unicode_segmentation.proofs.CursorLemmas.{break_between_regionals}
+use Rattle.tw_surface.specs.Clusters.{is_joined}
 
 -- a line end or a control character
 is_control : GraphemeClusterBreak → Bool
@@ -28,20 +29,13 @@ is_control Cr = true
 is_control Lf = true
 is_control _ = false
 
--- a character that joins what stands before it
-is_joined : GraphemeClusterBreak → Bool
-is_joined Extend = true
-is_joined Zwj = true
-is_joined SpacingMark = true
-is_joined _ = false
-
 -- a mark that may stand behind the linker of a conjunct
 abbrev pub is_mark : IndicConjunctBreak → Bool
 is_mark conjuncts.Extend = true
 is_mark _ = false
 
 -- a linker, or such a mark
-is_linking : IndicConjunctBreak → Bool
+abbrev pub is_linking : IndicConjunctBreak → Bool
 is_linking conjuncts.Linker = true
 is_linking conjuncts.Extend = true
 is_linking _ = false
@@ -52,12 +46,12 @@ control_no_pictograph =
     Stepped-everywhere _ (zip_stepped (λ g e. not (is_control g && e)) grapheme_cluster_break is_extended_pictographic grapheme_cluster_break_stepped is_extended_pictographic_stepped) refl
 
 control_no_linker : (c : ℕ) → not (is_control (grapheme_cluster_break c) && is_linking (indic_conjunct_break c)) ≡ true
-unfolding is_control is_linking ucd_breaks ucd_derived
+unfolding is_control ucd_breaks ucd_derived
 control_no_linker =
     Stepped-everywhere _ (zip_stepped (λ g v. not (is_control g && is_linking v)) grapheme_cluster_break indic_conjunct_break grapheme_cluster_break_stepped indic_conjunct_break_stepped) refl
 
 mark_joined : (c : ℕ) → not (is_mark (indic_conjunct_break c) && not (is_joined (grapheme_cluster_break c))) ≡ true
-unfolding is_joined ucd_breaks ucd_derived
+unfolding ucd_breaks ucd_derived
 mark_joined =
     Stepped-everywhere _ (zip_stepped (λ v g. not (is_mark v && not (is_joined g))) indic_conjunct_break grapheme_cluster_break indic_conjunct_break_stepped grapheme_cluster_break_stepped) refl
 
@@ -67,14 +61,13 @@ unfolding is_control
 control_no_extend Extend h = absurd (false≢true h)
 control_no_extend _ h = refl
 
-ends_in_linker-not : (v : IndicConjunctBreak) (vs : List IndicConjunctBreak) → is_linking v ≡ false → ends_in_linker (v ∷ vs) ≡ false
-unfolding is_linking ends_in_linker
+pub ends_in_linker-not : (v : IndicConjunctBreak) (vs : List IndicConjunctBreak) → is_linking v ≡ false → ends_in_linker (v ∷ vs) ≡ false
+unfolding ends_in_linker
 ends_in_linker-not conjuncts.Linker vs h = absurd (false≢true (sym h))
 ends_in_linker-not conjuncts.Extend vs h = absurd (false≢true (sym h))
 ends_in_linker-not _ vs h = refl
 
 joined-from_extend : (g : GraphemeClusterBreak) → (is_extend g || is_zwj g) ≡ true → is_joined g ≡ true
-unfolding is_joined
 joined-from_extend Extend h = refl
 joined-from_extend Zwj h = refl
 joined-from_extend SpacingMark h = refl
@@ -83,7 +76,7 @@ joined-from_extend _ h = h
 -- only behind a control character does a character that joins begin a cluster
 control_before : (left right : GraphemeClusterBreak) (rest : Bool) → is_joined right ≡ true
     → unwrap_or (break_by_pair true left right) rest ≡ true → is_control left ≡ true
-unfolding is_control is_joined
+unfolding is_control
 control_before Control right rest joined breaks = refl
 control_before Cr right rest joined breaks = refl
 control_before Lf right rest joined breaks = refl

@@ -1,29 +1,29 @@
 -- Characters that are a cluster each in a row of them, as their first bytes tell.
-use Rattle.std.proofs.Common.{◌≡◌, ℕ, ◌<◌, ◌≤◌, ◌+◌, ◌/◌, Bool, true, false, not, ◌&&◌, ◌||◌, List, [], ◌∷◌, ◌++◌, map, length, length-append, drop, drop_at, get_or, get_or-drop, add-zero, leb, refl, sym, ap, subst, ◌∙◌, arith, ⊎_elim}
+use Rattle.std.proofs.Common.{◌≡◌, ℕ, ◌<◌, ◌≤◌, ◌+◌, ◌/◌, Bool, true, false, not, ◌&&◌, ◌||◌, List, [], ◌∷◌, ◌++◌, map, length, length-append, drop, drop_at, get_or, leb, refl, unwrap_or, sym, ap, subst, ◌∙◌, arith, ⊎_elim}
 use Rattle.std.proofs.lemmas.Bool.{cases_lt, and_parts, not-true, leb-true, false≢true}
 use Rattle.std.proofs.lemmas.Bool.Decides.{nat_tests}
-use Rattle.std.proofs.lemmas.Str.{chars-nil, encodes-chars, chars_past_char, length-encode, encode_ascii, IsUtf8-past_char}
+use Rattle.std.proofs.lemmas.Str.{chars-nil, encodes-chars, chars_past_char, length-encode, encode_ascii, IsUtf8-past_char, IsCharBoundary-at_seam}
 use Rattle.std.specs.Char.{encode_utf8}
 use Rattle.std.specs.Prelude.{encode_utf8_all, if◌then◌else◌}
-use Rattle.std.specs.Str.{chars, IsUtf8}
+use Rattle.std.specs.Str.{chars, IsUtf8, IsCharBoundary}
 use Rattle.ucd_table.specs.Rows.{Range, in_ranges}
 use Rattle.ucd_table.proofs.Computing.{tables}
 use Rattle.ucd_table.proofs.Facts.{Stepped-everywhere}
 use Rattle.ucd_table.proofs.Stepped.{of_ranges, zip_stepped}
 use Rattle.ucd_breaks.specs.GraphemeClusterBreak.{grapheme_cluster_break}
 use Rattle.ucd_breaks.specs.declared.GraphemeClusterBreak.{GraphemeClusterBreak}
-use Rattle.ucd_breaks.specs.declared.GraphemeClusterBreak.TheVariants.{Other}
+use Rattle.ucd_breaks.specs.declared.GraphemeClusterBreak.TheVariants.{Control, Cr, Extend, Lf, Other, SpacingMark, Zwj}
 use Rattle.ucd_breaks.proofs.Computing.{ucd_breaks}
 use Rattle.ucd_breaks.proofs.GraphemeClusterBreakLemmas.{grapheme_cluster_break_stepped}
 use Rattle.ucd_derived.specs.IndicConjunctBreak.{indic_conjunct_break}
 use Rattle.ucd_derived.proofs.Computing.{ucd_derived}
 use Rattle.ucd_derived.proofs.IndicConjunctBreakLemmas.{indic_conjunct_break_stepped}
-use Rattle.unicode_segmentation.specs.Grapheme.{is_consonant, ends_in_half_flag, is_grapheme_break, graphemes}
+use Rattle.unicode_segmentation.specs.Grapheme.{break_by_pair, ends_in_half_flag, is_grapheme_break, graphemes}
 use Rattle.unicode_segmentation.specs.Segments.{cut, prepend}
-use Rattle.unicode_segmentation.proofs.BoolLemmas.{and-false}
+use Rattle.tw_surface.proofs.ClusterSeams.{is_linking, ends_in_linker-not}
 use Rattle.tw_surface.proofs.ClusterCuts.{clusters_of, IsFirstCluster-from}
 use Rattle.tw_surface.specs.Characters.{is_printable}
-use Rattle.tw_surface.specs.Clusters.{lone_len, IsFirstCluster}
+use Rattle.tw_surface.specs.Clusters.{lone_len, is_joined, starts_apart, IsFirstCluster}
 
 -- printable ASCII, Latin of two bytes, or Han
 pub record IsLone (c width : ℕ) : Type 0 where
@@ -143,13 +143,13 @@ unfolding is_other
 other-is Other h = refl
 other-is _ h = absurd (false≢true h)
 
-lone_facts : (c : ℕ) → (not (in_ranges lone_ranges c) || (is_other (grapheme_cluster_break c) && not (is_consonant (indic_conjunct_break c)))) ≡ true
+lone_facts : (c : ℕ) → (not (in_ranges lone_ranges c) || (is_other (grapheme_cluster_break c) && not (is_linking (indic_conjunct_break c)))) ≡ true
 unfolding is_other tables ucd_breaks ucd_derived
 lone_facts =
     Stepped-everywhere _
-    (zip_stepped (λ inside alone. not inside || alone) (in_ranges lone_ranges) (λ c. is_other (grapheme_cluster_break c) && not (is_consonant (indic_conjunct_break c)))
+    (zip_stepped (λ inside alone. not inside || alone) (in_ranges lone_ranges) (λ c. is_other (grapheme_cluster_break c) && not (is_linking (indic_conjunct_break c)))
     (of_ranges lone_ranges refl)
-    (zip_stepped (λ g v. is_other g && not (is_consonant v)) grapheme_cluster_break indic_conjunct_break grapheme_cluster_break_stepped indic_conjunct_break_stepped))
+    (zip_stepped (λ g v. is_other g && not (is_linking v)) grapheme_cluster_break indic_conjunct_break grapheme_cluster_break_stepped indic_conjunct_break_stepped))
     refl
 
 in_lone_ranges : (c width : ℕ) → IsLone c width → 0 < width → width ≤ 3 → in_ranges lone_ranges c ≡ true
@@ -168,17 +168,28 @@ in_lone_ranges c width lone some few =
 
 pub record StandsAlone (c : ℕ) : Type 0 where
   pub other : grapheme_cluster_break c ≡ Other
-  pub no_consonant : is_consonant (indic_conjunct_break c) ≡ false
+  pub no_linker : is_linking (indic_conjunct_break c) ≡ false
 
 StandsAlone-from : (c width : ℕ) → IsLone c width → 0 < width → width ≤ 3 → StandsAlone c
 StandsAlone-from c width lone some few =
-    let facts = and_parts (is_other (grapheme_cluster_break c)) (not (is_consonant (indic_conjunct_break c))) (rw (in_lone_ranges c width lone some few) at (lone_facts c)) in
-    record { other = other-is (grapheme_cluster_break c) facts.0; no_consonant = not-true _ facts.1 }
+    let facts = and_parts (is_other (grapheme_cluster_break c)) (not (is_linking (indic_conjunct_break c))) (rw (in_lone_ranges c width lone some few) at (lone_facts c)) in
+    record { other = other-is (grapheme_cluster_break c) facts.0; no_linker = not-true _ facts.1 }
 
--- a cluster ends between two of them
-breaks_between : (c d : ℕ) (after : List ℕ) → StandsAlone c → StandsAlone d → is_grapheme_break true (c ∷ []) (d ∷ after) ≡ true
+-- no rule joins a character to one of them unless that character itself asks for it
+no_pair : (g : GraphemeClusterBreak) (rest : Bool) → is_joined g ≡ false → unwrap_or (break_by_pair true Other g) (not (false || false || false)) ≡ true
+no_pair Control rest h = refl
+no_pair Cr rest h = refl
+no_pair Lf rest h = refl
+no_pair Extend rest h = sym h
+no_pair Zwj rest h = sym h
+no_pair SpacingMark rest h = sym h
+no_pair _ rest h = refl
+
+-- so a cluster ends behind it
+breaks_behind : (c d : ℕ) (after : List ℕ) → StandsAlone c → is_joined (grapheme_cluster_break d) ≡ false → is_grapheme_break true (c ∷ []) (d ∷ after) ≡ true
 unfolding is_grapheme_break ends_in_half_flag
-breaks_between c d after h k = rw (h.other, k.other, k.no_consonant, and-false _) refl
+breaks_behind c d after h apart =
+    rw (h.other, ends_in_linker-not (indic_conjunct_break c) [] h.no_linker) (no_pair (grapheme_cluster_break d) true apart)
 
 lone_len-few : (b : ℕ) → lone_len b ≤ 3
 lone_len-few b = grind (arith, nat_tests)
@@ -218,22 +229,34 @@ module _ (text : List ℕ) (u : IsUtf8 text) (some : 0 < length text) (width : �
   unfolding cut is_grapheme_break
   first_alone end = first_piece [] (clusters_of text (begins.character ∷ []) (alone_is end))
 
-  -- and before another one
-  pub first_before : width < length text → 0 < lone_len (get_or text width 0) → IsFirstCluster text width
+  -- and where none that joins it stands behind it
+  pub first_before : width < length text → starts_apart (chars (drop width text)) ≡ true → IsFirstCluster text width
   unfolding cut
-  first_before inside next_lone =
+  first_before inside apart =
       let c = begins.character in
       let from : drop width text ≡ begins.rest = ap (drop width) begins.whole ∙ drop_at (encode_utf8 c) begins.rest width bytes in
-      let byte : get_or begins.rest 0 0 ≡ get_or text width 0 =
-      ap (λ t. get_or t 0 0) (sym from) ∙ get_or-drop width text 0 0 ∙ ap (λ n. get_or text n 0) (add-zero width) in
-      let next : 0 < lone_len (get_or begins.rest 0 0) = subst (λ b. 0 < lone_len b) (sym byte) next_lone in
-      let second = BeginsLone-from begins.rest begins.utf8 (omega (arith, parts)) next in
-      let d = second.character in
-      let cs = chars second.rest in
-      let is : chars text ≡ c ∷ d ∷ cs =
-      chars_past_char text begins.rest c u begins.whole ∙ ap (λ t. c ∷ t) (chars_past_char begins.rest second.rest d begins.utf8 second.whole) in
-      let after = cut (is_grapheme_break true) (c ∷ []) (d ∷ cs) [] in
-      let breaks = breaks_between c d (cs ++ []) alone (StandsAlone-from d (lone_len (get_or begins.rest 0 0)) second.lone next (lone_len-few (get_or begins.rest 0 0))) in
-      let cut_there : map encode_utf8_all (cut (is_grapheme_break true) [] (c ∷ d ∷ cs) []) ≡ encode_utf8_all (c ∷ []) ∷ map encode_utf8_all after =
-      ap (λ b. map encode_utf8_all (if b then (c ∷ []) ∷ after else prepend (c ∷ []) after)) breaks in
-      first_piece (map encode_utf8_all after) (clusters_of text (c ∷ d ∷ cs) is ∙ cut_there)
+      by (chars begins.rest) refl (ap (λ t. starts_apart (chars t)) (sym from) ∙ apart)
+    where
+      by : (cs : List ℕ) → chars begins.rest ≡ cs → starts_apart (chars begins.rest) ≡ true → IsFirstCluster text width
+      by [] none apart =
+          let empty : length begins.rest ≡ 0 = ap length (sym (encodes-chars begins.rest begins.utf8) ∙ ap encode_utf8_all none) in
+          absurd (omega (arith, parts))
+      by (d ∷ cs) rest apart =
+          let c = begins.character in
+          let is : chars text ≡ c ∷ d ∷ cs = chars_past_char text begins.rest c u begins.whole ∙ ap (λ t. c ∷ t) rest in
+          let after = cut (is_grapheme_break true) (c ∷ []) (d ∷ cs) [] in
+          let breaks = breaks_behind c d (cs ++ []) alone (not-true _ (ap starts_apart (sym rest) ∙ apart)) in
+          let cut_there : map encode_utf8_all (cut (is_grapheme_break true) [] (c ∷ d ∷ cs) []) ≡ encode_utf8_all (c ∷ []) ∷ map encode_utf8_all after =
+          ap (λ b. map encode_utf8_all (if b then (c ∷ []) ∷ after else prepend (c ∷ []) after)) breaks in
+          first_piece (map encode_utf8_all after) (clusters_of text (c ∷ d ∷ cs) is ∙ cut_there)
+
+  -- behind it begins a character
+  pub boundary_behind : IsCharBoundary text width
+  boundary_behind = subst (IsCharBoundary text) bytes (IsCharBoundary-at_seam text (encode_utf8 begins.character) begins.rest begins.whole begins.utf8)
+
+-- another one of them does not join it
+pub lone_starts_apart : (text : List ℕ) → IsUtf8 text → 0 < length text → 0 < lone_len (get_or text 0 0) → starts_apart (chars text) ≡ true
+lone_starts_apart text u some lone =
+    let first = BeginsLone-from text u some lone in
+    let alone = StandsAlone-from first.character (lone_len (get_or text 0 0)) first.lone lone (lone_len-few (get_or text 0 0)) in
+    ap starts_apart (chars_past_char text first.rest first.character u first.whole) ∙ ap (λ g. not (is_joined g)) alone.other

@@ -1,9 +1,11 @@
 //! Texts cut behind their first extended grapheme cluster.
 
 ghost use Rattle.std.specs.Prelude.{◌≡◌, ◌<◌, ◌≤◌, ◌∷◌, ◌++◌, [], length, true, MatchOption};
+ghost use Rattle.std.specs.Str.{chars};
 ghost use Rattle.unicode_segmentation.specs.Grapheme.{graphemes};
-ghost use Rattle.tw_surface.specs.Clusters.{lone_len, IsFirstCluster};
+ghost use Rattle.tw_surface.specs.Clusters.{lone_len, starts_apart, IsFirstCluster};
 
+use ucd_breaks::GraphemeClusterBreak;
 use unicode_segmentation::UnicodeSegmentation;
 
 /// The bytes of a character that begins with this byte, where it tells that the character is a cluster of its own
@@ -20,7 +22,23 @@ pub fn lone_len(lead: u8) -> usize
     }
 }
 
-/// The bytes of the first cluster of a text that is not empty. Two such characters in a row tell it at once.
+/// Whether a text is empty or begins with a character that does not join whatever stands before it.
+fn starts_apart(text: &str) -> bool
+    ensures { result ≡ starts_apart (chars text.now) }
+{
+    match text.chars().next() {
+        Some(first) => !matches!(
+            GraphemeClusterBreak::for_char(first),
+            GraphemeClusterBreak::Extend
+                | GraphemeClusterBreak::Zwj
+                | GraphemeClusterBreak::SpacingMark
+        ),
+        None => true,
+    }
+}
+
+/// The bytes of the first cluster of a text that is not empty. Such a character at its start tells them, where none
+/// that joins it follows.
 fn first_len(text: &str) -> usize
     requires { 0 < length text.now }
     ensures { IsFirstCluster text.now result }
@@ -30,7 +48,7 @@ fn first_len(text: &str) -> usize
     if len > 0 {
         match bytes.get(len) {
             Some(next) => {
-                if lone_len(*next) > 0 {
+                if lone_len(*next) > 0 || starts_apart(&text[len..]) {
                     return len;
                 }
             }
