@@ -133,7 +133,9 @@ pub fn unicode_column_width(s: &str) -> usize
     }
 }
 
-/// The columns of a grapheme cluster. One character of printable ASCII, which most clusters are, is told at once.
+/// The columns of a grapheme cluster. One character that its first byte tells to be narrow or wide, which most clusters
+/// are, is told at once.
+#[inline]
 pub fn cluster_width(cluster: &str) -> usize
     ensures value { result ≡ cluster_width cluster.now }
     ensures bound { result ≤ 2 * length cluster.now }
@@ -141,8 +143,17 @@ pub fn cluster_width(cluster: &str) -> usize
     let bytes = cluster.as_bytes();
     match bytes.first() {
         Some(lead) if lone_len(*lead) == bytes.len() => { if bytes.len() == 3 { 2 } else { 1 } }
-        _ => cluster.width(),
+        _ => ruled_width(cluster),
     }
+}
+
+/// The same by the rules for each character. It is a function of its own, so that the one above stays short.
+#[inline(never)]
+fn ruled_width(cluster: &str) -> usize
+    ensures value { result ≡ cluster_width cluster.now }
+    ensures bound { result ≤ 2 * length cluster.now }
+{
+    cluster.width()
 }
 
 fn clusters_width(text: &str) -> usize

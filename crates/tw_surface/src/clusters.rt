@@ -10,6 +10,7 @@ use unicode_segmentation::UnicodeSegmentation;
 
 /// The bytes of a character that begins with this byte, where it tells that the character is a cluster of its own
 /// before another one like it: printable ASCII, Latin (U+00C0 to U+02FF) and Han (U+4000 to U+9FFF). Else 0.
+#[inline]
 pub fn lone_len(lead: u8) -> usize
     ensures value { result ≡ lone_len lead }
     ensures bound { result ≤ 3 }
@@ -39,6 +40,7 @@ fn starts_apart(text: &str) -> bool
 
 /// The bytes of the first cluster of a text that is not empty. Such a character at its start tells them, where none
 /// that joins it follows.
+#[inline]
 fn first_len(text: &str) -> usize
     requires { 0 < length text.now }
     ensures { IsFirstCluster text.now result }
@@ -55,6 +57,15 @@ fn first_len(text: &str) -> usize
             None => return len,
         }
     }
+    ruled_len(text)
+}
+
+/// The same by the rules for each pair of characters. It is a function of its own, so that the one above stays short.
+#[inline(never)]
+fn ruled_len(text: &str) -> usize
+    requires { 0 < length text.now }
+    ensures { IsFirstCluster text.now result }
+{
     match text.graphemes(true).next() {
         Some(cluster) => cluster.len(),
         None => unreachable!(),
@@ -62,6 +73,7 @@ fn first_len(text: &str) -> usize
 }
 
 /// The first cluster of a text and what follows it, or `None` where the text is empty.
+#[inline]
 pub fn split_cluster(text: &str) -> Option<(&str, &str)>
     ensures { MatchOption result
         (graphemes true text.now ≡ [])

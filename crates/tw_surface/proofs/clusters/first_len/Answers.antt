@@ -2,7 +2,6 @@ use Rattle.std.proofs.Common.{◌≡◌, ◌<◌, true, drop, get_or, length, le
 use Rattle.std.proofs.lemmas.Str.{IsUtf8-drop}
 use Rattle.std.specs.Str.{chars}
 use Rattle.tw_surface.specs.Clusters.{lone_len, starts_apart}
-use Rattle.tw_surface.proofs.ClusterCuts.{IsFirstCluster-from, some_cluster}
 use Rattle.tw_surface.proofs.LoneCharacters.{boundary_behind, first_alone, first_before, lone_starts_apart}
 use Rattle.tw_surface.proofs.clusters.first_len.Goals.{then-lone_len-gt0-via-then-lone_len-gt0, then-lone_len-gt0-via-else-lone_len-gt0+then-starts_apart}
 use Rattle.tw_surface.proofs.clusters.first_len.Goals as goal
@@ -37,9 +36,3 @@ returns-in-None c =
     let bytes = c.as_bytes-bytes.ensures.value in
     first_alone c.args.text.now c.utf8.text c.requires c.lone_len-len.result (rw (← bytes) c.lone_len-len.ensures.value) c.if-len-gt0.true
     (rw (← bytes) c.in-None.ensures.lookup.3)
-
-pub unreachable-requires : goal.unreachable-requires
-unreachable-requires c = some_cluster c.args.text.now c.utf8.text c.requires (sym c.graphemes.ensures.left ∙ c.in-None-next.ensures.steps.0)
-
-pub returns : goal.returns
-returns c = IsFirstCluster-from c.args.text.now c.utf8.text c.in-Some-next.cluster.now _ (sym c.graphemes.ensures.left ∙ c.in-Some-next.ensures.steps)
