@@ -3,6 +3,7 @@ pub mod Numbers
 pub mod Pastes
 pub mod Tokens
 pub mod Pieces
+pub mod Resumes
 pub mod Keys
 pub mod WideCharacters
 pub mod Reports

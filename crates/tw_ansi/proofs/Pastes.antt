@@ -25,13 +25,13 @@ paste_step bytes i all some not so_far =
     ∙ mapped i _ ∙ ap (λ o. option_map (λ n. n + i) o) (sym (goes_on (drop i bytes) some not)) ∙ so_far
 
 -- what begins with a text is as long
-starts_long : (needle xs : List ℕ) → starts_with eqb xs needle ≡ true → length needle ≤ length xs
+pub starts_long : (needle xs : List ℕ) → starts_with eqb xs needle ≡ true → length needle ≤ length xs
 starts_long [] xs h = omega arith
 starts_long (n ∷ needle) [] h = absurd cc
 starts_long (n ∷ needle) (x ∷ xs) h = omega (arith, starts_long needle xs (and_parts _ _ h).1)
 
 -- whether it begins so is not changed by what follows
-starts_more : (needle xs more : List ℕ) → length needle ≤ length xs → starts_with eqb (xs ++ more) needle ≡ starts_with eqb xs needle
+pub starts_more : (needle xs more : List ℕ) → length needle ≤ length xs → starts_with eqb (xs ++ more) needle ≡ starts_with eqb xs needle
 starts_more needle xs more fits = ap (λ front. pointwise eqb needle front) (take-append-le (length needle) xs more fits)
 
 within_if : (t : Bool) (o : Option ℕ) (n m : ℕ) → (t ≡ true → 6 ≤ m) → m ≡ n + 1 → IfSome o (λ k. k + 6 ≤ n)

@@ -2,6 +2,7 @@ pub mod Sequences
 pub mod Encoding
 pub mod KeyBytes
 pub mod KeyLaws
+pub mod Resuming
 pub mod EcmaScreen
 pub mod EcmaLaws
 pub mod EcmaTexts

@@ -3,17 +3,17 @@
 ghost use Rattle.std.specs.Prelude.{◌≡◌, ◌+◌, ◌<◌, ◌≤◌, ◌^◌, length, List, [], IfSome, MatchOption};
 ghost use Rattle.std.specs.List.{list_all, prefix_len, position_or_len};
 ghost use Rattle.tw_input.specs.Modifiers.{modifier_bits};
-ghost use Rattle.tw_ansi.specs.KeyBytes.{is_parameter, is_numeric, is_semicolon, is_letter, number_of, first_number, second_number, held, sequence_key, numbers_token, paste_len, paste_of, paste_at, sequence_at, control_at, number_keys, letter_keys, key_in};
+ghost use Rattle.tw_ansi.specs.KeyBytes.{is_parameter, is_numeric, is_semicolon, is_letter, number_of, first_number, second_number, held, sequence_key, numbers_token, paste_len, paste_of, sequence_at, ended_at, control_at, number_keys, letter_keys, key_in};
 
 use crate::token::{Scanned, Token, key};
 use bitflags::Flags;
 use tw_input::{KeyCode, KeyEvent, Modifiers};
 
 /// What ends a pasted text.
-const PASTE_END: [u8; 6] = *b"\x1b[201~";
+pub const PASTE_END: [u8; 6] = *b"\x1b[201~";
 
 /// How many bytes are at the front that can stand in a control sequence before its letter.
-fn parameters_len(bytes: &[u8]) -> usize
+pub fn parameters_len(bytes: &[u8]) -> usize
     ensures value { result ≡ prefix_len is_parameter bytes.now }
     ensures bound { result ≤ length bytes.now }
 {
@@ -154,7 +154,7 @@ fn numbers_token(first: u32, second: u32, letter: u8) -> Token
 }
 
 /// How many bytes stand before the first end of a pasted text.
-fn paste_len(bytes: &[u8]) -> Option<usize>
+pub fn paste_len(bytes: &[u8]) -> Option<usize>
     ensures value { result ≡ paste_len bytes.now }
     ensures bound { IfSome result (λ len. len + 6 ≤ length bytes.now) }
 {
@@ -166,22 +166,20 @@ fn paste_len(bytes: &[u8]) -> Option<usize>
     None
 }
 
-/// A pasted text behind a sequence of so many bytes.
-fn paste_at(from: usize, bytes: &[u8], is_last: bool) -> Option<Scanned>
-    requires { from + length bytes.now < 2 ^ 64 }
-    ensures { result ≡ paste_at is_last from bytes.now }
+/// A pasted text behind a sequence of so many bytes, by where its end begins.
+pub fn paste_of(from: usize, left: usize, len: Option<usize>, is_last: bool) -> Option<Scanned>
+    requires all { from + left < 2 ^ 64 }
+    requires within { IfSome len (λ len. len + 6 ≤ left) }
+    ensures { result ≡ paste_of is_last from left len }
 {
-    match paste_len(bytes) {
+    match len {
         Some(len) => Some(Scanned {
             token: Token::Paste { from, len },
             used: from + len + PASTE_END.len(),
         }),
         None if is_last => Some(Scanned {
-            token: Token::Paste {
-                from,
-                len: bytes.len(),
-            },
-            used: from + bytes.len(),
+            token: Token::Paste { from, len: left },
+            used: from + left,
         }),
         None => None,
     }
@@ -210,12 +208,28 @@ fn sequence_at(parameters: &[u8], letter: u8, bytes: &[u8], is_last: bool) -> Op
     }
     let first = first_number(parameters);
     if letter == b'~' && first == 200 {
-        return paste_at(used, bytes, is_last);
+        return paste_of(used, bytes.len(), paste_len(bytes), is_last);
     }
     Some(Scanned {
         token: numbers_token(first, second_number(parameters), letter),
         used,
     })
+}
+
+/// Parameters, and what stands behind them.
+pub fn ended_at(parameters: &[u8], bytes: &[u8], is_last: bool) -> Option<Scanned>
+    requires { length parameters.now + length bytes.now + 3 < 2 ^ 64 }
+    ensures { result ≡ ended_at is_last parameters.now bytes.now }
+{
+    match bytes {
+        [] if is_last => key(KeyCode::Char('['), Modifiers::ALT, 2),
+        [] => None,
+        [letter @ 0x40..=0x7e, rest @ ..] => sequence_at(parameters, *letter, rest, is_last),
+        _ => Some(Scanned {
+            token: Token::Unknown,
+            used: 2 + parameters.len(),
+        }),
+    }
 }
 
 /// What stands behind ESC [.
@@ -224,13 +238,5 @@ pub fn control_at(bytes: &[u8], is_last: bool) -> Option<Scanned>
     ensures { result ≡ control_at is_last bytes.now }
 {
     let len = parameters_len(bytes);
-    match &bytes[len..] {
-        [] if is_last => key(KeyCode::Char('['), Modifiers::ALT, 2),
-        [] => None,
-        [letter @ 0x40..=0x7e, rest @ ..] => sequence_at(&bytes[..len], *letter, rest, is_last),
-        _ => Some(Scanned {
-            token: Token::Unknown,
-            used: 2 + len,
-        }),
-    }
+    ended_at(&bytes[..len], &bytes[len..], is_last)
 }

@@ -8,7 +8,7 @@ use crate::control::control_at;
 use crate::token::{Scanned, key, with_alt};
 use tw_input::{KeyCode, Modifiers};
 
-const ESC: u8 = 0x1b;
+pub const ESC: u8 = 0x1b;
 
 /// The token at the front of the bytes, or none where more bytes are wanted. An ESC alone is the key Escape.
 /// Where these are the last bytes there is always one.
@@ -23,7 +23,7 @@ pub fn scan(bytes: &[u8], is_last: bool) -> Option<Scanned>
 }
 
 #[tactic(auto, unfolding(crate::specs::KeyBytes::token_at))]
-fn token_at(bytes: &[u8], is_last: bool) -> Option<Scanned>
+pub fn token_at(bytes: &[u8], is_last: bool) -> Option<Scanned>
     ensures { result ≡ token_at is_last bytes.now }
 {
     match bytes {

@@ -6,11 +6,13 @@ mod control;
 mod decode;
 mod encode;
 pub mod laws;
+mod resume;
 mod sequence;
 mod token;
 
 pub use decode::scan;
 pub use encode::Encoder;
+pub use resume::{Progress, scan_on};
 pub use token::{Scanned, Token};
 
 #[cfg(test)]

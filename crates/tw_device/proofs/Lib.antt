@@ -1,1 +1,2 @@
 pub mod LiveLemmas
+pub mod ReadLemmas

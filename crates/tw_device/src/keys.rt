@@ -1,14 +1,15 @@
 //! Events that nobody knows before they come.
 
-ghost use Rattle.std.specs.Prelude.{◌≡◌, ◌++◌, ◌∷◌, [], List, IfOk, IfErr, OnErr, MatchOption};
+ghost use Rattle.std.specs.Prelude.{◌≡◌, ◌≤◌, ◌++◌, ◌∷◌, [], List, length, drop, IfOk, IfErr, OnOk, OnErr, MatchOption};
 ghost use Rattle.tw_input.specs.EventView.{event_view, EventView};
 ghost use Rattle.tw_device.specs.Logs.{events_of};
 ghost use Rattle.tw_device.specs.declared.keys.SourceState.TheVariants.{AtEnd, Refused as HasRefused};
 
 use crate::logs::EventLog;
+use crate::unread::Unread;
 use std::alloc::{AllocError, AllocFailed, Global};
 use std::io::Read;
-use tw_ansi::{Scanned, Token, scan};
+use tw_ansi::{Scanned, Token};
 use tw_input::InputEvent;
 use tw_terminal::TerminalFault;
 
@@ -42,7 +43,7 @@ pub trait EventSource {
 
 /// Why no event is told.
 #[derive(Debug, Clone, Copy, PartialEq, Eq)]
-enum Refused {
+pub(crate) enum Refused {
     Read,
     Memory,
 }
@@ -73,8 +74,7 @@ impl From<Refused> for TerminalFault {
 pub struct KeyReader<R> {
     alloc: Global,
     reader: R,
-    /// The bytes that were read and not yet taken.
-    unread: Vec<u8>,
+    unread: Unread,
     state: SourceState,
     told: EventLog,
 }
@@ -101,7 +101,7 @@ impl<R: Read> KeyReader<R> {
         KeyReader {
             alloc,
             reader,
-            unread: Vec::new(alloc),
+            unread: Unread::new(alloc),
             state: SourceState::Going,
             told: EventLog::Nothing,
         }
@@ -113,17 +113,15 @@ impl<R: Read> KeyReader<R> {
     {
         let mut is_last = false;
         for _ in 0..u64::MAX {
-            if self.unread.is_empty() {
-                if is_last {
-                    return Ok(None);
+            match self.unread.scan(is_last) {
+                Some(found) => {
+                    if let Some(event) = self.take(found)? {
+                        return Ok(Some(event));
+                    }
                 }
-            } else if let Some(found) = scan(self.unread.as_slice(), is_last) {
-                if let Some(event) = self.take(found)? {
-                    return Ok(Some(event));
-                }
-                continue;
+                None if is_last => return Ok(None),
+                None => is_last = !self.unread.read_from(&mut self.reader)?,
             }
-            is_last = !self.read_more()?;
         }
         Err(Refused::Read)
     }
@@ -131,7 +129,9 @@ impl<R: Read> KeyReader<R> {
     /// Takes a token. Bytes that mean nothing are taken and answer none. A refusal takes none, so that the next call
     /// finds the token again.
     fn take(&mut self, found: Scanned) -> Result<Option<InputEvent>, Refused>
+        requires { found.used ≤ length self.old.unread }
         ensures told { events_of self.new.told ≡ events_of self.old.told }
+        ensures taken { OnOk result (self.new.unread ≡ drop found.used self.old.unread) }
         ensures kept { OnErr result (self.new.unread ≡ self.old.unread) }
     {
         let Scanned { token, used } = found;
@@ -139,37 +139,14 @@ impl<R: Read> KeyReader<R> {
             Token::Key(key) => Some(InputEvent::Key(key)),
             Token::Size { cols, rows } => Some(InputEvent::Resized { cols, rows }),
             Token::Paste { from, len } => {
-                let bytes = self.unread.as_slice();
+                let bytes = self.unread.bytes();
                 let end = from.saturating_add(len).min(bytes.len());
                 Some(InputEvent::Paste(pasted(self.alloc, &bytes[from.min(end)..end])?))
             }
             Token::Unknown => None,
         };
-        let mut rest = Vec::new(self.alloc);
-        rest.extend_from_slice(&self.unread.as_slice()[used.min(self.unread.len())..])?;
-        self.unread = rest;
+        self.unread.take(used);
         Ok(event)
-    }
-
-    /// Reads what there is, and waits where there is nothing. It answers false at the end. It finds room for the
-    /// bytes before it reads, so that none is lost for want of memory.
-    fn read_more(&mut self) -> Result<bool, Refused>
-        ensures { events_of self.new.told ≡ events_of self.old.told }
-    {
-        let held = self.unread.len();
-        self.unread.resize(held.saturating_add(1024), 0)?;
-        let room = self.unread.as_mut_slice();
-        let at = held.min(room.len());
-        let result = self.reader.read(&mut room[at..]);
-        let count = match &result {
-            Ok(count) => *count,
-            Err(_) => 0,
-        };
-        self.unread.truncate(held.saturating_add(count));
-        match result {
-            Ok(count) => Ok(count > 0),
-            Err(_) => Err(Refused::Read),
-        }
     }
 }
 

@@ -5,6 +5,7 @@ mod keys;
 mod logs;
 mod reading;
 mod terminal;
+mod unread;
 
 pub use keys::{EventSource, KeyReader, SourceState};
 pub use reading::{Answer, read_line_from};

@@ -165,3 +165,22 @@ fn keys_are_the_same_in_pieces_of_any_size(rt: HostRuntime) {
         assert_eq!(rt; shown(&answer), ("line", "acb"), "pieces of {step}");
     }
 }
+
+#[test]
+fn a_pasted_text_is_the_same_in_pieces_of_any_size(rt: HostRuntime) {
+    let alloc = rt.alloc();
+    for step in [2, 3, 5, 100] {
+        let mut host = NopLineEditorHost::new(alloc);
+        let reader = Pieces {
+            bytes: b"\x1b[0000200;1~one\x1b[201 two\x1b[201~\x1b[201~!\r",
+            step,
+        };
+        let mut keys = KeyReader::new(alloc, reader);
+        let answer = read_line_from(alloc, &mut keys, &mut terminal(alloc), &mut host, "> ");
+        assert_eq!(rt;
+            shown(&answer),
+            ("line", "one [201 two!"),
+            "pieces of {step}"
+        );
+    }
+}

@@ -1,0 +1,309 @@
+-- What was read of some bytes need not be read again.
+use Rattle.std.proofs.Common.{◌≡◌, ◌≢◌, ◌≤◌, ◌<◌, ◌+◌, ◌-◌, ℕ, zero, suc, Bool, true, false, not, ◌&&◌, cond, eqb, List, [], ◌∷◌, ◌++◌, Option, Some, None, IfSome, Result, Ok, Err, IfOk, OnErr, IfErr, take, drop, length, arith, ap, subst, ◌∙◌, sym, refl, inl, inr, ◌⊎◌, length-drop, length-take}
+use Rattle.std.specs.List.{prefix_len, list_all, starts_with}
+use Rattle.std.specs.Option.{option_map, ok_or}
+use Rattle.std.proofs.lemmas.Bool.{cases_lt, cases_Bool, and_parts, ne_eqb, eq-eqb, eqb-true, false≢true}
+use Rattle.std.proofs.lemmas.List.Folds.{prefix_len-append}
+use Rattle.std.proofs.lemmas.List.Sums.{prefix_len-le-length}
+use Rattle.std.proofs.lemmas.List.{drop-drop, drop-append-le, take-append-le, append-nil, append_assoc, length-append, take_rest}
+use Rattle.tw_ansi.specs.declared.token.Scanned.{Scanned}
+use Rattle.tw_ansi.specs.declared.resume.Progress.{Progress}
+use Rattle.tw_ansi.specs.declared.resume.Progress.TheVariants.{Start, Parameters, Paste}
+use Rattle.tw_ansi.specs.KeyBytes.{token_at, ended_at, sequence_at, paste_at, paste_of, paste_len, paste_end, is_parameter, is_letter, is_numeric, first_number, second_number, numbers_token, found}
+use Rattle.tw_ansi.specs.declared.token.Token.TheVariants.{Unknown}
+use Rattle.tw_ansi.specs.Resuming.{Fits, resumed, parameters_on, paste_on, searched_to, behind_parameters, sequence_start, behind_start, read_on}
+use Rattle.tw_ansi.proofs.Pastes.{starts_long, starts_more}
+use Rattle.tw_ansi.proofs.Tokens.{takes_bytes}
+
+-- nothing is known of any bytes
+pub fits_start : (bytes : List ℕ) → Fits Start bytes
+fits_start bytes = record { within = omega arith; goes_on = λ l more. refl }
+
+-- what fits some bytes fits them and more
+pub fits_more : (p : Progress) (bytes more : List ℕ) → Fits p bytes → Fits p (bytes ++ more)
+fits_more p bytes more f = record {
+  within = omega (arith, f.within, length-append bytes more);
+  goes_on = λ l later. subst (λ xs. resumed p l xs ≡ token_at l xs) (sym (append_assoc bytes more later)) (f.goes_on l (more ++ later));
+}
+
+-- going on gives the token of the bytes that are there
+pub goes_here : (p : Progress) (l : Bool) (bytes : List ℕ) → Fits p bytes → resumed p l bytes ≡ token_at l bytes
+goes_here p l bytes f = subst (λ xs. resumed p l xs ≡ token_at l xs) (append-nil bytes) (f.goes_on l [])
+
+twice : (m n : ℕ) (o : Option ℕ) → option_map (λ k. k + m) (option_map (λ k. k + n) o) ≡ option_map (λ k. k + (n + m)) o
+twice m n None = refl
+twice m n (Some k) = let e : k + n + m ≡ k + (n + m) = omega arith in ap (λ (j : ℕ). Some j) e
+
+at_none : (o : Option ℕ) → option_map (λ k. k + 0) o ≡ o
+at_none None = refl
+at_none (Some k) = let e : k + 0 ≡ k = omega arith in ap (λ (j : ℕ). Some j) e
+
+none_parts : (t : Bool) (o : Option ℕ) → cond t (Some 0) (option_map (λ k. k + 1) o) ≡ None → (t ≡ false) × (o ≡ None)
+none_parts true o h = absurd cc
+none_parts false None h = (refl, refl)
+none_parts false (Some k) h = absurd cc
+
+-- where no end is found none begins, but in the last five bytes
+skipped : (text more : List ℕ) (n : ℕ) → paste_len text ≡ None → n ≤ length text - 5
+    → paste_len (text ++ more) ≡ option_map (λ k. k + n) (paste_len (drop n (text ++ more)))
+skipped text more zero none fits = sym (at_none _)
+skipped [] more (suc n) none fits = absurd (omega arith)
+skipped (b ∷ text) more (suc n) none fits =
+    let parts = none_parts (starts_with eqb (b ∷ text) paste_end) (paste_len text) none in
+    let here : starts_with eqb (b ∷ (text ++ more)) paste_end ≡ false = starts_more paste_end (b ∷ text) more (omega arith) ∙ parts.0 in
+    let later = option_map (λ (k : ℕ). k + 1) (paste_len (text ++ more)) in
+    let count : n + 1 ≡ suc n = omega arith in
+    ap (λ t. cond t (Some 0) later) here
+    ∙ ap (λ o. option_map (λ (k : ℕ). k + 1) o) (skipped text more n parts.1 (omega arith))
+    ∙ twice 1 n _
+    ∙ ap (λ m. option_map (λ (k : ℕ). k + m) (paste_len (drop n (text ++ more)))) count
+
+-- the search goes on behind the bytes that are passed
+paste_further : (l : Bool) (from s n : ℕ) (text more : List ℕ) → s ≤ length text → paste_len (drop s text) ≡ None → n ≤ length text - s - 5
+    → paste_on l from (s + n) (text ++ more) ≡ paste_on l from s (text ++ more)
+paste_further l from s n text more inside none fits =
+    let all = text ++ more in
+    let front : drop s all ≡ drop s text ++ more = drop-append-le s text more inside in
+    let skips : paste_len (drop s all) ≡ option_map (λ k. k + n) (paste_len (drop (s + n) all)) =
+    ap paste_len front ∙ skipped (drop s text) more n none (omega (arith, length-drop s text, fits))
+    ∙ ap (λ xs. option_map (λ (k : ℕ). k + n) (paste_len (drop n xs))) (sym front)
+    ∙ ap (λ xs. option_map (λ (k : ℕ). k + n) (paste_len xs)) (drop-drop n s all) in
+    let sum : n + s ≡ s + n = omega arith in
+    ap (λ o. paste_of l from (length all) o)
+    (sym (ap (λ o. option_map (λ (k : ℕ). k + s) o) skips ∙ twice s n _ ∙ ap (λ m. option_map (λ (k : ℕ). k + m) (paste_len (drop (s + n) all))) sum))
+
+-- parameters go on behind those that are there
+prefix_on : (n : ℕ) (xs : List ℕ) → n ≤ prefix_len is_parameter xs → n + prefix_len is_parameter (drop n xs) ≡ prefix_len is_parameter xs
+prefix_on zero xs fits = omega arith
+prefix_on (suc n) [] fits = absurd (omega arith)
+prefix_on (suc n) (x ∷ xs) fits = next (is_parameter x) (prefix_len is_parameter xs) (prefix_len is_parameter (drop n xs)) fits (prefix_on n xs)
+  where
+    next : (t : Bool) (all rest : ℕ) → suc n ≤ cond t (1 + all) 0 → (n ≤ all → n + rest ≡ all) → suc n + rest ≡ cond t (1 + all) 0
+    next true all rest fits h = omega (arith, h (omega arith))
+    next false all rest fits h = absurd (omega arith)
+
+-- and what follows takes none away
+prefix_grows : (xs ys : List ℕ) → prefix_len is_parameter xs ≤ prefix_len is_parameter (xs ++ ys)
+prefix_grows [] ys = omega arith
+prefix_grows (x ∷ xs) ys = next (is_parameter x) (prefix_len is_parameter xs) (prefix_len is_parameter (xs ++ ys)) (prefix_grows xs ys)
+  where
+    next : (t : Bool) (few all : ℕ) → few ≤ all → cond t (1 + few) 0 ≤ cond t (1 + all) 0
+    next true few all h = omega (arith, h)
+    next false few all h = omega arith
+
+-- nor adds one, where another byte stands behind them
+prefix_stops : (xs ys : List ℕ) → prefix_len is_parameter xs < length xs → prefix_len is_parameter (xs ++ ys) ≡ prefix_len is_parameter xs
+prefix_stops xs ys inside =
+    let n = prefix_len is_parameter xs in
+    prefix_len-append is_parameter xs ys ∙ ap (λ t. cond t (length xs + prefix_len is_parameter ys) n) (ne_eqb n (length xs) (λ e. omega (arith, e, inside)))
+
+-- so parameters that were read are passed
+parameters_further : (l : Bool) (len : ℕ) (rest more : List ℕ) → len ≤ length rest
+    → parameters_on l (len + prefix_len is_parameter (drop len rest)) (rest ++ more) ≡ parameters_on l len (rest ++ more)
+parameters_further l len rest more inside =
+    let k = prefix_len is_parameter (drop len rest) in
+    let xs = rest ++ more in
+    let front : drop len xs ≡ drop len rest ++ more = drop-append-le len rest more inside in
+    let here : k ≤ prefix_len is_parameter (drop len xs) = subst (λ ys. k ≤ prefix_len is_parameter ys) (sym front) (prefix_grows (drop len rest) more) in
+    let on : k + prefix_len is_parameter (drop k (drop len xs)) ≡ prefix_len is_parameter (drop len xs) = prefix_on k (drop len xs) here in
+    let behind : prefix_len is_parameter (drop k (drop len xs)) ≡ prefix_len is_parameter (drop (len + k) xs) = ap (λ ys. prefix_len is_parameter ys) (drop-drop k len xs) in
+    let all : (len + k) + prefix_len is_parameter (drop (len + k) xs) ≡ len + prefix_len is_parameter (drop len xs) = omega (arith, on, behind) in
+    ap (λ n. ended_at l (take n xs) (drop n xs)) all
+
+none_else : (t : Bool) (s : Scanned) (o : Option Scanned) → cond t (Some s) o ≡ None → (t ≡ false) × (o ≡ None)
+none_else true s o h = absurd cc
+none_else false s o h = (refl, h)
+
+none_then : (t : Bool) (o : Option Scanned) (s : Scanned) → cond t o (Some s) ≡ None → (t ≡ true) × (o ≡ None)
+none_then true o s h = (refl, h)
+none_then false o s h = absurd cc
+
+no_end : (l : Bool) (from left : ℕ) (o : Option ℕ) → paste_of l from left o ≡ None → o ≡ None
+no_end l from left (Some n) h = absurd cc
+no_end l from left None h = refl
+
+-- behind parameters and a letter more is wanted of a pasted text alone
+ended_begins : (l m : Bool) (parameters ys more : List ℕ) → 0 < length ys → ended_at l parameters ys ≡ None
+    → ended_at m parameters (ys ++ more) ≡ paste_on m (3 + length parameters) (searched_to 0 (length ys - 1)) (drop 1 (ys ++ more))
+ended_begins l m parameters [] more some none = absurd (omega arith)
+ended_begins l m parameters (b ∷ text) more some none =
+    let used : ℕ = 3 + length parameters in
+    let letter = none_then (is_letter b) (sequence_at l parameters b text) _ none in
+    let numeric = none_else (not (list_all is_numeric parameters)) _ _ letter.1 in
+    let marked = none_then (eqb b 126 && eqb (first_number parameters) 200) (paste_at l used text) _ numeric.1 in
+    let unended = no_end l used (length text) (paste_len text) marked.1 in
+    let xs = text ++ more in
+    let count : length text ≡ length (b ∷ text) - 1 = omega arith in
+    let token = numbers_token (first_number parameters) (second_number parameters) b in
+    ap (λ t. cond t (sequence_at m parameters b xs) (found Unknown (2 + length parameters))) letter.0
+    ∙ ap (λ t. cond t (found Unknown used) (cond (eqb b 126 && eqb (first_number parameters) 200) (paste_at m used xs) (found token used))) numeric.0
+    ∙ ap (λ t. cond t (paste_at m used xs) (found token used)) marked.0
+    ∙ ap (λ o. paste_of m used (length xs) o) (sym (at_none (paste_len xs)))
+    ∙ sym (paste_further m used 0 (length text - 0 - 5) text more (omega arith) unended (omega arith))
+    ∙ ap (λ n. paste_on m used (searched_to 0 n) xs) count
+
+-- so a pasted text that was searched need not be searched again
+paste_begins : (l m : Bool) (len : ℕ) (rest more : List ℕ) → len ≤ length rest → len + prefix_len is_parameter (drop len rest) < length rest
+    → parameters_on l len rest ≡ None
+    → paste_on m (3 + (len + prefix_len is_parameter (drop len rest))) (searched_to 0 (length rest - (len + prefix_len is_parameter (drop len rest)) - 1)) (drop (len + prefix_len is_parameter (drop len rest) + 1) (rest ++ more))
+    ≡ parameters_on m len (rest ++ more)
+paste_begins l m len rest more inside short none =
+    let k = prefix_len is_parameter (drop len rest) in
+    let all = len + k in
+    let xs = rest ++ more in
+    let left = drop all rest in
+    let front : drop len xs ≡ drop len rest ++ more = drop-append-le len rest more inside in
+    let stops : prefix_len is_parameter (drop len xs) ≡ k = ap (λ ys. prefix_len is_parameter ys) front ∙ prefix_stops (drop len rest) more (omega (arith, length-drop len rest, short)) in
+    let parameters : take all xs ≡ take all rest = take-append-le all rest more (omega (arith, short)) in
+    let behind : drop all xs ≡ left ++ more = drop-append-le all rest more (omega (arith, short)) in
+    let many : length (take all rest) ≡ all = length-take all rest ∙ omega (arith, short) in
+    let some : length left ≡ length rest - all = length-drop all rest in
+    let text : drop 1 (left ++ more) ≡ drop (all + 1) xs = ap (λ ys. drop 1 ys) (sym behind) ∙ drop-drop 1 all xs in
+    sym (ap (λ n. ended_at m (take (len + n) xs) (drop (len + n) xs)) stops
+    ∙ ap (λ ys. ended_at m ys (drop all xs)) parameters
+    ∙ ap (λ ys. ended_at m (take all rest) ys) behind
+    ∙ ended_begins l m (take all rest) left more (omega (arith, some, short)) none
+    ∙ ap (λ n. paste_on m (3 + n) (searched_to 0 (length left - 1)) (drop 1 (left ++ more))) many
+    ∙ ap (λ n. paste_on m (3 + all) (searched_to 0 (n - 1)) (drop 1 (left ++ more))) some
+    ∙ ap (λ ys. paste_on m (3 + all) (searched_to 0 (length rest - all - 1)) ys) text)
+
+-- ESC [ and what stands behind it
+begins_sequence : (l : Bool) (rest : List ℕ) → parameters_on l 0 rest ≡ token_at l (27 ∷ 91 ∷ rest)
+unfolding token_at
+begins_sequence l rest =
+    let all : 0 + prefix_len is_parameter rest ≡ prefix_len is_parameter rest = omega arith in
+    ap (λ n. ended_at l (take n rest) (drop n rest)) all
+
+-- the bytes behind ESC [ were read so far
+behind_fits : (l : Bool) (len : ℕ) (bytes : List ℕ) → 2 + len ≤ length bytes → (all : ℕ) → all ≡ len + prefix_len is_parameter (drop len (drop 2 bytes))
+    → ((m : Bool) (more : List ℕ) → parameters_on m len (drop 2 bytes ++ more) ≡ token_at m (bytes ++ more))
+    → parameters_on l len (drop 2 bytes) ≡ None
+    → Fits (behind_parameters len (drop 2 bytes)) bytes
+behind_fits l len bytes inside all is goes none = next (cases_lt all (length rest))
+  where
+    rest : List ℕ
+    rest = drop 2 bytes
+
+    split : (more : List ℕ) → drop 2 (bytes ++ more) ≡ rest ++ more
+    split more = drop-append-le 2 bytes more (omega arith)
+
+    many : length rest ≡ length bytes - 2
+    many = length-drop 2 bytes
+
+    at_most : all ≤ length rest
+    at_most = omega (arith, is, many, length-drop len rest, prefix_len-le-length is_parameter (drop len rest))
+
+    next : (all < length rest) ⊎ (length rest ≤ all) → Fits (behind_parameters len rest) bytes
+    next (inl short) =
+        let behind : 3 + all ≡ 2 + (all + 1) = omega arith in
+        let text : Progress = Paste (3 + all) (searched_to 0 (length rest - all - 1)) in
+        let found : behind_parameters len rest ≡ text =
+        ap (λ n. cond (eqb n (length rest)) (Parameters n) (Paste (3 + n) (searched_to 0 (length rest - n - 1)))) (sym is)
+        ∙ ap (λ t. cond t (Parameters all) text) (ne_eqb all (length rest) (λ e. omega (arith, e, short))) in
+        subst (λ p. Fits p bytes) (sym found) (record {
+          within = omega (arith, short, many);
+          goes_on = λ m more.
+              ap (λ xs. paste_on m (3 + all) (searched_to 0 (length rest - all - 1)) xs)
+              (ap (λ n. drop n (bytes ++ more)) behind ∙ sym (drop-drop (all + 1) 2 (bytes ++ more)) ∙ ap (λ xs. drop (all + 1) xs) (split more))
+              ∙ subst (λ n. paste_on m (3 + n) (searched_to 0 (length rest - n - 1)) (drop (n + 1) (rest ++ more)) ≡ parameters_on m len (rest ++ more)) (sym is)
+              (paste_begins l m len rest more (omega (arith, inside, many)) (omega (arith, is, short)) none)
+              ∙ goes m more;
+        })
+    next (inr full) =
+        let same : all ≡ length rest = omega (arith, full, at_most) in
+        let found : behind_parameters len rest ≡ Parameters all =
+        ap (λ n. cond (eqb n (length rest)) (Parameters n) (Paste (3 + n) (searched_to 0 (length rest - n - 1)))) (sym is)
+        ∙ ap (λ t. cond t (Parameters all) (Paste (3 + all) (searched_to 0 (length rest - all - 1)))) (eq-eqb all (length rest) same) in
+        subst (λ p. Fits p bytes) (sym found) (record {
+          within = omega (arith, same, many, inside);
+          goes_on = λ m more.
+              ap (λ xs. parameters_on m all xs) (split more)
+              ∙ subst (λ n. parameters_on m n (rest ++ more) ≡ parameters_on m len (rest ++ more)) (sym is)
+              (parameters_further m len rest more (omega (arith, inside, many)))
+              ∙ goes m more;
+        })
+
+none_mapped : (n : ℕ) (o : Option ℕ) → option_map (λ k. k + n) o ≡ None → o ≡ None
+none_mapped n (Some k) h = absurd cc
+none_mapped n None h = refl
+
+-- bytes that begin with ESC [
+begins : (l : Bool) (bytes : List ℕ) → starts_with eqb bytes sequence_start ≡ true → parameters_on l 0 (drop 2 bytes) ≡ token_at l bytes
+begins l [] at = absurd cc
+begins l (b ∷ []) at = absurd (false≢true (and_parts (eqb 27 b) false at).1)
+begins l (b ∷ c ∷ rest) at =
+    let parts = and_parts _ _ at in
+    let first : 27 ≡ b = eqb-true 27 b parts.0 in
+    let second : 91 ≡ c = eqb-true 91 c (and_parts _ _ parts.1).0 in
+    begins_sequence l rest ∙ ap (λ x. token_at l (x ∷ 91 ∷ rest)) first ∙ ap (λ x. token_at l (b ∷ x ∷ rest)) second
+
+-- how they are read
+pub begun : (l : Bool) (bytes : List ℕ) (result : Result Scanned Progress) → starts_with eqb bytes sequence_start ≡ true
+    → (let rest = take (length bytes - 2) (drop 2 bytes) in result ≡ ok_or (parameters_on l 0 rest) (behind_parameters 0 rest))
+    → result ≡ ok_or (token_at l bytes) (behind_start bytes)
+begun l bytes result at is =
+    is ∙ ap (λ xs. ok_or (parameters_on l 0 xs) (behind_parameters 0 xs)) (take_rest bytes 2)
+    ∙ ap (λ o. ok_or o (behind_parameters 0 (drop 2 bytes))) (begins l bytes at)
+    ∙ ap (λ t. ok_or (token_at l bytes) (cond t (behind_parameters 0 (drop 2 bytes)) Start)) (sym at)
+
+start_fits : (l : Bool) (bytes : List ℕ) (t : Bool) → starts_with eqb bytes sequence_start ≡ t → token_at l bytes ≡ None
+    → Fits (cond t (behind_parameters 0 (drop 2 bytes)) Start) bytes
+start_fits l bytes false e none = fits_start bytes
+start_fits l bytes true e none =
+    behind_fits l 0 bytes (omega (arith, starts_long sequence_start bytes e)) _ refl
+    (λ m more. ap (λ xs. parameters_on m 0 xs) (sym (drop-append-le 2 bytes more (omega (arith, starts_long sequence_start bytes e))))
+    ∙ begins m (bytes ++ more) (starts_more sequence_start bytes more (starts_long sequence_start bytes e) ∙ e))
+    (begins l bytes e ∙ none)
+
+-- what was read of bytes that are no token yet
+read_fits : (p : Progress) (l : Bool) (bytes : List ℕ) → Fits p bytes → resumed p l bytes ≡ None → Fits (read_on p bytes) bytes
+read_fits Start l bytes f none = start_fits l bytes _ refl none
+read_fits (Parameters len) l bytes f none =
+    behind_fits l len bytes f.within _ refl
+    (λ m more. ap (λ xs. parameters_on m len xs) (sym (drop-append-le 2 bytes more (omega (arith, f.within)))) ∙ f.goes_on m more) none
+read_fits (Paste from s) l bytes f none =
+    let text = drop from bytes in
+    let many : length text ≡ length bytes - from = length-drop from bytes in
+    let unended : paste_len (drop s text) ≡ None = none_mapped s _ (no_end l from (length text) _ none) in
+    let split : (more : List ℕ) → drop from (bytes ++ more) ≡ text ++ more = λ more. drop-append-le from bytes more (omega (arith, f.within)) in
+    record {
+      within = omega (arith, f.within, many);
+      goes_on = λ m more.
+          ap (λ xs. paste_on m from (searched_to s (length text)) xs) (split more)
+          ∙ paste_further m from s (length text - s - 5) text more (omega (arith, f.within, many)) unended (omega arith)
+          ∙ ap (λ xs. paste_on m from s xs) (sym (split more))
+          ∙ f.goes_on m more;
+    }
+
+module _ (p : Progress) (l : Bool) (bytes : List ℕ) (f : Fits p bytes) (result : Result Scanned Progress) (is : result ≡ ok_or (resumed p l bytes) (read_on p bytes)) where
+  -- what is answered is the token
+  pub is_found : IfOk result (λ s. token_at l bytes ≡ Some s)
+  is_found = subst (λ r. IfOk r (λ s. token_at l bytes ≡ Some s)) (sym is) (found_in (resumed p l bytes) (goes_here p l bytes f))
+    where
+      found_in : (o : Option Scanned) → o ≡ token_at l bytes → IfOk (ok_or o (read_on p bytes)) (λ s. token_at l bytes ≡ Some s)
+      found_in (Some s) e = sym e
+      found_in None e = tt
+
+  -- or there is none yet
+  pub is_none : OnErr result (token_at l bytes ≡ None)
+  is_none = subst (λ r. OnErr r (token_at l bytes ≡ None)) (sym is) (none_in (resumed p l bytes) (goes_here p l bytes f))
+    where
+      none_in : (o : Option Scanned) → o ≡ token_at l bytes → OnErr (ok_or o (read_on p bytes)) (token_at l bytes ≡ None)
+      none_in (Some s) e = tt
+      none_in None e = sym e
+
+  -- and what was read fits
+  pub is_read : IfErr result (λ q. Fits q bytes)
+  is_read = subst (λ r. IfErr r (λ q. Fits q bytes)) (sym is) (read_in (resumed p l bytes) (read_fits p l bytes f))
+    where
+      read_in : (o : Option Scanned) → (o ≡ None → Fits (read_on p bytes) bytes) → IfErr (ok_or o (read_on p bytes)) (λ q. Fits q bytes)
+      read_in (Some s) h = tt
+      read_in None h = h refl
+
+  bounds_of : (result : Result Scanned Progress) → IfOk result (λ s. token_at l bytes ≡ Some s) → IfOk result (λ s. (0 < s.used) × (s.used ≤ length bytes))
+  bounds_of (Ok s) e = let b : IfSome (Some s) (λ (s : Scanned). (0 < s.used) × (s.used ≤ length bytes)) = subst (λ o. IfSome o (λ (s : Scanned). (0 < s.used) × (s.used ≤ length bytes))) e (takes_bytes l bytes) in b
+  bounds_of (Err q) e = tt
+
+  -- it takes bytes that are there
+  pub is_bounded : IfOk result (λ s. (0 < s.used) × (s.used ≤ length bytes))
+  is_bounded = bounds_of result is_found

@@ -1,0 +1,100 @@
+//! Tokens whose bytes come in many pieces: what was read of them is not read again.
+
+ghost use Rattle.std.specs.Prelude.{◌≡◌, ◌+◌, ◌<◌, ◌≤◌, ◌^◌, length, Some, None, IfOk, IfErr, OnErr};
+ghost use Rattle.std.specs.Option.{ok_or};
+ghost use Rattle.tw_ansi.specs.KeyBytes.{token_at};
+ghost use Rattle.tw_ansi.specs.Resuming.{Fits, resumed, read_on, behind_start, passed, parameters_on, paste_on, behind_parameters, searched_to};
+ghost use Rattle.tw_ansi.specs.declared.resume.Progress.TheVariants.{Paste};
+
+use crate::control::{PASTE_END, ended_at, parameters_len, paste_len, paste_of};
+use crate::decode::{ESC, token_at};
+use crate::token::Scanned;
+
+/// What begins a control sequence.
+const SEQUENCE: [u8; 2] = [ESC, b'['];
+
+/// How far the bytes at the front were read, where they are no token yet.
+#[derive(Debug, Clone, Copy, PartialEq, Eq)]
+pub enum Progress {
+    /// Nothing is known of them.
+    Start,
+    /// ESC [ and so many bytes of parameters.
+    Parameters { len: usize },
+    /// So many bytes, and then a pasted text whose end does not begin in its first `searched` bytes.
+    Paste { from: usize, searched: usize },
+}
+
+/// The token at the front of the bytes, as `scan` gives it, or, where more bytes are wanted, how far these were read.
+/// A call for the same bytes and more goes on from there.
+#[tactic(auto, using(crate::proofs::Resumes::is_found, crate::proofs::Resumes::is_none, crate::proofs::Resumes::is_read, crate::proofs::Resumes::is_bounded))]
+pub fn scan_on(bytes: &[u8], progress: Progress, is_last: bool) -> Result<Scanned, Progress>
+    requires { Fits progress bytes.now }
+    ensures found { IfOk result (λ s. token_at is_last bytes.now ≡ Some s) }
+    ensures wants_more { OnErr result (token_at is_last bytes.now ≡ None) }
+    ensures progress { IfErr result (λ p. Fits p bytes.now) }
+    ensures takes { IfOk result (λ s. (0 < s.used) × (s.used ≤ length bytes.now)) }
+{
+    go_on(progress, bytes, is_last)
+}
+
+/// The token at the front, or how far the bytes were read.
+fn go_on(progress: Progress, bytes: &[u8], is_last: bool) -> Result<Scanned, Progress>
+    requires { passed progress ≤ length bytes.now }
+    ensures { result ≡ ok_or (resumed progress is_last bytes.now) (read_on progress bytes.now) }
+{
+    match progress {
+        Progress::Start => begin(bytes, is_last),
+        Progress::Parameters { len } => parameters_on(len, &bytes[2..], is_last),
+        Progress::Paste { from, searched } => paste_on(from, searched, &bytes[from..], is_last),
+    }
+}
+
+/// Reads the bytes from the first one on.
+fn begin(bytes: &[u8], is_last: bool) -> Result<Scanned, Progress>
+    ensures { result ≡ ok_or (token_at is_last bytes.now) (behind_start bytes.now) }
+{
+    if bytes.starts_with(&SEQUENCE) {
+        parameters_on(0, &bytes[SEQUENCE.len()..], is_last)
+    } else {
+        token_at(bytes, is_last).ok_or(Progress::Start)
+    }
+}
+
+/// Goes on behind ESC [ and so many bytes of parameters.
+fn parameters_on(len: usize, bytes: &[u8], is_last: bool) -> Result<Scanned, Progress>
+    requires within { len ≤ length bytes.now }
+    requires room { length bytes.now + 3 < 2 ^ 64 }
+    ensures { result ≡ ok_or (parameters_on is_last len bytes.now) (behind_parameters len bytes.now) }
+{
+    let all = len + parameters_len(&bytes[len..]);
+    let progress = if all == bytes.len() {
+        Progress::Parameters { len: all }
+    } else {
+        Progress::Paste {
+            from: 3 + all,
+            searched: searched_to(0, bytes.len() - all - 1),
+        }
+    };
+    ended_at(&bytes[..all], &bytes[all..], is_last).ok_or(progress)
+}
+
+/// How many bytes of a pasted text are passed, in all of which no end was found: it may begin in the last five.
+fn searched_to(searched: usize, len: usize) -> usize
+    requires { searched ≤ len }
+    ensures { result ≡ searched_to searched len }
+{
+    searched + (len - searched).saturating_sub(PASTE_END.len() - 1)
+}
+
+/// Goes on in a pasted text that begins behind so many bytes.
+fn paste_on(from: usize, searched: usize, bytes: &[u8], is_last: bool) -> Result<Scanned, Progress>
+    requires within { searched ≤ length bytes.now }
+    requires room { from + length bytes.now < 2 ^ 64 }
+    ensures { result ≡ ok_or (paste_on is_last from searched bytes.now) (Paste from (searched_to searched (length bytes.now))) }
+{
+    let len = paste_len(&bytes[searched..]).map(|len| len + searched);
+    paste_of(from, bytes.len(), len, is_last).ok_or(Progress::Paste {
+        from,
+        searched: searched_to(searched, bytes.len()),
+    })
+}
