@@ -6,8 +6,9 @@ ghost use Rattle.tw_device.specs.Logs.{events_of};
 ghost use Rattle.tw_device.specs.declared.keys.SourceState.TheVariants.{AtEnd, Refused as HasRefused};
 
 use crate::logs::EventLog;
+use crate::refused::Refused;
 use crate::unread::Unread;
-use std::alloc::{AllocError, AllocFailed, Global};
+use std::alloc::{AllocError, Global};
 use std::io::Read;
 use tw_ansi::{Scanned, Token};
 use tw_input::InputEvent;
@@ -39,34 +40,6 @@ pub trait EventSource {
             (λ event. told self.new ≡ told self.old ++ event_view event ∷ [])) }
         ensures told { OnErr result (told self.new ≡ told self.old) }
         ensures refused { IfErr result (λ fault. state self.new ≡ HasRefused fault) };
-}
-
-/// Why no event is told.
-#[derive(Debug, Clone, Copy, PartialEq, Eq)]
-pub(crate) enum Refused {
-    Read,
-    Memory,
-}
-
-impl From<AllocError> for Refused {
-    fn from(_refused: AllocError) -> Refused {
-        Refused::Memory
-    }
-}
-
-impl<T: Drop> From<AllocFailed<T>> for Refused {
-    fn from(_refused: AllocFailed<T>) -> Refused {
-        Refused::Memory
-    }
-}
-
-impl From<Refused> for TerminalFault {
-    fn from(refused: Refused) -> TerminalFault {
-        match refused {
-            Refused::Read => TerminalFault::Device,
-            Refused::Memory => TerminalFault::Memory,
-        }
-    }
 }
 
 /// A reader of what is typed.
@@ -123,7 +96,7 @@ impl<R: Read> KeyReader<R> {
                 None => is_last = !self.unread.read_from(&mut self.reader)?,
             }
         }
-        Err(Refused::Read)
+        Err(Refused::Device)
     }
 
     /// Takes a token. Bytes that mean nothing are taken and answer none. A refusal takes none, so that the next call

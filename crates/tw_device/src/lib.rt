@@ -4,6 +4,7 @@
 mod keys;
 mod logs;
 mod reading;
+mod refused;
 mod terminal;
 mod unread;
 

@@ -8,40 +8,14 @@ ghost use Rattle.tw_ansi.specs.Encoding.{sent_batch};
 ghost use Rattle.tw_device.specs.Logs.{batches_of};
 
 use crate::logs::{BatchLog, ChangeLog};
-use std::alloc::{AllocError, AllocFailed, Global};
+use crate::refused::Refused;
+use std::alloc::{AllocError, Global};
 use std::io::Write;
 use std::snapshot::Snapshot;
 use tw_ansi::Encoder;
 use tw_input::InputEvent;
 use tw_surface::Change;
 use tw_terminal::{ScreenSize, Terminal, TerminalFault};
-
-/// Why a call is refused.
-#[derive(Debug, Clone, Copy, PartialEq, Eq)]
-enum Refused {
-    Write,
-    Memory,
-}
-
-impl From<AllocError> for Refused {
-    fn from(_refused: AllocError) -> Refused {
-        Refused::Memory
-    }
-}
-
-impl<T: Drop> From<AllocFailed<T>> for Refused {
-    fn from(_refused: AllocFailed<T>) -> Refused {
-        Refused::Memory
-    }
-}
-
-/// What a terminal answers for it.
-fn fault_of(refused: Refused) -> TerminalFault {
-    match refused {
-        Refused::Write => TerminalFault::Device,
-        Refused::Memory => TerminalFault::Memory,
-    }
-}
 
 /// A terminal over a writer. It has no events, and the size that its owner gives it.
 #[derive(Drop)]
@@ -83,7 +57,8 @@ impl<W: Write> AnsiTerminal<W> {
 
     /// Sends a text as it is. It has to leave the cursor in column 0.
     pub fn send(&mut self, text: &str) -> Result<(), TerminalFault>
-        ensures { ⟦<AnsiTerminal<W> as Terminal>⟧.state self.new ≡ ⟦<AnsiTerminal<W> as Terminal>⟧.state self.old }
+        ensures kept { ⟦<AnsiTerminal<W> as Terminal>⟧.state self.new ≡ ⟦<AnsiTerminal<W> as Terminal>⟧.state self.old }
+        ensures sent { OnOk result (Appends (W.contents self.old.writer) (W.contents self.new.writer) text.now) }
     {
         match self.writer.write_all(text.as_bytes()) {
             Ok(()) => Ok(()),
@@ -113,7 +88,7 @@ impl<W: Write> AnsiTerminal<W> {
         let mut text = String::new(self.alloc);
         let encoder = self.encode(changes, &mut text)?;
         if self.writer.write_all(text.as_bytes()).is_err() {
-            return Err(Refused::Write);
+            return Err(Refused::Device);
         }
         self.encoder = encoder;
         self.batches = self.batches.and(&ChangeLog::of(changes));
@@ -149,7 +124,7 @@ impl<W: Write> Terminal for AnsiTerminal<W> {
             Ok(()) => Ok(()),
             Err(refused) => {
                 self.failures = self.failures.saturating_add(1);
-                Err(fault_of(refused))
+                Err(TerminalFault::from(refused))
             }
         }
     }

@@ -5,7 +5,7 @@ ghost use Rattle.std.specs.Io.KnownBytes.{Consumes};
 ghost use Rattle.tw_ansi.specs.KeyBytes.{token_at};
 ghost use Rattle.tw_ansi.specs.Resuming.{Fits};
 
-use crate::keys::Refused;
+use crate::refused::Refused;
 use std::alloc::Global;
 use std::io::Read;
 use std::marker::Model;
@@ -112,7 +112,7 @@ fn read_more<R: Read>(reader: &mut R, buffer: &mut Vec<u8>) -> Result<bool, Refu
         }
         Err(_) => {
             buffer.truncate(held);
-            Err(Refused::Read)
+            Err(Refused::Device)
         }
     }
 }

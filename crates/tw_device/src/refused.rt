@@ -1,0 +1,44 @@
+//! Why a call to a device is refused.
+
+ghost use Rattle.std.specs.Prelude.{◌≡◌};
+ghost use Rattle.tw_device.specs.Faults.{fault_of};
+ghost use Rattle.tw_device.specs.declared.refused.Refused.TheVariants.{Memory};
+
+use std::alloc::{AllocError, AllocFailed};
+use tw_terminal::TerminalFault;
+
+/// Why a call is refused.
+#[derive(Debug, Clone, Copy, PartialEq, Eq)]
+pub(crate) enum Refused {
+    /// The reader or the writer refused.
+    Device,
+    /// No memory was found.
+    Memory,
+}
+
+impl From<AllocError> for Refused {
+    fn from(_refused: AllocError) -> Refused
+        ensures { result ≡ Memory }
+    {
+        Refused::Memory
+    }
+}
+
+impl<T: Drop> From<AllocFailed<T>> for Refused {
+    fn from(_refused: AllocFailed<T>) -> Refused
+        ensures { result ≡ Memory }
+    {
+        Refused::Memory
+    }
+}
+
+impl From<Refused> for TerminalFault {
+    fn from(refused: Refused) -> TerminalFault
+        ensures { result ≡ fault_of refused }
+    {
+        match refused {
+            Refused::Device => TerminalFault::Device,
+            Refused::Memory => TerminalFault::Memory,
+        }
+    }
+}
