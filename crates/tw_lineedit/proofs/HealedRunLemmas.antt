@@ -29,12 +29,12 @@ changes_are_texts (AllAttributes a ∷ elements) = changes_are_texts elements
 changes_are_texts (Text s ∷ elements) = changes_are_texts elements
 
 module _ {V : Type 0} (rules : HostRules V) where
-  text_prompts : (stations : List (Station V)) → All HasTextPrompt (map (sized_scene rules) stations)
+  pub text_prompts : (stations : List (Station V)) → All HasTextPrompt (map (sized_scene rules) stations)
   text_prompts [] = All-nil HasTextPrompt
   text_prompts (s ∷ stations) =
       All-cons HasTextPrompt (sized_scene rules s) (map (sized_scene rules) stations) (changes_are_texts (rules.prompt s.value s.state.prompt)) (text_prompts stations)
 
-  first_painted : (xs ys : List (Station V)) → ArePainted rules (xs ++ ys) → ArePainted rules xs
+  pub first_painted : (xs ys : List (Station V)) → ArePainted rules (xs ++ ys) → ArePainted rules xs
   first_painted [] ys h = tt
   first_painted (x ∷ xs) ys h = (h.0, first_painted xs ys h.1)
 

@@ -10,4 +10,5 @@ pub mod WorkedRuns
 pub mod ScrollingRunLemmas
 pub mod HealedRunLemmas
 pub mod CutRunLemmas
+pub mod SimpleRunLemmas
 pub mod WorkedScrolledRuns

@@ -244,7 +244,7 @@ module _ {V : Type 0} (rules : HostRules V) where
   no_later_mark (s ∷ earlier) station later last ((p, e), more) h = rw (e, no_later_mark earlier station later (Some (mark_of p)) more h) refl
 
   -- scenes are cleared as their stations are
-  cleared_scenes : (stations : List (Station V)) → list_any (λ scene. scene.cleared) (scenes_of (map (sized_scene rules) stations)) ≡ is_cleared rules stations
+  pub cleared_scenes : (stations : List (Station V)) → list_any (λ scene. scene.cleared) (scenes_of (map (sized_scene rules) stations)) ≡ is_cleared rules stations
   cleared_scenes [] = refl
   cleared_scenes (s ∷ stations) = ap (λ (b : Bool). s.cleared || b) (cleared_scenes stations)
 

@@ -9,6 +9,7 @@ pub mod ScreenRuns
 pub mod ScrollingRuns
 pub mod HealedRuns
 pub mod CutRuns
+pub mod SimpleRuns
 pub use Rattle.tw_extremes.specs.Extremes
 pub use Rattle.tw_line.specs.Cut
 pub use Rattle.tw_line.specs.Boundaries

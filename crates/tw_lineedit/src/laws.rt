@@ -2,6 +2,7 @@
 
 ghost use Rattle.tw_lineedit.specs.ScreenRuns.{CallsStack};
 ghost use Rattle.tw_lineedit.specs.ScrollingRuns.{ScrolledCallsStack};
+ghost use Rattle.tw_lineedit.specs.SimpleRuns.{SimpleCallsStack, SimpleClosings, SimpleHealedPaintings, SimplePaintings, SimpleScrolledClosings, SimpleScrolledPaintings};
 ghost use Rattle.tw_lineedit.specs.Stations.{BatchesByStations};
 
 pub use tw_history::laws::{equality, searches};
@@ -27,4 +28,16 @@ pub fn stacking<H: LineEditorHost>()
 /// it was, moved up.
 pub fn scrolled_stacking<H: LineEditorHost>()
     ensures { ScrolledCallsStack H.rules }
+{}
+
+/// What the screen clauses of `read_line` and `begin_line` say of printable ASCII holds for simple texts too, whose
+/// clusters are one character of one column each, on screens whose cells hold characters: whatever the frame is at which
+/// a reading starts. `stacking` says that calls stack.
+pub fn simple_runs<H: LineEditorHost>()
+    ensures painting { SimplePaintings H.rules }
+    ensures closing { SimpleClosings H.rules }
+    ensures scrolled_painting { SimpleScrolledPaintings H.rules }
+    ensures scrolled_closing { SimpleScrolledClosings H.rules }
+    ensures healed_painting { SimpleHealedPaintings H.rules }
+    ensures stacking { SimpleCallsStack H.rules }
 {}
