@@ -6,7 +6,7 @@ ghost use Rattle.tw_surface.specs.ChangeView.{batch_view};
 ghost use Rattle.tw_input.specs.EventView.{event_view};
 ghost use Rattle.tw_terminal.specs.TerminalState.{TerminalState};
 
-use crate::past::Past;
+use script_player::Past;
 use std::snapshot::Snapshot;
 use std::vec::IntoIter;
 use tw_input::InputEvent;

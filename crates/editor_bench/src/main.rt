@@ -1,11 +1,12 @@
 //! What keys cost. Each of six workloads is played three ways: by the script player, with its model screen; by the
 //! editor alone on a terminal that keeps what is rendered; and by the editor alone on one that keeps nothing. What
 //! each way came to goes to standard output. With the argument `times` the workloads are also played
-//! at sizes that double, and the time of each way for a key goes to standard error.
+//! at sizes that double, and the time of each way for a key goes to standard error. With a number the program
+//! only reads a line of so many keys, where nothing is kept, and writes nothing: it is run so below a tool that
+//! measures memory.
 #![tactic(auto)]
 
 mod discarding;
-mod past;
 mod script;
 mod workload;
 
@@ -21,14 +22,20 @@ use std::time::{Duration, Instant};
 const SIZES: u32 = 5;
 
 fn main(rt: HostRuntime) -> Result<(), anyhow::Error> {
-    let timed = match env::args(&rt)?.nth(1) {
-        Some(word) => word.as_str() == "times",
-        None => false,
+    let argument = env::args(&rt)?.nth(1);
+    let word = match &argument {
+        Some(word) => word.as_str(),
+        None => "",
     };
+    if let Ok(keys) = word.parse::<usize>() {
+        let script = Workload::Keys.script(rt.alloc(), keys)?;
+        by_discarding_terminal(rt.alloc(), script.as_str())?;
+        return Ok(());
+    }
     for workload in Workload::ALL {
         play(&rt, workload, workload.size(), false)?;
     }
-    if timed {
+    if word == "times" {
         for workload in Workload::SWEPT {
             sweep(&rt, workload)?;
         }

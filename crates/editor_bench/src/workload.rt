@@ -20,6 +20,8 @@ pub enum Workload {
     Unicode,
     /// A line is typed above a preview.
     Preview,
+    /// A character is typed and deleted again, over and over.
+    Keys,
 }
 
 impl Workload {
@@ -45,7 +47,7 @@ impl Workload {
     ];
 
     /// The script, where `size` is the number of lines that are typed, of characters of the long line or of the
-    /// preview, of lines of the history, of candidates, or of texts that are not ASCII.
+    /// preview, of lines of the history, of candidates, of texts that are not ASCII, or of keys.
     pub fn script(self, alloc: Global, size: usize) -> Result<String, AllocError> {
         let mut script = String::new(alloc);
         match self {
@@ -99,6 +101,10 @@ impl Workload {
                 push_times(&mut script, "type a line above it \n", 10)?;
                 script.push_str("key Enter\nread\n")?;
             }
+            Workload::Keys => {
+                push_times(&mut script, "type a\nkey Backspace\n", size / 2)?;
+                script.push_str("key Enter\nread\n")?;
+            }
         }
         Ok(script)
     }
@@ -113,6 +119,7 @@ impl Workload {
             Workload::Completion => 50,
             Workload::Unicode => 12,
             Workload::Preview => 500,
+            Workload::Keys => 1_000,
         }
     }
 }
@@ -127,6 +134,7 @@ impl Display for Workload {
             Workload::Completion => "completion",
             Workload::Unicode => "not ASCII",
             Workload::Preview => "preview",
+            Workload::Keys => "keys",
         })
     }
 }

@@ -6,3 +6,4 @@ pub mod Written
 pub mod Reading
 pub mod ScriptRules
 pub mod Sessions
+pub mod Past

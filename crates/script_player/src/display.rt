@@ -17,7 +17,8 @@ pub fn play_all(
     Ok(cursor)
 }
 
-fn play(screen: &mut Screen, batch: &[Change]) -> Result<(), ScreenFault> {
+/// Plays a batch.
+pub fn play(screen: &mut Screen, batch: &[Change]) -> Result<(), ScreenFault> {
     for change in batch {
         screen.apply(change)?;
     }

@@ -6,16 +6,16 @@ ghost use Rattle.script_player.specs.Reading.{ReadsLine, IsSteady};
 
 use std::alloc::Global;
 use tw_lineedit::{Error, LineEditor, LineEditorHost};
-use tw_terminal::ScriptTerminal;
+use tw_terminal::Terminal;
 
 /// Reads a line from the terminal with a new editor of this prompt, which is gone afterwards.
-pub fn read_line<H: LineEditorHost>(
+pub fn read_line<T: Terminal, H: LineEditorHost>(
     alloc: Global,
-    terminal: &mut ScriptTerminal,
+    terminal: &mut T,
     host: &mut H,
     prompt: &str,
 ) -> Result<Option<String>, Error>
-    ensures read { IfOk result (λ line. ReadsLine H.rules prompt.now (H.value host.old) (H.value host.new) terminal.old terminal.new (outcome_of (Ok line))) }
+    ensures read { IfOk result (λ line. ReadsLine H.rules prompt.now (H.value host.old) (H.value host.new) (T.state terminal.old) (T.state terminal.new) (outcome_of (Ok line))) }
     ensures kept { IsSteady H.rules → H.value host.new ≡ H.value host.old }
 {
     let mut editor = LineEditor::new(alloc, terminal)?;

@@ -4,20 +4,21 @@ ghost use Rattle.std.specs.Prelude.{◌≡◌, [], IfErr, IfOk, OnOk};
 ghost use Rattle.script_player.specs.Written.{Extends, IsOutside};
 
 use crate::answer::Answer;
-use crate::display::{play_all, show_screen};
+use crate::display::show_screen;
 use crate::escapes::unescape;
 use crate::fault::RunFault;
 use crate::host::read_line;
 use crate::output::put;
 use crate::script::Directive;
 use crate::script_host::ScriptHost;
+use crate::shown::{Played, ScreenTerminal};
 use std::alloc::{AllocError, Global};
 use std::io::Write;
 use std::mem;
 use tw_input::{InputEvent, KeyCode, KeyEvent, Modifiers};
 use tw_lineedit::{BasicHistory, LineEditorHost};
-use tw_surface::{Change, Screen, ScreenFault};
-use tw_terminal::{ScreenSize, ScriptTerminal};
+use tw_surface::{Screen, ScreenFault};
+use tw_terminal::ScreenSize;
 
 /// The rows of each terminal.
 const ROWS: usize = 24;
@@ -120,33 +121,36 @@ impl Session {
             rows: ROWS,
             cols: self.cols,
         };
-        let mut terminal = ScriptTerminal::new(self.alloc, size, events);
+        let screen = mem::replace(&mut self.screen, None);
+        let mut terminal = ScreenTerminal::new(size, events, screen);
         let prompt = self.prompt.as_str();
         let outcome = read_line(self.alloc, &mut terminal, &mut self.host, prompt);
+        let after = terminal.into_shown();
+        self.screen = after.screen;
         let answer = Answer::new(outcome)?;
         let mut shown = format!(in self.alloc; "{answer}\n")?;
-        self.show(terminal.batches(), &mut shown)?;
+        self.show(after.played, &mut shown)?;
         Ok(shown)
     }
 
-    /// Plays the batches on the screen, and adds what it then shows.
-    fn show(&mut self, batches: &[Vec<Change>], shown: &mut String) -> Result<(), RunFault>
+    /// Adds what the screen shows. Where it can not tell, the next reading begins on a new one.
+    fn show(&mut self, played: Played, shown: &mut String) -> Result<(), RunFault>
         ensures fault { IfErr result IsOutside }
         ensures host { host_of self.new ≡ host_of self.old }
     {
-        let Some((closing, paintings)) = batches.split_last() else {
+        let Some(screen) = &self.screen else {
             return Ok(());
         };
-        let Some(screen) = &mut self.screen else {
-            return Ok(());
-        };
-        match play_all(screen, paintings, closing) {
-            Ok(cursor) => show_screen(screen, self.cols, cursor, shown)?,
-            Err(ScreenFault::NotPlain) => {
+        match played {
+            Played::Nothing => {}
+            Played::All(cursor) => show_screen(screen, self.cols, cursor, shown)?,
+            Played::Refused(ScreenFault::NotPlain) => {
                 self.clear_screen();
                 shown.push_str("screen not plain\n")?;
             }
-            Err(ScreenFault::Memory | ScreenFault::OutOfRange) => return Err(RunFault::Memory),
+            Played::Refused(ScreenFault::Memory | ScreenFault::OutOfRange) => {
+                return Err(RunFault::Memory);
+            }
         }
         Ok(())
     }

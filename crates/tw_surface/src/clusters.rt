@@ -24,6 +24,7 @@ pub fn lone_len(lead: u8) -> usize
 }
 
 /// Whether a text is empty or begins with a character that does not join whatever stands before it.
+#[inline(never)]
 fn starts_apart(text: &str) -> bool
     ensures { result ≡ starts_apart (chars text.now) }
 {

@@ -1,10 +1,10 @@
 -- What was rendered, link by link.
 use Rattle.std.specs.Prelude.{List, [], ◌∷◌, ◌++◌}
 use Rattle.tw_surface.specs.ChangeView.{Batch, change_view}
-use Rattle.editor_bench.specs.declared.past.TakenLink.{TakenLink}
-use Rattle.editor_bench.specs.declared.past.TakenLink.TheVariants.{Start, Behind}
-use Rattle.editor_bench.specs.declared.past.PastLink.{PastLink}
-use Rattle.editor_bench.specs.declared.past.PastLink.TheVariants.{Start as PastStart, Behind as PastBehind}
+use Rattle.script_player.specs.declared.past.TakenLink.{TakenLink}
+use Rattle.script_player.specs.declared.past.TakenLink.TheVariants.{Start, Behind}
+use Rattle.script_player.specs.declared.past.PastLink.{PastLink}
+use Rattle.script_player.specs.declared.past.PastLink.TheVariants.{Start as PastStart, Behind as PastBehind}
 
 -- the changes of a batch: those before, and the last one
 abbrev pub taken_view : TakenLink → Batch

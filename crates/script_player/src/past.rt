@@ -27,7 +27,7 @@ impl Model for Taken {
 
     ghost Value = { Batch };
 
-    ghost use Rattle.editor_bench.specs.Past.{taken_view};
+    ghost use Rattle.script_player.specs.Past.{taken_view};
 
     ghost view = { λ s. taken_view s.link };
 
@@ -86,7 +86,7 @@ impl Model for Past {
 
     ghost Value = { List Batch };
 
-    ghost use Rattle.editor_bench.specs.Past.{past_view};
+    ghost use Rattle.script_player.specs.Past.{past_view};
 
     ghost view = { λ s. past_view s.link };
 

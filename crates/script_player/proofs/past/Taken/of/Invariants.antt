@@ -1,6 +1,6 @@
 use Rattle.std.proofs.Common.{◌≡◌, take}
 use Rattle.tw_surface.specs.ChangeView.{batch_view}
-use Rattle.editor_bench.proofs.past.Taken.of.Given as goal
+use Rattle.script_player.proofs.past.Taken.of.Given as goal
 
 -- the changes that were passed are taken
 abbrev pub invariant-loop-change : goal.invariant-loop-change

@@ -1,0 +1,119 @@
+//! A terminal that shows what is rendered at once.
+
+ghost use Rattle.std.specs.Prelude.{◌≡◌, length, map};
+ghost use Rattle.std.specs.Vec.Iter.{into_iter_items};
+ghost use Rattle.tw_input.specs.EventView.{event_view};
+ghost use Rattle.tw_terminal.specs.TerminalState.{TerminalState};
+
+use crate::display::play;
+use crate::past::Past;
+use std::snapshot::Snapshot;
+use std::vec::IntoIter;
+use tw_input::InputEvent;
+use tw_surface::{Change, Screen, ScreenFault};
+use tw_terminal::{ScreenSize, Terminal, TerminalFault};
+
+/// What batches came to on a screen.
+#[derive(Debug, Drop)]
+pub enum Played {
+    /// There was none.
+    Nothing,
+    /// All were played, and the cursor was at this row and column before the last one.
+    All((usize, usize)),
+    /// One was refused, and none after it was played.
+    Refused(ScreenFault),
+}
+
+/// A screen, if there is one, and what the batches that were rendered came to on it.
+#[derive(Drop)]
+pub struct Shown {
+    pub screen: Option<Screen>,
+    pub played: Played,
+}
+
+impl Shown {
+    /// Plays a batch, unless one was refused before it.
+    fn play(&mut self, batch: &[Change]) {
+        let Some(screen) = &mut self.screen else {
+            return;
+        };
+        if matches!(self.played, Played::Refused(_)) {
+            return;
+        }
+        let cursor = screen.cursor();
+        self.played = match play(screen, batch) {
+            Ok(()) => Played::All(cursor),
+            Err(fault) => Played::Refused(fault),
+        };
+    }
+}
+
+/// A terminal of a script's events that plays each batch on a screen when it is rendered, and keeps none. Without a
+/// screen it drops them.
+#[derive(Drop)]
+pub struct ScreenTerminal {
+    size: ScreenSize,
+    events: IntoIter<InputEvent>,
+    shown: Shown,
+    past: Past,
+    flushed: Snapshot<Past>,
+}
+
+impl ScreenTerminal {
+    /// A terminal of this size with these events, on a screen. It takes no memory.
+    pub fn new(size: ScreenSize, events: Vec<InputEvent>, screen: Option<Screen>) -> Self {
+        let past = Past::new();
+        let flushed = Snapshot::of(&past);
+        ScreenTerminal {
+            size,
+            events: events.into_iter(),
+            shown: Shown {
+                screen,
+                played: Played::Nothing,
+            },
+            past,
+            flushed,
+        }
+    }
+
+    /// The screen, and what the batches came to on it.
+    pub fn into_shown(self) -> Shown {
+        self.shown
+    }
+}
+
+impl Terminal for ScreenTerminal {
+    ghost state = { λ terminal. record {
+      size = terminal.size;
+      events = map event_view (into_iter_items terminal.events);
+      batches = terminal.past;
+      flushed = length terminal.flushed.value;
+      failures = 0;
+    } };
+
+    fn get_screen_size(&mut self) -> Result<ScreenSize, TerminalFault> {
+        Ok(self.size)
+    }
+
+    fn poll_input(&mut self) -> Result<Option<InputEvent>, TerminalFault> {
+        let event = self.events.next();
+        if let Some(InputEvent::Resized { cols, rows }) = &event {
+            self.size = ScreenSize {
+                rows: *rows,
+                cols: *cols,
+            };
+        }
+        Ok(event)
+    }
+
+    fn render(&mut self, changes: &[Change]) -> Result<(), TerminalFault> {
+        self.past = self.past.with_batch(changes);
+        self.shown.play(changes);
+        Ok(())
+    }
+
+    fn flush(&mut self) -> Result<(), TerminalFault> {
+        self.flushed = Snapshot::of(&self.past);
+        Ok(())
+    }
+}
