@@ -1,7 +1,7 @@
 -- A host that puts the cursor of every line at one column.
 use Rattle.std.specs.Prelude.{ℕ, true, false, List, [], refl}
 use Rattle.std.proofs.lemmas.Bool.{true≢false}
-use Rattle.tw_lineedit.specs.declared.OwnAnswers.{OwnAnswers}
+use Rattle.tw_lineedit.specs.declared.Overrides.{Overrides}
 use Rattle.tw_lineedit.specs.HostRules.{HostRules, plain_text, unresolved}
 use Rattle.tw_lineedit.specs.PlainAnswers.{IsPlainBut}
 
@@ -22,10 +22,10 @@ column_rules = record {
 }
 
 -- the highlighted line alone is an answer of its own
-abbrev pub highlight_own : OwnAnswers
-highlight_own = record { prompt = false; preview = false; highlight = true; complete = false; resolve = false }
+abbrev pub highlight_override : Overrides
+highlight_override = record { render_prompt = false; render_preview = false; highlight_line = true; complete = false; resolve_action = false }
 
-pub column_is_plain : IsPlainBut column_rules highlight_own
+pub column_is_plain : IsPlainBut column_rules highlight_override
 column_is_plain = record {
   prompt = λ e v text. refl;
   preview = λ e v line. refl;

@@ -1,10 +1,10 @@
 //! A host with a column of its own.
 
 ghost use Rattle.std.specs.Prelude.{◌≡◌, [], refl};
-ghost use Rattle.case_player.specs.ColumnHost.{Placed, column_rules, highlight_own, column_is_plain};
+ghost use Rattle.case_player.specs.ColumnHost.{Placed, column_rules, highlight_override, column_is_plain};
 
 use std::alloc::{AllocError, Global};
-use tw_lineedit::{BasicHistory, LineEditorHost, OutputElement, OwnAnswers};
+use tw_lineedit::{BasicHistory, LineEditorHost, OutputElement, Overrides};
 
 /// A host that puts the cursor of every line at one column.
 #[derive(Drop)]
@@ -32,15 +32,15 @@ impl LineEditorHost for ColumnHost {
 
     ghost rules = { column_rules };
 
-    ghost held = { λ host. host.history };
+    ghost history_of = { λ host. host.history };
 
-    ghost with_held = { λ host history. record host { history = history } };
+    ghost with_history = { λ host history. record host { history = history } };
 
-    ghost OWN = { highlight_own };
+    ghost OVERRIDES = { highlight_override };
 
-    const OWN: OwnAnswers = OwnAnswers {
-        highlight: true,
-        ..OwnAnswers::NONE
+    const OVERRIDES: Overrides = Overrides {
+        highlight_line: true,
+        ..Overrides::NONE
     };
 
     fn history(&mut self) -> &mut BasicHistory {
@@ -60,7 +60,7 @@ impl LineEditorHost for ColumnHost {
 
     ghost plain_answers = { column_is_plain };
 
-    ghost held_back = { λ host. refl };
+    ghost history_put_back = { λ host. refl };
 
     ghost held_put = { λ host history. refl };
 

@@ -1,7 +1,7 @@
 -- A host whose preview is a list of texts.
 use Rattle.std.specs.Prelude.{ℕ, true, false, List, [], map, refl}
 use Rattle.std.proofs.lemmas.Bool.{true≢false}
-use Rattle.tw_lineedit.specs.declared.OwnAnswers.{OwnAnswers}
+use Rattle.tw_lineedit.specs.declared.Overrides.{Overrides}
 use Rattle.tw_lineedit.specs.ElementView.{ElementView, Text}
 use Rattle.tw_lineedit.specs.HostRules.{HostRules, plain_text, plain_highlight, unresolved}
 use Rattle.tw_lineedit.specs.PlainAnswers.{IsPlainBut}
@@ -23,10 +23,10 @@ pieces_rules = record {
 }
 
 -- the preview alone is an answer of its own
-abbrev pub preview_own : OwnAnswers
-preview_own = record { prompt = false; preview = true; highlight = false; complete = false; resolve = false }
+abbrev pub preview_override : Overrides
+preview_override = record { render_prompt = false; render_preview = true; highlight_line = false; complete = false; resolve_action = false }
 
-pub pieces_is_plain : IsPlainBut pieces_rules preview_own
+pub pieces_is_plain : IsPlainBut pieces_rules preview_override
 pieces_is_plain = record {
   prompt = λ e v text. refl;
   preview = λ e v line. absurd (true≢false e);

@@ -4,7 +4,7 @@ use Rattle.std.proofs.lemmas.Bool.{true≢false}
 use Rattle.tw_input.specs.declared.key.KeyCode.{KeyCode}
 use Rattle.tw_input.specs.declared.key.KeyCode.TheVariants.{Escape, Function}
 use Rattle.tw_input.specs.EventView.{EventView, Key}
-use Rattle.tw_lineedit.specs.declared.OwnAnswers.{OwnAnswers}
+use Rattle.tw_lineedit.specs.declared.Overrides.{Overrides}
 use Rattle.tw_lineedit.specs.ActionView.{Cancel, NoAction}
 use Rattle.tw_lineedit.specs.Cut.{Cut, cut_at}
 use Rattle.tw_lineedit.specs.HostRules.{HostRules, Resolution, plain_text, plain_highlight, unresolved}
@@ -34,10 +34,10 @@ resolving_rules = record {
 }
 
 -- the resolutions alone are answers of its own
-abbrev pub resolve_own : OwnAnswers
-resolve_own = record { prompt = false; preview = false; highlight = false; complete = false; resolve = true }
+abbrev pub resolve_override : Overrides
+resolve_override = record { render_prompt = false; render_preview = false; highlight_line = false; complete = false; resolve_action = true }
 
-pub resolving_is_plain : IsPlainBut resolving_rules resolve_own
+pub resolving_is_plain : IsPlainBut resolving_rules resolve_override
 resolving_is_plain = record {
   prompt = λ e v text. refl;
   preview = λ e v line. refl;

@@ -5,7 +5,7 @@ use Rattle.tw_surface.specs.Width.{column_width}
 use Rattle.tw_input.specs.declared.key.KeyCode.{KeyCode}
 use Rattle.tw_input.specs.declared.key.KeyCode.TheVariants.{Function}
 use Rattle.tw_input.specs.EventView.{EventView, Key}
-use Rattle.tw_lineedit.specs.declared.OwnAnswers.{OwnAnswers}
+use Rattle.tw_lineedit.specs.declared.Overrides.{Overrides}
 use Rattle.tw_lineedit.specs.ActionView.{NoAction, Repaint}
 use Rattle.tw_lineedit.specs.Cut.{Cut, cut_at}
 use Rattle.tw_lineedit.specs.HostRules.{HostRules, Highlight, Resolution, plain_text, unresolved}
@@ -49,10 +49,10 @@ stray_rules = record {
 }
 
 -- the highlighted line and the resolutions are answers of its own
-abbrev pub stray_own : OwnAnswers
-stray_own = record { prompt = false; preview = false; highlight = true; complete = false; resolve = true }
+abbrev pub stray_overrides : Overrides
+stray_overrides = record { render_prompt = false; render_preview = false; highlight_line = true; complete = false; resolve_action = true }
 
-pub stray_is_plain : IsPlainBut stray_rules stray_own
+pub stray_is_plain : IsPlainBut stray_rules stray_overrides
 stray_is_plain = record {
   prompt = λ e v text. refl;
   preview = λ e v line. refl;

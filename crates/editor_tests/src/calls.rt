@@ -2,7 +2,7 @@
 
 ghost use Rattle.std.specs.Prelude.{ℕ, List, refl};
 ghost use Rattle.tw_lineedit.specs.HostRules.{plain_rules};
-ghost use Rattle.editor_tests.specs.AskedHost.{asked_is_plain, shown_own};
+ghost use Rattle.editor_tests.specs.AskedHost.{asked_is_plain, shown_overrides};
 
 use crate::support::{answer_text, terminal_of};
 use std::alloc::{AllocError, Global};
@@ -12,7 +12,7 @@ use std::test::Fail;
 use tw_input::InputEvent;
 use tw_lineedit::{
     Action, BasicHistory, History, LineEditor, LineEditorHost, NopLineEditorHost, OutputElement,
-    OwnAnswers,
+    Overrides,
 };
 use tw_surface::{Change, unicode_column_width};
 use tw_terminal::{ScreenSize, ScriptTerminal, Terminal, TerminalFault};
@@ -156,17 +156,17 @@ impl LineEditorHost for AskedHost {
 
     ghost rules = { plain_rules (λ lines. lines) };
 
-    ghost held = { λ host. host.history };
+    ghost history_of = { λ host. host.history };
 
-    ghost with_held = { λ host history. record host { history = history } };
+    ghost with_history = { λ host history. record host { history = history } };
 
-    ghost OWN = { shown_own };
+    ghost OVERRIDES = { shown_overrides };
 
-    const OWN: OwnAnswers = OwnAnswers {
-        prompt: true,
-        preview: true,
-        highlight: true,
-        ..OwnAnswers::NONE
+    const OVERRIDES: Overrides = Overrides {
+        render_prompt: true,
+        render_preview: true,
+        highlight_line: true,
+        ..Overrides::NONE
     };
 
     fn history(&mut self) -> &mut BasicHistory {
@@ -198,7 +198,7 @@ impl LineEditorHost for AskedHost {
 
     ghost plain_answers = { asked_is_plain };
 
-    ghost held_back = { λ host. refl };
+    ghost history_put_back = { λ host. refl };
 
     ghost held_put = { λ host history. refl };
 

@@ -1,7 +1,7 @@
 //! Hosts that answer for themselves.
 
 ghost use Rattle.std.specs.Prelude.{ℕ, List, refl};
-ghost use Rattle.editor_tests.specs.ResolvingHost.{resolving_rules, resolve_own, resolving_is_plain};
+ghost use Rattle.editor_tests.specs.ResolvingHost.{resolving_rules, resolve_override, resolving_is_plain};
 
 use crate::actions::expect_action;
 use crate::histories::told_of;
@@ -12,7 +12,7 @@ use std::test::Fail;
 use tw_input::{InputEvent, KeyCode, KeyEvent};
 use tw_lineedit::{
     Action, BasicHistory, LineEditBuffer, LineEditorHost, NopLineEditorHost, OutputElement,
-    OwnAnswers,
+    Overrides,
 };
 
 /// What is shown of a reading without events, on a terminal of so many columns.
@@ -74,15 +74,15 @@ impl LineEditorHost for ResolvingHost {
 
     ghost rules = { resolving_rules };
 
-    ghost held = { λ host. host.history };
+    ghost history_of = { λ host. host.history };
 
-    ghost with_held = { λ host history. record host { history = history } };
+    ghost with_history = { λ host history. record host { history = history } };
 
-    ghost OWN = { resolve_own };
+    ghost OVERRIDES = { resolve_override };
 
-    const OWN: OwnAnswers = OwnAnswers {
-        resolve: true,
-        ..OwnAnswers::NONE
+    const OVERRIDES: Overrides = Overrides {
+        resolve_action: true,
+        ..Overrides::NONE
     };
 
     fn history(&mut self) -> &mut BasicHistory {
@@ -117,7 +117,7 @@ impl LineEditorHost for ResolvingHost {
 
     ghost plain_answers = { resolving_is_plain };
 
-    ghost held_back = { λ host. refl };
+    ghost history_put_back = { λ host. refl };
 
     ghost held_put = { λ host history. refl };
 

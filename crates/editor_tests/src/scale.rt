@@ -1,7 +1,7 @@
 //! Long lines, wide prompts, long histories, and hosts with many candidates or elements.
 
 ghost use Rattle.std.specs.Prelude.{ℕ, List, map, string_bytes, refl};
-ghost use Rattle.editor_tests.specs.PiecesHost.{Pieces, pieces_rules, preview_own, pieces_is_plain};
+ghost use Rattle.editor_tests.specs.PiecesHost.{Pieces, pieces_rules, preview_override, pieces_is_plain};
 
 use crate::histories::told_of;
 use crate::support::{case_of, events_of, readings_of};
@@ -11,7 +11,7 @@ use std::process::Abort;
 use std::test::Fail;
 use tw_input::InputEvent;
 use tw_lineedit::{
-    BasicHistory, History, LineEditor, LineEditorHost, NopLineEditorHost, OutputElement, OwnAnswers,
+    BasicHistory, History, LineEditor, LineEditorHost, NopLineEditorHost, OutputElement, Overrides,
 };
 use tw_terminal::{ScreenSize, ScriptTerminal};
 
@@ -173,15 +173,15 @@ impl LineEditorHost for PiecesHost {
 
     ghost rules = { pieces_rules };
 
-    ghost held = { λ host. host.history };
+    ghost history_of = { λ host. host.history };
 
-    ghost with_held = { λ host history. record host { history = history } };
+    ghost with_history = { λ host history. record host { history = history } };
 
-    ghost OWN = { preview_own };
+    ghost OVERRIDES = { preview_override };
 
-    const OWN: OwnAnswers = OwnAnswers {
-        preview: true,
-        ..OwnAnswers::NONE
+    const OVERRIDES: Overrides = Overrides {
+        render_preview: true,
+        ..Overrides::NONE
     };
 
     fn history(&mut self) -> &mut BasicHistory {
@@ -199,7 +199,7 @@ impl LineEditorHost for PiecesHost {
 
     ghost plain_answers = { pieces_is_plain };
 
-    ghost held_back = { λ host. refl };
+    ghost history_put_back = { λ host. refl };
 
     ghost held_put = { λ host history. refl };
 

@@ -1,7 +1,7 @@
 //! Hosts that keep the laws and are unkind all the same.
 
 ghost use Rattle.std.specs.Prelude.{ℕ, List, refl};
-ghost use Rattle.editor_tests.specs.StrayHost.{Stray, stray_rules, stray_own, stray_is_plain};
+ghost use Rattle.editor_tests.specs.StrayHost.{Stray, stray_rules, stray_overrides, stray_is_plain};
 
 use crate::calls::Listing;
 use crate::histories::told_of;
@@ -12,7 +12,7 @@ use std::test::Fail;
 use tw_input::{InputEvent, KeyCode, KeyEvent};
 use tw_lineedit::{
     Action, BasicHistory, LineEditBuffer, LineEditor, LineEditorHost, NopLineEditorHost,
-    OutputElement, OwnAnswers,
+    OutputElement, Overrides,
 };
 use tw_surface::unicode_column_width;
 
@@ -33,16 +33,16 @@ impl LineEditorHost for StrayHost {
 
     ghost rules = { stray_rules };
 
-    ghost held = { λ host. host.history };
+    ghost history_of = { λ host. host.history };
 
-    ghost with_held = { λ host history. record host { history = history } };
+    ghost with_history = { λ host history. record host { history = history } };
 
-    ghost OWN = { stray_own };
+    ghost OVERRIDES = { stray_overrides };
 
-    const OWN: OwnAnswers = OwnAnswers {
-        highlight: true,
-        resolve: true,
-        ..OwnAnswers::NONE
+    const OVERRIDES: Overrides = Overrides {
+        highlight_line: true,
+        resolve_action: true,
+        ..Overrides::NONE
     };
 
     fn history(&mut self) -> &mut BasicHistory {
@@ -105,7 +105,7 @@ impl LineEditorHost for StrayHost {
 
     ghost plain_answers = { stray_is_plain };
 
-    ghost held_back = { λ host. refl };
+    ghost history_put_back = { λ host. refl };
 
     ghost held_put = { λ host history. refl };
 

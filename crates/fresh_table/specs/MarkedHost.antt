@@ -2,7 +2,7 @@
 use Rattle.std.specs.Prelude.{ℕ, Bool, true, false, ⊤, List, [], ◌∷◌, Option, Some, None, take, drop, refl}
 use Rattle.std.proofs.Common.{subst}
 use Rattle.tw_surface.specs.declared.cell.AttributeChange.TheVariants.{Reverse}
-use Rattle.tw_lineedit.specs.declared.OwnAnswers.{OwnAnswers}
+use Rattle.tw_lineedit.specs.declared.Overrides.{Overrides}
 use Rattle.tw_lineedit.specs.Cut.{Cut}
 use Rattle.tw_lineedit.specs.CandidateView.{CandidateView}
 use Rattle.tw_lineedit.specs.ElementView.{ElementView, Attribute, Text}
@@ -42,14 +42,14 @@ marked_rules = record {
 }
 
 -- the preview, the highlighted line and the candidates are answers of its own
-abbrev pub marked_own : OwnAnswers
-marked_own = record { prompt = false; preview = true; highlight = true; complete = true; resolve = false }
+abbrev pub marked_overrides : Overrides
+marked_overrides = record { render_prompt = false; render_preview = true; highlight_line = true; complete = true; resolve_action = false }
 
 abbrev IsOn : Bool → Type 0
 IsOn true = ⊤
 IsOn false = ⊥
 
-pub marked_is_plain : IsPlainBut marked_rules marked_own
+pub marked_is_plain : IsPlainBut marked_rules marked_overrides
 marked_is_plain = record {
   prompt = λ e v text. refl;
   preview = λ e v line. absurd (subst IsOn e tt);

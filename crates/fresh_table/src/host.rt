@@ -2,11 +2,11 @@
 
 ghost use Rattle.std.specs.Prelude.{map, refl, string_bytes};
 ghost use Rattle.tw_lineedit.specs.CandidateView.{candidate_view};
-ghost use Rattle.fresh_table.specs.MarkedHost.{Marked, marked_is_plain, marked_own, marked_rules};
+ghost use Rattle.fresh_table.specs.MarkedHost.{Marked, marked_is_plain, marked_overrides, marked_rules};
 
 use std::alloc::{AllocError, Global};
 use std::ops::Range;
-use tw_lineedit::{CompletionCandidate, History, LineEditorHost, OutputElement, OwnAnswers};
+use tw_lineedit::{CompletionCandidate, History, LineEditorHost, OutputElement, Overrides};
 use tw_surface::AttributeChange;
 
 /// A host with a history, a preview of one text and candidates that it answers to every request. The preview may
@@ -59,17 +59,17 @@ impl<L: History> LineEditorHost for MarkedHost<L> {
 
     ghost rules = { marked_rules };
 
-    ghost held = { λ host. host.history };
+    ghost history_of = { λ host. host.history };
 
-    ghost with_held = { λ host history. record host { history = history } };
+    ghost with_history = { λ host history. record host { history = history } };
 
-    ghost OWN = { marked_own };
+    ghost OVERRIDES = { marked_overrides };
 
-    const OWN: OwnAnswers = OwnAnswers {
-        preview: true,
-        highlight: true,
+    const OVERRIDES: Overrides = Overrides {
+        render_preview: true,
+        highlight_line: true,
         complete: true,
-        ..OwnAnswers::NONE
+        ..Overrides::NONE
     };
 
     fn history(&mut self) -> &mut L {
@@ -119,7 +119,7 @@ impl<L: History> LineEditorHost for MarkedHost<L> {
 
     ghost plain_answers = { marked_is_plain };
 
-    ghost held_back = { λ host. refl };
+    ghost history_put_back = { λ host. refl };
 
     ghost held_put = { λ host history. refl };
 

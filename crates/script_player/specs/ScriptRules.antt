@@ -1,11 +1,11 @@
 -- The host of a script: one preview under every line, and the same candidates at every request.
 use Rattle.std.specs.Prelude.{◌≡◌, ℕ, true, false, List, [], ◌∷◌, ◌++◌, Some, refl}
 use Rattle.std.proofs.lemmas.Bool.{true≢false}
-use Rattle.tw_lineedit.specs.declared.OwnAnswers.{OwnAnswers}
+use Rattle.tw_lineedit.specs.declared.Overrides.{Overrides}
 use Rattle.tw_lineedit.specs.CandidateView.{CandidateView}
 use Rattle.tw_lineedit.specs.ElementView.{ElementView}
 use Rattle.tw_lineedit.specs.HostRules.{HostRules, plain_text, plain_highlight, unresolved}
-use Rattle.tw_lineedit.specs.Near.{last_line}
+use Rattle.tw_lineedit.specs.NearestMatch.{last_line}
 use Rattle.tw_lineedit.specs.PlainAnswers.{IsPlainBut}
 
 -- the lines of its history, the text of its preview, and its candidates
@@ -47,10 +47,10 @@ script_rules = record {
 }
 
 -- the preview and the candidates are answers of its own
-abbrev pub script_own : OwnAnswers
-script_own = record { prompt = false; preview = true; highlight = false; complete = true; resolve = false }
+abbrev pub script_overrides : Overrides
+script_overrides = record { render_prompt = false; render_preview = true; highlight_line = false; complete = true; resolve_action = false }
 
-pub script_is_plain : IsPlainBut script_rules script_own
+pub script_is_plain : IsPlainBut script_rules script_overrides
 script_is_plain = record {
   prompt = λ e v text. refl;
   preview = λ e v line. absurd (true≢false e);

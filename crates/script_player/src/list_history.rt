@@ -2,8 +2,8 @@
 
 ghost use Rattle.std.specs.Cow.{IsBorrowedStr, cow_str_bytes};
 ghost use Rattle.std.specs.Prelude.{◌≡◌, ◌++◌, ◌∷◌, [], IfOk, IfSome, IsCharBoundary, IsOk, IsOkAnd, OnErr, OnOk, Some, if◌then◌else◌, is_ok, option_map, slice_get};
-ghost use Rattle.tw_lineedit.specs.Added.{is_line, match_view, with_line};
-ghost use Rattle.tw_lineedit.specs.Near.{last_line, near};
+ghost use Rattle.tw_lineedit.specs.HistoryAdditions.{is_line, match_view, with_line};
+ghost use Rattle.tw_lineedit.specs.NearestMatch.{last_line, nearest_match};
 
 use std::alloc::{AllocError, Global};
 use std::borrow::CowStr;
@@ -113,7 +113,7 @@ impl History for ListHistory {
         pattern: &str,
     ) -> Result<Option<SearchResult<'_>>, AllocError>
         ensures found { IsOkAnd result (λ found.
-            option_map match_view found ≡ near self.now idx direction pattern.now) }
+            option_map match_view found ≡ nearest_match self.now idx direction pattern.now) }
         ensures boundary { IfOk result (λ found.
             IfSome found (λ m. IsCharBoundary (cow_str_bytes m.line) m.cursor)) }
         ensures borrowed { IfOk result (λ found. IfSome found (λ m. IsBorrowedStr m.line)) }

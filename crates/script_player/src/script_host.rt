@@ -2,11 +2,11 @@
 
 ghost use Rattle.std.specs.Prelude.{◌≡◌, map, string_bytes, OnOk, OnErr, refl};
 ghost use Rattle.tw_lineedit.specs.CandidateView.{candidate_view};
-ghost use Rattle.script_player.specs.ScriptRules.{Scripted, history_only, with_candidate, with_preview, script_rules, script_own, script_is_plain};
+ghost use Rattle.script_player.specs.ScriptRules.{Scripted, history_only, with_candidate, with_preview, script_rules, script_overrides, script_is_plain};
 
 use std::alloc::{AllocError, Global};
 use std::ops::Range;
-use tw_lineedit::{CompletionCandidate, History, LineEditorHost, OutputElement, OwnAnswers};
+use tw_lineedit::{CompletionCandidate, History, LineEditorHost, OutputElement, Overrides};
 
 /// A host with a history, a preview under every line, and candidates that it answers to every request. Its
 /// other answers are the default ones.
@@ -61,16 +61,16 @@ impl<L: History> LineEditorHost for ScriptHost<L> {
 
     ghost rules = { script_rules };
 
-    ghost held = { λ host. host.history };
+    ghost history_of = { λ host. host.history };
 
-    ghost with_held = { λ host history. record host { history = history } };
+    ghost with_history = { λ host history. record host { history = history } };
 
-    ghost OWN = { script_own };
+    ghost OVERRIDES = { script_overrides };
 
-    const OWN: OwnAnswers = OwnAnswers {
-        preview: true,
+    const OVERRIDES: Overrides = Overrides {
+        render_preview: true,
         complete: true,
-        ..OwnAnswers::NONE
+        ..Overrides::NONE
     };
 
     fn history(&mut self) -> &mut L {
@@ -104,7 +104,7 @@ impl<L: History> LineEditorHost for ScriptHost<L> {
 
     ghost plain_answers = { script_is_plain };
 
-    ghost held_back = { λ host. refl };
+    ghost history_put_back = { λ host. refl };
 
     ghost held_put = { λ host history. refl };
 

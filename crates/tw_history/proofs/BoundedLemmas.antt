@@ -1,7 +1,7 @@
 -- The newest of the lines of a history.
 use Rattle.std.proofs.Common.{◌≡◌, ℕ, ◌-◌, ◌<◌, ◌≤◌, zero, suc, List, [], ◌∷◌, ◌++◌, length, drop, Some, refl, ap, ◌∙◌, arith, length-append}
 use Rattle.std.specs.List.{slice_get}
-use Rattle.tw_history.specs.Near.{last_line}
+use Rattle.tw_history.specs.NearestMatch.{last_line}
 use Rattle.tw_history.specs.Bounded.{newest}
 
 at_end : (xs : List (List ℕ)) (x : List ℕ) → slice_get (xs ++ x ∷ []) (length xs) ≡ Some x

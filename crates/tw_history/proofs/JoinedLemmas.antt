@@ -8,7 +8,7 @@ use Rattle.std.proofs.lemmas.Str.{IsCharBoundary-start, IsCharBoundary-end, IsCh
 use Rattle.std.specs.List.{All, concat, slice_range}
 use Rattle.std.specs.Str.{IsUtf8, IsCharBoundary}
 use Rattle.tw_history.specs.Joined.{ends_from, lines_from, AreEnds}
-use Rattle.tw_history.specs.Near.{line_at}
+use Rattle.tw_history.specs.NearestMatch.{line_at}
 
 -- there are as many lines as end offsets
 pub length-lines_from : (text : List ℕ) (start : ℕ) (ends : List ℕ) → length (lines_from text start ends) ≡ length ends

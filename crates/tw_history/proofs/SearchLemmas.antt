@@ -7,7 +7,7 @@ use Rattle.std.specs.Str.Pattern.{FindsText, LacksTextAt, HasTextAt, MatchBegins
 use Rattle.tw_history.specs.declared.history.SearchDirection.{SearchDirection}
 use Rattle.tw_history.specs.declared.history.SearchDirection.TheVariants.{Backwards, Forwards}
 use Rattle.tw_extremes.specs.Extremes.{least_from, greatest_below, IsLeast, IsGreatest, NonePasses}
-use Rattle.tw_history.specs.Near.{MatchView, near, near_index, match_at, matches, line_at, IsNear, IsNearIndex, HasNoMatch}
+use Rattle.tw_history.specs.NearestMatch.{MatchView, nearest_match, nearest_index, match_at, matches, line_at, IsNearestMatch, IsNearestIndex, HasNoMatch}
 use Rattle.tw_history.specs.Patterns.{stands_at, first, IsFirst}
 use Rattle.tw_extremes.proofs.ExtremesLemmas.{least_from-is, least_from-none, greatest_below-is, greatest_below-none}
 
@@ -100,14 +100,14 @@ cursor_is_first pattern line (Some at) some found = found
 
 module _ (lines : List (List ℕ)) (pattern : List ℕ) (idx : ℕ) where
   -- from past the last line nothing is near
-  pub near-past : (direction : SearchDirection) → length lines ≤ idx → near lines idx direction pattern ≡ None
-  unfolding near
-  near-past direction past = rw (le-ltb idx (length lines) past) refl
+  pub nearest_match-past : (direction : SearchDirection) → length lines ≤ idx → nearest_match lines idx direction pattern ≡ None
+  unfolding nearest_match
+  nearest_match-past direction past = rw (le-ltb idx (length lines) past) refl
 
   -- the answer is the index of the nearest match, or there is no match
   abbrev FindsIndex : SearchDirection → Option ℕ → Type 0
   FindsIndex direction None = HasNoMatch lines idx direction pattern
-  FindsIndex direction (Some i) = IsNearIndex lines idx direction pattern i × (matches lines pattern i ≡ true)
+  FindsIndex direction (Some i) = IsNearestIndex lines idx direction pattern i × (matches lines pattern i ≡ true)
 
   backwards_finds : (o : Option ℕ) → FindsGreatest (matches lines pattern) (idx + 1) o → FindsIndex Backwards o
   backwards_finds None none = none
@@ -117,16 +117,16 @@ module _ (lines : List (List ℕ)) (pattern : List ℕ) (idx : ℕ) where
   forwards_finds None none = none
   forwards_finds (Some i) found = (found, found.passes)
 
-  near_index-finds : (direction : SearchDirection) → idx < length lines → FindsIndex direction (near_index lines idx direction pattern)
-  near_index-finds Backwards inside = backwards_finds _ (greatest_below-finds (matches lines pattern) (idx + 1))
-  near_index-finds Forwards inside =
+  nearest_index-finds : (direction : SearchDirection) → idx < length lines → FindsIndex direction (nearest_index lines idx direction pattern)
+  nearest_index-finds Backwards inside = backwards_finds _ (greatest_below-finds (matches lines pattern) (idx + 1))
+  nearest_index-finds Forwards inside =
       forwards_finds _ (least_from-finds (matches lines pattern) (length lines - idx) idx (length lines) (omega arith))
 
   -- the match at that index is the one that the relation describes
-  match_at-near : (direction : SearchDirection) (o : Option ℕ) → idx < length lines → FindsIndex direction o
-      → IsNear lines idx direction pattern (option_map (match_at lines pattern) o)
-  match_at-near direction None inside none = inr none
-  match_at-near direction (Some i) inside found = record {
+  match_at-nearest_match : (direction : SearchDirection) (o : Option ℕ) → idx < length lines → FindsIndex direction o
+      → IsNearestMatch lines idx direction pattern (option_map (match_at lines pattern) o)
+  match_at-nearest_match direction None inside none = inr none
+  match_at-nearest_match direction (Some i) inside found = record {
     start = inside;
     nearest = found.0;
     line = refl;
@@ -134,36 +134,36 @@ module _ (lines : List (List ℕ)) (pattern : List ℕ) (idx : ℕ) where
   }
 
   module _ (inside : idx < length lines) where
-    near-inside : (direction : SearchDirection)
-        → near lines idx direction pattern ≡ option_map (match_at lines pattern) (near_index lines idx direction pattern)
-    unfolding near
-    near-inside direction = rw (lt-ltb idx (length lines) inside) refl
+    nearest_match-inside : (direction : SearchDirection)
+        → nearest_match lines idx direction pattern ≡ option_map (match_at lines pattern) (nearest_index lines idx direction pattern)
+    unfolding nearest_match
+    nearest_match-inside direction = rw (lt-ltb idx (length lines) inside) refl
 
     -- what the loops of a search find, where no line that they passed contains the pattern
     pub found_backwards : (i : ℕ) (found : MatchView) → i ≤ idx → matches lines pattern i ≡ true → found ≡ match_at lines pattern i
-        → NonePasses (matches lines pattern) (i + 1) (idx + 1) → Some found ≡ near lines idx Backwards pattern
+        → NonePasses (matches lines pattern) (i + 1) (idx + 1) → Some found ≡ nearest_match lines idx Backwards pattern
     found_backwards i found low passes same none =
         let nearest = greatest_below-is (matches lines pattern) (idx + 1) i (omega arith) passes none in
-        rw (near-inside Backwards, nearest, same) refl
+        rw (nearest_match-inside Backwards, nearest, same) refl
 
-    pub none_backwards : NonePasses (matches lines pattern) 0 (idx + 1) → None ≡ near lines idx Backwards pattern
-    none_backwards none = rw (near-inside Backwards, greatest_below-none (matches lines pattern) (idx + 1) none) refl
+    pub none_backwards : NonePasses (matches lines pattern) 0 (idx + 1) → None ≡ nearest_match lines idx Backwards pattern
+    none_backwards none = rw (nearest_match-inside Backwards, greatest_below-none (matches lines pattern) (idx + 1) none) refl
 
     pub found_forwards : (i : ℕ) (found : MatchView) → idx ≤ i → i < length lines → matches lines pattern i ≡ true
-        → found ≡ match_at lines pattern i → NonePasses (matches lines pattern) idx i → Some found ≡ near lines idx Forwards pattern
+        → found ≡ match_at lines pattern i → NonePasses (matches lines pattern) idx i → Some found ≡ nearest_match lines idx Forwards pattern
     found_forwards i found low high passes same none =
         let nearest = least_from-is (matches lines pattern) (length lines - idx) idx i low (omega arith) passes none in
-        rw (near-inside Forwards, nearest, same) refl
+        rw (nearest_match-inside Forwards, nearest, same) refl
 
-    pub none_forwards : NonePasses (matches lines pattern) idx (length lines) → None ≡ near lines idx Forwards pattern
+    pub none_forwards : NonePasses (matches lines pattern) idx (length lines) → None ≡ nearest_match lines idx Forwards pattern
     none_forwards none =
         let far = least_from-none (matches lines pattern) (length lines - idx) idx (λ k low high. none k low (omega arith)) in
-        rw (near-inside Forwards, far) refl
+        rw (nearest_match-inside Forwards, far) refl
 
 -- the nearest match is the one that the relation describes
-pub near-finds : (lines : List (List ℕ)) (idx : ℕ) (direction : SearchDirection) (pattern : List ℕ)
-    → IsNear lines idx direction pattern (near lines idx direction pattern)
-near-finds lines idx direction pattern =
-    ⊎_elim (λ inside. rw (near-inside lines pattern idx inside direction)
-    (match_at-near lines pattern idx direction _ inside (near_index-finds lines pattern idx direction inside)))
-    (λ past. rw (near-past lines pattern idx direction past) (inl past)) (cases_lt idx (length lines))
+pub nearest_match-finds : (lines : List (List ℕ)) (idx : ℕ) (direction : SearchDirection) (pattern : List ℕ)
+    → IsNearestMatch lines idx direction pattern (nearest_match lines idx direction pattern)
+nearest_match-finds lines idx direction pattern =
+    ⊎_elim (λ inside. rw (nearest_match-inside lines pattern idx inside direction)
+    (match_at-nearest_match lines pattern idx direction _ inside (nearest_index-finds lines pattern idx direction inside)))
+    (λ past. rw (nearest_match-past lines pattern idx direction past) (inl past)) (cases_lt idx (length lines))

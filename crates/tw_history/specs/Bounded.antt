@@ -1,7 +1,7 @@
 -- A history that keeps so many lines at most, the newest.
 use Rattle.std.specs.Prelude.{ℕ, ◌-◌, List, [], ◌∷◌, ◌++◌, drop, length, if◌then◌else◌}
-use Rattle.tw_history.specs.Added.{is_line}
-use Rattle.tw_history.specs.Near.{last_line}
+use Rattle.tw_history.specs.HistoryAdditions.{is_line}
+use Rattle.tw_history.specs.NearestMatch.{last_line}
 
 -- the lines, and how many are kept at most
 pub record Bounded : Type 0 where

@@ -1,6 +1,6 @@
 pub mod Patterns
-pub mod Near
-pub mod Added
+pub mod NearestMatch
+pub mod HistoryAdditions
 pub mod Joined
 pub mod Bounded
 pub mod SearchLaws

@@ -1,7 +1,7 @@
 -- Laws of searches, over the definitions alone.
 use Rattle.std.specs.Prelude.{ℕ, List, Option}
 use Rattle.tw_history.specs.Patterns.{IsFirst}
-use Rattle.tw_history.specs.Near.{near, IsNear}
+use Rattle.tw_history.specs.NearestMatch.{nearest_match, IsNearestMatch}
 use Rattle.tw_history.specs.declared.history.SearchDirection.{SearchDirection}
 
 -- the function finds the first offset of every pattern in every line
@@ -10,4 +10,4 @@ FindsFirst find = (pattern line : List ℕ) → IsFirst pattern line (find patte
 
 -- the nearest match is the one that the relation describes
 abbrev pub FindsNearest : Type 0
-FindsNearest = (lines : List (List ℕ)) (idx : ℕ) (direction : SearchDirection) (pattern : List ℕ) → IsNear lines idx direction pattern (near lines idx direction pattern)
+FindsNearest = (lines : List (List ℕ)) (idx : ℕ) (direction : SearchDirection) (pattern : List ℕ) → IsNearestMatch lines idx direction pattern (nearest_match lines idx direction pattern)

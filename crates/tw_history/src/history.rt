@@ -3,9 +3,9 @@
 ghost use Rattle.std.specs.Cow.{IsBorrowedStr, cow_str_bytes};
 ghost use Rattle.std.specs.List.{concat};
 ghost use Rattle.std.specs.Prelude.{◌≡◌, ◌<◌, ◌++◌, ◌∷◌, [], ℕ, All, IfOk, IfSome, IsCharBoundary, IsOk, IsOkAnd, List, None, OnErr, OnOk, Option, Some, if◌then◌else◌, is_ok, length, option_map, slice_get, slice_index};
-ghost use Rattle.tw_history.specs.Added.{is_line, match_view, with_line};
+ghost use Rattle.tw_history.specs.HistoryAdditions.{is_line, match_view, with_line};
 ghost use Rattle.tw_history.specs.Joined.{AreEnds, ends_from, lines_from};
-ghost use Rattle.tw_history.specs.Near.{last_index, last_line, line_at, near, next_index};
+ghost use Rattle.tw_history.specs.NearestMatch.{last_index, last_line, line_at, nearest_match, next_index};
 ghost use Rattle.tw_history.specs.Patterns.{first};
 
 mod bounded;
@@ -110,7 +110,7 @@ pub trait History {
         pattern: &str,
     ) -> Result<Option<SearchResult<'_>>, AllocError>
         ensures found { IfOk result (λ found.
-            option_map match_view found ≡ near (lines self.now) idx direction pattern.now) }
+            option_map match_view found ≡ nearest_match (lines self.now) idx direction pattern.now) }
         ensures boundary { IfOk result (λ found.
             IfSome found (λ m. IsCharBoundary (cow_str_bytes m.line) m.cursor)) };
 }
@@ -256,7 +256,7 @@ impl History for BasicHistory {
         pattern: &str,
     ) -> Result<Option<SearchResult<'_>>, AllocError>
         ensures found { IsOkAnd result (λ found.
-            option_map match_view found ≡ near self.now idx direction pattern.now) }
+            option_map match_view found ≡ nearest_match self.now idx direction pattern.now) }
         ensures boundary { IfOk result (λ found.
             IfSome found (λ m. IsCharBoundary (cow_str_bytes m.line) m.cursor)) }
         ensures borrowed { IfOk result (λ found. IfSome found (λ m. IsBorrowedStr m.line)) }

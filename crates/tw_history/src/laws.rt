@@ -1,7 +1,7 @@
 //! Laws over the definitions alone: each is the contract of a function that does nothing.
 
 ghost use Rattle.std.specs.Prelude.{◌≡◌, ◌↔◌, IsTrue};
-ghost use Rattle.tw_history.specs.Added.{match_view};
+ghost use Rattle.tw_history.specs.HistoryAdditions.{match_view};
 ghost use Rattle.tw_history.specs.Patterns.{first};
 ghost use Rattle.tw_history.specs.SearchLaws.{FindsFirst, FindsNearest};
 

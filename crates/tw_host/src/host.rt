@@ -9,8 +9,8 @@ ghost use Rattle.tw_line.specs.Cut.{cut_at};
 ghost use Rattle.tw_host.specs.ElementView.{element_view};
 ghost use Rattle.tw_host.specs.CandidateView.{candidate_view};
 ghost use Rattle.tw_host.specs.HostRules.{HostRules, plain_text, plain_highlight, plain_rules};
-ghost use Rattle.tw_history.specs.Near.{last_line};
-ghost use Rattle.tw_host.specs.PlainAnswers.{IsPlainBut, nothing_own, plain_is_plain};
+ghost use Rattle.tw_history.specs.NearestMatch.{last_line};
+ghost use Rattle.tw_host.specs.PlainAnswers.{IsPlainBut, no_overrides, plain_is_plain};
 
 use crate::actions::Action;
 use std::alloc::{AllocError, Global};
@@ -58,36 +58,36 @@ pub struct CompletionCandidate {
 
 /// Which calls a host answers for itself. The default bodies answer the others.
 #[derive(Clone, Copy, Debug, PartialEq, Eq)]
-pub struct OwnAnswers {
-    /// `render_prompt`
-    pub prompt: bool,
-    /// `render_preview`
-    pub preview: bool,
-    /// `highlight_line`
-    pub highlight: bool,
-    /// `complete`
+pub struct Overrides {
+    /// Whether it answers `render_prompt`.
+    pub render_prompt: bool,
+    /// Whether it answers `render_preview`.
+    pub render_preview: bool,
+    /// Whether it answers `highlight_line`.
+    pub highlight_line: bool,
+    /// Whether it answers `complete`.
     pub complete: bool,
-    /// `resolve_action`
-    pub resolve: bool,
+    /// Whether it answers `resolve_action`.
+    pub resolve_action: bool,
 }
 
-impl OwnAnswers {
+impl Overrides {
     /// All answers are those of the default bodies.
-    pub const NONE: OwnAnswers = OwnAnswers {
-        prompt: false,
-        preview: false,
-        highlight: false,
+    pub const NONE: Overrides = Overrides {
+        render_prompt: false,
+        render_preview: false,
+        highlight_line: false,
         complete: false,
-        resolve: false,
+        resolve_action: false,
     };
 
     /// All answers are the host's own.
-    pub const ALL: OwnAnswers = OwnAnswers {
-        prompt: true,
-        preview: true,
-        highlight: true,
+    pub const ALL: Overrides = Overrides {
+        render_prompt: true,
+        render_preview: true,
+        highlight_line: true,
         complete: true,
-        resolve: true,
+        resolve_action: true,
     };
 }
 
@@ -118,10 +118,10 @@ pub fn plain_line(
 /// What an application tells the editor. A host answers by rules, which are functions of the value that it
 /// holds and of the arguments; contracts see `value` and `rules`, and nothing else of a host.
 ///
-/// A host that answers a call for itself says so in `OWN`, since a default body is proved once for all hosts:
-/// where `OWN` names a call whose body was not written, the default refuses it.
+/// A host that answers a call for itself says so in `OVERRIDES`, since a default body is proved once for all hosts:
+/// where `OVERRIDES` names a call whose body was not written, the default refuses it.
 pub trait LineEditorHost {
-    ghost use Rattle.tw_host.specs.declared.host.OwnAnswers.{OwnAnswers};
+    ghost use Rattle.tw_host.specs.declared.host.Overrides.{Overrides};
 
     /// The host's history.
     type Hist: History;
@@ -132,25 +132,25 @@ pub trait LineEditorHost {
 
     ghost rules: { HostRules Value };
 
-    ghost held: { Self → Self.Hist };
+    ghost history_of: { Self → Self.Hist };
 
-    ghost with_held: { Self → Self.Hist → Self };
+    ghost with_history: { Self → Self.Hist → Self };
 
-    ghost OWN: { OwnAnswers };
+    ghost OVERRIDES: { Overrides };
 
     /// Which calls the host answers for itself.
-    const OWN: OwnAnswers;
+    const OVERRIDES: Overrides;
 
     /// Lends the history. Given back as it was, the host is as it was.
     fn history(&mut self) -> &mut Self::Hist
-        ensures* lends { sem 𝓛 (Lends Self.row Self.Hist.row self.entry result (with_held self.old)) }
-        ensures shows { result.now ≡ held self.old };
+        ensures* lends { sem 𝓛 (Lends Self.row Self.Hist.row self.entry result (with_history self.old)) }
+        ensures shows { result.now ≡ history_of self.old };
 
     /// The prompt as it is shown. By default the text itself.
     fn render_prompt(&self, alloc: Global, prompt: &str) -> Result<Vec<OutputElement>, AllocError>
         ensures { IfOk result (λ elements. map element_view elements.items ≡ rules.prompt (value self.now) prompt.now) }
     {
-        if Self::OWN.prompt {
+        if Self::OVERRIDES.render_prompt {
             return Err(AllocError);
         }
         plain_element(alloc, prompt)
@@ -160,7 +160,7 @@ pub trait LineEditorHost {
     fn render_preview(&self, alloc: Global, line: &str) -> Result<Vec<OutputElement>, AllocError>
         ensures { IfOk result (λ elements. map element_view elements.items ≡ rules.preview (value self.now) line.now) }
     {
-        if Self::OWN.preview {
+        if Self::OVERRIDES.render_preview {
             return Err(AllocError);
         }
         Ok(Vec::new(alloc))
@@ -178,7 +178,7 @@ pub trait LineEditorHost {
         ensures elements { IfOk result (λ shown. map element_view shown.0.items ≡ (rules.highlight (value self.now) (cut_at line.now cursor_position)).elements) }
         ensures column { IfOk result (λ shown. shown.1 ≡ (rules.highlight (value self.now) (cut_at line.now cursor_position)).column) }
     {
-        if Self::OWN.highlight {
+        if Self::OVERRIDES.highlight_line {
             return Err(AllocError);
         }
         plain_line(alloc, line, cursor_position)
@@ -195,7 +195,7 @@ pub trait LineEditorHost {
         requires { IsCharBoundary line.now cursor_position }
         ensures { IfOk result (λ candidates. map candidate_view candidates.items ≡ rules.candidates (value self.now) (cut_at line.now cursor_position)) }
     {
-        if Self::OWN.complete {
+        if Self::OVERRIDES.complete {
             return Err(AllocError);
         }
         Ok(Vec::new(alloc))
@@ -214,26 +214,26 @@ pub trait LineEditorHost {
         ensures refused { OnErr result (value self.new ≡ value self.old) }
         ensures refused_cut { OnErr result (editor.new ≡ editor.old) }
     {
-        if Self::OWN.resolve {
+        if Self::OVERRIDES.resolve_action {
             return Err(AllocError);
         }
         Ok(None)
     }
 
-    ghost plain_answers: { IsPlainBut rules OWN };
+    ghost plain_answers: { IsPlainBut rules OVERRIDES };
 
-    ghost held_back: { (host : Self) → with_held host (held host) ≡ host };
+    ghost history_put_back: { (host : Self) → with_history host (history_of host) ≡ host };
 
-    ghost held_put: { (host : Self) (history : Self.Hist) → held (with_held host history) ≡ history };
+    ghost held_put: { (host : Self) (history : Self.Hist) → history_of (with_history host history) ≡ history };
 
-    ghost held_lines: { (host : Self) → Self.Hist.lines (held host) ≡ rules.lines (value host) };
+    ghost held_lines: { (host : Self) → Self.Hist.lines (history_of host) ≡ rules.lines (value host) };
 
     /// Adds a line to the history, which the editor itself never does. The rest of the host stays as it was.
     /// Where memory is lacking, the history's lines stay too.
     final fn remember(&mut self, line: &str) -> Result<(), AllocError>
-        ensures kept { self.new ≡ with_held self.old (held self.new) }
+        ensures kept { self.new ≡ with_history self.old (history_of self.new) }
         ensures last { OnOk result (last_line (rules.lines (value self.new)) ≡ Some line.now) }
-        ensures added { OnOk result (Self.Hist.add_gives (held self.old) line.now (held self.new)) }
+        ensures added { OnOk result (Self.Hist.add_gives (history_of self.old) line.now (history_of self.new)) }
         ensures refused { OnErr result (rules.lines (value self.new) ≡ rules.lines (value self.old)) }
     {
         self.history().add(line)
@@ -267,13 +267,13 @@ impl LineEditorHost for NopLineEditorHost {
 
     ghost rules = { plain_rules (λ lines. lines) };
 
-    ghost held = { λ host. host.history };
+    ghost history_of = { λ host. host.history };
 
-    ghost with_held = { λ host history. record host { history = history } };
+    ghost with_history = { λ host history. record host { history = history } };
 
-    ghost OWN = { nothing_own };
+    ghost OVERRIDES = { no_overrides };
 
-    const OWN: OwnAnswers = OwnAnswers::NONE;
+    const OVERRIDES: Overrides = Overrides::NONE;
 
     fn history(&mut self) -> &mut BasicHistory {
         &mut self.history
@@ -281,7 +281,7 @@ impl LineEditorHost for NopLineEditorHost {
 
     ghost plain_answers = { plain_is_plain (λ lines. lines) };
 
-    ghost held_back = { λ host. refl };
+    ghost history_put_back = { λ host. refl };
 
     ghost held_put = { λ host history. refl };
 

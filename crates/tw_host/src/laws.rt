@@ -4,11 +4,11 @@ ghost use Rattle.std.specs.Prelude.{◌≡◌, ◌≢◌, Some, None, All, AllPa
 ghost use Rattle.tw_input.specs.Equality.{ComparesValues};
 ghost use Rattle.tw_host.specs.KeyTable.{is_same_key, key_table, looked_up, typed};
 
-use crate::host::OwnAnswers;
+use crate::host::Overrides;
 
-/// `==` of `OwnAnswers` is equality of values.
-pub fn own_answers()
-    ensures { ComparesValues ⟦<OwnAnswers as PartialEq>⟧.eq }
+/// `==` of `Overrides` is equality of values.
+pub fn overrides()
+    ensures { ComparesValues ⟦<Overrides as PartialEq>⟧.eq }
 {}
 
 /// No key stands in two rows of the key table, each row is found by its key, and no row is a typed character.

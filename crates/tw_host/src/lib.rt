@@ -8,7 +8,7 @@ pub mod laws;
 
 pub use actions::Action;
 pub use host::{
-    CompletionCandidate, LineEditorHost, NopLineEditorHost, OutputElement, OwnAnswers,
+    CompletionCandidate, LineEditorHost, NopLineEditorHost, OutputElement, Overrides,
     plain_element, plain_line,
 };
 pub use keys::default_action;

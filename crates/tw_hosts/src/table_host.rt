@@ -1,7 +1,7 @@
 //! A host that is plain data.
 
 ghost use Rattle.std.specs.Prelude.{◌≡◌, map, refl, string_bytes};
-ghost use Rattle.tw_host.specs.PlainAnswers.{all_own, no_plain_left};
+ghost use Rattle.tw_host.specs.PlainAnswers.{all_overrides, no_plain_left};
 ghost use Rattle.tw_hosts.specs.Hints.{hint_view};
 ghost use Rattle.tw_hosts.specs.TableRules.{TablesView, table_rules, tables_view};
 
@@ -12,7 +12,7 @@ use crate::words::complete_word;
 use std::alloc::{AllocError, Global};
 use tw_history::History;
 use tw_host::{
-    Action, CompletionCandidate, LineEditorHost, OutputElement, OwnAnswers, plain_element,
+    Action, CompletionCandidate, LineEditorHost, OutputElement, Overrides, plain_element,
 };
 use tw_input::InputEvent;
 use tw_line::LineEditBuffer;
@@ -59,13 +59,13 @@ impl<H: History> LineEditorHost for TableHost<H> {
 
     ghost rules = { table_rules };
 
-    ghost held = { λ host. host.history };
+    ghost history_of = { λ host. host.history };
 
-    ghost with_held = { λ host history. record host { history = history } };
+    ghost with_history = { λ host history. record host { history = history } };
 
-    ghost OWN = { all_own };
+    ghost OVERRIDES = { all_overrides };
 
-    const OWN: OwnAnswers = OwnAnswers::ALL;
+    const OVERRIDES: Overrides = Overrides::ALL;
 
     fn history(&mut self) -> &mut H {
         &mut self.history
@@ -110,7 +110,7 @@ impl<H: History> LineEditorHost for TableHost<H> {
 
     ghost plain_answers = { no_plain_left };
 
-    ghost held_back = { λ host. refl };
+    ghost history_put_back = { λ host. refl };
 
     ghost held_put = { λ host history. refl };
 

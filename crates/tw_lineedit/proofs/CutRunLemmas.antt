@@ -4,8 +4,8 @@ use Rattle.std.proofs.lemmas.List.{map-append}
 use Rattle.tw_surface.specs.ChangeView.{Batch}
 use Rattle.tw_surface.specs.Cutting.{SizedBatch}
 use Rattle.tw_surface.specs.Pictures.{Picture}
-use Rattle.tw_surface.specs.Shots.{SizedScene, shot_of}
-use Rattle.tw_surface.specs.Shots as shots
+use Rattle.tw_surface.specs.PaintingBatches.{SizedScene, shot_of}
+use Rattle.tw_surface.specs.PaintingBatches as shots
 use Rattle.tw_surface.proofs.CutLists.{sized_batches_are, cut_painting, cut_closing}
 use Rattle.tw_host.specs.HostRules.{HostRules}
 use Rattle.tw_painter.specs.Painting.{Mark, closing_if}

@@ -7,8 +7,8 @@ use Rattle.tw_surface.specs.ChangeView.{Batch}
 use Rattle.tw_surface.specs.Scenes.{is_text}
 use Rattle.tw_surface.specs.HealingLaws.{HasTextPrompt, IsFreshOnAny, IsFreshOnAnyOf}
 use Rattle.tw_surface.specs.Scrolling.{IsLow}
-use Rattle.tw_surface.specs.Shots.{SizedScene, IsPlainAt, shot_of, scenes_of, play_batches}
-use Rattle.tw_surface.specs.Shots as shots
+use Rattle.tw_surface.specs.PaintingBatches.{SizedScene, IsPlainAt, shot_of, scenes_of, play_batches}
+use Rattle.tw_surface.specs.PaintingBatches as shots
 use Rattle.tw_surface.proofs.HealedLists.{healing}
 use Rattle.tw_host.specs.ElementView.{ElementView, Attribute, AllAttributes, Text, changes_of}
 use Rattle.tw_lineedit.specs.HealedRuns.{ComesCleared, HealedIsFresh, HealedCloses}

@@ -8,8 +8,8 @@ use Rattle.tw_surface.specs.ChangeView.{Batch}
 use Rattle.tw_surface.specs.Paintings.{Painting, painting}
 use Rattle.tw_surface.specs.Pictures.{Picture}
 use Rattle.tw_surface.specs.Fresh.{last_row}
-use Rattle.tw_surface.specs.Shots.{Shot, SizedScene, IsPlainAt, shot_of, clearing, play_batches, scenes_of, start_row}
-use Rattle.tw_surface.specs.Shots as shots
+use Rattle.tw_surface.specs.PaintingBatches.{Shot, SizedScene, IsPlainAt, shot_of, clearing, play_batches, scenes_of, start_row}
+use Rattle.tw_surface.specs.PaintingBatches as shots
 use Rattle.tw_surface.proofs.SizedScenes.{every_painting, last_painting}
 use Rattle.tw_input.specs.EventView.{EventView}
 use Rattle.tw_painter.specs.EditState.{EditState}
@@ -21,7 +21,7 @@ use Rattle.tw_surface.specs.Scenes.{Scene}
 use Rattle.tw_terminal.specs.declared.terminal.ScreenSize.{ScreenSize}
 use Rattle.tw_lineedit.specs.Run.{Frame, Progress, progress_of, run, run_of, ends, at_end, at_event, after_event, painting_at, shown, chosen, state_after, handled}
 use Rattle.tw_lineedit.specs.Stations.{Station, is_repaint, clear_if, station_at, painting_of, batches_after, stations_after, stations_unless, stations_by, stations_from, stations_of}
-use Rattle.tw_lineedit.specs.ScreenRuns.{sized_scene, batches_of, is_cleared, Comes, ShowsFresh, FirstIsFresh, LaterIsFresh, ClearedIsFresh, first_row, RendersNothing, ClosesBelow, CallsStack}
+use Rattle.tw_lineedit.specs.ScreenRuns.{sized_scene, batches_of, is_cleared, ReachesPlainly, ShowsFresh, FirstIsFresh, LaterIsFresh, ClearedIsFresh, first_row, RendersNothing, ClosesBelow, CallsStack}
 use Rattle.tw_lineedit.proofs.StationLemmas.{rendered_at, batches_by_stations}
 
 -- the clearing of the screen is the same batch for both layers
@@ -249,7 +249,7 @@ module _ {V : Type 0} (rules : HostRules V) where
   cleared_scenes (s ∷ stations) = ap (λ (b : Bool). s.cleared || b) (cleared_scenes stations)
 
   module _ (f : Frame V) (w : ℕ) (earlier : List (Station V)) (station : Station V) (later : List (Station V)) (before : Picture)
-      (h : Comes rules f w earlier station later before) where
+      (h : ReachesPlainly rules f w earlier station later before) where
     -- the stations up to the painted one are painted
     pub all_painted : ArePainted (earlier ++ station ∷ [])
     all_painted =

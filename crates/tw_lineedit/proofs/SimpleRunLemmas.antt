@@ -6,8 +6,8 @@ use Rattle.tw_surface.specs.ChangeView.{Batch}
 use Rattle.tw_surface.specs.Pictures.{Picture}
 use Rattle.tw_surface.specs.Fresh.{last_row}
 use Rattle.tw_surface.specs.Simple.{spelled_batches, spelled_scene}
-use Rattle.tw_surface.specs.Shots.{SizedScene, shot_of, play_batches}
-use Rattle.tw_surface.specs.Shots as shots
+use Rattle.tw_surface.specs.PaintingBatches.{SizedScene, shot_of, play_batches}
+use Rattle.tw_surface.specs.PaintingBatches as shots
 use Rattle.tw_surface.proofs.SimpleLists.{every_simple, last_simple}
 use Rattle.tw_surface.proofs.SimpleHealing.{simple_healing}
 use Rattle.tw_surface.proofs.SimpleScrolling.{every_scrolled_simple, last_scrolled_simple}

@@ -3,7 +3,7 @@ use Rattle.std.specs.Prelude.{◌≡◌, ◌≢◌, ℕ, ◌<◌, ◌∷◌, [],
 use Rattle.tw_input.specs.EventView.{EventView}
 use Rattle.tw_host.specs.ActionView.{Repaint}
 use Rattle.tw_host.specs.HostRules.{HostRules}
-use Rattle.tw_painter.specs.Draws.{IsSized}
+use Rattle.tw_painter.specs.DrawSteps.{IsSized}
 use Rattle.tw_painter.specs.EditState.{EditState, Inactive}
 use Rattle.tw_painter.specs.Painting.{Rendered, clear_batch}
 use Rattle.tw_painter.specs.Refusal.{Refusal}

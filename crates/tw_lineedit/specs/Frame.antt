@@ -11,7 +11,7 @@ use Rattle.tw_painter.specs.Refusal.{refusal_of}
 use Rattle.tw_session.specs.Steps.{apply_if, clears_if, TakesMemory}
 use Rattle.tw_painter.specs.Painting.{Mark, Rendered, closing, closing_if, clear_batch}
 use Rattle.tw_lineedit.specs.Run.{Frame, progress_of, painting_at, chosen, answered}
-use Rattle.tw_painter.specs.Draws.{IsSized}
+use Rattle.tw_painter.specs.DrawSteps.{IsSized}
 use Rattle.tw_lineedit.specs.declared.editor.EditorOver.{EditorOver}
 use Rattle.tw_painter.specs.declared.error.Error.{Error}
 use Rattle.tw_painter.specs.declared.error.Error.TheVariants.{Memory, Terminal}

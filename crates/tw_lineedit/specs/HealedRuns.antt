@@ -7,7 +7,7 @@ use Rattle.tw_surface.specs.Pictures.{Picture}
 use Rattle.tw_surface.specs.Fresh.{IsFresh, IsClosed, last_row}
 use Rattle.tw_surface.specs.HealingLaws.{begins_cleared}
 use Rattle.tw_surface.specs.Scrolling.{play_batches_on, IsLow, IsClosedOn}
-use Rattle.tw_surface.specs.Shots.{IsPlainAt, play_batches}
+use Rattle.tw_surface.specs.PaintingBatches.{IsPlainAt, play_batches}
 use Rattle.tw_host.specs.HostRules.{HostRules}
 use Rattle.tw_painter.specs.Painting.{closing_if}
 use Rattle.tw_lineedit.specs.Run.{Frame, run_of}

@@ -21,8 +21,8 @@ pub use Rattle.tw_line.specs.Movements
 pub use Rattle.tw_line.specs.Edits
 pub use Rattle.tw_line.specs.Laws
 pub use Rattle.tw_history.specs.Patterns
-pub use Rattle.tw_history.specs.Near
-pub use Rattle.tw_history.specs.Added
+pub use Rattle.tw_history.specs.NearestMatch
+pub use Rattle.tw_history.specs.HistoryAdditions
 pub use Rattle.tw_history.specs.Joined
 pub use Rattle.tw_history.specs.Bounded
 pub use Rattle.tw_history.specs.SearchLaws
@@ -35,12 +35,12 @@ pub use Rattle.tw_host.specs.PlainAnswers
 pub use Rattle.tw_painter.specs.Refusal
 pub use Rattle.tw_painter.specs.EditState
 pub use Rattle.tw_painter.specs.Painting
-pub use Rattle.tw_painter.specs.Draws
-pub use Rattle.tw_session.specs.HistorySteps
-pub use Rattle.tw_session.specs.Searches
+pub use Rattle.tw_painter.specs.DrawSteps
+pub use Rattle.tw_session.specs.Walk
+pub use Rattle.tw_session.specs.Search
 pub use Rattle.tw_session.specs.Completion
 pub use Rattle.tw_session.specs.Steps
-pub use Rattle.tw_session.specs.EditSteps
+pub use Rattle.tw_session.specs.Edit
 pub use Rattle.tw_session.specs.Outcomes
 pub use Rattle.tw_session.specs.SessionView
 pub use Rattle.tw_session.specs.CompletionSteps

@@ -4,7 +4,7 @@ use Rattle.tw_surface.specs.ChangeView.{Batch}
 use Rattle.tw_terminal.specs.TerminalState.{count_up, IsPart}
 use Rattle.tw_host.specs.HostRules.{HostRules}
 use Rattle.tw_painter.specs.EditState.{Inactive}
-use Rattle.tw_session.specs.SessionView.{initial_cut, begun}
+use Rattle.tw_session.specs.SessionView.{initial_cut, begun_state}
 use Rattle.tw_painter.specs.Refusal.{refusal_of}
 use Rattle.tw_session.specs.Outcomes.{Outcome, IsRefusal}
 use Rattle.tw_painter.specs.Painting.{Mark, closing, closing_if}
@@ -15,7 +15,7 @@ use Rattle.tw_painter.specs.declared.error.Error.TheVariants.{Memory, Terminal}
 module _ {V : Type 0} where
   -- where a call with an initial value begins
   abbrev pub start : Option (List ℕ) → Frame V → Frame V
-  start initial f = record f { state = begun (initial_cut initial) f.state; last = None }
+  start initial f = record f { state = begun_state (initial_cut initial) f.state; last = None }
 
   -- where a call stands whose initial value found no memory
   abbrev pub unbegun : Frame V → Moment V

@@ -1,19 +1,19 @@
 -- What reading a line and adding it to the host's history leaves.
 use Rattle.std.specs.Prelude.{◌≡◌, ℕ, List, Option, Some, None, Ok, ◌⊎◌}
 use Rattle.tw_host.specs.HostRules.{HostRules}
-use Rattle.tw_history.specs.Near.{last_line}
+use Rattle.tw_history.specs.NearestMatch.{last_line}
 use Rattle.tw_lineedit.specs.Reading.{start, Reads, FailsToRead}
 use Rattle.tw_painter.specs.Refusal.{IsMemory}
 use Rattle.tw_lineedit.specs.Run.{Frame, run_of}
 use Rattle.tw_painter.specs.declared.error.Error.{Error}
 
 -- What a host is: its rules, its value, its history, the host with another history, and what an addition to that gives.
-module _ {H Hist V : Type 0} (rules : HostRules V) (value : H → V) (held : H → Hist) (with_held : H → Hist → H) (gives : Hist → List ℕ → Hist → Type 0) where
+module _ {H Hist V : Type 0} (rules : HostRules V) (value : H → V) (history_of : H → Hist) (with_history : H → Hist → H) (gives : Hist → List ℕ → Hist → Type 0) where
   -- the line is the last one of the host's history, and the rest of the host is as it was
   pub record Remembers (line : List ℕ) (old new : H) : Type 0 where
-    pub kept : new ≡ with_held old (held new)
+    pub kept : new ≡ with_history old (history_of new)
     pub last : last_line (rules.lines (value new)) ≡ Some line
-    pub added : gives (held old) line (held new)
+    pub added : gives (history_of old) line (history_of new)
 
   -- the same where there is a line, and else the host is as it was
   abbrev pub RemembersIf : Option (List ℕ) → H → H → Type 0
@@ -22,7 +22,7 @@ module _ {H Hist V : Type 0} (rules : HostRules V) (value : H → V) (held : H �
 
   -- the line was not added: the history's lines and the rest of the host are as they were
   pub record FailsToRemember (old new : H) : Type 0 where
-    pub kept : new ≡ with_held old (held new)
+    pub kept : new ≡ with_history old (history_of new)
     pub lines : rules.lines (value new) ≡ rules.lines (value old)
 
   -- A call on f, whose editor is seen with a host by at.

@@ -12,7 +12,7 @@ use Rattle.tw_painter.specs.Refusal.{Refusal, refusal_of}
 use Rattle.tw_session.specs.Outcomes.{Outcome, answer_at, IsLine, is_over}
 use Rattle.tw_session.specs.Steps.{apply_if, clears_if, TakesMemory}
 use Rattle.tw_painter.specs.Painting.{Mark, Rendered, rendered, painted_on, scene_of, clear_batch}
-use Rattle.tw_painter.specs.Draws.{IsSized}
+use Rattle.tw_painter.specs.DrawSteps.{IsSized}
 use Rattle.tw_painter.specs.declared.error.Error.{Error}
 use Rattle.tw_painter.specs.declared.error.Error.TheVariants.{Memory, Terminal}
 

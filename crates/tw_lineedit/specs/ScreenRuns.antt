@@ -5,7 +5,7 @@ use Rattle.tw_surface.specs.ChangeView.{Batch}
 use Rattle.tw_surface.specs.Paintings.{Painting}
 use Rattle.tw_surface.specs.Pictures.{Picture}
 use Rattle.tw_surface.specs.Fresh.{IsFresh, IsSameAbove, IsClosed, last_row}
-use Rattle.tw_surface.specs.Shots.{SizedScene, IsPlainAt, play_batches, scenes_of, start_row}
+use Rattle.tw_surface.specs.PaintingBatches.{SizedScene, IsPlainAt, play_batches, scenes_of, start_row}
 use Rattle.tw_host.specs.HostRules.{HostRules}
 use Rattle.tw_painter.specs.Painting.{scene_of, closing_if}
 use Rattle.tw_painter.specs.Refusal.{Refusal}
@@ -26,7 +26,7 @@ module _ {V : Type 0} (rules : HostRules V) where
   is_cleared stations = list_any (λ s. s.cleared) stations
 
   -- The run from a frame comes to a station and paints it. So far every station was plain and for w columns; a screen of this width is entered at column 0.
-  pub record Comes (f : Frame V) (w : ℕ) (earlier : List (Station V)) (station : Station V) (later : List (Station V)) (before : Picture) : Type 0 where
+  pub record ReachesPlainly (f : Frame V) (w : ℕ) (earlier : List (Station V)) (station : Station V) (later : List (Station V)) (before : Picture) : Type 0 where
     pub nothing_painted : f.last ≡ None
     pub stations : stations_of rules f ≡ earlier ++ station ∷ later
     pub painting : Painting
@@ -44,18 +44,18 @@ module _ {V : Type 0} (rules : HostRules V) where
   -- the first painting, from the row on in which the screen is entered
   abbrev pub FirstIsFresh : Frame V → Type 0
   FirstIsFresh f = (w : ℕ) (station : Station V) (later : List (Station V)) (before : Picture)
-      → Comes f w [] station later before → ShowsFresh f w before.row [] station before
+      → ReachesPlainly f w [] station later before → ShowsFresh f w before.row [] station before
 
   -- each painting with no clearing before it, from that row on
   abbrev pub LaterIsFresh : Frame V → Type 0
   LaterIsFresh f = (w : ℕ) (earlier : List (Station V)) (station : Station V) (later : List (Station V)) (before : Picture)
-      → Comes f w earlier station later before → is_cleared (earlier ++ station ∷ []) ≡ false
+      → ReachesPlainly f w earlier station later before → is_cleared (earlier ++ station ∷ []) ≡ false
       → ShowsFresh f w before.row earlier station before
 
   -- each painting with a clearing before it, from row 0 on
   abbrev pub ClearedIsFresh : Frame V → Type 0
   ClearedIsFresh f = (w : ℕ) (earlier : List (Station V)) (station : Station V) (later : List (Station V)) (before : Picture)
-      → Comes f w earlier station later before → is_cleared (earlier ++ station ∷ []) ≡ true
+      → ReachesPlainly f w earlier station later before → is_cleared (earlier ++ station ∷ []) ≡ true
       → ShowsFresh f w 0 earlier station before
 
   -- the row from which a station is painted on a screen that is entered in a row
@@ -70,7 +70,7 @@ module _ {V : Type 0} (rules : HostRules V) where
   -- The closing batch after the last station that is painted leaves the cursor at column 0 of the row below its fresh painting, all from there on blank, and what is above as it was; also where the run then ends with the refusal of a painting, at a station at which nothing is rendered.
   abbrev pub ClosesBelow : Frame V → Type 0
   ClosesBelow f = (w : ℕ) (earlier : List (Station V)) (station : Station V) (later : List (Station V)) (before : Picture)
-      → Comes f w earlier station later before → All RendersNothing later
+      → ReachesPlainly f w earlier station later before → All RendersNothing later
       → let after = play_batches w (batches_of (earlier ++ station ∷ [])) before in
       ((run_of rules f).taken ≡ f.terminal.batches ++ batches_of (earlier ++ station ∷ []))
       × IsClosed w (last_row w (first_row before.row (earlier ++ station ∷ [])) (sized_scene station).scene) after
@@ -79,10 +79,10 @@ module _ {V : Type 0} (rules : HostRules V) where
   -- Two calls stack: a second run that clears nothing and enters the screen where the closing batch of a first one left it is fresh under that one's last painting, of which nothing is changed.
   abbrev pub CallsStack : Type 0
   CallsStack = (f g : Frame V) (w : ℕ) (earlier : List (Station V)) (station : Station V) (none : List (Station V)) (others : List (Station V)) (second : Station V) (later : List (Station V)) (before : Picture)
-      → Comes f w earlier station none before → All RendersNothing none
+      → ReachesPlainly f w earlier station none before → All RendersNothing none
       → let shown = play_batches w (batches_of (earlier ++ station ∷ [])) before in
       let entered = play_batches w (closing_if (run_of rules f).last) shown in
       let under = last_row w (first_row before.row (earlier ++ station ∷ [])) (sized_scene station).scene + 1 in
-      Comes g w others second later entered → is_cleared (others ++ second ∷ []) ≡ false
+      ReachesPlainly g w others second later entered → is_cleared (others ++ second ∷ []) ≡ false
       → ShowsFresh g w under others second entered
       × IsSameAbove w under shown (play_batches w (batches_of (others ++ second ∷ [])) entered)

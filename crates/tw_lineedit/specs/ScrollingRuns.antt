@@ -5,12 +5,12 @@ use Rattle.tw_surface.specs.ChangeView.{Batch}
 use Rattle.tw_surface.specs.Pictures.{Picture}
 use Rattle.tw_surface.specs.Scenes.{Scene}
 use Rattle.tw_surface.specs.Fresh.{IsFresh, last_row}
-use Rattle.tw_surface.specs.Shots.{scenes_of}
+use Rattle.tw_surface.specs.PaintingBatches.{scenes_of}
 use Rattle.tw_surface.specs.Scrolling.{play_batches_on, IsLow, top_row, IsMovedUp, IsClosedOn}
 use Rattle.tw_host.specs.HostRules.{HostRules}
 use Rattle.tw_painter.specs.Painting.{closing_if}
 use Rattle.tw_lineedit.specs.Run.{Frame, run_of}
-use Rattle.tw_lineedit.specs.ScreenRuns.{sized_scene, batches_of, Comes, RendersNothing}
+use Rattle.tw_lineedit.specs.ScreenRuns.{sized_scene, batches_of, ReachesPlainly, RendersNothing}
 use Rattle.tw_lineedit.specs.Stations.{Station}
 
 module _ {V : Type 0} (rules : HostRules V) where
@@ -24,7 +24,7 @@ module _ {V : Type 0} (rules : HostRules V) where
 
   -- The run comes to a station on a screen of h rows, and each painting so far has at most h rows.
   pub record ComesOn (h : ℕ) (f : Frame V) (w : ℕ) (earlier : List (Station V)) (station : Station V) (later : List (Station V)) (before : Picture) : Type 0 where
-    pub comes : Comes rules f w earlier station later before
+    pub comes : ReachesPlainly rules f w earlier station later before
     pub inside : before.row < h
     pub low : All (IsLow h w) (scenes_at (earlier ++ station ∷ []))
 

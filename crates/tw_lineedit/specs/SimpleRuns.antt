@@ -8,7 +8,7 @@ use Rattle.tw_surface.specs.Scenes.{Scene}
 use Rattle.tw_surface.specs.Fresh.{IsFresh, IsSameAbove, IsClosed, last_row}
 use Rattle.tw_surface.specs.HealingLaws.{begins_cleared}
 use Rattle.tw_surface.specs.Scrolling.{play_batches_on, IsLow, top_row, IsMovedUp, IsClosedOn}
-use Rattle.tw_surface.specs.Shots.{play_batches}
+use Rattle.tw_surface.specs.PaintingBatches.{play_batches}
 use Rattle.tw_surface.specs.Simple.{IsSimpleAt, spelled_batches, spelled_scene}
 use Rattle.tw_host.specs.HostRules.{HostRules}
 use Rattle.tw_painter.specs.Painting.{closing_if}

@@ -30,7 +30,7 @@ pub use feeding::LineStatus;
 use std::alloc::{AllocError, Global};
 use tw_host::{Action, LineEditorHost, default_action};
 use tw_input::InputEvent;
-use tw_painter::{Error, Painted};
+use tw_painter::{Error, Mark};
 use tw_session::Session;
 use tw_surface::{Change, ColorAttribute};
 use tw_terminal::{ScreenSize, Terminal};
@@ -134,7 +134,7 @@ impl<'term, T: Terminal> LineEditor<'term, T> {
         let size = self.screen_size(host)?;
         let (changes, painted) = self.session.paint(host, size)?;
         self.show(host, changes.as_slice())?;
-        self.session.set_painted(painted);
+        self.session.set_mark(painted);
         Ok(())
     }
 
@@ -267,7 +267,7 @@ impl<'term, T: Terminal> LineEditor<'term, T> {
 
     /// Takes events up to the end of the run, and answers with a copy of the line.
     #[tactic(auto, using(crate::proofs::TurnLemmas::ended_later, crate::proofs::TurnLemmas::not_copied_if))]
-    fn take_events<H: LineEditorHost>(&mut self, host: &mut H) -> Result<Option<String>, Error>
+    fn run_to_end<H: LineEditorHost>(&mut self, host: &mut H) -> Result<Option<String>, Error>
         ensures same_reference { self.new.terminal.ghost_name ≡ self.old.terminal.ghost_name }
         ensures ok { IfOk result (λ it. IsAnsweredOn H.rules (frame T.state H.value self.old host.old) (frame T.state H.value self.new host.new) (outcome_of (Ok it))) }
         ensures err { IfErr result (IsRefusedOn H.rules (T.state self.old.terminal.now).events (frame T.state H.value self.old host.old) (frame T.state H.value self.new host.new)) }
@@ -299,7 +299,7 @@ impl<'term, T: Terminal> LineEditor<'term, T> {
     }
 
     /// Renders the closing batch of a painting.
-    fn show_closing<H: LineEditorHost>(&mut self, host: &H, painted: Painted) -> Result<(), Error>
+    fn show_closing<H: LineEditorHost>(&mut self, host: &H, painted: Mark) -> Result<(), Error>
         ensures same_reference { self.new.terminal.ghost_name ≡ self.old.terminal.ghost_name }
         ensures ok { OnOk result (ShowsBatch (closing painted) (frame T.state H.value self.old host.now) (frame T.state H.value self.new host.now)) }
         ensures err { IfErr result (FailsToShow (closing painted) (frame T.state H.value self.old host.now) (frame T.state H.value self.new host.now)) }
@@ -359,7 +359,7 @@ impl<'term, T: Terminal> LineEditor<'term, T> {
 
     /// Reads a line, all up to the closing.
     #[tactic(auto, using(crate::proofs::TurnLemmas::answered_begun, crate::proofs::FeedingLemmas::turned_down))]
-    fn started<H: LineEditorHost>(
+    fn read_open<H: LineEditorHost>(
         &mut self,
         host: &mut H,
         initial: Option<&str>,
@@ -369,7 +369,7 @@ impl<'term, T: Terminal> LineEditor<'term, T> {
         ensures err { IfErr result (IsTurnedDown H.rules (option_map (λ s. s.now) initial.entry) (frame T.state H.value self.old host.old) (frame T.state H.value self.new host.new)) }
     {
         self.start_line(host, initial)?;
-        self.take_events(host)
+        self.run_to_end(host)
     }
 
     /// Closes after a refusal, and answers it, or else why the closing is refused.
@@ -394,7 +394,7 @@ impl<'term, T: Terminal> LineEditor<'term, T> {
         ensures ok { IfOk result (λ it. Reads (run_of H.rules (start (option_map (λ s. s.now) initial.entry) (frame T.state H.value self.old host.old))) (frame T.state H.value self.old host.old) (frame T.state H.value self.new host.new) (outcome_of (Ok it))) }
         ensures err { IfErr result (FailsToRead H.rules (option_map (λ s. s.now) initial.entry) (frame T.state H.value self.old host.old) (frame T.state H.value self.new host.new)) }
     {
-        match self.started(host, initial) {
+        match self.read_open(host, initial) {
             Ok(line) => {
                 self.close(host)?;
                 Ok(line)

@@ -7,7 +7,7 @@ ghost use Rattle.tw_lineedit.specs.Stations.{BatchesByStations};
 
 pub use tw_history::laws::{equality, searches};
 use tw_host::LineEditorHost;
-pub use tw_host::laws::{key_table, own_answers};
+pub use tw_host::laws::{key_table, overrides};
 pub use tw_line::laws::{counts, steps};
 pub use tw_painter::laws::faithful;
 pub use tw_session::laws::{cycle, enumeration, walk};

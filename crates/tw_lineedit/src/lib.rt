@@ -11,7 +11,7 @@ pub use tw_history::{
     SearchStyle, nearest_line,
 };
 pub use tw_host::{
-    Action, CompletionCandidate, LineEditorHost, NopLineEditorHost, OutputElement, OwnAnswers,
+    Action, CompletionCandidate, LineEditorHost, NopLineEditorHost, OutputElement, Overrides,
     default_action, plain_element, plain_line,
 };
 pub use tw_line::{LineEditBuffer, Movement, RepeatCount};

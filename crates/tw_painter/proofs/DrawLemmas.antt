@@ -12,7 +12,7 @@ use Rattle.tw_painter.specs.declared.error.Error.{Error}
 use Rattle.tw_painter.specs.declared.error.Error.TheVariants.{EndOfFile, Recursive, ZeroSize, SizeOutOfRange, CandidateDoesNotFit, Memory, Terminal}
 use Rattle.tw_host.specs.declared.host.OutputElement.{OutputElement}
 use Rattle.tw_host.specs.ElementView.{element_view, element_change, changes_of}
-use Rattle.tw_painter.specs.Draws.{IsStepRefusal, stay_in_range, with_all, Drawn, Draws}
+use Rattle.tw_painter.specs.DrawSteps.{IsStepRefusal, stay_in_range, with_all, Drawn, Draws}
 
 -- the places of two lists of changes
 pub places_of_all-append : (cols : ℕ) (a b : Batch) (p : Place)

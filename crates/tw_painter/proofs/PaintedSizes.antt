@@ -14,7 +14,7 @@ use Rattle.tw_painter.specs.declared.error.Error.TheVariants.{EndOfFile, Recursi
 use Rattle.tw_painter.specs.declared.error.Error.TheVariants as error
 use Rattle.tw_painter.specs.Refusal.{Refusal, ZeroSize, SizeOutOfRange}
 use Rattle.tw_painter.specs.Painting.{Mark, mark_of, start_batch, Rendered, rendered, painted_on, is_paintable}
-use Rattle.tw_painter.specs.Draws.{IsSized, IsUnpainted, size_error, IsStepRefusal, DrawnScene}
+use Rattle.tw_painter.specs.DrawSteps.{IsSized, IsUnpainted, size_error, IsStepRefusal, DrawnScene}
 
 -- no rows or no columns
 painted_on-zero : (size : ScreenSize) (scene : Scene) → (size.rows ≡ 0) ⊎ (size.cols ≡ 0) → painted_on size scene ≡ Err ZeroSize

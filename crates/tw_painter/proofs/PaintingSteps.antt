@@ -14,7 +14,7 @@ use Rattle.tw_surface.specs.Paintings.{before_line, edge_space, lower_changes, s
 use Rattle.tw_painter.specs.declared.error.Error.{Error}
 use Rattle.tw_host.specs.ElementView.{ElementView, changes_of}
 use Rattle.tw_painter.specs.Painting.{Mark, is_paintable, preview_of}
-use Rattle.tw_painter.specs.Draws.{IsStepRefusal, stay_in_range, with_all, with_edge, has_cell, Drawn, Draws, DrawnScene}
+use Rattle.tw_painter.specs.DrawSteps.{IsStepRefusal, stay_in_range, with_all, with_edge, has_cell, Drawn, Draws, DrawnScene}
 use Rattle.tw_painter.proofs.DrawingLimits.{empty, row-in_range}
 use Rattle.tw_painter.proofs.DrawLemmas.{drawn-append, draws-later, refused-along, refused-first, refused-later}
 

@@ -23,7 +23,7 @@ pub data ModeView : Type 0 where
 pub record EditState : Type 0 where
   pub prompt : List ℕ
   pub cut : Cut
-  pub position : Option ℕ
-  pub kept : Option (List ℕ)
+  pub history_index : Option ℕ
+  pub typed_line : Option (List ℕ)
   pub cycle : Option CycleView
   pub mode : ModeView

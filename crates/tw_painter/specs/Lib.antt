@@ -2,4 +2,4 @@ pub mod Refusal
 pub mod EditState
 pub mod Painting
 pub mod FaithfulLaws
-pub mod Draws
+pub mod DrawSteps

@@ -75,7 +75,7 @@ impl<T: Drop> From<AllocFailed<T>> for Error {
 
 impl From<AddFault> for Error {
     ghost use Rattle.std.specs.Prelude.{◌≡◌};
-    ghost use Rattle.tw_painter.specs.Draws.{add_error};
+    ghost use Rattle.tw_painter.specs.DrawSteps.{add_error};
 
     ghost from_gives = { λ fault error. error ≡ add_error fault };
 
@@ -89,7 +89,7 @@ impl From<AddFault> for Error {
 
 impl From<SizeFault> for Error {
     ghost use Rattle.std.specs.Prelude.{◌≡◌};
-    ghost use Rattle.tw_painter.specs.Draws.{size_error};
+    ghost use Rattle.tw_painter.specs.DrawSteps.{size_error};
 
     ghost from_gives = { λ fault error. error ≡ size_error fault };
 

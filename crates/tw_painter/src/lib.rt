@@ -6,4 +6,4 @@ pub mod laws;
 mod painter;
 
 pub use error::Error;
-pub use painter::{Below, Painted, paint};
+pub use painter::{Below, Mark, paint};

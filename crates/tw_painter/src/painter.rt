@@ -7,7 +7,7 @@ ghost use Rattle.tw_surface.specs.Drawings.{place};
 ghost use Rattle.tw_surface.specs.Paintings.{before_line, edge_space, lower_changes, place_at};
 ghost use Rattle.tw_host.specs.ElementView.{element_view, changes_of};
 ghost use Rattle.tw_painter.specs.Painting.{preview_of, label, search_text, scene_with, painted_on, start_batch, closing, rendered};
-ghost use Rattle.tw_painter.specs.Draws.{Draws, DrawsScene, with_edge, lower_of, has_cell, IsUnpainted};
+ghost use Rattle.tw_painter.specs.DrawSteps.{Draws, DrawsScene, with_edge, lower_of, has_cell, IsUnpainted};
 
 use crate::error::Error;
 use std::alloc::{AllocError, Global};
@@ -34,12 +34,12 @@ pub enum Below<'a> {
 
 /// Where a painting left the cursor and how high it was, both counted from its first row.
 #[derive(Clone, Copy, Debug, PartialEq, Eq)]
-pub struct Painted {
+pub struct Mark {
     pub row: isize,
     pub height: usize,
 }
 
-impl Model for Painted {
+impl Model for Mark {
     ghost use Rattle.tw_painter.specs.Painting.{preview_of, Mark, IsInLimits};
 
     ghost Value = { Mark };
@@ -51,7 +51,7 @@ impl Model for Painted {
     ghost inverse = { λ m. record { row = m.row; height = m.height } };
 }
 
-impl Painted {
+impl Mark {
     /// The move from the cursor back to the first row.
     fn start_move(self) -> Change
         ensures { change_view result ∷ [] ≡ start_batch (Some self) }
@@ -244,7 +244,7 @@ fn draw_scene<H: LineEditorHost>(
     line: &LineEditBuffer,
     below: Below<'_>,
     cols: usize,
-) -> Result<Painted, Error>
+) -> Result<Mark, Error>
     requires empty { drawing.old ≡ record { cols = cols; changes = [] } }
     requires some_columns { 0 < cols }
     requires columns { cols ≤ 65535 }
@@ -260,14 +260,14 @@ fn draw_scene<H: LineEditorHost>(
     draw_below(drawing, host, alloc, line, below)?;
     let height = drawing.render_height();
     drawing.move_to(cell)?;
-    Ok(Painted {
+    Ok(Mark {
         row: cell.1,
         height,
     })
 }
 
 /// A batch, behind the start move of the painting before, if there was one.
-fn from_start(before: Option<Painted>, batch: Vec<Change>) -> Result<Vec<Change>, AllocError>
+fn from_start(before: Option<Mark>, batch: Vec<Change>) -> Result<Vec<Change>, AllocError>
     ensures { IfOk result (λ all. batch_view all.items ≡ start_batch before ++ batch_view batch.items) }
 {
     let mut all = batch;
@@ -286,8 +286,8 @@ pub fn paint<H: LineEditorHost>(
     line: &LineEditBuffer,
     below: Below<'_>,
     size: ScreenSize,
-    before: Option<Painted>,
-) -> Result<(Vec<Change>, Painted), Error>
+    before: Option<Mark>,
+) -> Result<(Vec<Change>, Mark), Error>
     ensures ok { IfOk result (λ painted. rendered before (painted_on size (scene_with H.rules (H.value host.now) prompt.now line.now (lower_of H.rules (H.value host.now) line.now below.entry) false))
         ≡ Ok (record { changes = batch_view painted.0.items; mark = painted.1 })) }
     ensures err { IfErr result (IsUnpainted size (scene_with H.rules (H.value host.now) prompt.now line.now (lower_of H.rules (H.value host.now) line.now below.entry) false)) }

@@ -10,7 +10,7 @@ use Rattle.tw_host.specs.CandidateView.{CandidateView, fits, replaced, landing, 
 use Rattle.tw_host.specs.ActionView.{Complete}
 use Rattle.tw_host.specs.HostRules.{HostRules}
 use Rattle.tw_painter.specs.EditState.{EditState, ModeView, Inactive, Editing, Cancelled, Accepted, Searching}
-use Rattle.tw_session.specs.Searches.{IsSearching, left_in}
+use Rattle.tw_session.specs.Search.{IsSearching, search_left_in}
 use Rattle.tw_session.specs.Completion.{completed}
 use Rattle.tw_session.specs.Steps.{apply}
 use Rattle.tw_session.specs.HistoryLaws.{apply_all}
@@ -18,12 +18,12 @@ use Rattle.tw_session.specs.CompletionLaws.{GoesRound}
 use Rattle.tw_session.proofs.WalkLemmas.{IsOkAnd-step}
 
 -- without a search none is left
-left-plain : (s : EditState) (mode : ModeView) → ¬ (IsSearching mode) → left_in s mode ≡ s
-left-plain s Inactive plain = refl
-left-plain s Editing plain = refl
-left-plain s Cancelled plain = refl
-left-plain s Accepted plain = refl
-left-plain s (Searching style direction matching) plain = absurd (plain tt)
+search_left-plain : (s : EditState) (mode : ModeView) → ¬ (IsSearching mode) → search_left_in s mode ≡ s
+search_left-plain s Inactive plain = refl
+search_left-plain s Editing plain = refl
+search_left-plain s Cancelled plain = refl
+search_left-plain s Accepted plain = refl
+search_left-plain s (Searching style direction matching) plain = absurd (plain tt)
 
 module _ {V : Type 0} (rules : HostRules V) (v : V) (s : EditState) (candidates : List CandidateView) (there : rules.candidates v s.cut ≡ candidates)
     (plain : ¬ (IsSearching s.mode)) (some : 2 ≤ length candidates) (fit : list_all (fits s.cut) candidates ≡ true) where
@@ -52,14 +52,14 @@ module _ {V : Type 0} (rules : HostRules V) (v : V) (s : EditState) (candidates 
   -- the first completion
   apply-first : s.cycle ≡ None → apply rules v Complete s ≡ Ok (standing 0)
   unfolding apply completed
-  apply-first none = rw (left-plain s s.mode plain, none, there, stands 0 (omega arith), makes 0 (omega arith), lt-ltb 1 (length candidates) some) refl
+  apply-first none = rw (search_left-plain s s.mode plain, none, there, stands 0 (omega arith), makes 0 (omega arith), lt-ltb 1 (length candidates) some) refl
 
   -- a further completion
   apply-next : (i : ℕ) → apply rules v Complete (standing i) ≡ Ok (standing ((i + 1) % length candidates))
   unfolding apply completed
   apply-next i =
       let low : (i + 1) % length candidates < length candidates = mod-lt (i + 1) (omega arith) in
-      rw (left-plain (standing i) s.mode plain, stands _ low, makes _ low) refl
+      rw (search_left-plain (standing i) s.mode plain, stands _ low, makes _ low) refl
 
   -- the candidate at an index has come in
   abbrev MakesAt : ℕ → EditState → Type 0

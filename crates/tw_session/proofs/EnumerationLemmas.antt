@@ -5,14 +5,14 @@ use Rattle.std.proofs.lemmas.List.{take_more, take_all, reverse-append}
 use Rattle.tw_line.specs.Cut.{Cut, cut_at}
 use Rattle.tw_extremes.specs.Extremes.{greatest_below, repeated}
 use Rattle.tw_history.specs.Patterns.{contains}
-use Rattle.tw_history.specs.Near.{MatchView, line_at, last_index, matches, match_at, near}
+use Rattle.tw_history.specs.NearestMatch.{MatchView, line_at, last_index, matches, match_at, nearest_match}
 use Rattle.tw_host.specs.ActionView.{InsertChar, InsertText, HistoryIncSearchBackwards}
 use Rattle.tw_host.specs.HostRules.{HostRules}
 use Rattle.tw_painter.specs.Refusal.{Refusal}
 use Rattle.tw_painter.specs.EditState.{EditState, Searching}
 use Rattle.tw_line.specs.Edits.{with_char, with_text}
-use Rattle.tw_session.specs.Searches.{near_from, shown_match, again, sought}
-use Rattle.tw_session.specs.Steps.{apply, edited, uncycled}
+use Rattle.tw_session.specs.Search.{nearest_match_from, shown_match, searched_again, search_step}
+use Rattle.tw_session.specs.Steps.{apply, edit_step, without_cycle}
 use Rattle.tw_session.specs.HistoryLaws.{newest, match_in, apply_all, Enumerates}
 use Rattle.tw_history.specs.declared.history.SearchStyle.{SearchStyle}
 use Rattle.tw_history.specs.declared.history.SearchDirection.TheVariants.{Backwards}
@@ -58,23 +58,23 @@ newest-older lines pattern =
     ap (λ ls. filter (contains pattern) (reverse ls)) (sym (take_all (length lines) lines (omega arith))) ∙ older-filter lines pattern (length lines) (omega arith)
 
 -- the match of a backward search below an index
-near-below : (lines : List (List ℕ)) (pattern : List ℕ) (i : ℕ) → i < length lines → near lines i Backwards pattern ≡ option_map (match_at lines pattern) (greatest_below (matches lines pattern) (suc i))
-unfolding near
-near-below lines pattern i low =
+nearest_match-below : (lines : List (List ℕ)) (pattern : List ℕ) (i : ℕ) → i < length lines → nearest_match lines i Backwards pattern ≡ option_map (match_at lines pattern) (greatest_below (matches lines pattern) (suc i))
+unfolding nearest_match
+nearest_match-below lines pattern i low =
     let e : i + 1 ≡ suc i = omega arith in
     rw (lt-ltb i (length lines) low, e) refl
 
 -- the match of a backward search from the last line on
-near-last : (lines : List (List ℕ)) (pattern : List ℕ) → near_from lines (last_index lines) Backwards pattern ≡ option_map (match_at lines pattern) (greatest_below (matches lines pattern) (length lines))
+nearest_match-last : (lines : List (List ℕ)) (pattern : List ℕ) → nearest_match_from lines (last_index lines) Backwards pattern ≡ option_map (match_at lines pattern) (greatest_below (matches lines pattern) (length lines))
 unfolding greatest_below
-near-last [] pattern = refl
-near-last (x ∷ lines) pattern =
+nearest_match-last [] pattern = refl
+nearest_match-last (x ∷ lines) pattern =
     let e : suc (length lines) - 1 ≡ length lines = omega arith in
-    rw e (near-below (x ∷ lines) pattern (length lines) (omega arith))
+    rw e (nearest_match-below (x ∷ lines) pattern (length lines) (omega arith))
 
 -- the state that shows a match
 abbrev found : EditState → SearchStyle → ℕ → Cut → EditState
-found s style i match = record s { position = Some i; cycle = None; mode = Searching style Backwards match }
+found s style i match = record s { history_index = Some i; cycle = None; mode = Searching style Backwards match }
 
 -- the line of an index with the offset of the pattern
 abbrev shown_at : List (List ℕ) → List ℕ → ℕ → Cut
@@ -86,29 +86,29 @@ found_if lines s style i match None = found s style i match
 found_if lines s style i match (Some j) = found s style j (shown_at lines s.cut.line j)
 
 -- a backward search from a state that shows a match
-sought-found : (lines : List (List ℕ)) (s : EditState) (style : SearchStyle) (i : ℕ) (match : Cut) → i ≤ length lines
-    → uncycled (sought lines Backwards (found s style i match)) ≡ found_if lines s style i match (greatest_below (matches lines s.cut.line) i)
-unfolding sought greatest_below
-sought-found lines s style zero match low = refl
-sought-found lines s style (suc i) match low =
+search_step-found : (lines : List (List ℕ)) (s : EditState) (style : SearchStyle) (i : ℕ) (match : Cut) → i ≤ length lines
+    → without_cycle (search_step lines Backwards (found s style i match)) ≡ found_if lines s style i match (greatest_below (matches lines s.cut.line) i)
+unfolding search_step greatest_below
+search_step-found lines s style zero match low = refl
+search_step-found lines s style (suc i) match low =
     let e : suc i - 1 ≡ i = omega arith in
-    rw (ne_eqb (suc i) 0 (λ same. omega arith), e, near-below lines s.cut.line i low) (shown (greatest_below (matches lines s.cut.line) (suc i)))
+    rw (ne_eqb (suc i) 0 (λ same. omega arith), e, nearest_match-below lines s.cut.line i low) (shown (greatest_below (matches lines s.cut.line) (suc i)))
   where
-    shown : (o : Option ℕ) → uncycled (shown_match style Backwards match (found s style (suc i) match) (option_map (match_at lines s.cut.line) o)) ≡ found_if lines s style (suc i) match o
+    shown : (o : Option ℕ) → without_cycle (shown_match style Backwards match (found s style (suc i) match) (option_map (match_at lines s.cut.line) o)) ≡ found_if lines s style (suc i) match o
     shown None = refl
     shown (Some j) = refl
 
 -- a search and its match do not touch the candidates
-uncycled-shown : (style : SearchStyle) (match : Cut) (s : EditState) (o : Option MatchView) → uncycled (shown_match style Backwards match s o) ≡ shown_match style Backwards match (uncycled s) o
-uncycled-shown style match s None = refl
-uncycled-shown style match s (Some m) = refl
+without_cycle-shown : (style : SearchStyle) (match : Cut) (s : EditState) (o : Option MatchView) → without_cycle (shown_match style Backwards match s o) ≡ shown_match style Backwards match (without_cycle s) o
+without_cycle-shown style match s None = refl
+without_cycle-shown style match s (Some m) = refl
 
 -- an insertion while searching backwards applies the pattern again from the last line on
-edited-searching : (lines : List (List ℕ)) (edit : Cut → Cut) (s : EditState) (style : SearchStyle) (match : Cut) → s.mode ≡ Searching style Backwards match
-    → edited lines edit s ≡ shown_match style Backwards match (record s { cut = edit s.cut; position = None }) (option_map (match_at lines (edit s.cut).line) (greatest_below (matches lines (edit s.cut).line) (length lines)))
-unfolding again
-edited-searching lines edit s style match searches =
-    rw (searches, near-last lines (edit s.cut).line) refl
+edit_step-searching : (lines : List (List ℕ)) (edit : Cut → Cut) (s : EditState) (style : SearchStyle) (match : Cut) → s.mode ≡ Searching style Backwards match
+    → edit_step lines edit s ≡ shown_match style Backwards match (record s { cut = edit s.cut; history_index = None }) (option_map (match_at lines (edit s.cut).line) (greatest_below (matches lines (edit s.cut).line) (length lines)))
+unfolding searched_again
+edit_step-searching lines edit s style match searches =
+    rw (searches, nearest_match-last lines (edit s.cut).line) refl
 
 module _ {V : Type 0} (rules : HostRules V) (v : V) where
   -- the lines of the history
@@ -124,7 +124,7 @@ module _ {V : Type 0} (rules : HostRules V) (v : V) where
   ShowsOlder s style k i match = Shows (found s style i match) k (match.line ∷ older lines s.cut.line i) (min k (length (older lines s.cut.line i)))
 
   -- a backward search is applied
-  apply-search : (s : EditState) → apply rules v HistoryIncSearchBackwards s ≡ Ok (uncycled (sought lines Backwards s))
+  apply-search : (s : EditState) → apply rules v HistoryIncSearchBackwards s ≡ Ok (without_cycle (search_step lines Backwards s))
   unfolding apply
   apply-search s = refl
 
@@ -148,7 +148,7 @@ module _ {V : Type 0} (rules : HostRules V) (v : V) where
       let e : min 0 (length (older lines s.cut.line i)) ≡ 0 = omega arith in rw e refl
   shows_older s style (suc k) i match low =
       IsOkAnd-step rules v HistoryIncSearchBackwards (replicate k HistoryIncSearchBackwards) (found s style i match) _ _
-      (apply-search (found s style i match) ∙ ap Ok (sought-found lines s style i match (omega arith)))
+      (apply-search (found s style i match) ∙ ap Ok (search_step-found lines s style i match (omega arith)))
       (older-after s style k i match low (shows_older s style k) (greatest_below (matches lines s.cut.line) i) refl)
 
   -- what the law says of the state after the insertion
@@ -157,7 +157,7 @@ module _ {V : Type 0} (rules : HostRules V) (v : V) where
 
   -- the first match is the newest, where there is one
   newest-shown : (s : EditState) (style : SearchStyle) (match : Cut) (k : ℕ) (o : Option ℕ) → greatest_below (matches lines s.cut.line) (length lines) ≡ o
-      → ShowsNewest k (shown_match style Backwards match (uncycled s) (option_map (match_at lines s.cut.line) o))
+      → ShowsNewest k (shown_match style Backwards match (without_cycle s) (option_map (match_at lines s.cut.line) o))
   newest-shown s style match k None none some =
       let e : newest lines s.cut.line ≡ [] = newest-older lines s.cut.line ∙ older-found lines s.cut.line (length lines) ∙ ap (from_found lines s.cut.line) none in
       let few : 1 ≤ 0 = rw e at some in
@@ -169,13 +169,13 @@ module _ {V : Type 0} (rules : HostRules V) (v : V) where
       rw (e, less) (shows_older s style k i (shown_at lines s.cut.line i) low)
 
   -- the law, of an edit in place of an insertion
-  enumerates_edit : (edit : Cut → Cut) (s t : EditState) (style : SearchStyle) (match : Cut) (k : ℕ) → s.mode ≡ Searching style Backwards match → ◌≡◌ {A = Result EditState Refusal} (Ok (uncycled (edited lines edit s))) (Ok t) → ShowsNewest k t
+  enumerates_edit : (edit : Cut → Cut) (s t : EditState) (style : SearchStyle) (match : Cut) (k : ℕ) → s.mode ≡ Searching style Backwards match → ◌≡◌ {A = Result EditState Refusal} (Ok (without_cycle (edit_step lines edit s))) (Ok t) → ShowsNewest k t
   enumerates_edit edit s t style match k searches done =
-      let same : uncycled (edited lines edit s) ≡ t = cc in
-      let shown : uncycled (edited lines edit s) ≡ _ = ap uncycled (edited-searching lines edit s style match searches) ∙ uncycled-shown style match (record s { cut = edit s.cut; position = None }) _ in
+      let same : without_cycle (edit_step lines edit s) ≡ t = cc in
+      let shown : without_cycle (edit_step lines edit s) ≡ _ = ap without_cycle (edit_step-searching lines edit s style match searches) ∙ without_cycle-shown style match (record s { cut = edit s.cut; history_index = None }) _ in
       let e = sym shown ∙ same in
       subst (ShowsNewest k) e
-      (newest-shown (record s { cut = edit s.cut; position = None }) style match k (greatest_below (matches lines (edit s.cut).line) (length lines)) refl)
+      (newest-shown (record s { cut = edit s.cut; history_index = None }) style match k (greatest_below (matches lines (edit s.cut).line) (length lines)) refl)
 
   -- the law of searches
   pub enumerates : Enumerates rules v

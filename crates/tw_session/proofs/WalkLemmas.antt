@@ -2,24 +2,24 @@
 use Rattle.std.proofs.Common.{◌≡◌, ℕ, zero, suc, ◌+◌, ◌-◌, ◌<◌, ◌≤◌, List, [], ◌∷◌, ◌++◌, length, replicate, Some, None, Ok, IsOkAnd, refl, sym, ap, ◌∙◌, arith}
 use Rattle.std.proofs.lemmas.Option.{slice_get-get_or, slice_get_past}
 use Rattle.tw_line.specs.Cut.{Cut, at_end}
-use Rattle.tw_history.specs.Near.{line_at, last_index, last_line}
+use Rattle.tw_history.specs.NearestMatch.{line_at, last_index, last_line}
 use Rattle.tw_host.specs.ActionView.{ActionView, HistoryPrevious, HistoryNext}
 use Rattle.tw_host.specs.HostRules.{HostRules}
 use Rattle.tw_painter.specs.EditState.{EditState, ModeView, Inactive, Editing, Cancelled, Accepted, Searching}
-use Rattle.tw_session.specs.HistorySteps.{previous, next}
-use Rattle.tw_session.specs.Searches.{IsSearching}
-use Rattle.tw_session.specs.Steps.{apply, stepped, uncycled}
+use Rattle.tw_session.specs.Walk.{previous, next}
+use Rattle.tw_session.specs.Search.{IsSearching}
+use Rattle.tw_session.specs.Steps.{apply, history_step, without_cycle}
 use Rattle.tw_session.specs.HistoryLaws.{apply_all, LeavesHistory, WalksBack}
 use Rattle.tw_history.specs.declared.history.SearchDirection.{SearchDirection}
 use Rattle.tw_history.specs.declared.history.SearchDirection.TheVariants.{Backwards, Forwards}
 
 -- a step through the history in a mode without a search
-stepped-plain : (lines : List (List ℕ)) (direction : SearchDirection) (step : EditState → EditState) (s : EditState) (mode : ModeView) → ¬ (IsSearching mode) → stepped lines direction step s mode ≡ step s
-stepped-plain lines direction step s Inactive plain = refl
-stepped-plain lines direction step s Editing plain = refl
-stepped-plain lines direction step s Cancelled plain = refl
-stepped-plain lines direction step s Accepted plain = refl
-stepped-plain lines direction step s (Searching style before matching) plain = absurd (plain tt)
+history_step-plain : (lines : List (List ℕ)) (direction : SearchDirection) (step : EditState → EditState) (s : EditState) (mode : ModeView) → ¬ (IsSearching mode) → history_step lines direction step s mode ≡ step s
+history_step-plain lines direction step s Inactive plain = refl
+history_step-plain lines direction step s Editing plain = refl
+history_step-plain lines direction step s Cancelled plain = refl
+history_step-plain lines direction step s Accepted plain = refl
+history_step-plain lines direction step s (Searching style before matching) plain = absurd (plain tt)
 
 -- the last index of a list of lines that is not empty
 last_index-some : (lines : List (List ℕ)) → 1 ≤ length lines → last_index lines ≡ Some (length lines - 1)
@@ -28,34 +28,34 @@ last_index-some (x ∷ lines) some = refl
 
 -- the state on a walk: a line of the history stands in place of the typed one, which is kept, and nothing is completed
 abbrev held : EditState → Cut → ℕ → EditState
-held s cut i = record s { cut = cut; position = Some i; kept = Some s.cut.line; cycle = None }
+held s cut i = record s { cut = cut; history_index = Some i; typed_line = Some s.cut.line; cycle = None }
 
 -- the first step back
-previous-first : (lines : List (List ℕ)) (s : EditState) → s.position ≡ None → 1 ≤ length lines → uncycled (previous lines s) ≡ held s (at_end (line_at lines (length lines - 1))) (length lines - 1)
+previous-first : (lines : List (List ℕ)) (s : EditState) → s.history_index ≡ None → 1 ≤ length lines → without_cycle (previous lines s) ≡ held s (at_end (line_at lines (length lines - 1))) (length lines - 1)
 unfolding previous
 previous-first lines s typed some =
     rw (typed, last_index-some lines some, slice_get-get_or lines (length lines - 1) [] (omega arith)) refl
 
 -- a further step back
-previous-held : (lines : List (List ℕ)) (s : EditState) (cut : Cut) (i : ℕ) → suc i ≤ length lines → uncycled (previous lines (held s cut (suc i))) ≡ held s (at_end (line_at lines i)) i
+previous-held : (lines : List (List ℕ)) (s : EditState) (cut : Cut) (i : ℕ) → suc i ≤ length lines → without_cycle (previous lines (held s cut (suc i))) ≡ held s (at_end (line_at lines i)) i
 unfolding previous
 previous-held lines s cut i low =
     let e : suc i - 1 ≡ i = omega arith in
     rw (e, slice_get-get_or lines i [] low) refl
 
 -- a step forth to a line
-next-held : (lines : List (List ℕ)) (s : EditState) (cut : Cut) (i : ℕ) → suc i < length lines → uncycled (next lines (held s cut i)) ≡ held s (at_end (line_at lines (suc i))) (suc i)
+next-held : (lines : List (List ℕ)) (s : EditState) (cut : Cut) (i : ℕ) → suc i < length lines → without_cycle (next lines (held s cut i)) ≡ held s (at_end (line_at lines (suc i))) (suc i)
 unfolding next
 next-held lines s cut i low =
     let e : i + 1 ≡ suc i = omega arith in
     rw (e, slice_get-get_or lines (suc i) [] low) refl
 
 -- the state after a walk: the typed line stands again, and the history is left
-abbrev walked : EditState → EditState
-walked s = record s { cut = at_end s.cut.line; position = None; kept = None; cycle = None }
+abbrev move_step : EditState → EditState
+move_step s = record s { cut = at_end s.cut.line; history_index = None; typed_line = None; cycle = None }
 
 -- the step forth behind the last line leaves the history
-next-last : (lines : List (List ℕ)) (s : EditState) (cut : Cut) (i : ℕ) → length lines ≤ suc i → uncycled (next lines (held s cut i)) ≡ walked s
+next-last : (lines : List (List ℕ)) (s : EditState) (cut : Cut) (i : ℕ) → length lines ≤ suc i → without_cycle (next lines (held s cut i)) ≡ move_step s
 unfolding next
 next-last lines s cut i high =
     let e : i + 1 ≡ suc i = omega arith in
@@ -63,20 +63,20 @@ next-last lines s cut i high =
 
 module _ {V : Type 0} (rules : HostRules V) (v : V) where
   -- a step back is applied
-  apply-previous : (s : EditState) → ¬ (IsSearching s.mode) → apply rules v HistoryPrevious s ≡ Ok (uncycled (previous (rules.lines v) s))
+  apply-previous : (s : EditState) → ¬ (IsSearching s.mode) → apply rules v HistoryPrevious s ≡ Ok (without_cycle (previous (rules.lines v) s))
   unfolding apply
-  apply-previous s plain = ap (λ (t : EditState). Ok (uncycled t)) (stepped-plain (rules.lines v) Backwards (previous (rules.lines v)) s s.mode plain)
+  apply-previous s plain = ap (λ (t : EditState). Ok (without_cycle t)) (history_step-plain (rules.lines v) Backwards (previous (rules.lines v)) s s.mode plain)
 
   -- a step forth is applied
-  apply-next : (s : EditState) → ¬ (IsSearching s.mode) → apply rules v HistoryNext s ≡ Ok (uncycled (next (rules.lines v) s))
+  apply-next : (s : EditState) → ¬ (IsSearching s.mode) → apply rules v HistoryNext s ≡ Ok (without_cycle (next (rules.lines v) s))
   unfolding apply
-  apply-next s plain = ap (λ (t : EditState). Ok (uncycled t)) (stepped-plain (rules.lines v) Forwards (next (rules.lines v)) s s.mode plain)
+  apply-next s plain = ap (λ (t : EditState). Ok (without_cycle t)) (history_step-plain (rules.lines v) Forwards (next (rules.lines v)) s s.mode plain)
 
   -- what a list of actions leads to, where the first one leads to t
   pub IsOkAnd-step : (a : ActionView) (actions : List ActionView) (s t : EditState) (P : EditState → Type 0) → apply rules v a s ≡ Ok t → IsOkAnd (apply_all rules v actions t) P → IsOkAnd (apply_all rules v (a ∷ actions) s) P
   IsOkAnd-step a actions s t P e rest = rw e rest
 
-  module _ (s : EditState) (plain : ¬ (IsSearching s.mode)) (P : EditState → Type 0) (ends : P (walked s)) where
+  module _ (s : EditState) (plain : ¬ (IsSearching s.mode)) (P : EditState → Type 0) (ends : P (move_step s)) where
     -- the steps forth from a line of the history
     forth : (i p : ℕ) (cut : Cut) → 1 ≤ i → p + i ≡ length (rules.lines v) → IsOkAnd (apply_all rules v (replicate i HistoryNext) (held s cut p)) P
     forth zero p cut some counts = absurd (omega arith)
@@ -99,7 +99,7 @@ module _ {V : Type 0} (rules : HostRules V) (v : V) where
         (back j i p _ some (omega arith) (omega arith) (omega arith))
 
     -- a whole walk
-    walk : (k : ℕ) → s.position ≡ None → 1 ≤ k → k ≤ length (rules.lines v) → IsOkAnd (apply_all rules v (replicate k HistoryPrevious ++ replicate k HistoryNext) s) P
+    walk : (k : ℕ) → s.history_index ≡ None → 1 ≤ k → k ≤ length (rules.lines v) → IsOkAnd (apply_all rules v (replicate k HistoryPrevious ++ replicate k HistoryNext) s) P
     walk zero typed some low = absurd (omega arith)
     walk (suc k) typed some low =
         let lines = rules.lines v in
@@ -112,14 +112,14 @@ module _ {V : Type 0} (rules : HostRules V) (v : V) where
   walks s k typed plain some low = walk s plain (λ t. t.cut ≡ at_end s.cut.line) refl k typed some low
 
   -- the first step of a second walk
-  first_again : (s : EditState) → ¬ (IsSearching s.mode) → 1 ≤ length (rules.lines v) → IsOkAnd (apply rules v HistoryPrevious (walked s)) (λ u. Some u.cut.line ≡ last_line (rules.lines v))
+  first_again : (s : EditState) → ¬ (IsSearching s.mode) → 1 ≤ length (rules.lines v) → IsOkAnd (apply rules v HistoryPrevious (move_step s)) (λ u. Some u.cut.line ≡ last_line (rules.lines v))
   first_again s plain some =
       let lines = rules.lines v in
-      let on = apply-previous (walked s) plain ∙ ap Ok (previous-first lines (walked s) refl some) in
+      let on = apply-previous (move_step s) plain ∙ ap Ok (previous-first lines (move_step s) refl some) in
       rw on (sym (slice_get-get_or lines (length lines - 1) [] (omega arith)))
 
   -- a walk leaves the history
   pub leaves : LeavesHistory rules v
   leaves s k typed plain some low =
-      walk s plain (λ t. (t.position ≡ None) × (t.kept ≡ None) × IsOkAnd (apply rules v HistoryPrevious t) (λ u. Some u.cut.line ≡ last_line (rules.lines v)))
+      walk s plain (λ t. (t.history_index ≡ None) × (t.typed_line ≡ None) × IsOkAnd (apply rules v HistoryPrevious t) (λ u. Some u.cut.line ≡ last_line (rules.lines v)))
       (refl, refl, first_again s plain (omega arith)) k typed some low

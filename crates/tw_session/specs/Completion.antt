@@ -6,14 +6,14 @@ use Rattle.tw_painter.specs.EditState.{EditState, CycleView}
 use Rattle.tw_painter.specs.Refusal.{Refusal, CandidateDoesNotFit}
 
 -- a cut text comes in, with a cycle; where there is none the candidate did not fit
-abbrev pub put_in : EditState → Option CycleView → Option Cut → Result EditState Refusal
-put_in s cycle None = Err CandidateDoesNotFit
-put_in s cycle (Some cut) = Ok (record s { cut = cut; cycle = cycle })
+abbrev pub with_completion : EditState → Option CycleView → Option Cut → Result EditState Refusal
+with_completion s cycle None = Err CandidateDoesNotFit
+with_completion s cycle (Some cut) = Ok (record s { cut = cut; cycle = cycle })
 
 -- a candidate comes in on a cut text; where there is none nothing is changed
-abbrev pub filled : EditState → Option CycleView → Cut → Option CandidateView → Result EditState Refusal
-filled s cycle original None = Ok s
-filled s cycle original (Some c) = put_in s cycle (completed_by c original)
+abbrev pub with_candidate : EditState → Option CycleView → Cut → Option CandidateView → Result EditState Refusal
+with_candidate s cycle original None = Ok s
+with_candidate s cycle original (Some c) = with_completion s cycle (completed_by c original)
 
 -- two candidates or more are a cycle
 abbrev pub cycle_of : List CandidateView → Cut → Option CycleView
@@ -26,8 +26,8 @@ next_in c = (c.index + 1) % length c.candidates
 
 -- without a cycle the first of these candidates comes in, and else the cycle's next one on its original cut text
 abbrev pub completed_from : List CandidateView → EditState → Option CycleView → Result EditState Refusal
-completed_from candidates s None = filled s (cycle_of candidates s.cut) s.cut (slice_get candidates 0)
-completed_from candidates s (Some c) = filled s (Some (record c { index = next_in c })) c.original (slice_get c.candidates (next_in c))
+completed_from candidates s None = with_candidate s (cycle_of candidates s.cut) s.cut (slice_get candidates 0)
+completed_from candidates s (Some c) = with_candidate s (Some (record c { index = next_in c })) c.original (slice_get c.candidates (next_in c))
 
 -- one completion, by the host's candidates for the cut text
 unfoldable pub completed : (Cut → List CandidateView) → EditState → Result EditState Refusal

@@ -5,7 +5,7 @@ use Rattle.tw_host.specs.CandidateView.{CandidateView, fits, completed_by}
 use Rattle.tw_host.specs.ActionView.{Complete}
 use Rattle.tw_host.specs.HostRules.{HostRules}
 use Rattle.tw_painter.specs.EditState.{EditState}
-use Rattle.tw_session.specs.Searches.{IsSearching}
+use Rattle.tw_session.specs.Search.{IsSearching}
 use Rattle.tw_session.specs.HistoryLaws.{apply_all}
 
 module _ {V : Type 0} (rules : HostRules V) (v : V) where

@@ -2,12 +2,12 @@
 use Rattle.std.specs.Prelude.{⊤, ◌≡◌, ℕ, ◌-◌, ◌≤◌, ◌++◌, min, List, [], ◌∷◌, length, replicate, reverse, filter, slice_get, Option, Some, None, Result, Ok, Err, IsOkAnd}
 use Rattle.tw_line.specs.Cut.{Cut, at_end}
 use Rattle.tw_history.specs.Patterns.{contains}
-use Rattle.tw_history.specs.Near.{last_line}
+use Rattle.tw_history.specs.NearestMatch.{last_line}
 use Rattle.tw_host.specs.ActionView.{ActionView, InsertChar, InsertText, HistoryPrevious, HistoryNext, HistoryIncSearchBackwards}
 use Rattle.tw_host.specs.HostRules.{HostRules}
 use Rattle.tw_painter.specs.Refusal.{Refusal}
 use Rattle.tw_painter.specs.EditState.{EditState, ModeView, Searching}
-use Rattle.tw_session.specs.Searches.{IsSearching}
+use Rattle.tw_session.specs.Search.{IsSearching}
 use Rattle.tw_session.specs.Steps.{apply}
 use Rattle.tw_history.specs.declared.history.SearchStyle.{SearchStyle}
 use Rattle.tw_history.specs.declared.history.SearchDirection.TheVariants.{Backwards}
@@ -40,14 +40,14 @@ module _ {V : Type 0} (rules : HostRules V) (v : V) where
 
   -- k steps back through the history and k steps forth, which there are lines for, give the typed line with the cursor at its end
   abbrev pub WalksBack : Type 0
-  WalksBack = (s : EditState) (k : ℕ) → s.position ≡ None → ¬ (IsSearching s.mode) → 1 ≤ k → k ≤ length (rules.lines v)
+  WalksBack = (s : EditState) (k : ℕ) → s.history_index ≡ None → ¬ (IsSearching s.mode) → 1 ≤ k → k ≤ length (rules.lines v)
       → IsOkAnd (apply_all (replicate k HistoryPrevious ++ replicate k HistoryNext) s) (λ t. t.cut ≡ at_end s.cut.line)
 
   -- then there is no position and nothing is kept, so that one more step back shows the last line again
   abbrev pub LeavesHistory : Type 0
-  LeavesHistory = (s : EditState) (k : ℕ) → s.position ≡ None → ¬ (IsSearching s.mode) → 1 ≤ k → k ≤ length (rules.lines v)
+  LeavesHistory = (s : EditState) (k : ℕ) → s.history_index ≡ None → ¬ (IsSearching s.mode) → 1 ≤ k → k ≤ length (rules.lines v)
       → IsOkAnd (apply_all (replicate k HistoryPrevious ++ replicate k HistoryNext) s) (λ t.
-      (t.position ≡ None) × (t.kept ≡ None) × IsOkAnd (apply rules v HistoryPrevious t) (λ u. Some u.cut.line ≡ last_line (rules.lines v)))
+      (t.history_index ≡ None) × (t.typed_line ≡ None) × IsOkAnd (apply rules v HistoryPrevious t) (λ u. Some u.cut.line ≡ last_line (rules.lines v)))
 
   -- an insertion while searching backwards, whose pattern some line contains, and k backward searches show the matching lines from the newest on, and then the oldest
   abbrev pub Enumerates : Type 0

@@ -1,8 +1,8 @@
-pub mod HistorySteps
-pub mod Searches
+pub mod Walk
+pub mod Search
 pub mod Completion
 pub mod Steps
-pub mod EditSteps
+pub mod Edit
 pub mod Outcomes
 pub mod SessionView
 pub mod CompletionSteps

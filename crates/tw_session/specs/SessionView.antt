@@ -7,7 +7,7 @@ use Rattle.tw_painter.specs.EditState as view
 use Rattle.tw_host.specs.ActionView.{ActionView}
 use Rattle.tw_host.specs.HostRules.{HostRules}
 use Rattle.tw_session.specs.Steps.{apply, TakesMemory}
-use Rattle.tw_history.specs.Near.{MatchView}
+use Rattle.tw_history.specs.NearestMatch.{MatchView}
 use Rattle.tw_painter.specs.Painting.{Mark}
 use Rattle.tw_session.specs.declared.session.search.Found.{Found}
 use Rattle.tw_painter.specs.Refusal.{refusal_of}
@@ -40,7 +40,7 @@ prompt_view (Some prompt) = string_bytes prompt
 
 -- the state of a new editor
 abbrev pub new_state : EditState
-new_state = record { prompt = codes "> "; cut = empty_cut; position = None; kept = None; cycle = None; mode = view.Inactive }
+new_state = record { prompt = codes "> "; cut = empty_cut; history_index = None; typed_line = None; cycle = None; mode = view.Inactive }
 
 -- a new editor
 abbrev pub new_session : SessionView
@@ -56,8 +56,8 @@ initial_cut None = empty_cut
 initial_cut (Some text) = at_end text
 
 -- where a run begins, with this line
-abbrev pub begun : Cut → EditState → EditState
-begun cut s = record s { cut = cut; position = None; kept = None; cycle = None; mode = Editing }
+abbrev pub begun_state : Cut → EditState → EditState
+begun_state cut s = record s { cut = cut; history_index = None; typed_line = None; cycle = None; mode = Editing }
 
 module _ {V : Type 0} (rules : HostRules V) (v : V) where
   -- a session once an action is applied

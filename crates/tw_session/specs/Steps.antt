@@ -9,8 +9,8 @@ use Rattle.tw_line.specs.Edits.{with_char, with_text, killed}
 use Rattle.tw_host.specs.ActionView.{ActionView, AcceptLine, Cancel, EndOfFile, InsertChar, InsertText, Repaint, Move, Kill, KillAndMove, HistoryPrevious, HistoryNext, Complete, NoAction, HistoryIncSearchBackwards, HistoryIncSearchForwards}
 use Rattle.tw_host.specs.HostRules.{HostRules}
 use Rattle.tw_session.specs.Completion.{completed}
-use Rattle.tw_session.specs.HistorySteps.{previous, next}
-use Rattle.tw_session.specs.Searches.{IsSearching, left, again, sought}
+use Rattle.tw_session.specs.Walk.{previous, next}
+use Rattle.tw_session.specs.Search.{IsSearching, search_left, searched_again, search_step}
 use Rattle.tw_painter.specs.Refusal.{Refusal}
 use Rattle.tw_painter.specs.Refusal as refusal
 use Rattle.tw_painter.specs.EditState.{EditState, ModeView, Cancelled, Accepted, Searching}
@@ -18,40 +18,40 @@ use Rattle.tw_history.specs.declared.history.SearchDirection.{SearchDirection}
 use Rattle.tw_history.specs.declared.history.SearchDirection.TheVariants.{Backwards, Forwards}
 
 -- an edit of the cut text; a search applies its pattern again
-abbrev pub edited : List (List ℕ) → (Cut → Cut) → EditState → EditState
-edited lines edit s = again lines (record s { cut = edit s.cut })
+abbrev pub edit_step : List (List ℕ) → (Cut → Cut) → EditState → EditState
+edit_step lines edit s = searched_again lines (record s { cut = edit s.cut })
 
 -- a movement, which leaves a search
-abbrev pub walked : (Cut → Cut) → EditState → EditState
-walked move s = record (left s) { cut = move (left s).cut }
+abbrev pub move_step : (Cut → Cut) → EditState → EditState
+move_step move s = record (search_left s) { cut = move (search_left s).cut }
 
 -- a step through the history, which is a step of the search while searching
-abbrev pub stepped : List (List ℕ) → SearchDirection → (EditState → EditState) → EditState → ModeView → EditState
-stepped lines direction step s (Searching style before matching) = sought lines direction s
-stepped lines direction step s _ = step s
+abbrev pub history_step : List (List ℕ) → SearchDirection → (EditState → EditState) → EditState → ModeView → EditState
+history_step lines direction step s (Searching style before matching) = search_step lines direction s
+history_step lines direction step s _ = step s
 
 -- the candidates come in no more
-abbrev pub uncycled : EditState → EditState
-uncycled s = record s { cycle = None }
+abbrev pub without_cycle : EditState → EditState
+without_cycle s = record s { cycle = None }
 
 module _ {V : Type 0} (rules : HostRules V) (v : V) where
   -- the state after an action, or its refusal
   unfoldable pub apply : ActionView → EditState → Result EditState Refusal
-  apply AcceptLine s = Ok (record (left s) { mode = Accepted })
+  apply AcceptLine s = Ok (record (search_left s) { mode = Accepted })
   apply Cancel s = Ok (record s { mode = Cancelled })
   apply EndOfFile s = Err refusal.EndOfFile
-  apply (InsertChar r x) s = Ok (uncycled (edited (rules.lines v) (repeated (with_char x) r) s))
-  apply (InsertText r text) s = Ok (uncycled (edited (rules.lines v) (repeated (with_text text) r) s))
+  apply (InsertChar r x) s = Ok (without_cycle (edit_step (rules.lines v) (repeated (with_char x) r) s))
+  apply (InsertText r text) s = Ok (without_cycle (edit_step (rules.lines v) (repeated (with_text text) r) s))
   apply Repaint s = Ok s
-  apply (Move m) s = Ok (uncycled (walked (moved m) s))
-  apply (Kill m) s = Ok (uncycled (edited (rules.lines v) (killed m m) s))
-  apply (KillAndMove k m) s = Ok (uncycled (edited (rules.lines v) (killed k m) s))
-  apply HistoryPrevious s = Ok (uncycled (stepped (rules.lines v) Backwards (previous (rules.lines v)) s s.mode))
-  apply HistoryNext s = Ok (uncycled (stepped (rules.lines v) Forwards (next (rules.lines v)) s s.mode))
-  apply Complete s = completed (rules.candidates v) (left s)
+  apply (Move m) s = Ok (without_cycle (move_step (moved m) s))
+  apply (Kill m) s = Ok (without_cycle (edit_step (rules.lines v) (killed m m) s))
+  apply (KillAndMove k m) s = Ok (without_cycle (edit_step (rules.lines v) (killed k m) s))
+  apply HistoryPrevious s = Ok (without_cycle (history_step (rules.lines v) Backwards (previous (rules.lines v)) s s.mode))
+  apply HistoryNext s = Ok (without_cycle (history_step (rules.lines v) Forwards (next (rules.lines v)) s s.mode))
+  apply Complete s = completed (rules.candidates v) (search_left s)
   apply NoAction s = Ok s
-  apply HistoryIncSearchBackwards s = Ok (uncycled (sought (rules.lines v) Backwards s))
-  apply HistoryIncSearchForwards s = Ok (uncycled (sought (rules.lines v) Forwards s))
+  apply HistoryIncSearchBackwards s = Ok (without_cycle (search_step (rules.lines v) Backwards s))
+  apply HistoryIncSearchForwards s = Ok (without_cycle (search_step (rules.lines v) Forwards s))
 
   -- the state after an action, if there is one
   abbrev pub apply_if : Option ActionView → EditState → Result EditState Refusal

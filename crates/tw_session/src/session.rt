@@ -9,7 +9,7 @@ ghost use Rattle.tw_line.specs.Cut.{cut_at, empty_cut};
 ghost use Rattle.tw_painter.specs.EditState.{Inactive as InactiveView};
 ghost use Rattle.tw_session.specs.Outcomes.{outcome_of, answer_at, IsLine, is_over, is_open};
 ghost use Rattle.tw_painter.specs.Painting.{painted_on, scene_of, shown_in, rendered};
-ghost use Rattle.tw_painter.specs.Draws.{IsUnpainted};
+ghost use Rattle.tw_painter.specs.DrawSteps.{IsUnpainted};
 
 use std::alloc::{AllocError, Global};
 use std::marker::Model;
@@ -17,7 +17,7 @@ use tw_history::{HistoryIndex, SearchDirection, SearchStyle};
 use tw_host::{Action, LineEditorHost};
 use tw_input::InputEvent;
 use tw_line::LineEditBuffer;
-use tw_painter::{Below, Error, Painted, paint};
+use tw_painter::{Below, Error, Mark, paint};
 use tw_surface::Change;
 use tw_terminal::ScreenSize;
 
@@ -52,11 +52,11 @@ pub struct Session {
     alloc: Global,
     prompt: Prompt,
     line: LineEditBuffer,
-    position: Option<HistoryIndex>,
-    kept: Option<String>,
+    history_index: Option<HistoryIndex>,
+    typed_line: Option<String>,
     cycle: Option<Cycle>,
     mode: Mode,
-    painted: Option<Painted>,
+    painted: Option<Mark>,
 }
 
 impl Model for Session {
@@ -69,8 +69,8 @@ impl Model for Session {
       state = record {
         prompt = s.prompt;
         cut = s.line;
-        position = s.position;
-        kept = option_map string_bytes s.kept;
+        history_index = s.history_index;
+        typed_line = option_map string_bytes s.typed_line;
         cycle = s.cycle;
         mode = mode_view s.mode;
       };
@@ -79,7 +79,7 @@ impl Model for Session {
 }
 
 impl Session {
-    ghost use Rattle.tw_session.specs.SessionView.{new_session, on_state, begun, mode_view, ActsOn, FailsToActOn};
+    ghost use Rattle.tw_session.specs.SessionView.{new_session, on_state, begun_state, mode_view, ActsOn, FailsToActOn};
 
     /// A session with the prompt `> `, an empty line and nothing painted. It takes no memory.
     pub fn new(alloc: Global) -> Session
@@ -89,8 +89,8 @@ impl Session {
             alloc,
             prompt: Prompt::new(),
             line: LineEditBuffer::empty(alloc),
-            position: None,
-            kept: None,
+            history_index: None,
+            typed_line: None,
             cycle: None,
             mode: Mode::Inactive,
             painted: None,
@@ -151,7 +151,7 @@ impl Session {
     }
 
     /// Remembers the last painting.
-    pub fn set_painted(&mut self, painted: Painted)
+    pub fn set_mark(&mut self, painted: Mark)
         ensures { self.new ≡ record self.old { last = Some painted } }
     {
         self.painted = Some(painted);
@@ -159,18 +159,18 @@ impl Session {
 
     /// Begins a run: empties the line, and forgets the place in the history and the last painting.
     pub fn begin(&mut self)
-        ensures { self.new ≡ record { state = begun empty_cut self.old.state; last = None } }
+        ensures { self.new ≡ record { state = begun_state empty_cut self.old.state; last = None } }
     {
         self.line.clear();
-        self.position = None;
-        self.kept = None;
+        self.history_index = None;
+        self.typed_line = None;
         self.cycle = None;
         self.mode = Mode::Editing;
         self.painted = None;
     }
 
     /// Ends a run, and forgets its last painting, which it answers.
-    pub fn end(&mut self) -> Option<Painted>
+    pub fn end(&mut self) -> Option<Mark>
         ensures session { self.new ≡ record { state = record self.old.state { mode = InactiveView }; last = None } }
         ensures painted { result ≡ self.old.last }
     {
@@ -251,7 +251,7 @@ impl Session {
         &self,
         host: &H,
         size: ScreenSize,
-    ) -> Result<(Vec<Change>, Painted), Error>
+    ) -> Result<(Vec<Change>, Mark), Error>
         ensures ok { IfOk result (λ shown. rendered self.now.last (painted_on size (scene_of H.rules (H.value host.now) self.now.state false)) ≡ Ok (record { changes = batch_view shown.0.items; mark = shown.1 })) }
         ensures err { IfErr result (IsUnpainted size (scene_of H.rules (H.value host.now) self.now.state false)) }
     {

@@ -14,7 +14,7 @@ use Rattle.tw_surface.specs.Paintings.{Painting, painting, shown_part, cursor_pl
 use Rattle.tw_surface.specs.Pictures.{Picture, blank, cursor_at, play, play_all}
 use Rattle.tw_surface.specs.Positions.{at_least_0}
 use Rattle.tw_surface.specs.Scenes.{Scene, IsPlain}
-use Rattle.tw_surface.specs.Shots.{SizedScene, shot_of, scenes_of, clearing, start_of, batches_after, closing_batch, play_batches, start_row}
+use Rattle.tw_surface.specs.PaintingBatches.{SizedScene, shot_of, scenes_of, clearing, start_of, batches_after, closing_batch, play_batches, start_row}
 use Rattle.tw_surface.proofs.PaintedScenes.{Painted, painted, cursor_place-row, none_above, closed}
 use Rattle.tw_surface.proofs.PaintingHeights.{height-is}
 

@@ -15,7 +15,7 @@ use Rattle.tw_surface.specs.Pictures.{Picture, play, play_all, cursor_at}
 use Rattle.tw_surface.specs.Scenes.{Scene, is_text, IsPlain}
 use Rattle.tw_surface.specs.Paintings.{Painting, before_line, cursor_place, painting, start_move, closing}
 use Rattle.tw_surface.specs.Fresh.{IsFresh}
-use Rattle.tw_surface.specs.Shots.{Shot, SizedScene, IsPlainAt, shot_of, scenes_of, batches, batches_after, closing_batch, clearing, start_of, shots, last_of, start_row, play_batches}
+use Rattle.tw_surface.specs.PaintingBatches.{Shot, SizedScene, IsPlainAt, shot_of, scenes_of, batches, batches_after, closing_batch, clearing, start_of, shots, last_of, start_row, play_batches}
 use Rattle.tw_surface.specs.Scrolling.{play_batches_on, play_all_on, IsLow, raised_row, top_row}
 use Rattle.tw_surface.specs.HealingLaws.{begins_cleared, HasTextPrompt, IsFreshOnAny, IsFreshOnAnyOf}
 use Rattle.tw_surface.proofs.TypedChanges.{place_after_all-append}

@@ -1,4 +1,4 @@
-pub mod TrackLemmas
+pub mod ExtentLemmas
 pub mod DrawingLemmas
 pub mod PlaceLemmas
 pub mod HeightLemmas

@@ -7,7 +7,7 @@ use Rattle.tw_surface.specs.ChangeView.{ClearScreen}
 use Rattle.tw_surface.specs.Defaults.{default_color}
 use Rattle.tw_surface.specs.Paintings.{Painting, painting, start_move}
 use Rattle.tw_surface.specs.Scenes.{Scene, IsPlain}
-use Rattle.tw_surface.specs.Shots.{Shot, SizedScene, shot_of, scenes_of, clearing, start_of, batches_after, batches, closing_batch, shots, shows, closing_of, whole, last_of, start_row}
+use Rattle.tw_surface.specs.PaintingBatches.{Shot, SizedScene, shot_of, scenes_of, clearing, start_of, batches_after, batches, closing_batch, shots, shows, closing_of, whole, last_of, start_row}
 use Rattle.tw_surface.specs.Simple.{IsSimple}
 use Rattle.tw_surface.proofs.RenamedPictures.{Keeps, named_all, named_batches}
 use Rattle.tw_surface.proofs.NamedPaintings.{named_scene, named_painting, painting-named, plain-scene}

@@ -9,7 +9,7 @@ use Rattle.std.proofs.lemmas.Str.Ascii.{IsAscii-cons, IsAscii-nil}
 use Rattle.std.proofs.lemmas.List.{map-append}
 use Rattle.tw_surface.specs.declared.measure.Piece.{Piece}
 use Rattle.tw_surface.specs.declared.measure.Piece.TheVariants.{Cr, Lf, CrLf, Wide}
-use Rattle.tw_surface.specs.declared.measure.Track.{Track}
+use Rattle.tw_surface.specs.declared.measure.Extent.{Extent}
 use Rattle.tw_surface.specs.ChangeView.{ChangeView, Batch}
 use Rattle.tw_surface.specs.ChangeView.{Attribute, AllAttributes, Text, ClearScreen, ClearToEndOfScreen, CursorPosition}
 use Rattle.tw_surface.specs.Characters.{cr, lf, is_plain, is_printable}
@@ -21,24 +21,24 @@ use Rattle.tw_surface.specs.Places.{Place, pieces, plain_piece, next_place, plac
 use Rattle.tw_surface.specs.Scenes.{Scene, Lower, IsPlain, IsPlainLower, is_typing, is_text, typed, lower_lines}
 use Rattle.tw_surface.specs.Scenes.Lower.{NoLower, Preview, Search}
 use Rattle.tw_surface.specs.Simple.{is_break, parted, spelled_all, spelled_lower, AreSimple, AreCounted, IsCounted, IsSimple, IsSimpleLower}
-use Rattle.tw_surface.specs.Tracks.{place_of, reach, reach_all, track_after, track_after_all, start_track}
-use Rattle.tw_surface.proofs.DrawingLemmas.{place_of-track_after_all, height-track}
+use Rattle.tw_surface.specs.Extents.{place_of, reach, reach_all, extent_after, extent_after_all, start_extent}
+use Rattle.tw_surface.proofs.DrawingLemmas.{place_of-extent_after_all, height-extent}
 use Rattle.tw_surface.proofs.RenamedPictures.{Keeps, named, named_all}
 
 -- ---- what the measure remembers
 
-record Inside (t : Track) : Type 0 where
+record Inside (t : Extent) : Type 0 where
   pub low : t.least ≤ℤ t.y
   pub high : t.y ≤ℤ t.greatest
 
-inside-reach : (t : Track) (p : Place) → Inside (reach t p)
+inside-reach : (t : Extent) (p : Place) → Inside (reach t p)
 inside-reach t p = record { low = omega (arith, ints, clamps); high = omega (arith, ints, clamps) }
 
-inside-along : (w : ℕ) (ps : List Piece) (t : Track) → Inside t → Inside (reach_all t (places_after w ps (place_of t)))
+inside-along : (w : ℕ) (ps : List Piece) (t : Extent) → Inside t → Inside (reach_all t (places_after w ps (place_of t)))
 inside-along w [] t h = h
 inside-along w (piece ∷ more) t h = inside-along w more (reach t (next_place w piece (place_of t))) (inside-reach t (next_place w piece (place_of t)))
 
-inside-change : (w : ℕ) (change : ChangeView) (t : Track) → Inside t → Inside (track_after w change t)
+inside-change : (w : ℕ) (change : ChangeView) (t : Extent) → Inside t → Inside (extent_after w change t)
 inside-change w (Attribute a) t h = h
 inside-change w (AllAttributes a) t h = h
 inside-change w (Text text) t h = inside-along w (pieces text) t h
@@ -47,14 +47,14 @@ inside-change w (ClearToEndOfScreen color) t h = h
 inside-change w (CursorPosition x y) t h = inside-reach t _
 
 -- a place in the row of the last one counts for nothing
-reach-same : (t : Track) (x : ℕ) (q : Place) → Inside t → reach (reach t (record { x = x; y = t.y })) q ≡ reach t q
+reach-same : (t : Extent) (x : ℕ) (q : Place) → Inside t → reach (reach t (record { x = x; y = t.y })) q ≡ reach t q
 reach-same t x q h =
     let low : t.least ≤ℤ t.y = h.low in
     let high : t.y ≤ℤ t.greatest = h.high in
     ap (λ n. record { x = q.x; y = q.y; least = n; greatest = (reach (reach t (record { x = x; y = t.y })) q).greatest }) (omega (arith, ints, clamps, low))
     ∙ ap (λ n. record { x = q.x; y = q.y; least = (reach t q).least; greatest = n }) (omega (arith, ints, clamps, high))
 
-reach-parted : (w : ℕ) (ps : List Piece) (t : Track) → Inside t → reach_all t (places_after w (parted ps) (place_of t)) ≡ reach_all t (places_after w ps (place_of t))
+reach-parted : (w : ℕ) (ps : List Piece) (t : Extent) → Inside t → reach_all t (places_after w (parted ps) (place_of t)) ≡ reach_all t (places_after w ps (place_of t))
 reach-parted w [] t h = refl
 reach-parted w (CrLf ∷ more) t h =
     let q : Place = record { x = 0; y = t.y +ℤ pos 1 } in
@@ -64,7 +64,7 @@ reach-parted w (Lf ∷ more) t h = reach-parted w more (reach t (next_place w Lf
 reach-parted w (Wide v ∷ more) t h = reach-parted w more (reach t (next_place w (Wide v) (place_of t))) (inside-reach t _)
 
 -- texts whose pieces differ in CR LF alone are measured alike
-same_text : (w : ℕ) (a b : List ℕ) (t : Track) → Inside t → parted (pieces a) ≡ parted (pieces b) → track_after w (Text a) t ≡ track_after w (Text b) t
+same_text : (w : ℕ) (a b : List ℕ) (t : Extent) → Inside t → parted (pieces a) ≡ parted (pieces b) → extent_after w (Text a) t ≡ extent_after w (Text b) t
 same_text w a b t h e =
     sym (reach-parted w (pieces a) t h) ∙ ap (λ ps. reach_all t (places_after w ps (place_of t))) e ∙ reach-parted w (pieces b) t h
 
@@ -188,27 +188,27 @@ module _ (f : ℕ → ℕ) (keeps : Keeps f) where
   unfolding pieces
   counted-named text h = rw (plain-named (chars text)) (ap parted (piece-named (chars text)) ∙ plain-parted (chars text) ∙ sym h)
 
-  track-named : (w : ℕ) (changes : Batch) (t : Track) → AreMeasured changes → Inside t → track_after_all w (named_all f changes) t ≡ track_after_all w changes t
-  track-named w [] t a h = refl
-  track-named w (Text text ∷ changes) t a h =
-      ap (track_after_all w (named_all f changes)) (same_text w (map f (chars text)) text t h (counted-named text a.0))
-      ∙ track-named w changes (track_after w (Text text) t) a.1 (inside-change w (Text text) t h)
-  track-named w (Attribute x ∷ changes) t a h = track-named w changes t a h
-  track-named w (AllAttributes x ∷ changes) t a h = track-named w changes t a h
-  track-named w (ClearScreen c ∷ changes) t a h = track-named w changes (track_after w (ClearScreen c) t) a (inside-change w (ClearScreen c) t h)
-  track-named w (ClearToEndOfScreen c ∷ changes) t a h = track-named w changes t a h
-  track-named w (CursorPosition x y ∷ changes) t a h = track-named w changes (track_after w (CursorPosition x y) t) a (inside-change w (CursorPosition x y) t h)
+  extent-named : (w : ℕ) (changes : Batch) (t : Extent) → AreMeasured changes → Inside t → extent_after_all w (named_all f changes) t ≡ extent_after_all w changes t
+  extent-named w [] t a h = refl
+  extent-named w (Text text ∷ changes) t a h =
+      ap (extent_after_all w (named_all f changes)) (same_text w (map f (chars text)) text t h (counted-named text a.0))
+      ∙ extent-named w changes (extent_after w (Text text) t) a.1 (inside-change w (Text text) t h)
+  extent-named w (Attribute x ∷ changes) t a h = extent-named w changes t a h
+  extent-named w (AllAttributes x ∷ changes) t a h = extent-named w changes t a h
+  extent-named w (ClearScreen c ∷ changes) t a h = extent-named w changes (extent_after w (ClearScreen c) t) a (inside-change w (ClearScreen c) t h)
+  extent-named w (ClearToEndOfScreen c ∷ changes) t a h = extent-named w changes t a h
+  extent-named w (CursorPosition x y ∷ changes) t a h = extent-named w changes (extent_after w (CursorPosition x y) t) a (inside-change w (CursorPosition x y) t h)
 
-  started : Inside start_track
+  started : Inside start_extent
   started = record { low = omega (arith, ints); high = omega (arith, ints) }
 
   place-named : (w : ℕ) (changes : Batch) → AreMeasured changes → place_after_all w (named_all f changes) origin ≡ place_after_all w changes origin
   place-named w changes a =
-      sym (place_of-track_after_all w (named_all f changes) start_track) ∙ ap place_of (track-named w changes start_track a started) ∙ place_of-track_after_all w changes start_track
+      sym (place_of-extent_after_all w (named_all f changes) start_extent) ∙ ap place_of (extent-named w changes start_extent a started) ∙ place_of-extent_after_all w changes start_extent
 
   height-named : (w : ℕ) (changes : Batch) → AreMeasured changes → height w (named_all f changes) ≡ height w changes
   height-named w changes a =
-      height-track w (named_all f changes) ∙ ap (λ t. nat_abs (t.greatest -ℤ t.least)) (track-named w changes start_track a started) ∙ sym (height-track w changes)
+      height-extent w (named_all f changes) ∙ ap (λ t. nat_abs (t.greatest -ℤ t.least)) (extent-named w changes start_extent a started) ∙ sym (height-extent w changes)
 
   cr-named : f cr ≡ cr
   cr-named = eqb-true (f 13) 13 (keeps.returns 13)

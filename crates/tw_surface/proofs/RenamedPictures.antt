@@ -6,7 +6,7 @@ use Rattle.tw_surface.specs.ChangeView.{ChangeView, Batch}
 use Rattle.tw_surface.specs.ChangeView.{Attribute, AllAttributes, Text, ClearScreen, ClearToEndOfScreen, CursorPosition}
 use Rattle.tw_surface.specs.Characters.{cr, lf, is_plain}
 use Rattle.tw_surface.specs.Pictures.{Picture, blank, no_cells, written, cleared, put, play_char, play_text, play, play_all}
-use Rattle.tw_surface.specs.Shots.{play_batches}
+use Rattle.tw_surface.specs.PaintingBatches.{play_batches}
 use Rattle.tw_surface.specs.Scrolling.{scroll, play_text_on, play_on, play_all_on, play_batches_on}
 use Rattle.tw_surface.specs.Cutting.{cut_to}
 use Rattle.tw_surface.specs.Simple.{spelled_all, spelled_batches}

@@ -12,7 +12,7 @@ use Rattle.tw_surface.specs.Pictures.{Picture, play, play_all}
 use Rattle.tw_surface.specs.Scenes.{Scene, IsPlain}
 use Rattle.tw_surface.specs.Paintings.{painting, cursor_place, start_move, closing}
 use Rattle.tw_surface.specs.Fresh.{IsFresh, IsClosed, last_row, cursor_row}
-use Rattle.tw_surface.specs.Shots.{SizedScene, IsPlainAt, shot_of, scenes_of, batches, closing_batch, last_of, clearing, start_of, batches_after, shots, shows, closing_of, whole}
+use Rattle.tw_surface.specs.PaintingBatches.{SizedScene, IsPlainAt, shot_of, scenes_of, batches, closing_batch, last_of, clearing, start_of, batches_after, shots, shows, closing_of, whole}
 use Rattle.tw_surface.specs.Scrolling.{scroll, play_all_on, play_batches_on, IsLow, raised_row, top_row, IsMovedUp, IsClosedOn}
 use Rattle.tw_surface.proofs.PaintedScenes.{cursor_place-row, none_above}
 use Rattle.tw_surface.proofs.PaintingHeights.{closed_painting}

@@ -11,7 +11,7 @@ use Rattle.tw_surface.specs.Scenes.{Scene, IsPlain}
 use Rattle.tw_surface.specs.Paintings.{Painting, painting, closing}
 use Rattle.tw_surface.specs.Defaults.{default_color}
 use Rattle.tw_surface.specs.Fresh.{IsFresh, IsSameAbove, IsClosed, last_row, cursor_row}
-use Rattle.tw_surface.specs.Shots.{Shot, batches, last_of, clearing, start_of, batches_after, shots, shows, closing_of, whole, play_batches, start_row}
+use Rattle.tw_surface.specs.PaintingBatches.{Shot, batches, last_of, clearing, start_of, batches_after, shots, shows, closing_of, whole, play_batches, start_row}
 
 -- each scene of a list is plain
 abbrev pub ArePlain : List Scene → Type 0

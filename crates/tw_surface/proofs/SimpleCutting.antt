@@ -8,7 +8,7 @@ use Rattle.tw_surface.specs.Fresh.{IsFresh, IsClosed, last_row}
 use Rattle.tw_surface.specs.Paintings.{Painting, painting}
 use Rattle.tw_surface.specs.Pictures.{Picture, blank, play_all}
 use Rattle.tw_surface.specs.Scenes.{Scene}
-use Rattle.tw_surface.specs.Shots.{SizedScene, shot_of, scenes_of, clearing, start_of, closing_batch, play_batches, start_row}
+use Rattle.tw_surface.specs.PaintingBatches.{SizedScene, shot_of, scenes_of, clearing, start_of, closing_batch, play_batches, start_row}
 use Rattle.tw_surface.specs.Simple.{IsSimple, IsSimpleWide, spelled_all, spelled_batches, spelled_scene}
 use Rattle.tw_surface.specs.SimpleScreens.{spelled_sized, CutSimplePainting, CutSimpleClosing}
 use Rattle.tw_surface.proofs.CutLists.{cut_painting, cut_closing}

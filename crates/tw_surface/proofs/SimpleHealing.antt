@@ -10,7 +10,7 @@ use Rattle.tw_surface.specs.Paintings.{Painting, painting, closing}
 use Rattle.tw_surface.specs.Pictures.{Picture, play_all}
 use Rattle.tw_surface.specs.Scenes.{Scene}
 use Rattle.tw_surface.specs.Scrolling.{play_batches_on, play_all_on, IsLow, IsClosedOn}
-use Rattle.tw_surface.specs.Shots.{Shot, SizedScene, shot_of, scenes_of, batches, batches_after, play_batches}
+use Rattle.tw_surface.specs.PaintingBatches.{Shot, SizedScene, shot_of, scenes_of, batches, batches_after, play_batches}
 use Rattle.tw_surface.specs.Simple.{IsSimple, IsSimpleAt, spelled_all, spelled_batches, spelled_scene}
 use Rattle.tw_surface.specs.SimpleScreens.{SimpleHealing}
 use Rattle.tw_surface.proofs.PaintingHeights.{closed_painting}

@@ -7,7 +7,7 @@ use Rattle.tw_surface.specs.ChangeView.{Batch}
 use Rattle.tw_surface.specs.Fresh.{IsFresh, IsSameAbove, IsClosed, last_row}
 use Rattle.tw_surface.specs.Pictures.{Picture}
 use Rattle.tw_surface.specs.Scenes.{Scene}
-use Rattle.tw_surface.specs.Shots.{Shot, SizedScene, IsPlainAt, shot_of, scenes_of, batches, closing_batch, shows, closing_of, whole, play_batches, last_of, start_row}
+use Rattle.tw_surface.specs.PaintingBatches.{Shot, SizedScene, IsPlainAt, shot_of, scenes_of, batches, closing_batch, shows, closing_of, whole, play_batches, last_of, start_row}
 use Rattle.tw_surface.specs.Simple.{IsSimple, IsSimpleAt, spelled_batches, spelled_scene}
 use Rattle.tw_surface.specs.SimpleLaws.{SimplePaintings, SimpleClosing, SimpleStacking, EverySimplePainting, LastSimplePainting}
 use Rattle.tw_surface.proofs.PaintedScenes.{Painted}

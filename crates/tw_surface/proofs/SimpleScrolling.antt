@@ -7,7 +7,7 @@ use Rattle.tw_surface.specs.Fresh.{IsFresh, last_row, cursor_row}
 use Rattle.tw_surface.specs.Pictures.{Picture}
 use Rattle.tw_surface.specs.Scenes.{Scene}
 use Rattle.tw_surface.specs.Scrolling.{play_batches_on, painted_rows, IsLow, raised_row, top_row, IsMovedUp, IsClosedOn}
-use Rattle.tw_surface.specs.Shots.{Shot, SizedScene, shot_of, scenes_of, batches, closing_batch, shows, closing_of, whole, last_of}
+use Rattle.tw_surface.specs.PaintingBatches.{Shot, SizedScene, shot_of, scenes_of, batches, closing_batch, shows, closing_of, whole, last_of}
 use Rattle.tw_surface.specs.Simple.{IsSimple, IsSimpleAt, spelled_batches, spelled_scene}
 use Rattle.tw_surface.specs.SimpleScreens.{ScrolledSimplePainting, ScrolledSimpleClosing, ScrolledSimpleStacking, EveryScrolledSimplePainting, LastScrolledSimplePainting}
 use Rattle.tw_surface.proofs.ScrolledLists.{scrolled_painting, scrolled_closing, scrolled_stacking, every_scrolled, last_scrolled}

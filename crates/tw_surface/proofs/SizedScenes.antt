@@ -9,7 +9,7 @@ use Rattle.tw_surface.specs.Pictures.{Picture, play_all}
 use Rattle.tw_surface.specs.Scenes.{Scene, IsPlain}
 use Rattle.tw_surface.specs.Paintings.{painting, closing}
 use Rattle.tw_surface.specs.Fresh.{IsFresh, IsSameAbove, IsClosed, last_row}
-use Rattle.tw_surface.specs.Shots.{Shot, SizedScene, IsPlainAt, shot_of, scenes_of, shots, batches, closing_batch, shows, closing_of, play_batches, last_of, start_row}
+use Rattle.tw_surface.specs.PaintingBatches.{Shot, SizedScene, IsPlainAt, shot_of, scenes_of, shots, batches, closing_batch, shows, closing_of, play_batches, last_of, start_row}
 
 -- stations that are plain and for w columns
 abbrev pub ArePlainAt : ℕ → List SizedScene → Type 0

@@ -9,7 +9,7 @@ use Rattle.tw_surface.specs.Pictures.{cursor_at}
 use Rattle.tw_surface.specs.Lines.{lines_of}
 use Rattle.tw_surface.specs.Scenes.{Scene, Lower, IsPlain}
 use Rattle.tw_surface.specs.Defaults.{default_color, default_attributes}
-use Rattle.tw_surface.specs.Shots.{whole, shows, play_batches}
+use Rattle.tw_surface.specs.PaintingBatches.{whole, shows, play_batches}
 
 abbrev pub scene_of : List ℕ → ℕ → Lower → Bool → Scene
 scene_of line d lower cleared = record { prompt = Text (62 ∷ 32 ∷ []) ∷ []; line = Text line ∷ []; column = d; lower = lower; cleared = cleared }

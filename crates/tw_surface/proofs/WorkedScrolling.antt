@@ -8,7 +8,7 @@ use Rattle.tw_surface.specs.Places.{pieces}
 use Rattle.tw_surface.specs.Scenes.{Scene}
 use Rattle.tw_surface.specs.Scenes.Lower.{NoLower, Preview}
 use Rattle.tw_surface.specs.Scrolling.{play_batches_on, painted_rows, top_row}
-use Rattle.tw_surface.specs.Shots.{shows, whole}
+use Rattle.tw_surface.specs.PaintingBatches.{shows, whole}
 use Rattle.tw_surface.proofs.WorkedPaintings.{scene_of, a_to_f}
 
 -- rows of A, of B and of C, the cursor in the last one

@@ -9,7 +9,7 @@ use Rattle.tw_surface.specs.Pictures.{Picture, cursor_at}
 use Rattle.tw_surface.specs.Places.{pieces}
 use Rattle.tw_surface.specs.Scenes.{Scene}
 use Rattle.tw_surface.specs.Scenes.Lower.{NoLower, Preview, Search}
-use Rattle.tw_surface.specs.Shots.{shows, play_batches}
+use Rattle.tw_surface.specs.PaintingBatches.{shows, play_batches}
 use Rattle.tw_surface.specs.Simple.{IsSimple, IsSimpleText, IsSimpleLower, spelled_batches}
 use Rattle.tw_surface.proofs.SimpleLists.{simple_paintings}
 use Rattle.tw_surface.proofs.WorkedPaintings.{scene_of}

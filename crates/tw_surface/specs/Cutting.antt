@@ -6,7 +6,7 @@ use Rattle.tw_surface.specs.Paintings.{Painting}
 use Rattle.tw_surface.specs.Pictures.{Picture, blank, play_all}
 use Rattle.tw_surface.specs.Scenes.{IsPlain}
 use Rattle.tw_surface.specs.Fresh.{IsFresh, IsClosed, last_row}
-use Rattle.tw_surface.specs.Shots.{SizedScene, shot_of, scenes_of, clearing, start_of, batches, closing_batch, play_batches, start_row}
+use Rattle.tw_surface.specs.PaintingBatches.{SizedScene, shot_of, scenes_of, clearing, start_of, batches, closing_batch, play_batches, start_row}
 
 -- a screen of v columns has w from now on: the columns that it had and has are as they were, the others blank, and a cursor behind the last column stands in it
 abbrev pub cut_to : ℕ → ℕ → Picture → Picture

@@ -5,7 +5,7 @@ use Rattle.tw_surface.specs.ChangeView.{Batch}
 use Rattle.tw_surface.specs.Pictures.{Picture}
 use Rattle.tw_surface.specs.Scenes.{is_text}
 use Rattle.tw_surface.specs.Fresh.{IsFresh, IsClosed, last_row}
-use Rattle.tw_surface.specs.Shots.{SizedScene, IsPlainAt, shot_of, scenes_of, batches, closing_batch, play_batches}
+use Rattle.tw_surface.specs.PaintingBatches.{SizedScene, IsPlainAt, shot_of, scenes_of, batches, closing_batch, play_batches}
 use Rattle.tw_surface.specs.Scrolling.{play_batches_on, IsLow, IsClosedOn}
 
 -- the screen is cleared before the first of these stations

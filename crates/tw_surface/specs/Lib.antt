@@ -7,13 +7,13 @@ pub mod Width
 pub mod Clusters
 pub mod Places
 pub mod Drawings
-pub mod Tracks
+pub mod Extents
 pub mod Adding
 pub mod Laws
 pub mod Lines
 pub mod Scenes
 pub mod Paintings
-pub mod Shots
+pub mod PaintingBatches
 pub mod Fresh
 pub mod ScreenLaws
 pub mod Scrolling

@@ -8,7 +8,7 @@ use Rattle.tw_surface.specs.Lines.{lines_of, joined, rows_of}
 use Rattle.tw_surface.specs.Scenes.{Scene, IsPlain}
 use Rattle.tw_surface.specs.Paintings.{painting}
 use Rattle.tw_surface.specs.Fresh.{IsFresh, IsSameAbove, IsClosed, last_row, cursor_row}
-use Rattle.tw_surface.specs.Shots.{Shot, SizedScene, IsPlainAt, shot_of, scenes_of, batches, closing_batch, last_of, shows, closing_of, whole, play_batches, start_row}
+use Rattle.tw_surface.specs.PaintingBatches.{Shot, SizedScene, IsPlainAt, shot_of, scenes_of, batches, closing_batch, last_of, shows, closing_of, whole, play_batches, start_row}
 
 -- the first painting of a run that enters at column 0 of row e is fresh from row e on, and the rows above are as they were
 abbrev pub FirstPainting : Type 0

@@ -5,7 +5,7 @@ use Rattle.tw_surface.specs.ChangeView.{ChangeView, Batch}
 use Rattle.tw_surface.specs.Pictures.{Picture, play}
 use Rattle.tw_surface.specs.Scenes.{Scene, IsPlain}
 use Rattle.tw_surface.specs.Fresh.{IsFresh, last_row}
-use Rattle.tw_surface.specs.Shots.{SizedScene, IsPlainAt, shot_of, scenes_of, batches, closing_batch, last_of, shows, closing_of, whole}
+use Rattle.tw_surface.specs.PaintingBatches.{SizedScene, IsPlainAt, shot_of, scenes_of, batches, closing_batch, last_of, shows, closing_of, whole}
 use Rattle.tw_surface.specs.Scrolling.{IsWithin, scroll, play_on, play_batches_on, IsLow, top_row, IsMovedUp, IsClosedOn}
 
 -- a screen of h rows stays one

@@ -10,7 +10,7 @@ use Rattle.tw_surface.specs.Lines.{lines_of}
 use Rattle.tw_surface.specs.Places.{pieces, plain_piece}
 use Rattle.tw_surface.specs.Scenes.{Scene, Lower, typed}
 use Rattle.tw_surface.specs.Scenes.Lower.{NoLower, Preview, Search}
-use Rattle.tw_surface.specs.Shots.{SizedScene}
+use Rattle.tw_surface.specs.PaintingBatches.{SizedScene}
 
 -- CR or LF
 abbrev pub is_break : ℕ → Bool

@@ -5,7 +5,7 @@ use Rattle.tw_surface.specs.ChangeView.{Batch}
 use Rattle.tw_surface.specs.Pictures.{Picture, blank}
 use Rattle.tw_surface.specs.Scenes.{Scene}
 use Rattle.tw_surface.specs.Fresh.{IsFresh, IsClosed, last_row}
-use Rattle.tw_surface.specs.Shots.{SizedScene, shot_of, scenes_of, batches, closing_batch, last_of, shows, closing_of, whole, play_batches, start_row}
+use Rattle.tw_surface.specs.PaintingBatches.{SizedScene, shot_of, scenes_of, batches, closing_batch, last_of, shows, closing_of, whole, play_batches, start_row}
 use Rattle.tw_surface.specs.Cutting.{cut_to, SizedBatch, sized_batches, play_cut, narrowest}
 use Rattle.tw_surface.specs.HealingLaws.{begins_cleared, HasTextPrompt, IsFreshOnAny, IsFreshOnAnyOf}
 use Rattle.tw_surface.specs.Scrolling.{play_batches_on, IsLow, top_row, IsMovedUp, IsClosedOn}

@@ -4,7 +4,7 @@ ghost use Rattle.std.specs.Prelude.{◌≡◌, ◌≤◌, [], ◌∷◌, map, re
 ghost use Rattle.unicode_segmentation.specs.Grapheme.{graphemes};
 ghost use Rattle.tw_surface.specs.declared.measure.Piece.TheVariants.{Wide};
 ghost use Rattle.tw_surface.specs.Places.{plain_piece, cluster_piece, pieces, next_place, places_after, is_in_range};
-ghost use Rattle.tw_surface.specs.Tracks.{place_of, Measures, start_track};
+ghost use Rattle.tw_surface.specs.Extents.{place_of, Measures, start_extent};
 
 use crate::cell::cluster_width;
 use crate::characters::{is_plain_text, is_printable_text};
@@ -26,7 +26,7 @@ pub enum Piece {
 
 /// The place that a sequence has reached, and its least and its greatest row so far.
 #[derive(Debug, Copy, Clone, PartialEq, Eq)]
-pub struct Track {
+pub struct Extent {
     /// The column, from 0; the number of columns where the wrap is pending.
     pub x: usize,
     /// The row, counted from the row in which the sequence begins.
@@ -35,12 +35,12 @@ pub struct Track {
     pub greatest: isize,
 }
 
-impl Track {
+impl Extent {
     /// The place (0, 0).
-    pub fn start() -> Track
-        ensures { result ≡ start_track }
+    pub fn start() -> Extent
+        ensures { result ≡ start_extent }
     {
-        Track {
+        Extent {
             x: 0,
             y: 0,
             least: 0,
@@ -48,14 +48,14 @@ impl Track {
         }
     }
 
-    /// The track with one more place, or `None` where that place is out of range.
-    pub fn reach(self, x: usize, y: isize) -> Option<Track>
+    /// The extent with one more place, or `None` where that place is out of range.
+    pub fn reach(self, x: usize, y: isize) -> Option<Extent>
         ensures { Measures self (record { x = x; y = y } ∷ []) result }
     {
         if x > MAX_REACH as usize || y > MAX_REACH || y < -MAX_REACH {
             return None;
         }
-        Some(Track {
+        Some(Extent {
             x,
             y,
             least: self.least.min(y),
@@ -63,8 +63,8 @@ impl Track {
         })
     }
 
-    /// The track after a piece.
-    fn advance(self, cols: usize, piece: Piece) -> Option<Track>
+    /// The extent after a piece.
+    fn advance(self, cols: usize, piece: Piece) -> Option<Extent>
         requires cols { cols ≤ 65535 }
         requires range { is_in_range (place_of self) ≡ true }
         ensures { Measures self (next_place cols piece (place_of self) ∷ []) result }
@@ -111,51 +111,51 @@ impl Piece {
 }
 
 /// So many characters of one column: those that fit in a row are one step.
-fn measure_printable(cols: usize, start: Track, count: usize) -> Option<Track>
+fn measure_printable(cols: usize, start: Extent, count: usize) -> Option<Extent>
     requires cols { cols ≤ 65535 }
     requires range { is_in_range (place_of start) ≡ true }
     ensures { Measures start (places_after cols (replicate count (Wide 1)) (place_of start)) result }
 {
-    let mut track = start;
+    let mut extent = start;
     let mut left = count;
     while left > 0 {
-        track = track.advance(cols, Piece::Wide(1))?;
-        let more = cols.saturating_sub(track.x).min(left - 1);
-        track.x += more;
+        extent = extent.advance(cols, Piece::Wide(1))?;
+        let more = cols.saturating_sub(extent.x).min(left - 1);
+        extent.x += more;
         left -= 1 + more;
     }
-    Some(track)
+    Some(extent)
 }
 
-fn measure_plain(cols: usize, start: Track, text: &[u8]) -> Option<Track>
+fn measure_plain(cols: usize, start: Extent, text: &[u8]) -> Option<Extent>
     requires cols { cols ≤ 65535 }
     requires range { is_in_range (place_of start) ≡ true }
     ensures { Measures start (places_after cols (map plain_piece text.now) (place_of start)) result }
 {
-    let mut track = start;
+    let mut extent = start;
     for byte in text {
-        track = track.advance(cols, Piece::of_byte(*byte))?;
+        extent = extent.advance(cols, Piece::of_byte(*byte))?;
     }
-    Some(track)
+    Some(extent)
 }
 
-fn measure_clusters(cols: usize, start: Track, text: &str) -> Option<Track>
+fn measure_clusters(cols: usize, start: Extent, text: &str) -> Option<Extent>
     requires cols { cols ≤ 65535 }
     requires range { is_in_range (place_of start) ≡ true }
     ensures { Measures start (places_after cols (map cluster_piece (graphemes true text.now)) (place_of start)) result }
 {
-    let mut track = start;
+    let mut extent = start;
     let mut rest = text;
     while let Some((cluster, more)) = split_cluster(rest) {
-        track = track.advance(cols, Piece::of_cluster(cluster))?;
+        extent = extent.advance(cols, Piece::of_cluster(cluster))?;
         rest = more;
     }
-    Some(track)
+    Some(extent)
 }
 
-/// The track after a text on a screen of `cols` columns, or `None` where a place on the way is out of range.
+/// The extent after a text on a screen of `cols` columns, or `None` where a place on the way is out of range.
 #[tactic(auto, using(crate::proofs::RowLemmas::printable_pieces), unfolding(crate::specs::Places::pieces))]
-pub fn measure_text(cols: usize, start: Track, text: &str) -> Option<Track>
+pub fn measure_text(cols: usize, start: Extent, text: &str) -> Option<Extent>
     requires cols { cols ≤ 65535 }
     requires range { is_in_range (place_of start) ≡ true }
     ensures { Measures start (places_after cols (pieces text.now) (place_of start)) result }

@@ -5,11 +5,11 @@ ghost use Rattle.tw_surface.specs.ChangeView.{change_view, batch_view};
 ghost use Rattle.tw_surface.specs.Positions.{moved};
 ghost use Rattle.tw_surface.specs.Places.{places_of_change, is_in_range, move_between};
 ghost use Rattle.tw_surface.specs.Drawings.{Drawing, place, height};
-ghost use Rattle.tw_surface.specs.Tracks.{place_of, Measures};
+ghost use Rattle.tw_surface.specs.Extents.{place_of, Measures};
 ghost use Rattle.tw_surface.specs.Adding.{Adds};
 
 use crate::change::{Change, Position};
-use crate::measure::{Track, measure_text};
+use crate::measure::{Extent, measure_text};
 use crate::size::{MAX_REACH, MAX_SIZE, SizeFault};
 use std::alloc::{AllocError, Global};
 use std::error::Error;
@@ -58,23 +58,23 @@ fn moved_row(position: Position, at: isize) -> Option<isize>
     }
 }
 
-/// The track after a change, or `None` where a place on the way is out of range.
-fn measure_change(cols: usize, track: Track, change: &Change) -> Option<Track>
+/// The extent after a change, or `None` where a place on the way is out of range.
+fn measure_change(cols: usize, extent: Extent, change: &Change) -> Option<Extent>
     requires above { 0 < cols }
     requires cols { cols ≤ 65535 }
-    requires range { is_in_range (place_of track) ≡ true }
-    ensures { Measures track (places_of_change cols (change_view change.now) (place_of track)) result }
+    requires range { is_in_range (place_of extent) ≡ true }
+    ensures { Measures extent (places_of_change cols (change_view change.now) (place_of extent)) result }
 {
     match change {
-        Change::Text(text) => measure_text(cols, track, text.as_str()),
-        Change::ClearScreen(_) => track.reach(0, 0),
+        Change::Text(text) => measure_text(cols, extent, text.as_str()),
+        Change::ClearScreen(_) => extent.reach(0, 0),
         Change::Attribute(_) | Change::AllAttributes(_) | Change::ClearToEndOfScreen(_) => {
-            Some(track)
+            Some(extent)
         }
         Change::CursorPosition { x, y } => {
-            let col = x.moved_from(track.x).min(cols - 1);
-            let row = moved_row(*y, track.y)?;
-            track.reach(col, row)
+            let col = x.moved_from(extent.x).min(cols - 1);
+            let row = moved_row(*y, extent.y)?;
+            extent.reach(col, row)
         }
     }
 }
@@ -84,14 +84,14 @@ fn measure_change(cols: usize, track: Track, change: &Change) -> Option<Track>
 #[derive(Debug, Drop)]
 pub struct ChangeSequence {
     cols: usize,
-    reached: Track,
+    reached: Extent,
     changes: Vec<Change>,
 }
 
 impl Model for ChangeSequence {
     ghost use Rattle.tw_surface.specs.ChangeView.{batch_view};
     ghost use Rattle.tw_surface.specs.Drawings.{Drawing};
-    ghost use Rattle.tw_surface.specs.Tracks.{IsMeasured};
+    ghost use Rattle.tw_surface.specs.Extents.{IsMeasured};
 
     ghost Value = { Drawing };
 
@@ -115,7 +115,7 @@ impl ChangeSequence {
         }
         Ok(ChangeSequence {
             cols,
-            reached: Track::start(),
+            reached: Extent::start(),
             changes: Vec::new(alloc),
         })
     }
@@ -193,8 +193,8 @@ fn push_change(changes: &mut Vec<Change>, change: Change) -> Result<(), AllocErr
     Ok(())
 }
 
-/// The relative move from where a track ends.
-fn relative_move(from: Track, x: usize, y: isize) -> Change
+/// The relative move from where a extent ends.
+fn relative_move(from: Extent, x: usize, y: isize) -> Change
     requires from_column { from.x ≤ 2147483647 }
     requires to_column { x ≤ 65535 }
     requires from_row { nat_abs from.y ≤ 2147483647 }

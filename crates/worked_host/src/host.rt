@@ -2,7 +2,7 @@
 
 ghost use Rattle.std.specs.Prelude.{◌≡◌, [], IfOk, map, refl, string_bytes};
 ghost use Rattle.tw_lineedit.specs.ElementView.{element_view};
-ghost use Rattle.tw_lineedit.specs.PlainAnswers.{all_own, no_plain_left};
+ghost use Rattle.tw_lineedit.specs.PlainAnswers.{all_overrides, no_plain_left};
 ghost use Rattle.worked_host.specs.CommandRules.{bold, command_rules, own_keys, shown_line};
 ghost use Rattle.worked_host.specs.Commands.{Commands};
 
@@ -13,7 +13,7 @@ use tw_hosts::{
 use tw_input::{InputEvent, KeyCode, KeyEvent, Modifiers};
 use tw_lineedit::{
     Action, BasicHistory, CompletionCandidate, LineEditBuffer, LineEditorHost, Movement,
-    OutputElement, OwnAnswers, plain_element,
+    OutputElement, Overrides, plain_element,
 };
 use tw_surface::{CellAttributes, Intensity, unicode_column_width};
 
@@ -90,13 +90,13 @@ impl LineEditorHost for CommandHost {
 
     ghost rules = { command_rules };
 
-    ghost held = { λ host. host.history };
+    ghost history_of = { λ host. host.history };
 
-    ghost with_held = { λ host history. record host { history = history } };
+    ghost with_history = { λ host history. record host { history = history } };
 
-    ghost OWN = { all_own };
+    ghost OVERRIDES = { all_overrides };
 
-    const OWN: OwnAnswers = OwnAnswers::ALL;
+    const OVERRIDES: Overrides = Overrides::ALL;
 
     fn history(&mut self) -> &mut BasicHistory {
         &mut self.history
@@ -140,7 +140,7 @@ impl LineEditorHost for CommandHost {
 
     ghost plain_answers = { no_plain_left };
 
-    ghost held_back = { λ host. refl };
+    ghost history_put_back = { λ host. refl };
 
     ghost held_put = { λ host history. refl };
 

@@ -2,9 +2,9 @@
 
 ghost use Rattle.std.specs.Cow.{IsBorrowedStr, cow_str_bytes};
 ghost use Rattle.std.specs.Prelude.{◌≡◌, ◌<◌, ◌≤◌, ◌++◌, ◌∷◌, [], IfOk, IfSome, IsCharBoundary, IsOk, IsOkAnd, OnErr, OnOk, Some, length, map, option_map, slice_get, string_bytes};
-ghost use Rattle.tw_history.specs.Added.{is_line, match_view};
+ghost use Rattle.tw_history.specs.HistoryAdditions.{is_line, match_view};
 ghost use Rattle.tw_history.specs.Bounded.{newest, no_lines, with_newest};
-ghost use Rattle.tw_history.specs.Near.{last_line, near};
+ghost use Rattle.tw_history.specs.NearestMatch.{last_line, nearest_match};
 
 use crate::history::{
     History, HistoryIndex, LentLines, SearchDirection, SearchResult, SearchStyle, nearest_line,
@@ -143,7 +143,7 @@ impl History for BoundedHistory {
         pattern: &str,
     ) -> Result<Option<SearchResult<'_>>, AllocError>
         ensures found { IsOkAnd result (λ found.
-            option_map match_view found ≡ near self.now.lines idx direction pattern.now) }
+            option_map match_view found ≡ nearest_match self.now.lines idx direction pattern.now) }
         ensures boundary { IfOk result (λ found.
             IfSome found (λ m. IsCharBoundary (cow_str_bytes m.line) m.cursor)) }
         ensures borrowed { IfOk result (λ found. IfSome found (λ m. IsBorrowedStr m.line)) }

@@ -2,8 +2,8 @@
 
 ghost use Rattle.std.specs.Cow.{IsBorrowedStr, cow_str_bytes};
 ghost use Rattle.std.specs.Prelude.{◌≡◌, ◌<◌, ℕ, IfSome, IsCharBoundary, List, MatchOption, false, length, option_map, true};
-ghost use Rattle.tw_history.specs.Added.{match_view};
-ghost use Rattle.tw_history.specs.Near.{line_at, match_at, matches, near};
+ghost use Rattle.tw_history.specs.HistoryAdditions.{match_view};
+ghost use Rattle.tw_history.specs.NearestMatch.{line_at, match_at, matches, nearest_match};
 
 use crate::history::{HistoryIndex, SearchDirection, SearchResult, SearchStyle};
 use std::borrow::CowStr;
@@ -31,7 +31,7 @@ pub fn nearest_line<'a, L: LentLines>(
     direction: SearchDirection,
     pattern: &str,
 ) -> Option<SearchResult<'a>>
-    ensures found { option_map match_view result ≡ near (L.lines lines.now) idx direction pattern.now }
+    ensures found { option_map match_view result ≡ nearest_match (L.lines lines.now) idx direction pattern.now }
     ensures boundary { IfSome result (λ m. IsCharBoundary (cow_str_bytes m.line) m.cursor) }
     ensures borrowed { IfSome result (λ m. IsBorrowedStr m.line) }
 {
@@ -52,7 +52,7 @@ fn search_backwards<'a, L: LentLines>(
 ) -> Option<SearchResult<'a>>
     requires { idx < length (L.lines lines.now) }
     ensures found { option_map match_view result
-        ≡ near (L.lines lines.now) idx SearchDirection.Backwards pattern.now }
+        ≡ nearest_match (L.lines lines.now) idx SearchDirection.Backwards pattern.now }
     ensures boundary { IfSome result (λ m. IsCharBoundary (cow_str_bytes m.line) m.cursor) }
     ensures borrowed { IfSome result (λ m. IsBorrowedStr m.line) }
 {
@@ -72,7 +72,7 @@ fn search_forwards<'a, L: LentLines>(
 ) -> Option<SearchResult<'a>>
     requires { idx < length (L.lines lines.now) }
     ensures found { option_map match_view result
-        ≡ near (L.lines lines.now) idx SearchDirection.Forwards pattern.now }
+        ≡ nearest_match (L.lines lines.now) idx SearchDirection.Forwards pattern.now }
     ensures boundary { IfSome result (λ m. IsCharBoundary (cow_str_bytes m.line) m.cursor) }
     ensures borrowed { IfSome result (λ m. IsBorrowedStr m.line) }
 {

@@ -9,8 +9,8 @@ fn painted<H: LineEditorHost>(
     alloc: Global,
     size: (usize, usize),
     line: &str,
-    before: Option<Painted>,
-) -> Result<(Vec<Change>, Painted), Error> {
+    before: Option<Mark>,
+) -> Result<(Vec<Change>, Mark), Error> {
     let buffer = LineEditBuffer::new(alloc, line, line.len())?;
     let (rows, cols) = size;
     paint(
@@ -82,7 +82,7 @@ fn assert_changes(rt: &impl Abort, changes: &[Change], wanted: &[Change]) {
 /// A painting's changes, and the move with which it is closed.
 fn assert_painting(
     rt: &impl Abort,
-    painting: &(Vec<Change>, Painted),
+    painting: &(Vec<Change>, Mark),
     wanted: &[Change],
     closing_move: isize,
 ) {

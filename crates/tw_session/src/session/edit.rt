@@ -1,9 +1,9 @@
 //! Edits of the line.
 
 ghost use Rattle.std.specs.Prelude.{◌≡◌, ◌⊎◌, OnOk, OnErr};
-ghost use Rattle.tw_session.specs.Steps.{edited};
-ghost use Rattle.tw_session.specs.EditSteps.{edit_of, TakesMemoryToEdit};
-ghost use Rattle.tw_session.specs.Searches.{IsSearching};
+ghost use Rattle.tw_session.specs.Steps.{edit_step};
+ghost use Rattle.tw_session.specs.Edit.{edit_of, TakesMemoryToEdit};
+ghost use Rattle.tw_session.specs.Search.{IsSearching};
 ghost use Rattle.tw_session.specs.SessionView.{on_state};
 
 use super::{Mode, Session};
@@ -40,14 +40,14 @@ impl Edit<'_> {
 impl Session {
     /// Edits the line; while searching, the pattern, which is then applied again. Where it is refused nothing
     /// is changed.
-    #[tactic(auto, unfolding(crate::specs::Searches::again))]
+    #[tactic(auto, unfolding(crate::specs::Search::searched_again))]
     pub(super) fn edit<H: LineEditorHost>(
         &mut self,
         host: &mut H,
         edit: Edit<'_>,
     ) -> Result<(), AllocError>
         ensures host { host.new ≡ host.old }
-        ensures ok { OnOk result (self.new ≡ on_state (edited (H.rules.lines (H.value host.old)) (edit_of edit.entry)) self.old) }
+        ensures ok { OnOk result (self.new ≡ on_state (edit_step (H.rules.lines (H.value host.old)) (edit_of edit.entry)) self.old) }
         ensures err { OnErr result (self.new ≡ self.old) }
         ensures memory { OnErr result (TakesMemoryToEdit edit.entry ⊎ IsSearching self.old.state.mode) }
     {

@@ -1,8 +1,8 @@
 //! Incremental search of the history.
 
 ghost use Rattle.std.specs.Prelude.{◌≡◌, IfOk, OnOk, OnErr, option_map};
-ghost use Rattle.tw_history.specs.Near.{near, last_index};
-ghost use Rattle.tw_session.specs.Searches.{left, again, sought, near_from, begun_search};
+ghost use Rattle.tw_history.specs.NearestMatch.{nearest_match, last_index};
+ghost use Rattle.tw_session.specs.Search.{search_left, searched_again, search_step, nearest_match_from, begun_search};
 ghost use Rattle.tw_session.specs.SessionView.{on_state, found_view};
 
 use super::{Mode, Session};
@@ -28,7 +28,7 @@ fn find<H: LineEditorHost>(
     direction: SearchDirection,
     pattern: &str,
 ) -> Result<Option<Found>, AllocError>
-    ensures found { IfOk result (λ found. option_map found_view found ≡ near (H.rules.lines (H.value host.old)) start direction pattern.now) }
+    ensures found { IfOk result (λ found. option_map found_view found ≡ nearest_match (H.rules.lines (H.value host.old)) start direction pattern.now) }
     ensures host { host.new ≡ host.old }
 {
     match host
@@ -54,7 +54,7 @@ fn find_from_last<H: LineEditorHost>(
     direction: SearchDirection,
     pattern: &str,
 ) -> Result<Option<Found>, AllocError>
-    ensures found { IfOk result (λ found. option_map found_view found ≡ near_from (H.rules.lines (H.value host.old)) (last_index (H.rules.lines (H.value host.old))) direction pattern.now) }
+    ensures found { IfOk result (λ found. option_map found_view found ≡ nearest_match_from (H.rules.lines (H.value host.old)) (last_index (H.rules.lines (H.value host.old))) direction pattern.now) }
     ensures host { host.new ≡ host.old }
 {
     match host.history().last() {
@@ -66,7 +66,7 @@ fn find_from_last<H: LineEditorHost>(
 impl Session {
     /// Leaves a search: the matching line comes in. It takes no memory.
     pub(super) fn leave_search(&mut self)
-        ensures { self.new ≡ on_state left self.old }
+        ensures { self.new ≡ on_state search_left self.old }
     {
         match mem::replace(&mut self.mode, Mode::Editing) {
             Mode::Searching { matching, .. } => self.line = matching,
@@ -76,14 +76,14 @@ impl Session {
 
     /// Makes this line the pattern and applies it from the last line on, while searching. Where it is refused
     /// nothing is changed.
-    #[tactic(auto, unfolding(crate::specs::Searches::again))]
+    #[tactic(auto, unfolding(crate::specs::Search::searched_again))]
     pub(super) fn search_again<H: LineEditorHost>(
         &mut self,
         host: &mut H,
         line: LineEditBuffer,
     ) -> Result<(), AllocError>
         ensures host { host.new ≡ host.old }
-        ensures ok { OnOk result (self.new ≡ on_state (λ s. again (H.rules.lines (H.value host.old)) (record s { cut = line })) self.old) }
+        ensures ok { OnOk result (self.new ≡ on_state (λ s. searched_again (H.rules.lines (H.value host.old)) (record s { cut = line })) self.old) }
         ensures err { OnErr result (self.new ≡ self.old) }
     {
         if let Mode::Searching {
@@ -95,9 +95,9 @@ impl Session {
             match find_from_last(host, self.alloc, *style, *direction, line.get_line())? {
                 Some(found) => {
                     *matching = found.matching;
-                    self.position = Some(found.idx);
+                    self.history_index = Some(found.idx);
                 }
-                None => self.position = None,
+                None => self.history_index = None,
             }
         }
         self.line = line;
@@ -105,14 +105,14 @@ impl Session {
     }
 
     /// Begins a search, or goes on with it beside the position. Where it is refused nothing is changed.
-    #[tactic(auto, unfolding(crate::specs::Searches::sought))]
+    #[tactic(auto, unfolding(crate::specs::Search::search_step))]
     pub(super) fn search<H: LineEditorHost>(
         &mut self,
         host: &mut H,
         direction: SearchDirection,
     ) -> Result<(), AllocError>
         ensures host { host.new ≡ host.old }
-        ensures ok { OnOk result (self.new ≡ on_state (sought (H.rules.lines (H.value host.old)) direction) self.old) }
+        ensures ok { OnOk result (self.new ≡ on_state (search_step (H.rules.lines (H.value host.old)) direction) self.old) }
         ensures err { OnErr result (self.new ≡ self.old) }
     {
         match &mut self.mode {
@@ -121,7 +121,7 @@ impl Session {
                 direction: before,
                 matching,
             } => {
-                let start = match self.position {
+                let start = match self.history_index {
                     Some(position) => direction.next(position),
                     None => host.history().last(),
                 };
@@ -131,7 +131,7 @@ impl Session {
                 let pattern = self.line.get_line();
                 if let Some(found) = find(host, self.alloc, start, *style, direction, pattern)? {
                     *matching = found.matching;
-                    self.position = Some(found.idx);
+                    self.history_index = Some(found.idx);
                 }
                 *before = direction;
                 Ok(())
@@ -154,12 +154,12 @@ impl Session {
         let last = host.history().last();
         let found = find_from_last(host, self.alloc, style, direction, "")?;
         self.line.clear();
-        self.position = None;
+        self.history_index = None;
         if last.is_some() {
             let mut matching = LineEditBuffer::empty(self.alloc);
             if let Some(found) = found {
                 matching = found.matching;
-                self.position = Some(found.idx);
+                self.history_index = Some(found.idx);
             }
             self.mode = Mode::Searching {
                 style,

@@ -2,8 +2,8 @@
 
 ghost use Rattle.std.specs.Prelude.{◌≡◌, ◌+◌, ◌<◌, ◌^◌, IfOk, IfSome, OnOk, OnErr, slice_get, option_map};
 ghost use Rattle.std.specs.Cow.{cow_str_bytes};
-ghost use Rattle.tw_session.specs.Steps.{stepped};
-ghost use Rattle.tw_session.specs.HistorySteps.{previous, next, taken, restored};
+ghost use Rattle.tw_session.specs.Steps.{history_step};
+ghost use Rattle.tw_session.specs.Walk.{previous, next, with_line_of, with_typed_line};
 ghost use Rattle.tw_session.specs.SessionView.{on_state};
 
 use super::{Mode, Session};
@@ -31,7 +31,7 @@ impl Session {
     /// Takes the line before; while searching, searches backwards. Where it is refused nothing is changed.
     pub(super) fn step_back<H: LineEditorHost>(&mut self, host: &mut H) -> Result<(), AllocError>
         ensures host { host.new ≡ host.old }
-        ensures ok { OnOk result (self.new ≡ on_state (λ s. stepped (H.rules.lines (H.value host.old)) SearchDirection.Backwards (previous (H.rules.lines (H.value host.old))) s s.mode) self.old) }
+        ensures ok { OnOk result (self.new ≡ on_state (λ s. history_step (H.rules.lines (H.value host.old)) SearchDirection.Backwards (previous (H.rules.lines (H.value host.old))) s s.mode) self.old) }
         ensures err { OnErr result (self.new ≡ self.old) }
     {
         match self.mode {
@@ -43,7 +43,7 @@ impl Session {
     /// Takes the line after; while searching, searches forwards. Where it is refused nothing is changed.
     pub(super) fn step_forth<H: LineEditorHost>(&mut self, host: &mut H) -> Result<(), AllocError>
         ensures host { host.new ≡ host.old }
-        ensures ok { OnOk result (self.new ≡ on_state (λ s. stepped (H.rules.lines (H.value host.old)) SearchDirection.Forwards (next (H.rules.lines (H.value host.old))) s s.mode) self.old) }
+        ensures ok { OnOk result (self.new ≡ on_state (λ s. history_step (H.rules.lines (H.value host.old)) SearchDirection.Forwards (next (H.rules.lines (H.value host.old))) s s.mode) self.old) }
         ensures err { OnErr result (self.new ≡ self.old) }
     {
         match self.mode {
@@ -53,14 +53,14 @@ impl Session {
     }
 
     /// Takes the line before the position, or without one the last line, and keeps the typed one.
-    #[tactic(auto, unfolding(crate::specs::HistorySteps::previous))]
+    #[tactic(auto, unfolding(crate::specs::Walk::previous))]
     fn history_previous<H: LineEditorHost>(&mut self, host: &mut H) -> Result<(), AllocError>
         ensures host { host.new ≡ host.old }
         ensures ok { OnOk result (self.new ≡ on_state (previous (H.rules.lines (H.value host.old))) self.old) }
         ensures err { OnErr result (self.new ≡ self.old) }
     {
         let history = host.history();
-        match self.position {
+        match self.history_index {
             Some(position) => {
                 let before = position.saturating_sub(1);
                 if let Some(line) = history.get(self.alloc, before)? {
@@ -73,7 +73,7 @@ impl Session {
                     if let Some(line) = history.get(self.alloc, last)? {
                         self.take(last, line.as_str())?;
                     }
-                    self.kept = Some(typed);
+                    self.typed_line = Some(typed);
                 }
             }
         }
@@ -82,13 +82,13 @@ impl Session {
 
     /// Takes the line after the position, and leaves the history where there is none. Without a position it
     /// does nothing.
-    #[tactic(auto, unfolding(crate::specs::HistorySteps::next))]
+    #[tactic(auto, unfolding(crate::specs::Walk::next))]
     fn history_next<H: LineEditorHost>(&mut self, host: &mut H) -> Result<(), AllocError>
         ensures host { host.new ≡ host.old }
         ensures ok { OnOk result (self.new ≡ on_state (next (H.rules.lines (H.value host.old))) self.old) }
         ensures err { OnErr result (self.new ≡ self.old) }
     {
-        let Some(position) = self.position else {
+        let Some(position) = self.history_index else {
             return Ok(());
         };
         match line_after(host.history(), self.alloc, position)? {
@@ -99,29 +99,29 @@ impl Session {
 
     /// Takes the line of an index, its cursor at the end.
     fn take(&mut self, idx: HistoryIndex, line: &str) -> Result<(), AllocError>
-        ensures ok { OnOk result (self.new ≡ on_state (λ s. taken s idx line.now) self.old) }
+        ensures ok { OnOk result (self.new ≡ on_state (λ s. with_line_of s idx line.now) self.old) }
         ensures err { OnErr result (self.new ≡ self.old) }
     {
         self.line.set_line_and_cursor(line, line.len())?;
-        self.position = Some(idx);
+        self.history_index = Some(idx);
         Ok(())
     }
 
     /// Leaves the history: the kept line comes back, or the line is cleared. Where it is refused nothing is
     /// changed.
     fn restore(&mut self) -> Result<(), AllocError>
-        ensures ok { OnOk result (self.new ≡ on_state restored self.old) }
+        ensures ok { OnOk result (self.new ≡ on_state with_typed_line self.old) }
         ensures err { OnErr result (self.new ≡ self.old) }
     {
-        match &self.kept {
+        match &self.typed_line {
             Some(kept) => {
                 let kept = kept.as_str();
                 self.line.set_line_and_cursor(kept, kept.len())?;
             }
             None => self.line.clear(),
         }
-        self.kept = None;
-        self.position = None;
+        self.typed_line = None;
+        self.history_index = None;
         Ok(())
     }
 }

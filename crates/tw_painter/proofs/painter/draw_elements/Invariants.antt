@@ -1,6 +1,6 @@
 use Rattle.std.proofs.Common.{◌≡◌, ◌++◌, map}
 use Rattle.tw_host.specs.ElementView.{element_view, changes_of}
-use Rattle.tw_painter.specs.Draws.{Drawn}
+use Rattle.tw_painter.specs.DrawSteps.{Drawn}
 use Rattle.tw_painter.proofs.painter.draw_elements.Given as goal
 
 abbrev pub invariant-loop-element : goal.invariant-loop-element

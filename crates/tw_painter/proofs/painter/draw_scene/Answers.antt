@@ -9,7 +9,7 @@ use Rattle.tw_surface.specs.Drawings.{Drawing, place}
 use Rattle.tw_surface.specs.Paintings.{before_line, shown_part}
 use Rattle.tw_host.specs.ElementView.{changes_of}
 use Rattle.tw_host.specs.HostRules.{Highlight}
-use Rattle.tw_painter.specs.Draws.{IsStepRefusal, stay_in_range, Drawn, DrawnScene, lower_of}
+use Rattle.tw_painter.specs.DrawSteps.{IsStepRefusal, stay_in_range, Drawn, DrawnScene, lower_of}
 use Rattle.tw_painter.proofs.DrawingLimits.{empty, row-drawn, height-drawn}
 use Rattle.tw_painter.proofs.PaintingSteps.{uncleared, line_part, refused-prompt, refused-line, refused-lower, HasCell, cell-from, cell-in_range, drawn-line, drawn-shown, drawn-scene}
 use Rattle.tw_painter.proofs.painter.draw_scene.Goals as goal

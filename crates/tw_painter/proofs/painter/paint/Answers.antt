@@ -1,7 +1,7 @@
 use Rattle.std.proofs.Common.{◌++◌, ◌∙◌, ap, [], false}
 use Rattle.std.proofs.lemmas.Result.{err_from_is_err_and}
 use Rattle.tw_painter.specs.Painting.{scene_with, start_batch}
-use Rattle.tw_painter.specs.Draws.{IsSized, lower_of}
+use Rattle.tw_painter.specs.DrawSteps.{IsSized, lower_of}
 use Rattle.tw_painter.proofs.PaintedSizes.{refused-size, sized-from, refused-scene, painted-scene}
 use Rattle.tw_painter.proofs.painter.paint.Goals as goal
 

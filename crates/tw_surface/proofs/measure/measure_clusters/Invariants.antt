@@ -2,8 +2,8 @@ use Rattle.std.proofs.Common.{map, true, length}
 use Rattle.std.specs.Str.{IsUtf8}
 use Rattle.unicode_segmentation.specs.Grapheme.{graphemes}
 use Rattle.tw_surface.specs.Places.{cluster_piece, places_after}
-use Rattle.tw_surface.specs.Tracks.{place_of}
-use Rattle.tw_surface.proofs.TrackLemmas.{IsUnderWay}
+use Rattle.tw_surface.specs.Extents.{place_of}
+use Rattle.tw_surface.proofs.ExtentLemmas.{IsUnderWay}
 use Rattle.tw_surface.proofs.measure.measure_clusters.Given as goal
 
 abbrev pub invariant-loop-cluster : goal.invariant-loop-cluster
@@ -11,7 +11,7 @@ invariant-loop-cluster l = record {
   utf8 : IsUtf8 l.rest;
   under_way : IsUnderWay
       (places_after l.cols (map cluster_piece (graphemes true l.fn.text)) (place_of l.fn.start)) l.fn.start
-      (places_after l.cols (map cluster_piece (graphemes true l.rest)) (place_of l.track)) l.track;
+      (places_after l.cols (map cluster_piece (graphemes true l.rest)) (place_of l.extent)) l.extent;
 }
 
 abbrev pub decreases-loop-cluster : goal.decreases-loop-cluster

@@ -1,6 +1,6 @@
 use Rattle.std.proofs.Common.{arith, refl, ◌+◌}
-use Rattle.tw_history.specs.Added.{match_view}
-use Rattle.tw_history.specs.Near.{matches}
+use Rattle.tw_history.specs.HistoryAdditions.{match_view}
+use Rattle.tw_history.specs.NearestMatch.{matches}
 use Rattle.tw_history.proofs.SearchLemmas.{found_backwards, none_backwards, none_with_first}
 use Rattle.tw_history.proofs.history.nearest.search_backwards.Goals as goal
 use Rattle.tw_history.proofs.history.nearest.search_backwards.Goals.{else-loop-at-test, then-loop-at-test+in_default+else-at-gt0}

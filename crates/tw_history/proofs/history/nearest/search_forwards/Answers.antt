@@ -1,5 +1,5 @@
 use Rattle.std.proofs.Common.{arith}
-use Rattle.tw_history.specs.Added.{match_view}
+use Rattle.tw_history.specs.HistoryAdditions.{match_view}
 use Rattle.tw_history.proofs.SearchLemmas.{found_forwards, none_forwards}
 use Rattle.tw_history.proofs.history.nearest.search_forwards.Goals as goal
 

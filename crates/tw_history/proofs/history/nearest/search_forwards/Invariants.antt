@@ -1,5 +1,5 @@
 use Rattle.tw_extremes.specs.Extremes.{NonePasses}
-use Rattle.tw_history.specs.Near.{matches}
+use Rattle.tw_history.specs.NearestMatch.{matches}
 use Rattle.tw_history.proofs.history.nearest.search_forwards.Given as goal
 
 abbrev pub invariant-loop-at : goal.invariant-loop-at

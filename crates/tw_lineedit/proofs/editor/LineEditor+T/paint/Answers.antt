@@ -10,4 +10,4 @@ returns-in_err-show-clause-err g c =
     rw (p.1, p.2) (fails_to_show g.H.LineEditorHost.rules _ _ _ c.in_err-show.field-0.0 c.in_ok-size.ensures.ok.0 c.in_ok-size.ensures.ok.1 c.in_ok-changes.ensures.ok (ap (map change_view) c.as_slice.ensures.value) c.in_err-show.ensures.err)
 
 pub returns-clause-ok : goal.returns-clause-ok
-returns-clause-ok g c = paints g.H.LineEditorHost.rules _ _ _ _ c.in_ok-size.ensures.ok.0 c.in_ok-size.ensures.ok.1 c.in_ok-changes.ensures.ok (ap (map change_view) c.as_slice.ensures.value) c.in_ok-show.ensures.ok (ap (λ s. s.state) c.set_painted.ensures) refl (ap (λ s. s.last) c.set_painted.ensures) refl
+returns-clause-ok g c = paints g.H.LineEditorHost.rules _ _ _ _ c.in_ok-size.ensures.ok.0 c.in_ok-size.ensures.ok.1 c.in_ok-changes.ensures.ok (ap (map change_view) c.as_slice.ensures.value) c.in_ok-show.ensures.ok (ap (λ s. s.state) c.set_mark.ensures) refl (ap (λ s. s.last) c.set_mark.ensures) refl

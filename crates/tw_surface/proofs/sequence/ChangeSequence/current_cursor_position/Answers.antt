@@ -3,7 +3,7 @@ use Rattle.std.proofs.lemmas.Int.{to_z-of_z}
 use Rattle.std.specs.Int.{w64}
 use mir.Val.{SFits}
 use Rattle.tw_surface.specs.Drawings.{place}
-use Rattle.tw_surface.specs.Tracks.{place_of}
+use Rattle.tw_surface.specs.Extents.{place_of}
 use Rattle.tw_surface.specs.ChangeView.{batch_view}
 use Rattle.tw_surface.proofs.DrawingLemmas.{place_of-measured}
 use Rattle.tw_surface.proofs.sequence.ChangeSequence.current_cursor_position.Goals as goal

@@ -2,7 +2,7 @@
 use Rattle.std.specs.Prelude.{ℕ, Bool, false, List, [], ◌∷◌, ◌++◌, eqb, Option, Some, None, if◌then◌else◌}
 use Rattle.std.specs.Cow.{cow_str_bytes}
 use Rattle.std.specs.Cmp.Lexicographic.{pointwise}
-use Rattle.tw_history.specs.Near.{MatchView, last_line}
+use Rattle.tw_history.specs.NearestMatch.{MatchView, last_line}
 use Rattle.tw_history.specs.declared.history.SearchResult.{SearchResult}
 
 -- the view of a search's answer

@@ -4,7 +4,7 @@ use Rattle.std.proofs.lemmas.Bool.{and_from, le-leb}
 use Rattle.std.specs.Int.{w64}
 use mir.Val.{SFits}
 use Rattle.tw_surface.specs.Places.{is_in_range}
-use Rattle.tw_surface.proofs.measure.Track.reach.Goals as goal
+use Rattle.tw_surface.proofs.measure.Extent.reach.Goals as goal
 
 pub returns : goal.returns
 returns c =

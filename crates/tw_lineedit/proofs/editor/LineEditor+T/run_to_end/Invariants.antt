@@ -1,7 +1,7 @@
 use Rattle.std.proofs.Common.{◌≡◌, length}
 use Rattle.tw_lineedit.specs.Frame.{frame}
 use Rattle.tw_lineedit.specs.Feeding.{Follows}
-use Rattle.tw_lineedit.proofs.editor.LineEditor+T.take_events.Given as goal
+use Rattle.tw_lineedit.proofs.editor.LineEditor+T.run_to_end.Given as goal
 
 abbrev pub invariant-loop : goal.invariant-loop
 invariant-loop g l = record {

@@ -35,23 +35,23 @@ abbrev pub matches : List (List ℕ) → List ℕ → ℕ → Bool
 matches lines pattern i = contains pattern (line_at lines i)
 
 -- the greatest index up to idx, or the least one from idx on, whose line contains the pattern
-abbrev pub near_index : List (List ℕ) → ℕ → SearchDirection → List ℕ → Option ℕ
-near_index lines idx Backwards pattern = greatest_below (matches lines pattern) (idx + 1)
-near_index lines idx Forwards pattern = least_from (matches lines pattern) idx (length lines - idx)
+abbrev pub nearest_index : List (List ℕ) → ℕ → SearchDirection → List ℕ → Option ℕ
+nearest_index lines idx Backwards pattern = greatest_below (matches lines pattern) (idx + 1)
+nearest_index lines idx Forwards pattern = least_from (matches lines pattern) idx (length lines - idx)
 
 -- the match at an index
 abbrev pub match_at : List (List ℕ) → List ℕ → ℕ → MatchView
 match_at lines pattern i = record { line = line_at lines i; idx = i; cursor = unwrap_or (first pattern (line_at lines i)) 0 }
 
 -- the nearest match from the index of a line on, or none
-unfoldable pub near : List (List ℕ) → ℕ → SearchDirection → List ℕ → Option MatchView
-near lines idx direction pattern =
-    if nat_lt idx (length lines) then option_map (match_at lines pattern) (near_index lines idx direction pattern) else None
+unfoldable pub nearest_match : List (List ℕ) → ℕ → SearchDirection → List ℕ → Option MatchView
+nearest_match lines idx direction pattern =
+    if nat_lt idx (length lines) then option_map (match_at lines pattern) (nearest_index lines idx direction pattern) else None
 
 -- the index is the nearest one on the side whose line contains the pattern
-abbrev pub IsNearIndex : List (List ℕ) → ℕ → SearchDirection → List ℕ → ℕ → Type 0
-IsNearIndex lines idx Backwards pattern i = IsGreatest (matches lines pattern) (idx + 1) i
-IsNearIndex lines idx Forwards pattern i = IsLeast (matches lines pattern) idx (length lines) i
+abbrev pub IsNearestIndex : List (List ℕ) → ℕ → SearchDirection → List ℕ → ℕ → Type 0
+IsNearestIndex lines idx Backwards pattern i = IsGreatest (matches lines pattern) (idx + 1) i
+IsNearestIndex lines idx Forwards pattern i = IsLeast (matches lines pattern) idx (length lines) i
 
 -- no line on the side contains the pattern
 abbrev pub HasNoMatch : List (List ℕ) → ℕ → SearchDirection → List ℕ → Type 0
@@ -61,10 +61,10 @@ HasNoMatch lines idx Forwards pattern = NonePasses (matches lines pattern) idx (
 -- the answer is the nearest line on the side that contains the pattern, with the pattern's first offset in it; none where there is no such line, or idx is not the index of a line
 pub record IsMatch (lines : List (List ℕ)) (idx : ℕ) (direction : SearchDirection) (pattern : List ℕ) (m : MatchView) : Type 0 where
   pub start : idx < length lines
-  pub nearest : IsNearIndex lines idx direction pattern m.idx
+  pub nearest : IsNearestIndex lines idx direction pattern m.idx
   pub line : m.line ≡ line_at lines m.idx
   pub cursor : IsFirst pattern m.line (Some m.cursor)
 
-abbrev pub IsNear : List (List ℕ) → ℕ → SearchDirection → List ℕ → Option MatchView → Type 0
-IsNear lines idx direction pattern (Some m) = IsMatch lines idx direction pattern m
-IsNear lines idx direction pattern None = (length lines ≤ idx) ⊎ HasNoMatch lines idx direction pattern
+abbrev pub IsNearestMatch : List (List ℕ) → ℕ → SearchDirection → List ℕ → Option MatchView → Type 0
+IsNearestMatch lines idx direction pattern (Some m) = IsMatch lines idx direction pattern m
+IsNearestMatch lines idx direction pattern None = (length lines ≤ idx) ⊎ HasNoMatch lines idx direction pattern
