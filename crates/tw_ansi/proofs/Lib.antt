@@ -15,3 +15,4 @@ pub mod EcmaWrites
 pub mod EcmaTexts
 pub mod EcmaMoves
 pub mod EcmaBatches
+pub mod EcmaPaintings

@@ -7,3 +7,4 @@ pub mod EcmaScreen
 pub mod EcmaLaws
 pub mod EcmaTexts
 pub mod EcmaBatches
+pub mod EcmaPaintings

@@ -1,0 +1,126 @@
+-- Paintings are sendable.
+use Rattle.std.proofs.Common.{◌≡◌, ◌<◌, ◌+◌, ◌-◌, ℕ, Bool, true, false, cond, eqb, leb, ltb, List, [], ◌∷◌, ◌++◌, ap, subst, ◌∙◌, sym, refl, arith}
+use Rattle.std.specs.Bool.{⊤}
+use Rattle.std.specs.List.{list_all, AllByRecursion}
+use Rattle.std.proofs.lemmas.Bool.{and_parts}
+use Rattle.tw_surface.specs.declared.cell.AttributeChange.{AttributeChange}
+use Rattle.tw_surface.specs.declared.cell.AttributeChange.TheVariants as attribute
+use Rattle.tw_surface.specs.declared.cell.CellAttributes.{CellAttributes}
+use Rattle.tw_surface.specs.declared.change.Position.TheVariants.{Absolute, Relative}
+use Rattle.tw_surface.specs.ChangeView.{ChangeView, Batch}
+use Rattle.tw_surface.specs.ChangeView.{Attribute, AllAttributes, Text, ClearScreen, ClearToEndOfScreen, CursorPosition}
+use Rattle.tw_surface.specs.Characters.{is_plain, cr, lf}
+use Rattle.tw_surface.specs.Defaults.{default_attributes, default_color}
+use Rattle.tw_surface.specs.Paintings.{Painting, painting, before_line, edge_space, lower_changes, shown_part, cursor_place, start_move}
+use Rattle.tw_surface.specs.Pictures.{Picture, blank}
+use Rattle.tw_surface.specs.Places.{Place, place_after_all, origin, move_between}
+use Rattle.tw_surface.specs.Scenes.{Scene, Lower}
+use Rattle.tw_surface.specs.Scenes.Lower.{NoLower, Preview, Search}
+use Rattle.tw_surface.specs.Scrolling.{play_on}
+use Rattle.tw_ansi.specs.declared.encode.Encoder.{Encoder}
+use Rattle.tw_ansi.specs.Encoding.{Sent, sends, sent, sent_batch, sent_plain, sent_byte, sent_clusters, sent_text, with_attribute}
+use Rattle.tw_ansi.specs.EcmaLaws.{IsColor, IsAttribute}
+use Rattle.tw_ansi.specs.EcmaBatches.{AreSendable}
+use Rattle.tw_ansi.specs.EcmaPaintings.{IsTyped, IsTypedLower, IsTypedScene, PaintingIsSendable, RepaintingIsSendable, ClosingIsSendable, PaintingKnowsColor}
+use Rattle.unicode_segmentation.specs.Grapheme.{graphemes}
+
+-- two lists of such changes
+both_typed : (xs ys : Batch) → AllByRecursion IsTyped xs → AllByRecursion IsTyped ys → AllByRecursion IsTyped (xs ++ ys)
+both_typed [] ys a b = b
+both_typed (x ∷ xs) ys a b = (a.0, both_typed xs ys a.1 b)
+
+space_typed : (t : Bool) → AllByRecursion IsTyped (cond t (Text (blank ∷ []) ∷ []) [])
+space_typed true = (refl, tt)
+space_typed false = tt
+
+lower_typed : (lower : Lower) → IsTypedLower lower → AllByRecursion IsTyped (lower_changes lower)
+lower_typed NoLower h = tt
+lower_typed (Preview elements) h = (refl, ((tt, tt), h))
+lower_typed (Search text) h = ((tt, tt), (h, tt))
+
+-- what a painting shows behind its clearing and the first attributes
+abbrev shown : ℕ → Scene → Batch
+shown w scene =
+    ((scene.prompt ++ AllAttributes default_attributes ∷ []) ++ scene.line)
+    ++ (edge_space w (place_after_all w (before_line scene.prompt ++ scene.line) origin) ++ lower_changes scene.lower)
+
+shown_typed : (w : ℕ) (scene : Scene) → IsTypedScene scene → AllByRecursion IsTyped (shown w scene)
+shown_typed w scene t =
+    let place = place_after_all w (before_line scene.prompt ++ scene.line) origin in
+    let plain : AllByRecursion IsTyped (AllAttributes default_attributes ∷ []) = ((tt, tt), tt) in
+    let prompt : AllByRecursion IsTyped (scene.prompt ++ AllAttributes default_attributes ∷ []) = both_typed scene.prompt (AllAttributes default_attributes ∷ []) t.prompt plain in
+    both_typed ((scene.prompt ++ AllAttributes default_attributes ∷ []) ++ scene.line) (edge_space w place ++ lower_changes scene.lower)
+    (both_typed (scene.prompt ++ AllAttributes default_attributes ∷ []) scene.line prompt t.line)
+    (both_typed (edge_space w place) (lower_changes scene.lower) (space_typed (eqb place.x w)) (lower_typed scene.lower t.lower))
+
+one_sendable : (h w : ℕ) (x : ChangeView) (ys : Batch) (e : Encoder) (s : Picture) → IsTyped x
+    → AreSendable h w (sent x e).next ys (play_on h w x s) → AreSendable h w e (x ∷ ys) s
+one_sendable h w (Text text) ys e s a b = (a, b)
+one_sendable h w (Attribute change) ys e s a b = (a, b)
+one_sendable h w (AllAttributes to) ys e s a b = (a, b)
+one_sendable h w (ClearScreen color) ys e s a b = absurd a
+one_sendable h w (ClearToEndOfScreen color) ys e s a b = absurd a
+one_sendable h w (CursorPosition x y) ys e s a b = absurd a
+
+-- such changes are sendable wherever they come
+typed_sendable : (h w : ℕ) (xs ys : Batch) (e : Encoder) (s : Picture) → AllByRecursion IsTyped xs
+    → ((d : Encoder) (r : Picture) → AreSendable h w d ys r) → AreSendable h w e (xs ++ ys) s
+typed_sendable h w [] ys e s a b = b e s
+typed_sendable h w (x ∷ xs) ys e s a b = one_sendable h w x (xs ++ ys) e s a.0 (typed_sendable h w xs ys _ _ a.1 b)
+
+pub painting_is_sendable : PaintingIsSendable
+painting_is_sendable h w scene e s t near color inside = (
+  (tt, color, λ edge. absurd (omega (arith, edge, inside))),
+  ((tt, tt), typed_sendable h w (shown w scene) (move_between (place_after_all w (shown_part w scene) origin) (cursor_place w scene) ∷ []) _ _ (shown_typed w scene t) (λ d r. (near, tt))),
+)
+
+pub repainting_is_sendable : RepaintingIsSendable
+repainting_is_sendable h w before scene e s some t near reached color =
+    (reached, painting_is_sendable h w scene (sent (start_move before) e).next (play_on h w (start_move before) s) t near color (omega (arith, some)))
+
+pub closing_is_sendable : ClosingIsSendable
+closing_is_sendable h w p e s some reached color = (reached, ((tt, color, λ edge. absurd (omega (arith, edge, some))), tt))
+
+either : (t : Bool) (x y : Sent) (a : CellAttributes) → x.next.attributes ≡ a → y.next.attributes ≡ a → (cond t x y).next.attributes ≡ a
+either true x y a p q = p
+either false x y a p q = q
+
+-- a plain text changes no attribute
+keeps_byte : (e : Encoder) (b : ℕ) → (sent_byte e b).next.attributes ≡ e.attributes
+keeps_byte e b = either (eqb b cr) _ _ _ refl (either (eqb b lf) _ _ _ (either _ _ _ _ refl refl) (either (leb (e.x + 1) e.cols) _ _ _ refl refl))
+
+keeps_plain : (text : List ℕ) (e : Encoder) → (sent_plain text e).next.attributes ≡ e.attributes
+keeps_plain [] e = refl
+keeps_plain (b ∷ text) e = keeps_plain text (sent_byte e b).next ∙ keeps_byte e b
+
+keeps_text : (text : List ℕ) (e : Encoder) → list_all is_plain text ≡ true → (sent_text text e).next.attributes ≡ e.attributes
+keeps_text text e plain = ap (λ t. let x : Sent = cond t (sent_plain text e) (sent_clusters (graphemes true text) e) in x.next.attributes) plain ∙ keeps_plain text e
+
+-- setting an attribute whose colour is by bytes leaves one
+set_color : (a : AttributeChange) (c : CellAttributes) → IsAttribute a → IsColor c.background → IsColor (with_attribute a c).background
+set_color (attribute.Intensity to) c a h = h
+set_color (attribute.Underline to) c a h = h
+set_color (attribute.Italic to) c a h = h
+set_color (attribute.Blink to) c a h = h
+set_color (attribute.Reverse to) c a h = h
+set_color (attribute.StrikeThrough to) c a h = h
+set_color (attribute.Invisible to) c a h = h
+set_color (attribute.Foreground to) c a h = h
+set_color (attribute.Background to) c a h = a
+
+one_color : (x : ChangeView) (e : Encoder) → IsTyped x → IsColor e.attributes.background → IsColor (sent x e).next.attributes.background
+one_color (Text text) e a h = subst (λ (c : CellAttributes). IsColor c.background) (sym (keeps_text text e a)) h
+one_color (Attribute change) e a h = set_color change e.attributes a h
+one_color (AllAttributes to) e a h = a.1
+one_color (ClearScreen color) e a h = absurd a
+one_color (ClearToEndOfScreen color) e a h = absurd a
+one_color (CursorPosition x y) e a h = absurd a
+
+typed_color : (xs : Batch) (x y : _) (e : Encoder) → AllByRecursion IsTyped xs → IsColor e.attributes.background
+    → IsColor (sent_batch (xs ++ CursorPosition x y ∷ []) e).next.attributes.background
+typed_color [] x y e a h = h
+typed_color (z ∷ xs) x y e a h = typed_color xs x y (sent z e).next a.1 (one_color z e a.0 h)
+
+pub painting_knows_color : PaintingKnowsColor
+painting_knows_color w scene e t =
+    typed_color (shown w scene) _ _ (sent (AllAttributes default_attributes) (sent (ClearToEndOfScreen default_color) e).next).next (shown_typed w scene t) tt

@@ -1,0 +1,64 @@
+-- Paintings whose bytes do what they do.
+use Rattle.std.specs.Prelude.{◌≡◌, ◌<◌, ◌+◌, ◌-ℤ◌, neg_ℤ, ℕ, pos, true, ◌∷◌, ⊤}
+use Rattle.std.specs.List.{list_all, AllByRecursion}
+use Rattle.tw_surface.specs.declared.change.Position.TheVariants.{Relative}
+use Rattle.tw_surface.specs.ChangeView.{ChangeView}
+use Rattle.tw_surface.specs.ChangeView.{Attribute, AllAttributes, Text, ClearScreen, ClearToEndOfScreen, CursorPosition}
+use Rattle.tw_surface.specs.Characters.{is_plain}
+use Rattle.tw_surface.specs.Paintings.{Painting, painting, shown_part, cursor_place, start_move, closing}
+use Rattle.tw_surface.specs.Pictures.{Picture}
+use Rattle.tw_surface.specs.Places.{place_after_all, origin}
+use Rattle.tw_surface.specs.Scenes.{Scene, Lower}
+use Rattle.tw_surface.specs.Scenes.Lower.{NoLower, Preview, Search}
+use Rattle.tw_ansi.specs.declared.encode.Encoder.{Encoder}
+use Rattle.tw_ansi.specs.Encoding.{sent_batch}
+use Rattle.tw_ansi.specs.EcmaLaws.{IsColor, IsAttribute}
+use Rattle.tw_ansi.specs.EcmaBatches.{IsReached, AreSendable}
+
+-- a plain text, or attributes whose colours are by bytes
+abbrev pub IsTyped : ChangeView → Type 0
+IsTyped (Text text) = list_all is_plain text ≡ true
+IsTyped (Attribute change) = IsAttribute change
+IsTyped (AllAttributes to) = IsColor to.foreground × IsColor to.background
+IsTyped (ClearScreen color) = ⊥
+IsTyped (ClearToEndOfScreen color) = ⊥
+IsTyped (CursorPosition x y) = ⊥
+
+-- a lower text of such changes
+abbrev pub IsTypedLower : Lower → Type 0
+IsTypedLower NoLower = ⊤
+IsTypedLower (Preview elements) = AllByRecursion IsTyped elements
+IsTypedLower (Search text) = list_all is_plain text ≡ true
+
+-- a scene of such changes
+pub record IsTypedScene (scene : Scene) : Type 0 where
+  pub prompt : AllByRecursion IsTyped scene.prompt
+  pub line : AllByRecursion IsTyped scene.line
+  pub lower : IsTypedLower scene.lower
+
+-- the last move of a painting leads no further than a move can
+abbrev pub IsNear : ℕ → ℕ → Scene → Type 0
+IsNear h w scene = IsReached h (Relative ((cursor_place w scene).y -ℤ (place_after_all w (shown_part w scene) origin).y))
+
+-- such a painting is sendable where the cursor does not stand behind the last column and the known colour is by bytes
+abbrev pub PaintingIsSendable : Type 0
+PaintingIsSendable = (h w : ℕ) (scene : Scene) (e : Encoder) (s : Picture)
+    → IsTypedScene scene → IsNear h w scene → IsColor e.attributes.background → s.col < w
+    → AreSendable h w e (painting w scene).changes s
+
+-- and behind the move to the first row of the painting before, wherever the cursor stands
+abbrev pub RepaintingIsSendable : Type 0
+RepaintingIsSendable = (h w : ℕ) (before : Painting) (scene : Scene) (e : Encoder) (s : Picture)
+    → 0 < w → IsTypedScene scene → IsNear h w scene → IsReached h (Relative (neg_ℤ before.row)) → IsColor e.attributes.background
+    → AreSendable h w e (start_move before ∷ (painting w scene).changes) s
+
+-- so is the closing batch
+abbrev pub ClosingIsSendable : Type 0
+ClosingIsSendable = (h w : ℕ) (p : Painting) (e : Encoder) (s : Picture)
+    → 0 < w → IsReached h (Relative (pos (1 + p.height) -ℤ p.row)) → IsColor e.attributes.background
+    → AreSendable h w e (closing p) s
+
+-- the colour that is known behind such a painting is by bytes
+abbrev pub PaintingKnowsColor : Type 0
+PaintingKnowsColor = (w : ℕ) (scene : Scene) (e : Encoder) → IsTypedScene scene
+    → IsColor (sent_batch (painting w scene).changes e).next.attributes.background
