@@ -1,5 +1,5 @@
 -- Paintings are sendable.
-use Rattle.std.proofs.Common.{◌≡◌, ◌<◌, ◌+◌, ◌-◌, ℕ, Bool, true, false, cond, eqb, leb, ltb, List, [], ◌∷◌, ◌++◌, ap, subst, ◌∙◌, sym, refl, arith}
+use Rattle.std.proofs.Common.{◌≡◌, ◌<◌, ◌+◌, ◌-◌, ℕ, Bool, true, false, cond, eqb, leb, ltb, List, [], ◌∷◌, ◌++◌, Option, Some, None, ap, subst, ◌∙◌, sym, refl, arith}
 use Rattle.std.specs.Bool.{⊤}
 use Rattle.std.specs.List.{list_all, AllByRecursion}
 use Rattle.std.proofs.lemmas.Bool.{and_parts}
@@ -16,12 +16,17 @@ use Rattle.tw_surface.specs.Pictures.{Picture, blank}
 use Rattle.tw_surface.specs.Places.{Place, place_after_all, origin, move_between}
 use Rattle.tw_surface.specs.Scenes.{Scene, Lower}
 use Rattle.tw_surface.specs.Scenes.Lower.{NoLower, Preview, Search}
-use Rattle.tw_surface.specs.Scrolling.{play_on}
+use Rattle.tw_surface.specs.Scrolling.{play_on, play_all_on, play_batches_on}
+use Rattle.tw_surface.specs.Shots.{clearing, batches_after, shots, closing_of}
 use Rattle.tw_ansi.specs.declared.encode.Encoder.{Encoder}
 use Rattle.tw_ansi.specs.Encoding.{Sent, sends, sent, sent_batch, sent_plain, sent_byte, sent_clusters, sent_text, with_attribute}
 use Rattle.tw_ansi.specs.EcmaLaws.{IsColor, IsAttribute}
 use Rattle.tw_ansi.specs.EcmaBatches.{AreSendable}
-use Rattle.tw_ansi.specs.EcmaPaintings.{IsTyped, IsTypedLower, IsTypedScene, PaintingIsSendable, RepaintingIsSendable, ClosingIsSendable, PaintingKnowsColor}
+use Rattle.tw_ansi.specs.EcmaPaintings.{IsTyped, IsTypedLower, IsTypedScene, IsShowable, AreAllSendable, sent_batches, PaintingIsSendable, RepaintingIsSendable, ClosingIsSendable, PaintingKnowsColor, RunIsSendable, BatchesAreShown}
+use Rattle.tw_ansi.specs.EcmaScreen.{EcmaScreen, receive_all}
+use Rattle.tw_ansi.specs.EcmaTexts.{Shows}
+use Rattle.tw_ansi.proofs.EcmaSequences.{received}
+use Rattle.tw_ansi.proofs.EcmaBatches.{batch_is_shown}
 use Rattle.unicode_segmentation.specs.Grapheme.{graphemes}
 
 -- two lists of such changes
@@ -124,3 +129,72 @@ typed_color (z ∷ xs) x y e a h = typed_color xs x y (sent z e).next a.1 (one_c
 pub painting_knows_color : PaintingKnowsColor
 painting_knows_color w scene e t =
     typed_color (shown w scene) _ _ (sent (AllAttributes default_attributes) (sent (ClearToEndOfScreen default_color) e).next).next (shown_typed w scene t) tt
+
+-- batches of which the first is sendable, and the others once the known colour is by bytes
+behind : (h w : ℕ) (batch : Batch) (more : List Batch) (e : Encoder) (s : Picture) → AreSendable h w e batch s → IsColor (sent_batch batch e).next.attributes.background
+    → ((d : Encoder) (r : Picture) → IsColor d.attributes.background → AreAllSendable h w d more r) → AreAllSendable h w e (batch ∷ more) s
+behind h w batch more e s a color b = (a, b (sent_batch batch e).next (play_all_on h w batch s) color)
+
+module _ (h w : ℕ) (some : 0 < w) where
+  -- one more painting, and then the others
+  one_later : (before scene : Scene) (rest : List Batch) → IsShowable h w before → IsShowable h w scene
+      → ((d : Encoder) (r : Picture) → IsColor d.attributes.background → AreAllSendable h w d rest r)
+      → (d : Encoder) (r : Picture) → IsColor d.attributes.background
+      → AreAllSendable h w d ((start_move (painting w before) ∷ (painting w scene).changes) ∷ rest) r
+  one_later before scene rest p q on d r color =
+      behind h w (start_move (painting w before) ∷ (painting w scene).changes) rest d r (repainting_is_sendable h w (painting w before) scene d r some q.typed q.near p.back color)
+      (painting_knows_color w scene (sent (start_move (painting w before)) d).next q.typed) on
+
+  -- the first painting, and then the others
+  one_first : (scene : Scene) (rest : List Batch) → IsShowable h w scene
+      → ((d : Encoder) (r : Picture) → IsColor d.attributes.background → AreAllSendable h w d rest r)
+      → (d : Encoder) (r : Picture) → IsColor d.attributes.background → r.col < w
+      → AreAllSendable h w d ((painting w scene).changes ∷ rest) r
+  one_first scene rest p on d r color inside =
+      behind h w (painting w scene).changes rest d r (painting_is_sendable h w scene d r p.typed p.near color inside) (painting_knows_color w scene d p.typed) on
+
+  module _ (more : List Batch) (end : (d : Encoder) (r : Picture) → IsColor d.attributes.background → AreAllSendable h w d more r) where
+    -- paintings behind another one
+    later_sendable : (before : Scene) (scenes : List Scene) → IsShowable h w before → AllByRecursion (IsShowable h w) scenes
+        → (d : Encoder) (r : Picture) → IsColor d.attributes.background
+        → AreAllSendable h w d (batches_after (Some (painting w before)) (shots w scenes) ++ more) r
+    later_sendable before [] p a d r color = end d r color
+    later_sendable before (scene ∷ scenes) p a d r color =
+        let rest = batches_after (Some (painting w scene)) (shots w scenes) in
+        let on = one_later before scene (rest ++ more) p a.0 (λ b u colored. later_sendable scene scenes a.0 a.1 b u colored) in
+        elim scene.cleared as (λ t. AreAllSendable h w d ((clearing t ++ (start_move (painting w before) ∷ (painting w scene).changes) ∷ rest) ++ more) r) [
+          | true ↦ (((tt, color), tt), on (sent_batch (ClearScreen default_color ∷ []) d).next (play_all_on h w (ClearScreen default_color ∷ []) r) color)
+          | false ↦ on d r color
+        ]
+
+    -- paintings from the first one on
+    first_sendable : (scene : Scene) (scenes : List Scene) → IsShowable h w scene → AllByRecursion (IsShowable h w) scenes
+        → (d : Encoder) (r : Picture) → IsColor d.attributes.background → r.col < w
+        → AreAllSendable h w d (batches_after None (shots w (scene ∷ scenes)) ++ more) r
+    first_sendable scene scenes p a d r color inside =
+        let rest = batches_after (Some (painting w scene)) (shots w scenes) in
+        let on = one_first scene (rest ++ more) p (λ b u colored. later_sendable scene scenes p a b u colored) in
+        elim scene.cleared as (λ t. AreAllSendable h w d ((clearing t ++ (painting w scene).changes ∷ rest) ++ more) r) [
+          | true ↦ (((tt, color), tt), on (sent_batch (ClearScreen default_color ∷ []) d).next (play_all_on h w (ClearScreen default_color ∷ []) r) color (omega (arith, some)))
+          | false ↦ on d r color inside
+        ]
+
+-- the batch that closes such a run
+end_sendable : (h w : ℕ) (scenes : List Scene) → 0 < w → AllByRecursion (IsShowable h w) scenes
+    → (d : Encoder) (r : Picture) → IsColor d.attributes.background → AreAllSendable h w d (closing_of w scenes) r
+end_sendable h w [] some a d r color = tt
+end_sendable h w (scene ∷ []) some a d r color = (closing_is_sendable h w (painting w scene) d r some a.0.under color, tt)
+end_sendable h w (scene ∷ next ∷ scenes) some a d r color = end_sendable h w (next ∷ scenes) some a.1 d r color
+
+pub run_is_sendable : RunIsSendable
+run_is_sendable h w [] e s some a color inside = tt
+run_is_sendable h w (scene ∷ scenes) e s some a color inside =
+    first_sendable h w some (closing_of w (scene ∷ scenes)) (end_sendable h w (scene ∷ scenes) some a) scene scenes a.0 a.1 e s color inside
+
+pub batches_are_shown : BatchesAreShown
+batches_are_shown h w [] e t s some small a shows = shows
+batches_are_shown h w (batch ∷ more) e t s some small a shows =
+    subst (λ (u : EcmaScreen). Shows h w (sent_batches (batch ∷ more) e).next u (play_batches_on h w (batch ∷ more) s))
+    (sym (received h w (sent_batch batch e).bytes (sent_batches more (sent_batch batch e).next).bytes t))
+    (batches_are_shown h w more (sent_batch batch e).next (receive_all h w (sent_batch batch e).bytes t) (play_all_on h w batch s) some small a.1
+    (batch_is_shown h w batch e t s some small a.0 shows))

@@ -300,6 +300,14 @@ module _ (p : Progress) (l : Bool) (bytes : List ℕ) (f : Fits p bytes) (result
       read_in (Some s) h = tt
       read_in None h = h refl
 
+  -- as far as it can be
+  pub is_far : IfErr result (λ q. q ≡ read_on p bytes)
+  is_far = subst (λ r. IfErr r (λ q. q ≡ read_on p bytes)) (sym is) (far_in (resumed p l bytes))
+    where
+      far_in : (o : Option Scanned) → IfErr (ok_or o (read_on p bytes)) (λ q. q ≡ read_on p bytes)
+      far_in (Some s) = tt
+      far_in None = refl
+
   bounds_of : (result : Result Scanned Progress) → IfOk result (λ s. token_at l bytes ≡ Some s) → IfOk result (λ s. (0 < s.used) × (s.used ≤ length bytes))
   bounds_of (Ok s) e = let b : IfSome (Some s) (λ (s : Scanned). (0 < s.used) × (s.used ≤ length bytes)) = subst (λ o. IfSome o (λ (s : Scanned). (0 < s.used) × (s.used ≤ length bytes))) e (takes_bytes l bytes) in b
   bounds_of (Err q) e = tt

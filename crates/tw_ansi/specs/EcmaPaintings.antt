@@ -1,19 +1,23 @@
 -- Paintings whose bytes do what they do.
-use Rattle.std.specs.Prelude.{◌≡◌, ◌<◌, ◌+◌, ◌-ℤ◌, neg_ℤ, ℕ, pos, true, ◌∷◌, ⊤}
+use Rattle.std.specs.Prelude.{◌≡◌, ◌<◌, ◌+◌, ◌^◌, ◌-ℤ◌, neg_ℤ, ℕ, pos, true, List, [], ◌∷◌, ⊤}
 use Rattle.std.specs.List.{list_all, AllByRecursion}
 use Rattle.tw_surface.specs.declared.change.Position.TheVariants.{Relative}
-use Rattle.tw_surface.specs.ChangeView.{ChangeView}
+use Rattle.tw_surface.specs.ChangeView.{ChangeView, Batch}
 use Rattle.tw_surface.specs.ChangeView.{Attribute, AllAttributes, Text, ClearScreen, ClearToEndOfScreen, CursorPosition}
 use Rattle.tw_surface.specs.Characters.{is_plain}
 use Rattle.tw_surface.specs.Paintings.{Painting, painting, shown_part, cursor_place, start_move, closing}
 use Rattle.tw_surface.specs.Pictures.{Picture}
 use Rattle.tw_surface.specs.Places.{place_after_all, origin}
 use Rattle.tw_surface.specs.Scenes.{Scene, Lower}
+use Rattle.tw_surface.specs.Scrolling.{play_all_on, play_batches_on}
+use Rattle.tw_surface.specs.Shots.{whole}
 use Rattle.tw_surface.specs.Scenes.Lower.{NoLower, Preview, Search}
 use Rattle.tw_ansi.specs.declared.encode.Encoder.{Encoder}
-use Rattle.tw_ansi.specs.Encoding.{sent_batch}
+use Rattle.tw_ansi.specs.Encoding.{Sent, sends, followed, sent_batch}
 use Rattle.tw_ansi.specs.EcmaLaws.{IsColor, IsAttribute}
 use Rattle.tw_ansi.specs.EcmaBatches.{IsReached, AreSendable}
+use Rattle.tw_ansi.specs.EcmaScreen.{EcmaScreen, receive_all}
+use Rattle.tw_ansi.specs.EcmaTexts.{Shows}
 
 -- a plain text, or attributes whose colours are by bytes
 abbrev pub IsTyped : ChangeView → Type 0
@@ -62,3 +66,32 @@ ClosingIsSendable = (h w : ℕ) (p : Painting) (e : Encoder) (s : Picture)
 abbrev pub PaintingKnowsColor : Type 0
 PaintingKnowsColor = (w : ℕ) (scene : Scene) (e : Encoder) → IsTypedScene scene
     → IsColor (sent_batch (painting w scene).changes e).next.attributes.background
+
+-- batches
+abbrev pub sent_batches : List Batch → Encoder → Sent
+sent_batches [] e = sends [] e
+sent_batches (batch ∷ more) e = followed (sent_batch batch e) (sent_batches more)
+
+-- each batch is sendable where it comes, after those before it
+abbrev pub AreAllSendable : ℕ → ℕ → Encoder → List Batch → Picture → Type 0
+AreAllSendable h w e [] s = ⊤
+AreAllSendable h w e (batch ∷ more) s = AreSendable h w e batch s × AreAllSendable h w (sent_batch batch e).next more (play_all_on h w batch s)
+
+-- a scene whose painting is sendable, and the moves from it back to its first row and to the row under it too
+pub record IsShowable (h w : ℕ) (scene : Scene) : Type 0 where
+  pub typed : IsTypedScene scene
+  pub near : IsNear h w scene
+  pub back : IsReached h (Relative (neg_ℤ (painting w scene).row))
+  pub under : IsReached h (Relative (pos (1 + (painting w scene).height) -ℤ (painting w scene).row))
+
+-- all batches of a run that paints such scenes are sendable, where the cursor does not stand behind the last column at first
+abbrev pub RunIsSendable : Type 0
+RunIsSendable = (h w : ℕ) (scenes : List Scene) (e : Encoder) (s : Picture)
+    → 0 < w → AllByRecursion (IsShowable h w) scenes → IsColor e.attributes.background → s.col < w
+    → AreAllSendable h w e (whole w scenes) s
+
+-- a terminal that shows a picture, and is sent the bytes of sendable batches, shows the picture on which they were played
+abbrev pub BatchesAreShown : Type 0
+BatchesAreShown = (h w : ℕ) (batches : List Batch) (e : Encoder) (t : EcmaScreen) (s : Picture)
+    → 0 < w → w < 2 ^ 64 → AreAllSendable h w e batches s → Shows h w e t s
+    → Shows h w (sent_batches batches e).next (receive_all h w (sent_batches batches e).bytes t) (play_batches_on h w batches s)

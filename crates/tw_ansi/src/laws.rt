@@ -3,7 +3,7 @@
 ghost use Rattle.tw_ansi.specs.EcmaLaws.{AttributeShowsNothing, ColumnsAreReached, RowsAboveAreReached, ClearsBelow, ClearsAll};
 ghost use Rattle.tw_ansi.specs.EcmaTexts.{PlainTextIsShown};
 ghost use Rattle.tw_ansi.specs.EcmaBatches.{FirstIsShown, ChangeIsShown, BatchIsShown};
-ghost use Rattle.tw_ansi.specs.EcmaPaintings.{PaintingIsSendable, RepaintingIsSendable, ClosingIsSendable, PaintingKnowsColor};
+ghost use Rattle.tw_ansi.specs.EcmaPaintings.{PaintingIsSendable, RepaintingIsSendable, ClosingIsSendable, PaintingKnowsColor, RunIsSendable, BatchesAreShown};
 ghost use Rattle.tw_ansi.specs.KeyLaws.{StaysFound, TakesBytes, EndsWithToken, PrintableKeys, CharacterKeys, AltCharacterKeys, EscapeKey, EscapePair, AltKeys, ControlKeys, ControlLetters, ApplicationKeys, LetterKeys, HeldLetterKeys, NumberKeys, HeldNumberKeys, BackTab, CursorReports, PastedTexts, UnknownSequences, LostBytes, LoneBytes, CutCharacters, WaitsForCharacter};
 
 /// Tokens do not depend on how the bytes come in pieces: what is found stays found, whatever follows. An ESC alone is
@@ -82,11 +82,14 @@ pub fn batches()
 {}
 
 /// A painting of plain texts and of colours by bytes is one whose bytes do what it does, alone where the cursor does not
-/// stand behind the last column, and else behind the move to its first row; so is the closing batch.
-#[tactic(auto, using(crate::proofs::EcmaPaintings::painting_is_sendable, crate::proofs::EcmaPaintings::repainting_is_sendable, crate::proofs::EcmaPaintings::closing_is_sendable, crate::proofs::EcmaPaintings::painting_knows_color))]
+/// stand behind the last column, and else behind the move to its first row; so is the closing batch. So are all batches
+/// of a run that paints such scenes, and a terminal that is sent their bytes shows what they leave on the model screen.
+#[tactic(auto, using(crate::proofs::EcmaPaintings::painting_is_sendable, crate::proofs::EcmaPaintings::repainting_is_sendable, crate::proofs::EcmaPaintings::closing_is_sendable, crate::proofs::EcmaPaintings::painting_knows_color, crate::proofs::EcmaPaintings::run_is_sendable, crate::proofs::EcmaPaintings::batches_are_shown))]
 pub fn paintings()
     ensures first { PaintingIsSendable }
     ensures later { RepaintingIsSendable }
     ensures closing { ClosingIsSendable }
     ensures color { PaintingKnowsColor }
+    ensures run { RunIsSendable }
+    ensures shown { BatchesAreShown }
 {}

@@ -31,7 +31,8 @@ pub fn scan_on(bytes: &[u8], progress: Progress, is_last: bool) -> Result<Scanne
     requires { Fits progress bytes.now }
     ensures found { IfOk result (λ s. token_at is_last bytes.now ≡ Some s) }
     ensures wants_more { OnErr result (token_at is_last bytes.now ≡ None) }
-    ensures progress { IfErr result (λ p. Fits p bytes.now) }
+    ensures progress { IfErr result (λ p. p ≡ read_on progress bytes.now) }
+    ensures fits { IfErr result (λ p. Fits p bytes.now) }
     ensures takes { IfOk result (λ s. (0 < s.used) × (s.used ≤ length bytes.now)) }
 {
     go_on(progress, bytes, is_last)
