@@ -1,7 +1,10 @@
 -- What a read leaves behind the bytes of a buffer.
-use Rattle.std.proofs.Common.{◌≡◌, ◌≤◌, ◌+◌, ℕ, List, ◌++◌, take, length, arith, ap, ◌∙◌, sym, length-take}
+use Rattle.std.proofs.Common.{◌≡◌, ◌≤◌, ◌+◌, ℕ, true, List, [], ◌∷◌, ◌++◌, Option, None, IsSome, take, length, arith, ap, subst, ◌∙◌, sym, refl, length-take}
+use Rattle.std.proofs.lemmas.Bool.{false≢true}
 use Rattle.std.proofs.lemmas.List.{append_assoc, take-append-le, take_all}
 use Rattle.std.proofs.Math.Seq.{take-append-add, take-take}
+use Rattle.tw_ansi.specs.KeyBytes.{token_at}
+use Rattle.tw_ansi.proofs.Tokens.{token_ends}
 
 -- of room behind some bytes, into which fewer were read, these are kept
 kept_read : (front buf post more : List ℕ) (h count : ℕ) → length front ≡ h → count ≤ length buf
@@ -30,3 +33,8 @@ read_behind old zeros all room buf post more items h n s l count long fits resiz
     ∙ ap (λ xs. take s ((xs ++ (buf ++ post)) ++ more)) front
     ∙ ap (λ k. take k ((old ++ (buf ++ post)) ++ more)) sum
     ∙ kept_read old buf post more h count (sym long) few
+
+-- where no bytes follow and there is no token there are no bytes
+pub none_left : (bytes : List ℕ) → None ≡ token_at true bytes → bytes ≡ []
+none_left [] e = refl
+none_left (b ∷ bytes) e = absurd (false≢true (subst (λ o. IsSome o) (sym e) (token_ends (b ∷ bytes) (omega arith))))

@@ -1,6 +1,7 @@
 //! Events that nobody knows before they come.
 
-ghost use Rattle.std.specs.Prelude.{◌≡◌, ◌≤◌, ◌++◌, ◌∷◌, [], List, length, drop, IfOk, IfErr, OnOk, OnErr, MatchOption};
+ghost use Rattle.std.specs.Prelude.{◌≡◌, ◌≤◌, ◌++◌, ◌∷◌, [], List, length, drop, IfOk, IfErr, OnOk, OnErr, MatchOption, ⊤};
+ghost use Rattle.std.specs.Io.KnownBytes.{IsAtEnd};
 ghost use Rattle.tw_input.specs.EventView.{event_view, EventView};
 ghost use Rattle.tw_device.specs.Logs.{events_of};
 ghost use Rattle.tw_device.specs.declared.keys.SourceState.TheVariants.{AtEnd, Refused as HasRefused};
@@ -81,8 +82,10 @@ impl<R: Read> KeyReader<R> {
     }
 
     /// The next event, or none at the end of what is typed.
+    #[tactic(auto, using(crate::proofs::ReadLemmas::none_left))]
     fn find(&mut self) -> Result<Option<InputEvent>, Refused>
-        ensures { events_of self.new.told ≡ events_of self.old.told }
+        ensures told { events_of self.new.told ≡ events_of self.old.told }
+        ensures at_end { IfOk result (λ event. MatchOption event ((self.new.unread ≡ []) × IsAtEnd (R.remaining self.new.reader)) (λ _. ⊤)) }
     {
         let mut is_last = false;
         for _ in 0..u64::MAX {
@@ -106,6 +109,7 @@ impl<R: Read> KeyReader<R> {
         ensures told { events_of self.new.told ≡ events_of self.old.told }
         ensures taken { OnOk result (self.new.unread ≡ drop found.used self.old.unread) }
         ensures kept { OnErr result (self.new.unread ≡ self.old.unread) }
+        ensures same_reader { self.new.reader ≡ self.old.reader }
     {
         let Scanned { token, used } = found;
         let event = match token {
@@ -128,7 +132,15 @@ impl<R: Read> EventSource for KeyReader<R> {
 
     ghost state = { λ it. it.state };
 
-    fn next_event(&mut self) -> Result<Option<InputEvent>, TerminalFault> {
+    /// It has no more events only where the reader has no more bytes and all are taken.
+    fn next_event(&mut self) -> Result<Option<InputEvent>, TerminalFault>
+        ensures ok { IfOk result (λ event. MatchOption event
+            ((events_of self.new.told ≡ events_of self.old.told) × (self.new.state ≡ AtEnd))
+            (λ event. events_of self.new.told ≡ events_of self.old.told ++ event_view event ∷ [])) }
+        ensures told { OnErr result (events_of self.new.told ≡ events_of self.old.told) }
+        ensures refused { IfErr result (λ fault. self.new.state ≡ HasRefused fault) }
+        ensures at_end { IfOk result (λ event. MatchOption event ((self.new.unread ≡ []) × IsAtEnd (R.remaining self.new.reader)) (λ _. ⊤)) }
+    {
         match self.find() {
             Ok(Some(event)) => {
                 self.told = self.told.and(&event);

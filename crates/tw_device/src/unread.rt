@@ -1,7 +1,7 @@
 //! Bytes that were read and are not yet taken.
 
-ghost use Rattle.std.specs.Prelude.{◌≡◌, ◌≤◌, ◌++◌, ℕ, List, [], length, drop, IfSome, OnOk, OnErr};
-ghost use Rattle.std.specs.Io.KnownBytes.{Consumes};
+ghost use Rattle.std.specs.Prelude.{◌≡◌, ◌≤◌, ◌++◌, ℕ, List, [], length, drop, false, IfSome, IfOk, OnOk, OnErr};
+ghost use Rattle.std.specs.Io.KnownBytes.{Consumes, IsAtEnd};
 ghost use Rattle.tw_ansi.specs.KeyBytes.{token_at};
 ghost use Rattle.tw_ansi.specs.Resuming.{Fits};
 
@@ -91,6 +91,7 @@ impl Unread {
     /// bytes before it reads, so that none is lost for want of memory.
     pub(crate) fn read_from<R: Read>(&mut self, reader: &mut R) -> Result<bool, Refused>
         ensures ok { OnOk result ((more : List ℕ) × (self.new ≡ self.old ++ more) × Consumes (R.remaining reader.old) (R.remaining reader.new) more) }
+        ensures end { IfOk result (λ is_more. is_more ≡ false → IsAtEnd (R.remaining reader.new)) }
         ensures err { OnErr result (self.new ≡ self.old) }
     {
         self.close_up();
@@ -101,6 +102,7 @@ impl Unread {
 /// Reads what there is behind the bytes of a buffer, and answers false at the end. Room is found before bytes are read.
 fn read_more<R: Read>(reader: &mut R, buffer: &mut Vec<u8>) -> Result<bool, Refused>
     ensures ok { OnOk result ((more : List ℕ) × (buffer.new.items ≡ buffer.old.items ++ more) × Consumes (R.remaining reader.old) (R.remaining reader.new) more) }
+    ensures end { IfOk result (λ is_more. is_more ≡ false → IsAtEnd (R.remaining reader.new)) }
     ensures err { OnErr result (buffer.new.items ≡ buffer.old.items) }
 {
     let held = buffer.len();

@@ -1,6 +1,10 @@
-use Rattle.std.proofs.Common.{◌≡◌}
+use Rattle.std.proofs.Common.{◌≡◌, true}
+use Rattle.std.specs.Io.KnownBytes.{IsAtEnd}
 use Rattle.tw_device.specs.Logs.{events_of}
 use Rattle.tw_device.proofs.keys.KeyReader.find.Given as goal
 
 abbrev pub invariant-loop : goal.invariant-loop
-invariant-loop g l = events_of l.self.told ≡ events_of l.fn.self.told
+invariant-loop g l = record {
+  told : events_of l.self.told ≡ events_of l.fn.self.told;
+  at_end : l.is_last ≡ true → IsAtEnd (g.R.Read.remaining l.self.reader);
+}
