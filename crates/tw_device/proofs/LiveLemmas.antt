@@ -6,6 +6,7 @@ use Rattle.std.specs.declared.alloc.Global.{Global}
 use Rattle.tw_input.specs.EventView.{EventView, Key, Resized, Paste, Wake}
 use Rattle.tw_terminal.specs.TerminalState.{TerminalState, size_after, count_up}
 use Rattle.tw_terminal.specs.declared.terminal.ScreenSize.{ScreenSize}
+use Rattle.tw_lineedit.specs.Frame.{Frame}
 use Rattle.tw_lineedit.specs.Cut.{Cut}
 use Rattle.tw_lineedit.specs.EditState.{EditState, ModeView, Inactive, Editing, Cancelled, Accepted, Searching}
 use Rattle.tw_lineedit.specs.HostRules.{HostRules}
@@ -14,7 +15,7 @@ use Rattle.tw_lineedit.specs.Outcomes.{Outcome, outcome_of, answer_at, line_in, 
 use Rattle.tw_lineedit.specs.Refusal.{Refusal, refusal_of, IsMemory}
 use Rattle.tw_lineedit.specs.Feeding.{paint_end, painted_run, fed_run, run_on, CanMiss, CanRefuse, unresolved, unapplied, half_cleared, missed, CanStopAt, refused, later, CanStopOn, uncopied, at_event, Begins, begun_run, WantsToBegin, FaultsToBegin, FailsToBegin, IsFed, event_run, WantsToFeed, FaultsToFeed, FailsToFeed, FailsToFinish, Uncopied}
 use Rattle.tw_lineedit.specs.Reading.{start, Reads, FailsIn, HaltsIn, HaltsRefused, ClosesBadly, ClosesWhole, ClosesInPart, ClosesUnflushed, paused}
-use Rattle.tw_lineedit.specs.Run.{Frame, Progress, Ending, Moment, Cause, want, fault, run, ends, ending, at_end, moment, progress_of, painting_at, polled, answered, handled, state_after, after_event, CanStop, Quiet}
+use Rattle.tw_lineedit.specs.Run.{Progress, Ending, Moment, Cause, want, fault, run, ends, ending, at_end, moment, progress_of, painting_at, polled, answered, handled, state_after, after_event, CanStop, Quiet}
 use Rattle.tw_lineedit.specs.SessionView.{SessionView}
 use Rattle.tw_lineedit.specs.declared.Error.{Error}
 use Rattle.tw_lineedit.specs.declared.Error.TheVariants.{Memory, Terminal}

@@ -4,12 +4,13 @@ use Rattle.std.specs.declared.alloc.Global.{Global}
 use Rattle.tw_input.specs.EventView.{EventView}
 use Rattle.tw_terminal.specs.TerminalState.{TerminalState, size_after}
 use Rattle.tw_terminal.specs.declared.terminal.TerminalFault.TheVariants.{Device}
+use Rattle.tw_lineedit.specs.Frame.{Frame}
 use Rattle.tw_lineedit.specs.HostRules.{HostRules}
 use Rattle.tw_lineedit.specs.Outcomes.{Outcome, is_over}
 use Rattle.tw_lineedit.specs.Feeding.{run_on, CanStopOn}
 use Rattle.tw_lineedit.specs.Reading.{start, Reads, FailsIn, HaltsIn}
 use Rattle.tw_lineedit.specs.Refusal.{IsMemory}
-use Rattle.tw_lineedit.specs.Run.{Frame, Ending, Moment, Cause, want, fault, run, progress_of, CanStop, Quiet}
+use Rattle.tw_lineedit.specs.Run.{Ending, Moment, Cause, want, fault, run, progress_of, CanStop, Quiet}
 use Rattle.tw_lineedit.specs.SessionView.{SessionView, new_state}
 use Rattle.tw_lineedit.specs.declared.Error.{Error}
 use Rattle.tw_lineedit.specs.declared.Error.TheVariants.{Terminal}

@@ -3,9 +3,9 @@
 ghost use Rattle.std.specs.Prelude.{◌≡◌, ◌≢◌, ◌∷◌, [], true, Ok, IfOk, IfErr, OnOk};
 ghost use Rattle.tw_input.specs.EventView.{event_view};
 ghost use Rattle.tw_terminal.specs.TerminalState.{size_after};
+ghost use Rattle.tw_lineedit.specs.Frame.{frame};
 ghost use Rattle.tw_lineedit.specs.EditState.{Inactive};
 ghost use Rattle.tw_lineedit.specs.Feeding.{status_if};
-ghost use Rattle.tw_lineedit.specs.Frame.{frame};
 ghost use Rattle.tw_lineedit.specs.Outcomes.{is_open};
 ghost use Rattle.tw_device.specs.Live.{fresh, Comes, ComesBy, FailsFrom, FailsBy, IsRead, FailsToRead, IsStopped, answer_from};
 

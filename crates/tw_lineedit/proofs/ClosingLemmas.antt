@@ -8,8 +8,9 @@ use Rattle.tw_painter.specs.EditState.{EditState, Inactive}
 use Rattle.tw_painter.specs.Refusal.{Refusal, refusal_of, IsMemory}
 use Rattle.tw_session.specs.Outcomes.{Outcome, answer_at, IsLine, IsRefusal}
 use Rattle.tw_painter.specs.Painting.{Mark, closing, closing_if}
-use Rattle.tw_lineedit.specs.Run.{Frame, Ending, Moment, run_of, ending, StandsAt, Quiet, IsAnswered, IsRefused, moment, progress_of, IsRefusedIn}
-use Rattle.tw_lineedit.specs.Frame.{Closes, CutsClosing, MissesFlush, FailsToClose, GivesUp}
+use Rattle.tw_lineedit.specs.Frame.{Frame}
+use Rattle.tw_lineedit.specs.Run.{Ending, Moment, run_of, ending, StandsAt, Quiet, IsAnswered, IsRefused, moment, progress_of, IsRefusedIn}
+use Rattle.tw_lineedit.specs.EditorSteps.{Closes, CutsClosing, MissesFlush, FailsToClose, GivesUp}
 use Rattle.tw_lineedit.specs.Reading.{start, unbegun, Reads, paused, ClosesWhole, ClosesInPart, ClosesUnflushed, ClosesBadly, Starves, Faults, Halts, FailsToRead, IsTurnedDown, HaltsIn, HaltsRefused, FailsIn}
 use Rattle.tw_painter.specs.declared.error.Error.{Error}
 use Rattle.tw_painter.specs.declared.error.Error.TheVariants.{Memory, Terminal}

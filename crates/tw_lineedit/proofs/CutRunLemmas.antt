@@ -9,8 +9,9 @@ use Rattle.tw_surface.specs.PaintingBatches as shots
 use Rattle.tw_surface.proofs.CutLists.{sized_batches_are, cut_painting, cut_closing}
 use Rattle.tw_host.specs.HostRules.{HostRules}
 use Rattle.tw_painter.specs.Painting.{Mark, closing_if}
+use Rattle.tw_lineedit.specs.Frame.{Frame}
 use Rattle.tw_lineedit.specs.CutRuns.{ComesAtAnyWidth, CutIsFresh, CutCloses}
-use Rattle.tw_lineedit.specs.Run.{Frame, progress_of, run_of}
+use Rattle.tw_lineedit.specs.Run.{progress_of, run_of}
 use Rattle.tw_lineedit.specs.ScreenRuns.{sized_scene, batches_of}
 use Rattle.tw_lineedit.specs.Stations.{Station, stations_of, batches_after}
 use Rattle.tw_lineedit.proofs.ScreenRunLemmas.{ArePainted, ArePaintedButLast, painted_from, painted_up_to, beginning_after, batches_are_shots, mark_after, mark_from, closing_is_shots, no_more_batches, no_later_mark}

@@ -2,7 +2,8 @@
 use Rattle.std.proofs.Common.{◌≡◌, ℕ, ◌+◌, ◌<◌, ◌≤◌, ◌==◌, cond, Bool, true, false, refl, inl, inr, Err, arith, ◌⊎◌}
 use Rattle.std.proofs.lemmas.Bool.{eqb-true}
 use Rattle.tw_terminal.specs.TerminalState.{count_up}
-use Rattle.tw_lineedit.specs.Run.{Ending, Frame, Moment}
+use Rattle.tw_lineedit.specs.Frame.{Frame}
+use Rattle.tw_lineedit.specs.Run.{Ending, Moment}
 use Rattle.tw_lineedit.specs.Reading.{FailsIn, FailuresTell}
 use Rattle.tw_painter.specs.declared.error.Error.{Error}
 use Rattle.tw_painter.specs.declared.error.Error.TheVariants.{Memory, Terminal}

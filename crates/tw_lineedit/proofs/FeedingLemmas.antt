@@ -14,9 +14,10 @@ use Rattle.tw_painter.specs.declared.error.Error.{Error}
 use Rattle.tw_painter.specs.declared.error.Error.TheVariants.{Memory, Terminal}
 use Rattle.tw_session.specs.Outcomes.{Outcome, is_over, is_open, answer_at}
 use Rattle.tw_session.specs.Steps.{clears_if, TakesMemory}
-use Rattle.tw_lineedit.specs.Run.{Frame, Progress, Ending, Moment, Cause, want, fault, run, run_of, ends, ending, at_end, after_event, chosen, resolved, handled, state_after, answered, polled, shown, painting_at, moment, progress_of, CanStop, StandsAt, Quiet, IsRefusedIn}
+use Rattle.tw_lineedit.specs.Frame.{Frame}
+use Rattle.tw_lineedit.specs.Run.{Progress, Ending, Moment, Cause, want, fault, run, run_of, ends, ending, at_end, after_event, chosen, resolved, handled, state_after, answered, polled, shown, painting_at, moment, progress_of, CanStop, StandsAt, Quiet, IsRefusedIn}
 use Rattle.tw_lineedit.specs.Run as stop
-use Rattle.tw_lineedit.specs.Frame.{Paints, FailsToPaint, Handles, FailsToHandle, Advances, FailsToAdvance, GivesUp, answered_frame}
+use Rattle.tw_lineedit.specs.EditorSteps.{Paints, FailsToPaint, Handles, FailsToHandle, Advances, FailsToAdvance, GivesUp, answered_frame}
 use Rattle.tw_lineedit.specs.Reading.{start, IsTurnedDown}
 use Rattle.tw_lineedit.specs.Feeding.{paint_end, painted_run, fed_run, run_on, CanMiss, unmeasured, unpainted, half_painted, CanRefuse, unresolved, unapplied, half_cleared, missed, CanStopAt, refused, later, CanStopOn, unpolled, uncopied, at_event, Begins, IsFed, IsNotBegun, begun_run, WantsToBegin, FaultsToBegin, FailsToFeed, event_run, WantsToFeed, FaultsToFeed}
 use Rattle.tw_lineedit.specs.Reading as call

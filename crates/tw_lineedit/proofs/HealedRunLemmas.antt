@@ -11,10 +11,11 @@ use Rattle.tw_surface.specs.PaintingBatches.{SizedScene, IsPlainAt, shot_of, sce
 use Rattle.tw_surface.specs.PaintingBatches as shots
 use Rattle.tw_surface.proofs.HealedLists.{healing}
 use Rattle.tw_host.specs.ElementView.{ElementView, Attribute, AllAttributes, Text, changes_of}
+use Rattle.tw_lineedit.specs.Frame.{Frame}
 use Rattle.tw_lineedit.specs.HealedRuns.{ComesCleared, HealedIsFresh, HealedCloses}
 use Rattle.tw_host.specs.HostRules.{HostRules}
 use Rattle.tw_painter.specs.Painting.{Mark, closing_if}
-use Rattle.tw_lineedit.specs.Run.{Frame, progress_of, run_of}
+use Rattle.tw_lineedit.specs.Run.{progress_of, run_of}
 use Rattle.tw_lineedit.specs.ScreenRuns.{sized_scene, batches_of}
 use Rattle.tw_lineedit.specs.ScrollingRuns.{scenes_at}
 use Rattle.tw_lineedit.specs.Stations.{Station, stations_of, batches_after}

@@ -4,8 +4,8 @@ use Rattle.tw_surface.specs.ChangeView.{Batch}
 use Rattle.tw_terminal.specs.TerminalState.{Renders, RenderFails}
 use Rattle.tw_terminal.specs.declared.terminal.ScreenSize.{ScreenSize}
 use Rattle.tw_painter.specs.Painting.{Rendered, rendered, painted_on, scene_of}
-use Rattle.tw_lineedit.specs.Run.{Frame}
-use Rattle.tw_lineedit.specs.Frame.{Paints, FailsToPaint, ShowsBatch, FailsToShow}
+use Rattle.tw_lineedit.specs.Frame.{Frame}
+use Rattle.tw_lineedit.specs.EditorSteps.{Paints, FailsToPaint, ShowsBatch, FailsToShow}
 use Rattle.tw_painter.specs.declared.error.Error.{Error}
 use Rattle.tw_painter.specs.declared.error.Error.TheVariants.{Terminal}
 use Rattle.tw_host.specs.HostRules.{HostRules}
@@ -14,6 +14,10 @@ module _ {V : Type 0} (rules : HostRules V) where
   -- the painting at the terminal's size
   at_own_size : (g : Frame V) {p : Rendered} {size : ScreenSize} → size ≡ g.terminal.size → rendered g.last (painted_on size (scene_of rules g.value g.state false)) ≡ Ok p → rendered g.last (painted_on g.terminal.size (scene_of rules g.value g.state false)) ≡ Ok p
   at_own_size g {p = p} h e = subst (λ (z : ScreenSize). rendered g.last (painted_on z (scene_of rules g.value g.state false)) ≡ Ok p) h e
+
+  -- frames are one where their parts are
+  pub same_frame : (f g : Frame V) → f.state ≡ g.state → f.value ≡ g.value → f.last ≡ g.last → f.terminal ≡ g.terminal → f ≡ g
+  same_frame f g state value last terminal = λ i. record { state = state i; value = value i; last = last i; terminal = terminal i }
 
   -- the painting is rendered and its mark is kept
   pub paints : (f g h k : Frame V) {p : Rendered} {size : ScreenSize} {b : Batch} → size ≡ f.terminal.size → g ≡ f → rendered g.last (painted_on size (scene_of rules g.value g.state false)) ≡ Ok p → b ≡ p.changes → ShowsBatch b g h → k.state ≡ h.state → k.value ≡ h.value → k.last ≡ Some p.mark → k.terminal ≡ h.terminal → Paints rules f k

@@ -19,7 +19,8 @@ use Rattle.tw_painter.specs.Painting.{Mark, mark_of, start_batch, closing_if, Re
 use Rattle.tw_painter.specs.Refusal.{Refusal, ZeroSize, SizeOutOfRange}
 use Rattle.tw_surface.specs.Scenes.{Scene}
 use Rattle.tw_terminal.specs.declared.terminal.ScreenSize.{ScreenSize}
-use Rattle.tw_lineedit.specs.Run.{Frame, Progress, progress_of, run, run_of, ends, at_end, at_event, after_event, painting_at, shown, chosen, state_after, handled}
+use Rattle.tw_lineedit.specs.Frame.{Frame}
+use Rattle.tw_lineedit.specs.Run.{Progress, progress_of, run, run_of, ends, at_end, at_event, after_event, painting_at, shown, chosen, state_after, handled}
 use Rattle.tw_lineedit.specs.Stations.{Station, is_repaint, clear_if, station_at, painting_of, batches_after, stations_after, stations_unless, stations_by, stations_from, stations_of}
 use Rattle.tw_lineedit.specs.ScreenRuns.{sized_scene, batches_of, is_cleared, ReachesPlainly, ShowsFresh, FirstIsFresh, LaterIsFresh, ClearedIsFresh, first_row, RendersNothing, ClosesBelow, CallsStack}
 use Rattle.tw_lineedit.proofs.StationLemmas.{rendered_at, batches_by_stations}

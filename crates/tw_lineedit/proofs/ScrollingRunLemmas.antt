@@ -7,7 +7,8 @@ use Rattle.tw_surface.specs.Scrolling.{play_batches_on}
 use Rattle.tw_surface.proofs.ScrolledLists.{every_scrolled, last_scrolled, top-le}
 use Rattle.tw_host.specs.HostRules.{HostRules}
 use Rattle.tw_painter.specs.Painting.{closing_if}
-use Rattle.tw_lineedit.specs.Run.{Frame, progress_of, run_of}
+use Rattle.tw_lineedit.specs.Frame.{Frame}
+use Rattle.tw_lineedit.specs.Run.{progress_of, run_of}
 use Rattle.tw_lineedit.specs.ScreenRuns.{sized_scene, batches_of}
 use Rattle.tw_lineedit.specs.ScrollingRuns.{scenes_at, top_row_at, ScrolledIsFresh, ScrolledCloses, ScrolledCallsStack}
 use Rattle.tw_lineedit.specs.Stations.{Station, stations_of}

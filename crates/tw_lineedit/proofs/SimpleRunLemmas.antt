@@ -13,7 +13,8 @@ use Rattle.tw_surface.proofs.SimpleHealing.{simple_healing}
 use Rattle.tw_surface.proofs.SimpleScrolling.{every_scrolled_simple, last_scrolled_simple}
 use Rattle.tw_host.specs.HostRules.{HostRules}
 use Rattle.tw_painter.specs.Painting.{Mark, closing_if}
-use Rattle.tw_lineedit.specs.Run.{Frame, progress_of, run_of}
+use Rattle.tw_lineedit.specs.Frame.{Frame}
+use Rattle.tw_lineedit.specs.Run.{progress_of, run_of}
 use Rattle.tw_lineedit.specs.Stations.{Station, batches_after, stations_of}
 use Rattle.tw_lineedit.specs.ScreenRuns.{sized_scene, batches_of, is_cleared, first_row, RendersNothing}
 use Rattle.tw_lineedit.specs.SimpleRuns.{ComesSimple, SimpleIsFresh, SimpleCloses, SimpleScrolledIsFresh, SimpleScrolledCloses, ShowsSimple, SimpleCallsStack, SimpleHealedIsFresh}

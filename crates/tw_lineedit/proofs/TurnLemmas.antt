@@ -4,8 +4,9 @@ use Rattle.tw_input.specs.EventView.{EventView}
 use Rattle.tw_terminal.specs.TerminalState.{TerminalState}
 use Rattle.tw_painter.specs.Refusal.{IsMemory}
 use Rattle.tw_session.specs.Outcomes.{is_over, answer_at, IsLine, Outcome}
-use Rattle.tw_lineedit.specs.Run.{Frame, Progress, Moment, Cause, want, fault, run, ends, after_event, state_after, polled, moment, progress_of, CanStopFrom, Quiet, IsRefused, run_of, IsAnswered}
-use Rattle.tw_lineedit.specs.Frame.{CallFails, TakesEvent, HasNoEvent, Advances, FailsToAdvance}
+use Rattle.tw_lineedit.specs.Frame.{Frame}
+use Rattle.tw_lineedit.specs.Run.{Progress, Moment, Cause, want, fault, run, ends, after_event, state_after, polled, moment, progress_of, CanStopFrom, Quiet, IsRefused, run_of, IsAnswered}
+use Rattle.tw_lineedit.specs.EditorSteps.{CallFails, TakesEvent, HasNoEvent, Advances, FailsToAdvance}
 use Rattle.tw_painter.specs.declared.error.Error.{Error}
 use Rattle.tw_painter.specs.declared.error.Error.TheVariants.{Memory, Terminal}
 use Rattle.tw_host.specs.HostRules.{HostRules}

@@ -13,8 +13,9 @@ use Rattle.tw_host.specs.KeyTable.{pressed}
 use Rattle.tw_host.specs.HostRules.{HostRules, plain_rules}
 use Rattle.tw_painter.specs.Painting.{painted_on, closing_if}
 use Rattle.tw_session.specs.SessionView.{new_state}
+use Rattle.tw_lineedit.specs.Frame.{Frame}
 use Rattle.tw_lineedit.specs.Reading.{start}
-use Rattle.tw_lineedit.specs.Run.{Frame, run_of}
+use Rattle.tw_lineedit.specs.Run.{run_of}
 use Rattle.tw_extremes.specs.Extremes.{repeated, greatest_below}
 use Rattle.tw_line.specs.Movements.{destination}
 use Rattle.tw_line.specs.Boundaries.{boundary_below, is_boundary}

@@ -15,6 +15,7 @@ use Rattle.tw_input.specs.declared.key.KeyCode.TheVariants.{Char, Home}
 use Rattle.tw_line.specs.Boundaries.{boundary_below, is_boundary}
 use Rattle.tw_host.specs.ElementView as element
 use Rattle.tw_extremes.specs.Extremes.{repeated, greatest_below, least_from}
+use Rattle.tw_lineedit.specs.Frame.{Frame}
 use Rattle.tw_lineedit.specs.CutRuns.{ComesAtAnyWidth, sized_batches_of}
 use Rattle.tw_lineedit.specs.HealedRuns.{ComesCleared}
 use Rattle.tw_host.specs.HostRules.{HostRules, plain_rules}
@@ -23,7 +24,7 @@ use Rattle.tw_line.specs.Movements.{destination}
 use Rattle.tw_painter.specs.Painting.{painted_on, closing_if}
 use Rattle.tw_lineedit.specs.Reading.{start}
 use Rattle.tw_painter.specs.Refusal.{Refusal, ZeroSize}
-use Rattle.tw_lineedit.specs.Run.{Frame, run_of}
+use Rattle.tw_lineedit.specs.Run.{run_of}
 use Rattle.tw_lineedit.specs.ScreenRuns.{batches_of, sized_scene, RendersNothing}
 use Rattle.tw_lineedit.specs.ScrollingRuns.{ComesOn}
 use Rattle.tw_session.specs.Search.{searched_again, search_step}

@@ -10,8 +10,9 @@ use Rattle.tw_painter.specs.Refusal.{Refusal}
 use Rattle.tw_painter.specs.declared.error.Error.{Error}
 use Rattle.tw_session.specs.Outcomes.{Outcome, answer_at, IsLine, is_over}
 use Rattle.tw_session.specs.Steps.{TakesMemory}
-use Rattle.tw_lineedit.specs.Run.{Progress, Ending, Moment, Cause, want, fault, Frame, ends, ending, shown, polled, moment, progress_of, painting_at, chosen, answered, handled, state_after, after_event, run, CanStop, Quiet, IsRefusedIn}
-use Rattle.tw_lineedit.specs.Frame.{Paints, Advances}
+use Rattle.tw_lineedit.specs.Frame.{Frame}
+use Rattle.tw_lineedit.specs.Run.{Progress, Ending, Moment, Cause, want, fault, ends, ending, shown, polled, moment, progress_of, painting_at, chosen, answered, handled, state_after, after_event, run, CanStop, Quiet, IsRefusedIn}
+use Rattle.tw_lineedit.specs.EditorSteps.{Paints, Advances}
 use Rattle.tw_lineedit.specs.Reading.{start, unbegun, FailsIn, HaltsIn, HaltsRefused}
 use Rattle.tw_lineedit.specs.declared.editor.feeding.LineStatus.{LineStatus}
 use Rattle.tw_lineedit.specs.declared.editor.feeding.LineStatus.TheVariants.{Open, Ended}

@@ -10,7 +10,8 @@ use Rattle.tw_surface.specs.Scrolling.{play_batches_on, IsLow, IsClosedOn}
 use Rattle.tw_surface.specs.PaintingBatches.{IsPlainAt, play_batches}
 use Rattle.tw_host.specs.HostRules.{HostRules}
 use Rattle.tw_painter.specs.Painting.{closing_if}
-use Rattle.tw_lineedit.specs.Run.{Frame, run_of}
+use Rattle.tw_lineedit.specs.Frame.{Frame}
+use Rattle.tw_lineedit.specs.Run.{run_of}
 use Rattle.tw_lineedit.specs.ScreenRuns.{sized_scene, batches_of, RendersNothing}
 use Rattle.tw_lineedit.specs.ScrollingRuns.{scenes_at}
 use Rattle.tw_lineedit.specs.Stations.{Station, painting_of, stations_of}

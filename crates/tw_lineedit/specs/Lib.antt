@@ -1,5 +1,6 @@
-pub mod Run
 pub mod Frame
+pub mod Run
+pub mod EditorSteps
 pub mod Lent
 pub mod Reading
 pub mod Remembering

@@ -1,5 +1,6 @@
 -- What a call of read_line leaves.
-use Rattle.std.specs.Prelude.{◌≡◌, ℕ, ◌<◌, ◌++◌, length, List, Option, Some, None, Result, Err, IsSome, ◌⊎◌}
+use Rattle.std.specs.Prelude.{◌≡◌, ℕ, ◌<◌, ◌++◌, length, List, Option, Some, None, Result, Err, IsSome, ◌⊎◌, option_map}
+use Rattle.std.specs.Borrow.{Bor}
 use Rattle.tw_surface.specs.ChangeView.{Batch}
 use Rattle.tw_terminal.specs.TerminalState.{count_up, IsPart}
 use Rattle.tw_host.specs.HostRules.{HostRules}
@@ -8,9 +9,14 @@ use Rattle.tw_session.specs.SessionView.{initial_cut, begun_state}
 use Rattle.tw_painter.specs.Refusal.{refusal_of}
 use Rattle.tw_session.specs.Outcomes.{Outcome, IsRefusal}
 use Rattle.tw_painter.specs.Painting.{Mark, closing, closing_if}
-use Rattle.tw_lineedit.specs.Run.{Frame, Ending, Moment, want, fault, progress_of, moment, run_of, CanStopFrom, IsPartOf, IsRefusedIn}
+use Rattle.tw_lineedit.specs.Frame.{Frame}
+use Rattle.tw_lineedit.specs.Run.{Ending, Moment, want, fault, progress_of, moment, run_of, CanStopFrom, IsPartOf, IsRefusedIn}
 use Rattle.tw_painter.specs.declared.error.Error.{Error}
 use Rattle.tw_painter.specs.declared.error.Error.TheVariants.{Memory, Terminal}
+
+-- the text of an initial value, if there is one
+abbrev pub initial_text : Option (Bor (List ℕ)) → Option (List ℕ)
+initial_text initial = option_map (λ s. s.now) initial
 
 module _ {V : Type 0} where
   -- where a call with an initial value begins

@@ -9,6 +9,7 @@ use Rattle.tw_host.specs.HostRules.{HostRules, Resolution, or_default}
 use Rattle.tw_host.specs.ActionView.{Repaint}
 use Rattle.tw_painter.specs.EditState.{EditState}
 use Rattle.tw_painter.specs.Refusal.{Refusal, refusal_of}
+use Rattle.tw_lineedit.specs.Frame.{Frame}
 use Rattle.tw_session.specs.Outcomes.{Outcome, answer_at, IsLine, is_over}
 use Rattle.tw_session.specs.Steps.{apply_if, clears_if, TakesMemory}
 use Rattle.tw_painter.specs.Painting.{Mark, Rendered, rendered, painted_on, scene_of, clear_batch}
@@ -48,13 +49,6 @@ pub record Moment (V : Type 0) : Type 0 where
   pub taken : List Batch
   pub rendering : Option Batch
   pub left : List EventView
-
--- an editor and its host, as contracts see them
-pub record Frame (V : Type 0) : Type 0 where
-  pub state : EditState
-  pub value : V
-  pub last : Option Mark
-  pub terminal : TerminalState
 
 module _ {V : Type 0} where
   -- the ending with this answer

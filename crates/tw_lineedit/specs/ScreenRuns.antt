@@ -9,7 +9,8 @@ use Rattle.tw_surface.specs.PaintingBatches.{SizedScene, IsPlainAt, play_batches
 use Rattle.tw_host.specs.HostRules.{HostRules}
 use Rattle.tw_painter.specs.Painting.{scene_of, closing_if}
 use Rattle.tw_painter.specs.Refusal.{Refusal}
-use Rattle.tw_lineedit.specs.Run.{Frame, run_of}
+use Rattle.tw_lineedit.specs.Frame.{Frame}
+use Rattle.tw_lineedit.specs.Run.{run_of}
 use Rattle.tw_lineedit.specs.Stations.{Station, painting_of, batches_after, stations_of}
 
 module _ {V : Type 0} (rules : HostRules V) where

@@ -10,7 +10,8 @@ use Rattle.tw_host.specs.HostRules.{HostRules}
 use Rattle.tw_session.specs.Outcomes.{is_over}
 use Rattle.tw_painter.specs.Painting.{Mark, mark_of, start_batch, clear_batch, Rendered, painted_on, scene_of}
 use Rattle.tw_painter.specs.Refusal.{Refusal}
-use Rattle.tw_lineedit.specs.Run.{Progress, Frame, run_of, progress_of, painting_at, shown, chosen, state_after, handled}
+use Rattle.tw_lineedit.specs.Frame.{Frame}
+use Rattle.tw_lineedit.specs.Run.{Progress, run_of, progress_of, painting_at, shown, chosen, state_after, handled}
 
 -- what is painted once: a state, the host's value and the screen's size, and whether the screen was cleared just before
 pub record Station (V : Type 0) : Type 0 where

@@ -14,15 +14,16 @@ ghost use Rattle.tw_session.specs.Outcomes.{outcome_of, answer_at, IsLine};
 ghost use Rattle.tw_painter.specs.Painting.{closing, clear_batch};
 ghost use Rattle.tw_session.specs.SessionView.{new_session, on_state};
 ghost use Rattle.tw_painter.specs.Refusal.{IsMemory};
+ghost use Rattle.tw_lineedit.specs.Frame.{frame};
 ghost use Rattle.tw_lineedit.specs.Run.{progress_of, resolved, run_of, IsAnswered};
 ghost use Rattle.tw_lineedit.specs.Lent.{EndsAs, editor_row};
-ghost use Rattle.tw_lineedit.specs.Frame.{frame, Keeps, Closes, FailsToClose, CallFails, ShowsBatch, FailsToShow, Paints, FailsToPaint, Applies, FailsToApply, Handles, FailsToHandle, answered_frame, TakesEvent, HasNoEvent, Advances, FailsToAdvance, GivesUp};
+ghost use Rattle.tw_lineedit.specs.EditorSteps.{Keeps, Closes, FailsToClose, CallFails, ShowsBatch, FailsToShow, Paints, FailsToPaint, Applies, FailsToApply, Handles, FailsToHandle, answered_frame, TakesEvent, HasNoEvent, Advances, FailsToAdvance, GivesUp};
 ghost use Rattle.tw_lineedit.specs.Feeding.{Begins, IsNotBegun, IsRefusedOn, Continues, IsEnded, IsAnsweredOn};
 ghost use Rattle.tw_lineedit.specs.ScreenRuns.{FirstIsFresh, LaterIsFresh, ClearedIsFresh, ClosesBelow};
 ghost use Rattle.tw_lineedit.specs.ScrollingRuns.{ScrolledIsFresh, ScrolledCloses};
 ghost use Rattle.tw_lineedit.specs.CutRuns.{CutCloses, CutIsFresh};
 ghost use Rattle.tw_lineedit.specs.HealedRuns.{HealedIsFresh, HealedCloses};
-ghost use Rattle.tw_lineedit.specs.Reading.{start, Reads, FailsToRead, IsTurnedDown, FailuresTell};
+ghost use Rattle.tw_lineedit.specs.Reading.{initial_text, start, Reads, FailsToRead, IsTurnedDown, FailuresTell};
 
 mod feeding;
 
@@ -106,34 +107,19 @@ impl<'term, T: Terminal> LineEditor<'term, T> {
         Ok(())
     }
 
-    /// The size of the screen. The host stands here, and below, for the contract alone.
-    fn screen_size<H: LineEditorHost>(&mut self, host: &H) -> Result<ScreenSize, Error>
-        ensures same_reference { self.new.terminal.ghost_name ≡ self.old.terminal.ghost_name }
-        ensures ok { IfOk result (λ size. (size ≡ (T.state self.old.terminal.now).size) × (frame T.state H.value self.new host.now ≡ frame T.state H.value self.old host.now)) }
-        ensures err { IfErr result (CallFails (frame T.state H.value self.old host.now) (frame T.state H.value self.new host.now)) }
-    {
-        Ok(self.terminal.get_screen_size()?)
-    }
-
-    /// Renders changes.
-    fn show<H: LineEditorHost>(&mut self, host: &H, changes: &[Change]) -> Result<(), Error>
-        ensures same_reference { self.new.terminal.ghost_name ≡ self.old.terminal.ghost_name }
-        ensures ok { OnOk result (ShowsBatch (batch_view changes.now) (frame T.state H.value self.old host.now) (frame T.state H.value self.new host.now)) }
-        ensures err { IfErr result (FailsToShow (batch_view changes.now) (frame T.state H.value self.old host.now) (frame T.state H.value self.new host.now)) }
-    {
-        self.terminal.render(changes)?;
-        Ok(())
-    }
-
     /// Paints the session over its painting before.
     fn paint<H: LineEditorHost>(&mut self, host: &H) -> Result<(), Error>
         ensures same_reference { self.new.terminal.ghost_name ≡ self.old.terminal.ghost_name }
-        ensures ok { OnOk result (Paints H.rules (frame T.state H.value self.old host.now) (frame T.state H.value self.new host.now)) }
-        ensures err { IfErr result (FailsToPaint H.rules (frame T.state H.value self.old host.now) (frame T.state H.value self.new host.now)) }
+        ensures ok { let before = frame T.state H.value self.old host.now in
+            let after = frame T.state H.value self.new host.now in
+            OnOk result (Paints H.rules before after) }
+        ensures err { let before = frame T.state H.value self.old host.now in
+            let after = frame T.state H.value self.new host.now in
+            IfErr result (FailsToPaint H.rules before after) }
     {
-        let size = self.screen_size(host)?;
+        let size = self.terminal.get_screen_size()?;
         let (changes, painted) = self.session.paint(host, size)?;
-        self.show(host, changes.as_slice())?;
+        self.terminal.render(changes.as_slice())?;
         self.session.set_mark(painted);
         Ok(())
     }
@@ -149,8 +135,12 @@ impl<'term, T: Terminal> LineEditor<'term, T> {
         ensures same_reference { self.new.terminal.ghost_name ≡ self.old.terminal.ghost_name }
         ensures host { host.new ≡ host.old }
         ensures uncalled { action_view action ≢ Repaint → self.new.terminal.now ≡ self.old.terminal.now }
-        ensures ok { OnOk result (Applies H.rules (Some (action_view action)) (frame T.state H.value self.old host.old) (frame T.state H.value self.new host.new)) }
-        ensures err { IfErr result (FailsToApply H.rules (Some (action_view action)) (frame T.state H.value self.old host.old) (frame T.state H.value self.new host.new)) }
+        ensures ok { let before = frame T.state H.value self.old host.old in
+            let after = frame T.state H.value self.new host.new in
+            OnOk result (Applies H.rules (Some (action_view action)) before after) }
+        ensures err { let before = frame T.state H.value self.old host.old in
+            let after = frame T.state H.value self.new host.new in
+            IfErr result (FailsToApply H.rules (Some (action_view action)) before after) }
         ensures failures { FailuresTell result (T.state self.old.terminal.now).failures (T.state self.new.terminal.now).failures }
     {
         self.act(host, action)
@@ -162,40 +152,31 @@ impl<'term, T: Terminal> LineEditor<'term, T> {
         ensures same_reference { self.new.terminal.ghost_name ≡ self.old.terminal.ghost_name }
         ensures host { host.new ≡ host.old }
         ensures uncalled { action_view action ≢ Repaint → self.new.terminal.now ≡ self.old.terminal.now }
-        ensures ok { OnOk result (Applies H.rules (Some (action_view action)) (frame T.state H.value self.old host.old) (frame T.state H.value self.new host.new)) }
-        ensures err { IfErr result (FailsToApply H.rules (Some (action_view action)) (frame T.state H.value self.old host.old) (frame T.state H.value self.new host.new)) }
+        ensures ok { let before = frame T.state H.value self.old host.old in
+            let after = frame T.state H.value self.new host.new in
+            OnOk result (Applies H.rules (Some (action_view action)) before after) }
+        ensures err { let before = frame T.state H.value self.old host.old in
+            let after = frame T.state H.value self.new host.new in
+            IfErr result (FailsToApply H.rules (Some (action_view action)) before after) }
     {
         match action {
-            Action::Repaint => self.clear_screen(host),
+            Action::Repaint => {
+                let clearing = [Change::ClearScreen(ColorAttribute::Default)];
+                Ok(self.terminal.render(&clearing)?)
+            }
             action => self.session.act(host, action),
         }
-    }
-
-    /// Clears the screen.
-    fn clear_screen<H: LineEditorHost>(&mut self, host: &H) -> Result<(), Error>
-        ensures same_reference { self.new.terminal.ghost_name ≡ self.old.terminal.ghost_name }
-        ensures ok { OnOk result (ShowsBatch clear_batch (frame T.state H.value self.old host.now) (frame T.state H.value self.new host.now)) }
-        ensures err { IfErr result (FailsToShow clear_batch (frame T.state H.value self.old host.now) (frame T.state H.value self.new host.now)) }
-    {
-        self.show(host, &[Change::ClearScreen(ColorAttribute::Default)])
-    }
-
-    /// The next event, if one is left.
-    fn poll<H: LineEditorHost>(&mut self, host: &H) -> Result<Option<InputEvent>, Error>
-        ensures same_reference { self.new.terminal.ghost_name ≡ self.old.terminal.ghost_name }
-        ensures ok { IfOk result (λ event. MatchOption event
-            (HasNoEvent (frame T.state H.value self.old host.now) (frame T.state H.value self.new host.now))
-            (λ event. TakesEvent (event_view event) (frame T.state H.value self.old host.now) (frame T.state H.value self.new host.now))) }
-        ensures err { IfErr result (CallFails (frame T.state H.value self.old host.now) (frame T.state H.value self.new host.now)) }
-    {
-        Ok(self.terminal.poll_input()?)
     }
 
     /// Applies what the host makes of the event, or else what the key table does.
     fn handle<H: LineEditorHost>(&mut self, host: &mut H, event: &InputEvent) -> Result<(), Error>
         ensures same_reference { self.new.terminal.ghost_name ≡ self.old.terminal.ghost_name }
-        ensures ok { OnOk result (Handles H.rules (event_view event.now) (frame T.state H.value self.old host.old) (frame T.state H.value self.new host.new)) }
-        ensures err { IfErr result (FailsToHandle H.rules (event_view event.now) (frame T.state H.value self.old host.old) (frame T.state H.value self.new host.new)) }
+        ensures ok { let before = frame T.state H.value self.old host.old in
+            let after = frame T.state H.value self.new host.new in
+            OnOk result (Handles H.rules (event_view event.now) before after) }
+        ensures err { let before = frame T.state H.value self.old host.old in
+            let after = frame T.state H.value self.new host.new in
+            IfErr result (FailsToHandle H.rules (event_view event.now) before after) }
     {
         match self.resolve(host, event)? {
             Some(action) => self.act(host, action),
@@ -211,8 +192,12 @@ impl<'term, T: Terminal> LineEditor<'term, T> {
     ) -> Result<(), Error>
         ensures same_reference { self.new.terminal.ghost_name ≡ self.old.terminal.ghost_name }
         ensures host { host.new ≡ host.old }
-        ensures ok { OnOk result (Applies H.rules (action_of (event_view event.now)) (frame T.state H.value self.old host.old) (frame T.state H.value self.new host.new)) }
-        ensures err { IfErr result (FailsToApply H.rules (action_of (event_view event.now)) (frame T.state H.value self.old host.old) (frame T.state H.value self.new host.new)) }
+        ensures ok { let before = frame T.state H.value self.old host.old in
+            let after = frame T.state H.value self.new host.new in
+            OnOk result (Applies H.rules (action_of (event_view event.now)) before after) }
+        ensures err { let before = frame T.state H.value self.old host.old in
+            let after = frame T.state H.value self.new host.new in
+            IfErr result (FailsToApply H.rules (action_of (event_view event.now)) before after) }
     {
         match default_action(self.session.alloc(), event)? {
             Some(action) => self.act(host, action),
@@ -227,8 +212,11 @@ impl<'term, T: Terminal> LineEditor<'term, T> {
         event: &InputEvent,
     ) -> Result<Option<Action>, AllocError>
         ensures same_reference { self.new.terminal.ghost_name ≡ self.old.terminal.ghost_name }
-        ensures ok { OnOk result (frame T.state H.value self.new host.new ≡ answered_frame H.rules (event_view event.now) (frame T.state H.value self.old host.old)) }
-        ensures action { IfOk result (λ action. option_map action_view action ≡ (resolved H.rules (progress_of (frame T.state H.value self.old host.old)) (event_view event.now)).action) }
+        ensures ok { let before = frame T.state H.value self.old host.old in
+            let after = frame T.state H.value self.new host.new in
+            OnOk result (after ≡ answered_frame H.rules (event_view event.now) before) }
+        ensures action { let before = frame T.state H.value self.old host.old in
+            IfOk result (λ action. option_map action_view action ≡ (resolved H.rules (progress_of before) (event_view event.now)).action) }
         ensures err { OnErr result (frame T.state H.value self.new host.new ≡ frame T.state H.value self.old host.old) }
     {
         self.session.resolve(host, event)
@@ -238,8 +226,12 @@ impl<'term, T: Terminal> LineEditor<'term, T> {
     #[tactic(auto, using(crate::proofs::FeedingLemmas::advances_if, crate::proofs::FeedingLemmas::stays_if))]
     fn advance<H: LineEditorHost>(&mut self, host: &mut H, event: &InputEvent) -> Result<(), Error>
         ensures same_reference { self.new.terminal.ghost_name ≡ self.old.terminal.ghost_name }
-        ensures ok { OnOk result (Advances H.rules (event_view event.now) (frame T.state H.value self.old host.old) (frame T.state H.value self.new host.new)) }
-        ensures err { IfErr result (FailsToAdvance H.rules (event_view event.now) (frame T.state H.value self.old host.old) (frame T.state H.value self.new host.new)) }
+        ensures ok { let before = frame T.state H.value self.old host.old in
+            let after = frame T.state H.value self.new host.new in
+            OnOk result (Advances H.rules (event_view event.now) before after) }
+        ensures err { let before = frame T.state H.value self.old host.old in
+            let after = frame T.state H.value self.new host.new in
+            IfErr result (FailsToAdvance H.rules (event_view event.now) before after) }
     {
         self.handle(host, event)?;
         self.paint(host)
@@ -251,12 +243,14 @@ impl<'term, T: Terminal> LineEditor<'term, T> {
         ensures ok { IfOk result (λ more. MatchBool more
             (Continues H.rules (frame T.state H.value self.old host.old) (frame T.state H.value self.new host.new))
             (IsEnded H.rules (frame T.state H.value self.old host.old) (frame T.state H.value self.new host.new))) }
-        ensures err { IfErr result (IsRefusedOn H.rules (T.state self.old.terminal.now).events (frame T.state H.value self.old host.old) (frame T.state H.value self.new host.new)) }
+        ensures err { let before = frame T.state H.value self.old host.old in
+            let after = frame T.state H.value self.new host.new in
+            IfErr result (IsRefusedOn H.rules (T.state self.old.terminal.now).events before after) }
     {
         if self.session.is_over() {
             return Ok(false);
         }
-        match self.poll(host)? {
+        match self.terminal.poll_input()? {
             Some(event) => {
                 self.advance(host, &event)?;
                 Ok(true)
@@ -269,8 +263,12 @@ impl<'term, T: Terminal> LineEditor<'term, T> {
     #[tactic(auto, using(crate::proofs::TurnLemmas::ended_later, crate::proofs::TurnLemmas::not_copied_if))]
     fn run_to_end<H: LineEditorHost>(&mut self, host: &mut H) -> Result<Option<String>, Error>
         ensures same_reference { self.new.terminal.ghost_name ≡ self.old.terminal.ghost_name }
-        ensures ok { IfOk result (λ it. IsAnsweredOn H.rules (frame T.state H.value self.old host.old) (frame T.state H.value self.new host.new) (outcome_of (Ok it))) }
-        ensures err { IfErr result (IsRefusedOn H.rules (T.state self.old.terminal.now).events (frame T.state H.value self.old host.old) (frame T.state H.value self.new host.new)) }
+        ensures ok { let before = frame T.state H.value self.old host.old in
+            let after = frame T.state H.value self.new host.new in
+            IfOk result (λ it. IsAnsweredOn H.rules before after (outcome_of (Ok it))) }
+        ensures err { let before = frame T.state H.value self.old host.old in
+            let after = frame T.state H.value self.new host.new in
+            IfErr result (IsRefusedOn H.rules (T.state self.old.terminal.now).events before after) }
     {
         while self.turn(host)? {}
         self.answered(host)
@@ -287,39 +285,21 @@ impl<'term, T: Terminal> LineEditor<'term, T> {
         Ok(self.session.answer()?)
     }
 
-    /// Flushes what was rendered.
-    fn flush<H: LineEditorHost>(&mut self, host: &H) -> Result<(), Error>
-        ensures same_reference { self.new.terminal.ghost_name ≡ self.old.terminal.ghost_name }
-        ensures same { Keeps (frame T.state H.value self.old host.now) (frame T.state H.value self.new host.now) }
-        ensures ok { OnOk result (Flushes (T.state self.old.terminal.now) (T.state self.new.terminal.now)) }
-        ensures err { IfErr result (CallFails (frame T.state H.value self.old host.now) (frame T.state H.value self.new host.now)) }
-    {
-        self.terminal.flush()?;
-        Ok(())
-    }
-
-    /// Renders the closing batch of a painting.
-    fn show_closing<H: LineEditorHost>(&mut self, host: &H, painted: Mark) -> Result<(), Error>
-        ensures same_reference { self.new.terminal.ghost_name ≡ self.old.terminal.ghost_name }
-        ensures ok { OnOk result (ShowsBatch (closing painted) (frame T.state H.value self.old host.now) (frame T.state H.value self.new host.now)) }
-        ensures err { IfErr result (FailsToShow (closing painted) (frame T.state H.value self.old host.now) (frame T.state H.value self.new host.now)) }
-    {
-        self.show(host, &painted.closing_batch())
-    }
-
     /// Ends the run: the mode is Inactive, nothing counts as painted, and the closing batch is rendered and flushed.
     fn close<H: LineEditorHost>(&mut self, host: &H) -> Result<(), Error>
         ensures same_reference { self.new.terminal.ghost_name ≡ self.old.terminal.ghost_name }
-        ensures ok { OnOk result (Closes (frame T.state H.value self.old host.now) (frame T.state H.value self.new host.now)) }
-        ensures err { IfErr result (FailsToClose (frame T.state H.value self.old host.now) (frame T.state H.value self.new host.now)) }
+        ensures ok { let before = frame T.state H.value self.old host.now in
+            let after = frame T.state H.value self.new host.now in
+            OnOk result (Closes before after) }
+        ensures err { let before = frame T.state H.value self.old host.now in
+            let after = frame T.state H.value self.new host.now in
+            IfErr result (FailsToClose before after) }
     {
         match self.session.end() {
-            None => self.flush(host),
-            Some(painted) => {
-                self.show_closing(host, painted)?;
-                self.flush(host)
-            }
+            None => {}
+            Some(painted) => self.terminal.render(&painted.closing_batch())?,
         }
+        Ok(self.terminal.flush()?)
     }
 
     /// Empties the line, or fills it with the initial value.
@@ -329,9 +309,13 @@ impl<'term, T: Terminal> LineEditor<'term, T> {
         initial: Option<&str>,
     ) -> Result<(), AllocError>
         ensures same_reference { self.new.terminal.ghost_name ≡ self.old.terminal.ghost_name }
-        ensures ok { OnOk result (frame T.state H.value self.new host.now ≡ start (option_map (λ s. s.now) initial.entry) (frame T.state H.value self.old host.now)) }
-        ensures err { OnErr result (frame T.state H.value self.new host.now ≡ start None (frame T.state H.value self.old host.now)) }
-        ensures initial { OnErr result (IsSome (option_map (λ s. s.now) initial.entry)) }
+        ensures ok { let before = frame T.state H.value self.old host.now in
+            let after = frame T.state H.value self.new host.now in
+            OnOk result (after ≡ start (initial_text initial.entry) before) }
+        ensures err { let before = frame T.state H.value self.old host.now in
+            let after = frame T.state H.value self.new host.now in
+            OnErr result (after ≡ start None before) }
+        ensures initial { OnErr result (IsSome (initial_text initial.entry)) }
     {
         self.session.begin();
         match initial {
@@ -348,8 +332,12 @@ impl<'term, T: Terminal> LineEditor<'term, T> {
         initial: Option<&str>,
     ) -> Result<(), Error>
         ensures same_reference { self.new.terminal.ghost_name ≡ self.old.terminal.ghost_name }
-        ensures ok { OnOk result (Begins H.rules (start (option_map (λ s. s.now) initial.entry) (frame T.state H.value self.old host.now)) (frame T.state H.value self.new host.now)) }
-        ensures err { IfErr result (IsNotBegun H.rules (option_map (λ s. s.now) initial.entry) (frame T.state H.value self.old host.now) (frame T.state H.value self.new host.now)) }
+        ensures ok { let before = frame T.state H.value self.old host.now in
+            let after = frame T.state H.value self.new host.now in
+            OnOk result (Begins H.rules (start (initial_text initial.entry) before) after) }
+        ensures err { let before = frame T.state H.value self.old host.now in
+            let after = frame T.state H.value self.new host.now in
+            IfErr result (IsNotBegun H.rules (initial_text initial.entry) before after) }
     {
         match self.begin(host, initial) {
             Ok(()) => self.paint(host),
@@ -365,8 +353,12 @@ impl<'term, T: Terminal> LineEditor<'term, T> {
         initial: Option<&str>,
     ) -> Result<Option<String>, Error>
         ensures same_reference { self.new.terminal.ghost_name ≡ self.old.terminal.ghost_name }
-        ensures ok { IfOk result (λ it. IsAnswered H.rules (start (option_map (λ s. s.now) initial.entry) (frame T.state H.value self.old host.old)) (frame T.state H.value self.new host.new) (outcome_of (Ok it))) }
-        ensures err { IfErr result (IsTurnedDown H.rules (option_map (λ s. s.now) initial.entry) (frame T.state H.value self.old host.old) (frame T.state H.value self.new host.new)) }
+        ensures ok { let before = frame T.state H.value self.old host.old in
+            let after = frame T.state H.value self.new host.new in
+            IfOk result (λ it. IsAnswered H.rules (start (initial_text initial.entry) before) after (outcome_of (Ok it))) }
+        ensures err { let before = frame T.state H.value self.old host.old in
+            let after = frame T.state H.value self.new host.new in
+            IfErr result (IsTurnedDown H.rules (initial_text initial.entry) before after) }
     {
         self.start_line(host, initial)?;
         self.run_to_end(host)
@@ -375,7 +367,9 @@ impl<'term, T: Terminal> LineEditor<'term, T> {
     /// Closes after a refusal, and answers it, or else why the closing is refused.
     fn give_up<H: LineEditorHost>(&mut self, host: &H, refusal: Error) -> Error
         ensures same_reference { self.new.terminal.ghost_name ≡ self.old.terminal.ghost_name }
-        ensures gives_up { GivesUp refusal (frame T.state H.value self.old host.now) (frame T.state H.value self.new host.now) result }
+        ensures gives_up { let before = frame T.state H.value self.old host.now in
+            let after = frame T.state H.value self.new host.now in
+            GivesUp refusal before after result }
     {
         match self.close(host) {
             Ok(()) => refusal,
@@ -391,8 +385,12 @@ impl<'term, T: Terminal> LineEditor<'term, T> {
         initial: Option<&str>,
     ) -> Result<Option<String>, Error>
         ensures same_reference { self.new.terminal.ghost_name ≡ self.old.terminal.ghost_name }
-        ensures ok { IfOk result (λ it. Reads (run_of H.rules (start (option_map (λ s. s.now) initial.entry) (frame T.state H.value self.old host.old))) (frame T.state H.value self.old host.old) (frame T.state H.value self.new host.new) (outcome_of (Ok it))) }
-        ensures err { IfErr result (FailsToRead H.rules (option_map (λ s. s.now) initial.entry) (frame T.state H.value self.old host.old) (frame T.state H.value self.new host.new)) }
+        ensures ok { let before = frame T.state H.value self.old host.old in
+            let after = frame T.state H.value self.new host.new in
+            IfOk result (λ it. Reads (run_of H.rules (start (initial_text initial.entry) before)) before after (outcome_of (Ok it))) }
+        ensures err { let before = frame T.state H.value self.old host.old in
+            let after = frame T.state H.value self.new host.new in
+            IfErr result (FailsToRead H.rules (initial_text initial.entry) before after) }
     {
         match self.read_open(host, initial) {
             Ok(line) => {
@@ -416,20 +414,36 @@ impl<'term, T: Terminal> LineEditor<'term, T> {
         initial_value: Option<&str>,
     ) -> Result<Option<String>, Error>
         ensures same_reference { self.new.terminal.ghost_name ≡ self.old.terminal.ghost_name }
-        ensures recursive { self.old.session.state.mode ≢ Inactive → (result ≡ Err Error.Recursive) × (frame T.state H.value self.new host.new ≡ frame T.state H.value self.old host.old) }
+        ensures recursive { let before = frame T.state H.value self.old host.old in
+            let after = frame T.state H.value self.new host.new in
+            before.state.mode ≢ Inactive → (result ≡ Err Error.Recursive) × (after ≡ before) }
         ensures untouched { self.old.session.state.mode ≢ Inactive → (self.new.terminal.now ≡ self.old.terminal.now) × (host.new ≡ host.old) }
-        ensures ok { self.old.session.state.mode ≡ Inactive → IfOk result (λ it. Reads (run_of H.rules (start (option_map (λ s. s.now) initial_value.entry) (frame T.state H.value self.old host.old))) (frame T.state H.value self.old host.old) (frame T.state H.value self.new host.new) (outcome_of (Ok it))) }
-        ensures err { self.old.session.state.mode ≡ Inactive → IfErr result (FailsToRead H.rules (option_map (λ s. s.now) initial_value.entry) (frame T.state H.value self.old host.old) (frame T.state H.value self.new host.new)) }
-        ensures first_painting { FirstIsFresh H.rules (start (option_map (λ s. s.now) initial_value.entry) (frame T.state H.value self.old host.old)) }
-        ensures later_painting { LaterIsFresh H.rules (start (option_map (λ s. s.now) initial_value.entry) (frame T.state H.value self.old host.old)) }
-        ensures cleared_painting { ClearedIsFresh H.rules (start (option_map (λ s. s.now) initial_value.entry) (frame T.state H.value self.old host.old)) }
-        ensures closing_batch { ClosesBelow H.rules (start (option_map (λ s. s.now) initial_value.entry) (frame T.state H.value self.old host.old)) }
-        ensures scrolled_painting { ScrolledIsFresh H.rules (start (option_map (λ s. s.now) initial_value.entry) (frame T.state H.value self.old host.old)) }
-        ensures scrolled_closing { ScrolledCloses H.rules (start (option_map (λ s. s.now) initial_value.entry) (frame T.state H.value self.old host.old)) }
-        ensures healed_painting { HealedIsFresh H.rules (start (option_map (λ s. s.now) initial_value.entry) (frame T.state H.value self.old host.old)) }
-        ensures healed_closing { HealedCloses H.rules (start (option_map (λ s. s.now) initial_value.entry) (frame T.state H.value self.old host.old)) }
-        ensures cut_painting { CutIsFresh H.rules (start (option_map (λ s. s.now) initial_value.entry) (frame T.state H.value self.old host.old)) }
-        ensures cut_closing { CutCloses H.rules (start (option_map (λ s. s.now) initial_value.entry) (frame T.state H.value self.old host.old)) }
+        ensures ok { let before = frame T.state H.value self.old host.old in
+            let after = frame T.state H.value self.new host.new in
+            before.state.mode ≡ Inactive → IfOk result (λ it. Reads (run_of H.rules (start (initial_text initial_value.entry) before)) before after (outcome_of (Ok it))) }
+        ensures err { let before = frame T.state H.value self.old host.old in
+            let after = frame T.state H.value self.new host.new in
+            before.state.mode ≡ Inactive → IfErr result (FailsToRead H.rules (initial_text initial_value.entry) before after) }
+        ensures first_painting { let before = frame T.state H.value self.old host.old in
+            FirstIsFresh H.rules (start (initial_text initial_value.entry) before) }
+        ensures later_painting { let before = frame T.state H.value self.old host.old in
+            LaterIsFresh H.rules (start (initial_text initial_value.entry) before) }
+        ensures cleared_painting { let before = frame T.state H.value self.old host.old in
+            ClearedIsFresh H.rules (start (initial_text initial_value.entry) before) }
+        ensures closing_batch { let before = frame T.state H.value self.old host.old in
+            ClosesBelow H.rules (start (initial_text initial_value.entry) before) }
+        ensures scrolled_painting { let before = frame T.state H.value self.old host.old in
+            ScrolledIsFresh H.rules (start (initial_text initial_value.entry) before) }
+        ensures scrolled_closing { let before = frame T.state H.value self.old host.old in
+            ScrolledCloses H.rules (start (initial_text initial_value.entry) before) }
+        ensures healed_painting { let before = frame T.state H.value self.old host.old in
+            HealedIsFresh H.rules (start (initial_text initial_value.entry) before) }
+        ensures healed_closing { let before = frame T.state H.value self.old host.old in
+            HealedCloses H.rules (start (initial_text initial_value.entry) before) }
+        ensures cut_painting { let before = frame T.state H.value self.old host.old in
+            CutIsFresh H.rules (start (initial_text initial_value.entry) before) }
+        ensures cut_closing { let before = frame T.state H.value self.old host.old in
+            CutCloses H.rules (start (initial_text initial_value.entry) before) }
         ensures failures { FailuresTell result (T.state self.old.terminal.now).failures (T.state self.new.terminal.now).failures }
     {
         if !self.session.is_inactive() {
@@ -441,10 +455,16 @@ impl<'term, T: Terminal> LineEditor<'term, T> {
     /// Reads a line that begins empty, as `read_line_with_optional_initial_value` does.
     pub fn read_line<H: LineEditorHost>(&mut self, host: &mut H) -> Result<Option<String>, Error>
         ensures same_reference { self.new.terminal.ghost_name ≡ self.old.terminal.ghost_name }
-        ensures recursive { self.old.session.state.mode ≢ Inactive → (result ≡ Err Error.Recursive) × (frame T.state H.value self.new host.new ≡ frame T.state H.value self.old host.old) }
+        ensures recursive { let before = frame T.state H.value self.old host.old in
+            let after = frame T.state H.value self.new host.new in
+            before.state.mode ≢ Inactive → (result ≡ Err Error.Recursive) × (after ≡ before) }
         ensures untouched { self.old.session.state.mode ≢ Inactive → (self.new.terminal.now ≡ self.old.terminal.now) × (host.new ≡ host.old) }
-        ensures ok { self.old.session.state.mode ≡ Inactive → IfOk result (λ it. Reads (run_of H.rules (start None (frame T.state H.value self.old host.old))) (frame T.state H.value self.old host.old) (frame T.state H.value self.new host.new) (outcome_of (Ok it))) }
-        ensures err { self.old.session.state.mode ≡ Inactive → IfErr result (FailsToRead H.rules None (frame T.state H.value self.old host.old) (frame T.state H.value self.new host.new)) }
+        ensures ok { let before = frame T.state H.value self.old host.old in
+            let after = frame T.state H.value self.new host.new in
+            before.state.mode ≡ Inactive → IfOk result (λ it. Reads (run_of H.rules (start None before)) before after (outcome_of (Ok it))) }
+        ensures err { let before = frame T.state H.value self.old host.old in
+            let after = frame T.state H.value self.new host.new in
+            before.state.mode ≡ Inactive → IfErr result (FailsToRead H.rules None before after) }
         ensures first_painting { FirstIsFresh H.rules (start None (frame T.state H.value self.old host.old)) }
         ensures later_painting { LaterIsFresh H.rules (start None (frame T.state H.value self.old host.old)) }
         ensures cleared_painting { ClearedIsFresh H.rules (start None (frame T.state H.value self.old host.old)) }

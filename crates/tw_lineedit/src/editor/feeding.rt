@@ -2,19 +2,19 @@
 
 ghost use Rattle.std.specs.Prelude.{◌≡◌, ◌≢◌, Ok, Err, None, IfOk, IfErr, OnOk, option_map, List, true, false};
 ghost use Rattle.std.specs.Borrow.{sem};
+ghost use Rattle.tw_lineedit.specs.Frame.{frame};
 ghost use Rattle.tw_lineedit.specs.Lent.{LendsTerminal};
 ghost use Rattle.tw_input.specs.EventView.{event_view, EventView};
 ghost use Rattle.tw_terminal.specs.TerminalState.{size_after};
 ghost use Rattle.tw_painter.specs.EditState.{Inactive};
 ghost use Rattle.tw_session.specs.Outcomes.{outcome_of, answer_at, is_open};
 ghost use Rattle.tw_lineedit.specs.Run.{ending};
-ghost use Rattle.tw_lineedit.specs.Frame.{frame};
 ghost use Rattle.tw_lineedit.specs.Feeding.{as_if, status_if, Begins, FailsToBegin, IsFed, FailsToFeed, FailsToFinish};
 ghost use Rattle.tw_lineedit.specs.ScreenRuns.{FirstIsFresh, LaterIsFresh, ClearedIsFresh, ClosesBelow};
 ghost use Rattle.tw_lineedit.specs.ScrollingRuns.{ScrolledIsFresh, ScrolledCloses};
 ghost use Rattle.tw_lineedit.specs.CutRuns.{CutCloses, CutIsFresh};
 ghost use Rattle.tw_lineedit.specs.HealedRuns.{HealedIsFresh, HealedCloses};
-ghost use Rattle.tw_lineedit.specs.Reading.{start, Reads, FailuresTell};
+ghost use Rattle.tw_lineedit.specs.Reading.{initial_text, start, Reads, FailuresTell};
 
 use crate::editor::LineEditor;
 use tw_host::LineEditorHost;
@@ -44,21 +44,37 @@ impl<'term, T: Terminal> LineEditor<'term, T> {
         initial_value: Option<&str>,
     ) -> Result<(), Error>
         ensures same_reference { self.new.terminal.ghost_name ≡ self.old.terminal.ghost_name }
-        ensures recursive { self.old.session.state.mode ≢ Inactive → (result ≡ Err Error.Recursive) × (frame T.state H.value self.new host.now ≡ frame T.state H.value self.old host.now) }
+        ensures recursive { let before = frame T.state H.value self.old host.now in
+            let after = frame T.state H.value self.new host.now in
+            before.state.mode ≢ Inactive → (result ≡ Err Error.Recursive) × (after ≡ before) }
         ensures untouched { self.old.session.state.mode ≢ Inactive → self.new.terminal.now ≡ self.old.terminal.now }
-        ensures ok { self.old.session.state.mode ≡ Inactive → OnOk result (Begins H.rules (start (option_map (λ s. s.now) initial_value.entry) (frame T.state H.value self.old host.now)) (frame T.state H.value self.new host.now)) }
+        ensures ok { let before = frame T.state H.value self.old host.now in
+            let after = frame T.state H.value self.new host.now in
+            before.state.mode ≡ Inactive → OnOk result (Begins H.rules (start (initial_text initial_value.entry) before) after) }
         ensures open { self.old.session.state.mode ≡ Inactive → OnOk result (is_open self.new.session.state.mode ≡ true) }
-        ensures err { self.old.session.state.mode ≡ Inactive → IfErr result (FailsToBegin H.rules (option_map (λ s. s.now) initial_value.entry) (frame T.state H.value self.old host.now) (frame T.state H.value self.new host.now)) }
-        ensures first_painting { (events : List EventView) → FirstIsFresh H.rules (as_if events (start (option_map (λ s. s.now) initial_value.entry) (frame T.state H.value self.old host.now))) }
-        ensures later_painting { (events : List EventView) → LaterIsFresh H.rules (as_if events (start (option_map (λ s. s.now) initial_value.entry) (frame T.state H.value self.old host.now))) }
-        ensures cleared_painting { (events : List EventView) → ClearedIsFresh H.rules (as_if events (start (option_map (λ s. s.now) initial_value.entry) (frame T.state H.value self.old host.now))) }
-        ensures closing_batch { (events : List EventView) → ClosesBelow H.rules (as_if events (start (option_map (λ s. s.now) initial_value.entry) (frame T.state H.value self.old host.now))) }
-        ensures scrolled_painting { (events : List EventView) → ScrolledIsFresh H.rules (as_if events (start (option_map (λ s. s.now) initial_value.entry) (frame T.state H.value self.old host.now))) }
-        ensures scrolled_closing { (events : List EventView) → ScrolledCloses H.rules (as_if events (start (option_map (λ s. s.now) initial_value.entry) (frame T.state H.value self.old host.now))) }
-        ensures healed_painting { (events : List EventView) → HealedIsFresh H.rules (as_if events (start (option_map (λ s. s.now) initial_value.entry) (frame T.state H.value self.old host.now))) }
-        ensures healed_closing { (events : List EventView) → HealedCloses H.rules (as_if events (start (option_map (λ s. s.now) initial_value.entry) (frame T.state H.value self.old host.now))) }
-        ensures cut_painting { (events : List EventView) → CutIsFresh H.rules (as_if events (start (option_map (λ s. s.now) initial_value.entry) (frame T.state H.value self.old host.now))) }
-        ensures cut_closing { (events : List EventView) → CutCloses H.rules (as_if events (start (option_map (λ s. s.now) initial_value.entry) (frame T.state H.value self.old host.now))) }
+        ensures err { let before = frame T.state H.value self.old host.now in
+            let after = frame T.state H.value self.new host.now in
+            before.state.mode ≡ Inactive → IfErr result (FailsToBegin H.rules (initial_text initial_value.entry) before after) }
+        ensures first_painting { let before = frame T.state H.value self.old host.now in
+            (events : List EventView) → FirstIsFresh H.rules (as_if events (start (initial_text initial_value.entry) before)) }
+        ensures later_painting { let before = frame T.state H.value self.old host.now in
+            (events : List EventView) → LaterIsFresh H.rules (as_if events (start (initial_text initial_value.entry) before)) }
+        ensures cleared_painting { let before = frame T.state H.value self.old host.now in
+            (events : List EventView) → ClearedIsFresh H.rules (as_if events (start (initial_text initial_value.entry) before)) }
+        ensures closing_batch { let before = frame T.state H.value self.old host.now in
+            (events : List EventView) → ClosesBelow H.rules (as_if events (start (initial_text initial_value.entry) before)) }
+        ensures scrolled_painting { let before = frame T.state H.value self.old host.now in
+            (events : List EventView) → ScrolledIsFresh H.rules (as_if events (start (initial_text initial_value.entry) before)) }
+        ensures scrolled_closing { let before = frame T.state H.value self.old host.now in
+            (events : List EventView) → ScrolledCloses H.rules (as_if events (start (initial_text initial_value.entry) before)) }
+        ensures healed_painting { let before = frame T.state H.value self.old host.now in
+            (events : List EventView) → HealedIsFresh H.rules (as_if events (start (initial_text initial_value.entry) before)) }
+        ensures healed_closing { let before = frame T.state H.value self.old host.now in
+            (events : List EventView) → HealedCloses H.rules (as_if events (start (initial_text initial_value.entry) before)) }
+        ensures cut_painting { let before = frame T.state H.value self.old host.now in
+            (events : List EventView) → CutIsFresh H.rules (as_if events (start (initial_text initial_value.entry) before)) }
+        ensures cut_closing { let before = frame T.state H.value self.old host.now in
+            (events : List EventView) → CutCloses H.rules (as_if events (start (initial_text initial_value.entry) before)) }
         ensures failures { FailuresTell result (T.state self.old.terminal.now).failures (T.state self.new.terminal.now).failures }
     {
         if self.session.is_inactive() {
@@ -81,11 +97,17 @@ impl<'term, T: Terminal> LineEditor<'term, T> {
     ) -> Result<LineStatus, Error>
         requires { size_after (event_view event.now) (T.state self.old.terminal.now).size ≡ (T.state self.old.terminal.now).size }
         ensures same_reference { self.new.terminal.ghost_name ≡ self.old.terminal.ghost_name }
-        ensures ended { is_open self.old.session.state.mode ≡ false → (result ≡ Ok LineStatus.Ended) × (frame T.state H.value self.new host.new ≡ frame T.state H.value self.old host.old) }
+        ensures ended { let before = frame T.state H.value self.old host.old in
+            let after = frame T.state H.value self.new host.new in
+            is_open before.state.mode ≡ false → (result ≡ Ok LineStatus.Ended) × (after ≡ before) }
         ensures untouched { is_open self.old.session.state.mode ≡ false → (self.new.terminal.now ≡ self.old.terminal.now) × (host.new ≡ host.old) }
-        ensures ok { is_open self.old.session.state.mode ≡ true → OnOk result (IsFed H.rules (event_view event.now) (frame T.state H.value self.old host.old) (frame T.state H.value self.new host.new)) }
+        ensures ok { let before = frame T.state H.value self.old host.old in
+            let after = frame T.state H.value self.new host.new in
+            is_open before.state.mode ≡ true → OnOk result (IsFed H.rules (event_view event.now) before after) }
         ensures status { IfOk result (λ status. status ≡ status_if (is_open self.new.session.state.mode)) }
-        ensures err { IfErr result (FailsToFeed H.rules (event_view event.now) (frame T.state H.value self.old host.old) (frame T.state H.value self.new host.new)) }
+        ensures err { let before = frame T.state H.value self.old host.old in
+            let after = frame T.state H.value self.new host.new in
+            IfErr result (FailsToFeed H.rules (event_view event.now) before after) }
         ensures failures { FailuresTell result (T.state self.old.terminal.now).failures (T.state self.new.terminal.now).failures }
     {
         if self.session.is_open() {
@@ -99,10 +121,16 @@ impl<'term, T: Terminal> LineEditor<'term, T> {
     /// whether it is refused or not. Where no line was begun nothing is done, and the answer is none.
     pub fn finish_line<H: LineEditorHost>(&mut self, host: &H) -> Result<Option<String>, Error>
         ensures same_reference { self.new.terminal.ghost_name ≡ self.old.terminal.ghost_name }
-        ensures inactive { self.old.session.state.mode ≡ Inactive → (result ≡ Ok None) × (frame T.state H.value self.new host.now ≡ frame T.state H.value self.old host.now) }
+        ensures inactive { let before = frame T.state H.value self.old host.now in
+            let after = frame T.state H.value self.new host.now in
+            before.state.mode ≡ Inactive → (result ≡ Ok None) × (after ≡ before) }
         ensures untouched { self.old.session.state.mode ≡ Inactive → self.new.terminal.now ≡ self.old.terminal.now }
-        ensures ok { self.old.session.state.mode ≢ Inactive → IfOk result (λ it. Reads (ending (answer_at self.old.session.state) (frame T.state H.value self.old host.now)) (frame T.state H.value self.old host.now) (frame T.state H.value self.new host.now) (outcome_of (Ok it))) }
-        ensures err { IfErr result (FailsToFinish (frame T.state H.value self.old host.now) (frame T.state H.value self.new host.now)) }
+        ensures ok { let before = frame T.state H.value self.old host.now in
+            let after = frame T.state H.value self.new host.now in
+            before.state.mode ≢ Inactive → IfOk result (λ it. Reads (ending (answer_at self.old.session.state) before) before after (outcome_of (Ok it))) }
+        ensures err { let before = frame T.state H.value self.old host.now in
+            let after = frame T.state H.value self.new host.now in
+            IfErr result (FailsToFinish before after) }
         ensures failures { FailuresTell result (T.state self.old.terminal.now).failures (T.state self.new.terminal.now).failures }
     {
         if self.session.is_inactive() {
@@ -115,8 +143,12 @@ impl<'term, T: Terminal> LineEditor<'term, T> {
     #[tactic(auto, using(crate::proofs::ClosingLemmas::finish_closed, crate::proofs::ClosingLemmas::finish_given_up))]
     fn end_line<H: LineEditorHost>(&mut self, host: &H) -> Result<Option<String>, Error>
         ensures same_reference { self.new.terminal.ghost_name ≡ self.old.terminal.ghost_name }
-        ensures ok { IfOk result (λ it. Reads (ending (answer_at self.old.session.state) (frame T.state H.value self.old host.now)) (frame T.state H.value self.old host.now) (frame T.state H.value self.new host.now) (outcome_of (Ok it))) }
-        ensures err { IfErr result (FailsToFinish (frame T.state H.value self.old host.now) (frame T.state H.value self.new host.now)) }
+        ensures ok { let before = frame T.state H.value self.old host.now in
+            let after = frame T.state H.value self.new host.now in
+            IfOk result (λ it. Reads (ending (answer_at self.old.session.state) before) before after (outcome_of (Ok it))) }
+        ensures err { let before = frame T.state H.value self.old host.now in
+            let after = frame T.state H.value self.new host.now in
+            IfErr result (FailsToFinish before after) }
     {
         match self.answered(host) {
             Ok(line) => {
@@ -151,8 +183,12 @@ impl<'term, T: Terminal> LineEditor<'term, T> {
     #[tactic(auto, using(crate::proofs::ClosingLemmas::begun_given_up))]
     fn open<H: LineEditorHost>(&mut self, host: &H, initial: Option<&str>) -> Result<(), Error>
         ensures same_reference { self.new.terminal.ghost_name ≡ self.old.terminal.ghost_name }
-        ensures ok { OnOk result (Begins H.rules (start (option_map (λ s. s.now) initial.entry) (frame T.state H.value self.old host.now)) (frame T.state H.value self.new host.now)) }
-        ensures err { IfErr result (FailsToBegin H.rules (option_map (λ s. s.now) initial.entry) (frame T.state H.value self.old host.now) (frame T.state H.value self.new host.now)) }
+        ensures ok { let before = frame T.state H.value self.old host.now in
+            let after = frame T.state H.value self.new host.now in
+            OnOk result (Begins H.rules (start (initial_text initial.entry) before) after) }
+        ensures err { let before = frame T.state H.value self.old host.now in
+            let after = frame T.state H.value self.new host.now in
+            IfErr result (FailsToBegin H.rules (initial_text initial.entry) before after) }
     {
         match self.start_line(host, initial) {
             Ok(()) => Ok(()),
@@ -166,8 +202,12 @@ impl<'term, T: Terminal> LineEditor<'term, T> {
         requires told { size_after (event_view event.now) (T.state self.old.terminal.now).size ≡ (T.state self.old.terminal.now).size }
         requires open { is_open self.old.session.state.mode ≡ true }
         ensures same_reference { self.new.terminal.ghost_name ≡ self.old.terminal.ghost_name }
-        ensures ok { OnOk result (IsFed H.rules (event_view event.now) (frame T.state H.value self.old host.old) (frame T.state H.value self.new host.new)) }
-        ensures err { IfErr result (FailsToFeed H.rules (event_view event.now) (frame T.state H.value self.old host.old) (frame T.state H.value self.new host.new)) }
+        ensures ok { let before = frame T.state H.value self.old host.old in
+            let after = frame T.state H.value self.new host.new in
+            OnOk result (IsFed H.rules (event_view event.now) before after) }
+        ensures err { let before = frame T.state H.value self.old host.old in
+            let after = frame T.state H.value self.new host.new in
+            IfErr result (FailsToFeed H.rules (event_view event.now) before after) }
     {
         match self.advance(host, event) {
             Ok(()) => Ok(()),

@@ -1,9 +1,9 @@
 use Rattle.std.proofs.Common.{refl, ap}
 use Rattle.tw_input.specs.EventView.{event_view}
-use Rattle.tw_lineedit.specs.Frame.{frame}
 use Rattle.tw_device.specs.contracts.terminal.AnsiTerminalTerminal.TheImpl as terminal
 use Rattle.tw_device.proofs.LiveLemmas.{resized_is, comes_if, refused_if}
 use Rattle.tw_device.proofs.reading.feed.Goals as goal
+use Rattle.tw_lineedit.specs.Frame.{frame}
 
 pub returns-clause-ok : goal.returns-clause-ok
 returns-clause-ok g c =

@@ -1,10 +1,10 @@
 use Rattle.std.proofs.Common.{rules, refl}
 use Rattle.std.proofs.lemmas.Result.{err_from_is_err_and}
-use Rattle.tw_lineedit.specs.Frame.{frame}
 use Rattle.tw_device.specs.Live.{fresh}
 use Rattle.tw_device.specs.contracts.terminal.AnsiTerminalTerminal.TheImpl as terminal
 use Rattle.tw_device.proofs.LiveLemmas.{opened_at, unbegun_at, stopped_at, ended_at, closed_at, read_as, cut_as}
 use Rattle.tw_device.proofs.reading.read_line_from.Goals as goal
+use Rattle.tw_lineedit.specs.Frame.{frame}
 
 pub returns-in_err-begin_line-clause-err : goal.returns-in_err-begin_line-clause-err
 returns-in_err-begin_line-clause-err g c =

@@ -1,10 +1,10 @@
 use Rattle.std.proofs.Common.{arith}
 use Rattle.std.proofs.lemmas.Result.{err_from_is_err_and}
 use Rattle.tw_input.specs.EventView.{event_view}
-use Rattle.tw_lineedit.specs.Frame.{frame}
 use Rattle.tw_device.specs.contracts.terminal.AnsiTerminalTerminal.TheImpl as terminal
 use Rattle.tw_device.proofs.LiveLemmas.{fails_by_one}
 use Rattle.tw_device.proofs.reading.take_events.Goals as goal
+use Rattle.tw_lineedit.specs.Frame.{frame}
 
 pub returns-in_err-feed-in-Ok-Some-clause-err : goal.returns-in_err-feed-in-Ok-Some-clause-err
 returns-in_err-feed-in-Ok-Some-clause-err g c =

@@ -1,8 +1,8 @@
 use Rattle.std.proofs.Common.{ℕ, List, option_map, Bor}
 use Rattle.std.proofs.lemmas.Result.{err_from_is_err_and}
-use Rattle.tw_lineedit.specs.Frame.{frame}
 use Rattle.tw_lineedit.proofs.ClosingLemmas.{answered_unclosed, call_given_up}
 use Rattle.tw_lineedit.proofs.editor.LineEditor+T.read.Goals as goal
+use Rattle.tw_lineedit.specs.Frame.{frame}
 
 pub returns-in_err-close-in-Ok-clause-err : goal.returns-in_err-close-in-Ok-clause-err
 returns-in_err-close-in-Ok-clause-err g c =

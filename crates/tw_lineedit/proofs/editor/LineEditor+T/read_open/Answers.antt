@@ -1,9 +1,9 @@
 use Rattle.std.proofs.Common.{ℕ, List, option_map, Bor}
 use Rattle.std.proofs.lemmas.Result.{IfErr-weaker, err_from_is_err_and}
-use Rattle.tw_lineedit.specs.Frame.{frame}
 use Rattle.tw_lineedit.proofs.FeedingLemmas.{turned_down}
 use Rattle.tw_lineedit.proofs.TurnLemmas.{refused_begun}
 use Rattle.tw_lineedit.proofs.editor.LineEditor+T.read_open.Goals as goal
+use Rattle.tw_lineedit.specs.Frame.{frame}
 
 pub returns-in_err-start_line-clause-err : goal.returns-in_err-start_line-clause-err
 returns-in_err-start_line-clause-err g c =

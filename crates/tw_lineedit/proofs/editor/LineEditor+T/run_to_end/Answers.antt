@@ -1,7 +1,7 @@
 use Rattle.std.proofs.lemmas.Result.{err_from_is_err_and}
-use Rattle.tw_lineedit.specs.Frame.{frame}
 use Rattle.tw_lineedit.proofs.TurnLemmas.{turned_down_later, not_copied_if, ended_later}
 use Rattle.tw_lineedit.proofs.editor.LineEditor+T.run_to_end.Goals as goal
+use Rattle.tw_lineedit.specs.Frame.{frame}
 
 pub returns-in_err-turn-clause-err : goal.returns-in_err-turn-clause-err
 returns-in_err-turn-clause-err g c =

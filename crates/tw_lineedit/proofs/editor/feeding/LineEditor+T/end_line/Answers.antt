@@ -1,7 +1,7 @@
 use Rattle.std.proofs.lemmas.Result.{err_from_is_err_and}
-use Rattle.tw_lineedit.specs.Frame.{frame}
 use Rattle.tw_lineedit.proofs.ClosingLemmas.{finish_unclosed, finish_given_up}
 use Rattle.tw_lineedit.proofs.editor.feeding.LineEditor+T.end_line.Goals as goal
+use Rattle.tw_lineedit.specs.Frame.{frame}
 
 pub returns-in_err-close-in-Ok-clause-err : goal.returns-in_err-close-in-Ok-clause-err
 returns-in_err-close-in-Ok-clause-err g c =

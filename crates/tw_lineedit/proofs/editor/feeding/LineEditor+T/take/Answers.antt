@@ -1,6 +1,6 @@
-use Rattle.tw_lineedit.specs.Frame.{frame}
 use Rattle.tw_lineedit.proofs.FeedingLemmas.{fed, fed_given_up}
 use Rattle.tw_lineedit.proofs.editor.feeding.LineEditor+T.take.Goals as goal
+use Rattle.tw_lineedit.specs.Frame.{frame}
 
 pub returns-in-Ok-clause-ok : goal.returns-in-Ok-clause-ok
 returns-in-Ok-clause-ok g c = fed g.H.LineEditorHost.rules _ _ _ c.requires.told c.requires.open c.in-Ok.ensures.ok
