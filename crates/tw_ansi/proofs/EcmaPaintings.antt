@@ -17,7 +17,7 @@ use Rattle.tw_surface.specs.Places.{Place, place_after_all, origin, move_between
 use Rattle.tw_surface.specs.Scenes.{Scene, Lower}
 use Rattle.tw_surface.specs.Scenes.Lower.{NoLower, Preview, Search}
 use Rattle.tw_surface.specs.Scrolling.{play_on, play_all_on, play_batches_on}
-use Rattle.tw_surface.specs.Shots.{clearing, batches_after, shots, closing_of}
+use Rattle.tw_surface.specs.PaintingBatches.{clearing, batches_after, shots, closing_of}
 use Rattle.tw_ansi.specs.declared.encode.Encoder.{Encoder}
 use Rattle.tw_ansi.specs.Encoding.{Sent, sends, sent, sent_batch, sent_plain, sent_byte, sent_clusters, sent_text, with_attribute}
 use Rattle.tw_ansi.specs.EcmaLaws.{IsColor, IsAttribute}

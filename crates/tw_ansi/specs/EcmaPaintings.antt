@@ -10,7 +10,7 @@ use Rattle.tw_surface.specs.Pictures.{Picture}
 use Rattle.tw_surface.specs.Places.{place_after_all, origin}
 use Rattle.tw_surface.specs.Scenes.{Scene, Lower}
 use Rattle.tw_surface.specs.Scrolling.{play_all_on, play_batches_on}
-use Rattle.tw_surface.specs.Shots.{whole}
+use Rattle.tw_surface.specs.PaintingBatches.{whole}
 use Rattle.tw_surface.specs.Scenes.Lower.{NoLower, Preview, Search}
 use Rattle.tw_ansi.specs.declared.encode.Encoder.{Encoder}
 use Rattle.tw_ansi.specs.Encoding.{Sent, sends, followed, sent_batch}
