@@ -1,5 +1,5 @@
 -- Characters that are a cluster each in a row of them, as their first bytes tell.
-use Rattle.std.proofs.Common.{◌≡◌, ℕ, ◌<◌, ◌≤◌, ◌+◌, ◌/◌, Bool, true, false, not, ◌&&◌, ◌||◌, List, [], ◌∷◌, ◌++◌, map, length, length-append, drop, drop_at, get_or, leb, refl, unwrap_or, sym, ap, subst, ◌∙◌, arith, ⊎_elim}
+use Rattle.std.proofs.Common.{◌≡◌, ℕ, ◌<◌, ◌≤◌, ◌+◌, ◌/◌, Bool, true, false, not, ◌⊎◌, ◌&&◌, ◌||◌, List, [], ◌∷◌, ◌++◌, map, length, length-append, drop, drop_at, get_or, leb, refl, unwrap_or, sym, ap, subst, ◌∙◌, arith, ⊎_elim}
 use Rattle.std.proofs.lemmas.Bool.{cases_lt, and_parts, not-true, leb-true, false≢true}
 use Rattle.std.proofs.lemmas.Bool.Decides.{nat_tests}
 use Rattle.std.proofs.lemmas.Str.{chars-nil, encodes-chars, chars_past_char, length-encode, encode_ascii, IsUtf8-past_char, IsCharBoundary-at_seam}
@@ -25,17 +25,25 @@ use Rattle.tw_surface.proofs.ClusterCuts.{clusters_of, IsFirstCluster-from}
 use Rattle.tw_surface.specs.Characters.{is_printable}
 use Rattle.tw_surface.specs.Clusters.{lone_len, is_joined, starts_apart, IsFirstCluster}
 
--- printable ASCII, Latin of two bytes, or Han
+-- Latin, Greek and Cyrillic of two bytes
+abbrev pub two_bytes : List Range
+two_bytes = (0xC0, 0x2FF) ∷ (0x380, 0x47F) ∷ []
+
+-- Han
+abbrev pub three_bytes : List Range
+three_bytes = (0x4000, 0x9FFF) ∷ []
+
+-- printable ASCII, or one of those
 pub record IsLone (c width : ℕ) : Type 0 where
   pub bytes : length (encode_utf8 c) ≡ width
   pub ascii : width ≡ 1 → is_printable c ≡ true
-  pub latin : width ≡ 2 → (0xC0 ≤ c) × (c ≤ 0x2FF)
-  pub han : width ≡ 3 → (0x4000 ≤ c) × (c ≤ 0x9FFF)
+  pub two : width ≡ 2 → in_ranges two_bytes c ≡ true
+  pub three : width ≡ 3 → in_ranges three_bytes c ≡ true
 
 len_one : (b : ℕ) → b < 128 → 0 < lone_len b → (lone_len b ≡ 1) × (is_printable b ≡ true)
 len_one b low some = grind (arith, nat_tests)
 
-len_two : (b : ℕ) → 192 ≤ b → b < 224 → 0 < lone_len b → (lone_len b ≡ 2) × (195 ≤ b) × (b ≤ 203)
+len_two : (b : ℕ) → 192 ≤ b → b < 224 → 0 < lone_len b → (lone_len b ≡ 2) × (((195 ≤ b) × (b ≤ 203)) ⊎ ((206 ≤ b) × (b ≤ 209)))
 len_two b low high some = grind (arith, nat_tests)
 
 len_three : (b : ℕ) → 224 ≤ b → b < 240 → 0 < lone_len b → (lone_len b ≡ 3) × (228 ≤ b) × (b ≤ 233)
@@ -67,23 +75,28 @@ lone_one c b is some low =
     let width : lone_len b ≡ 1 = ap lone_len (is ∙ first_one c low) ∙ found.0 in
     let bytes : length (encode_utf8 c) ≡ 1 = ap length (encode_ascii c low) in
     subst (IsLone c) (sym width)
-    (record { bytes = bytes; ascii = λ h. found.1; latin = λ h. absurd (omega arith); han = λ h. absurd (omega arith) })
+    (record { bytes = bytes; ascii = λ h. found.1; two = λ h. absurd (omega arith); three = λ h. absurd (omega arith) })
 
 lone_two : (c b : ℕ) → b ≡ get_or (encode_utf8 c) 0 0 → 0 < lone_len b → 128 ≤ c → c < 2048 → IsLone c (lone_len b)
+unfolding in_ranges
 lone_two c b is some low high =
     let lead = is ∙ first_two c low high in
     let found = len_two (192 + c / 64) (omega arith) (omega arith) (subst (λ n. 0 < lone_len n) lead some) in
     let bytes : length (encode_utf8 c) ≡ 2 = length-encode c ∙ grind (arith, nat_tests) in
+    let inside : in_ranges two_bytes c ≡ true =
+    ⊎_elim (λ latin. grind (arith, nat_tests, latin.0, latin.1)) (λ others. grind (arith, nat_tests, others.0, others.1)) found.1 in
     subst (IsLone c) (sym (ap lone_len lead ∙ found.0))
-    (record { bytes = bytes; ascii = λ h. absurd (omega arith); latin = λ h. (omega (arith, found.1), omega (arith, found.2)); han = λ h. absurd (omega arith) })
+    (record { bytes = bytes; ascii = λ h. absurd (omega arith); two = λ h. inside; three = λ h. absurd (omega arith) })
 
 lone_three : (c b : ℕ) → b ≡ get_or (encode_utf8 c) 0 0 → 0 < lone_len b → 2048 ≤ c → c < 65536 → IsLone c (lone_len b)
+unfolding in_ranges
 lone_three c b is some low high =
     let lead = is ∙ first_three c low high in
     let found = len_three (224 + c / 4096) (omega arith) (omega arith) (subst (λ n. 0 < lone_len n) lead some) in
     let bytes : length (encode_utf8 c) ≡ 3 = length-encode c ∙ grind (arith, nat_tests) in
+    let inside : in_ranges three_bytes c ≡ true = grind (arith, nat_tests, found.1, found.2) in
     subst (IsLone c) (sym (ap lone_len lead ∙ found.0))
-    (record { bytes = bytes; ascii = λ h. absurd (omega arith); latin = λ h. absurd (omega arith); han = λ h. (omega (arith, found.1), omega (arith, found.2)) })
+    (record { bytes = bytes; ascii = λ h. absurd (omega arith); two = λ h. absurd (omega arith); three = λ h. inside })
 
 lone_four : (c b : ℕ) → b ≡ get_or (encode_utf8 c) 0 0 → 0 < lone_len b → 65536 ≤ c → IsLone c (lone_len b)
 lone_four c b is some low =
@@ -132,7 +145,7 @@ BeginsLone-from text u some lone = by (chars text) refl
 -- ---- what the tables say of them
 
 abbrev lone_ranges : List Range
-lone_ranges = (0x20, 0x7E) ∷ (0xC0, 0x2FF) ∷ (0x4000, 0x9FFF) ∷ []
+lone_ranges = (0x20, 0x7E) ∷ (0xC0, 0x2FF) ∷ (0x380, 0x47F) ∷ (0x4000, 0x9FFF) ∷ []
 
 is_other : GraphemeClusterBreak → Bool
 is_other Other = true
@@ -161,8 +174,8 @@ in_lone_ranges c width lone some few =
     let low : 32 ≤ c = leb-true _ _ parts.0 in
     let high : c ≤ 126 = leb-true _ _ parts.1 in
     grind (arith, nat_tests))
-    (λ more. ⊎_elim (λ two. let bounds = lone.latin (omega arith) in grind (arith, nat_tests, bounds.0, bounds.1))
-    (λ three. let bounds = lone.han (omega arith) in grind (arith, nat_tests, bounds.0, bounds.1))
+    (λ more. ⊎_elim (λ two. let inside = lone.two (omega arith) in grind (arith, nat_tests, inside))
+    (λ three. let inside = lone.three (omega arith) in grind (arith, nat_tests, inside))
     (cases_lt width 3))
     (cases_lt width 2)
 

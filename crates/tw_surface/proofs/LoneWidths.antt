@@ -4,7 +4,7 @@ use Rattle.std.proofs.lemmas.Bool.{false≢true, and_from, cases_lt, cases_eq}
 use Rattle.std.proofs.lemmas.Bool.Decides.{nat_tests}
 use Rattle.std.proofs.lemmas.List.Sums.{sum_by-cons}
 use Rattle.std.specs.Str.{chars, IsUtf8}
-use Rattle.ucd_table.specs.Rows.{Range, in_ranges}
+use Rattle.ucd_table.specs.Rows.{in_ranges}
 use Rattle.ucd_table.proofs.Computing.{tables}
 use Rattle.ucd_table.proofs.Facts.{Stepped-everywhere}
 use Rattle.ucd_table.proofs.Stepped.{of_ranges, zip_stepped}
@@ -17,13 +17,7 @@ use Rattle.unicode_width.proofs.Rules.{is_simple, is_simple_kind, width_or_zero,
 use Rattle.unicode_segmentation.proofs.BoolLemmas.{or-true}
 use Rattle.tw_surface.specs.Clusters.{lone_len}
 use Rattle.tw_surface.specs.Width.{cluster_width}
-use Rattle.tw_surface.proofs.LoneCharacters.{IsLone, begins, alone_is}
-
-abbrev latin : List Range
-latin = (0xC0, 0x2FF) ∷ []
-
-abbrev han : List Range
-han = (0x4000, 0x9FFF) ∷ []
+use Rattle.tw_surface.proofs.LoneCharacters.{two_bytes, three_bytes, IsLone, begins, alone_is}
 
 is_narrow : Kind → Bool
 is_narrow kinds.Narrow = true
@@ -34,13 +28,13 @@ is_wide : Kind → Bool
 is_wide kinds.Wide = true
 is_wide _ = false
 
-latin_kinds : (c : ℕ) → (not (in_ranges latin c) || is_narrow (kind c)) ≡ true
+narrow_kinds : (c : ℕ) → (not (in_ranges two_bytes c) || is_narrow (kind c)) ≡ true
 unfolding is_narrow tables kind_stepped
-latin_kinds = Stepped-everywhere _ (zip_stepped (λ inside k. not inside || is_narrow k) (in_ranges latin) kind (of_ranges latin refl) kind_stepped) refl
+narrow_kinds = Stepped-everywhere _ (zip_stepped (λ inside k. not inside || is_narrow k) (in_ranges two_bytes) kind (of_ranges two_bytes refl) kind_stepped) refl
 
-han_kinds : (c : ℕ) → (not (in_ranges han c) || is_wide (kind c)) ≡ true
+wide_kinds : (c : ℕ) → (not (in_ranges three_bytes c) || is_wide (kind c)) ≡ true
 unfolding is_wide tables kind_stepped
-han_kinds = Stepped-everywhere _ (zip_stepped (λ inside k. not inside || is_wide k) (in_ranges han) kind (of_ranges han refl) kind_stepped) refl
+wide_kinds = Stepped-everywhere _ (zip_stepped (λ inside k. not inside || is_wide k) (in_ranges three_bytes) kind (of_ranges three_bytes refl) kind_stepped) refl
 
 -- such kinds say the columns, and join nothing
 narrow-is : (c : ℕ) (k : Kind) → is_narrow k ≡ true → (is_simple_kind k ≡ true) × ((of_kind false c k).0 ≡ 1)
@@ -54,13 +48,13 @@ unfolding is_wide
 wide-is c kinds.Wide h = (refl, refl)
 wide-is c _ h = absurd (false≢true h)
 
-in_latin : (c : ℕ) → 0xC0 ≤ c → c ≤ 0x2FF → in_ranges latin c ≡ true
+above : (c : ℕ) → in_ranges two_bytes c ≡ true → 0xA0 < c
 unfolding in_ranges
-in_latin c low high = grind (arith, nat_tests)
+above c h = grind (arith, nat_tests, h)
 
-in_han : (c : ℕ) → 0x4000 ≤ c → c ≤ 0x9FFF → in_ranges han c ≡ true
+far_above : (c : ℕ) → in_ranges three_bytes c ≡ true → 0xA0 < c
 unfolding in_ranges
-in_han c low high = grind (arith, nat_tests)
+far_above c h = grind (arith, nat_tests, h)
 
 -- so its columns are those of the text that it makes
 width_of_one : (c n : ℕ) → 0xA0 < c → is_simple_kind (kind c) ≡ true → (of_kind false c (kind c)).0 ≡ n → str_width false (c ∷ []) ≡ n
@@ -85,21 +79,21 @@ module _ (text : List ℕ) (u : IsUtf8 text) (some : 0 < length text) (whole : l
   pub ascii_width : length text ≡ 1 → 1 ≡ cluster_width text
   ascii_width one = sym (ap (str_width false) is ∙ str_width-printable false (character ∷ []) (and_from _ _ (lone.ascii one) refl))
 
-  pub latin_width : length text ≡ 2 → 1 ≡ cluster_width text
-  latin_width two =
-      let bounds = lone.latin two in
-      let is_kind = narrow-is character (kind character) (rw (in_latin character bounds.0 bounds.1) at (latin_kinds character)) in
-      sym (ap (str_width false) is ∙ width_of_one character 1 (omega (arith, bounds.0)) is_kind.0 is_kind.1)
+  pub two_bytes_width : length text ≡ 2 → 1 ≡ cluster_width text
+  two_bytes_width two =
+      let inside = lone.two two in
+      let is_kind = narrow-is character (kind character) (rw inside at (narrow_kinds character)) in
+      sym (ap (str_width false) is ∙ width_of_one character 1 (above character inside) is_kind.0 is_kind.1)
 
   pub han_width : length text ≡ 3 → 2 ≡ cluster_width text
   han_width three =
-      let bounds = lone.han three in
-      let is_kind = wide-is character (kind character) (rw (in_han character bounds.0 bounds.1) at (han_kinds character)) in
-      sym (ap (str_width false) is ∙ width_of_one character 2 (omega (arith, bounds.0)) is_kind.0 is_kind.1)
+      let inside = lone.three three in
+      let is_kind = wide-is character (kind character) (rw inside at (wide_kinds character)) in
+      sym (ap (str_width false) is ∙ width_of_one character 2 (far_above character inside) is_kind.0 is_kind.1)
 
   pub narrow_width : length text ≤ 3 → (length text ≡ 3 → ⊥) → 1 ≡ cluster_width text
   narrow_width few other =
-      ⊎_elim (λ one. ascii_width (omega (arith, some))) (λ two. latin_width (by_cases two)) (cases_lt (length text) 2)
+      ⊎_elim (λ one. ascii_width (omega (arith, some))) (λ two. two_bytes_width (by_cases two)) (cases_lt (length text) 2)
     where
       by_cases : 2 ≤ length text → length text ≡ 2
       by_cases two = ⊎_elim (λ three. absurd (other three)) (λ no. omega arith) (cases_eq (length text) 3)

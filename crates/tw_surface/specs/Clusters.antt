@@ -1,5 +1,5 @@
 -- A text cut behind its first extended grapheme cluster.
-use Rattle.std.specs.Prelude.{ℕ, ◌<◌, ◌≡◌, Bool, true, false, not, ◌&&◌, leb, List, [], ◌∷◌, take, drop, if◌then◌else◌}
+use Rattle.std.specs.Prelude.{ℕ, ◌<◌, ◌≡◌, Bool, true, false, not, ◌&&◌, ◌||◌, leb, List, [], ◌∷◌, take, drop, if◌then◌else◌}
 use Rattle.std.specs.Str.{IsCharBoundary}
 use Rattle.ucd_breaks.specs.GraphemeClusterBreak.{grapheme_cluster_break}
 use Rattle.ucd_breaks.specs.declared.GraphemeClusterBreak.{GraphemeClusterBreak}
@@ -8,11 +8,11 @@ use Rattle.unicode_segmentation.specs.Grapheme.{graphemes}
 use Rattle.tw_surface.specs.Characters.{is_printable}
 
 -- the bytes of a character that begins with this byte, where all such characters are a cluster each in a row of
--- them: printable ASCII, Latin of two bytes, Han. Else 0
+-- them: printable ASCII, Latin, Greek and Cyrillic of two bytes, Han. Else 0
 abbrev pub lone_len : ℕ → ℕ
 lone_len lead =
     if is_printable lead then 1
-    else if leb 0xC3 lead && leb lead 0xCB then 2
+    else if (leb 0xC3 lead && leb lead 0xCB) || (leb 0xCE lead && leb lead 0xD1) then 2
     else if leb 0xE4 lead && leb lead 0xE9 then 3
     else 0
 

@@ -9,7 +9,8 @@ use ucd_breaks::GraphemeClusterBreak;
 use unicode_segmentation::UnicodeSegmentation;
 
 /// The bytes of a character that begins with this byte, where it tells that the character is a cluster of its own
-/// before another one like it: printable ASCII, Latin (U+00C0 to U+02FF) and Han (U+4000 to U+9FFF). Else 0.
+/// before another one like it: printable ASCII, Latin (U+00C0 to U+02FF), Greek and Cyrillic (U+0380 to U+047F) and
+/// Han (U+4000 to U+9FFF). Else 0.
 #[inline]
 pub fn lone_len(lead: u8) -> usize
     ensures value { result ≡ lone_len lead }
@@ -17,7 +18,7 @@ pub fn lone_len(lead: u8) -> usize
 {
     match lead {
         b' '..=b'~' => 1,
-        0xC3..=0xCB => 2,
+        0xC3..=0xCB | 0xCE..=0xD1 => 2,
         0xE4..=0xE9 => 3,
         _ => 0,
     }
