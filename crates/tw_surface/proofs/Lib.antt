@@ -40,7 +40,6 @@ pub mod TextCursor
 pub mod NearCells
 pub mod SettledCells
 pub mod RowLemmas
-pub mod ClusterLemmas
 pub mod ClusterSeams
 pub mod ClusterCuts
 pub mod LoneCharacters
