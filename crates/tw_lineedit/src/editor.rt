@@ -5,7 +5,7 @@ ghost use Rattle.std.specs.Borrow.{sem};
 ghost use Rattle.std.specs.Str.{IsCharBoundary};
 ghost use Rattle.tw_surface.specs.ChangeView.{batch_view};
 ghost use Rattle.tw_input.specs.EventView.{event_view};
-ghost use Rattle.tw_terminal.specs.TerminalState.{Flushes};
+ghost use Rattle.tw_terminal.specs.TerminalState.{Fails, IsAtEnd, Takes};
 ghost use Rattle.tw_host.specs.ActionView.{action_view, Repaint};
 ghost use Rattle.tw_line.specs.Cut.{cut_at};
 ghost use Rattle.tw_host.specs.KeyTable.{action_of};
@@ -34,7 +34,7 @@ use tw_input::InputEvent;
 use tw_painter::{Error, Mark};
 use tw_session::Session;
 use tw_surface::{Change, ColorAttribute};
-use tw_terminal::{ScreenSize, Terminal};
+use tw_terminal::{Terminal, TerminalFault};
 
 /// A line editor over a terminal, which it borrows.
 pub type LineEditor<'term, T> = EditorOver<'term, T, Session>;
@@ -237,6 +237,18 @@ impl<'term, T: Terminal> LineEditor<'term, T> {
         self.paint(host)
     }
 
+    /// The next event, if one is left.
+    fn poll(&mut self) -> Result<Option<InputEvent>, TerminalFault>
+        ensures same_reference { self.new.terminal.ghost_name ≡ self.old.terminal.ghost_name }
+        ensures session { self.new.session ≡ self.old.session }
+        ensures ok { IfOk result (λ event. MatchOption event
+            (IsAtEnd (T.state self.old.terminal.now) (T.state self.new.terminal.now))
+            (λ event. Takes (event_view event) (T.state self.old.terminal.now) (T.state self.new.terminal.now))) }
+        ensures err { OnErr result (Fails (T.state self.old.terminal.now) (T.state self.new.terminal.now)) }
+    {
+        self.terminal.poll_input()
+    }
+
     /// Takes an event, handles it, and paints. It answers false where the run ends.
     fn turn<H: LineEditorHost>(&mut self, host: &mut H) -> Result<bool, Error>
         ensures same_reference { self.new.terminal.ghost_name ≡ self.old.terminal.ghost_name }
@@ -250,7 +262,7 @@ impl<'term, T: Terminal> LineEditor<'term, T> {
         if self.session.is_over() {
             return Ok(false);
         }
-        match self.terminal.poll_input()? {
+        match self.poll()? {
             Some(event) => {
                 self.advance(host, &event)?;
                 Ok(true)
