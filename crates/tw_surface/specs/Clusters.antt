@@ -1,5 +1,5 @@
 -- A text cut behind its first extended grapheme cluster.
-use Rattle.std.specs.Prelude.{ℕ, ◌<◌, ◌≡◌, Bool, true, false, not, ◌&&◌, ◌||◌, leb, List, [], ◌∷◌, take, drop, if◌then◌else◌}
+use Rattle.std.specs.Prelude.{ℕ, ◌<◌, ◌≡◌, Bool, true, false, not, ◌&&◌, ◌||◌, leb, List, [], ◌∷◌, ◌++◌, length, take, drop, if◌then◌else◌}
 use Rattle.std.specs.Str.{IsCharBoundary}
 use Rattle.ucd_breaks.specs.GraphemeClusterBreak.{grapheme_cluster_break}
 use Rattle.ucd_breaks.specs.declared.GraphemeClusterBreak.{GraphemeClusterBreak}
@@ -33,3 +33,8 @@ pub record IsFirstCluster (text : List ℕ) (end : ℕ) : Type 0 where
   pub some : 0 < end
   pub boundary : IsCharBoundary text end
   pub first : graphemes true text ≡ take end text ∷ graphemes true (drop end text)
+
+-- a cluster and a rest are the first cluster of a text, which is not empty, and what follows it
+abbrev pub IsSplit : List ℕ → List ℕ → List ℕ → Type 0
+IsSplit text cluster rest =
+    (text ≡ cluster ++ rest) × (0 < length cluster) × (graphemes true text ≡ cluster ∷ graphemes true rest)

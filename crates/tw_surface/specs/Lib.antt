@@ -20,6 +20,7 @@ pub mod Scrolling
 pub mod ScrollingLaws
 pub mod HealingLaws
 pub mod Cells
+pub mod ScreenSteps
 pub mod ScrollingScreens
 pub mod Cutting
 pub mod Simple

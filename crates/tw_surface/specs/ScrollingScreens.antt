@@ -1,8 +1,8 @@
 -- What a screen of some rows, which scrolls, holds.
-use Rattle.std.specs.Prelude.{ℕ, ◌*◌, ◌<◌, ◌≤◌, length}
+use Rattle.std.specs.Prelude.{ℕ, ◌*◌, ◌≤◌, length}
 use Rattle.tw_surface.specs.Cells.{ScreenView, blank_screen, picture}
 use Rattle.tw_surface.specs.ChangeView.{ChangeView}
-use Rattle.tw_surface.specs.Pictures.{Picture, play}
+use Rattle.tw_surface.specs.Pictures.{Picture}
 use Rattle.tw_surface.specs.Scrolling.{IsWithin, play_on}
 
 -- a screen, and how many rows it has
@@ -17,10 +17,6 @@ blank_rows rows width = record { screen = blank_screen width; rows = rows }
 -- what a change leaves on such a screen
 abbrev pub play_in : ChangeView → ScrollingView → Picture
 play_in change s = play_on s.rows s.screen.width change (picture s.screen)
-
--- the change leads past the greatest row of all where the screen has no bottom
-abbrev pub IsPastLimit : ChangeView → ScrollingView → Type 0
-IsPastLimit change s = 4294967295 < (play s.screen.width change (picture s.screen)).row
 
 -- what is true of every screen of some rows: nothing stands below them, and no more near cells are kept than they have
 pub record IsRowed (rows : ℕ) (screen : ScreenView) : Type 0 where

@@ -1,9 +1,9 @@
 //! Texts cut behind their first extended grapheme cluster.
 
-ghost use Rattle.std.specs.Prelude.{◌≡◌, ◌<◌, ◌≤◌, ◌∷◌, ◌++◌, [], length, true, MatchOption};
+ghost use Rattle.std.specs.Prelude.{◌≡◌, ◌<◌, ◌≤◌, [], length, true, MatchOption};
 ghost use Rattle.std.specs.Str.{chars};
 ghost use Rattle.unicode_segmentation.specs.Grapheme.{graphemes};
-ghost use Rattle.tw_surface.specs.Clusters.{lone_len, starts_apart, IsFirstCluster};
+ghost use Rattle.tw_surface.specs.Clusters.{lone_len, starts_apart, IsFirstCluster, IsSplit};
 
 use ucd_breaks::GraphemeClusterBreak;
 use unicode_segmentation::UnicodeSegmentation;
@@ -79,8 +79,7 @@ fn ruled_len(text: &str) -> usize
 pub fn split_cluster(text: &str) -> Option<(&str, &str)>
     ensures { MatchOption result
         (graphemes true text.now ≡ [])
-        (λ (cluster, rest). (text.now ≡ cluster.now ++ rest.now) × (0 < length cluster.now)
-        × (graphemes true text.now ≡ cluster.now ∷ graphemes true rest.now)) }
+        (λ (cluster, rest). IsSplit text.now cluster.now rest.now) }
 {
     if text.is_empty() {
         return None;

@@ -1,12 +1,12 @@
 //! A model screen, which shows what a terminal would show after changes.
 
-ghost use Rattle.std.specs.Prelude.{string_bytes, ◌++◌, ◌≡◌, ℕ, ◌+◌, ◌-◌, ◌*◌, min, length, ◌<◌, ◌≤◌, ◌↔◌, pos, true, false, List, Ok, Err, OnOk, OnErr};
-ghost use Rattle.std.specs.List.{All, list_all};
+ghost use Rattle.std.specs.Prelude.{string_bytes, ◌++◌, ◌≡◌, ℕ, ◌+◌, ◌*◌, length, ◌<◌, ◌≤◌, ◌↔◌, true, false, List, Ok, Err, OnOk, OnErr};
+ghost use Rattle.std.specs.List.{list_all};
 ghost use Rattle.tw_surface.specs.ChangeView.{change_view, Text as TextView};
 ghost use Rattle.tw_surface.specs.Characters.{is_plain};
-ghost use Rattle.tw_surface.specs.Positions.{moved, at_least_0};
 ghost use Rattle.tw_surface.specs.Pictures.{blank, cleared, play, play_text, can_play};
 ghost use Rattle.tw_surface.specs.Cells.{shown_at, picture, blank_screen, row_of, IsInOrder, IsSparse, IsTrimmed, IsLastRow};
+ghost use Rattle.tw_surface.specs.ScreenSteps.{moved_from, with_cursor_moved, IsPastLimit, RefusesPastLimit};
 
 mod far;
 mod near;
@@ -171,7 +171,7 @@ impl Screen {
 
         // A text that can't be played is NotPlain, also where a row would pass the limit.
         ensures plain { (result ≡ Err ScreenFault.NotPlain) ↔ (can_play (change_view change.now) ≡ false) }
-        ensures range { can_play (change_view change.now) ≡ true → ((result ≡ Err ScreenFault.OutOfRange) ↔ (4294967295 < (play self.old.width (change_view change.now) (picture self.old)).row)) }
+        ensures range { RefusesPastLimit (change_view change.now) self.old result }
         ensures memory { result ≡ Err ScreenFault.Memory → (text : List ℕ) × (change_view change.now ≡ TextView text) }
     {
         // The row is in range, also where no field is used.
@@ -197,7 +197,7 @@ impl Screen {
         ensures played { OnOk result (picture self.new ≡ play_text self.old.width text.now (picture self.old)) }
         ensures refused { OnErr result (self.new ≡ self.old) }
         ensures plain { (result ≡ Err ScreenFault.NotPlain) ↔ (list_all is_plain text.now ≡ false) }
-        ensures range { list_all is_plain text.now ≡ true → ((result ≡ Err ScreenFault.OutOfRange) ↔ (4294967295 < (play_text self.old.width text.now (picture self.old)).row)) }
+        ensures range { list_all is_plain text.now ≡ true → ((result ≡ Err ScreenFault.OutOfRange) ↔ IsPastLimit (TextView text.now) self.old) }
     {
         if !is_plain_text(text) {
             return Err(ScreenFault::NotPlain);
@@ -242,9 +242,9 @@ impl Screen {
     }
 
     fn move_cursor(&mut self, x: Position, y: Position) -> Result<(), ScreenFault>
-        ensures moved { OnOk result (self.new ≡ record self.old { row = at_least_0 (moved y (pos self.old.row)); col = min (self.old.width - 1) (at_least_0 (moved x (pos self.old.col))) }) }
+        ensures moved { OnOk result (self.new ≡ with_cursor_moved x y self.old) }
         ensures refused { OnErr result (self.new ≡ self.old) }
-        ensures range { (result ≡ Err ScreenFault.OutOfRange) ↔ (4294967295 < at_least_0 (moved y (pos self.old.row))) }
+        ensures range { (result ≡ Err ScreenFault.OutOfRange) ↔ (4294967295 < moved_from y self.old.row) }
         ensures only_range { OnErr result (result ≡ Err ScreenFault.OutOfRange) }
     {
         let row = y.moved_from(self.row);

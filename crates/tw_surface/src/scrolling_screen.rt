@@ -1,10 +1,11 @@
 //! A model screen with a bottom row, which scrolls.
 
-ghost use Rattle.std.specs.Prelude.{◌≡◌, ℕ, ◌<◌, ◌≤◌, ◌↔◌, ◌⊎◌, false, true, List, Ok, Err, OnOk, OnErr};
+ghost use Rattle.std.specs.Prelude.{◌≡◌, ℕ, ◌<◌, ◌≤◌, ◌↔◌, ◌⊎◌, false, List, Ok, Err, OnOk, OnErr};
 ghost use Rattle.tw_surface.specs.ChangeView.{change_view, Text as TextView};
 ghost use Rattle.tw_surface.specs.Cells.{picture};
 ghost use Rattle.tw_surface.specs.Pictures.{blank, can_play};
-ghost use Rattle.tw_surface.specs.ScrollingScreens.{blank_rows, play_in, IsPastLimit};
+ghost use Rattle.tw_surface.specs.ScrollingScreens.{blank_rows, play_in};
+ghost use Rattle.tw_surface.specs.ScreenSteps.{RefusesPastLimit};
 
 use crate::change::Change;
 use crate::screen::{Screen, ScreenFault};
@@ -81,7 +82,7 @@ impl ScrollingScreen {
         ensures plain { (result ≡ Err ScreenFault.NotPlain) ↔ (can_play (change_view change.now) ≡ false) }
 
         // The limit is one of the change alone, as it is played without a bottom from the cursor's row on.
-        ensures range { can_play (change_view change.now) ≡ true → ((result ≡ Err ScreenFault.OutOfRange) ↔ IsPastLimit (change_view change.now) self.old) }
+        ensures range { RefusesPastLimit (change_view change.now) self.old.screen result }
         ensures memory { result ≡ Err ScreenFault.Memory → (text : List ℕ) × (change_view change.now ≡ TextView text) }
     {
         self.screen.apply(change)?;

@@ -6,7 +6,7 @@ ghost use Rattle.tw_surface.specs.Positions.{moved};
 ghost use Rattle.tw_surface.specs.Places.{places_of_change, is_in_range, move_between};
 ghost use Rattle.tw_surface.specs.Drawings.{Drawing, place, height};
 ghost use Rattle.tw_surface.specs.Extents.{place_of, Measures};
-ghost use Rattle.tw_surface.specs.Adding.{Adds};
+ghost use Rattle.tw_surface.specs.Adding.{Adds, with_move_to};
 
 use crate::change::{Change, Position};
 use crate::measure::{Extent, measure_text};
@@ -161,7 +161,7 @@ impl ChangeSequence {
     /// Adds the relative move to a column and a row. A column that the screen doesn't have, or a row
     /// past the limit, is `OutOfRange`; a refusal leaves the sequence as it was.
     pub fn move_to(&mut self, to: (usize, isize)) -> Result<(), AddFault>
-        ensures moved { OnOk result (self.new ≡ record self.old { changes = self.old.changes ++ move_between (place self.old) (record { x = to.0; y = to.1 }) ∷ [] }) }
+        ensures moved { OnOk result (self.new ≡ with_move_to (record { x = to.0; y = to.1 }) self.old) }
         ensures place { OnOk result (place self.new ≡ record { x = to.0; y = to.1 }) }
         ensures refused { OnErr result (self.new ≡ self.old) }
         ensures range { (result ≡ Err AddFault.OutOfRange) ↔ ((self.old.cols ≤ to.0) ⊎ (2147483647 < nat_abs to.1)) }

@@ -1,8 +1,9 @@
 //! Far cells: behind the near ones a screen keeps the cells that are not blank, in order, and so no others.
 
-ghost use Rattle.std.specs.Prelude.{◌≡◌, ◌≢◌, ℕ, ◌+◌, ◌*◌, ◌<◌, ◌≤◌, vec_len, vec_capacity, IfOk, IfErr};
+ghost use Rattle.std.specs.Prelude.{◌≡◌, ◌≢◌, ℕ, ◌+◌, ◌<◌, ◌≤◌, vec_len, vec_capacity, IfOk, IfErr};
 ghost use Rattle.tw_surface.specs.Pictures.{blank, written, cleared};
 ghost use Rattle.tw_surface.specs.Cells.{cell_in, IsInOrder, IsAt, IsGapFor, IsCut, IsSparse};
+ghost use Rattle.tw_surface.specs.ScreenSteps.{StaysSparse};
 
 // A cell that is not blank.
 #[derive(Debug, Copy, Clone)]
@@ -39,7 +40,7 @@ fn put_cell(cells: &mut Vec<Cell>, row: usize, col: usize, ch: char)
     requires room { vec_len cells.old < vec_capacity cells.old }
     requires ordered { IsInOrder cells.old.items }
     ensures written { cell_in cells.new.items ≡ written (cell_in cells.old.items) row col ch }
-    ensures sparse { (width first : ℕ) → IsSparse width first cells.old.items → col < width → first ≤ row * width + col → IsSparse width first cells.new.items }
+    ensures sparse { StaysSparse row col cells.old.items cells.new.items }
     ensures len { vec_len cells.new ≤ vec_len cells.old + 1 }
     ensures capacity { vec_capacity cells.old ≤ vec_capacity cells.new }
 {
@@ -55,7 +56,7 @@ fn put_cell(cells: &mut Vec<Cell>, row: usize, col: usize, ch: char)
 fn remove_cell(cells: &mut Vec<Cell>, row: usize, col: usize)
     requires { IsInOrder cells.old.items }
     ensures written { cell_in cells.new.items ≡ written (cell_in cells.old.items) row col blank }
-    ensures sparse { (width first : ℕ) → IsSparse width first cells.old.items → col < width → first ≤ row * width + col → IsSparse width first cells.new.items }
+    ensures sparse { StaysSparse row col cells.old.items cells.new.items }
     ensures len { vec_len cells.new ≤ vec_len cells.old }
     ensures capacity { vec_capacity cells.old ≤ vec_capacity cells.new }
 {
@@ -70,7 +71,7 @@ pub fn write_cell(cells: &mut Vec<Cell>, row: usize, col: usize, ch: char)
     requires room { vec_len cells.old < vec_capacity cells.old }
     requires ordered { IsInOrder cells.old.items }
     ensures written { cell_in cells.new.items ≡ written (cell_in cells.old.items) row col ch }
-    ensures sparse { (width first : ℕ) → IsSparse width first cells.old.items → col < width → first ≤ row * width + col → IsSparse width first cells.new.items }
+    ensures sparse { StaysSparse row col cells.old.items cells.new.items }
     ensures len { vec_len cells.new ≤ vec_len cells.old + 1 }
     ensures capacity { vec_capacity cells.old ≤ vec_capacity cells.new }
 {

@@ -1,11 +1,12 @@
 //! Near cells: the first cells of a screen, blanks among them, in one line, row after row without a break. Between
 //! changes the last of them is not blank.
 
-ghost use Rattle.std.specs.Prelude.{◌≡◌, ◌≢◌, ℕ, ◌+◌, ◌-◌, ◌*◌, ◌^◌, min, length, take, ◌<◌, ◌≤◌, true, false, vec_len, vec_capacity, slice_index};
+ghost use Rattle.std.specs.Prelude.{◌≡◌, ℕ, ◌+◌, ◌-◌, ◌*◌, ◌^◌, min, length, take, ◌<◌, ◌≤◌, true, false, vec_len, vec_capacity, slice_index};
 ghost use Rattle.std.specs.List.{All, list_all};
 ghost use Rattle.tw_surface.specs.Characters.{is_printable};
 ghost use Rattle.tw_surface.specs.Pictures.{cursor_at, play_text};
 ghost use Rattle.tw_surface.specs.Cells.{IsGrown, IsOverwritten, IsTrimmed};
+ghost use Rattle.tw_surface.specs.ScreenSteps.{AreNearFrom};
 
 use crate::characters::is_printable;
 
@@ -96,7 +97,7 @@ pub fn write_run(
 pub fn near_row(near: &[u8], width: usize, row: usize, cols: usize) -> &[u8]
     ensures len { length result.now ≤ cols }
     ensures width { length result.now ≤ width }
-    ensures near { (k : ℕ) → k < length result.now → (row * width + k < length near.now) × (slice_index result.now k ≡ slice_index near.now (row * width + k)) }
+    ensures near { AreNearFrom (row * width) near.now result.now }
     ensures all { (k : ℕ) → length result.now ≤ k → k < cols → k < width → length near.now ≤ row * width + k }
 {
     let start = place_of(width, row, 0).min(near.len());

@@ -1,10 +1,11 @@
 //! Playing texts on near and far cells.
 
-ghost use Rattle.std.specs.Prelude.{◌≡◌, ℕ, ◌+◌, ◌-◌, ◌*◌, ◌^◌, min, ◌∷◌, [], List, length, take, drop, ◌<◌, ◌≤◌, ◌↔◌, true, false, count_by, vec_len, vec_capacity, IsTrue};
+ghost use Rattle.std.specs.Prelude.{◌≡◌, ℕ, ◌+◌, ◌-◌, ◌*◌, ◌^◌, min, length, take, drop, ◌<◌, ◌≤◌, ◌↔◌, true, false, vec_len, vec_capacity, IsTrue};
 ghost use Rattle.std.specs.List.{All, list_all};
 ghost use Rattle.tw_surface.specs.Characters.{is_plain, is_printable};
 ghost use Rattle.tw_surface.specs.Pictures.{cursor_at, play_char, play_text};
 ghost use Rattle.tw_surface.specs.Cells.{picture_of, reach_of, IsInOrder, IsSparse, IsSound};
+ghost use Rattle.tw_surface.specs.ScreenSteps.{played_at, HasRoomFor, IsBehind, IsPlayedFar};
 
 use crate::characters::is_printable;
 use crate::screen::far::{Cell, write_cell};
@@ -71,9 +72,9 @@ fn play_far(far: &mut Vec<Cell>, width: usize, row: usize, col: usize, byte: u8)
     requires plain { is_plain byte ≡ true }
     requires room { is_printable byte ≡ true → vec_len far.old < vec_capacity far.old }
     requires ordered { IsInOrder far.old.items }
-    ensures played { (near : List ℕ) → (is_printable byte ≡ true → length near ≤ row * width + col) → picture_of width near far.new.items result.0 result.1 ≡ play_char width byte (picture_of width near far.old.items row col) }
+    ensures played { IsPlayedFar width byte far.old.items row col far.new.items result.0 result.1 }
     ensures within { result.1 ≤ width }
-    ensures sparse { (first : ℕ) → (is_printable byte ≡ true → first ≤ row * width + col) → IsSparse width first far.old.items → IsSparse width first far.new.items }
+    ensures sparse { (first : ℕ) → IsBehind byte first (row * width + col) → IsSparse width first far.old.items → IsSparse width first far.new.items }
     ensures len { vec_len far.new ≤ vec_len far.old + 1 }
     ensures capacity { vec_capacity far.old ≤ vec_capacity far.new }
 {
@@ -97,10 +98,10 @@ fn play_front(
     requires sound { IsSound width row col near.old far.old.items }
     requires some { 0 < length text.now }
     requires plain { list_all is_plain text.now ≡ true }
-    requires room { length near.old < row * width + col + reach_of width text.now → vec_len far.old + length text.now ≤ vec_capacity far.old }
+    requires room { HasRoomFor width text.now (row * width + col) near.old far.old }
     ensures count { 0 < result.0 }
     ensures count_most { result.0 ≤ length text.now }
-    ensures played { picture_of width near.new far.new.items result.1 result.2 ≡ play_text width (take result.0 text.now) (picture_of width near.old far.old.items row col) }
+    ensures played { picture_of width near.new far.new.items result.1 result.2 ≡ played_at width (take result.0 text.now) near.old far.old.items row col }
     ensures within { result.2 ≤ width }
     ensures near_len { length near.new ≡ length near.old }
     ensures ascii { All (λ b. b < 128) near.new }
@@ -129,10 +130,10 @@ pub fn play_bytes(
     text: &[u8],
 ) -> (usize, usize)
     requires sound { IsSound width start_row start_col near.old far.old.items }
-    requires row { (play_text width text.now (picture_of width near.old far.old.items start_row start_col)).row ≤ 4294967295 }
+    requires row { (played_at width text.now near.old far.old.items start_row start_col).row ≤ 4294967295 }
     requires plain { list_all is_plain text.now ≡ true }
-    requires room { length near.old < start_row * width + start_col + reach_of width text.now → vec_len far.old + length text.now ≤ vec_capacity far.old }
-    ensures played { picture_of width near.new far.new.items result.0 result.1 ≡ play_text width text.now (picture_of width near.old far.old.items start_row start_col) }
+    requires room { HasRoomFor width text.now (start_row * width + start_col) near.old far.old }
+    ensures played { picture_of width near.new far.new.items result.0 result.1 ≡ played_at width text.now near.old far.old.items start_row start_col }
     ensures sound { IsSound width result.0 result.1 near.new far.new.items }
 {
     let mut row = start_row;
