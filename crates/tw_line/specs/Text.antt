@@ -1,5 +1,5 @@
 -- What is seen of a text: its bytes and characters, and how many it has room for.
-use Rattle.std.specs.Prelude.{ℕ, List}
+use Rattle.std.specs.Prelude.{ℕ, ◌+◌, ◌<◌, ◌⊎◌, List, length}
 use Rattle.std.specs.Str.{chars}
 use Rattle.std.specs.String.{string_bytes, string_capacity}
 use Rattle.std.specs.Vec.{vec_capacity}
@@ -25,3 +25,8 @@ room_of t = string_capacity t.line
 -- how many starts of characters the text can hold without more memory
 abbrev pub places_of : Text → ℕ
 places_of t = vec_capacity t.starts
+
+-- there is no room, without more memory, for so many bytes more or for so many characters more
+abbrev pub LacksRoom : ℕ → ℕ → Text → Type 0
+LacksRoom bytes characters t =
+    (room_of t < length (bytes_of t) + bytes) ⊎ (places_of t < length (chars_of t) + characters)

@@ -4,7 +4,7 @@ ghost use Rattle.std.specs.Prelude.{◌≡◌, ℕ, ◌+◌, ◌-◌, ◌^◌, �
 ghost use Rattle.std.specs.Vec.{vec_capacity};
 ghost use Rattle.std.specs.List.Sorted.{IsStrictlyIncreasing};
 ghost use Rattle.std.specs.Str.{chars};
-ghost use Rattle.tw_line.specs.Starts.{starts_from, binary_digits};
+ghost use Rattle.tw_line.specs.Starts.{starts_from, with_starts, binary_digits};
 
 /// Whether the offset is below `at`. It adds one to the count of comparisons.
 fn is_below(offset: usize, at: usize, comparisons: &mut u32) -> bool
@@ -104,7 +104,7 @@ pub fn insert_starts(starts: &mut Vec<usize>, index: usize, at: usize, text: &st
     requires fits { at + length text.now < 2 ^ 64 }
     requires later_fit { All (λ n. n + length text.now < 2 ^ 64) (drop index starts.old.items) }
     requires room { vec_len starts.old + length (chars text.now) ≤ vec_capacity starts.old }
-    ensures items { starts.new.items ≡ take index starts.old.items ++ (starts_from at (chars text.now) ++ map (λ n. n + length text.now) (drop index starts.old.items)) }
+    ensures items { starts.new.items ≡ with_starts index at text.now starts.old.items }
     ensures capacity { vec_capacity starts.old ≤ vec_capacity starts.new }
 {
     let count = starts.len();

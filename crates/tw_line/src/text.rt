@@ -1,6 +1,6 @@
 //! The representation of a text: its bytes, and the byte offsets at which its characters start.
 
-ghost use Rattle.std.specs.Prelude.{◌≡◌, ◌+◌, ◌^◌, ◌<◌, ◌≤◌, ◌⊎◌, [], encode_utf8, length, slice_index, OnOk, OnErr, IfOk};
+ghost use Rattle.std.specs.Prelude.{◌≡◌, ◌+◌, ◌^◌, ◌<◌, ◌≤◌, [], encode_utf8, length, slice_index, OnOk, OnErr, IfOk};
 ghost use Rattle.std.specs.List.{insert_slice, remove_range};
 ghost use Rattle.std.specs.Str.{chars, IsCharBoundary};
 ghost use Rattle.std.specs.String.{string_bytes};
@@ -22,7 +22,7 @@ pub struct Text {
 }
 
 impl Text {
-    ghost use Rattle.tw_line.specs.Text.{bytes_of, chars_of, index_in, room_of, places_of};
+    ghost use Rattle.tw_line.specs.Text.{bytes_of, chars_of, index_in, room_of, places_of, LacksRoom};
 
     /// The empty text. It takes no memory.
     pub fn new(alloc: Global) -> Self
@@ -83,7 +83,7 @@ impl Text {
         ensures bytes { bytes_of self.new ≡ bytes_of self.old }
         ensures room { OnOk result (length (bytes_of self.new) + bytes ≤ room_of self.new) }
         ensures places { OnOk result (length (chars_of self.new) + characters ≤ places_of self.new) }
-        ensures err { OnErr result ((room_of self.old < length (bytes_of self.old) + bytes) ⊎ (places_of self.old < length (chars_of self.old) + characters)) }
+        ensures err { OnErr result (LacksRoom bytes characters self.old) }
         ensures limit { room_of self.new < 2 ^ 63 }
         ensures kept_room { room_of self.old ≤ room_of self.new }
         ensures kept_places { places_of self.old ≤ places_of self.new }
@@ -100,7 +100,7 @@ impl Text {
         ensures err { OnErr result (bytes_of self.new ≡ bytes_of self.old) }
         ensures room { room_of self.old ≤ room_of self.new }
         ensures places { places_of self.old ≤ places_of self.new }
-        ensures full { OnErr result ((room_of self.old < length (bytes_of self.old) + length (encode_utf8 c)) ⊎ (places_of self.old < length (chars_of self.old) + 1)) }
+        ensures full { OnErr result (LacksRoom (length (encode_utf8 c)) 1 self.old) }
         ensures count { OnOk result (length (chars_of self.new) ≡ length (chars_of self.old) + 1) }
     {
         self.insert_text(at, c.encode_utf8(&mut [0; 4]))
@@ -113,7 +113,7 @@ impl Text {
         ensures err { OnErr result (bytes_of self.new ≡ bytes_of self.old) }
         ensures room { room_of self.old ≤ room_of self.new }
         ensures places { places_of self.old ≤ places_of self.new }
-        ensures full { OnErr result ((room_of self.old < length (bytes_of self.old) + length text.now) ⊎ (places_of self.old < length (chars_of self.old) + length (chars text.now))) }
+        ensures full { OnErr result (LacksRoom (length text.now) (length (chars text.now)) self.old) }
     {
         self.reserve(text.len(), text.chars().count())?;
         let index = self.index_of(at);
