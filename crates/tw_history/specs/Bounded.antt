@@ -1,5 +1,6 @@
 -- A history that keeps so many lines at most, the newest.
-use Rattle.std.specs.Prelude.{ℕ, ◌-◌, List, [], ◌∷◌, ◌++◌, drop, length, if◌then◌else◌}
+use Rattle.std.specs.Prelude.{ℕ, ◌-◌, List, String, string_bytes, [], ◌∷◌, ◌++◌, drop, length, map, if◌then◌else◌}
+use Rattle.std.specs.declared.alloc.Global.{Global}
 use Rattle.tw_history.specs.HistoryAdditions.{is_line}
 use Rattle.tw_history.specs.NearestMatch.{last_line}
 
@@ -7,6 +8,10 @@ use Rattle.tw_history.specs.NearestMatch.{last_line}
 pub record Bounded : Type 0 where
   pub lines : List (List ℕ)
   pub limit : ℕ
+
+-- the lines that these entries are
+abbrev pub lines_of : List (String Global) → List (List ℕ)
+lines_of entries = map string_bytes entries
 
 -- the history of no lines
 abbrev pub no_lines : ℕ → Bounded

@@ -1,9 +1,10 @@
 -- What a lawful host answers, as functions of the value that it holds.
-use Rattle.std.specs.Prelude.{ℕ, List, [], ◌∷◌, Option, Some, None, take}
+use Rattle.std.specs.Prelude.{ℕ, ◌≡◌, List, [], ◌∷◌, Option, Some, None, option_map, take}
 use Rattle.tw_surface.specs.Width.{column_width}
 use Rattle.tw_input.specs.EventView.{EventView}
-use Rattle.tw_line.specs.Cut.{Cut}
-use Rattle.tw_host.specs.ActionView.{ActionView}
+use Rattle.tw_line.specs.Cut.{Cut, cut_at}
+use Rattle.tw_host.specs.declared.actions.Action.{Action}
+use Rattle.tw_host.specs.ActionView.{ActionView, action_view}
 use Rattle.tw_host.specs.CandidateView.{CandidateView}
 use Rattle.tw_host.specs.ElementView.{ElementView, Text}
 use Rattle.tw_host.specs.KeyTable.{action_of}
@@ -27,6 +28,23 @@ pub record HostRules (V : Type 0) : Type 0 where
   pub highlight : V → Cut → Highlight
   pub candidates : V → Cut → List CandidateView
   pub resolve : V → EventView → Cut → Resolution V
+
+-- the elements of a line with its cursor at an offset
+abbrev pub shown_elements : {V : Type 0} → HostRules V → V → List ℕ → ℕ → List ElementView
+shown_elements rules v line cursor = (rules.highlight v (cut_at line cursor)).elements
+
+-- the column of its cursor
+abbrev pub shown_column : {V : Type 0} → HostRules V → V → List ℕ → ℕ → ℕ
+shown_column rules v line cursor = (rules.highlight v (cut_at line cursor)).column
+
+-- the candidates for a line with its cursor at an offset
+abbrev pub candidates_for : {V : Type 0} → HostRules V → V → List ℕ → ℕ → List CandidateView
+candidates_for rules v line cursor = rules.candidates v (cut_at line cursor)
+
+-- what the rules make of an event: a value and a cut text become others, and there may be an action
+abbrev pub Resolves : {V : Type 0} → HostRules V → EventView → V → Cut → V → Cut → Option Action → Type 0
+Resolves rules event v cut new_value new_cut action =
+    rules.resolve v event cut ≡ record { value = new_value; cut = new_cut; action = option_map action_view action }
 
 -- a text as it is
 abbrev pub plain_text : List ℕ → List ElementView

@@ -1,14 +1,13 @@
 //! What an application tells the editor.
 
-ghost use Rattle.std.specs.Prelude.{◌≡◌, ℕ, List, [], IfOk, OnErr, OnOk, Some, map, option_map, refl};
+ghost use Rattle.std.specs.Prelude.{◌≡◌, ℕ, List, [], IfOk, OnErr, OnOk, Some, map, refl};
 ghost use Rattle.std.specs.Borrow.{Lends, sem};
 ghost use Rattle.tw_input.specs.EventView.{event_view};
-ghost use Rattle.tw_host.specs.ActionView.{action_view};
 ghost use Rattle.std.specs.Str.{IsCharBoundary};
 ghost use Rattle.tw_line.specs.Cut.{cut_at};
 ghost use Rattle.tw_host.specs.ElementView.{element_view};
 ghost use Rattle.tw_host.specs.CandidateView.{candidate_view};
-ghost use Rattle.tw_host.specs.HostRules.{HostRules, plain_text, plain_highlight, plain_rules};
+ghost use Rattle.tw_host.specs.HostRules.{HostRules, Resolves, candidates_for, plain_text, plain_highlight, plain_rules, shown_column, shown_elements};
 ghost use Rattle.tw_history.specs.NearestMatch.{last_line};
 ghost use Rattle.tw_host.specs.PlainAnswers.{IsPlainBut, no_overrides, plain_is_plain};
 
@@ -175,8 +174,8 @@ pub trait LineEditorHost {
         cursor_position: usize,
     ) -> Result<(Vec<OutputElement>, usize), AllocError>
         requires { IsCharBoundary line.now cursor_position }
-        ensures elements { IfOk result (λ shown. map element_view shown.0.items ≡ (rules.highlight (value self.now) (cut_at line.now cursor_position)).elements) }
-        ensures column { IfOk result (λ shown. shown.1 ≡ (rules.highlight (value self.now) (cut_at line.now cursor_position)).column) }
+        ensures elements { IfOk result (λ shown. map element_view shown.0.items ≡ shown_elements rules (value self.now) line.now cursor_position) }
+        ensures column { IfOk result (λ shown. shown.1 ≡ shown_column rules (value self.now) line.now cursor_position) }
     {
         if Self::OVERRIDES.highlight_line {
             return Err(AllocError);
@@ -193,7 +192,7 @@ pub trait LineEditorHost {
         cursor_position: usize,
     ) -> Result<Vec<CompletionCandidate>, AllocError>
         requires { IsCharBoundary line.now cursor_position }
-        ensures { IfOk result (λ candidates. map candidate_view candidates.items ≡ rules.candidates (value self.now) (cut_at line.now cursor_position)) }
+        ensures { IfOk result (λ candidates. map candidate_view candidates.items ≡ candidates_for rules (value self.now) line.now cursor_position) }
     {
         if Self::OVERRIDES.complete {
             return Err(AllocError);
@@ -209,8 +208,7 @@ pub trait LineEditorHost {
         event: &InputEvent,
         editor: &mut LineEditBuffer,
     ) -> Result<Option<Action>, AllocError>
-        ensures ok { IfOk result (λ action. rules.resolve (value self.old) (event_view event.now) editor.old
-            ≡ record { value = value self.new; cut = editor.new; action = option_map action_view action }) }
+        ensures ok { IfOk result (Resolves rules (event_view event.now) (value self.old) editor.old (value self.new) editor.new) }
         ensures refused { OnErr result (value self.new ≡ value self.old) }
         ensures refused_cut { OnErr result (editor.new ≡ editor.old) }
     {

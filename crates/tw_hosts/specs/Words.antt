@@ -1,7 +1,12 @@
 -- Words of a line, and lists of words.
-use Rattle.std.specs.Prelude.{ℕ, ◌==◌, Bool, List, length, drop, eqb}
+use Rattle.std.specs.Prelude.{ℕ, ◌==◌, Bool, List, String, string_bytes, length, drop, map, eqb}
+use Rattle.std.specs.declared.alloc.Global.{Global}
 use Rattle.std.specs.List.{before_first, after_last, list_any, starts_with}
 use Rattle.std.specs.Cmp.Lexicographic.{pointwise}
+
+-- the texts of words
+abbrev pub texts_of : List (String Global) → List (List ℕ)
+texts_of words = map string_bytes words
 
 -- whether two texts are the same
 abbrev pub is_same : List ℕ → List ℕ → Bool

@@ -1,17 +1,17 @@
 //! Words of a line, and what completes the one before the cursor.
 
-ghost use Rattle.std.specs.Prelude.{◌≡◌, ◌≤◌, IfOk, IsCharBoundary, length, map, string_bytes, take};
+ghost use Rattle.std.specs.Prelude.{◌≡◌, ◌≤◌, IfOk, IsCharBoundary, length, map};
 ghost use Rattle.tw_host.specs.CandidateView.{candidate_view};
 ghost use Rattle.tw_line.specs.Cut.{cut_at};
 ghost use Rattle.tw_hosts.specs.WordCompletion.{completions};
-ghost use Rattle.tw_hosts.specs.Words.{after_word, first_word, is_known, last_word};
+ghost use Rattle.tw_hosts.specs.Words.{after_word, first_word, is_known, last_word, texts_of};
 
 use std::alloc::{AllocError, Global};
 use tw_host::CompletionCandidate;
 
 /// Whether a word is one of these.
 pub fn is_known(words: &[String], word: &str) -> bool
-    ensures { result ≡ is_known (map string_bytes words.now) word.now }
+    ensures { result ≡ is_known (texts_of words.now) word.now }
 {
     words.iter().any(|known| known.as_str() == word)
 }
@@ -55,7 +55,7 @@ pub fn complete_word(
 ) -> Result<Vec<CompletionCandidate>, AllocError>
     requires { IsCharBoundary line.now cursor }
     ensures { IfOk result (λ candidates. map candidate_view candidates.items
-        ≡ completions (map string_bytes words.now) (cut_at line.now cursor)) }
+        ≡ completions (texts_of words.now) (cut_at line.now cursor)) }
 {
     let begun = last_word(&line[..cursor]);
     let start = cursor - begun.len();

@@ -3,7 +3,7 @@
 ghost use Rattle.std.specs.Cow.{IsBorrowedStr, cow_str_bytes};
 ghost use Rattle.std.specs.Prelude.{◌≡◌, ◌<◌, ◌≤◌, ◌++◌, ◌∷◌, [], IfOk, IfSome, IsCharBoundary, IsOk, IsOkAnd, OnErr, OnOk, Some, length, map, option_map, slice_get, string_bytes};
 ghost use Rattle.tw_history.specs.HistoryAdditions.{is_line, match_view};
-ghost use Rattle.tw_history.specs.Bounded.{newest, no_lines, with_newest};
+ghost use Rattle.tw_history.specs.Bounded.{lines_of, newest, no_lines, with_newest};
 ghost use Rattle.tw_history.specs.NearestMatch.{last_line, nearest_match};
 
 use crate::history::{
@@ -73,9 +73,9 @@ fn push_newest(
     limit: usize,
 ) -> Result<(), AllocError>
     requires { length entries.old.items ≤ limit }
-    ensures ok { OnOk result (map string_bytes entries.new.items ≡ newest limit (map string_bytes entries.old.items ++ string_bytes entry ∷ [])) }
+    ensures ok { OnOk result (lines_of entries.new.items ≡ newest limit (lines_of entries.old.items ++ string_bytes entry ∷ [])) }
     ensures fits { length entries.new.items ≤ limit }
-    ensures err { OnErr result (map string_bytes entries.new.items ≡ map string_bytes entries.old.items) }
+    ensures err { OnErr result (lines_of entries.new.items ≡ lines_of entries.old.items) }
 {
     entries.push_back(entry)?;
     if entries.len() > limit {

@@ -1,9 +1,9 @@
 //! The search for the nearest line, over any lines that can be lent.
 
 ghost use Rattle.std.specs.Cow.{IsBorrowedStr, cow_str_bytes};
-ghost use Rattle.std.specs.Prelude.{◌≡◌, ◌<◌, ℕ, IfSome, IsCharBoundary, List, MatchOption, false, length, option_map, true};
-ghost use Rattle.tw_history.specs.HistoryAdditions.{match_view};
-ghost use Rattle.tw_history.specs.NearestMatch.{line_at, match_at, matches, nearest_match};
+ghost use Rattle.std.specs.Prelude.{◌≡◌, ◌<◌, ℕ, IfSome, IsCharBoundary, List, MatchOption, false, length, option_map};
+ghost use Rattle.tw_history.specs.HistoryAdditions.{match_view, IsMatchAt};
+ghost use Rattle.tw_history.specs.NearestMatch.{line_at, matches, nearest_match};
 
 use crate::history::{HistoryIndex, SearchDirection, SearchResult, SearchStyle};
 use std::borrow::CowStr;
@@ -92,8 +92,7 @@ fn search_line<'a, L: LentLines>(
 ) -> Option<SearchResult<'a>>
     requires { at < length (L.lines lines.now) }
     ensures found { MatchOption result (matches (L.lines lines.now) pattern.now at ≡ false)
-        (λ m. (matches (L.lines lines.now) pattern.now at ≡ true)
-        × (match_view m ≡ match_at (L.lines lines.now) pattern.now at)) }
+        (IsMatchAt (L.lines lines.now) pattern.now at) }
     ensures boundary { IfSome result (λ m. IsCharBoundary (cow_str_bytes m.line) m.cursor) }
     ensures borrowed { IfSome result (λ m. IsBorrowedStr m.line) }
 {
