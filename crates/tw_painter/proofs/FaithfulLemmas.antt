@@ -1,12 +1,9 @@
 -- What is seen of a faithful host: what is fresh, with the prompt and the line for the texts that are shown.
-use Rattle.std.proofs.Common.{◌≡◌, ℕ, ◌+◌, ◌/◌, ◌%◌, Bool, List, ◌++◌, length, ap, ◌∙◌, subst}
-use Rattle.tw_surface.specs.Fresh.{IsFresh, IsShown}
-use Rattle.tw_surface.specs.Pictures.{Picture}
+use Rattle.std.proofs.Common.{◌≡◌, ℕ, ◌+◌, ◌/◌, ◌%◌, List, ◌++◌, length, ap, ◌∙◌, subst}
+use Rattle.tw_surface.specs.Fresh.{IsShown}
 use Rattle.tw_surface.specs.Scenes.{typed}
-use Rattle.tw_host.specs.Faithful.{IsFaithful}
 use Rattle.tw_host.specs.HostRules.{HostRules}
-use Rattle.tw_painter.specs.EditState.{EditState}
-use Rattle.tw_painter.specs.FaithfulLaws.{IsSeen, ShowsTheLine}
+use Rattle.tw_painter.specs.FaithfulLaws.{ShowsTheLine}
 use Rattle.tw_painter.specs.Painting.{scene_of, shown_in}
 
 pub shows_the_line : {V : Type 0} (rules : HostRules V) → ShowsTheLine rules

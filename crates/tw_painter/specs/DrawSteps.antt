@@ -1,11 +1,13 @@
 -- The steps of a painting.
-use Rattle.std.specs.Prelude.{◌≡◌, ◌<◌, ◌≤◌, ℕ, ◌+◌, Bool, true, false, ◌&&◌, nat_le, ◌++◌, Result, Ok, Err, alloc_error}
+use Rattle.std.specs.Prelude.{◌≡◌, ◌<◌, ◌≤◌, ℕ, ◌+◌, Bool, true, false, ◌&&◌, nat_le, ◌++◌, Option, Result, Ok, Err, alloc_error, List, ℤ}
+use Rattle.std.specs.Global.{Vec}
 use Rattle.std.specs.List.{list_all}
+use Rattle.tw_surface.specs.declared.change.Change.{Change}
 use Rattle.tw_surface.specs.declared.sequence.AddFault.{AddFault}
 use Rattle.tw_surface.specs.declared.sequence.AddFault.TheVariants as add
 use Rattle.tw_surface.specs.declared.size.SizeFault.{SizeFault}
 use Rattle.tw_surface.specs.declared.size.SizeFault.TheVariants as size
-use Rattle.tw_surface.specs.ChangeView.{Batch}
+use Rattle.tw_surface.specs.ChangeView.{Batch, batch_view}
 use Rattle.tw_surface.specs.Places.{Place, places_of_all, is_in_range}
 use Rattle.tw_surface.specs.Drawings.{Drawing, place}
 use Rattle.tw_surface.specs.Paintings.{painting, edge_space, place_at}
@@ -20,7 +22,7 @@ use Rattle.tw_terminal.specs.declared.terminal.ScreenSize.{ScreenSize}
 use Rattle.tw_line.specs.Cut.{Cut}
 use Rattle.tw_host.specs.HostRules.{HostRules}
 use Rattle.tw_painter.specs.Refusal.{ZeroSize, SizeOutOfRange}
-use Rattle.tw_painter.specs.Painting.{search_text, preview_of, Mark, mark_of, is_paintable, painted_on}
+use Rattle.tw_painter.specs.Painting.{search_text, preview_of, Mark, mark_of, is_paintable, painted_on, rendered, scene_with}
 
 -- the error for a change that is refused
 abbrev pub add_error : AddFault → Error
@@ -64,11 +66,23 @@ with_edge d line = line ++ edge_space d.cols (place (with_all d line))
 abbrev pub has_cell : ℕ → Place → ℕ → Bool
 has_cell cols p column = nat_le (p.x + column) 2147483647 && is_in_range (place_at cols p column)
 
+-- a column and a row, as a place
+abbrev pub place_of : ℕ × ℤ → Place
+place_of p = record { x = p.0; y = p.1 }
+
+-- the cell some columns after a place is this one, and can be the cursor's
+abbrev pub IsCellAfter : ℕ → Place → ℕ → Place → Type 0
+IsCellAfter cols p column cell = (has_cell cols p column ≡ true) × (cell ≡ place_at cols p column)
+
 -- what the painter puts under a line
 abbrev pub lower_of : {V : Type 0} → HostRules V → V → Cut → Below → Lower
 lower_of rules v line Nothing = NoLower
 lower_of rules v line below.Preview = preview_of (rules.preview v line.line)
 lower_of rules v line (below.Search direction pattern) = Search (search_text direction pattern.now)
+
+-- what is shown of a prompt, a line and what stands under it, where the screen was not cleared
+abbrev pub scene_of_line : {V : Type 0} → HostRules V → V → List ℕ → Cut → Below → Scene
+scene_of_line rules v prompt line below = scene_with rules v prompt line (lower_of rules v line below) false
 
 -- a scene's painting is drawn
 pub record DrawnScene (cols : ℕ) (scene : Scene) (new : Drawing) (left : Mark) : Type 0 where
@@ -87,6 +101,11 @@ pub record IsSized (size : ScreenSize) : Type 0 where
   pub cols : 0 < size.cols
   pub few_rows : size.rows ≤ 65535
   pub few_cols : size.cols ≤ 65535
+
+-- the batch and the mark are those of the scene's painting, as it is rendered after the one before
+abbrev pub IsPainted : Option Mark → ScreenSize → Scene → Vec Change × Mark → Type 0
+IsPainted before size scene painted =
+    rendered before (painted_on size scene) ≡ Ok (record { changes = batch_view painted.0.items; mark = painted.1 })
 
 -- why there is no painting of the scene: no memory, or the refusal of the painting
 abbrev pub IsUnpainted : ScreenSize → Scene → Error → Type 0

@@ -1,13 +1,13 @@
 //! The painting of a line: the changes that show it, and where they leave the cursor.
 
-ghost use Rattle.std.specs.Prelude.{◌≡◌, ◌+◌, ◌<◌, ◌≤◌, ◌∷◌, [], true, false, nat_abs, map, string_bytes, MatchOption, IfOk, IfErr, ◌++◌, Some, Ok};
+ghost use Rattle.std.specs.Prelude.{◌≡◌, ◌+◌, ◌<◌, ◌≤◌, ◌∷◌, [], false, nat_abs, map, string_bytes, MatchOption, IfOk, IfErr, ◌++◌, Some};
 ghost use Rattle.tw_surface.specs.Characters.{cr, lf};
 ghost use Rattle.tw_surface.specs.ChangeView.{change_view, batch_view};
 ghost use Rattle.tw_surface.specs.Drawings.{place};
-ghost use Rattle.tw_surface.specs.Paintings.{before_line, edge_space, lower_changes, place_at};
+ghost use Rattle.tw_surface.specs.Paintings.{before_line, edge_space, lower_changes};
 ghost use Rattle.tw_host.specs.ElementView.{element_view, changes_of};
-ghost use Rattle.tw_painter.specs.Painting.{preview_of, label, search_text, scene_with, painted_on, start_batch, closing, rendered};
-ghost use Rattle.tw_painter.specs.DrawSteps.{Draws, DrawsScene, with_edge, lower_of, has_cell, IsUnpainted};
+ghost use Rattle.tw_painter.specs.Painting.{preview_of, label, search_text, start_batch, closing};
+ghost use Rattle.tw_painter.specs.DrawSteps.{Draws, DrawsScene, with_edge, lower_of, scene_of_line, has_cell, place_of, IsCellAfter, IsPainted, IsUnpainted};
 
 use crate::error::Error;
 use std::alloc::{AllocError, Global};
@@ -206,9 +206,8 @@ fn cursor_cell(cols: usize, start: (usize, isize), column: usize) -> Option<(usi
     requires columns { cols ≤ 65535 }
     requires row { nat_abs start.1 ≤ 2147483647 }
     ensures { MatchOption result
-        (has_cell cols (record { x = start.0; y = start.1 }) column ≡ false)
-        (λ cell. (has_cell cols (record { x = start.0; y = start.1 }) column ≡ true)
-        × (record { x = cell.0; y = cell.1 } ≡ place_at cols (record { x = start.0; y = start.1 }) column)) }
+        (has_cell cols (place_of start) column ≡ false)
+        (λ cell. IsCellAfter cols (place_of start) column (place_of cell)) }
 {
     let (x, y) = start;
     let reach = x.checked_add(column)?;
@@ -248,7 +247,7 @@ fn draw_scene<H: LineEditorHost>(
     requires empty { drawing.old ≡ record { cols = cols; changes = [] } }
     requires some_columns { 0 < cols }
     requires columns { cols ≤ 65535 }
-    ensures { DrawsScene cols (scene_with H.rules (H.value host.now) prompt.now line.now (lower_of H.rules (H.value host.now) line.now below.entry) false) drawing.new result }
+    ensures { DrawsScene cols (scene_of_line H.rules (H.value host.now) prompt.now line.now below.entry) drawing.new result }
 {
     draw_prompt(drawing, host, alloc, prompt)?;
     let start = drawing.current_cursor_position();
@@ -288,9 +287,8 @@ pub fn paint<H: LineEditorHost>(
     size: ScreenSize,
     before: Option<Mark>,
 ) -> Result<(Vec<Change>, Mark), Error>
-    ensures ok { IfOk result (λ painted. rendered before (painted_on size (scene_with H.rules (H.value host.now) prompt.now line.now (lower_of H.rules (H.value host.now) line.now below.entry) false))
-        ≡ Ok (record { changes = batch_view painted.0.items; mark = painted.1 })) }
-    ensures err { IfErr result (IsUnpainted size (scene_with H.rules (H.value host.now) prompt.now line.now (lower_of H.rules (H.value host.now) line.now below.entry) false)) }
+    ensures ok { IfOk result (IsPainted before size (scene_of_line H.rules (H.value host.now) prompt.now line.now below.entry)) }
+    ensures err { IfErr result (IsUnpainted size (scene_of_line H.rules (H.value host.now) prompt.now line.now below.entry)) }
 {
     let mut drawing = ChangeSequence::new(alloc, size.rows, size.cols)?;
     let painted = draw_scene(&mut drawing, host, alloc, prompt, line, below, size.cols)?;
