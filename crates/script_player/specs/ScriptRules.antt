@@ -1,8 +1,9 @@
 -- The host of a script: one preview under every line, and the same candidates at every request.
-use Rattle.std.specs.Prelude.{◌≡◌, ℕ, true, false, List, [], ◌∷◌, ◌++◌, Some, refl}
+use Rattle.std.specs.Prelude.{◌≡◌, ℕ, true, false, List, [], ◌∷◌, ◌++◌, Some, map, string_bytes, refl}
 use Rattle.std.proofs.lemmas.Bool.{true≢false}
 use Rattle.tw_lineedit.specs.declared.Overrides.{Overrides}
-use Rattle.tw_lineedit.specs.CandidateView.{CandidateView}
+use Rattle.script_player.specs.declared.script_host.ScriptHost.{ScriptHost}
+use Rattle.tw_lineedit.specs.CandidateView.{CandidateView, candidate_view}
 use Rattle.tw_lineedit.specs.ElementView.{ElementView}
 use Rattle.tw_lineedit.specs.HostRules.{HostRules, plain_text, plain_highlight, unresolved}
 use Rattle.tw_lineedit.specs.NearestMatch.{last_line}
@@ -14,6 +15,14 @@ pub record Scripted : Type 0 where
   pub preview : List ℕ
   pub candidates : List CandidateView
 
+-- the value of a host, whose history has these lines
+abbrev pub value_with : {L : Type 0} → (L → List (List ℕ)) → ScriptHost L → Scripted
+value_with lines host = record {
+  lines = lines host.history;
+  preview = string_bytes host.preview;
+  candidates = map candidate_view host.candidates.items;
+}
+
 -- a history, without a preview and without candidates
 abbrev pub history_only : List (List ℕ) → Scripted
 history_only lines = record { lines = lines; preview = []; candidates = [] }
@@ -21,6 +30,10 @@ history_only lines = record { lines = lines; preview = []; candidates = [] }
 -- the history ends with the line, and the rest is as it was
 abbrev pub Remembers : List ℕ → Scripted → Scripted → Type 0
 Remembers line old new = (last_line new.lines ≡ Some line) × (new ≡ record old { lines = new.lines })
+
+-- a text in the place of a part of the line
+abbrev pub candidate : ℕ → ℕ → List ℕ → CandidateView
+candidate start end text = record { start = start; end = end; text = text }
 
 -- one more candidate, which is the last
 abbrev pub with_candidate : CandidateView → Scripted → Scripted

@@ -2,7 +2,7 @@
 use Rattle.std.specs.Prelude.{◌≡◌, map, string_bytes}
 use Rattle.tw_lineedit.specs.CandidateView.{candidate_view}
 use Rattle.script_player.specs.Escapes.{unescaped}
-use Rattle.script_player.specs.ScriptRules.{Scripted, Remembers, with_candidate, with_preview}
+use Rattle.script_player.specs.ScriptRules.{Scripted, candidate, Remembers, with_candidate, with_preview}
 use Rattle.script_player.specs.declared.script.Directive.{Directive}
 use Rattle.script_player.specs.declared.script.Directive.TheVariants.{Preview, History, Candidate}
 use Rattle.script_player.specs.declared.session.Session.{Session}
@@ -19,5 +19,5 @@ host_of session = record {
 abbrev pub Obeys : Directive → Scripted → Scripted → Type 0
 Obeys (Preview text) old new = new ≡ with_preview (unescaped text.now) old
 Obeys (History line) old new = Remembers line.now old new
-Obeys (Candidate range text) old new = new ≡ with_candidate (record { start = range.start; end = range.end; text = text.now }) old
+Obeys (Candidate range text) old new = new ≡ with_candidate (candidate range.start range.end text.now) old
 Obeys _ old new = new ≡ old

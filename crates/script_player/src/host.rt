@@ -1,8 +1,7 @@
 //! The editor that a script plays on.
 
-ghost use Rattle.std.specs.Prelude.{◌≡◌, Ok, IfOk};
-ghost use Rattle.tw_lineedit.specs.Outcomes.{outcome_of};
-ghost use Rattle.script_player.specs.Reading.{ReadsLine, IsSteady};
+ghost use Rattle.std.specs.Prelude.{◌≡◌, IfOk};
+ghost use Rattle.script_player.specs.Reading.{AnswersLine, IsSteady};
 
 use std::alloc::Global;
 use tw_lineedit::{Error, LineEditor, LineEditorHost};
@@ -15,7 +14,7 @@ pub fn read_line<T: Terminal, H: LineEditorHost>(
     host: &mut H,
     prompt: &str,
 ) -> Result<Option<String>, Error>
-    ensures read { IfOk result (λ line. ReadsLine H.rules prompt.now (H.value host.old) (H.value host.new) (T.state terminal.old) (T.state terminal.new) (outcome_of (Ok line))) }
+    ensures read { IfOk result (AnswersLine H.rules prompt.now (H.value host.old) (H.value host.new) (T.state terminal.old) (T.state terminal.new)) }
     ensures kept { IsSteady H.rules → H.value host.new ≡ H.value host.old }
 {
     let mut editor = LineEditor::new(alloc, terminal)?;

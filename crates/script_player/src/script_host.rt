@@ -1,8 +1,7 @@
 //! The host of a script.
 
-ghost use Rattle.std.specs.Prelude.{◌≡◌, map, string_bytes, OnOk, OnErr, refl};
-ghost use Rattle.tw_lineedit.specs.CandidateView.{candidate_view};
-ghost use Rattle.script_player.specs.ScriptRules.{Scripted, history_only, with_candidate, with_preview, script_rules, script_overrides, script_is_plain};
+ghost use Rattle.std.specs.Prelude.{◌≡◌, OnOk, OnErr, refl};
+ghost use Rattle.script_player.specs.ScriptRules.{Scripted, value_with, candidate, history_only, with_candidate, with_preview, script_rules, script_overrides, script_is_plain};
 
 use std::alloc::{AllocError, Global};
 use std::ops::Range;
@@ -21,7 +20,7 @@ pub struct ScriptHost<L> {
 impl<L: History> ScriptHost<L> {
     /// The host with this history, without a preview and without candidates.
     pub fn new(alloc: Global, history: L) -> Self
-        ensures { ⟦<ScriptHost<L> as LineEditorHost>⟧.value result ≡ history_only (L.lines history) }
+        ensures { value_with L.lines result ≡ history_only (L.lines history) }
     {
         ScriptHost {
             alloc,
@@ -33,8 +32,8 @@ impl<L: History> ScriptHost<L> {
 
     /// Shows this preview from now on, and none where it is empty. Where it is refused nothing is changed.
     pub fn set_preview(&mut self, preview: &str) -> Result<(), AllocError>
-        ensures set { OnOk result (⟦<ScriptHost<L> as LineEditorHost>⟧.value self.new ≡ with_preview preview.now (⟦<ScriptHost<L> as LineEditorHost>⟧.value self.old)) }
-        ensures refused { OnErr result (⟦<ScriptHost<L> as LineEditorHost>⟧.value self.new ≡ ⟦<ScriptHost<L> as LineEditorHost>⟧.value self.old) }
+        ensures set { OnOk result (value_with L.lines self.new ≡ with_preview preview.now (value_with L.lines self.old)) }
+        ensures refused { OnErr result (value_with L.lines self.new ≡ value_with L.lines self.old) }
     {
         self.preview = String::from_str(self.alloc, preview)?;
         Ok(())
@@ -42,9 +41,9 @@ impl<L: History> ScriptHost<L> {
 
     /// Adds a candidate behind the others. Where it is refused nothing is changed.
     pub fn offer(&mut self, range: Range<usize>, text: &str) -> Result<(), AllocError>
-        ensures last { OnOk result (⟦<ScriptHost<L> as LineEditorHost>⟧.value self.new
-            ≡ with_candidate (record { start = range.start; end = range.end; text = text.now }) (⟦<ScriptHost<L> as LineEditorHost>⟧.value self.old)) }
-        ensures refused { OnErr result (⟦<ScriptHost<L> as LineEditorHost>⟧.value self.new ≡ ⟦<ScriptHost<L> as LineEditorHost>⟧.value self.old) }
+        ensures last { OnOk result (value_with L.lines self.new
+            ≡ with_candidate (candidate range.start range.end text.now) (value_with L.lines self.old)) }
+        ensures refused { OnErr result (value_with L.lines self.new ≡ value_with L.lines self.old) }
     {
         let text = String::from_str(self.alloc, text)?;
         self.candidates.push(CompletionCandidate { range, text })?;
@@ -57,7 +56,7 @@ impl<L: History> LineEditorHost for ScriptHost<L> {
 
     ghost Value = { Scripted };
 
-    ghost value = { λ host. record { lines = L.lines host.history; preview = string_bytes host.preview; candidates = map candidate_view host.candidates.items } };
+    ghost value = { value_with L.lines };
 
     ghost rules = { script_rules };
 
