@@ -1,5 +1,8 @@
 //! Cases of a line editor as text: what an editor is to do, and what came of it. The tests of the crates above are
 //! written in them.
+//!
+//! `case` reads a case and plays it; `events` has events by their names; `told` says what came of it, as text;
+//! `column_host` is a host with a column of its own.
 #![tactic(auto)]
 
 mod case;

@@ -1,4 +1,10 @@
 //! Plays scripts on a line editor, and tells what it answers and shows.
+//!
+//! A script: `input` reads it, and `script` its lines, with `number`, `keys` (their names) and `escapes` (what a
+//! text stands for). A run: `player` goes through the lines, `session` has what is kept from one to the next,
+//! `host` reads a line with an editor, and `fault` says why a run ends early. The host: `script_host`, with its
+//! history `list_history`. What is told: `answer` how a reading ends, `display` what a screen shows, `shown` a
+//! terminal that shows what is rendered at once, and `output` writes it; `past` has what contracts alone see of it.
 #![tactic(auto)]
 
 mod answer;

@@ -1,4 +1,9 @@
 //! The language of terminals that speak ECMA-48: what is sent for changes, and what the bytes say that come for keys.
+//!
+//! `encode` has what a terminal is sent for changes, with `sequence`, the bytes of control sequences. `decode`
+//! reads what stands at the front of the bytes from a terminal, a `token`: `characters` has the characters and
+//! control keys, and `control` the control sequences. `resume` reads on where a token's bytes come in many pieces.
+//! `laws` has what follows from the definitions.
 #![tactic(auto)]
 
 mod characters;

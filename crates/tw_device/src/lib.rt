@@ -1,4 +1,8 @@
 //! A line editor at a device: a terminal over a writer, events from a reader, and lines that are read as these come.
+//!
+//! `terminal` has the terminal over a writer; `keys` the source of events over a reader, with `unread`, the bytes
+//! that were read and are not yet taken; `reading` the line that is read as the events come. `refused` says why a
+//! call to a device is refused, and `logs` has what contracts alone read of the events and batches.
 #![tactic(auto)]
 
 mod keys;

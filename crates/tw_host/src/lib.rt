@@ -1,4 +1,8 @@
 //! What an application tells a line editor: actions, the key table, and the trait of hosts.
+//!
+//! `actions` has what the editor can be asked to do; `keys` the key table, which says what each key does; `host`
+//! the trait of hosts, with what they answer, and the host of the default answers. `laws` has what follows from the
+//! definitions.
 #![tactic(auto)]
 
 mod actions;

@@ -1,4 +1,7 @@
 //! Keys, modifiers and the events of a terminal.
+//!
+//! `key` has the keys and the modifiers that are held with them; `event` what comes from a terminal. `laws` has
+//! what follows from their types.
 #![tactic(auto)]
 
 mod event;

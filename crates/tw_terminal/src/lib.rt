@@ -1,4 +1,8 @@
 //! The terminal that a line editor works on, and one that plays a script.
+//!
+//! `terminal` has the trait of terminals, the sizes of their screens and their faults; `script` the terminal that
+//! plays a script of events, keeps what is rendered and fails where it is told to. `laws` says that sizes and
+//! faults are compared by their values.
 #![tactic(auto)]
 
 pub mod laws;
