@@ -2,8 +2,7 @@
 
 use script_player::run;
 use std::alloc::Global;
-use std::fmt;
-use std::io;
+use std::{fmt, io};
 
 /// What ends a script's answer.
 const END: &str = "==\n";

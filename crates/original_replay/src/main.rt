@@ -24,5 +24,9 @@ fn main(rt: HostRuntime) -> Result<ExitCode, anyhow::Error> {
         all.add(agreement);
     }
     println!(rt; "all: {all}")?;
-    Ok(if all.is_whole() { ExitCode::SUCCESS } else { ExitCode::FAILURE })
+    Ok(if all.is_whole() {
+        ExitCode::SUCCESS
+    } else {
+        ExitCode::FAILURE
+    })
 }
