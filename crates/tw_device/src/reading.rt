@@ -7,6 +7,7 @@ ghost use Rattle.tw_lineedit.specs.Frame.{frame};
 ghost use Rattle.tw_lineedit.specs.EditState.{Inactive};
 ghost use Rattle.tw_lineedit.specs.Feeding.{status_if};
 ghost use Rattle.tw_lineedit.specs.Outcomes.{is_open};
+ghost use Rattle.tw_device.specs.Logs.{terminal_state};
 ghost use Rattle.tw_device.specs.Live.{fresh, Comes, ComesBy, FailsFrom, FailsBy, IsRead, FailsToRead, IsStopped, answer_from};
 
 use crate::keys::EventSource;
@@ -43,7 +44,8 @@ enum Stop {
 
 /// Gives the terminal the size that an event tells.
 fn resize<W: Write>(terminal: &mut AnsiTerminal<W>, event: &InputEvent)
-    ensures { ⟦<AnsiTerminal<W> as Terminal>⟧.state terminal.new ≡ record (⟦<AnsiTerminal<W> as Terminal>⟧.state terminal.old) { size = size_after (event_view event.now) (⟦<AnsiTerminal<W> as Terminal>⟧.state terminal.old).size } }
+    ensures { let before = terminal_state terminal.old in
+        terminal_state terminal.new ≡ record before { size = size_after (event_view event.now) before.size } }
 {
     if let InputEvent::Resized { cols, rows } = event {
         terminal.set_screen_size(ScreenSize {
@@ -61,10 +63,14 @@ fn feed<W: Write, H: LineEditorHost>(
 ) -> Result<LineStatus, Error>
     requires { is_open editor.old.session.state.mode ≡ true }
     ensures same_reference { editor.new.terminal.ghost_name ≡ editor.old.terminal.ghost_name }
-    ensures ok { OnOk result (Comes H.rules (event_view event.now ∷ []) (frame ⟦<AnsiTerminal<W> as Terminal>⟧.state H.value editor.old host.old) (frame ⟦<AnsiTerminal<W> as Terminal>⟧.state H.value editor.new host.new)) }
+    ensures ok { let before = frame terminal_state H.value editor.old host.old in
+        let after = frame terminal_state H.value editor.new host.new in
+        OnOk result (Comes H.rules (event_view event.now ∷ []) before after) }
     ensures begun { OnOk result (editor.new.session.state.mode ≢ Inactive) }
     ensures status { IfOk result (λ status. status ≡ status_if (is_open editor.new.session.state.mode)) }
-    ensures err { IfErr result (FailsFrom H.rules (event_view event.now ∷ []) (frame ⟦<AnsiTerminal<W> as Terminal>⟧.state H.value editor.old host.old) (frame ⟦<AnsiTerminal<W> as Terminal>⟧.state H.value editor.new host.new)) }
+    ensures err { let before = frame terminal_state H.value editor.old host.old in
+        let after = frame terminal_state H.value editor.new host.new in
+        IfErr result (FailsFrom H.rules (event_view event.now ∷ []) before after) }
 {
     resize(editor.terminal(), event);
     editor.feed(host, event)
@@ -79,10 +85,14 @@ fn take_events<S: EventSource, W: Write, H: LineEditorHost>(
 ) -> Result<Stop, Error>
     requires { is_open editor.old.session.state.mode ≡ true }
     ensures same_reference { editor.new.terminal.ghost_name ≡ editor.old.terminal.ghost_name }
-    ensures ok { OnOk result (ComesBy H.rules (S.told source.old) (S.told source.new) (frame ⟦<AnsiTerminal<W> as Terminal>⟧.state H.value editor.old host.old) (frame ⟦<AnsiTerminal<W> as Terminal>⟧.state H.value editor.new host.new)) }
+    ensures ok { let before = frame terminal_state H.value editor.old host.old in
+        let after = frame terminal_state H.value editor.new host.new in
+        OnOk result (ComesBy H.rules (S.told source.old) (S.told source.new) before after) }
     ensures begun { OnOk result (editor.new.session.state.mode ≢ Inactive) }
     ensures stopped { IfOk result (λ stop. IsStopped stop (is_open editor.new.session.state.mode) (S.state source.new) (S.told source.old) (S.told source.new)) }
-    ensures err { IfErr result (FailsBy H.rules (S.told source.old) (S.told source.new) (frame ⟦<AnsiTerminal<W> as Terminal>⟧.state H.value editor.old host.old) (frame ⟦<AnsiTerminal<W> as Terminal>⟧.state H.value editor.new host.new)) }
+    ensures err { let before = frame terminal_state H.value editor.old host.old in
+        let after = frame terminal_state H.value editor.new host.new in
+        IfErr result (FailsBy H.rules (S.told source.old) (S.told source.new) before after) }
 {
     for turn in 0..u64::MAX {
         let _told = turn;
@@ -125,8 +135,12 @@ pub fn read_line_from<S: EventSource, W: Write, H: LineEditorHost>(
     host: &mut H,
     prompt: &str,
 ) -> Result<Answer, Error>
-    ensures ok { IfOk result (IsRead H.rules (S.told source.old) (S.told source.new) (S.state source.new) (fresh prompt.now (H.value host.old) (⟦<AnsiTerminal<W> as Terminal>⟧.state terminal.old)) (H.value host.new) (⟦<AnsiTerminal<W> as Terminal>⟧.state terminal.new)) }
-    ensures err { IfErr result (FailsToRead H.rules (S.told source.old) (S.told source.new) (S.state source.new) (fresh prompt.now (H.value host.old) (⟦<AnsiTerminal<W> as Terminal>⟧.state terminal.old)) (H.value host.new) (⟦<AnsiTerminal<W> as Terminal>⟧.state terminal.new)) }
+    ensures ok { let begun = fresh prompt.now (H.value host.old) (terminal_state terminal.old) in
+        IfOk result (IsRead H.rules (S.told source.old) (S.told source.new) (S.state source.new) begun
+        (H.value host.new) (terminal_state terminal.new)) }
+    ensures err { let begun = fresh prompt.now (H.value host.old) (terminal_state terminal.old) in
+        IfErr result (FailsToRead H.rules (S.told source.old) (S.told source.new) (S.state source.new) begun
+        (H.value host.new) (terminal_state terminal.new)) }
 {
     let mut editor = LineEditor::new(alloc, terminal)?;
     editor.set_prompt(prompt)?;

@@ -5,7 +5,7 @@ ghost use Rattle.std.specs.Prelude.{◌≡◌, ◌++◌, [], length, IfOk, OnOk,
 ghost use Rattle.tw_surface.specs.ChangeView.{batch_view};
 ghost use Rattle.tw_terminal.specs.TerminalState.{RenderFails, Renders};
 ghost use Rattle.tw_ansi.specs.Encoding.{sent_batch};
-ghost use Rattle.tw_device.specs.Logs.{batches_of};
+ghost use Rattle.tw_device.specs.Logs.{terminal_state};
 
 use crate::logs::{BatchLog, ChangeLog};
 use crate::refused::Refused;
@@ -32,7 +32,7 @@ pub struct AnsiTerminal<W> {
 impl<W: Write> AnsiTerminal<W> {
     /// A terminal of this size, whose cursor stands in column 0.
     pub fn new(alloc: Global, writer: W, size: ScreenSize) -> Self
-        ensures { ⟦<AnsiTerminal<W> as Terminal>⟧.state result ≡ record { size = size; events = []; batches = []; flushed = 0; failures = 0 } }
+        ensures { terminal_state result ≡ record { size = size; events = []; batches = []; flushed = 0; failures = 0 } }
     {
         let batches = BatchLog::Nothing;
         let flushed = Snapshot::of(&batches);
@@ -49,7 +49,7 @@ impl<W: Write> AnsiTerminal<W> {
 
     /// Sets the size, which nothing else changes.
     pub fn set_screen_size(&mut self, size: ScreenSize)
-        ensures { ⟦<AnsiTerminal<W> as Terminal>⟧.state self.new ≡ record (⟦<AnsiTerminal<W> as Terminal>⟧.state self.old) { size = size } }
+        ensures { terminal_state self.new ≡ record (terminal_state self.old) { size = size } }
     {
         self.encoder.set_cols(size.cols);
         self.size = size;
@@ -57,7 +57,7 @@ impl<W: Write> AnsiTerminal<W> {
 
     /// Sends a text as it is. It has to leave the cursor in column 0.
     pub fn send(&mut self, text: &str) -> Result<(), TerminalFault>
-        ensures kept { ⟦<AnsiTerminal<W> as Terminal>⟧.state self.new ≡ ⟦<AnsiTerminal<W> as Terminal>⟧.state self.old }
+        ensures kept { terminal_state self.new ≡ terminal_state self.old }
         ensures sent { OnOk result (Appends (W.contents self.old.writer) (W.contents self.new.writer) text.now) }
     {
         match self.writer.write_all(text.as_bytes()) {
@@ -82,8 +82,8 @@ impl<W: Write> AnsiTerminal<W> {
     fn put(&mut self, changes: &[Change]) -> Result<(), Refused>
         ensures sent { OnOk result (Appends (W.contents self.old.writer) (W.contents self.new.writer) (sent_batch (batch_view changes.now) self.old.encoder).bytes) }
         ensures next { OnOk result (self.new.encoder ≡ (sent_batch (batch_view changes.now) self.old.encoder).next) }
-        ensures ok { OnOk result (Renders (batch_view changes.now) (⟦<AnsiTerminal<W> as Terminal>⟧.state self.old) (⟦<AnsiTerminal<W> as Terminal>⟧.state self.new)) }
-        ensures err { OnErr result (⟦<AnsiTerminal<W> as Terminal>⟧.state self.new ≡ ⟦<AnsiTerminal<W> as Terminal>⟧.state self.old) }
+        ensures ok { OnOk result (Renders (batch_view changes.now) (terminal_state self.old) (terminal_state self.new)) }
+        ensures err { OnErr result (terminal_state self.new ≡ terminal_state self.old) }
     {
         let mut text = String::new(self.alloc);
         let encoder = self.encode(changes, &mut text)?;
@@ -97,13 +97,7 @@ impl<W: Write> AnsiTerminal<W> {
 }
 
 impl<W: Write> Terminal for AnsiTerminal<W> {
-    ghost state = { λ it. record {
-      size = it.size;
-      events = [];
-      batches = batches_of it.batches;
-      flushed = length (batches_of it.flushed.value);
-      failures = it.failures;
-    } };
+    ghost state = { terminal_state };
 
     fn get_screen_size(&mut self) -> Result<ScreenSize, TerminalFault> {
         Ok(self.size)
@@ -115,8 +109,8 @@ impl<W: Write> Terminal for AnsiTerminal<W> {
 
     /// Sends the bytes of the changes at once. Where the writer is refused a beginning of them may have been sent.
     fn render(&mut self, changes: &[Change]) -> Result<(), TerminalFault>
-        ensures ok { OnOk result (Renders (batch_view changes.now) (⟦<AnsiTerminal<W> as Terminal>⟧.state self.old) (⟦<AnsiTerminal<W> as Terminal>⟧.state self.new)) }
-        ensures err { OnErr result (RenderFails (batch_view changes.now) (⟦<AnsiTerminal<W> as Terminal>⟧.state self.old) (⟦<AnsiTerminal<W> as Terminal>⟧.state self.new)) }
+        ensures ok { OnOk result (Renders (batch_view changes.now) (terminal_state self.old) (terminal_state self.new)) }
+        ensures err { OnErr result (RenderFails (batch_view changes.now) (terminal_state self.old) (terminal_state self.new)) }
         ensures sent { OnOk result (Appends (W.contents self.old.writer) (W.contents self.new.writer) (sent_batch (batch_view changes.now) self.old.encoder).bytes) }
         ensures next { OnOk result (self.new.encoder ≡ (sent_batch (batch_view changes.now) self.old.encoder).next) }
     {
