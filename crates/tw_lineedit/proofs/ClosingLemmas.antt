@@ -1,5 +1,6 @@
 -- The end of read_line, against the run.
 use Rattle.std.proofs.Common.{◌≡◌, ℕ, List, IsSome, [], ◌++◌, length, refl, sym, ◌∙◌, ap, subst, inl, inr, Option, None, Err, ◌⊎◌}
+use Rattle.std.specs.Prelude.{⊤}
 use Rattle.std.proofs.lemmas.List.{append-nil}
 use Rattle.tw_surface.specs.ChangeView.{Batch}
 use Rattle.tw_terminal.specs.TerminalState.{TerminalState, count_up, RenderFails}
@@ -8,7 +9,7 @@ use Rattle.tw_painter.specs.EditState.{EditState, Inactive}
 use Rattle.tw_painter.specs.Refusal.{Refusal, refusal_of, IsMemory}
 use Rattle.tw_session.specs.Outcomes.{Outcome, answer_at, IsLine, IsRefusal}
 use Rattle.tw_painter.specs.Painting.{Mark, closing, closing_if}
-use Rattle.tw_lineedit.specs.Frame.{Frame}
+use Rattle.tw_lineedit.specs.Frame.{Frame, with_value}
 use Rattle.tw_lineedit.specs.Run.{Ending, Moment, run_of, ending, StandsAt, Quiet, IsAnswered, IsRefused, moment, progress_of, IsRefusedIn}
 use Rattle.tw_lineedit.specs.EditorSteps.{Closes, CutsClosing, MissesFlush, FailsToClose, GivesUp}
 use Rattle.tw_lineedit.specs.Reading.{start, unbegun, Reads, paused, ClosesWhole, ClosesInPart, ClosesUnflushed, ClosesBadly, Starves, Faults, Halts, FailsToRead, IsTurnedDown, HaltsIn, HaltsRefused, FailsIn}
@@ -16,6 +17,26 @@ use Rattle.tw_painter.specs.declared.error.Error.{Error}
 use Rattle.tw_painter.specs.declared.error.Error.TheVariants.{Memory, Terminal}
 use Rattle.tw_lineedit.specs.Feeding.{Uncopied, FailsToFinish, begun_run, WantsToBegin, FaultsToBegin, IsNotBegun, FailsToBegin}
 use Rattle.tw_lineedit.proofs.StandLemmas.{stands_here}
+
+-- what is done without the host, with a host's value
+module _ {V : Type 0} (v : V) where
+  pub closes_with : (f g : Frame ⊤) → Closes f g → Closes (with_value v f) (with_value v g)
+  closes_with f g c = record { state = c.state; value = refl; last = c.last; terminal = c.terminal }
+
+  cuts_with : (f g : Frame ⊤) → CutsClosing f g → CutsClosing (with_value v f) (with_value v g)
+  cuts_with f g c = record { state = c.state; value = refl; last = c.last; terminal = c.terminal }
+
+  misses_with : (f g : Frame ⊤) → MissesFlush f g → MissesFlush (with_value v f) (with_value v g)
+  misses_with f g c = record { state = c.state; value = refl; last = c.last; terminal = c.terminal }
+
+  pub fails_with : (f g : Frame ⊤) (e : Error) → FailsToClose f g e → FailsToClose (with_value v f) (with_value v g) e
+  fails_with f g (Terminal x) (inl c) = inl (cuts_with f g c)
+  fails_with f g (Terminal x) (inr m) = inr (misses_with f g m)
+  fails_with f g _ bad = absurd bad
+
+  pub gives_up_with : (refusal : Error) (f g : Frame ⊤) (e : Error) → GivesUp refusal f g e → GivesUp refusal (with_value v f) (with_value v g) e
+  gives_up_with refusal f g e (inl (same, c)) = inl (same, closes_with f g c)
+  gives_up_with refusal f g e (inr c) = inr (fails_with f g e c)
 
 module _ {V : Type 0} where
   -- the mode once the run is closed

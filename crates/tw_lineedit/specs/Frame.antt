@@ -1,5 +1,5 @@
 -- What an editor is to its contracts.
-use Rattle.std.specs.Prelude.{Option}
+use Rattle.std.specs.Prelude.{Option, ⊤}
 use Rattle.tw_terminal.specs.TerminalState.{TerminalState}
 use Rattle.tw_painter.specs.EditState.{EditState}
 use Rattle.tw_painter.specs.Painting.{Mark}
@@ -16,3 +16,11 @@ pub record Frame (V : Type 0) : Type 0 where
 -- an editor with its host and its terminal
 abbrev pub frame : {T H V : Type 0} → (T → TerminalState) → (H → V) → EditorOver T SessionView → H → Frame V
 frame state value editor host = record { state = editor.session.state; value = value host; last = editor.session.last; terminal = state editor.terminal.now }
+
+-- an editor with its terminal, for what is done without the host
+abbrev pub own_frame : {T : Type 0} → (T → TerminalState) → EditorOver T SessionView → Frame ⊤
+own_frame state editor = frame state (λ (none : ⊤). none) editor tt
+
+-- the same with a host's value
+abbrev pub with_value : {V : Type 0} → V → Frame ⊤ → Frame V
+with_value v f = record { state = f.state; value = v; last = f.last; terminal = f.terminal }

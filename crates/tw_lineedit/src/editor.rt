@@ -14,7 +14,7 @@ ghost use Rattle.tw_session.specs.Outcomes.{outcome_of, answer_at, IsLine};
 ghost use Rattle.tw_painter.specs.Painting.{closing, clear_batch};
 ghost use Rattle.tw_session.specs.SessionView.{new_session, on_state};
 ghost use Rattle.tw_painter.specs.Refusal.{IsMemory};
-ghost use Rattle.tw_lineedit.specs.Frame.{frame};
+ghost use Rattle.tw_lineedit.specs.Frame.{frame, own_frame};
 ghost use Rattle.tw_lineedit.specs.Run.{progress_of, resolved, run_of, IsAnswered};
 ghost use Rattle.tw_lineedit.specs.Lent.{EndsAs, editor_row};
 ghost use Rattle.tw_lineedit.specs.EditorSteps.{Keeps, Closes, FailsToClose, CallFails, ShowsBatch, FailsToShow, Paints, FailsToPaint, Applies, FailsToApply, Handles, FailsToHandle, answered_frame, TakesEvent, HasNoEvent, Advances, FailsToAdvance, GivesUp};
@@ -298,14 +298,10 @@ impl<'term, T: Terminal> LineEditor<'term, T> {
     }
 
     /// Ends the run: the mode is Inactive, nothing counts as painted, and the closing batch is rendered and flushed.
-    fn close<H: LineEditorHost>(&mut self, host: &H) -> Result<(), Error>
+    fn close(&mut self) -> Result<(), Error>
         ensures same_reference { self.new.terminal.ghost_name ≡ self.old.terminal.ghost_name }
-        ensures ok { let before = frame T.state H.value self.old host.now in
-            let after = frame T.state H.value self.new host.now in
-            OnOk result (Closes before after) }
-        ensures err { let before = frame T.state H.value self.old host.now in
-            let after = frame T.state H.value self.new host.now in
-            IfErr result (FailsToClose before after) }
+        ensures ok { OnOk result (Closes (own_frame T.state self.old) (own_frame T.state self.new)) }
+        ensures err { IfErr result (FailsToClose (own_frame T.state self.old) (own_frame T.state self.new)) }
     {
         match self.session.end() {
             None => {}
@@ -377,13 +373,11 @@ impl<'term, T: Terminal> LineEditor<'term, T> {
     }
 
     /// Closes after a refusal, and answers it, or else why the closing is refused.
-    fn give_up<H: LineEditorHost>(&mut self, host: &H, refusal: Error) -> Error
+    fn give_up(&mut self, refusal: Error) -> Error
         ensures same_reference { self.new.terminal.ghost_name ≡ self.old.terminal.ghost_name }
-        ensures gives_up { let before = frame T.state H.value self.old host.now in
-            let after = frame T.state H.value self.new host.now in
-            GivesUp refusal before after result }
+        ensures gives_up { GivesUp refusal (own_frame T.state self.old) (own_frame T.state self.new) result }
     {
-        match self.close(host) {
+        match self.close() {
             Ok(()) => refusal,
             Err(fault) => fault,
         }
@@ -406,10 +400,10 @@ impl<'term, T: Terminal> LineEditor<'term, T> {
     {
         match self.read_open(host, initial) {
             Ok(line) => {
-                self.close(host)?;
+                self.close()?;
                 Ok(line)
             }
-            Err(refusal) => Err(self.give_up(host, refusal)),
+            Err(refusal) => Err(self.give_up(refusal)),
         }
     }
 

@@ -152,10 +152,10 @@ impl<'term, T: Terminal> LineEditor<'term, T> {
     {
         match self.answered(host) {
             Ok(line) => {
-                self.close(host)?;
+                self.close()?;
                 Ok(line)
             }
-            Err(refusal) => Err(self.give_up(host, refusal)),
+            Err(refusal) => Err(self.give_up(refusal)),
         }
     }
 
@@ -192,7 +192,7 @@ impl<'term, T: Terminal> LineEditor<'term, T> {
     {
         match self.start_line(host, initial) {
             Ok(()) => Ok(()),
-            Err(refusal) => Err(self.give_up(host, refusal)),
+            Err(refusal) => Err(self.give_up(refusal)),
         }
     }
 
@@ -211,7 +211,7 @@ impl<'term, T: Terminal> LineEditor<'term, T> {
     {
         match self.advance(host, event) {
             Ok(()) => Ok(()),
-            Err(refusal) => Err(self.give_up(host, refusal)),
+            Err(refusal) => Err(self.give_up(refusal)),
         }
     }
 }
