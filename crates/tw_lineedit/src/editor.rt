@@ -283,16 +283,14 @@ impl<'term, T: Terminal> LineEditor<'term, T> {
             IfErr result (IsRefusedOn H.rules (T.state self.old.terminal.now).events before after) }
     {
         while self.turn(host)? {}
-        self.answered(host)
+        self.answered()
     }
 
     /// The answer at the end of a run.
-    fn answered<H: LineEditorHost>(&mut self, host: &H) -> Result<Option<String>, Error>
-        ensures same_reference { self.new.terminal.ghost_name ≡ self.old.terminal.ghost_name }
-        ensures same { frame T.state H.value self.new host.now ≡ frame T.state H.value self.old host.now }
-        ensures ok { IfOk result (λ it. outcome_of (Ok it) ≡ answer_at (self.old.session.state)) }
+    fn answered(&self) -> Result<Option<String>, Error>
+        ensures ok { IfOk result (λ it. outcome_of (Ok it) ≡ answer_at self.now.session.state) }
         ensures err { IfErr result IsMemory }
-        ensures line { OnErr result (IsLine (answer_at (self.old.session.state))) }
+        ensures line { OnErr result (IsLine (answer_at self.now.session.state)) }
     {
         Ok(self.session.answer()?)
     }
@@ -311,18 +309,11 @@ impl<'term, T: Terminal> LineEditor<'term, T> {
     }
 
     /// Empties the line, or fills it with the initial value.
-    fn begin<H: LineEditorHost>(
-        &mut self,
-        host: &H,
-        initial: Option<&str>,
-    ) -> Result<(), AllocError>
+    fn begin(&mut self, initial: Option<&str>) -> Result<(), AllocError>
         ensures same_reference { self.new.terminal.ghost_name ≡ self.old.terminal.ghost_name }
-        ensures ok { let before = frame T.state H.value self.old host.now in
-            let after = frame T.state H.value self.new host.now in
-            OnOk result (after ≡ start (initial_text initial.entry) before) }
-        ensures err { let before = frame T.state H.value self.old host.now in
-            let after = frame T.state H.value self.new host.now in
-            OnErr result (after ≡ start None before) }
+        ensures ok { let before = own_frame T.state self.old in
+            OnOk result (own_frame T.state self.new ≡ start (initial_text initial.entry) before) }
+        ensures err { OnErr result (own_frame T.state self.new ≡ start None (own_frame T.state self.old)) }
         ensures initial { OnErr result (IsSome (initial_text initial.entry)) }
     {
         self.session.begin();
@@ -347,7 +338,7 @@ impl<'term, T: Terminal> LineEditor<'term, T> {
             let after = frame T.state H.value self.new host.now in
             IfErr result (IsNotBegun H.rules (initial_text initial.entry) before after) }
     {
-        match self.begin(host, initial) {
+        match self.begin(initial) {
             Ok(()) => self.paint(host),
             Err(e) => Err(Error::Memory(e)),
         }

@@ -150,7 +150,7 @@ impl<'term, T: Terminal> LineEditor<'term, T> {
             let after = frame T.state H.value self.new host.now in
             IfErr result (FailsToFinish before after) }
     {
-        match self.answered(host) {
+        match self.answered() {
             Ok(line) => {
                 self.close()?;
                 Ok(line)
