@@ -19,7 +19,7 @@ frame state value editor host = record { state = editor.session.state; value = v
 
 -- an editor with its terminal, for what is done without the host
 abbrev pub own_frame : {T : Type 0} → (T → TerminalState) → EditorOver T SessionView → Frame ⊤
-own_frame state editor = frame state (λ (none : ⊤). none) editor tt
+own_frame state editor = frame state (λ (x : ⊤). x) editor tt
 
 -- the same with a host's value
 abbrev pub with_value : {V : Type 0} → V → Frame ⊤ → Frame V
