@@ -1,7 +1,7 @@
 //! A terminal over a writer. Its events are not its own affair: they are fed to the editor.
 
 ghost use Rattle.std.specs.Io.KnownBytes.{Appends};
-ghost use Rattle.std.specs.Prelude.{◌≡◌, ◌++◌, [], length, IfOk, OnOk, OnErr, string_bytes};
+ghost use Rattle.std.specs.Prelude.{◌≡◌, ◌++◌, [], IfOk, OnOk, OnErr, string_bytes};
 ghost use Rattle.tw_surface.specs.ChangeView.{batch_view};
 ghost use Rattle.tw_terminal.specs.TerminalState.{RenderFails, Renders};
 ghost use Rattle.tw_ansi.specs.Encoding.{sent_batch};

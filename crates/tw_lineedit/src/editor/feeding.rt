@@ -1,6 +1,6 @@
 //! A line that is fed its events as they come.
 
-ghost use Rattle.std.specs.Prelude.{◌≡◌, ◌≢◌, Ok, Err, None, IfOk, IfErr, OnOk, option_map, List, true, false};
+ghost use Rattle.std.specs.Prelude.{◌≡◌, ◌≢◌, Ok, Err, None, IfOk, IfErr, OnOk, List, true, false};
 ghost use Rattle.std.specs.Borrow.{sem};
 ghost use Rattle.tw_lineedit.specs.Frame.{frame};
 ghost use Rattle.tw_lineedit.specs.Lent.{LendsTerminal};
