@@ -1,32 +1,16 @@
 -- Known bytes that are written or read one part after another.
-use Rattle.std.proofs.Common.{◌≡◌, ℕ, List, [], ◌++◌, Option, Some, None, sym, ap, ◌∙◌, append_assoc, append-nil, length, take, drop, ◌-◌, take-append-drop, subst}
+use Rattle.std.proofs.Common.{◌≡◌, ℕ, List, [], ◌++◌, Option, Some, None, sym, ap, ◌∙◌, append_assoc, length, take, drop, ◌-◌, take-append-drop, subst}
 use Rattle.std.proofs.lemmas.List.{take_rest}
-use Rattle.std.specs.Io.KnownBytes.{Appends, Consumes, Keeps}
+use Rattle.std.specs.Io.KnownBytes.{Appends}
 use Rattle.script_player.specs.Written.{Extends, NamesBadLine, bad_line}
 use Rattle.script_player.specs.declared.fault.RunFault.{RunFault}
 use Rattle.script_player.specs.declared.fault.RunFault.TheVariants.{BadLine, Io, Memory}
-
-pub appended_nothing : (a : Option (List ℕ)) → Appends a a []
-appended_nothing None = tt
-appended_nothing (Some xs) = sym (append-nil xs)
 
 pub appended_then : (a b c : Option (List ℕ)) (xs ys : List ℕ) → Appends a b xs → Appends b c ys → Appends a c (xs ++ ys)
 appended_then None b c xs ys p q = tt
 appended_then (Some x) None c xs ys p q = absurd p
 appended_then (Some x) (Some y) None xs ys p q = absurd q
 appended_then (Some x) (Some y) (Some z) xs ys p q = q ∙ ap (λ (l : List ℕ). l ++ ys) p ∙ append_assoc x xs ys
-
-pub appended_kept : (a b c : Option (List ℕ)) (xs : List ℕ) → Appends a b xs → Keeps b c → Appends a c xs
-appended_kept None b c xs p q = tt
-appended_kept (Some x) None c xs p q = absurd p
-appended_kept (Some x) (Some y) None xs p q = absurd q
-appended_kept (Some x) (Some y) (Some z) xs p q = q ∙ p
-
-pub consumed_then : (a b c : Option (List ℕ)) (xs ys : List ℕ) → Consumes a b xs → Consumes b c ys → Consumes a c (xs ++ ys)
-consumed_then None b c xs ys p q = tt
-consumed_then (Some x) None c xs ys p q = absurd p
-consumed_then (Some x) (Some y) None xs ys p q = absurd q
-consumed_then (Some x) (Some y) (Some z) xs ys p q = p ∙ ap (λ (l : List ℕ). xs ++ l) q ∙ sym (append_assoc xs ys z)
 
 -- a part of what was left goes over to what is done
 pub done_more : (all done rest : List ℕ) (n : ℕ) → all ≡ done ++ rest → all ≡ (done ++ take n rest) ++ take (length rest - n) (drop n rest)

@@ -6,7 +6,7 @@ use Rattle.tw_surface.specs.Pictures.{Picture, written}
 use Rattle.tw_surface.specs.Scrolling.{IsWithin, scroll}
 use Rattle.tw_ansi.specs.declared.encode.Encoder.{Encoder}
 use Rattle.tw_ansi.specs.Encoding.{at_column}
-use Rattle.tw_ansi.specs.EcmaScreen.{EcmaScreen, receive, receive_by, receive_text, return_to_start, feed_line, write, write_here}
+use Rattle.tw_ansi.specs.EcmaScreen.{EcmaScreen, receive, receive_by, return_to_start, feed_line, write, write_here}
 use Rattle.tw_ansi.specs.EcmaScreen as terminal
 use Rattle.tw_ansi.specs.EcmaTexts.{Shows}
 use Rattle.tw_ansi.proofs.EcmaScrolls.{Fed}

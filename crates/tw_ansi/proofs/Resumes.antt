@@ -2,10 +2,10 @@
 use Rattle.std.proofs.Common.{◌≡◌, ◌≢◌, ◌≤◌, ◌<◌, ◌+◌, ◌-◌, ℕ, zero, suc, Bool, true, false, not, ◌&&◌, cond, eqb, List, [], ◌∷◌, ◌++◌, Option, Some, None, IfSome, Result, Ok, Err, IfOk, OnErr, IfErr, take, drop, length, arith, ap, subst, ◌∙◌, sym, refl, inl, inr, ◌⊎◌, length-drop, length-take}
 use Rattle.std.specs.List.{prefix_len, list_all, starts_with}
 use Rattle.std.specs.Option.{option_map, ok_or}
-use Rattle.std.proofs.lemmas.Bool.{cases_lt, cases_Bool, and_parts, ne_eqb, eq-eqb, eqb-true, false≢true}
+use Rattle.std.proofs.lemmas.Bool.{cases_lt, and_parts, ne_eqb, eq-eqb, eqb-true, false≢true}
 use Rattle.std.proofs.lemmas.List.Folds.{prefix_len-append}
 use Rattle.std.proofs.lemmas.List.Sums.{prefix_len-le-length}
-use Rattle.std.proofs.lemmas.List.{drop-drop, drop-append-le, take-append-le, append-nil, append_assoc, length-append, take_rest}
+use Rattle.std.proofs.lemmas.List.{drop-drop, drop-append-le, take-append-le, append-nil, take_rest}
 use Rattle.tw_ansi.specs.declared.token.Scanned.{Scanned}
 use Rattle.tw_ansi.specs.declared.resume.Progress.{Progress}
 use Rattle.tw_ansi.specs.declared.resume.Progress.TheVariants.{Start, Parameters, Paste}
@@ -18,13 +18,6 @@ use Rattle.tw_ansi.proofs.Tokens.{takes_bytes}
 -- nothing is known of any bytes
 pub fits_start : (bytes : List ℕ) → Fits Start bytes
 fits_start bytes = record { within = omega arith; goes_on = λ l more. refl }
-
--- what fits some bytes fits them and more
-pub fits_more : (p : Progress) (bytes more : List ℕ) → Fits p bytes → Fits p (bytes ++ more)
-fits_more p bytes more f = record {
-  within = omega (arith, f.within, length-append bytes more);
-  goes_on = λ l later. subst (λ xs. resumed p l xs ≡ token_at l xs) (sym (append_assoc bytes more later)) (f.goes_on l (more ++ later));
-}
 
 -- going on gives the token of the bytes that are there
 pub goes_here : (p : Progress) (l : Bool) (bytes : List ℕ) → Fits p bytes → resumed p l bytes ≡ token_at l bytes

@@ -1,5 +1,5 @@
 -- A line that is fed what a source tells, against the run.
-use Rattle.std.proofs.Common.{◌≡◌, ◌≢◌, ◌+◌, length, arith, IfOk, OnOk, IfErr, ℕ, List, [], ◌∷◌, ◌++◌, cond, Bool, true, false, refl, sym, ◌∙◌, ap, subst, inl, inr, Option, None, Some, IsSome, String, Result, Ok, Err, ◌⊎◌}
+use Rattle.std.proofs.Common.{◌≡◌, ◌≢◌, ◌+◌, length, arith, IfOk, OnOk, IfErr, ℕ, List, [], ◌∷◌, ◌++◌, cond, Bool, true, false, refl, sym, ◌∙◌, ap, subst, inl, inr, Option, None, Some, String, Result, Ok, Err, ◌⊎◌}
 use Rattle.std.proofs.lemmas.Bool.{false≢true}
 use Rattle.std.proofs.lemmas.List.{append-nil, append_assoc, length-append}
 use Rattle.std.specs.declared.alloc.Global.{Global}
@@ -12,15 +12,15 @@ use Rattle.tw_lineedit.specs.EditState.{EditState, ModeView, Inactive, Editing, 
 use Rattle.tw_lineedit.specs.HostRules.{HostRules}
 use Rattle.tw_lineedit.specs.Painting.{Rendered, clear_batch}
 use Rattle.tw_lineedit.specs.Outcomes.{Outcome, outcome_of, answer_at, line_in, is_over, is_open}
-use Rattle.tw_lineedit.specs.Refusal.{Refusal, refusal_of, IsMemory}
+use Rattle.tw_lineedit.specs.Refusal.{Refusal, refusal_of}
 use Rattle.tw_lineedit.specs.Feeding.{paint_end, painted_run, fed_run, run_on, CanMiss, CanRefuse, unresolved, unapplied, half_cleared, missed, CanStopAt, refused, later, CanStopOn, uncopied, at_event, Begins, begun_run, WantsToBegin, FaultsToBegin, FailsToBegin, IsFed, event_run, WantsToFeed, FaultsToFeed, FailsToFeed, FailsToFinish, Uncopied}
-use Rattle.tw_lineedit.specs.Reading.{start, Reads, FailsIn, HaltsIn, HaltsRefused, ClosesBadly, ClosesWhole, ClosesInPart, ClosesUnflushed, paused}
+use Rattle.tw_lineedit.specs.Reading.{start, Reads, FailsIn, HaltsIn, HaltsRefused, ClosesBadly, paused}
 use Rattle.tw_lineedit.specs.Run.{Progress, Ending, Moment, Cause, want, fault, run, ends, ending, at_end, moment, progress_of, painting_at, polled, answered, handled, state_after, after_event, CanStop, Quiet}
 use Rattle.tw_lineedit.specs.SessionView.{SessionView}
 use Rattle.tw_lineedit.specs.declared.Error.{Error}
 use Rattle.tw_lineedit.specs.declared.Error.TheVariants.{Memory, Terminal}
 use Rattle.tw_lineedit.proofs.FeedingLemmas.{open_goes_on, stops_unpainted}
-use Rattle.tw_device.specs.Live.{resized, frame_of, Opens, Comes, ComesBy, Left, FailsFrom, FailsBy, FailsOver, FailsTold, ReadsTold, run_over, IsRead, outcome_in, was_ended, IsStopped, IsCut, answer_from}
+use Rattle.tw_device.specs.Live.{resized, frame_of, Opens, Comes, ComesBy, FailsFrom, FailsBy, FailsOver, FailsTold, ReadsTold, run_over, IsRead, IsStopped, answer_from}
 use Rattle.tw_device.specs.Live as live
 use Rattle.tw_device.specs.declared.keys.SourceState.{SourceState}
 use Rattle.tw_device.specs.declared.reading.Answer.{Answer}
@@ -158,10 +158,6 @@ module _ {V : Type 0} (rules : HostRules V) where
   pub opened : (f g : Frame V) → Begins rules f g → Opens rules f g
   opened f g b = record { run = b.run; stops = b.stops; quiet = b.quiet; left = b.left }
 
-  -- no event is taken
-  pub comes_nowhere : (f : Frame V) → Comes rules [] f f
-  comes_nowhere f = record { run = λ xs. refl; stops = λ c xs m r. r; quiet = record { flushed = refl; failures = refl }; left = refl }
-
   -- an event is taken
   pub comes_one : (e : EventView) (f g : Frame V) → is_over f.state.mode ≡ false → IsFed rules e (resized e f) g → Comes rules (e ∷ []) f g
   comes_one e f g o t = record {
@@ -175,19 +171,6 @@ module _ {V : Type 0} (rules : HostRules V) where
   pub comes_fed : (e : EventView) (f h k : Frame V) → is_open f.state.mode ≡ true → h ≡ resized e f → (is_open h.state.mode ≡ true → IsFed rules e h k) → Comes rules (e ∷ []) f k
   comes_fed e f h k o hf t =
       comes_one e f k (open_goes_on f.state.mode o) (subst (λ (y : Frame V). IsFed rules e y k) hf (t (subst (λ (y : Frame V). is_open y.state.mode ≡ true) (sym hf) o)))
-
-  -- and the line is not closed
-  pub begun_fed : (e : EventView) (f h k : Frame V) → is_open f.state.mode ≡ true → h ≡ resized e f → (is_open h.state.mode ≡ true → IsFed rules e h k) → k.state.mode ≢ Inactive
-  begun_fed e f h k o hf t = (t (subst (λ (y : Frame V). is_open y.state.mode ≡ true) (sym hf) o)).begun
-
-  -- more events are taken
-  pub comes_on : (xs ys : List EventView) (f g h : Frame V) → Comes rules xs f g → Comes rules ys g h → Comes rules (xs ++ ys) f h
-  comes_on xs ys f g h a b = record {
-    run = λ zs. ap (λ (es : List EventView). run_on rules es (progress_of f)) (append_assoc xs ys zs) ∙ a.run (ys ++ zs) ∙ b.run zs;
-    stops = λ c zs m r. subst (λ (es : List EventView). CanStopOn rules c es (progress_of f) m) (sym (append_assoc xs ys zs)) (a.stops c (ys ++ zs) m (b.stops c zs m r));
-    quiet = quiet_on f g h a.quiet b.quiet;
-    left = b.left ∙ a.left;
-  }
 
   -- refusals
 
@@ -311,19 +294,11 @@ module _ {V : Type 0} (rules : HostRules V) where
 
   -- what the source told
 
-  -- nothing so far
-  pub by_none : (old : List EventView) (f : Frame V) → ComesBy rules old old f f
-  by_none old f = ([], sym (append-nil old), comes_nowhere f)
-
   -- one event more
   told_one : (old mid new xs : List EventView) (e : EventView) → mid ≡ old ++ xs → new ≡ mid ++ e ∷ [] → new ≡ old ++ (xs ++ e ∷ [])
   told_one old mid new xs e a b = b ∙ ap (λ (ys : List EventView). ys ++ e ∷ []) a ∙ append_assoc old xs (e ∷ [])
 
-  -- and it is taken
-  pub by_one : (old mid new : List EventView) (e : EventView) (f g h : Frame V) → ComesBy rules old mid f g → new ≡ mid ++ e ∷ [] → Comes rules (e ∷ []) g h → ComesBy rules old new f h
-  by_one old mid new e f g h (xs, told, a) more b = (xs ++ e ∷ [], told_one old mid new xs e told more, comes_on xs (e ∷ []) f g h a b)
-
-  -- or refused
+  -- one event more, by which feeding fails
   pub fails_by_one : (old mid new : List EventView) (e : EventView) (f g h : Frame V) (x : Error) → ComesBy rules old mid f g → new ≡ mid ++ e ∷ []
       → FailsFrom rules (e ∷ []) g h x → FailsBy rules old new f h x
   fails_by_one old mid new e f g h x (xs, told, a) more r = (xs ++ e ∷ [], told_one old mid new xs e told more, refused_on xs (e ∷ []) f g h x a r)

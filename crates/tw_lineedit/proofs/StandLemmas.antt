@@ -43,10 +43,6 @@ module _ {V : Type 0} where
   pub quiet_self : (f : Frame V) → Quiet f f
   quiet_self f = record { flushed = refl; failures = refl }
 
-  -- a frame that is the same
-  pub quiet_same : (f g : Frame V) → g ≡ f → Quiet f g
-  quiet_same f g same = record { flushed = ap (λ (y : Frame V). y.terminal.flushed) same; failures = ap (λ (y : Frame V). y.terminal.failures) same }
-
   -- one quiet part after another
   pub quiet_on : (f g h : Frame V) → Quiet f g → Quiet g h → Quiet f h
   quiet_on f g h a b = record { flushed = b.flushed ∙ a.flushed; failures = b.failures ∙ a.failures }

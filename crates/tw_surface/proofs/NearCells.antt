@@ -257,17 +257,6 @@ shown_outside width near far row col sparse outside =
     shown_far width near far row col (λ h. absurd (omega arith)) ∙ blank_outside width (length near) far row col sparse outside
 
 module _ (width : ℕ) (near : List ℕ) (positive : 0 < width) where
-  -- where all near cells are blank, all are
-  pub none_visible : ((k : ℕ) → k < length near → get_or near k 0 ≡ blank) → (row col : ℕ) → shown_at width near [] row col ≡ blank
-  none_visible blanks row col =
-      elim (cases_lt col width) [
-        | inr outside ↦ shown_far width near [] row col (λ h. absurd (omega arith))
-        | inl left ↦ elim (cases_lt (row * width + col) (length near)) [
-          | inl low ↦ shown_near width near [] row col left low ∙ blanks _ low
-          | inr high ↦ shown_far width near [] row col (λ h. high)
-        ]
-      ]
-
   -- the last near cell that is not a blank stands in the last row
   pub last_row_near : (at : ℕ) → at < length near → (get_or near at 0 ≡ blank → ⊥) → ((k : ℕ) → at < k → k < length near → get_or near k 0 ≡ blank)
       → IsLastRow (shown_at width near []) (Some (at / width))
