@@ -10,7 +10,7 @@ use Rattle.tw_painter.specs.Refusal.{Refusal, refusal_of, IsMemory}
 use Rattle.tw_session.specs.Outcomes.{Outcome, answer_at, IsLine, IsRefusal}
 use Rattle.tw_painter.specs.Painting.{Mark, closing, closing_if}
 use Rattle.tw_lineedit.specs.Frame.{Frame, with_value}
-use Rattle.tw_lineedit.specs.Run.{Ending, Moment, run_of, ending, StandsAt, Quiet, IsAnswered, IsRefused, moment, progress_of, IsRefusedIn}
+use Rattle.tw_lineedit.specs.Run.{Ending, Moment, run_of, ending, StandsAt, Quiet, IsAnswered, moment, progress_of, IsRefusedIn}
 use Rattle.tw_lineedit.specs.EditorSteps.{Closes, CutsClosing, MissesFlush, FailsToClose, GivesUp}
 use Rattle.tw_lineedit.specs.Reading.{start, unbegun, Reads, paused, ClosesWhole, ClosesInPart, ClosesUnflushed, ClosesBadly, Starves, Faults, Halts, FailsToRead, IsTurnedDown, HaltsIn, HaltsRefused, FailsIn}
 use Rattle.tw_painter.specs.declared.error.Error.{Error}
@@ -200,16 +200,6 @@ module _ {V : Type 0} (run : Ending V) (Starves Faults : Moment V → Type 0) (f
   gives_up_refused h g x e r c = gives_up run Starves Faults (HaltsRefused run Starves) f (λ m can. inr can) (λ is. inl (is, refl)) h g x e r c
 
 module _ {V : Type 0} (rules : HostRules V) (initial : Option (List ℕ)) (f : Frame V) where
-  -- a refusal of the run from its start
-  at_start : (h : Frame V) (e : Error) → IsRefused rules (start initial f) h e → IsTurnedDown rules initial f h e
-  at_start h (Memory x) ((m, can, idle, st), q) = ((m, inl can, idle, st), record { flushed = q.flushed; failures = q.failures })
-  at_start h (Terminal x) ((m, can, st), q) = ((m, can, st), record { flushed = q.flushed; failures = q.failures })
-  at_start h e (r, q) = (r, record { flushed = q.flushed; failures = q.failures })
-
-  -- a refusal of a run that was begun
-  pub begun_refused : (s h : Frame V) (e : Error) → s ≡ start initial f → IsRefused rules s h e → IsTurnedDown rules initial f h e
-  begun_refused s h e same r = at_start h e (subst (λ (y : Frame V). IsRefused rules y h e) same r)
-
   -- the initial value found no memory
   pub not_begun : (h : Frame V) → h ≡ start None f → IsSome initial → ((m : Moment V) × WantsToBegin rules initial f m × (m.rendering ≡ None) × StandsAt m h) × Quiet f h
   not_begun h same some = subst (λ (y : Frame V). ((m : Moment V) × WantsToBegin rules initial f m × (m.rendering ≡ None) × StandsAt m y) × Quiet f y) (sym same) (

@@ -5,14 +5,13 @@ use Rattle.tw_terminal.specs.TerminalState.{TerminalState}
 use Rattle.tw_painter.specs.Refusal.{IsMemory}
 use Rattle.tw_session.specs.Outcomes.{is_over, answer_at, IsLine, Outcome}
 use Rattle.tw_lineedit.specs.Frame.{Frame}
-use Rattle.tw_lineedit.specs.Run.{Progress, Moment, Cause, want, fault, run, ends, after_event, state_after, polled, moment, progress_of, CanStopFrom, Quiet, IsRefused, run_of, IsAnswered}
+use Rattle.tw_lineedit.specs.Run.{Progress, Moment, Cause, want, fault, run, ends, after_event, state_after, polled, moment, progress_of, CanStopFrom, Quiet, run_of, IsAnswered}
 use Rattle.tw_lineedit.specs.EditorSteps.{CallFails, TakesEvent, HasNoEvent, Advances, FailsToAdvance}
 use Rattle.tw_painter.specs.declared.error.Error.{Error}
 use Rattle.tw_painter.specs.declared.error.Error.TheVariants.{Memory, Terminal}
 use Rattle.tw_host.specs.HostRules.{HostRules}
 use Rattle.tw_lineedit.specs.Feeding.{fed_run, run_on, CanRefuse, refused, CanStopOn, at_event, unpolled, uncopied, Begins, IsAnsweredOn, IsRefusedOn, Follows, Continues, IsEnded}
-use Rattle.tw_lineedit.specs.Reading.{start, IsTurnedDown}
-use Rattle.tw_lineedit.proofs.ClosingLemmas.{begun_refused}
+use Rattle.tw_lineedit.specs.Reading.{start, Starves, Faults, IsTurnedDown}
 use Rattle.tw_lineedit.proofs.StandLemmas.{stands_here, stands_failed, quiet_self, quiet_on, failed, refused_later}
 use Rattle.tw_lineedit.proofs.FeedingLemmas.{refused_event, run_advanced, stops_advanced, refused_advance, quiet_advanced, left_advanced, same_progress}
 
@@ -108,23 +107,16 @@ module _ {V : Type 0} (rules : HostRules V) where
   stops_behind_first : (f g : Frame V) → Begins rules f g → (c : Cause) (m : Moment V) → CanStopOn rules c g.terminal.events (progress_of g) m → CanStopFrom rules c f m
   stops_behind_first f g b c m h = b.stops c f.terminal.events m (subst (λ (xs : List EventView). CanStopOn rules c xs (progress_of g) m) b.left h)
 
-  -- the run is answered behind its first painting
-  answered_behind_first : (f g h : Frame V) (answer : Outcome) → Begins rules f g → IsAnsweredOn rules g h answer → IsAnswered rules f h answer
-  answered_behind_first f g h answer b a = record { run = run_behind_first f g b ∙ a.run; quiet = quiet_on f g h b.quiet a.quiet }
-
-  -- the run is refused behind its first painting
-  refused_behind_first : (f g h : Frame V) (e : Error) → Begins rules f g → IsRefusedOn rules g.terminal.events g h e → IsRefused rules f h e
-  refused_behind_first f g h e b r = refused_later (run_of rules f) (run_on rules g.terminal.events (progress_of g))
-      (CanStopFrom rules want f) (CanStopFrom rules fault f) (CanStopOn rules want g.terminal.events (progress_of g)) (CanStopOn rules fault g.terminal.events (progress_of g))
-      f g h (λ n at. run_behind_first f g b ∙ at) (stops_behind_first f g b want) (stops_behind_first f g b fault) b.quiet e r
-
   -- a line that was begun is answered
   pub answered_begun : (initial : Option (List ℕ)) (f g h : Frame V) (answer : Outcome) → Begins rules (start initial f) g → IsAnsweredOn rules g h answer → IsAnswered rules (start initial f) h answer
-  answered_begun initial f g h answer b a = answered_behind_first (start initial f) g h answer b a
+  answered_begun initial f g h answer b a = record { run = run_behind_first (start initial f) g b ∙ a.run; quiet = quiet_on (start initial f) g h b.quiet a.quiet }
 
   -- a line that was begun is refused
   pub refused_begun : (initial : Option (List ℕ)) (f g h : Frame V) → Begins rules (start initial f) g → (e : Error) → IsRefusedOn rules g.terminal.events g h e → IsTurnedDown rules initial f h e
-  refused_begun initial f g h b e r = begun_refused rules initial f (start initial f) h e refl (refused_behind_first (start initial f) g h e b r)
+  refused_begun initial f g h b e r = refused_later (run_of rules (start initial f)) (run_on rules g.terminal.events (progress_of g))
+      (Starves rules initial f) (Faults rules initial f) (CanStopOn rules want g.terminal.events (progress_of g)) (CanStopOn rules fault g.terminal.events (progress_of g))
+      f g h (λ n at. run_behind_first (start initial f) g b ∙ at) (λ m can. inl (stops_behind_first (start initial f) g b want m can)) (stops_behind_first (start initial f) g b fault)
+      (record { flushed = b.quiet.flushed; failures = b.quiet.failures }) e r
 
   -- how the answer that comes last is refused
   pub not_copied_if : (A : Type 0) (answer : Result A Error) (f g h : Frame V) → IsEnded rules f g → h ≡ g → IfErr answer IsMemory → OnErr answer (IsLine (answer_at g.state)) → IfErr answer (IsRefusedOn rules f.terminal.events f h)

@@ -184,10 +184,6 @@ module _ {V : Type 0} where
     IsRefusedIn g e = (run ≡ ending (Err (refusal_of e)) g) × Quiet f g
 
 module _ {V : Type 0} (rules : HostRules V) where
-  -- what a refusal of the run from f leaves, before the closing
-  abbrev pub IsRefused : Frame V → Frame V → Error → Type 0
-  IsRefused f g e = IsRefusedIn (run_of rules f) (CanStopFrom rules want f) (CanStopFrom rules fault f) f g e
-
   -- the run from f ends at g with this answer
   pub record IsAnswered (f g : Frame V) (answer : Outcome) : Type 0 where
     pub run : run_of rules f ≡ ending answer g
