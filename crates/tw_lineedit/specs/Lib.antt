@@ -44,6 +44,5 @@ pub use Rattle.tw_session.specs.Steps
 pub use Rattle.tw_session.specs.Edit
 pub use Rattle.tw_session.specs.Outcomes
 pub use Rattle.tw_session.specs.SessionView
-pub use Rattle.tw_session.specs.CompletionSteps
 pub use Rattle.tw_session.specs.HistoryLaws
 pub use Rattle.tw_session.specs.CompletionLaws

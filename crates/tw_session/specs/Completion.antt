@@ -1,9 +1,11 @@
 -- Completion: candidates that come in in turn.
-use Rattle.std.specs.Prelude.{ℕ, ◌+◌, ◌%◌, nat_lt, List, length, Option, Some, None, Result, Ok, Err, if◌then◌else◌, slice_get}
+use Rattle.std.specs.Prelude.{◌≡◌, ℕ, ◌+◌, ◌%◌, nat_lt, List, length, Option, Some, None, Result, Ok, Err, if◌then◌else◌, slice_get}
 use Rattle.tw_line.specs.Cut.{Cut}
 use Rattle.tw_host.specs.CandidateView.{CandidateView, completed_by}
 use Rattle.tw_painter.specs.EditState.{EditState, CycleView}
 use Rattle.tw_painter.specs.Refusal.{Refusal, CandidateDoesNotFit}
+use Rattle.tw_painter.specs.declared.error.Error.{Error}
+use Rattle.tw_painter.specs.declared.error.Error.TheVariants as error
 
 -- a cut text comes in, with a cycle; where there is none the candidate did not fit
 abbrev pub with_completion : EditState → Option CycleView → Option Cut → Result EditState Refusal
@@ -32,3 +34,23 @@ completed_from candidates s (Some c) = with_candidate s (Some (record c { index 
 -- one completion, by the host's candidates for the cut text
 unfoldable pub completed : (Cut → List CandidateView) → EditState → Result EditState Refusal
 completed candidates s = completed_from (candidates s.cut) s s.cycle
+
+-- why a candidate is not put in: memory, or it does not fit
+abbrev pub IsMisfit : CandidateView → Cut → Error → Type 0
+IsMisfit c cut (error.Memory e) = Unit {0}
+IsMisfit c cut error.CandidateDoesNotFit = completed_by c cut ≡ None
+IsMisfit c cut _ = ⊥
+
+-- the cycle has gone to its next candidate, which makes this cut text
+pub record Advances (old new : CycleView) (line : Cut) : Type 0 where
+  pub cycle : new ≡ record old { index = next_in old }
+  pub next : CandidateView
+  pub there : slice_get old.candidates (next_in old) ≡ Some next
+  pub fits : completed_by next old.original ≡ Some line
+
+-- the cycle's next candidate was not put in, and nothing is changed
+pub record FailsToAdvance (old new : CycleView) (e : Error) : Type 0 where
+  pub same : new ≡ old
+  pub next : CandidateView
+  pub there : slice_get old.candidates (next_in old) ≡ Some next
+  pub misfit : IsMisfit next old.original e

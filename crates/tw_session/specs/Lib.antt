@@ -5,6 +5,5 @@ pub mod Steps
 pub mod Edit
 pub mod Outcomes
 pub mod SessionView
-pub mod CompletionSteps
 pub mod HistoryLaws
 pub mod CompletionLaws

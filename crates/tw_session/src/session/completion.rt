@@ -5,7 +5,7 @@ ghost use Rattle.std.specs.Str.{IsCharBoundary};
 ghost use Rattle.tw_line.specs.Cut.{cut_at};
 ghost use Rattle.tw_host.specs.CandidateView.{candidate_view, fits, landing, completed_by};
 ghost use Rattle.tw_host.specs.ActionView.{Complete};
-ghost use Rattle.tw_session.specs.CompletionSteps.{Advances, FailsToAdvance, IsMisfit};
+ghost use Rattle.tw_session.specs.Completion.{Advances, FailsToAdvance, IsMisfit};
 ghost use Rattle.tw_session.specs.SessionView.{ActsOn, FailsToActOn};
 
 use super::Session;

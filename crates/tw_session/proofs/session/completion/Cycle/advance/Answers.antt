@@ -1,5 +1,5 @@
 use Rattle.std.proofs.Common.{rules}
-use Rattle.tw_session.specs.CompletionSteps.{FailsToAdvance}
+use Rattle.tw_session.specs.Completion.{FailsToAdvance}
 use Rattle.tw_session.proofs.AdvanceLemmas.{advances, fails_to_advance}
 use Rattle.tw_session.proofs.session.completion.Cycle.advance.Goals as goal
 
