@@ -116,7 +116,7 @@ impl<'term, T: Terminal> LineEditor<'term, T> {
             IfErr result (FailsToPaint H.rules before after) }
     {
         let size = self.terminal.get_screen_size()?;
-        let (changes, painted) = self.session.paint(host, size)?;
+        let (changes, painted) = self.session.painting(host, size)?;
         self.terminal.render(changes.as_slice())?;
         self.session.set_mark(painted);
         Ok(())

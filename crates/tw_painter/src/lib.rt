@@ -9,4 +9,4 @@ pub mod laws;
 mod painter;
 
 pub use error::Error;
-pub use painter::{Below, Mark, paint};
+pub use painter::{Below, Mark, painting};

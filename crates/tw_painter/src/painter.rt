@@ -276,9 +276,10 @@ fn from_start(before: Option<Mark>, batch: Vec<Change>) -> Result<Vec<Change>, A
     Ok(all)
 }
 
-/// Paints a line behind its prompt, with what stands under it. The batch goes back to the first row of the
-/// painting before, if there was one. A size that no screen can have is refused before the host is asked.
-pub fn paint<H: LineEditorHost>(
+/// The painting of a line behind its prompt, with what stands under it: its batch and its mark. The batch goes back
+/// to the first row of the painting before, if there was one. A size that no screen can have is refused before the
+/// host is asked.
+pub fn painting<H: LineEditorHost>(
     host: &H,
     alloc: Global,
     prompt: &str,

@@ -17,7 +17,7 @@ use tw_history::{HistoryIndex, SearchDirection, SearchStyle};
 use tw_host::{Action, LineEditorHost};
 use tw_input::InputEvent;
 use tw_line::LineEditBuffer;
-use tw_painter::{Below, Error, Mark, paint};
+use tw_painter::{Below, Error, Mark, painting};
 use tw_surface::Change;
 use tw_terminal::ScreenSize;
 
@@ -247,7 +247,7 @@ impl Session {
     }
 
     /// The batch that paints this state at a size, behind its start move, and its mark.
-    pub fn paint<H: LineEditorHost>(
+    pub fn painting<H: LineEditorHost>(
         &self,
         host: &H,
         size: ScreenSize,
@@ -265,7 +265,7 @@ impl Session {
         };
         let prompt = self.prompt.as_str();
         let line = self.shown_line();
-        paint(host, self.alloc, prompt, line, below, size, self.painted)
+        painting(host, self.alloc, prompt, line, below, size, self.painted)
     }
 
     /// The line that is shown: while searching the matching one.

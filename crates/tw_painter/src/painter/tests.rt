@@ -13,7 +13,7 @@ fn painted<H: LineEditorHost>(
 ) -> Result<(Vec<Change>, Mark), Error> {
     let buffer = LineEditBuffer::new(alloc, line, line.len())?;
     let (rows, cols) = size;
-    paint(
+    painting(
         host,
         alloc,
         "> ",
@@ -138,7 +138,7 @@ fn search_stands_under_the_line(rt: HostRuntime) -> Result<(), Fail> {
     for (direction, pattern, search, (x, y)) in rows {
         let below = Below::Search { direction, pattern };
         let size = ScreenSize { rows: 24, cols: 16 };
-        let painting = paint(&host, alloc, "> ", &line, below, size, None)?;
+        let painting = painting(&host, alloc, "> ", &line, below, size, None)?;
         let mut wanted = shown(alloc, "git log")?;
         wanted.push(Change::AllAttributes(CellAttributes::default()))?;
         wanted.push(text(alloc, search)?)?;

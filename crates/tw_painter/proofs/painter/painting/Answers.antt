@@ -3,7 +3,7 @@ use Rattle.std.proofs.lemmas.Result.{err_from_is_err_and}
 use Rattle.tw_painter.specs.Painting.{scene_with, start_batch}
 use Rattle.tw_painter.specs.DrawSteps.{IsSized, lower_of}
 use Rattle.tw_painter.proofs.PaintedSizes.{refused-size, sized-from, refused-scene, painted-scene}
-use Rattle.tw_painter.proofs.painter.paint.Goals as goal
+use Rattle.tw_painter.proofs.painter.painting.Goals as goal
 
 pub returns-in_err-drawing-clause-err : goal.returns-in_err-drawing-clause-err
 returns-in_err-drawing-clause-err g c =
