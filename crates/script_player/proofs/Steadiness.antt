@@ -12,7 +12,7 @@ use Rattle.tw_lineedit.specs.Run.{Progress, Ending, Moment, Cause, painting_at, 
 use Rattle.tw_lineedit.specs.Reading.{start, Reads, FailsToRead, Starves, Halts, ClosesBadly}
 use Rattle.tw_lineedit.specs.declared.Error.{Error}
 use Rattle.tw_lineedit.specs.declared.Error.TheVariants.{Memory, Terminal}
-use Rattle.script_player.specs.Reading.{IsSteady}
+use Rattle.script_player.specs.NewEditor.{IsSteady}
 
 module _ {V : Type 0} (rules : HostRules V) (steady : IsSteady rules) where
   -- where no event is left

@@ -2,8 +2,8 @@
 use Rattle.std.specs.Prelude.{◌≡◌, ◌≤◌, ◌⊎◌, ℕ, List, [], ◌∷◌, ◌++◌, length, Some, codes}
 use Rattle.std.specs.Str.Parse.{IsNumeral, digits_value}
 use Rattle.script_player.specs.KeyNames.{key_name}
-use Rattle.script_player.specs.declared.script.Directive.{Directive}
-use Rattle.script_player.specs.declared.script.Directive.TheVariants.{Cols, Prompt, Preview, History, Candidate, «Type», Paste, Key, Read}
+use Rattle.script_player.specs.declared.directive.Directive.{Directive}
+use Rattle.script_player.specs.declared.directive.Directive.TheVariants.{Cols, Prompt, Preview, History, Candidate, «Type», Paste, Key, Read}
 
 -- a word, a space and a text; without the space the text is empty
 abbrev pub IsWordAndText : List ℕ → List ℕ → List ℕ → Type 0

@@ -1,9 +1,10 @@
 pub mod Directives
+pub mod Events
 pub mod Escapes
 pub mod KeyNames
 pub mod Lines
 pub mod Written
-pub mod Reading
+pub mod NewEditor
 pub mod ScriptRules
-pub mod Sessions
+pub mod Playback
 pub mod Past

@@ -16,8 +16,8 @@ pub record Scripted : Type 0 where
   pub candidates : List CandidateView
 
 -- the value of a host, whose history has these lines
-abbrev pub value_with : {L : Type 0} → (L → List (List ℕ)) → ScriptHost L → Scripted
-value_with lines host = record {
+abbrev pub value_of : {L : Type 0} → (L → List (List ℕ)) → ScriptHost L → Scripted
+value_of lines host = record {
   lines = lines host.history;
   preview = string_bytes host.preview;
   candidates = map candidate_view host.candidates.items;

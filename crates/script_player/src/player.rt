@@ -5,11 +5,11 @@ ghost use Rattle.std.specs.Io.KnownBytes.{IsAtEnd};
 ghost use Rattle.script_player.specs.Lines.{IsFirstLine};
 ghost use Rattle.script_player.specs.Written.{Extends, NamesBadLine, bad_line};
 
+use crate::directive::parse_line;
 use crate::fault::RunFault;
 use crate::input::read_script;
 use crate::output::put;
-use crate::script::parse_line;
-use crate::session::Session;
+use crate::playback::Playback;
 use std::alloc::{AllocError, Global};
 use std::io::{Read, Write};
 
@@ -34,13 +34,13 @@ fn play_script<W: Write>(alloc: Global, script: &[u8], writer: &mut W) -> Result
     ensures kept { Extends (W.contents writer.old) (W.contents writer.new) }
     ensures bad_line { IfErr result (NamesBadLine (W.contents writer.old) (W.contents writer.new)) }
 {
-    let mut session = Session::new(alloc)?;
+    let mut playback = Playback::new(alloc)?;
     let mut rest = script;
     let mut number: u64 = 0;
     while !rest.is_empty() {
         let (line, after) = split_line(rest);
         number = number.saturating_add(1);
-        play_line(alloc, &mut session, number, line, writer)?;
+        play_line(alloc, &mut playback, number, line, writer)?;
         rest = after;
     }
     Ok(())
@@ -61,7 +61,7 @@ fn split_line(script: &[u8]) -> (&[u8], &[u8])
 /// Does what a line asks for. Where it is no directive, writes its number.
 fn play_line<W: Write>(
     alloc: Global,
-    session: &mut Session,
+    playback: &mut Playback,
     number: u64,
     line: &[u8],
     writer: &mut W,
@@ -78,7 +78,7 @@ fn play_line<W: Write>(
         put(writer, shown.as_str())?;
         return Err(RunFault::BadLine(number));
     };
-    session.obey(directive, writer)
+    playback.obey(directive, writer)
 }
 
 /// The line that names a bad line.

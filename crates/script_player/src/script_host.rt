@@ -1,7 +1,7 @@
 //! The host of a script.
 
 ghost use Rattle.std.specs.Prelude.{◌≡◌, OnOk, OnErr, refl};
-ghost use Rattle.script_player.specs.ScriptRules.{Scripted, value_with, candidate, history_only, with_candidate, with_preview, script_rules, script_overrides, script_is_plain};
+ghost use Rattle.script_player.specs.ScriptRules.{Scripted, value_of, candidate, history_only, with_candidate, with_preview, script_rules, script_overrides, script_is_plain};
 
 use std::alloc::{AllocError, Global};
 use std::ops::Range;
@@ -20,7 +20,7 @@ pub struct ScriptHost<L> {
 impl<L: History> ScriptHost<L> {
     /// The host with this history, without a preview and without candidates.
     pub fn new(alloc: Global, history: L) -> Self
-        ensures { value_with L.lines result ≡ history_only (L.lines history) }
+        ensures { value_of L.lines result ≡ history_only (L.lines history) }
     {
         ScriptHost {
             alloc,
@@ -32,8 +32,8 @@ impl<L: History> ScriptHost<L> {
 
     /// Shows this preview from now on, and none where it is empty. Where it is refused nothing is changed.
     pub fn set_preview(&mut self, preview: &str) -> Result<(), AllocError>
-        ensures set { OnOk result (value_with L.lines self.new ≡ with_preview preview.now (value_with L.lines self.old)) }
-        ensures refused { OnErr result (value_with L.lines self.new ≡ value_with L.lines self.old) }
+        ensures set { OnOk result (value_of L.lines self.new ≡ with_preview preview.now (value_of L.lines self.old)) }
+        ensures refused { OnErr result (value_of L.lines self.new ≡ value_of L.lines self.old) }
     {
         self.preview = String::from_str(self.alloc, preview)?;
         Ok(())
@@ -41,9 +41,9 @@ impl<L: History> ScriptHost<L> {
 
     /// Adds a candidate behind the others. Where it is refused nothing is changed.
     pub fn offer(&mut self, range: Range<usize>, text: &str) -> Result<(), AllocError>
-        ensures last { OnOk result (value_with L.lines self.new
-            ≡ with_candidate (candidate range.start range.end text.now) (value_with L.lines self.old)) }
-        ensures refused { OnErr result (value_with L.lines self.new ≡ value_with L.lines self.old) }
+        ensures last { OnOk result (value_of L.lines self.new
+            ≡ with_candidate (candidate range.start range.end text.now) (value_of L.lines self.old)) }
+        ensures refused { OnErr result (value_of L.lines self.new ≡ value_of L.lines self.old) }
     {
         let text = String::from_str(self.alloc, text)?;
         self.candidates.push(CompletionCandidate { range, text })?;
@@ -56,7 +56,7 @@ impl<L: History> LineEditorHost for ScriptHost<L> {
 
     ghost Value = { Scripted };
 
-    ghost value = { value_with L.lines };
+    ghost value = { value_of L.lines };
 
     ghost rules = { script_rules };
 

@@ -1,18 +1,18 @@
--- The host of a session.
+-- The host of a playback.
 use Rattle.std.specs.Prelude.{◌≡◌, map, string_bytes}
 use Rattle.tw_lineedit.specs.CandidateView.{candidate_view}
 use Rattle.script_player.specs.Escapes.{unescaped}
 use Rattle.script_player.specs.ScriptRules.{Scripted, candidate, Remembers, with_candidate, with_preview}
-use Rattle.script_player.specs.declared.script.Directive.{Directive}
-use Rattle.script_player.specs.declared.script.Directive.TheVariants.{Preview, History, Candidate}
-use Rattle.script_player.specs.declared.session.Session.{Session}
+use Rattle.script_player.specs.declared.directive.Directive.{Directive}
+use Rattle.script_player.specs.declared.directive.Directive.TheVariants.{Preview, History, Candidate}
+use Rattle.script_player.specs.declared.playback.Playback.{Playback}
 
 -- the value of its host
-abbrev pub host_of : Session → Scripted
-host_of session = record {
-  lines = session.host.history;
-  preview = string_bytes session.host.preview;
-  candidates = map candidate_view session.host.candidates.items;
+abbrev pub host_of : Playback → Scripted
+host_of playback = record {
+  lines = playback.host.history;
+  preview = string_bytes playback.host.preview;
+  candidates = map candidate_view playback.host.candidates.items;
 }
 
 -- what a directive does to the host's value

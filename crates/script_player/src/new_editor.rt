@@ -1,7 +1,7 @@
-//! The editor that a script plays on.
+//! A new editor for each line.
 
 ghost use Rattle.std.specs.Prelude.{◌≡◌, IfOk};
-ghost use Rattle.script_player.specs.Reading.{AnswersLine, IsSteady};
+ghost use Rattle.script_player.specs.NewEditor.{AnswersLine, IsSteady};
 
 use std::alloc::Global;
 use tw_lineedit::{Error, LineEditor, LineEditorHost};
@@ -14,7 +14,9 @@ pub fn read_line<T: Terminal, H: LineEditorHost>(
     host: &mut H,
     prompt: &str,
 ) -> Result<Option<String>, Error>
-    ensures read { IfOk result (AnswersLine H.rules prompt.now (H.value host.old) (H.value host.new) (T.state terminal.old) (T.state terminal.new)) }
+    ensures read { let before = T.state terminal.old in
+        let after = T.state terminal.new in
+        IfOk result (AnswersLine H.rules prompt.now (H.value host.old) (H.value host.new) before after) }
     ensures kept { IsSteady H.rules → H.value host.new ≡ H.value host.old }
 {
     let mut editor = LineEditor::new(alloc, terminal)?;

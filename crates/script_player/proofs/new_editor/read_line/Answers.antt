@@ -2,7 +2,7 @@ use Rattle.std.proofs.Common.{rules, ◌≡◌, Ok}
 use Rattle.tw_lineedit.specs.EditState.{Inactive}
 use Rattle.tw_lineedit.specs.Outcomes.{outcome_of}
 use Rattle.script_player.proofs.Steadiness.{reading-value}
-use Rattle.script_player.proofs.host.read_line.Goals as goal
+use Rattle.script_player.proofs.new_editor.read_line.Goals as goal
 
 pub returns-clause-kept : goal.returns-clause-kept
 returns-clause-kept g c steady =

@@ -4,18 +4,19 @@ ghost use Rattle.std.specs.Prelude.{◌≡◌, [], IfErr, IfOk, OnOk};
 ghost use Rattle.script_player.specs.Written.{Extends, IsOutside};
 
 use crate::answer::Answer;
+use crate::directive::Directive;
 use crate::display::show_screen;
 use crate::escapes::unescape;
+use crate::events::push_events;
 use crate::fault::RunFault;
-use crate::host::read_line;
+use crate::new_editor::read_line;
 use crate::output::put;
-use crate::script::Directive;
 use crate::script_host::ScriptHost;
 use crate::shown::{Played, ScreenTerminal};
 use std::alloc::{AllocError, Global};
 use std::io::Write;
 use std::mem;
-use tw_input::{InputEvent, KeyCode, KeyEvent, Modifiers};
+use tw_input::InputEvent;
 use tw_lineedit::{BasicHistory, LineEditorHost};
 use tw_surface::{Screen, ScreenFault};
 use tw_terminal::ScreenSize;
@@ -28,7 +29,7 @@ const COLS: usize = 80;
 
 /// The columns, the prompt and the events for the next line, and the host and the screen of all lines.
 #[derive(Drop)]
-pub struct Session {
+pub struct Playback {
     alloc: Global,
     cols: usize,
     prompt: String,
@@ -37,15 +38,15 @@ pub struct Session {
     screen: Option<Screen>,
 }
 
-impl Session {
+impl Playback {
     ghost use Rattle.script_player.specs.ScriptRules.{history_only};
-    ghost use Rattle.script_player.specs.Sessions.{host_of, Obeys};
+    ghost use Rattle.script_player.specs.Playback.{host_of, Obeys};
 
-    /// The session at the start of a script.
+    /// The playback at the start of a script.
     pub fn new(alloc: Global) -> Result<Self, AllocError>
-        ensures { IfOk result (λ session. host_of session ≡ history_only []) }
+        ensures { IfOk result (λ playback. host_of playback ≡ history_only []) }
     {
-        Ok(Session {
+        Ok(Playback {
             alloc,
             cols: COLS,
             prompt: String::from_str(alloc, "> ")?,
@@ -77,12 +78,9 @@ impl Session {
             }
             Directive::History(line) => self.host.remember(line)?,
             Directive::Candidate(range, text) => self.host.offer(range, text)?,
-            Directive::Type(text) => self.type_text(text)?,
-            Directive::Paste(text) => {
-                let text = String::from_str(self.alloc, text)?;
-                self.events.push(InputEvent::Paste(text))?;
+            Directive::Type(_) | Directive::Paste(_) | Directive::Key(_) => {
+                push_events(self.alloc, &directive, &mut self.events)?;
             }
-            Directive::Key(key) => self.events.push(InputEvent::Key(key))?,
             Directive::Read => {
                 let shown = self.read()?;
                 put(writer, shown.as_str())?;
@@ -96,19 +94,6 @@ impl Session {
         ensures { host_of self.new ≡ host_of self.old }
     {
         self.screen = Screen::new(self.alloc, self.cols).ok();
-    }
-
-    /// A key for each character.
-    fn type_text(&mut self, text: &str) -> Result<(), AllocError>
-        ensures { host_of self.new ≡ host_of self.old }
-    {
-        for character in text.chars() {
-            self.events.push(InputEvent::Key(KeyEvent {
-                key: KeyCode::Char(character),
-                modifiers: Modifiers::NONE,
-            }))?;
-        }
-        Ok(())
     }
 
     /// Reads a line from the events, and tells the answer and what the screen then shows.
