@@ -146,6 +146,6 @@ pub fn read_line_from<S: EventSource, W: Write, H: LineEditorHost>(
     editor.set_prompt(prompt)?;
     editor.begin_line(host, None)?;
     let stop = take_events(source, &mut editor, host)?;
-    let line = editor.finish_line(host)?;
+    let line = editor.finish_line()?;
     answer_of(line, stop)
 }

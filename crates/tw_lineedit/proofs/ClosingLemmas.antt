@@ -12,7 +12,7 @@ use Rattle.tw_painter.specs.Painting.{Mark, closing, closing_if}
 use Rattle.tw_lineedit.specs.Frame.{Frame, with_value}
 use Rattle.tw_lineedit.specs.Run.{Ending, Moment, run_of, ending, StandsAt, Quiet, IsAnswered, moment, progress_of, IsRefusedIn}
 use Rattle.tw_lineedit.specs.EditorSteps.{Closes, CutsClosing, MissesFlush, FailsToClose, GivesUp}
-use Rattle.tw_lineedit.specs.Reading.{start, unbegun, Reads, paused, ClosesWhole, ClosesInPart, ClosesUnflushed, ClosesBadly, Starves, Faults, Halts, FailsToRead, IsTurnedDown, HaltsIn, HaltsRefused, FailsIn}
+use Rattle.tw_lineedit.specs.Reading.{start, unbegun, Reads, paused, Leaves, ClosesWhole, ClosesInPart, ClosesUnflushed, ClosesBadly, Starves, Faults, Halts, FailsToRead, IsTurnedDown, HaltsIn, HaltsRefused, FailsIn}
 use Rattle.tw_painter.specs.declared.error.Error.{Error}
 use Rattle.tw_painter.specs.declared.error.Error.TheVariants.{Memory, Terminal}
 use Rattle.tw_lineedit.specs.Feeding.{Uncopied, FailsToFinish, begun_run, WantsToBegin, FaultsToBegin, IsNotBegun, FailsToBegin}
@@ -37,6 +37,48 @@ module _ {V : Type 0} (v : V) where
   pub gives_up_with : (refusal : Error) (f g : Frame ⊤) (e : Error) → GivesUp refusal f g e → GivesUp refusal (with_value v f) (with_value v g) e
   gives_up_with refusal f g e (inl (same, c)) = inl (same, closes_with f g c)
   gives_up_with refusal f g e (inr c) = inr (fails_with f g e c)
+
+  -- what is left then
+  abbrev moment_with : Moment ⊤ → Moment V
+  moment_with m = record { state = m.state; value = v; size = m.size; last = m.last; taken = m.taken; rendering = m.rendering; left = m.left }
+
+  leaves_with : (m : Moment ⊤) (end : List Batch) (g : Frame ⊤) → Leaves m end g → Leaves (moment_with m) end (with_value v g)
+  leaves_with m end g l = record { batches = l.batches; left = l.left; size = l.size; state = l.state; value = refl; last = l.last }
+
+  closes_whole_with : (m : Moment ⊤) (g : Frame ⊤) → ClosesWhole m g → ClosesWhole (moment_with m) (with_value v g)
+  closes_whole_with m g c = record { leaves = leaves_with m (closing_if m.last) g c.leaves; flushed = c.flushed }
+
+  closes_badly_with : (m : Moment ⊤) (f g : Frame ⊤) → ClosesBadly m f g → ClosesBadly (moment_with m) (with_value v f) (with_value v g)
+  closes_badly_with m f g (inl part) = inl (record {
+    leaves = (part.leaves.0, part.leaves.1, part.leaves.2, part.leaves.3, leaves_with m part.leaves.1 g part.leaves.4);
+    flushed = part.flushed;
+  })
+  closes_badly_with m f g (inr whole) = inr (record { leaves = leaves_with m (closing_if m.last) g whole.leaves; flushed = whole.flushed })
+
+  -- the end of a line that is fed its events
+  pub reads_with : (f g : Frame ⊤) (answer : Outcome) → Reads (ending (answer_at f.state) f) f g answer → Reads (ending (answer_at f.state) (with_value v f)) (with_value v f) (with_value v g) answer
+  reads_with f g answer r = record {
+    answer_is = r.answer_is;
+    batches = r.batches;
+    left = r.left;
+    size = r.size;
+    state = r.state;
+    value = refl;
+    last = r.last;
+    flushed = r.flushed;
+    failures = r.failures;
+  }
+
+  halts_with : (f : Frame ⊤) (m : Moment ⊤) → HaltsIn (ending (answer_at f.state) f) (Uncopied f) m → HaltsIn (ending (answer_at f.state) (with_value v f)) (Uncopied (with_value v f)) (moment_with m)
+  halts_with f m (inl at) = inl (ap moment_with at)
+  halts_with f m (inr ((line, here), idle)) = inr ((line, ap moment_with here), idle)
+
+  pub fails_to_finish_with : (f g : Frame ⊤) (e : Error) → FailsToFinish f g e → FailsToFinish (with_value v f) (with_value v g) e
+  fails_to_finish_with f g (Memory x) (m, (line, here), idle, closes, count) = (moment_with m, (line, ap moment_with here), idle, closes_whole_with m g closes, count)
+  fails_to_finish_with f g (Terminal x) (m, inl (never, closes, count)) = absurd never
+  fails_to_finish_with f g (Terminal x) (m, inr (inl (never, closes, count))) = absurd never
+  fails_to_finish_with f g (Terminal x) (m, inr (inr (at, closes, count))) = (moment_with m, inr (inr (halts_with f m at, closes_badly_with m f g closes, count)))
+  fails_to_finish_with f g e r = reads_with f g (Err (refusal_of e)) r
 
 module _ {V : Type 0} where
   -- the mode once the run is closed

@@ -2,7 +2,7 @@
 
 ghost use Rattle.std.specs.Prelude.{◌≡◌, ◌≢◌, Ok, Err, None, IfOk, IfErr, OnOk, List, true, false};
 ghost use Rattle.std.specs.Borrow.{sem};
-ghost use Rattle.tw_lineedit.specs.Frame.{frame};
+ghost use Rattle.tw_lineedit.specs.Frame.{frame, own_frame};
 ghost use Rattle.tw_lineedit.specs.Lent.{LendsTerminal};
 ghost use Rattle.tw_input.specs.EventView.{event_view, EventView};
 ghost use Rattle.tw_terminal.specs.TerminalState.{size_after};
@@ -119,35 +119,35 @@ impl<'term, T: Terminal> LineEditor<'term, T> {
     /// Ends a line that was fed its events: it answers the line, and none where it was cancelled. A line that takes
     /// more events is answered as it stands. The closing batch is rendered and flushed. No line is open then,
     /// whether it is refused or not. Where no line was begun nothing is done, and the answer is none.
-    pub fn finish_line<H: LineEditorHost>(&mut self, host: &H) -> Result<Option<String>, Error>
+    pub fn finish_line(&mut self) -> Result<Option<String>, Error>
         ensures same_reference { self.new.terminal.ghost_name ≡ self.old.terminal.ghost_name }
-        ensures inactive { let before = frame T.state H.value self.old host.now in
-            let after = frame T.state H.value self.new host.now in
+        ensures inactive { let before = own_frame T.state self.old in
+            let after = own_frame T.state self.new in
             before.state.mode ≡ Inactive → (result ≡ Ok None) × (after ≡ before) }
         ensures untouched { self.old.session.state.mode ≡ Inactive → self.new.terminal.now ≡ self.old.terminal.now }
-        ensures ok { let before = frame T.state H.value self.old host.now in
-            let after = frame T.state H.value self.new host.now in
+        ensures ok { let before = own_frame T.state self.old in
+            let after = own_frame T.state self.new in
             before.state.mode ≢ Inactive → IfOk result (λ it. Reads (ending (answer_at self.old.session.state) before) before after (outcome_of (Ok it))) }
-        ensures err { let before = frame T.state H.value self.old host.now in
-            let after = frame T.state H.value self.new host.now in
+        ensures err { let before = own_frame T.state self.old in
+            let after = own_frame T.state self.new in
             IfErr result (FailsToFinish before after) }
         ensures failures { FailuresTell result (T.state self.old.terminal.now).failures (T.state self.new.terminal.now).failures }
     {
         if self.session.is_inactive() {
             return Ok(None);
         }
-        self.end_line(host)
+        self.end_line()
     }
 
     /// Answers the line, and closes, whether it was refused or not.
     #[tactic(auto, using(crate::proofs::ClosingLemmas::finish_closed, crate::proofs::ClosingLemmas::finish_given_up))]
-    fn end_line<H: LineEditorHost>(&mut self, host: &H) -> Result<Option<String>, Error>
+    fn end_line(&mut self) -> Result<Option<String>, Error>
         ensures same_reference { self.new.terminal.ghost_name ≡ self.old.terminal.ghost_name }
-        ensures ok { let before = frame T.state H.value self.old host.now in
-            let after = frame T.state H.value self.new host.now in
+        ensures ok { let before = own_frame T.state self.old in
+            let after = own_frame T.state self.new in
             IfOk result (λ it. Reads (ending (answer_at self.old.session.state) before) before after (outcome_of (Ok it))) }
-        ensures err { let before = frame T.state H.value self.old host.now in
-            let after = frame T.state H.value self.new host.now in
+        ensures err { let before = own_frame T.state self.old in
+            let after = own_frame T.state self.new in
             IfErr result (FailsToFinish before after) }
     {
         match self.answered() {

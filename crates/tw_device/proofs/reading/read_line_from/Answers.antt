@@ -4,7 +4,8 @@ use Rattle.tw_device.specs.Live.{fresh}
 use Rattle.tw_device.specs.contracts.terminal.AnsiTerminalTerminal.TheImpl as terminal
 use Rattle.tw_device.proofs.LiveLemmas.{opened_at, unbegun_at, stopped_at, ended_at, closed_at, read_as, cut_as}
 use Rattle.tw_device.proofs.reading.read_line_from.Goals as goal
-use Rattle.tw_lineedit.specs.Frame.{frame}
+use Rattle.tw_lineedit.proofs.ClosingLemmas.{reads_with, fails_to_finish_with}
+use Rattle.tw_lineedit.specs.Frame.{frame, own_frame}
 
 pub returns-in_err-begin_line-clause-err : goal.returns-in_err-begin_line-clause-err
 returns-in_err-begin_line-clause-err g c =
@@ -40,7 +41,8 @@ returns-in_err-line-clause-err g c =
     rw (p.1, p.2) (ended_at g.H.LineEditorHost.rules (g.S.EventSource.told c.args.source.now) (g.S.EventSource.told c.take_events.new.source) (g.S.EventSource.state c.take_events.new.source) f c.finish_line.new.self.session _ _
     (frame state value c.finish_line.new.self c.take_events.new.host) (search rules) c.in_err-line.field-0.0 painted
     (frame state value c.take_events.new.editor c.take_events.new.host) refl
-    (opened_at g.H.LineEditorHost.rules i f painted (search rules) (c.in_ok-begin_line.ensures.ok (search rules))) c.in_ok-stop.ensures.ok c.in_err-line.ensures.err)
+    (opened_at g.H.LineEditorHost.rules i f painted (search rules) (c.in_ok-begin_line.ensures.ok (search rules))) c.in_ok-stop.ensures.ok
+    (fails_to_finish_with (value c.take_events.new.host) (own_frame state c.take_events.new.editor) (own_frame state c.finish_line.new.self) c.in_err-line.field-0.0 c.in_err-line.ensures.err))
 
 pub returns-clause-ok : goal.returns-clause-ok
 returns-clause-ok g c =
@@ -52,7 +54,8 @@ returns-clause-ok g c =
     let fed = frame state value c.take_events.new.editor c.take_events.new.host in
     read_as g.H.LineEditorHost.rules (g.S.EventSource.told c.args.source.now) (g.S.EventSource.told c.take_events.new.source) (g.S.EventSource.state c.take_events.new.source) f painted fed c.finish_line.new.self.session _ _ refl
     (opened_at g.H.LineEditorHost.rules i f painted (search rules) (c.in_ok-begin_line.ensures.ok (search rules))) c.in_ok-stop.ensures.ok c.in_ok-stop.ensures.begun c.in_ok-line.line c.in_ok-stop.stop c.answer_of.result c.answer_of.ensures c.in_ok-stop.ensures.stopped
-    (closed_at g.H.LineEditorHost.rules fed (frame state value c.finish_line.new.self c.take_events.new.host) c.finish_line.new.self.session _ _ _ (search rules) (c.in_ok-line.ensures.ok c.in_ok-stop.ensures.begun))
+    (closed_at g.H.LineEditorHost.rules fed (frame state value c.finish_line.new.self c.take_events.new.host) c.finish_line.new.self.session _ _ _ (search rules)
+    (reads_with (value c.take_events.new.host) (own_frame state c.take_events.new.editor) (own_frame state c.finish_line.new.self) _ (c.in_ok-line.ensures.ok c.in_ok-stop.ensures.begun)))
 
 pub returns-clause-err : goal.returns-clause-err
 returns-clause-err g c =
@@ -64,4 +67,5 @@ returns-clause-err g c =
     let fed = frame state value c.take_events.new.editor c.take_events.new.host in
     cut_as g.H.LineEditorHost.rules (g.S.EventSource.told c.args.source.now) (g.S.EventSource.told c.take_events.new.source) (g.S.EventSource.state c.take_events.new.source) f painted fed c.finish_line.new.self.session _ _ refl
     (opened_at g.H.LineEditorHost.rules i f painted (search rules) (c.in_ok-begin_line.ensures.ok (search rules))) c.in_ok-stop.ensures.ok c.in_ok-stop.ensures.begun c.in_ok-line.line c.in_ok-stop.stop c.answer_of.result c.answer_of.ensures c.in_ok-stop.ensures.stopped
-    (closed_at g.H.LineEditorHost.rules fed (frame state value c.finish_line.new.self c.take_events.new.host) c.finish_line.new.self.session _ _ _ (search rules) (c.in_ok-line.ensures.ok c.in_ok-stop.ensures.begun))
+    (closed_at g.H.LineEditorHost.rules fed (frame state value c.finish_line.new.self c.take_events.new.host) c.finish_line.new.self.session _ _ _ (search rules)
+    (reads_with (value c.take_events.new.host) (own_frame state c.take_events.new.editor) (own_frame state c.finish_line.new.self) _ (c.in_ok-line.ensures.ok c.in_ok-stop.ensures.begun)))
