@@ -11,13 +11,13 @@ use Rattle.tw_surface.specs.ChangeView.{ChangeView, Batch}
 use Rattle.tw_surface.specs.ChangeView.{Attribute, AllAttributes, Text, ClearScreen, ClearToEndOfScreen, CursorPosition}
 use Rattle.tw_surface.specs.Characters.{is_plain, cr, lf}
 use Rattle.tw_surface.specs.Defaults.{default_attributes, default_color}
-use Rattle.tw_surface.specs.Paintings.{Painting, painting, before_line, edge_space, lower_changes, shown_part, cursor_place, start_move}
+use Rattle.tw_surface.specs.Paintings.{painting, before_line, edge_space, lower_changes, shown_part, cursor_place, mark_of, start_move}
 use Rattle.tw_surface.specs.Pictures.{Picture, blank}
 use Rattle.tw_surface.specs.Places.{Place, place_after_all, origin, move_between}
 use Rattle.tw_surface.specs.Scenes.{Scene, Lower}
 use Rattle.tw_surface.specs.Scenes.Lower.{NoLower, Preview, Search}
 use Rattle.tw_surface.specs.Scrolling.{play_on, play_all_on, play_batches_on}
-use Rattle.tw_surface.specs.PaintingBatches.{clearing, batches_after, shots, closing_of}
+use Rattle.tw_surface.specs.PaintingBatches.{clear_batch, clearing, batches_after, shots, closing_of}
 use Rattle.tw_ansi.specs.declared.encode.Encoder.{Encoder}
 use Rattle.tw_ansi.specs.Encoding.{Sent, sends, sent, sent_batch, sent_plain, sent_byte, sent_clusters, sent_text, with_attribute}
 use Rattle.tw_ansi.specs.EcmaLaws.{IsColor, IsAttribute}
@@ -84,7 +84,7 @@ repainting_is_sendable h w before scene e s some t near reached color =
     (reached, painting_is_sendable h w scene (sent (start_move before) e).next (play_on h w (start_move before) s) t near color (omega (arith, some)))
 
 pub closing_is_sendable : ClosingIsSendable
-closing_is_sendable h w p e s some reached color = (reached, ((tt, color, λ edge. absurd (omega (arith, edge, some))), tt))
+closing_is_sendable h w m e s some reached color = (reached, ((tt, color, λ edge. absurd (omega (arith, edge, some))), tt))
 
 either : (t : Bool) (x y : Sent) (a : CellAttributes) → x.next.attributes ≡ a → y.next.attributes ≡ a → (cond t x y).next.attributes ≡ a
 either true x y a p q = p
@@ -140,10 +140,10 @@ module _ (h w : ℕ) (some : 0 < w) where
   one_later : (before scene : Scene) (rest : List Batch) → IsShowable h w before → IsShowable h w scene
       → ((d : Encoder) (r : Picture) → IsColor d.attributes.background → AreAllSendable h w d rest r)
       → (d : Encoder) (r : Picture) → IsColor d.attributes.background
-      → AreAllSendable h w d ((start_move (painting w before) ∷ (painting w scene).changes) ∷ rest) r
+      → AreAllSendable h w d ((start_move (mark_of (painting w before)) ∷ (painting w scene).changes) ∷ rest) r
   one_later before scene rest p q on d r color =
-      behind h w (start_move (painting w before) ∷ (painting w scene).changes) rest d r (repainting_is_sendable h w (painting w before) scene d r some q.typed q.near p.back color)
-      (painting_knows_color w scene (sent (start_move (painting w before)) d).next q.typed) on
+      behind h w (start_move (mark_of (painting w before)) ∷ (painting w scene).changes) rest d r (repainting_is_sendable h w (mark_of (painting w before)) scene d r some q.typed q.near p.back color)
+      (painting_knows_color w scene (sent (start_move (mark_of (painting w before))) d).next q.typed) on
 
   -- the first painting, and then the others
   one_first : (scene : Scene) (rest : List Batch) → IsShowable h w scene
@@ -157,13 +157,13 @@ module _ (h w : ℕ) (some : 0 < w) where
     -- paintings behind another one
     later_sendable : (before : Scene) (scenes : List Scene) → IsShowable h w before → AllByRecursion (IsShowable h w) scenes
         → (d : Encoder) (r : Picture) → IsColor d.attributes.background
-        → AreAllSendable h w d (batches_after (Some (painting w before)) (shots w scenes) ++ more) r
+        → AreAllSendable h w d (batches_after (Some (mark_of (painting w before))) (shots w scenes) ++ more) r
     later_sendable before [] p a d r color = end d r color
     later_sendable before (scene ∷ scenes) p a d r color =
-        let rest = batches_after (Some (painting w scene)) (shots w scenes) in
+        let rest = batches_after (Some (mark_of (painting w scene))) (shots w scenes) in
         let on = one_later before scene (rest ++ more) p a.0 (λ b u colored. later_sendable scene scenes a.0 a.1 b u colored) in
-        elim scene.cleared as (λ t. AreAllSendable h w d ((clearing t ++ (start_move (painting w before) ∷ (painting w scene).changes) ∷ rest) ++ more) r) [
-          | true ↦ (((tt, color), tt), on (sent_batch (ClearScreen default_color ∷ []) d).next (play_all_on h w (ClearScreen default_color ∷ []) r) color)
+        elim scene.cleared as (λ t. AreAllSendable h w d ((clearing t ++ (start_move (mark_of (painting w before)) ∷ (painting w scene).changes) ∷ rest) ++ more) r) [
+          | true ↦ (((tt, color), tt), on (sent_batch clear_batch d).next (play_all_on h w clear_batch r) color)
           | false ↦ on d r color
         ]
 
@@ -172,10 +172,10 @@ module _ (h w : ℕ) (some : 0 < w) where
         → (d : Encoder) (r : Picture) → IsColor d.attributes.background → r.col < w
         → AreAllSendable h w d (batches_after None (shots w (scene ∷ scenes)) ++ more) r
     first_sendable scene scenes p a d r color inside =
-        let rest = batches_after (Some (painting w scene)) (shots w scenes) in
+        let rest = batches_after (Some (mark_of (painting w scene))) (shots w scenes) in
         let on = one_first scene (rest ++ more) p (λ b u colored. later_sendable scene scenes p a b u colored) in
         elim scene.cleared as (λ t. AreAllSendable h w d ((clearing t ++ (painting w scene).changes ∷ rest) ++ more) r) [
-          | true ↦ (((tt, color), tt), on (sent_batch (ClearScreen default_color ∷ []) d).next (play_all_on h w (ClearScreen default_color ∷ []) r) color (omega (arith, some)))
+          | true ↦ (((tt, color), tt), on (sent_batch clear_batch d).next (play_all_on h w clear_batch r) color (omega (arith, some)))
           | false ↦ on d r color inside
         ]
 
@@ -183,7 +183,7 @@ module _ (h w : ℕ) (some : 0 < w) where
 end_sendable : (h w : ℕ) (scenes : List Scene) → 0 < w → AllByRecursion (IsShowable h w) scenes
     → (d : Encoder) (r : Picture) → IsColor d.attributes.background → AreAllSendable h w d (closing_of w scenes) r
 end_sendable h w [] some a d r color = tt
-end_sendable h w (scene ∷ []) some a d r color = (closing_is_sendable h w (painting w scene) d r some a.0.under color, tt)
+end_sendable h w (scene ∷ []) some a d r color = (closing_is_sendable h w (mark_of (painting w scene)) d r some a.0.under color, tt)
 end_sendable h w (scene ∷ next ∷ scenes) some a d r color = end_sendable h w (next ∷ scenes) some a.1 d r color
 
 pub run_is_sendable : RunIsSendable

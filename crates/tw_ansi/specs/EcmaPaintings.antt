@@ -5,7 +5,7 @@ use Rattle.tw_surface.specs.declared.change.Position.TheVariants.{Relative}
 use Rattle.tw_surface.specs.ChangeView.{ChangeView, Batch}
 use Rattle.tw_surface.specs.ChangeView.{Attribute, AllAttributes, Text, ClearScreen, ClearToEndOfScreen, CursorPosition}
 use Rattle.tw_surface.specs.Characters.{is_plain}
-use Rattle.tw_surface.specs.Paintings.{Painting, painting, shown_part, cursor_place, start_move, closing}
+use Rattle.tw_surface.specs.Paintings.{painting, shown_part, cursor_place, Mark, start_move, closing}
 use Rattle.tw_surface.specs.Pictures.{Picture}
 use Rattle.tw_surface.specs.Places.{place_after_all, origin}
 use Rattle.tw_surface.specs.Scenes.{Scene, Lower}
@@ -52,15 +52,15 @@ PaintingIsSendable = (h w : ℕ) (scene : Scene) (e : Encoder) (s : Picture)
 
 -- and behind the move to the first row of the painting before, wherever the cursor stands
 abbrev pub RepaintingIsSendable : Type 0
-RepaintingIsSendable = (h w : ℕ) (before : Painting) (scene : Scene) (e : Encoder) (s : Picture)
+RepaintingIsSendable = (h w : ℕ) (before : Mark) (scene : Scene) (e : Encoder) (s : Picture)
     → 0 < w → IsTypedScene scene → IsNear h w scene → IsReached h (Relative (neg_ℤ before.row)) → IsColor e.attributes.background
     → AreSendable h w e (start_move before ∷ (painting w scene).changes) s
 
 -- so is the closing batch
 abbrev pub ClosingIsSendable : Type 0
-ClosingIsSendable = (h w : ℕ) (p : Painting) (e : Encoder) (s : Picture)
-    → 0 < w → IsReached h (Relative (pos (1 + p.height) -ℤ p.row)) → IsColor e.attributes.background
-    → AreSendable h w e (closing p) s
+ClosingIsSendable = (h w : ℕ) (m : Mark) (e : Encoder) (s : Picture)
+    → 0 < w → IsReached h (Relative (pos (1 + m.height) -ℤ m.row)) → IsColor e.attributes.background
+    → AreSendable h w e (closing m) s
 
 -- the colour that is known behind such a painting is by bytes
 abbrev pub PaintingKnowsColor : Type 0

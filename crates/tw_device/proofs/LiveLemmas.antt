@@ -3,6 +3,7 @@ use Rattle.std.proofs.Common.{◌≡◌, ◌≢◌, ◌+◌, length, arith, IfOk
 use Rattle.std.proofs.lemmas.Bool.{false≢true}
 use Rattle.std.proofs.lemmas.List.{append-nil, append_assoc, length-append}
 use Rattle.std.specs.declared.alloc.Global.{Global}
+use Rattle.tw_surface.specs.PaintingBatches.{clear_batch}
 use Rattle.tw_input.specs.EventView.{EventView, Key, Resized, Paste, Wake}
 use Rattle.tw_terminal.specs.TerminalState.{TerminalState, size_after, count_up}
 use Rattle.tw_terminal.specs.declared.terminal.ScreenSize.{ScreenSize}
@@ -10,7 +11,7 @@ use Rattle.tw_lineedit.specs.Frame.{Frame}
 use Rattle.tw_lineedit.specs.Cut.{Cut}
 use Rattle.tw_lineedit.specs.EditState.{EditState, ModeView, Inactive, Editing, Cancelled, Accepted, Searching}
 use Rattle.tw_lineedit.specs.HostRules.{HostRules}
-use Rattle.tw_lineedit.specs.Painting.{Rendered, clear_batch}
+use Rattle.tw_lineedit.specs.Painting.{Rendered}
 use Rattle.tw_lineedit.specs.Outcomes.{Outcome, outcome_of, answer_at, line_in, is_over, is_open}
 use Rattle.tw_lineedit.specs.Refusal.{Refusal, refusal_of}
 use Rattle.tw_lineedit.specs.Feeding.{paint_end, painted_run, fed_run, run_on, CanMiss, CanRefuse, unresolved, unapplied, half_cleared, missed, CanStopAt, refused, later, CanStopOn, uncopied, at_event, Begins, begun_run, WantsToBegin, FaultsToBegin, FailsToBegin, IsFed, event_run, WantsToFeed, FaultsToFeed, FailsToFeed, FailsToFinish, Uncopied}

@@ -3,12 +3,13 @@ use Rattle.std.proofs.Common.{◌≡◌, ℕ, List, IsSome, [], ◌++◌, length
 use Rattle.std.specs.Prelude.{⊤}
 use Rattle.std.proofs.lemmas.List.{append-nil}
 use Rattle.tw_surface.specs.ChangeView.{Batch}
+use Rattle.tw_surface.specs.Paintings.{Mark, closing}
+use Rattle.tw_surface.specs.PaintingBatches.{closing_if}
 use Rattle.tw_terminal.specs.TerminalState.{TerminalState, count_up, RenderFails}
 use Rattle.tw_host.specs.HostRules.{HostRules}
 use Rattle.tw_painter.specs.EditState.{EditState, Inactive}
 use Rattle.tw_painter.specs.Refusal.{Refusal, refusal_of, IsMemory}
 use Rattle.tw_session.specs.Outcomes.{Outcome, answer_at, IsLine, IsRefusal}
-use Rattle.tw_painter.specs.Painting.{Mark, closing, closing_if}
 use Rattle.tw_lineedit.specs.Frame.{Frame, with_value}
 use Rattle.tw_lineedit.specs.Run.{Ending, Moment, run_of, ending, StandsAt, Quiet, IsAnswered, moment, progress_of, IsRefusedIn}
 use Rattle.tw_lineedit.specs.EditorSteps.{Closes, CutsClosing, MissesFlush, FailsToClose, GivesUp}

@@ -2,6 +2,8 @@
 use Rattle.std.proofs.Common.{◌≡◌, ◌≢◌, ℕ, OnOk, IfErr, List, [], ◌∷◌, ◌++◌, cond, Bool, true, false, refl, sym, ◌∙◌, ap, subst, inl, inr, Option, Some, None, Result, Ok, Err}
 use Rattle.std.proofs.lemmas.Bool.{false≢true}
 use Rattle.tw_surface.specs.ChangeView.{Batch}
+use Rattle.tw_surface.specs.Paintings.{Mark}
+use Rattle.tw_surface.specs.PaintingBatches.{clear_batch}
 use Rattle.tw_input.specs.EventView.{EventView}
 use Rattle.tw_terminal.specs.TerminalState.{TerminalState, size_after}
 use Rattle.tw_terminal.specs.declared.terminal.ScreenSize.{ScreenSize}
@@ -9,7 +11,7 @@ use Rattle.tw_host.specs.ActionView.{Repaint}
 use Rattle.tw_host.specs.HostRules.{HostRules}
 use Rattle.tw_painter.specs.EditState.{EditState, ModeView, Inactive, Editing, Searching}
 use Rattle.tw_painter.specs.Refusal.{Refusal, refusal_of}
-use Rattle.tw_painter.specs.Painting.{Mark, Rendered, clear_batch}
+use Rattle.tw_painter.specs.Painting.{Rendered}
 use Rattle.tw_painter.specs.declared.error.Error.{Error}
 use Rattle.tw_painter.specs.declared.error.Error.TheVariants.{Memory, Terminal}
 use Rattle.tw_session.specs.Outcomes.{Outcome, is_over, is_open, answer_at}

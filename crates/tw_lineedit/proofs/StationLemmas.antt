@@ -1,37 +1,61 @@
 -- The batches of a run, by its stations.
-use Rattle.std.proofs.Common.{◌≡◌, List, [], ◌∷◌, ◌++◌, cond, Bool, true, false, refl, sym, ◌∙◌, ap, subst, append_assoc, Option, Some, None, Result, Ok, Err}
+use Rattle.std.proofs.Common.{◌≡◌, List, [], ◌∷◌, ◌++◌, cond, Bool, true, false, ◌||◌, refl, sym, ◌∙◌, ap, subst, append_assoc, map, Option, Some, None, Result, Ok, Err, if◌then◌else◌, ◌==◌, nat_lt}
+use Rattle.std.specs.List.{All}
 use Rattle.std.proofs.lemmas.List.{append-nil}
+use Rattle.std.proofs.lemmas.List.Elements.{All-head}
 use Rattle.tw_surface.specs.ChangeView.{Batch}
-use Rattle.tw_surface.specs.Paintings.{Painting}
+use Rattle.tw_surface.specs.Paintings.{Painting, painting, Mark, mark_of}
+use Rattle.tw_surface.specs.PaintingBatches.{Shot, shot_of, start_of, clearing, batches_after, batches, mark_after, closing_if, closing_batch}
+use Rattle.tw_surface.specs.Scenes.{Scene}
+use Rattle.tw_surface.proofs.ShotLemmas.{batches_after-append}
 use Rattle.tw_input.specs.EventView.{EventView}
-use Rattle.tw_host.specs.ActionView.{ActionView, AcceptLine, Cancel, EndOfFile, InsertChar, InsertText, Repaint, Move, Kill, KillAndMove, HistoryPrevious, HistoryNext, Complete, NoAction, HistoryIncSearchBackwards, HistoryIncSearchForwards}
-use Rattle.tw_painter.specs.EditState.{EditState}
+use Rattle.tw_terminal.specs.declared.terminal.ScreenSize.{ScreenSize}
 use Rattle.tw_host.specs.HostRules.{HostRules}
+use Rattle.tw_painter.specs.EditState.{EditState}
+use Rattle.tw_painter.specs.Painting.{Rendered, rendered, painted_on, is_paintable}
+use Rattle.tw_painter.specs.Refusal.{Refusal, ZeroSize, SizeOutOfRange}
 use Rattle.tw_session.specs.Outcomes.{is_over, answer_at}
-use Rattle.tw_painter.specs.Painting.{mark_of, start_batch, Rendered, rendered, painted_on}
-use Rattle.tw_painter.specs.Refusal.{Refusal}
-use Rattle.tw_lineedit.specs.Run.{Progress, progress_of, run, ends, at_end, at_event, after_event, painting_at, shown, chosen, state_after, handled}
-use Rattle.tw_lineedit.specs.Stations.{is_repaint, clear_if, station_at, painting_of, batches_by, batches_after, stations_after, stations_unless, stations_by, stations_from, BatchesByStations}
-use Rattle.tw_session.specs.Steps.{clears_if}
+use Rattle.tw_session.specs.Steps.{is_repaint}
+use Rattle.tw_lineedit.specs.Frame.{Frame}
+use Rattle.tw_lineedit.specs.Run.{Progress, Ending, progress_of, run, run_of, ends, at_end, at_event, after_event, painting_at, shown, chosen, state_after, handled}
+use Rattle.tw_lineedit.specs.Stations.{Station, station_at, painting_of, shots_by, clearing_by, painted_shots, refused_clearing, station_batches, stations_after, stations_unless, stations_by, stations_from, stations_of, BatchesByStations}
+use Rattle.tw_lineedit.specs.ScreenRuns.{sized_scene, batches_of, RendersNothing}
 
--- an action clears the screen where it is a Repaint
-clears_repaint : (action : Option ActionView) → clears_if action ≡ clear_if (is_repaint action)
-clears_repaint None = refl
-clears_repaint (Some AcceptLine) = refl
-clears_repaint (Some Cancel) = refl
-clears_repaint (Some EndOfFile) = refl
-clears_repaint (Some (InsertChar r c)) = refl
-clears_repaint (Some (InsertText r text)) = refl
-clears_repaint (Some Repaint) = refl
-clears_repaint (Some (Move m)) = refl
-clears_repaint (Some (Kill m)) = refl
-clears_repaint (Some (KillAndMove k m)) = refl
-clears_repaint (Some HistoryPrevious) = refl
-clears_repaint (Some HistoryNext) = refl
-clears_repaint (Some Complete) = refl
-clears_repaint (Some NoAction) = refl
-clears_repaint (Some HistoryIncSearchBackwards) = refl
-clears_repaint (Some HistoryIncSearchForwards) = refl
+-- a refusal is no painting
+abbrev IsErr : Result Painting Refusal → Type 0
+IsErr (Err b) = Unit {0}
+IsErr (Ok a) = ⊥
+
+err_is_no_ok : {a : Painting} {b : Refusal} → Err b ≡ Ok a → ⊥
+err_is_no_ok h = subst IsErr h tt
+
+-- no rendering either
+abbrev IsErrRendered : Result Rendered Refusal → Type 0
+IsErrRendered (Err b) = Unit {0}
+IsErrRendered (Ok a) = ⊥
+
+-- the painting of a result
+abbrev painting_in : Painting → Result Painting Refusal → Painting
+painting_in p (Err r) = p
+painting_in p (Ok q) = q
+
+-- a painting that is not refused is that of the scene
+painted-is : (size : ScreenSize) (scene : Scene) (p : Painting) → painted_on size scene ≡ Ok p → p ≡ painting size.cols scene
+unfolding painted_on
+painted-is size scene p h = by_zero ((size.rows == 0) || (size.cols == 0)) h
+  where
+    by_fit : (b : Bool) → (if b then Ok (painting size.cols scene) else Err SizeOutOfRange) ≡ Ok p → p ≡ painting size.cols scene
+    by_fit true h = sym (ap (painting_in p) h)
+    by_fit false h = absurd (err_is_no_ok h)
+
+    by_large : (b : Bool) → (if b then Err SizeOutOfRange else if is_paintable size.cols scene then Ok (painting size.cols scene) else Err SizeOutOfRange) ≡ Ok p → p ≡ painting size.cols scene
+    by_large true h = absurd (err_is_no_ok h)
+    by_large false h = by_fit (is_paintable size.cols scene) h
+
+    by_zero : (b : Bool) → (if b then Err ZeroSize else if nat_lt 65535 size.rows || nat_lt 65535 size.cols then Err SizeOutOfRange
+        else if is_paintable size.cols scene then Ok (painting size.cols scene) else Err SizeOutOfRange) ≡ Ok p → p ≡ painting size.cols scene
+    by_zero true h = absurd (err_is_no_ok h)
+    by_zero false h = by_large (nat_lt 65535 size.rows || nat_lt 65535 size.cols) h
 
 module _ {V : Type 0} (rules : HostRules V) where
   -- a painting does not depend on whether the screen was cleared
@@ -40,71 +64,250 @@ module _ {V : Type 0} (rules : HostRules V) where
   same_painting s cleared = refl
 
   -- a station's painting as it is rendered
-  pub rendered_at : (s : Progress V) (cleared : Bool) → painting_at rules s ≡ rendered s.last (painting_of rules (station_at cleared s))
+  rendered_at : (s : Progress V) (cleared : Bool) → painting_at rules s ≡ rendered s.last (painting_of rules (station_at cleared s))
   rendered_at s cleared = ap (rendered s.last) (sym (same_painting s cleared))
 
-  -- no station is behind
-  alone : (base : List Batch) (batch : List Batch) (taken : List Batch) (cleared : Bool) → taken ≡ base ++ clear_if cleared
-      → taken ++ batch ≡ base ++ (clear_if cleared ++ batch)
-  alone base batch taken cleared h = ap (λ (b : List Batch). b ++ batch) h ∙ append_assoc base (clear_if cleared) batch
+  -- ---- what a run takes and leaves
 
-  -- what the stations behind one add to its batch
-  more : (base : List Batch) (batch : Batch) (rest : List Batch) (taken : List Batch) (cleared : Bool) → taken ≡ base ++ clear_if cleared
-      → (taken ++ batch ∷ []) ++ rest ≡ base ++ (clear_if cleared ++ batch ∷ rest)
-  more base batch rest taken cleared h = append_assoc taken (batch ∷ []) rest ∙ alone base (batch ∷ rest) taken cleared h
+  -- the batches of a station, by its painting, and of the stations behind it
+  abbrev batches_by : Option Mark → Bool → List (Station V) → Result Painting Refusal → List Batch
+  batches_by last cleared more q = batches_after last (shots_by cleared (painted_shots rules more) q) ++ clearing_by cleared (refused_clearing rules more) q
 
-  -- where a painting is refused
-  nothing : (base : List Batch) (taken : List Batch) (cleared : Bool) → taken ≡ base ++ clear_if cleared → taken ≡ base ++ (clear_if cleared ++ [])
-  nothing base taken cleared h = h ∙ ap (λ (b : List Batch). base ++ b) (sym (append-nil (clear_if cleared)))
+  -- a run comes to its end with these batches, and leaves the mark of the last painting
+  abbrev Tells : List Batch → Option Mark → Bool → List (Station V) → Result Painting Refusal → Ending V → Type 0
+  Tells base last cleared more q end =
+      (end.taken ≡ base ++ batches_by last cleared more q) × (end.last ≡ mark_after last (shots_by cleared (painted_shots rules more) q))
+
+  -- what a painting and the stations behind it add to a clearing
+  joined : (base taken : List Batch) (last : Option Mark) (cleared : Bool) (p : Painting) (more : List (Station V)) → taken ≡ base ++ clearing cleared
+      → (taken ++ (start_of last ++ p.changes) ∷ []) ++ station_batches rules (Some (mark_of p)) more ≡ base ++ batches_by last cleared more (Ok p)
+  joined base taken last cleared p more h =
+      let batch : Batch = start_of last ++ p.changes in
+      append_assoc taken (batch ∷ []) (station_batches rules (Some (mark_of p)) more)
+      ∙ ap (λ (b : List Batch). b ++ batch ∷ station_batches rules (Some (mark_of p)) more) h
+      ∙ append_assoc base (clearing cleared) (batch ∷ station_batches rules (Some (mark_of p)) more)
+      ∙ ap (λ (b : List Batch). base ++ b) (sym (append_assoc (clearing cleared) (batch ∷ batches_after (Some (mark_of p)) (painted_shots rules more)) (refused_clearing rules more)))
+
+  -- where no station is behind
+  alone : (base taken : List Batch) (last : Option Mark) (cleared : Bool) (p : Painting) → taken ≡ base ++ clearing cleared
+      → taken ++ (start_of last ++ p.changes) ∷ [] ≡ base ++ batches_by last cleared [] (Ok p)
+  alone base taken last cleared p h = sym (append-nil (taken ++ (start_of last ++ p.changes) ∷ [])) ∙ joined base taken last cleared p [] h
+
+  -- a run tells its stations
+  abbrev ToldFrom : List EventView → Type 0
+  ToldFrom es = (cleared : Bool) (s : Progress V) (base : List Batch) → s.taken ≡ base ++ clearing cleared
+      → ((run rules es s).taken ≡ base ++ station_batches rules s.last (stations_from rules es cleared s))
+      × ((run rules es s).last ≡ mark_after s.last (painted_shots rules (stations_from rules es cleared s)))
 
   -- the last station
-  by_last : (s : Progress V) (base : List Batch) (cleared : Bool) → s.taken ≡ base ++ clear_if cleared → (q : Result Painting Refusal)
-      → (at_end rules s (rendered s.last q)).taken ≡ base ++ (clear_if cleared ++ batches_by s.last (batches_after rules []) q)
-  by_last s base cleared h (Err r) = nothing base s.taken cleared h
-  by_last s base cleared h (Ok p) = alone base ((start_batch s.last ++ p.changes) ∷ []) s.taken cleared h
-
-  -- a run takes the batches of its stations
-  abbrev Tells : List EventView → Type 0
-  Tells es = (cleared : Bool) (s : Progress V) (base : List Batch) → s.taken ≡ base ++ clear_if cleared
-      → (run rules es s).taken ≡ base ++ batches_after rules (stations_from rules es cleared s) s.last
+  by_last : (s : Progress V) (base : List Batch) (cleared : Bool) → s.taken ≡ base ++ clearing cleared → (q : Result Painting Refusal)
+      → Tells base s.last cleared [] q (at_end rules s (rendered s.last q))
+  by_last s base cleared h (Err r) = (h, refl)
+  by_last s base cleared h (Ok p) = (alone base s.taken s.last cleared p h, refl)
 
   -- one event more
-  by_event : (e : EventView) (es : List EventView) → Tells es → Tells (e ∷ es)
+  by_event : (e : EventView) (es : List EventView) → ToldFrom es → ToldFrom (e ∷ es)
   by_event e es rest cleared s base h =
       subst Told (sym (rendered_at s cleared)) (by_painting (painting_of rules (station_at cleared s)))
     where
       Told : Result Rendered Refusal → Type 0
-      Told r = (at_event rules e es s (run rules es) r).taken
-          ≡ base ++ (clear_if cleared ++ batches_by s.last (batches_after rules (stations_by rules e s (stations_from rules es) r)) (painting_of rules (station_at cleared s)))
+      Told r = Tells base s.last cleared (stations_by rules e s (stations_from rules es) r) (painting_of rules (station_at cleared s)) (at_event rules e es s (run rules es) r)
 
       after : Painting → Progress V
-      after p = shown s (record { changes = start_batch s.last ++ p.changes; mark = mark_of p })
+      after p = shown s (record { changes = start_of s.last ++ p.changes; mark = mark_of p })
 
-      by_state : (p : Painting) (a : Result EditState Refusal) → (after_event rules e es (after p) (run rules es) a).taken
-          ≡ base ++ (clear_if cleared ++ (start_batch s.last ++ p.changes) ∷ batches_after rules (stations_after rules e (after p) (stations_from rules es) a) (Some (mark_of p)))
-      by_state p (Err r) = alone base ((start_batch s.last ++ p.changes) ∷ []) s.taken cleared h
+      by_state : (p : Painting) (a : Result EditState Refusal)
+          → Tells base s.last cleared (stations_after rules e (after p) (stations_from rules es) a) (Ok p) (after_event rules e es (after p) (run rules es) a)
+      by_state p (Err r) = (alone base s.taken s.last cleared p h, refl)
       by_state p (Ok state) =
-          rest (is_repaint (chosen rules (after p) e)) (handled rules (after p) e state) (s.taken ++ (start_batch s.last ++ p.changes) ∷ [])
-          (ap (λ (b : List Batch). (s.taken ++ (start_batch s.last ++ p.changes) ∷ []) ++ b) (clears_repaint (chosen rules (after p) e)))
-          ∙ more base (start_batch s.last ++ p.changes) (batches_after rules (stations_from rules es (is_repaint (chosen rules (after p) e)) (handled rules (after p) e state)) (Some (mark_of p))) s.taken cleared h
+          let next : Progress V = handled rules (after p) e state in
+          let told = rest (is_repaint (chosen rules (after p) e)) next (s.taken ++ (start_of s.last ++ p.changes) ∷ []) refl in
+          (told.0 ∙ joined base s.taken s.last cleared p (stations_from rules es (is_repaint (chosen rules (after p) e)) next) h, told.1)
 
       by_over : (p : Painting) (over : Bool)
-          → (cond over (ends (answer_at s.state) (e ∷ es) (after p)) (after_event rules e es (after p) (run rules es) (state_after rules s e))).taken
-          ≡ base ++ (clear_if cleared ++ (start_batch s.last ++ p.changes) ∷ batches_after rules (stations_unless (stations_after rules e (after p) (stations_from rules es) (state_after rules s e)) over) (Some (mark_of p)))
-      by_over p true = alone base ((start_batch s.last ++ p.changes) ∷ []) s.taken cleared h
+          → Tells base s.last cleared (stations_unless (stations_after rules e (after p) (stations_from rules es) (state_after rules s e)) over) (Ok p)
+          (cond over (ends (answer_at s.state) (e ∷ es) (after p)) (after_event rules e es (after p) (run rules es) (state_after rules s e)))
+      by_over p true = (alone base s.taken s.last cleared p h, refl)
       by_over p false = by_state p (state_after rules s e)
 
-      by_painting : (q : Result Painting Refusal) → (at_event rules e es s (run rules es) (rendered s.last q)).taken
-          ≡ base ++ (clear_if cleared ++ batches_by s.last (batches_after rules (stations_by rules e s (stations_from rules es) (rendered s.last q))) q)
-      by_painting (Err r) = nothing base s.taken cleared h
+      by_painting : (q : Result Painting Refusal)
+          → Tells base s.last cleared (stations_by rules e s (stations_from rules es) (rendered s.last q)) q (at_event rules e es s (run rules es) (rendered s.last q))
+      by_painting (Err r) = (h, refl)
       by_painting (Ok p) = by_over p (is_over s.state.mode)
 
-  -- the batches of a run are those of its stations
-  by_stations : (es : List EventView) → Tells es
+  by_stations : (es : List EventView) → ToldFrom es
   by_stations [] cleared s base h =
-      ap (λ (r : Result Rendered Refusal). (at_end rules s r).taken) (rendered_at s cleared) ∙ by_last s base cleared h (painting_of rules (station_at cleared s))
+      subst (λ (r : Result Rendered Refusal). Tells base s.last cleared [] (painting_of rules (station_at cleared s)) (at_end rules s r))
+      (sym (rendered_at s cleared)) (by_last s base cleared h (painting_of rules (station_at cleared s)))
   by_stations (e ∷ es) cleared s base h = by_event e es (by_stations es) cleared s base h
 
   -- the batches of a run that begins at a frame
   pub batches_by_stations : BatchesByStations rules
-  batches_by_stations f = by_stations f.terminal.events false (progress_of f) f.terminal.batches (sym (append-nil f.terminal.batches))
+  batches_by_stations f = (by_stations f.terminal.events false (progress_of f) f.terminal.batches (sym (append-nil f.terminal.batches))).0
+
+  -- and the mark that it leaves
+  mark_by_stations : (f : Frame V) → (run_of rules f).last ≡ mark_after f.last (painted_shots rules (stations_of rules f))
+  mark_by_stations f = (by_stations f.terminal.events false (progress_of f) f.terminal.batches (sym (append-nil f.terminal.batches))).1
+
+  -- ---- stations that are painted
+
+  -- the station's painting is not refused
+  abbrev pub IsPainted : Station V → Type 0
+  IsPainted s = (p : Painting) × (painting_of rules s ≡ Ok p)
+
+  -- all stations are painted
+  abbrev pub ArePainted : List (Station V) → Type 0
+  ArePainted [] = Unit {0}
+  ArePainted (s ∷ more) = IsPainted s × ArePainted more
+
+  -- all stations but the last are painted
+  abbrev ArePaintedButLast : List (Station V) → Type 0
+  ArePaintedButLast [] = Unit {0}
+  ArePaintedButLast (s ∷ []) = Unit {0}
+  ArePaintedButLast (s ∷ next ∷ more) = IsPainted s × ArePaintedButLast (next ∷ more)
+
+  -- stations behind a painted one
+  painted_more : (s : Station V) (more : List (Station V)) → IsPainted s → ArePaintedButLast more → ArePaintedButLast (s ∷ more)
+  painted_more s [] one rest = tt
+  painted_more s (next ∷ more) one rest = (one, rest)
+
+  -- a painting that is rendered is not refused
+  rendered-ok : (last : Option Mark) (q : Result Painting Refusal) (p : Rendered) → rendered last q ≡ Ok p → (painted : Painting) × (q ≡ Ok painted)
+  rendered-ok last (Ok q) p h = (q, refl)
+  rendered-ok last (Err r) p h = absurd (subst IsErrRendered h tt)
+
+  -- all stations of a run but the last are painted
+  painted_from : (es : List EventView) (cleared : Bool) (s : Progress V) → ArePaintedButLast (stations_from rules es cleared s)
+  painted_from [] cleared s = tt
+  painted_from (e ∷ es) cleared s = by_painting (painted_from es) (painting_at rules s) refl
+    where
+      by_state : ((cleared : Bool) (s : Progress V) → ArePaintedButLast (stations_from rules es cleared s)) → (p : Rendered) → IsPainted (station_at cleared s)
+          → (a : Result EditState Refusal) → ArePaintedButLast (station_at cleared s ∷ stations_after rules e (shown s p) (stations_from rules es) a)
+      by_state rest p one (Err r) = tt
+      by_state rest p one (Ok state) =
+          painted_more (station_at cleared s) _ one (rest (is_repaint (chosen rules (shown s p) e)) (handled rules (shown s p) e state))
+
+      by_over : ((cleared : Bool) (s : Progress V) → ArePaintedButLast (stations_from rules es cleared s)) → (p : Rendered) → IsPainted (station_at cleared s)
+          → (over : Bool) → ArePaintedButLast (station_at cleared s ∷ stations_unless (stations_after rules e (shown s p) (stations_from rules es) (state_after rules s e)) over)
+      by_over rest p one true = tt
+      by_over rest p one false = by_state rest p one (state_after rules s e)
+
+      by_painting : ((cleared : Bool) (s : Progress V) → ArePaintedButLast (stations_from rules es cleared s)) → (q : Result Rendered Refusal) → painting_at rules s ≡ q
+          → ArePaintedButLast (station_at cleared s ∷ stations_by rules e s (stations_from rules es) q)
+      by_painting rest (Err r) h = tt
+      by_painting rest (Ok p) h =
+          by_over rest p (rendered-ok s.last (painting_of rules (station_at cleared s)) p (sym (rendered_at s cleared) ∙ h)) (is_over s.state.mode)
+
+  -- the stations up to a painted one are painted
+  painted_up_to : (earlier : List (Station V)) (station : Station V) (later : List (Station V)) → ArePaintedButLast (earlier ++ station ∷ later)
+      → IsPainted station → ArePainted (earlier ++ station ∷ [])
+  painted_up_to [] station later h one = (one, tt)
+  painted_up_to (s ∷ []) station later h one = (h.0, (one, tt))
+  painted_up_to (s ∷ next ∷ more) station later h one = (h.0, painted_up_to (next ∷ more) station later h.1 one)
+
+  -- a painting that is not refused is that of the scene at the screen's columns
+  painting-is : (s : Station V) (p : Painting) → painting_of rules s ≡ Ok p → p ≡ painting s.size.cols (sized_scene rules s).scene
+  painting-is s p h = painted-is s.size (sized_scene rules s).scene p h
+
+  -- their paintings are those of their scenes, and come before those of the stations behind them
+  shots_before : (stations later : List (Station V)) → ArePainted stations
+      → painted_shots rules (stations ++ later) ≡ map shot_of (map (sized_scene rules) stations) ++ painted_shots rules later
+  shots_before [] later h = refl
+  shots_before (s ∷ stations) later ((p, e), more) =
+      let rest : List Shot = map shot_of (map (sized_scene rules) stations) ++ painted_shots rules later in
+      rw (e, shots_before stations later more) (ap (λ (q : Painting). shot q s.cleared ∷ rest) (painting-is s p e))
+    where
+      shot : Painting → Bool → Shot
+      shot q cleared = record { painting = q; cleared = cleared }
+
+  -- none of them is refused
+  clearing_behind : (stations later : List (Station V)) → ArePainted stations → refused_clearing rules (stations ++ later) ≡ refused_clearing rules later
+  clearing_behind [] later h = refl
+  clearing_behind (s ∷ stations) later ((p, e), more) = rw e (clearing_behind stations later more)
+
+  -- their batches are those of their scenes
+  pub batches_are_shots : (stations : List (Station V)) → ArePainted stations → batches_of rules stations ≡ batches (map shot_of (map (sized_scene rules) stations))
+  batches_are_shots stations h =
+      let list : List Shot = map shot_of (map (sized_scene rules) stations) in
+      let shown : painted_shots rules stations ≡ list = ap (painted_shots rules) (sym (append-nil stations)) ∙ shots_before stations [] h ∙ append-nil list in
+      let none : refused_clearing rules stations ≡ [] = ap (refused_clearing rules) (sym (append-nil stations)) ∙ clearing_behind stations [] h in
+      ap (λ (l : List Shot). batches l ++ refused_clearing rules stations) shown ∙ ap (λ (b : List Batch). batches list ++ b) none ∙ append-nil (batches list)
+
+  -- where nothing is rendered there are no paintings
+  no_shots : (later : List (Station V)) → All (RendersNothing rules) later → painted_shots rules later ≡ []
+  no_shots [] h = refl
+  no_shots (s ∷ more) h = rw (All-head (RendersNothing rules) s more h).refused.1 refl
+
+  -- and no clearing
+  no_clearing : (later : List (Station V)) → All (RendersNothing rules) later → refused_clearing rules later ≡ []
+  no_clearing [] h = refl
+  no_clearing (s ∷ more) h =
+      let one = All-head (RendersNothing rules) s more h in
+      rw (one.refused.1, one.not_cleared) refl
+
+  -- ---- a run that comes to a station
+
+  -- nothing was painted before the run, which comes to a station and paints it
+  pub record Comes (f : Frame V) (earlier : List (Station V)) (station : Station V) (later : List (Station V)) : Type 0 where
+    pub nothing_painted : f.last ≡ None
+    pub stations : stations_of rules f ≡ earlier ++ station ∷ later
+    pub painting : Painting
+    pub painted : painting_of rules station ≡ Ok painting
+
+  module _ {f : Frame V} {earlier : List (Station V)} {station : Station V} {later : List (Station V)} (h : Comes f earlier station later) where
+    -- what is shown up to the station
+    abbrev so_far : List Shot
+    so_far = map shot_of (map (sized_scene rules) (earlier ++ station ∷ []))
+
+    -- the stations up to the painted one are painted
+    pub all_painted : ArePainted (earlier ++ station ∷ [])
+    all_painted =
+        painted_up_to earlier station later
+        (subst ArePaintedButLast h.stations (painted_from f.terminal.events false (progress_of f))) (h.painting, h.painted)
+
+    -- their batches are those of their scenes
+    pub played-is : batches_of rules (earlier ++ station ∷ []) ≡ batches so_far
+    played-is = batches_are_shots (earlier ++ station ∷ []) all_painted
+
+    -- all stations, the painted ones first
+    parted : stations_of rules f ≡ (earlier ++ station ∷ []) ++ later
+    parted = h.stations ∙ sym (append_assoc earlier (station ∷ []) later)
+
+    shots-are : painted_shots rules (stations_of rules f) ≡ so_far ++ painted_shots rules later
+    shots-are = ap (painted_shots rules) parted ∙ shots_before (earlier ++ station ∷ []) later all_painted
+
+    -- the batches of the run
+    taken-is : (run_of rules f).taken ≡ f.terminal.batches ++ (batches (so_far ++ painted_shots rules later) ++ refused_clearing rules later)
+    taken-is =
+        batches_by_stations f
+        ∙ ap (λ (last : Option Mark). f.terminal.batches ++ station_batches rules last (stations_of rules f)) h.nothing_painted
+        ∙ ap (λ (l : List Shot). f.terminal.batches ++ (batches l ++ refused_clearing rules (stations_of rules f))) shots-are
+        ∙ ap (λ (b : List Batch). f.terminal.batches ++ (batches (so_far ++ painted_shots rules later) ++ b))
+        (ap (refused_clearing rules) parted ∙ clearing_behind (earlier ++ station ∷ []) later all_painted)
+
+    -- those up to the station are the first ones
+    pub first_batches : (rest : List Batch) × ((run_of rules f).taken ≡ f.terminal.batches ++ (batches_of rules (earlier ++ station ∷ []) ++ rest))
+    first_batches =
+        let others : List Batch = batches_after (mark_after None so_far) (painted_shots rules later) in (
+          others ++ refused_clearing rules later,
+          taken-is
+              ∙ ap (λ (b : List Batch). f.terminal.batches ++ (b ++ refused_clearing rules later)) (batches_after-append None so_far (painted_shots rules later))
+              ∙ ap (λ (b : List Batch). f.terminal.batches ++ b) (append_assoc (batches so_far) others (refused_clearing rules later))
+              ∙ ap (λ (b : List Batch). f.terminal.batches ++ (b ++ (others ++ refused_clearing rules later))) (sym played-is),
+        )
+
+    -- and all, where nothing is rendered at later ones
+    pub all_taken : All (RendersNothing rules) later → (run_of rules f).taken ≡ f.terminal.batches ++ batches_of rules (earlier ++ station ∷ [])
+    all_taken none =
+        taken-is
+        ∙ ap (λ (l : List Shot). f.terminal.batches ++ (batches (so_far ++ l) ++ refused_clearing rules later)) (no_shots later none)
+        ∙ ap (λ (b : List Batch). f.terminal.batches ++ (batches (so_far ++ []) ++ b)) (no_clearing later none)
+        ∙ ap (λ (b : List Batch). f.terminal.batches ++ b) (append-nil (batches (so_far ++ [])) ∙ ap batches (append-nil so_far) ∙ sym played-is)
+
+    -- then the closing batch is that of what is shown
+    pub closing-is : All (RendersNothing rules) later → closing_if (run_of rules f).last ≡ closing_batch so_far
+    closing-is none =
+        ap closing_if
+        (mark_by_stations f
+        ∙ ap (λ (last : Option Mark). mark_after last (painted_shots rules (stations_of rules f))) h.nothing_painted
+        ∙ ap (mark_after None) (shots-are ∙ ap (λ (l : List Shot). so_far ++ l) (no_shots later none) ∙ append-nil so_far))

@@ -6,12 +6,12 @@ use Rattle.tw_surface.specs.Width.{column_width}
 use Rattle.tw_surface.specs.Places.{pieces}
 use Rattle.tw_surface.specs.Pictures.{Picture}
 use Rattle.tw_surface.specs.Paintings.{Painting}
-use Rattle.tw_surface.specs.PaintingBatches.{IsPlainAt, play_batches}
+use Rattle.tw_surface.specs.PaintingBatches.{IsPlainAt, play_batches, closing_if}
 use Rattle.tw_input.specs.EventView.{EventView, Key, Resized, Paste}
 use Rattle.tw_input.specs.declared.key.KeyCode.TheVariants.{Char, Home}
 use Rattle.tw_host.specs.KeyTable.{pressed}
 use Rattle.tw_host.specs.HostRules.{HostRules, plain_rules}
-use Rattle.tw_painter.specs.Painting.{painted_on, closing_if}
+use Rattle.tw_painter.specs.Painting.{painted_on}
 use Rattle.tw_session.specs.SessionView.{new_state}
 use Rattle.tw_lineedit.specs.Frame.{Frame}
 use Rattle.tw_lineedit.specs.Reading.{start}

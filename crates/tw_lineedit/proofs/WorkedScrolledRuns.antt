@@ -8,7 +8,7 @@ use Rattle.tw_surface.specs.Pictures.{Picture}
 use Rattle.tw_surface.specs.Places.{pieces}
 use Rattle.tw_surface.specs.Scenes.{lower_lines}
 use Rattle.tw_surface.specs.Scrolling.{play_batches_on, IsLow}
-use Rattle.tw_surface.specs.PaintingBatches.{IsPlainAt, play_batches}
+use Rattle.tw_surface.specs.PaintingBatches.{IsPlainAt, play_batches, closing_if}
 use Rattle.tw_surface.specs.Width.{column_width}
 use Rattle.tw_input.specs.EventView.{EventView, Key, Resized, Paste}
 use Rattle.tw_input.specs.declared.key.KeyCode.TheVariants.{Char, Home}
@@ -21,7 +21,7 @@ use Rattle.tw_lineedit.specs.HealedRuns.{ComesCleared}
 use Rattle.tw_host.specs.HostRules.{HostRules, plain_rules}
 use Rattle.tw_host.specs.KeyTable.{pressed}
 use Rattle.tw_line.specs.Movements.{destination}
-use Rattle.tw_painter.specs.Painting.{painted_on, closing_if}
+use Rattle.tw_painter.specs.Painting.{painted_on}
 use Rattle.tw_lineedit.specs.Reading.{start}
 use Rattle.tw_painter.specs.Refusal.{Refusal, ZeroSize}
 use Rattle.tw_lineedit.specs.Run.{run_of}

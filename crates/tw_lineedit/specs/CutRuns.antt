@@ -6,9 +6,8 @@ use Rattle.tw_surface.specs.Cutting.{SizedBatch, sized_batches, play_cut, cut_to
 use Rattle.tw_surface.specs.Paintings.{Painting}
 use Rattle.tw_surface.specs.Pictures.{Picture, blank}
 use Rattle.tw_surface.specs.Fresh.{IsFresh, IsClosed, last_row}
-use Rattle.tw_surface.specs.PaintingBatches.{play_batches}
+use Rattle.tw_surface.specs.PaintingBatches.{play_batches, closing_if}
 use Rattle.tw_host.specs.HostRules.{HostRules}
-use Rattle.tw_painter.specs.Painting.{closing_if}
 use Rattle.tw_lineedit.specs.Frame.{Frame}
 use Rattle.tw_lineedit.specs.Run.{run_of}
 use Rattle.tw_lineedit.specs.ScreenRuns.{sized_scene, batches_of, first_row, RendersNothing}

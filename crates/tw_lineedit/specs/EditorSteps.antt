@@ -1,6 +1,8 @@
 -- What the parts of an editor do to its frame.
 use Rattle.std.specs.Prelude.{◌≡◌, ◌++◌, [], length, Option, Some, None, Ok, Err, ◌⊎◌}
 use Rattle.tw_surface.specs.ChangeView.{Batch}
+use Rattle.tw_surface.specs.Paintings.{Mark, closing}
+use Rattle.tw_surface.specs.PaintingBatches.{closing_if, clear_batch}
 use Rattle.tw_input.specs.EventView.{EventView}
 use Rattle.tw_terminal.specs.TerminalState.{TerminalState, Fails, Takes, Renders, RenderFails, count_up}
 use Rattle.tw_host.specs.ActionView.{ActionView, Repaint}
@@ -8,7 +10,7 @@ use Rattle.tw_host.specs.HostRules.{HostRules}
 use Rattle.tw_painter.specs.EditState.{Inactive}
 use Rattle.tw_painter.specs.Refusal.{refusal_of}
 use Rattle.tw_session.specs.Steps.{apply_if, clears_if, TakesMemory}
-use Rattle.tw_painter.specs.Painting.{Mark, Rendered, closing, closing_if, clear_batch}
+use Rattle.tw_painter.specs.Painting.{Rendered}
 use Rattle.tw_lineedit.specs.Frame.{Frame}
 use Rattle.tw_lineedit.specs.Run.{progress_of, painting_at, chosen, answered}
 use Rattle.tw_painter.specs.DrawSteps.{IsSized}

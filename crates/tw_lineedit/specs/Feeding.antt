@@ -1,11 +1,12 @@
 -- A line that is fed its events, one after another.
 use Rattle.std.specs.Prelude.{◌≡◌, ◌≢◌, ℕ, ◌<◌, ◌∷◌, [], ◌⊎◌, cond, Bool, true, false, length, List, Option, Some, None, IsSome, Result, Ok, Err}
+use Rattle.tw_surface.specs.PaintingBatches.{clear_batch}
 use Rattle.tw_input.specs.EventView.{EventView}
 use Rattle.tw_host.specs.ActionView.{Repaint}
 use Rattle.tw_host.specs.HostRules.{HostRules}
 use Rattle.tw_painter.specs.DrawSteps.{IsSized}
 use Rattle.tw_painter.specs.EditState.{EditState, Inactive}
-use Rattle.tw_painter.specs.Painting.{Rendered, clear_batch}
+use Rattle.tw_painter.specs.Painting.{Rendered}
 use Rattle.tw_painter.specs.Refusal.{Refusal}
 use Rattle.tw_painter.specs.declared.error.Error.{Error}
 use Rattle.tw_session.specs.Outcomes.{Outcome, answer_at, IsLine, is_over}

@@ -7,9 +7,8 @@ use Rattle.tw_surface.specs.Pictures.{Picture}
 use Rattle.tw_surface.specs.Fresh.{IsFresh, IsClosed, last_row}
 use Rattle.tw_surface.specs.HealingLaws.{begins_cleared}
 use Rattle.tw_surface.specs.Scrolling.{play_batches_on, IsLow, IsClosedOn}
-use Rattle.tw_surface.specs.PaintingBatches.{IsPlainAt, play_batches}
+use Rattle.tw_surface.specs.PaintingBatches.{IsPlainAt, play_batches, closing_if}
 use Rattle.tw_host.specs.HostRules.{HostRules}
-use Rattle.tw_painter.specs.Painting.{closing_if}
 use Rattle.tw_lineedit.specs.Frame.{Frame}
 use Rattle.tw_lineedit.specs.Run.{run_of}
 use Rattle.tw_lineedit.specs.ScreenRuns.{sized_scene, batches_of, RendersNothing}

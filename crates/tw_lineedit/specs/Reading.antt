@@ -2,13 +2,14 @@
 use Rattle.std.specs.Prelude.{◌≡◌, ℕ, ◌<◌, ◌++◌, length, List, Option, Some, None, Result, Err, IsSome, ◌⊎◌, option_map}
 use Rattle.std.specs.Borrow.{Bor}
 use Rattle.tw_surface.specs.ChangeView.{Batch}
+use Rattle.tw_surface.specs.Paintings.{Mark, closing}
+use Rattle.tw_surface.specs.PaintingBatches.{closing_if}
 use Rattle.tw_terminal.specs.TerminalState.{count_up, IsPart}
 use Rattle.tw_host.specs.HostRules.{HostRules}
 use Rattle.tw_painter.specs.EditState.{Inactive}
 use Rattle.tw_session.specs.SessionView.{initial_cut, begun_state}
 use Rattle.tw_painter.specs.Refusal.{refusal_of}
 use Rattle.tw_session.specs.Outcomes.{Outcome, IsRefusal}
-use Rattle.tw_painter.specs.Painting.{Mark, closing, closing_if}
 use Rattle.tw_lineedit.specs.Frame.{Frame}
 use Rattle.tw_lineedit.specs.Run.{Ending, Moment, want, fault, progress_of, moment, run_of, CanStopFrom, IsPartOf, IsRefusedIn}
 use Rattle.tw_painter.specs.declared.error.Error.{Error}

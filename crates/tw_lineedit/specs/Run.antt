@@ -1,6 +1,8 @@
 -- The run of an editor over a list of events, and the moments at which it can be stopped.
 use Rattle.std.specs.Prelude.{◌≡◌, ◌++◌, ◌∷◌, [], ◌⊎◌, cond, true, false, List, Option, Some, None, Result, Ok, Err}
 use Rattle.tw_surface.specs.ChangeView.{Batch}
+use Rattle.tw_surface.specs.Paintings.{Mark}
+use Rattle.tw_surface.specs.PaintingBatches.{clear_batch}
 use Rattle.tw_input.specs.EventView.{EventView}
 use Rattle.tw_terminal.specs.TerminalState.{TerminalState, count_up, size_after, IsPart}
 use Rattle.tw_terminal.specs.declared.terminal.ScreenSize.{ScreenSize}
@@ -12,7 +14,7 @@ use Rattle.tw_painter.specs.Refusal.{Refusal, refusal_of}
 use Rattle.tw_lineedit.specs.Frame.{Frame}
 use Rattle.tw_session.specs.Outcomes.{Outcome, answer_at, IsLine, is_over}
 use Rattle.tw_session.specs.Steps.{apply_if, clears_if, TakesMemory}
-use Rattle.tw_painter.specs.Painting.{Mark, Rendered, rendered, painted_on, scene_of, clear_batch}
+use Rattle.tw_painter.specs.Painting.{Rendered, rendered, painted_on, scene_of}
 use Rattle.tw_painter.specs.DrawSteps.{IsSized}
 use Rattle.tw_painter.specs.declared.error.Error.{Error}
 use Rattle.tw_painter.specs.declared.error.Error.TheVariants.{Memory, Terminal}

@@ -5,13 +5,13 @@ use Rattle.tw_surface.specs.ChangeView.{Batch}
 use Rattle.tw_surface.specs.Paintings.{Painting}
 use Rattle.tw_surface.specs.Pictures.{Picture}
 use Rattle.tw_surface.specs.Fresh.{IsFresh, IsSameAbove, IsClosed, last_row}
-use Rattle.tw_surface.specs.PaintingBatches.{SizedScene, IsPlainAt, play_batches, scenes_of, start_row}
+use Rattle.tw_surface.specs.PaintingBatches.{SizedScene, IsPlainAt, play_batches, scenes_of, start_row, closing_if}
 use Rattle.tw_host.specs.HostRules.{HostRules}
-use Rattle.tw_painter.specs.Painting.{scene_of, closing_if}
+use Rattle.tw_painter.specs.Painting.{scene_of}
 use Rattle.tw_painter.specs.Refusal.{Refusal}
 use Rattle.tw_lineedit.specs.Frame.{Frame}
 use Rattle.tw_lineedit.specs.Run.{run_of}
-use Rattle.tw_lineedit.specs.Stations.{Station, painting_of, batches_after, stations_of}
+use Rattle.tw_lineedit.specs.Stations.{Station, painting_of, station_batches, stations_of}
 
 module _ {V : Type 0} (rules : HostRules V) where
   -- what is shown at a station, and the columns of its screen
@@ -20,7 +20,7 @@ module _ {V : Type 0} (rules : HostRules V) where
 
   -- the batches of stations from the first one on
   abbrev pub batches_of : List (Station V) → List Batch
-  batches_of stations = batches_after rules stations None
+  batches_of stations = station_batches rules None stations
 
   -- the screen was cleared before one of the stations
   abbrev pub is_cleared : List (Station V) → Bool

@@ -5,10 +5,9 @@ use Rattle.tw_surface.specs.ChangeView.{Batch}
 use Rattle.tw_surface.specs.Pictures.{Picture}
 use Rattle.tw_surface.specs.Scenes.{Scene}
 use Rattle.tw_surface.specs.Fresh.{IsFresh, last_row}
-use Rattle.tw_surface.specs.PaintingBatches.{scenes_of}
+use Rattle.tw_surface.specs.PaintingBatches.{scenes_of, closing_if}
 use Rattle.tw_surface.specs.Scrolling.{play_batches_on, IsLow, top_row, IsMovedUp, IsClosedOn}
 use Rattle.tw_host.specs.HostRules.{HostRules}
-use Rattle.tw_painter.specs.Painting.{closing_if}
 use Rattle.tw_lineedit.specs.Frame.{Frame}
 use Rattle.tw_lineedit.specs.Run.{run_of}
 use Rattle.tw_lineedit.specs.ScreenRuns.{sized_scene, batches_of, ReachesPlainly, RendersNothing}

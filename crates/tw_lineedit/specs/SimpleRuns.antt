@@ -8,10 +8,9 @@ use Rattle.tw_surface.specs.Scenes.{Scene}
 use Rattle.tw_surface.specs.Fresh.{IsFresh, IsSameAbove, IsClosed, last_row}
 use Rattle.tw_surface.specs.HealingLaws.{begins_cleared}
 use Rattle.tw_surface.specs.Scrolling.{play_batches_on, IsLow, top_row, IsMovedUp, IsClosedOn}
-use Rattle.tw_surface.specs.PaintingBatches.{play_batches}
+use Rattle.tw_surface.specs.PaintingBatches.{play_batches, closing_if}
 use Rattle.tw_surface.specs.Simple.{IsSimpleAt, spelled_batches, spelled_scene}
 use Rattle.tw_host.specs.HostRules.{HostRules}
-use Rattle.tw_painter.specs.Painting.{closing_if}
 use Rattle.tw_lineedit.specs.Frame.{Frame}
 use Rattle.tw_lineedit.specs.Run.{run_of}
 use Rattle.tw_lineedit.specs.ScreenRuns.{sized_scene, batches_of, is_cleared, first_row, RendersNothing}

@@ -1,14 +1,15 @@
 -- The stations of a run, and its batches by them alone.
-use Rattle.std.specs.Prelude.{◌≡◌, ◌++◌, List, [], ◌∷◌, Bool, true, false, Option, Some, Result, Ok, Err}
+use Rattle.std.specs.Prelude.{◌≡◌, ◌++◌, List, [], ◌∷◌, Bool, true, false, Option, Result, Ok, Err}
 use Rattle.tw_surface.specs.ChangeView.{Batch}
-use Rattle.tw_surface.specs.Paintings.{Painting}
+use Rattle.tw_surface.specs.Paintings.{Painting, Mark}
+use Rattle.tw_surface.specs.PaintingBatches.{Shot, clearing, batches_after}
 use Rattle.tw_input.specs.EventView.{EventView}
 use Rattle.tw_terminal.specs.declared.terminal.ScreenSize.{ScreenSize}
-use Rattle.tw_host.specs.ActionView.{ActionView, Repaint}
 use Rattle.tw_painter.specs.EditState.{EditState}
 use Rattle.tw_host.specs.HostRules.{HostRules}
 use Rattle.tw_session.specs.Outcomes.{is_over}
-use Rattle.tw_painter.specs.Painting.{Mark, mark_of, start_batch, clear_batch, Rendered, painted_on, scene_of}
+use Rattle.tw_session.specs.Steps.{is_repaint}
+use Rattle.tw_painter.specs.Painting.{Rendered, painted_on, scene_of}
 use Rattle.tw_painter.specs.Refusal.{Refusal}
 use Rattle.tw_lineedit.specs.Frame.{Frame}
 use Rattle.tw_lineedit.specs.Run.{Progress, run_of, progress_of, painting_at, shown, chosen, state_after, handled}
@@ -20,24 +21,19 @@ pub record Station (V : Type 0) : Type 0 where
   pub size : ScreenSize
   pub cleared : Bool
 
--- the action that clears the screen
-abbrev pub is_repaint : Option ActionView → Bool
-is_repaint (Some Repaint) = true
-is_repaint _ = false
-
--- the batch that clears the screen, if it is cleared
-abbrev pub clear_if : Bool → List Batch
-clear_if true = clear_batch ∷ []
-clear_if false = []
-
 -- the station at which a run has come so far
 abbrev pub station_at : {V : Type 0} → Bool → Progress V → Station V
 station_at cleared s = record { state = s.state; value = s.value; size = s.size; cleared = cleared }
 
--- the batches of a station's painting and of the stations behind it; where it is refused there are none
-abbrev pub batches_by : Option Mark → (Option Mark → List Batch) → Result Painting Refusal → List Batch
-batches_by last rest (Err r) = []
-batches_by last rest (Ok p) = (start_batch last ++ p.changes) ∷ rest (Some (mark_of p))
+-- a station's painting and those of the stations behind it; where it is refused there are none
+abbrev pub shots_by : Bool → List Shot → Result Painting Refusal → List Shot
+shots_by cleared more (Err r) = []
+shots_by cleared more (Ok p) = record { painting = p; cleared = cleared } ∷ more
+
+-- the clearing before a station whose painting is refused; else that of the stations behind it
+abbrev pub clearing_by : Bool → List Batch → Result Painting Refusal → List Batch
+clearing_by cleared more (Err r) = clearing cleared
+clearing_by cleared more (Ok p) = more
 
 -- the stations behind a painted one: none where the run is over
 abbrev pub stations_unless : {V : Type 0} → List (Station V) → Bool → List (Station V)
@@ -49,10 +45,19 @@ module _ {V : Type 0} (rules : HostRules V) where
   abbrev pub painting_of : Station V → Result Painting Refusal
   painting_of s = painted_on s.size (scene_of rules s.value s.state s.cleared)
 
-  -- the batches of stations after a painting: of each its clearing and its painting
-  abbrev pub batches_after : List (Station V) → Option Mark → List Batch
-  batches_after [] last = []
-  batches_after (s ∷ stations) last = clear_if s.cleared ++ batches_by last (batches_after stations) (painting_of s)
+  -- the paintings of stations up to the first one that is refused
+  abbrev pub painted_shots : List (Station V) → List Shot
+  painted_shots [] = []
+  painted_shots (s ∷ stations) = shots_by s.cleared (painted_shots stations) (painting_of s)
+
+  -- the clearing before the first one that is refused
+  abbrev pub refused_clearing : List (Station V) → List Batch
+  refused_clearing [] = []
+  refused_clearing (s ∷ stations) = clearing_by s.cleared (refused_clearing stations) (painting_of s)
+
+  -- the batches of stations after an earlier painting, if there was one: those of what is painted, and then the clearing before a painting that is refused
+  abbrev pub station_batches : Option Mark → List (Station V) → List Batch
+  station_batches last stations = batches_after last (painted_shots stations) ++ refused_clearing stations
 
   -- the stations behind an event that leads to a state or is refused; rest are those from a station on
   abbrev pub stations_after : EventView → Progress V → (Bool → Progress V → List (Station V)) → Result EditState Refusal → List (Station V)
@@ -75,4 +80,4 @@ module _ {V : Type 0} (rules : HostRules V) where
 
   -- the batches that a run takes are a function of its stations alone
   abbrev pub BatchesByStations : Type 0
-  BatchesByStations = (f : Frame V) → (run_of rules f).taken ≡ f.terminal.batches ++ batches_after (stations_of f) f.last
+  BatchesByStations = (f : Frame V) → (run_of rules f).taken ≡ f.terminal.batches ++ station_batches f.last (stations_of f)

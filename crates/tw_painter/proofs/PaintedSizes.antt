@@ -7,13 +7,14 @@ use Rattle.tw_surface.specs.declared.size.SizeFault.TheVariants as size_fault
 use Rattle.tw_surface.specs.ChangeView.{Batch}
 use Rattle.tw_surface.specs.Drawings.{Drawing}
 use Rattle.tw_surface.specs.Scenes.{Scene}
-use Rattle.tw_surface.specs.Paintings.{painting}
+use Rattle.tw_surface.specs.Paintings.{painting, Mark, mark_of}
+use Rattle.tw_surface.specs.PaintingBatches.{start_of}
 use Rattle.tw_terminal.specs.declared.terminal.ScreenSize.{ScreenSize}
 use Rattle.tw_painter.specs.declared.error.Error.{Error}
 use Rattle.tw_painter.specs.declared.error.Error.TheVariants.{EndOfFile, Recursive, CandidateDoesNotFit, Memory, Terminal}
 use Rattle.tw_painter.specs.declared.error.Error.TheVariants as error
 use Rattle.tw_painter.specs.Refusal.{Refusal, ZeroSize, SizeOutOfRange}
-use Rattle.tw_painter.specs.Painting.{Mark, mark_of, start_batch, Rendered, rendered, painted_on, is_paintable}
+use Rattle.tw_painter.specs.Painting.{Rendered, rendered, painted_on, is_paintable}
 use Rattle.tw_painter.specs.DrawSteps.{IsSized, IsUnpainted, size_error, IsStepRefusal, DrawnScene}
 
 -- no rows or no columns
@@ -90,11 +91,11 @@ refused-scene size scene (Terminal x) sized h = absurd h
 
 -- a scene that is painted
 pub painted-scene : (size : ScreenSize) (scene : Scene) (before : Option Mark) (new : Drawing) (batch : Batch) (left : Mark) → IsSized size → DrawnScene size.cols scene new left
-    → batch ≡ start_batch before ++ new.changes → rendered before (painted_on size scene) ≡ Ok (record { changes = batch; mark = left })
+    → batch ≡ start_of before ++ new.changes → rendered before (painted_on size scene) ≡ Ok (record { changes = batch; mark = left })
 painted-scene size scene before new batch left sized h e =
     let is_painting : painted_on size scene ≡ Ok (painting size.cols scene) = painted_on-sized size scene sized ∙ rw h.paintable refl in
     ap (rendered before) is_painting
-    ∙ ap (λ b. as_rendered b (mark_of (painting size.cols scene))) (sym (e ∙ ap (λ b. start_batch before ++ b) h.changes))
+    ∙ ap (λ b. as_rendered b (mark_of (painting size.cols scene))) (sym (e ∙ ap (λ b. start_of before ++ b) h.changes))
     ∙ ap (as_rendered batch) (sym h.leaves)
   where
     as_rendered : Batch → Mark → Result Rendered Refusal

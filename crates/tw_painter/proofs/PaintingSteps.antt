@@ -10,10 +10,10 @@ use Rattle.tw_surface.specs.Drawings.{Drawing, place, height}
 use Rattle.tw_surface.specs.Places.{Place, place_after_all, origin, is_in_range, move_between}
 use Rattle.tw_surface.specs.Scenes.{Scene, Lower}
 use Rattle.tw_surface.specs.Scenes.Lower.{Search}
-use Rattle.tw_surface.specs.Paintings.{before_line, edge_space, lower_changes, shown_part, cursor_place, place_at}
+use Rattle.tw_surface.specs.Paintings.{before_line, edge_space, lower_changes, shown_part, cursor_place, place_at, Mark}
 use Rattle.tw_painter.specs.declared.error.Error.{Error}
 use Rattle.tw_host.specs.ElementView.{ElementView, changes_of}
-use Rattle.tw_painter.specs.Painting.{Mark, is_paintable, preview_of}
+use Rattle.tw_painter.specs.Painting.{is_paintable, preview_of}
 use Rattle.tw_painter.specs.DrawSteps.{IsStepRefusal, stay_in_range, with_all, with_edge, has_cell, Drawn, Draws, DrawnScene}
 use Rattle.tw_painter.proofs.DrawingLimits.{empty, row-in_range}
 use Rattle.tw_painter.proofs.DrawLemmas.{drawn-append, draws-later, refused-along, refused-first, refused-later}

@@ -10,7 +10,7 @@ use Rattle.tw_surface.specs.declared.size.SizeFault.TheVariants as size
 use Rattle.tw_surface.specs.ChangeView.{Batch, batch_view}
 use Rattle.tw_surface.specs.Places.{Place, places_of_all, is_in_range}
 use Rattle.tw_surface.specs.Drawings.{Drawing, place}
-use Rattle.tw_surface.specs.Paintings.{painting, edge_space, place_at}
+use Rattle.tw_surface.specs.Paintings.{painting, edge_space, place_at, Mark, mark_of}
 use Rattle.tw_surface.specs.Scenes.{Scene, Lower}
 use Rattle.tw_surface.specs.Scenes.Lower.{NoLower, Search}
 use Rattle.tw_painter.specs.declared.error.Error.{Error}
@@ -22,7 +22,7 @@ use Rattle.tw_terminal.specs.declared.terminal.ScreenSize.{ScreenSize}
 use Rattle.tw_line.specs.Cut.{Cut}
 use Rattle.tw_host.specs.HostRules.{HostRules}
 use Rattle.tw_painter.specs.Refusal.{ZeroSize, SizeOutOfRange}
-use Rattle.tw_painter.specs.Painting.{search_text, preview_of, Mark, mark_of, is_paintable, painted_on, rendered, scene_with}
+use Rattle.tw_painter.specs.Painting.{search_text, preview_of, is_paintable, painted_on, rendered, scene_with}
 
 -- the error for a change that is refused
 abbrev pub add_error : AddFault → Error

@@ -1,13 +1,12 @@
 -- The painting of a state.
-use Rattle.std.specs.Prelude.{◌≤◌, nat_abs, ℕ, ℤ, pos, neg_ℤ, ◌-ℤ◌, ◌+◌, ◌==◌, Bool, ◌&&◌, ◌||◌, nat_le, nat_lt, if◌then◌else◌, List, [], ◌∷◌, ◌++◌, codes, Option, Some, None, Result, Ok, Err}
+use Rattle.std.specs.Prelude.{◌≤◌, nat_abs, ℕ, ◌+◌, ◌==◌, Bool, ◌&&◌, ◌||◌, nat_le, nat_lt, if◌then◌else◌, List, [], ◌∷◌, ◌++◌, codes, Option, Result, Ok, Err}
 use Rattle.std.specs.List.{list_all}
-use Rattle.tw_surface.specs.declared.change.Position.TheVariants.{Absolute, Relative}
-use Rattle.tw_surface.specs.ChangeView.{Batch, ClearScreen, ClearToEndOfScreen, CursorPosition}
-use Rattle.tw_surface.specs.Defaults.{default_color}
+use Rattle.tw_surface.specs.ChangeView.{Batch}
 use Rattle.tw_surface.specs.Places.{place_after_all, places_of_all, origin, is_in_range}
 use Rattle.tw_surface.specs.Scenes.{Scene, Lower}
 use Rattle.tw_surface.specs.Scenes.Lower.{NoLower, Preview, Search}
-use Rattle.tw_surface.specs.Paintings.{Painting, before_line, shown_part, cursor_place, painting}
+use Rattle.tw_surface.specs.Paintings.{Painting, before_line, shown_part, cursor_place, painting, Mark, mark_of}
+use Rattle.tw_surface.specs.PaintingBatches.{start_of}
 use Rattle.tw_terminal.specs.declared.terminal.ScreenSize.{ScreenSize}
 use Rattle.tw_host.specs.ElementView.{ElementView, changes_of}
 use Rattle.tw_host.specs.HostRules.{HostRules}
@@ -70,37 +69,10 @@ painted_on size scene =
     else if nat_lt 65535 size.rows || nat_lt 65535 size.cols then Err SizeOutOfRange
     else if is_paintable size.cols scene then Ok (painting size.cols scene) else Err SizeOutOfRange
 
--- where a painting leaves the cursor and how high it is, both counted from its first row
-pub record Mark : Type 0 where
-  pub row : ℤ
-  pub height : ℕ
-
 -- a mark that a painting can have
 pub record IsInLimits (m : Mark) : Type 0 where
   pub near : nat_abs m.row ≤ 2147483647
   pub low : m.height ≤ 4294967294
-
--- the mark of a painting
-abbrev pub mark_of : Painting → Mark
-mark_of p = record { row = p.row; height = p.height }
-
--- the start move back to the first row of the painting before, if there was one
-abbrev pub start_batch : Option Mark → Batch
-start_batch None = []
-start_batch (Some m) = CursorPosition (Absolute 0) (Relative (neg_ℤ m.row)) ∷ []
-
--- the closing batch: to the row under a painting, and clear from there on
-abbrev pub closing : Mark → Batch
-closing m = CursorPosition (Absolute 0) (Relative (pos (1 + m.height) -ℤ m.row)) ∷ ClearToEndOfScreen default_color ∷ []
-
--- the closing batch, if there was a painting
-abbrev pub closing_if : Option Mark → List Batch
-closing_if None = []
-closing_if (Some m) = closing m ∷ []
-
--- the batch that clears the screen
-abbrev pub clear_batch : Batch
-clear_batch = ClearScreen default_color ∷ []
 
 -- a painting as it is rendered, behind its start move, and its mark
 pub record Rendered : Type 0 where
@@ -110,4 +82,4 @@ pub record Rendered : Type 0 where
 -- the painting as it is rendered after the one before, or its refusal
 abbrev pub rendered : Option Mark → Result Painting Refusal → Result Rendered Refusal
 rendered last (Err r) = Err r
-rendered last (Ok p) = Ok (record { changes = start_batch last ++ p.changes; mark = mark_of p })
+rendered last (Ok p) = Ok (record { changes = start_of last ++ p.changes; mark = mark_of p })

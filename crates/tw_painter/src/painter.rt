@@ -1,12 +1,13 @@
 //! The painting of a line: the changes that show it, and where they leave the cursor.
 
-ghost use Rattle.std.specs.Prelude.{◌≡◌, ◌+◌, ◌<◌, ◌≤◌, ◌∷◌, [], false, nat_abs, map, string_bytes, MatchOption, IfOk, IfErr, ◌++◌, Some};
+ghost use Rattle.std.specs.Prelude.{◌≡◌, ◌+◌, ◌<◌, ◌≤◌, ◌∷◌, [], false, nat_abs, map, string_bytes, MatchOption, IfOk, IfErr, ◌++◌};
 ghost use Rattle.tw_surface.specs.Characters.{cr, lf};
 ghost use Rattle.tw_surface.specs.ChangeView.{change_view, batch_view};
 ghost use Rattle.tw_surface.specs.Drawings.{place};
-ghost use Rattle.tw_surface.specs.Paintings.{before_line, edge_space, lower_changes};
+ghost use Rattle.tw_surface.specs.PaintingBatches.{start_of};
+ghost use Rattle.tw_surface.specs.Paintings.{before_line, edge_space, lower_changes, start_move, closing};
 ghost use Rattle.tw_host.specs.ElementView.{element_view, changes_of};
-ghost use Rattle.tw_painter.specs.Painting.{preview_of, label, search_text, start_batch, closing};
+ghost use Rattle.tw_painter.specs.Painting.{preview_of, label, search_text};
 ghost use Rattle.tw_painter.specs.DrawSteps.{Draws, DrawsScene, with_edge, lower_of, scene_of_line, has_cell, place_of, IsCellAfter, IsPainted, IsUnpainted};
 
 use crate::error::Error;
@@ -40,7 +41,8 @@ pub struct Mark {
 }
 
 impl Model for Mark {
-    ghost use Rattle.tw_painter.specs.Painting.{preview_of, Mark, IsInLimits};
+    ghost use Rattle.tw_surface.specs.Paintings.{Mark};
+    ghost use Rattle.tw_painter.specs.Painting.{IsInLimits};
 
     ghost Value = { Mark };
 
@@ -54,7 +56,7 @@ impl Model for Mark {
 impl Mark {
     /// The move from the cursor back to the first row.
     fn start_move(self) -> Change
-        ensures { change_view result ∷ [] ≡ start_batch (Some self) }
+        ensures { change_view result ≡ start_move self }
     {
         Change::CursorPosition {
             x: Position::Absolute(0),
@@ -267,7 +269,7 @@ fn draw_scene<H: LineEditorHost>(
 
 /// A batch, behind the start move of the painting before, if there was one.
 fn from_start(before: Option<Mark>, batch: Vec<Change>) -> Result<Vec<Change>, AllocError>
-    ensures { IfOk result (λ all. batch_view all.items ≡ start_batch before ++ batch_view batch.items) }
+    ensures { IfOk result (λ all. batch_view all.items ≡ start_of before ++ batch_view batch.items) }
 {
     let mut all = batch;
     if let Some(earlier) = before {

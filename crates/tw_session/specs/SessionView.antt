@@ -8,7 +8,7 @@ use Rattle.tw_host.specs.ActionView.{ActionView}
 use Rattle.tw_host.specs.HostRules.{HostRules}
 use Rattle.tw_session.specs.Steps.{apply, TakesMemory}
 use Rattle.tw_history.specs.NearestMatch.{MatchView}
-use Rattle.tw_painter.specs.Painting.{Mark}
+use Rattle.tw_surface.specs.Paintings.{Mark}
 use Rattle.tw_session.specs.declared.session.search.Found.{Found}
 use Rattle.tw_painter.specs.Refusal.{refusal_of}
 use Rattle.tw_session.specs.declared.session.Mode.{Mode}

@@ -1,7 +1,7 @@
 -- What each action does to the editor's state.
-use Rattle.std.specs.Prelude.{ℕ, List, [], ◌∷◌, Option, Some, None, Result, Ok, Err}
+use Rattle.std.specs.Prelude.{ℕ, Bool, true, false, List, Option, Some, None, Result, Ok, Err}
 use Rattle.tw_surface.specs.ChangeView.{Batch}
-use Rattle.tw_painter.specs.Painting.{clear_batch}
+use Rattle.tw_surface.specs.PaintingBatches.{clearing}
 use Rattle.tw_line.specs.Cut.{Cut}
 use Rattle.tw_extremes.specs.Extremes.{repeated}
 use Rattle.tw_line.specs.Movements.{moved}
@@ -71,12 +71,11 @@ TakesMemory (Some HistoryIncSearchBackwards) mode = Unit {0}
 TakesMemory (Some HistoryIncSearchForwards) mode = Unit {0}
 TakesMemory _ mode = ⊥
 
--- the batches of an action
-abbrev pub clears : ActionView → List Batch
-clears Repaint = clear_batch ∷ []
-clears _ = []
+-- the action that clears the screen
+abbrev pub is_repaint : Option ActionView → Bool
+is_repaint (Some Repaint) = true
+is_repaint _ = false
 
 -- the batches of an action, if there is one
 abbrev pub clears_if : Option ActionView → List Batch
-clears_if None = []
-clears_if (Some action) = clears action
+clears_if action = clearing (is_repaint action)

@@ -5,32 +5,30 @@ use Rattle.std.proofs.lemmas.Int.{ints}
 use Rattle.std.proofs.lemmas.Bool.{cases_lt, lt-ltb, le-ltb}
 use Rattle.std.proofs.Math.Nat.{min-eq_right}
 use Rattle.tw_surface.specs.ChangeView.{Batch}
-use Rattle.tw_surface.specs.ChangeView.{ClearScreen}
 use Rattle.tw_surface.specs.Cutting.{cut_to, sized_after, sized_batches, play_cut, narrowest, IsPlainWide, SizedBatches, CutPainting, CutClosing}
-use Rattle.tw_surface.specs.Defaults.{default_color}
 use Rattle.tw_surface.specs.Drawings.{height}
 use Rattle.tw_surface.specs.Fresh.{IsFresh, IsClosed, last_row, cursor_row}
-use Rattle.tw_surface.specs.Paintings.{Painting, painting, shown_part, cursor_place, start_move, closing}
+use Rattle.tw_surface.specs.Paintings.{Painting, painting, shown_part, cursor_place, Mark, mark_of, start_move, closing}
 use Rattle.tw_surface.specs.Pictures.{Picture, blank, cursor_at, play, play_all}
 use Rattle.tw_surface.specs.Positions.{at_least_0}
 use Rattle.tw_surface.specs.Scenes.{Scene, IsPlain}
-use Rattle.tw_surface.specs.PaintingBatches.{SizedScene, shot_of, scenes_of, clearing, start_of, batches_after, closing_batch, play_batches, start_row}
+use Rattle.tw_surface.specs.PaintingBatches.{SizedScene, shot_of, scenes_of, clear_batch, clearing, start_of, batches_after, closing_batch, play_batches, start_row}
 use Rattle.tw_surface.proofs.PaintedScenes.{Painted, painted, cursor_place-row, none_above, closed}
 use Rattle.tw_surface.proofs.PaintingHeights.{height-is}
 
 -- ---- the batches
 
-pub sized_are : (earlier : Option Painting) (stations : List SizedScene) → map (λ sized. sized.batch) (sized_after earlier stations) ≡ batches_after earlier (map shot_of stations)
+pub sized_are : (earlier : Option Mark) (stations : List SizedScene) → map (λ sized. sized.batch) (sized_after earlier stations) ≡ batches_after earlier (map shot_of stations)
 sized_are earlier [] = refl
-sized_are earlier (station ∷ more) = by_cleared (sized_are (Some (painting station.cols station.scene)) more) station.scene.cleared
+sized_are earlier (station ∷ more) = by_cleared (sized_are (Some (mark_of (painting station.cols station.scene))) more) station.scene.cleared
   where
     shot : Painting
     shot = painting station.cols station.scene
 
-    by_cleared : map (λ sized. sized.batch) (sized_after (Some shot) more) ≡ batches_after (Some shot) (map shot_of more) → (b : Bool)
-        → map (λ sized. sized.batch) (map (λ batch. record { cols = station.cols; batch = batch }) (clearing b ++ (start_of earlier ++ shot.changes) ∷ []) ++ sized_after (Some shot) more)
-        ≡ clearing b ++ (start_of earlier ++ shot.changes) ∷ batches_after (Some shot) (map shot_of more)
-    by_cleared rest true = ap (λ l. (ClearScreen default_color ∷ []) ∷ (start_of earlier ++ shot.changes) ∷ l) rest
+    by_cleared : map (λ sized. sized.batch) (sized_after (Some (mark_of shot)) more) ≡ batches_after (Some (mark_of shot)) (map shot_of more) → (b : Bool)
+        → map (λ sized. sized.batch) (map (λ batch. record { cols = station.cols; batch = batch }) (clearing b ++ (start_of earlier ++ shot.changes) ∷ []) ++ sized_after (Some (mark_of shot)) more)
+        ≡ clearing b ++ (start_of earlier ++ shot.changes) ∷ batches_after (Some (mark_of shot)) (map shot_of more)
+    by_cleared rest true = ap (λ l. clear_batch ∷ (start_of earlier ++ shot.changes) ∷ l) rest
     by_cleared rest false = ap (λ l. (start_of earlier ++ shot.changes) ∷ l) rest
 
 pub sized_batches_are : SizedBatches
@@ -48,26 +46,26 @@ abbrev pub IsBefore : ℕ → Option SizedScene → Picture → Type 0
 IsBefore s None t = (t.row ≡ s) × (t.col ≡ 0)
 IsBefore s (Some earlier) t = (t.row ≡ s + cursor_row earlier.cols earlier.scene) × IsPlainWide earlier
 
-abbrev pub painting_at : Option SizedScene → Option Painting
-painting_at None = None
-painting_at (Some earlier) = Some (painting earlier.cols earlier.scene)
+abbrev pub mark_at : Option SizedScene → Option Mark
+mark_at None = None
+mark_at (Some earlier) = Some (mark_of (painting earlier.cols earlier.scene))
 
 painted_behind : (w s : ℕ) (earlier : Option SizedScene) (scene : Scene) (t : Picture) → 2 ≤ w → IsBefore s earlier t → IsPlain scene
-    → Painted w s scene t (play_all w (start_of (painting_at earlier) ++ (painting w scene).changes) t)
+    → Painted w s scene t (play_all w (start_of (mark_at earlier) ++ (painting w scene).changes) t)
 painted_behind w s None scene t two k plain = painted w s scene t two k.0 k.1 plain
 painted_behind w s (Some earlier) scene t two k plain =
     let e : pos t.row +ℤ neg_ℤ (cursor_place earlier.cols earlier.scene).y ≡ pos s =
     omega (arith, ints, k.0, cursor_place-row earlier.cols earlier.scene k.1.0 k.1.1) in
-    let q = painted w s scene (play w (start_move (painting earlier.cols earlier.scene)) t) two (ap at_least_0 e) (min-eq_right (omega arith)) plain in
+    let q = painted w s scene (play w (start_move (mark_of (painting earlier.cols earlier.scene))) t) two (ap at_least_0 e) (min-eq_right (omega arith)) plain in
     record { fresh = q.fresh; above = q.above }
 
 painted_at_top : (w s : ℕ) (earlier : Option SizedScene) (scene : Scene) (u t : Picture) → 2 ≤ w → IsBefore s earlier u → t.row ≡ 0 → t.col ≡ 0 → IsPlain scene
-    → Painted w 0 scene t (play_all w (start_of (painting_at earlier) ++ (painting w scene).changes) t)
+    → Painted w 0 scene t (play_all w (start_of (mark_at earlier) ++ (painting w scene).changes) t)
 painted_at_top w s None scene u t two k row col plain = painted w 0 scene t two row col plain
 painted_at_top w s (Some earlier) scene u t two k row col plain =
     let e : (pos t.row +ℤ neg_ℤ (cursor_place earlier.cols earlier.scene).y) ≤ℤ pos 0 =
     omega (arith, ints, row, cursor_place-row earlier.cols earlier.scene k.1.0 k.1.1) in
-    let q = painted w 0 scene (play w (start_move (painting earlier.cols earlier.scene)) t) two (none_above _ e) (min-eq_right (omega arith)) plain in
+    let q = painted w 0 scene (play w (start_move (mark_of (painting earlier.cols earlier.scene))) t) two (none_above _ e) (min-eq_right (omega arith)) plain in
     record { fresh = q.fresh; above = λ r c h k. absurd (omega arith) }
 
 cut_before : (v w s : ℕ) (earlier : Option SizedScene) (t : Picture) → IsBefore s earlier t → IsBefore s earlier (cut_to v w t)
@@ -75,16 +73,16 @@ cut_before v w s None t k = (k.0, ap (min (w - 1)) k.1 ∙ min-eq_right (omega a
 cut_before v w s (Some earlier) t k = k
 
 painted_begun : (v w s : ℕ) (earlier : Option SizedScene) (scene : Scene) (t : Picture) (b : Bool) → 2 ≤ w → IsBefore s earlier t → IsPlain scene
-    → Painted w (cond b 0 s) scene (cut_to v w t) (play_all w (start_of (painting_at earlier) ++ (painting w scene).changes) (begun b v w t))
+    → Painted w (cond b 0 s) scene (cut_to v w t) (play_all w (start_of (mark_at earlier) ++ (painting w scene).changes) (begun b v w t))
 painted_begun v w s earlier scene t true two k plain =
     let q = painted_at_top w s earlier scene t (cut_to w w (cursor_at 0 0)) two k refl (min-eq_right (omega arith)) plain in
     record { fresh = q.fresh; above = λ r c h i. absurd (omega arith) }
 painted_begun v w s earlier scene t false two k plain = painted_behind w s earlier scene (cut_to v w t) two (cut_before v w s earlier t k) plain
 
 -- the batches of one station and more
-first_sized : (v : ℕ) (earlier : Option Painting) (station : SizedScene) (more : List SizedScene) (t : Picture)
+first_sized : (v : ℕ) (earlier : Option Mark) (station : SizedScene) (more : List SizedScene) (t : Picture)
     → play_cut v (sized_after earlier (station ∷ more)) t
-    ≡ play_cut station.cols (sized_after (Some (painting station.cols station.scene)) more)
+    ≡ play_cut station.cols (sized_after (Some (mark_of (painting station.cols station.scene))) more)
     (play_all station.cols (start_of earlier ++ (painting station.cols station.scene).changes) (begun station.scene.cleared v station.cols t))
 first_sized v earlier station more t = by_cleared station.scene.cleared
   where
@@ -92,8 +90,8 @@ first_sized v earlier station more t = by_cleared station.scene.cleared
     p = painting station.cols station.scene
 
     by_cleared : (b : Bool)
-        → play_cut v (map (λ batch. record { cols = station.cols; batch = batch }) (clearing b ++ (start_of earlier ++ p.changes) ∷ []) ++ sized_after (Some p) more) t
-        ≡ play_cut station.cols (sized_after (Some p) more) (play_all station.cols (start_of earlier ++ p.changes) (begun b v station.cols t))
+        → play_cut v (map (λ batch. record { cols = station.cols; batch = batch }) (clearing b ++ (start_of earlier ++ p.changes) ∷ []) ++ sized_after (Some (mark_of p)) more) t
+        ≡ play_cut station.cols (sized_after (Some (mark_of p)) more) (play_all station.cols (start_of earlier ++ p.changes) (begun b v station.cols t))
     by_cleared true = refl
     by_cleared false = refl
 
@@ -153,21 +151,21 @@ Cut-at v cols s last t u w e h = rw e h
 
 cut_more : (s : ℕ) (station : SizedScene) (more : List SizedScene) (t : Picture) → IsPlainWide station → AreWide more → IsFresh station.cols s station.scene t
     → Cut station.cols (cols_of more) (start_row s (scenes_of more)) (last_station station more) t
-    (play_cut station.cols (sized_after (Some (painting station.cols station.scene)) more) t)
+    (play_cut station.cols (sized_after (Some (mark_of (painting station.cols station.scene))) more) t)
 cut_more s station [] t fit others fresh = record { fresh = fresh; above = λ r c h k. sym (rw (lt-ltb c station.cols k) refl) }
 cut_more s station (next ∷ more) t fit others fresh =
     let before : IsBefore s (Some station) t = (fresh.row, fit) in
-    let u : Picture = play_all next.cols (start_of (painting_at (Some station)) ++ (painting next.cols next.scene).changes) (begun next.scene.cleared station.cols next.cols t) in
+    let u : Picture = play_all next.cols (start_of (mark_at (Some station)) ++ (painting next.cols next.scene).changes) (begun next.scene.cleared station.cols next.cols t) in
     let one : Painted next.cols (cond next.scene.cleared 0 s) next.scene (cut_to station.cols next.cols t) u =
     painted_begun station.cols next.cols s (Some station) next.scene t next.scene.cleared others.0.0 before others.0.1 in
     let rest = cut_more (cond next.scene.cleared 0 s) next more u others.0 others.1 one.fresh in
-    Cut-at station.cols _ _ _ t _ _ (first_sized station.cols (Some (painting station.cols station.scene)) next more t)
+    Cut-at station.cols _ _ _ t _ _ (first_sized station.cols (Some (mark_of (painting station.cols station.scene))) next more t)
     (joined_stations station.cols s next.scene.cleared (list_any (λ x. x.cleared) (scenes_of more)) next (last_station next more) (cols_of more) t u _ one rest)
 
 pub cut_list : (v : ℕ) (first : SizedScene) (more : List SizedScene) (t : Picture) → t.col ≡ 0 → AreWide (first ∷ more)
     → Cut v (cols_of (first ∷ more)) (start_row t.row (scenes_of (first ∷ more))) (last_station first more) t (play_cut v (sized_batches (first ∷ more)) t)
 cut_list v first more t col fit =
-    let u : Picture = play_all first.cols (start_of (painting_at None) ++ (painting first.cols first.scene).changes) (begun first.scene.cleared v first.cols t) in
+    let u : Picture = play_all first.cols (start_of (mark_at None) ++ (painting first.cols first.scene).changes) (begun first.scene.cleared v first.cols t) in
     let one : Painted first.cols (cond first.scene.cleared 0 t.row) first.scene (cut_to v first.cols t) u =
     painted_begun v first.cols t.row None first.scene t first.scene.cleared fit.0.0 (refl, col) fit.0.1 in
     let rest = cut_more (cond first.scene.cleared 0 t.row) first more u fit.0 fit.1 one.fresh in
@@ -189,7 +187,7 @@ cut_painting v earlier station before col all =
 
 -- ---- the closing batch
 
-closing_last : (earlier : List SizedScene) (station : SizedScene) → closing_batch (map shot_of (earlier ++ station ∷ [])) ≡ closing (painting station.cols station.scene) ∷ []
+closing_last : (earlier : List SizedScene) (station : SizedScene) → closing_batch (map shot_of (earlier ++ station ∷ [])) ≡ closing (mark_of (painting station.cols station.scene)) ∷ []
 closing_last [] station = refl
 closing_last (first ∷ []) station = refl
 closing_last (first ∷ next ∷ more) station = closing_last (next ∷ more) station
@@ -200,7 +198,7 @@ last_wide (first ∷ more) station fit = last_wide more station fit.1
 
 -- at other columns than the painting's
 closed_cut : (v w s : ℕ) (scene : Scene) (before : Picture) → 2 ≤ v → 2 ≤ w → IsPlain scene → before.row ≡ s + cursor_row v scene
-    → IsClosed w (last_row v s scene) before (play_all w (closing (painting v scene)) before)
+    → IsClosed w (last_row v s scene) before (play_all w (closing (mark_of (painting v scene))) before)
 closed_cut v w s scene before two wide plain row =
     rw (← height-is v s scene two plain)
     (closed w s (cursor_row v scene) (height v (shown_part v scene)) (cursor_place v scene).y before wide row (cursor_place-row v scene two plain))
@@ -214,6 +212,6 @@ cut_closing v w earlier station before wide col all =
     let fit = are_wide (earlier ++ station ∷ []) all in
     let q = cut_push v earlier station before col fit in
     let one = last_wide earlier station fit in
-    closed_batch w _ _ (closing_batch (map shot_of (earlier ++ station ∷ []))) (closing (painting station.cols station.scene)) (closing_last earlier station)
+    closed_batch w _ _ (closing_batch (map shot_of (earlier ++ station ∷ []))) (closing (mark_of (painting station.cols station.scene))) (closing_last earlier station)
     (closed_cut station.cols w (start_row before.row (scenes_of (earlier ++ station ∷ []))) station.scene
     (cut_to station.cols w (play_cut v (sized_batches (earlier ++ station ∷ [])) before)) one.0 wide one.1 q.fresh.row)

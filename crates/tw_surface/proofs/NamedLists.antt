@@ -3,11 +3,9 @@ use Rattle.std.proofs.Common.{◌≡◌, ℕ, Bool, true, false, ◌||◌, Optio
 use Rattle.std.specs.List.{All, list_any}
 use Rattle.std.proofs.lemmas.List.{map-append}
 use Rattle.std.proofs.lemmas.List.Elements.{All-head, All-tail, All-map, All-weaker}
-use Rattle.tw_surface.specs.ChangeView.{ClearScreen}
-use Rattle.tw_surface.specs.Defaults.{default_color}
-use Rattle.tw_surface.specs.Paintings.{Painting, painting, start_move}
+use Rattle.tw_surface.specs.Paintings.{painting, Mark, mark_of, start_move}
 use Rattle.tw_surface.specs.Scenes.{Scene, IsPlain}
-use Rattle.tw_surface.specs.PaintingBatches.{Shot, SizedScene, shot_of, scenes_of, clearing, start_of, batches_after, batches, closing_batch, shots, shows, closing_of, whole, last_of, start_row}
+use Rattle.tw_surface.specs.PaintingBatches.{Shot, SizedScene, shot_of, scenes_of, clear_batch, clearing, start_of, batches_after, batches, closing_batch, shots, shows, closing_of, whole, last_of, start_row}
 use Rattle.tw_surface.specs.Simple.{IsSimple}
 use Rattle.tw_surface.proofs.RenamedPictures.{Keeps, named_all, named_batches}
 use Rattle.tw_surface.proofs.NamedPaintings.{named_scene, named_painting, painting-named, plain-scene}
@@ -15,27 +13,24 @@ use Rattle.tw_surface.proofs.NamedPaintings.{named_scene, named_painting, painti
 abbrev pub named_shot : (ℕ → ℕ) → Shot → Shot
 named_shot f shot = record { painting = named_painting f shot.painting; cleared = shot.cleared }
 
-abbrev pub named_earlier : (ℕ → ℕ) → Option Painting → Option Painting
-named_earlier f None = None
-named_earlier f (Some earlier) = Some (named_painting f earlier)
-
 abbrev pub named_station : (ℕ → ℕ) → SizedScene → SizedScene
 named_station f station = record { scene = named_scene f station.scene; cols = station.cols }
 
 -- ---- batches
 
-pub batches-named : (f : ℕ → ℕ) (earlier : Option Painting) (list : List Shot) → batches_after (named_earlier f earlier) (map (named_shot f) list) ≡ named_batches f (batches_after earlier list)
-batches-named f earlier [] = refl
-batches-named f earlier (shot ∷ more) = by_parts earlier shot.cleared (batches-named f (Some shot.painting) more)
+-- a start move needs of the painting before its row alone, so that it is the same
+pub batches-named : (f : ℕ → ℕ) (last : Option Mark) (list : List Shot) → batches_after last (map (named_shot f) list) ≡ named_batches f (batches_after last list)
+batches-named f last [] = refl
+batches-named f last (shot ∷ more) = by_parts last shot.cleared (batches-named f (Some (mark_of shot.painting)) more)
   where
-    by_parts : (earlier : Option Painting) (b : Bool)
-        → batches_after (Some (named_painting f shot.painting)) (map (named_shot f) more) ≡ named_batches f (batches_after (Some shot.painting) more)
-        → clearing b ++ (start_of (named_earlier f earlier) ++ named_all f shot.painting.changes) ∷ batches_after (Some (named_painting f shot.painting)) (map (named_shot f) more)
-        ≡ named_batches f (clearing b ++ (start_of earlier ++ shot.painting.changes) ∷ batches_after (Some shot.painting) more)
-    by_parts None true rest = ap (λ l. (ClearScreen default_color ∷ []) ∷ named_all f shot.painting.changes ∷ l) rest
+    by_parts : (last : Option Mark) (b : Bool)
+        → batches_after (Some (mark_of shot.painting)) (map (named_shot f) more) ≡ named_batches f (batches_after (Some (mark_of shot.painting)) more)
+        → clearing b ++ (start_of last ++ named_all f shot.painting.changes) ∷ batches_after (Some (mark_of shot.painting)) (map (named_shot f) more)
+        ≡ named_batches f (clearing b ++ (start_of last ++ shot.painting.changes) ∷ batches_after (Some (mark_of shot.painting)) more)
+    by_parts None true rest = ap (λ l. clear_batch ∷ named_all f shot.painting.changes ∷ l) rest
     by_parts None false rest = ap (λ l. named_all f shot.painting.changes ∷ l) rest
-    by_parts (Some p) true rest = ap (λ l. (ClearScreen default_color ∷ []) ∷ (start_move p ∷ named_all f shot.painting.changes) ∷ l) rest
-    by_parts (Some p) false rest = ap (λ l. (start_move p ∷ named_all f shot.painting.changes) ∷ l) rest
+    by_parts (Some m) true rest = ap (λ l. clear_batch ∷ (start_move m ∷ named_all f shot.painting.changes) ∷ l) rest
+    by_parts (Some m) false rest = ap (λ l. (start_move m ∷ named_all f shot.painting.changes) ∷ l) rest
 
 pub closing-named : (f : ℕ → ℕ) (list : List Shot) → closing_batch (map (named_shot f) list) ≡ named_batches f (closing_batch list)
 closing-named f [] = refl

@@ -20,7 +20,7 @@ use Rattle.tw_surface.specs.Characters.{is_printable, is_plain}
 use Rattle.tw_surface.specs.Places.{Place, place_after_all, origin, move_between}
 use Rattle.tw_surface.specs.Scenes.{is_typing, typed, Scene, IsPlain, Lower, lower_lines, IsPlainLower}
 use Rattle.tw_surface.specs.Lines.{rows_of}
-use Rattle.tw_surface.specs.Paintings.{lower_changes, before_line, edge_space, place_at, shown_part, cursor_place, painting, start_move}
+use Rattle.tw_surface.specs.Paintings.{lower_changes, before_line, edge_space, place_at, shown_part, cursor_place, painting, mark_of, start_move}
 use Rattle.tw_surface.specs.Defaults.{default_color, default_attributes}
 use Rattle.tw_surface.specs.Fresh.{IsClosed, IsFresh, IsSameAbove, IsCellOf, IsIn, IsInLines, AreShown, text_of, last_row, cursor_row}
 
@@ -415,18 +415,18 @@ none_above (negsuc n) h = refl
 
 -- from the cursor of an earlier painting: the start move first
 pub painted_again : (w s : ℕ) (earlier scene : Scene) (before : Picture) → 2 ≤ w → before.row ≡ s + cursor_row w earlier → IsPlain earlier → IsPlain scene
-    → Painted w s scene before (play_all w (start_move (painting w earlier) ∷ (painting w scene).changes) before)
+    → Painted w s scene before (play_all w (start_move (mark_of (painting w earlier)) ∷ (painting w scene).changes) before)
 painted_again w s earlier scene before two row first plain =
     let e : pos before.row +ℤ neg_ℤ (cursor_place w earlier).y ≡ pos s = omega (arith, ints, row, cursor_place-row w earlier two first) in
-    let q = painted w s scene (play w (start_move (painting w earlier)) before) two (ap at_least_0 e) (min-eq_right (omega arith)) plain in
+    let q = painted w s scene (play w (start_move (mark_of (painting w earlier))) before) two (ap at_least_0 e) (min-eq_right (omega arith)) plain in
     record { fresh = q.fresh; above = q.above }
 
 -- after a ClearScreen, from row 0
 pub painted_cleared : (w : ℕ) (earlier scene : Scene) (before : Picture) → 2 ≤ w → before.row ≡ 0 → IsPlain earlier → IsPlain scene
-    → Painted w 0 scene before (play_all w (start_move (painting w earlier) ∷ (painting w scene).changes) before)
+    → Painted w 0 scene before (play_all w (start_move (mark_of (painting w earlier)) ∷ (painting w scene).changes) before)
 painted_cleared w earlier scene before two row first plain =
     let e : (pos before.row +ℤ neg_ℤ (cursor_place w earlier).y) ≤ℤ pos 0 = omega (arith, ints, row, cursor_place-row w earlier two first) in
-    let q = painted w 0 scene (play w (start_move (painting w earlier)) before) two (none_above _ e) (min-eq_right (omega arith)) plain in
+    let q = painted w 0 scene (play w (start_move (mark_of (painting w earlier))) before) two (none_above _ e) (min-eq_right (omega arith)) plain in
     record { fresh = q.fresh; above = λ r c h k. absurd (omega arith) }
 
 cleared_below : (cell : ℕ → ℕ → ℕ) (r i c : ℕ) → r ≤ i → cleared cell r 0 i c ≡ blank

@@ -16,7 +16,7 @@ use Rattle.tw_surface.specs.Places.{Place, pieces, next_place, places_after, pla
 use Rattle.tw_surface.specs.Extents.{place_of, reach, reach_all, extent_after_all, start_extent}
 use Rattle.tw_surface.specs.Drawings.{height}
 use Rattle.tw_surface.specs.Scenes.{Scene, IsPlain, is_text}
-use Rattle.tw_surface.specs.Paintings.{lower_changes, before_line, edge_space, shown_part, cursor_place, painting, closing}
+use Rattle.tw_surface.specs.Paintings.{lower_changes, before_line, edge_space, shown_part, cursor_place, painting, mark_of, closing}
 use Rattle.tw_surface.specs.Defaults.{default_attributes}
 use Rattle.tw_surface.specs.Fresh.{IsClosed, last_row, cursor_row}
 
@@ -96,7 +96,7 @@ height-is w s scene two plain =
     ap (λ n. s + n) (height-extent w (shown_part w scene)) ∙ e ∙ all.last_is
 
 pub closed_painting : (w s : ℕ) (scene : Scene) (before : Picture) → 2 ≤ w → IsPlain scene → before.row ≡ s + cursor_row w scene
-    → IsClosed w (last_row w s scene) before (play_all w (closing (painting w scene)) before)
+    → IsClosed w (last_row w s scene) before (play_all w (closing (mark_of (painting w scene))) before)
 closed_painting w s scene before two plain row =
     rw (← height-is w s scene two plain)
     (closed w s (cursor_row w scene) (height w (shown_part w scene)) (cursor_place w scene).y before two row

@@ -4,15 +4,14 @@ use Rattle.std.specs.List.{All}
 use Rattle.std.proofs.lemmas.Int.{ints}
 use Rattle.std.proofs.Math.Nat.{min-eq_right}
 use Rattle.tw_surface.specs.declared.change.Position.TheVariants.{Absolute, Relative}
-use Rattle.tw_surface.specs.ChangeView.{ClearScreen, CursorPosition}
+use Rattle.tw_surface.specs.ChangeView.{CursorPosition}
 use Rattle.tw_surface.specs.ChangeView.{Batch}
-use Rattle.tw_surface.specs.Defaults.{default_color}
 use Rattle.tw_surface.specs.Positions.{at_least_0}
 use Rattle.tw_surface.specs.Pictures.{Picture, play, play_all}
 use Rattle.tw_surface.specs.Scenes.{Scene, IsPlain}
-use Rattle.tw_surface.specs.Paintings.{painting, cursor_place, start_move, closing}
+use Rattle.tw_surface.specs.Paintings.{painting, cursor_place, mark_of, start_move, closing}
 use Rattle.tw_surface.specs.Fresh.{IsFresh, IsClosed, last_row, cursor_row}
-use Rattle.tw_surface.specs.PaintingBatches.{SizedScene, IsPlainAt, shot_of, scenes_of, batches, closing_batch, last_of, clearing, start_of, batches_after, shots, shows, closing_of, whole}
+use Rattle.tw_surface.specs.PaintingBatches.{SizedScene, IsPlainAt, shot_of, scenes_of, batches, closing_batch, last_of, clear_batch, clearing, start_of, batches_after, shots, shows, closing_of, whole}
 use Rattle.tw_surface.specs.Scrolling.{scroll, play_all_on, play_batches_on, IsLow, raised_row, top_row, IsMovedUp, IsClosedOn}
 use Rattle.tw_surface.proofs.PaintedScenes.{cursor_place-row, none_above}
 use Rattle.tw_surface.proofs.PaintingHeights.{closed_painting}
@@ -55,21 +54,21 @@ painted_next : (h w s : ℕ) (earlier : Option Scene) (scene : Scene) (t : Pictu
 painted_next h w s None scene t two inside k plain low = painted_on h w s scene t two inside k.0 k.1 plain low
 painted_next h w s (Some earlier) scene t two inside k plain low =
     let e : pos t.row +ℤ neg_ℤ (cursor_place w earlier).y ≡ pos s = omega (arith, ints, k.row, cursor_place-row w earlier two k.plain) in
-    painted_moved h w s scene t (play w (start_move (painting w earlier)) t) two inside (ap at_least_0 e) (min-eq_right (omega arith)) (λ r c. refl) plain low
+    painted_moved h w s scene t (play w (start_move (mark_of (painting w earlier))) t) two inside (ap at_least_0 e) (min-eq_right (omega arith)) (λ r c. refl) plain low
 
 painted_from_top : (h w s : ℕ) (earlier : Option Scene) (scene : Scene) (u t : Picture) → 2 ≤ w → 0 < h → IsReady w s earlier u → t.row ≡ 0 → t.col ≡ 0 → IsPlain scene → IsLow h w scene
     → PaintedOn w 0 (raised_row h w 0 scene) scene t (play_all_on h w (start_of (at_scene w earlier) ++ (painting w scene).changes) t)
 painted_from_top h w s None scene u t two some k row col plain low = painted_on h w 0 scene t two some row col plain low
 painted_from_top h w s (Some earlier) scene u t two some k row col plain low =
     let e : (pos t.row +ℤ neg_ℤ (cursor_place w earlier).y) ≤ℤ pos 0 = omega (arith, ints, row, cursor_place-row w earlier two k.plain) in
-    painted_moved h w 0 scene t (play w (start_move (painting w earlier)) t) two some (none_above _ e) (min-eq_right (omega arith)) (λ r c. refl) plain low
+    painted_moved h w 0 scene t (play w (start_move (mark_of (painting w earlier))) t) two some (none_above _ e) (min-eq_right (omega arith)) (λ r c. refl) plain low
 
 -- one scene, its screen cleared or not
 painted_scene : (h w s : ℕ) (earlier : Option Scene) (scene : Scene) (t : Picture) (b : Bool) → 2 ≤ w → s < h → IsReady w s earlier t → IsPlain scene → IsLow h w scene
     → PaintedOn w s (raised_row h w (cond b 0 s) scene) scene t
-    (play_all_on h w (start_of (at_scene w earlier) ++ (painting w scene).changes) (play_batches_on h w (cond b ((ClearScreen default_color ∷ []) ∷ []) []) t))
+    (play_all_on h w (start_of (at_scene w earlier) ++ (painting w scene).changes) (play_batches_on h w (clearing b) t))
 painted_scene h w s earlier scene t true two inside k plain low =
-    let q = painted_from_top h w s earlier scene t (play_all w (ClearScreen default_color ∷ []) t) two (omega arith) k refl refl plain low in
+    let q = painted_from_top h w s earlier scene t (play_all w clear_batch t) two (omega arith) k refl refl plain low in
     record { fresh = q.fresh; above = λ r c i j. absurd (omega arith) }
 painted_scene h w s earlier scene t false two inside k plain low = painted_next h w s earlier scene t two inside k plain low
 
@@ -98,19 +97,19 @@ PaintedOn-at w s s' scene t u v e h = rw e h
 -- the batches of one scene and more
 first_batches : (h w : ℕ) (earlier : Option Scene) (scene : Scene) (more : List Scene) (t : Picture)
     → play_batches_on h w (batches_after (at_scene w earlier) (shots w (scene ∷ more))) t
-    ≡ play_batches_on h w (batches_after (Some (painting w scene)) (shots w more)) (play_all_on h w (start_of (at_scene w earlier) ++ (painting w scene).changes) (play_batches_on h w (clearing scene.cleared) t))
+    ≡ play_batches_on h w (batches_after (Some (mark_of (painting w scene))) (shots w more)) (play_all_on h w (start_of (at_scene w earlier) ++ (painting w scene).changes) (play_batches_on h w (clearing scene.cleared) t))
 first_batches h w earlier scene more t =
-    play_batches_on-append h w (clearing scene.cleared) ((start_of (at_scene w earlier) ++ (painting w scene).changes) ∷ batches_after (Some (painting w scene)) (shots w more)) t
+    play_batches_on-append h w (clearing scene.cleared) ((start_of (at_scene w earlier) ++ (painting w scene).changes) ∷ batches_after (Some (mark_of (painting w scene))) (shots w more)) t
 
 -- the scenes after a painted one
 pub painted_more : (h w s : ℕ) (scene : Scene) (more : List Scene) (t : Picture) → 2 ≤ w → s < h → IsPlain scene → AreFit h w more → IsFresh w s scene t
-    → PaintedOn w s (top_row h w s more) (last_of scene more) t (play_batches_on h w (batches_after (Some (painting w scene)) (shots w more)) t)
+    → PaintedOn w s (top_row h w s more) (last_of scene more) t (play_batches_on h w (batches_after (Some (mark_of (painting w scene))) (shots w more)) t)
 painted_more h w s scene [] t two inside plain others fresh = record { fresh = fresh; above = λ r c k i. ap (λ x. t.cell x c) (omega arith) }
 painted_more h w s scene (next ∷ more) t two inside plain others fresh =
     let ready : Entered w s scene t = record { row = fresh.row; plain = plain } in
     let s1 : ℕ = raised_row h w (cond next.cleared 0 s) next in
     let le : s1 ≤ s = raised-le h w s next next.cleared in
-    let u : Picture = play_all_on h w (start_of (Some (painting w scene)) ++ (painting w next).changes) (play_batches_on h w (clearing next.cleared) t) in
+    let u : Picture = play_all_on h w (start_of (Some (mark_of (painting w scene))) ++ (painting w next).changes) (play_batches_on h w (clearing next.cleared) t) in
     let one : PaintedOn w s s1 next t u = painted_scene h w s (Some scene) next t next.cleared two inside ready others.0.0 others.0.1 in
     let rest = painted_more h w s1 next more u two (omega (arith, le)) others.0.0 others.1 one.fresh in
     PaintedOn-at w _ _ _ t _ _ (first_batches h w (Some scene) next more t)
@@ -137,12 +136,12 @@ scrolled_painting h w first more t two inside col plain low =
 -- ---- the closing batch
 
 pub closed_on : (h w s : ℕ) (scene : Scene) (before : Picture) → 2 ≤ w → 0 < h → IsPlain scene → before.row ≡ s + cursor_row w scene
-    → IsClosedOn h w (last_row w s scene) before (play_all_on h w (closing (painting w scene)) before)
+    → IsClosedOn h w (last_row w s scene) before (play_all_on h w (closing (mark_of (painting w scene))) before)
 closed_on h w s scene before two some plain row =
-    let c : IsClosed w (last_row w s scene) before (play_all w (closing (painting w scene)) before) = closed_painting w s scene before two plain row in
+    let c : IsClosed w (last_row w s scene) before (play_all w (closing (mark_of (painting w scene))) before) = closed_painting w s scene before two plain row in
     let p : Picture = play w (CursorPosition (Absolute 0) (Relative (pos (1 + (painting w scene).height) -ℤ (painting w scene).row))) before in
-    let b : Picture = play_all_on h w (closing (painting w scene)) before in
-    let u : Picture = play_all w (closing (painting w scene)) before in
+    let b : Picture = play_all_on h w (closing (mark_of (painting w scene))) before in
+    let u : Picture = play_all w (closing (mark_of (painting w scene))) before in
     closed_seen (last_row w s scene) u b some c (subst (λ k. Sees (0 + (k + 1 - h)) b u) c.row (sees-clear _ (scroll h p) p (sees-scrolled h 0 p p some (sees-same p))))
   where
     closed_seen : (last : ℕ) (u b : Picture) → 0 < h → IsClosed w last before u → Sees (0 + (last + 1 + 1 - h)) b u → IsClosedOn h w last before b
@@ -233,6 +232,6 @@ last_scrolled h w earlier station t two inside col all low =
     let fit = fit_scenes h w (earlier ++ station ∷ []) plain low in
     let q = painted_station h w earlier station t two inside col plain fit in
     let d = scenes-push earlier station in
-    let c : closing_batch (map shot_of (earlier ++ station ∷ [])) ≡ closing (painting w station.scene) ∷ [] =
+    let c : closing_batch (map shot_of (earlier ++ station ∷ [])) ≡ closing (mark_of (painting w station.scene)) ∷ [] =
     ap closing_batch (same_shots w (earlier ++ station ∷ []) plain) ∙ ap (closing_of w) d ∙ closing_push w (scenes_of earlier) station.scene in
     rw c (closed_on h w (top_row h w t.row (scenes_of (earlier ++ station ∷ []))) station.scene _ two (omega arith) (last_is_plain h w (scenes_of earlier) station.scene (rw d at fit)) q.fresh.row)

@@ -2,16 +2,14 @@
 use Rattle.std.proofs.Common.{◌≡◌, ℕ, suc, ◌+◌, ◌≤◌, Bool, true, false, ◌||◌, cond, Option, Some, None, List, [], ◌∷◌, ◌++◌, refl, sym, ap, ◌∙◌, arith}
 use Rattle.std.specs.List.{list_any, All}
 use Rattle.std.proofs.lemmas.List.{append_assoc}
-use Rattle.tw_surface.specs.ChangeView.{ClearScreen}
 use Rattle.tw_surface.proofs.PaintedScenes.{Painted, painted, painted_again, painted_cleared}
 use Rattle.tw_surface.proofs.PaintingHeights.{closed_painting}
 use Rattle.tw_surface.specs.ChangeView.{Batch}
 use Rattle.tw_surface.specs.Pictures.{Picture, play_all}
 use Rattle.tw_surface.specs.Scenes.{Scene, IsPlain}
-use Rattle.tw_surface.specs.Paintings.{Painting, painting, closing}
-use Rattle.tw_surface.specs.Defaults.{default_color}
+use Rattle.tw_surface.specs.Paintings.{painting, Mark, mark_of, closing}
 use Rattle.tw_surface.specs.Fresh.{IsFresh, IsSameAbove, IsClosed, last_row, cursor_row}
-use Rattle.tw_surface.specs.PaintingBatches.{Shot, batches, last_of, clearing, start_of, batches_after, shots, shows, closing_of, whole, play_batches, start_row}
+use Rattle.tw_surface.specs.PaintingBatches.{Shot, batches, last_of, clear_batch, clearing, start_of, batches_after, mark_after, shots, shows, closing_of, whole, play_batches, start_row}
 
 -- each scene of a list is plain
 abbrev pub ArePlain : List Scene → Type 0
@@ -26,10 +24,10 @@ pub play_batches-append : (w : ℕ) (a b : List Batch) (t : Picture) → play_ba
 play_batches-append w [] b t = refl
 play_batches-append w (batch ∷ a) b t = play_batches-append w a b (play_all w batch t)
 
--- the painting of the scene before, if there was one
-abbrev pub at_scene : ℕ → Option Scene → Option Painting
+-- the mark of the scene before, if there was one
+abbrev pub at_scene : ℕ → Option Scene → Option Mark
 at_scene w None = None
-at_scene w (Some scene) = Some (painting w scene)
+at_scene w (Some scene) = Some (mark_of (painting w scene))
 
 -- where the cursor is before a painting: at column 0 of row s, or where the painting of an earlier scene from row s on left it
 pub record Entered (w s : ℕ) (scene : Scene) (t : Picture) : Type 0 where
@@ -53,9 +51,9 @@ painted_from_top w s (Some earlier) scene u t two k row col plain = painted_clea
 -- one scene, its screen cleared or not
 painted_scene : (w s : ℕ) (earlier : Option Scene) (scene : Scene) (t : Picture) (b : Bool) → 2 ≤ w → IsReady w s earlier t → IsPlain scene
     → Painted w (cond b 0 s) scene t
-    (play_all w (start_of (at_scene w earlier) ++ (painting w scene).changes) (play_batches w (cond b ((ClearScreen default_color ∷ []) ∷ []) []) t))
+    (play_all w (start_of (at_scene w earlier) ++ (painting w scene).changes) (play_batches w (clearing b) t))
 painted_scene w s earlier scene t true two k plain =
-    let q = painted_from_top w s earlier scene t (play_all w (ClearScreen default_color ∷ []) t) two k refl refl plain in
+    let q = painted_from_top w s earlier scene t (play_all w clear_batch t) two k refl refl plain in
     record { fresh = q.fresh; above = λ r c h i. absurd (omega arith) }
 painted_scene w s earlier scene t false two k plain = painted_next w s earlier scene t two k plain
 
@@ -73,17 +71,17 @@ Painted-at w s scene t u v e h = rw e h
 -- the batches of one scene and more
 first_batches : (w : ℕ) (earlier : Option Scene) (scene : Scene) (more : List Scene) (t : Picture)
     → play_batches w (batches_after (at_scene w earlier) (shots w (scene ∷ more))) t
-    ≡ play_batches w (batches_after (Some (painting w scene)) (shots w more)) (play_all w (start_of (at_scene w earlier) ++ (painting w scene).changes) (play_batches w (clearing scene.cleared) t))
+    ≡ play_batches w (batches_after (Some (mark_of (painting w scene))) (shots w more)) (play_all w (start_of (at_scene w earlier) ++ (painting w scene).changes) (play_batches w (clearing scene.cleared) t))
 first_batches w earlier scene more t =
-    play_batches-append w (clearing scene.cleared) ((start_of (at_scene w earlier) ++ (painting w scene).changes) ∷ batches_after (Some (painting w scene)) (shots w more)) t
+    play_batches-append w (clearing scene.cleared) ((start_of (at_scene w earlier) ++ (painting w scene).changes) ∷ batches_after (Some (mark_of (painting w scene))) (shots w more)) t
 
 -- the scenes after a painted one
 pub painted_more : (w s : ℕ) (scene : Scene) (more : List Scene) (t : Picture) → 2 ≤ w → IsPlain scene → ArePlain more → IsFresh w s scene t
-    → Painted w (start_row s more) (last_of scene more) t (play_batches w (batches_after (Some (painting w scene)) (shots w more)) t)
+    → Painted w (start_row s more) (last_of scene more) t (play_batches w (batches_after (Some (mark_of (painting w scene))) (shots w more)) t)
 painted_more w s scene [] t two plain others fresh = record { fresh = fresh; above = λ r c h k. refl }
 painted_more w s scene (next ∷ more) t two plain others fresh =
     let ready : Entered w s scene t = record { row = fresh.row; plain = plain } in
-    let u : Picture = play_all w (start_of (Some (painting w scene)) ++ (painting w next).changes) (play_batches w (clearing next.cleared) t) in
+    let u : Picture = play_all w (start_of (Some (mark_of (painting w scene))) ++ (painting w next).changes) (play_batches w (clearing next.cleared) t) in
     let one : Painted w (cond next.cleared 0 s) next t u = painted_scene w s (Some scene) next t next.cleared two ready others.0 in
     let rest = painted_more w (cond next.cleared 0 s) next more u two others.0 others.1 one.fresh in
     Painted-at w _ _ t _ _ (first_batches w (Some scene) next more t)
@@ -129,24 +127,21 @@ cleared_painting w s first more t two row col plain some =
     let e : start_row s (first ∷ more) ≡ 0 = rw some refl in
     rw e at ((incremental w s first more t two row col plain).0)
 
-beginning_after : (earlier : Option Painting) (first later : List Shot)
-    → (rest : List Batch) × (batches_after earlier (first ++ later) ≡ batches_after earlier first ++ rest)
-beginning_after earlier [] later = (batches_after earlier later, refl)
-beginning_after earlier (shot ∷ more) later =
-    let k = beginning_after (Some shot.painting) more later in (
-      k.0,
-      ap (λ l. clearing shot.cleared ++ (start_of earlier ++ shot.painting.changes) ∷ l) k.1
-          ∙ sym (append_assoc (clearing shot.cleared) ((start_of earlier ++ shot.painting.changes) ∷ batches_after (Some shot.painting) more) k.0),
-    )
+-- the batches of a list of paintings, and of others after it
+pub batches_after-append : (last : Option Mark) (first later : List Shot) → batches_after last (first ++ later) ≡ batches_after last first ++ batches_after (mark_after last first) later
+batches_after-append last [] later = refl
+batches_after-append last (shot ∷ more) later =
+    ap (λ l. clearing shot.cleared ++ (start_of last ++ shot.painting.changes) ∷ l) (batches_after-append (Some (mark_of shot.painting)) more later)
+    ∙ sym (append_assoc (clearing shot.cleared) ((start_of last ++ shot.painting.changes) ∷ batches_after (Some (mark_of shot.painting)) more) (batches_after (mark_after (Some (mark_of shot.painting)) more) later))
 
 pub beginning : (first later : List Shot) → (rest : List Batch) × (batches (first ++ later) ≡ batches first ++ rest)
-beginning first later = beginning_after None first later
+beginning first later = (batches_after (mark_after None first) later, batches_after-append None first later)
 
 last_plain : (scene : Scene) (more : List Scene) → IsPlain scene → ArePlain more → IsPlain (last_of scene more)
 last_plain scene [] p ps = p
 last_plain scene (next ∷ more) p ps = last_plain next more ps.0 ps.1
 
-pub closing_of-is : (w : ℕ) (first : Scene) (more : List Scene) → closing_of w (first ∷ more) ≡ closing (painting w (last_of first more)) ∷ []
+pub closing_of-is : (w : ℕ) (first : Scene) (more : List Scene) → closing_of w (first ∷ more) ≡ closing (mark_of (painting w (last_of first more))) ∷ []
 closing_of-is w first [] = refl
 closing_of-is w first (next ∷ more) = closing_of-is w next more
 

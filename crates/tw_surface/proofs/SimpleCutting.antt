@@ -5,7 +5,7 @@ use Rattle.std.proofs.lemmas.List.{map-append}
 use Rattle.std.proofs.lemmas.List.Elements.{All-head, All-tail, All-map, All-weaker}
 use Rattle.tw_surface.specs.Cutting.{cut_to, SizedBatch, sized_after, sized_batches, play_cut, narrowest, IsPlainWide}
 use Rattle.tw_surface.specs.Fresh.{IsFresh, IsClosed, last_row}
-use Rattle.tw_surface.specs.Paintings.{Painting, painting}
+use Rattle.tw_surface.specs.Paintings.{Painting, painting, Mark, mark_of}
 use Rattle.tw_surface.specs.Pictures.{Picture, blank, play_all}
 use Rattle.tw_surface.specs.Scenes.{Scene}
 use Rattle.tw_surface.specs.PaintingBatches.{SizedScene, shot_of, scenes_of, clearing, start_of, closing_batch, play_batches, start_row}
@@ -14,7 +14,7 @@ use Rattle.tw_surface.specs.SimpleScreens.{spelled_sized, CutSimplePainting, Cut
 use Rattle.tw_surface.proofs.CutLists.{cut_painting, cut_closing}
 use Rattle.tw_surface.proofs.RenamedPictures.{Keeps, renamed, named_all, renamed-play_all, renamed-cut}
 use Rattle.tw_surface.proofs.NamedPaintings.{named_scene, named_painting, painting-named, plain-scene}
-use Rattle.tw_surface.proofs.NamedLists.{named_earlier, named_station, closing-named, played-named, scenes_played-named, start-named}
+use Rattle.tw_surface.proofs.NamedLists.{named_station, closing-named, played-named, scenes_played-named, start-named}
 use Rattle.tw_surface.proofs.MarkedPictures.{mark, mark-keeps, told, told_blank, fresh_by, closed_by, last_row-named}
 use Rattle.tw_surface.proofs.SimpleLists.{marked_play, Closed-at}
 
@@ -24,25 +24,25 @@ named_sized f played = map (λ sized. record { cols = sized.cols; batch = named_
 -- ---- the batches
 
 module _ (f : ℕ → ℕ) (keeps : Keeps f) where
-  sized_after-named : (earlier : Option Painting) (stations : List SizedScene) → All (λ x. IsSimple x.scene) stations
-      → sized_after (named_earlier f earlier) (map (named_station f) stations) ≡ named_sized f (sized_after earlier stations)
-  sized_after-named earlier [] all = refl
-  sized_after-named earlier (station ∷ more) all =
-      ap (λ p. behind (named_earlier f earlier) station.scene.cleared station.cols p (sized_after (Some p) (map (named_station f) more)))
+  sized_after-named : (last : Option Mark) (stations : List SizedScene) → All (λ x. IsSimple x.scene) stations
+      → sized_after last (map (named_station f) stations) ≡ named_sized f (sized_after last stations)
+  sized_after-named last [] all = refl
+  sized_after-named last (station ∷ more) all =
+      ap (λ p. behind last station.scene.cleared station.cols p (sized_after (Some (mark_of p)) (map (named_station f) more)))
       (painting-named f keeps station.cols station.scene (All-head (λ x. IsSimple x.scene) station more all))
-      ∙ ap (λ l. behind (named_earlier f earlier) station.scene.cleared station.cols (named_painting f (painting station.cols station.scene)) l)
-      (sized_after-named (Some (painting station.cols station.scene)) more (All-tail (λ x. IsSimple x.scene) station more all))
-      ∙ by_parts earlier station.scene.cleared station.cols (painting station.cols station.scene) (sized_after (Some (painting station.cols station.scene)) more)
+      ∙ ap (λ l. behind last station.scene.cleared station.cols (named_painting f (painting station.cols station.scene)) l)
+      (sized_after-named (Some (mark_of (painting station.cols station.scene))) more (All-tail (λ x. IsSimple x.scene) station more all))
+      ∙ by_parts last station.scene.cleared station.cols (painting station.cols station.scene) (sized_after (Some (mark_of (painting station.cols station.scene))) more)
     where
-      behind : Option Painting → Bool → ℕ → Painting → List SizedBatch → List SizedBatch
-      behind earlier b cols p rest = map (λ batch. record { cols = cols; batch = batch }) (clearing b ++ (start_of earlier ++ p.changes) ∷ []) ++ rest
+      behind : Option Mark → Bool → ℕ → Painting → List SizedBatch → List SizedBatch
+      behind last b cols p rest = map (λ batch. record { cols = cols; batch = batch }) (clearing b ++ (start_of last ++ p.changes) ∷ []) ++ rest
 
-      by_parts : (earlier : Option Painting) (b : Bool) (cols : ℕ) (p : Painting) (rest : List SizedBatch)
-          → behind (named_earlier f earlier) b cols (named_painting f p) (named_sized f rest) ≡ named_sized f (behind earlier b cols p rest)
+      by_parts : (last : Option Mark) (b : Bool) (cols : ℕ) (p : Painting) (rest : List SizedBatch)
+          → behind last b cols (named_painting f p) (named_sized f rest) ≡ named_sized f (behind last b cols p rest)
       by_parts None true cols p rest = refl
       by_parts None false cols p rest = refl
-      by_parts (Some q) true cols p rest = refl
-      by_parts (Some q) false cols p rest = refl
+      by_parts (Some m) true cols p rest = refl
+      by_parts (Some m) false cols p rest = refl
 
   renamed-play_cut : (v : ℕ) (played : List SizedBatch) (s : Picture) → play_cut v (named_sized f played) (renamed f s) ≡ renamed f (play_cut v (spelled_sized played) s)
   renamed-play_cut v [] s = refl

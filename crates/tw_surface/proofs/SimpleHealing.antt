@@ -1,41 +1,36 @@
 -- After a clearing of the screen simple texts are fresh, whatever was painted before and at whatever size.
-use Rattle.std.proofs.Common.{◌≡◌, ℕ, ◌≤◌, true, Option, Some, None, List, [], ◌∷◌, ◌++◌, map, refl, sym, ap, ◌∙◌}
+use Rattle.std.proofs.Common.{◌≡◌, ℕ, ◌≤◌, true, Option, None, List, [], ◌∷◌, ◌++◌, map, refl, sym, ap, ◌∙◌}
 use Rattle.std.specs.List.{All}
 use Rattle.std.proofs.lemmas.List.{map-append}
 use Rattle.std.proofs.lemmas.List.Elements.{All-head, All-tail}
 use Rattle.tw_surface.specs.ChangeView.{Batch}
 use Rattle.tw_surface.specs.Fresh.{IsFresh, IsClosed, last_row}
 use Rattle.tw_surface.specs.HealingLaws.{begins_cleared}
-use Rattle.tw_surface.specs.Paintings.{Painting, painting, closing}
+use Rattle.tw_surface.specs.Paintings.{painting, Mark, mark_of, closing}
 use Rattle.tw_surface.specs.Pictures.{Picture, play_all}
 use Rattle.tw_surface.specs.Scenes.{Scene}
 use Rattle.tw_surface.specs.Scrolling.{play_batches_on, play_all_on, IsLow, IsClosedOn}
-use Rattle.tw_surface.specs.PaintingBatches.{Shot, SizedScene, shot_of, scenes_of, batches, batches_after, play_batches}
+use Rattle.tw_surface.specs.PaintingBatches.{SizedScene, shot_of, scenes_of, batches, batches_after, mark_after, play_batches}
 use Rattle.tw_surface.specs.Simple.{IsSimple, IsSimpleAt, spelled_all, spelled_batches, spelled_scene}
 use Rattle.tw_surface.specs.SimpleScreens.{SimpleHealing}
 use Rattle.tw_surface.proofs.PaintingHeights.{closed_painting}
+use Rattle.tw_surface.proofs.ShotLemmas.{batches_after-append}
 use Rattle.tw_surface.proofs.SizedScenes.{are_plain_at}
 use Rattle.tw_surface.proofs.ScrolledLists.{AreFit, fit_scenes, closed_on}
-use Rattle.tw_surface.proofs.HealedLists.{IsDown, last_painting, batches_after-append, stations-down, healed_station, healed_station_on, some_rows, closing_is}
+use Rattle.tw_surface.proofs.HealedLists.{IsDown, stations-down, healed_station, healed_station_on, some_rows, closing_is}
 use Rattle.tw_surface.proofs.RenamedPictures.{renamed, named_batches, renamed-play_all, renamed-play_all_on}
 use Rattle.tw_surface.proofs.NamedPaintings.{named_scene, painting-named, plain-scene}
-use Rattle.tw_surface.proofs.NamedLists.{named_shot, named_earlier, named_station, batches-named, played-named, scenes_played-named}
+use Rattle.tw_surface.proofs.NamedLists.{named_station, batches-named, played-named, scenes_played-named}
 use Rattle.tw_surface.proofs.MarkedPictures.{mark, mark-keeps, fresh_by, closed_by, closed_on_by, last_row-named}
 use Rattle.tw_surface.proofs.SimpleLists.{plain_stations, simple_ones, marked_play, Closed-at}
 use Rattle.tw_surface.proofs.SimpleScrolling.{low-named, marked_play_on, ClosedOn-at}
-
--- the first move needs of the painting before its row alone
-start-named : (f : ℕ → ℕ) (last : Option Painting) (list : List Shot) → batches_after last (map (named_shot f) list) ≡ batches_after (named_earlier f last) (map (named_shot f) list)
-start-named f None list = refl
-start-named f (Some p) [] = refl
-start-named f (Some p) (shot ∷ more) = refl
 
 begins-named : (f : ℕ → ℕ) (since : List SizedScene) (station : SizedScene)
     → begins_cleared (map (named_station f) since ++ named_station f station ∷ []) ≡ begins_cleared (since ++ station ∷ [])
 begins-named f [] station = refl
 begins-named f (x ∷ xs) station = refl
 
-module _ (w : ℕ) (last : Option Painting) (since : List SizedScene) (station : SizedScene) (two : 2 ≤ w) (down : IsDown last)
+module _ (w : ℕ) (last : Option Mark) (since : List SizedScene) (station : SizedScene) (two : 2 ≤ w) (down : IsDown last)
     (all : All (IsSimpleAt w) (since ++ station ∷ [])) (cleared : begins_cleared (since ++ station ∷ []) ≡ true) (cols : station.cols ≡ w) (simple : IsSimple station.scene) where
   abbrev played : List Batch
   played = batches_after last (map shot_of (since ++ station ∷ []))
@@ -44,12 +39,12 @@ module _ (w : ℕ) (last : Option Painting) (since : List SizedScene) (station :
   marked_stations ch = map (named_station (mark ch)) since ++ named_station (mark ch) station ∷ []
 
   abbrev last_batch : Batch
-  last_batch = closing (painting w station.scene)
+  last_batch = closing (mark_of (painting w station.scene))
 
   batches-marked : (ch : ℕ) → batches_after last (map shot_of (marked_stations ch)) ≡ named_batches (mark ch) played
   batches-marked ch =
       ap (batches_after last) (played-named (mark ch) (mark-keeps ch) since station (simple_ones w (since ++ station ∷ []) all))
-      ∙ start-named (mark ch) last (map shot_of (since ++ station ∷ [])) ∙ batches-named (mark ch) last (map shot_of (since ++ station ∷ []))
+      ∙ batches-named (mark ch) last (map shot_of (since ++ station ∷ []))
 
   Fresh-at : (s : ℕ) (scene : Scene) (after after' : Picture) → after ≡ after' → IsFresh w s scene after → IsFresh w s scene after'
   Fresh-at s scene after after' e h = rw (sym e) h
@@ -70,7 +65,7 @@ module _ (w : ℕ) (last : Option Painting) (since : List SizedScene) (station :
       closed_by w (last_row w 0 (spelled_scene station.scene)) after (play_all w (spelled_all last_batch) after) (λ ch.
       Closed-at w _ (last_row w 0 (spelled_scene station.scene)) (renamed (mark ch) after) (renamed (mark ch) after) _ (renamed (mark ch) (play_all w (spelled_all last_batch) after))
       (last_row-named w 0 ch station.scene) refl
-      (ap (λ p. play_all w (closing p) (renamed (mark ch) after)) (painting-named (mark ch) (mark-keeps ch) w station.scene simple) ∙ renamed-play_all (mark ch) (mark-keeps ch) w last_batch after)
+      (ap (λ p. play_all w (closing (mark_of p)) (renamed (mark ch) after)) (painting-named (mark ch) (mark-keeps ch) w station.scene simple) ∙ renamed-play_all (mark ch) (mark-keeps ch) w last_batch after)
       (closed_painting w 0 (named_scene (mark ch) station.scene) (renamed (mark ch) after) two (plain-scene (mark ch) (mark-keeps ch) station.scene simple) (fresh_marked before ch).row))
 
   -- ---- on h rows
@@ -98,7 +93,7 @@ module _ (w : ℕ) (last : Option Painting) (since : List SizedScene) (station :
         closed_on_by h w (last_row w 0 (spelled_scene station.scene)) after (play_all_on h w (spelled_all last_batch) after) (λ ch.
         ClosedOn-at h w _ (last_row w 0 (spelled_scene station.scene)) (renamed (mark ch) after) (renamed (mark ch) after) _ (renamed (mark ch) (play_all_on h w (spelled_all last_batch) after))
         (last_row-named w 0 ch station.scene) refl
-        (ap (λ p. play_all_on h w (closing p) (renamed (mark ch) after)) (painting-named (mark ch) (mark-keeps ch) w station.scene simple) ∙ renamed-play_all_on (mark ch) (mark-keeps ch) h w last_batch after)
+        (ap (λ p. play_all_on h w (closing (mark_of p)) (renamed (mark ch) after)) (painting-named (mark ch) (mark-keeps ch) w station.scene simple) ∙ renamed-play_all_on (mark ch) (mark-keeps ch) h w last_batch after)
         (closed_on h w 0 (named_scene (mark ch) station.scene) (renamed (mark ch) after) two
         (some_rows h w (map (named_station (mark ch)) since) (named_station (mark ch) station) (fit_marked ch)) (plain-scene (mark ch) (mark-keeps ch) station.scene simple) (fresh_marked_on before ch).row))
 
@@ -109,7 +104,7 @@ last_is_simple w (x ∷ xs) station all = last_is_simple w xs station (All-tail 
 pub simple_healing : SimpleHealing
 simple_healing w earlier since station two texts cleared all =
     let one = last_is_simple w since station all in
-    let last : Option Painting = last_painting None (map shot_of earlier) in
+    let last : Option Mark = mark_after None (map shot_of earlier) in
     let down : IsDown last = stations-down None earlier tt texts in
     let c = ap spelled_batches (closing_is w earlier since station one.0) in
     let played : List Batch = batches_after last (map shot_of (since ++ station ∷ [])) in (

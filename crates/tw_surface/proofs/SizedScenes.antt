@@ -7,7 +7,7 @@ use Rattle.tw_surface.proofs.ShotLemmas.{ArePlain, painted_run, closing_of-is, b
 use Rattle.tw_surface.specs.ChangeView.{Batch}
 use Rattle.tw_surface.specs.Pictures.{Picture, play_all}
 use Rattle.tw_surface.specs.Scenes.{Scene, IsPlain}
-use Rattle.tw_surface.specs.Paintings.{painting, closing}
+use Rattle.tw_surface.specs.Paintings.{painting, mark_of, closing}
 use Rattle.tw_surface.specs.Fresh.{IsFresh, IsSameAbove, IsClosed, last_row}
 use Rattle.tw_surface.specs.PaintingBatches.{Shot, SizedScene, IsPlainAt, shot_of, scenes_of, shots, batches, closing_batch, shows, closing_of, play_batches, last_of, start_row}
 
@@ -42,10 +42,10 @@ run_of w e [] last t two row col plain = painted_run w e last [] t two row col p
 run_of w e (first ∷ more) last t two row col plain =
     rw (last_of-push first more last) at (painted_run w e first (more ++ last ∷ []) t two row col plain)
 
-pub closing_push : (w : ℕ) (scenes : List Scene) (last : Scene) → closing_of w (scenes ++ last ∷ []) ≡ closing (painting w last) ∷ []
+pub closing_push : (w : ℕ) (scenes : List Scene) (last : Scene) → closing_of w (scenes ++ last ∷ []) ≡ closing (mark_of (painting w last)) ∷ []
 closing_push w [] last = refl
 closing_push w (first ∷ more) last =
-    closing_of-is w first (more ++ last ∷ []) ∙ ap (λ x. closing (painting w x) ∷ []) (last_of-push first more last)
+    closing_of-is w first (more ++ last ∷ []) ∙ ap (λ x. closing (mark_of (painting w x)) ∷ []) (last_of-push first more last)
 
 last_is_plain : (scenes : List Scene) (last : Scene) → ArePlain (scenes ++ last ∷ []) → IsPlain last
 last_is_plain [] last a = a.0
@@ -93,10 +93,10 @@ last_painting w e earlier station t two row col a =
     let q = painted_station w e earlier station t two row col plain in
     let d = scenes-push earlier station in
     let scenes : ArePlain (scenes_of earlier ++ station.scene ∷ []) = rw d at (plain_scenes w (earlier ++ station ∷ []) plain) in
-    let c : closing_batch (map shot_of (earlier ++ station ∷ [])) ≡ closing (painting w station.scene) ∷ [] =
+    let c : closing_batch (map shot_of (earlier ++ station ∷ [])) ≡ closing (mark_of (painting w station.scene)) ∷ [] =
     ap closing_batch (same_shots w (earlier ++ station ∷ []) plain) ∙ ap (closing_of w) d ∙ closing_push w (scenes_of earlier) station.scene in
     let after : Picture = play_batches w (batches (map shot_of (earlier ++ station ∷ []))) t in
-    closed_at w _ after (closing_batch (map shot_of (earlier ++ station ∷ []))) (closing (painting w station.scene)) c
+    closed_at w _ after (closing_batch (map shot_of (earlier ++ station ∷ []))) (closing (mark_of (painting w station.scene))) c
     (closed_painting w (start_row e (scenes_of (earlier ++ station ∷ []))) station.scene after two (last_is_plain (scenes_of earlier) station.scene scenes) q.fresh.row)
   where
     closed_at : (w last : ℕ) (after : Picture) (bs : List Batch) (batch : Batch) → bs ≡ batch ∷ []

@@ -2,7 +2,7 @@
 use Rattle.std.proofs.Common.{◌≡◌, ℕ, ◌+◌, false, List, [], ◌∷◌, map, refl, eqb, if◌then◌else◌, slice_index_or}
 use Rattle.tw_surface.specs.Cutting.{sized_batches, play_cut}
 use Rattle.tw_surface.specs.Pictures.{Picture, play_all}
-use Rattle.tw_surface.specs.Paintings.{painting, start_move}
+use Rattle.tw_surface.specs.Paintings.{painting, mark_of, start_move}
 use Rattle.tw_surface.specs.Places.{pieces}
 use Rattle.tw_surface.specs.Scenes.{Scene}
 use Rattle.tw_surface.specs.Scenes.Lower.{NoLower}
@@ -38,7 +38,7 @@ broken_anew = record {
   col = 1;
 }
 
-stale_row : let after = play_all 3 (start_move (painting 5 a_to_b) ∷ (painting 3 a_to_b).changes) broken_anew in
+stale_row : let after = play_all 3 (start_move (mark_of (painting 5 a_to_b)) ∷ (painting 3 a_to_b).changes) broken_anew in
     rows_in after ≡ (62 ∷ 32 ∷ 97 ∷ 32 ∷ 32 ∷ []) ∷ (62 ∷ 32 ∷ 97 ∷ 32 ∷ 32 ∷ []) ∷ (98 ∷ 32 ∷ 32 ∷ 32 ∷ 32 ∷ []) ∷ (32 ∷ 32 ∷ 32 ∷ 32 ∷ 32 ∷ []) ∷ []
 unfolding pieces
 stale_row = refl

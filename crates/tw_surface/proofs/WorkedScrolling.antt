@@ -3,7 +3,7 @@ use Rattle.std.proofs.Common.{◌≡◌, ◌+◌, ℕ, true, false, List, [], �
 use Rattle.tw_surface.specs.ChangeView.{Batch, Text}
 use Rattle.tw_surface.specs.Fresh.{last_row}
 use Rattle.tw_surface.specs.Pictures.{Picture, play}
-use Rattle.tw_surface.specs.Paintings.{painting, closing}
+use Rattle.tw_surface.specs.Paintings.{painting, mark_of, closing}
 use Rattle.tw_surface.specs.Places.{pieces}
 use Rattle.tw_surface.specs.Scenes.{Scene}
 use Rattle.tw_surface.specs.Scenes.Lower.{NoLower, Preview}
@@ -54,7 +54,7 @@ abbrev play_stopped : Batch → Picture → Picture
 play_stopped [] s = s
 play_stopped (change ∷ changes) s = let u = play 5 change s in play_stopped changes (record u { row = min u.row 2 })
 
-stopped_move_blanks : let after = play_stopped (closing (painting 5 two_rows)) (play_batches_on 3 5 (shows 5 (two_rows ∷ [])) full) in
+stopped_move_blanks : let after = play_stopped (closing (mark_of (painting 5 two_rows))) (play_batches_on 3 5 (shows 5 (two_rows ∷ [])) full) in
     rows_in after ≡ (66 ∷ 66 ∷ 66 ∷ 66 ∷ []) ∷ (62 ∷ 32 ∷ 97 ∷ 98 ∷ []) ∷ (32 ∷ 32 ∷ 32 ∷ 32 ∷ []) ∷ []
 unfolding pieces
 stopped_move_blanks = refl

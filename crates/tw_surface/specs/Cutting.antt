@@ -2,7 +2,7 @@
 use Rattle.std.specs.Prelude.{ℕ, ◌≡◌, ◌≤◌, ◌<◌, ◌-◌, ltb, min, if◌then◌else◌, Option, Some, None, List, [], ◌∷◌, ◌++◌, map}
 use Rattle.std.specs.List.{All}
 use Rattle.tw_surface.specs.ChangeView.{Batch}
-use Rattle.tw_surface.specs.Paintings.{Painting}
+use Rattle.tw_surface.specs.Paintings.{Mark, mark_of}
 use Rattle.tw_surface.specs.Pictures.{Picture, blank, play_all}
 use Rattle.tw_surface.specs.Scenes.{IsPlain}
 use Rattle.tw_surface.specs.Fresh.{IsFresh, IsClosed, last_row}
@@ -22,12 +22,12 @@ pub record SizedBatch : Type 0 where
   pub batch : Batch
 
 -- the batches of a list of stations, after an earlier painting, if there was one: each comes at the columns of its station
-abbrev pub sized_after : Option Painting → List SizedScene → List SizedBatch
-sized_after earlier [] = []
-sized_after earlier (station ∷ more) =
+abbrev pub sized_after : Option Mark → List SizedScene → List SizedBatch
+sized_after last [] = []
+sized_after last (station ∷ more) =
     let shot = shot_of station in
-    map (λ batch. record { cols = station.cols; batch = batch }) (clearing shot.cleared ++ (start_of earlier ++ shot.painting.changes) ∷ [])
-    ++ sized_after (Some shot.painting) more
+    map (λ batch. record { cols = station.cols; batch = batch }) (clearing shot.cleared ++ (start_of last ++ shot.painting.changes) ∷ [])
+    ++ sized_after (Some (mark_of shot.painting)) more
 
 -- the batches of a list of stations from the first one on
 abbrev pub sized_batches : List SizedScene → List SizedBatch

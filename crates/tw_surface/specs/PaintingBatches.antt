@@ -5,7 +5,7 @@ use Rattle.tw_surface.specs.ChangeView.{ClearScreen}
 use Rattle.tw_surface.specs.ChangeView.{Batch}
 use Rattle.tw_surface.specs.Pictures.{Picture, play_all}
 use Rattle.tw_surface.specs.Scenes.{Scene, IsPlain}
-use Rattle.tw_surface.specs.Paintings.{Painting, painting, start_move, closing}
+use Rattle.tw_surface.specs.Paintings.{Painting, painting, Mark, mark_of, start_move, closing}
 use Rattle.tw_surface.specs.Defaults.{default_color}
 
 -- a painting of a run, and whether the screen is cleared just before it
@@ -14,19 +14,33 @@ pub record Shot : Type 0 where
   pub cleared : Bool
 
 -- the batch that clears the screen
+abbrev pub clear_batch : Batch
+clear_batch = ClearScreen default_color ∷ []
+
+-- that batch, where the screen is cleared
 abbrev pub clearing : Bool → List Batch
-clearing cleared = if cleared then (ClearScreen default_color ∷ []) ∷ [] else []
+clearing cleared = if cleared then clear_batch ∷ [] else []
 
 -- the start move, where there is a painting before
-abbrev pub start_of : Option Painting → Batch
+abbrev pub start_of : Option Mark → Batch
 start_of None = []
-start_of (Some earlier) = start_move earlier ∷ []
+start_of (Some m) = start_move m ∷ []
+
+-- the closing batch, where there was a painting
+abbrev pub closing_if : Option Mark → List Batch
+closing_if None = []
+closing_if (Some m) = closing m ∷ []
 
 -- the batches of a list of paintings, after an earlier one, if there was one
-abbrev pub batches_after : Option Painting → List Shot → List Batch
-batches_after earlier [] = []
-batches_after earlier (shot ∷ more) =
-    clearing shot.cleared ++ (start_of earlier ++ shot.painting.changes) ∷ batches_after (Some shot.painting) more
+abbrev pub batches_after : Option Mark → List Shot → List Batch
+batches_after last [] = []
+batches_after last (shot ∷ more) =
+    clearing shot.cleared ++ (start_of last ++ shot.painting.changes) ∷ batches_after (Some (mark_of shot.painting)) more
+
+-- the mark that a list of paintings leaves, after an earlier one, if there was one
+abbrev pub mark_after : Option Mark → List Shot → Option Mark
+mark_after last [] = last
+mark_after last (shot ∷ more) = mark_after (Some (mark_of shot.painting)) more
 
 -- the batches of a list of paintings from the first one on
 abbrev pub batches : List Shot → List Batch
@@ -34,9 +48,7 @@ batches shots = batches_after None shots
 
 -- the batch that closes a list of paintings, where there is one
 abbrev pub closing_batch : List Shot → List Batch
-closing_batch [] = []
-closing_batch (shot ∷ []) = closing shot.painting ∷ []
-closing_batch (shot ∷ next ∷ more) = closing_batch (next ∷ more)
+closing_batch shots = closing_if (mark_after None shots)
 
 -- the paintings of a list of scenes at cols columns
 abbrev pub shots : ℕ → List Scene → List Shot

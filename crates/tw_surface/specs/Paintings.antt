@@ -55,10 +55,19 @@ painting cols scene =
       height = height cols all;
     }
 
+-- where a painting leaves the cursor and how high it is, both counted from its first row
+pub record Mark : Type 0 where
+  pub row : ℤ
+  pub height : ℕ
+
+-- the mark of a painting
+abbrev pub mark_of : Painting → Mark
+mark_of p = record { row = p.row; height = p.height }
+
 -- from the cursor of a painting back to its first row
-abbrev pub start_move : Painting → ChangeView
-start_move p = CursorPosition (Absolute 0) (Relative (neg_ℤ p.row))
+abbrev pub start_move : Mark → ChangeView
+start_move m = CursorPosition (Absolute 0) (Relative (neg_ℤ m.row))
 
 -- from the cursor of a painting to the row under it, and the clearing from there on
-abbrev pub closing : Painting → Batch
-closing p = CursorPosition (Absolute 0) (Relative (pos (1 + p.height) -ℤ p.row)) ∷ ClearToEndOfScreen default_color ∷ []
+abbrev pub closing : Mark → Batch
+closing m = CursorPosition (Absolute 0) (Relative (pos (1 + m.height) -ℤ m.row)) ∷ ClearToEndOfScreen default_color ∷ []

@@ -1,6 +1,7 @@
 use Rattle.std.proofs.Common.{◌++◌, ◌∙◌, ap, [], false}
 use Rattle.std.proofs.lemmas.Result.{err_from_is_err_and}
-use Rattle.tw_painter.specs.Painting.{scene_with, start_batch}
+use Rattle.tw_surface.specs.PaintingBatches.{start_of}
+use Rattle.tw_painter.specs.Painting.{scene_with}
 use Rattle.tw_painter.specs.DrawSteps.{IsSized, lower_of}
 use Rattle.tw_painter.proofs.PaintedSizes.{refused-size, sized-from, refused-scene, painted-scene}
 use Rattle.tw_painter.proofs.painter.painting.Goals as goal
@@ -29,4 +30,4 @@ returns-clause-ok g c =
     (scene_with g.H.LineEditorHost.rules (g.H.LineEditorHost.value c.args.host.now) c.args.prompt.now c.args.line.now (lower_of g.H.LineEditorHost.rules (g.H.LineEditorHost.value c.args.host.now) c.args.line.now c.args.below) false)
     c.args.before c.draw_scene.new.drawing _ _ sized
     (record { paintable = c.in_ok-painted.ensures.paintable; changes = c.in_ok-painted.ensures.changes; leaves = c.in_ok-painted.ensures.leaves })
-    (c.in_ok-batch.ensures ∙ ap (λ b. start_batch c.args.before ++ b) c.consume.ensures)
+    (c.in_ok-batch.ensures ∙ ap (λ b. start_of c.args.before ++ b) c.consume.ensures)
