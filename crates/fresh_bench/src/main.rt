@@ -1,6 +1,6 @@
 //! Each painting of the line editor beside a fresh one. An editor paints over what it painted before, by
 //! moves from where it left the cursor. Whatever it has taken, the screen is to show what one painting of
-//! its state shows. The program plays scripts at widths from 2 to 17, on a blank screen and on a full one,
+//! its state shows. The program plays trials at widths from 2 to 17, on a blank screen and on a full one,
 //! without a bottom row and with one, at heights from 1 to 30. After each batch it compares the screen with a
 //! table whose places are found by division alone; with a bottom row only while no painting has more rows. What
 //! it found goes to standard output, and the times to standard error.
@@ -8,12 +8,12 @@
 
 mod generator;
 mod play;
-mod script;
+mod trial;
 mod worked;
 
 use crate::generator::Generator;
 use crate::play::{Count, play};
-use crate::script::Script;
+use crate::trial::Trial;
 use crate::worked::{WORKED, Worked};
 use fresh_table::Entry;
 use std::alloc::Global;
@@ -30,8 +30,8 @@ const LAST_HEIGHT: usize = 30;
 
 const SEED: u64 = 20_250_719;
 
-/// The scripts that are generated for each width.
-const CASES: usize = 250;
+/// The trials that are generated for each width.
+const TRIALS: usize = 250;
 
 fn main(rt: HostRuntime) -> Result<(), anyhow::Error> {
     let mut all = Count::default();
@@ -48,14 +48,14 @@ fn main(rt: HostRuntime) -> Result<(), anyhow::Error> {
     let generated = start.elapsed(&rt)?;
     println!(rt; "all: {all}")?;
     eprintln!(rt;
-        "{} ms for the worked scripts, {} ms for the generated ones",
+        "{} ms for the worked trials, {} ms for the generated ones",
         worked.as_millis(),
         generated.as_millis()
     )?;
     Ok(())
 }
 
-/// Plays a worked script at each width and each height, on both screens.
+/// Plays a worked trial at each width and each height, on both screens.
 fn play_worked(
     rt: &(impl Print + Alloc<A = Global>),
     worked: &Worked,
@@ -63,7 +63,7 @@ fn play_worked(
     let mut count = Count::default();
     for width in FIRST_WIDTH..=LAST_WIDTH {
         for entry in [Entry::Blank, Entry::Full] {
-            count.add(play_one(rt, width, FIRST_HEIGHT..=LAST_HEIGHT, entry, &worked.script)?);
+            count.add(play_one(rt, width, FIRST_HEIGHT..=LAST_HEIGHT, entry, &worked.trial)?);
         }
     }
     let name = worked.name;
@@ -71,33 +71,33 @@ fn play_worked(
     Ok(count)
 }
 
-/// Generates scripts and plays them at one width, each at one of the heights.
+/// Generates trials and plays them at one width, each at one of the heights.
 fn play_generated(
     rt: &(impl Print + Alloc<A = Global>),
     width: usize,
     generator: &mut Generator,
 ) -> Result<Count, anyhow::Error> {
     let mut count = Count::default();
-    for number in 0..CASES {
-        let case = generator.case(rt.alloc())?;
+    for number in 0..TRIALS {
+        let generated = generator.generate(rt.alloc())?;
         let rows = FIRST_HEIGHT + number % LAST_HEIGHT;
-        count.add(play_one(rt, width, rows..=rows, case.entry, &case.script())?);
+        count.add(play_one(rt, width, rows..=rows, generated.entry, &generated.trial())?);
     }
-    println!(rt; "{CASES} scripts at {width} columns: {count}")?;
+    println!(rt; "{TRIALS} trials at {width} columns: {count}")?;
     Ok(count)
 }
 
-/// Plays a script, and shows it where a cell differs.
+/// Plays a trial, and shows it where a cell differs.
 fn play_one(
     rt: &(impl Print + Alloc<A = Global>),
     width: usize,
     heights: RangeInclusive<usize>,
     entry: Entry,
-    script: &Script<'_>,
+    trial: &Trial<'_>,
 ) -> Result<Count, anyhow::Error> {
-    let count = play(rt.alloc(), width, heights, entry, script)?;
+    let count = play(rt.alloc(), width, heights, entry, trial)?;
     if count.differences > 0 {
-        println!(rt; "at {width} columns, screen {entry:?}: {count}: {script:?}")?;
+        println!(rt; "at {width} columns, screen {entry:?}: {count}: {trial:?}")?;
     }
     Ok(count)
 }

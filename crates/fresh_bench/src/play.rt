@@ -1,6 +1,6 @@
-//! Plays a script on an editor, and what the editor paints on a screen.
+//! Plays a trial on an editor, and what the editor paints on a screen.
 
-use crate::script::Script;
+use crate::trial::Trial;
 use fresh_table::{Entry, MarkedHost, ScrollingStage, Stage};
 use std::alloc::Global;
 use std::fmt;
@@ -47,33 +47,33 @@ impl fmt::Display for Count {
     }
 }
 
-/// Plays a script on a screen of this width: one without a bottom, and one of each of these numbers of rows.
+/// Plays a trial on a screen of this width: one without a bottom, and one of each of these numbers of rows.
 pub fn play(
     alloc: Global,
     width: usize,
     heights: RangeInclusive<usize>,
     entry: Entry,
-    script: &Script<'_>,
+    trial: &Trial<'_>,
 ) -> Result<Count, anyhow::Error> {
     let size = ScreenSize {
         rows: SCREEN_ROWS,
         cols: width,
     };
-    let mut terminal = ScriptTerminal::new(alloc, size, script.events(alloc)?);
-    read_lines(alloc, &mut terminal, script)?;
+    let mut terminal = ScriptTerminal::new(alloc, size, trial.events(alloc)?);
+    read_lines(alloc, &mut terminal, trial)?;
     let mut count = Count {
-        readings: script.readings as u64,
+        readings: trial.readings as u64,
         ..Count::default()
     };
     let mut stage = Stage::new(alloc, width, entry)?;
     for batch in terminal.batches() {
         count.batches = count.batches.saturating_add(1);
-        let differences = stage.take(batch.as_slice(), script.column)?;
+        let differences = stage.take(batch.as_slice(), trial.column)?;
         count.differences = count.differences.saturating_add(differences as u64);
     }
     for rows in heights {
         let stage = ScrollingStage::new(alloc, rows, width, entry)?;
-        count.add(play_scrolling(stage, &terminal, script.column)?);
+        count.add(play_scrolling(stage, &terminal, trial.column)?);
     }
     Ok(count)
 }
@@ -97,21 +97,21 @@ fn play_scrolling(
     Ok(count)
 }
 
-/// One editor reads the lines of a script.
+/// One editor reads the lines of a trial.
 fn read_lines(
     alloc: Global,
     terminal: &mut ScriptTerminal,
-    script: &Script<'_>,
+    trial: &Trial<'_>,
 ) -> Result<(), anyhow::Error> {
     let mut history = BasicHistory::new(alloc);
-    for line in script.history {
+    for line in trial.history {
         history.add(line)?;
     }
-    let mut host = MarkedHost::new(alloc, history, script.preview, script.column)?;
+    let mut host = MarkedHost::new(alloc, history, trial.preview, trial.column)?;
     let mut editor = LineEditor::new(alloc, terminal)?;
-    editor.set_prompt(script.prompt)?;
-    for _ in 0..script.readings {
-        editor.read_line_with_optional_initial_value(&mut host, Some(script.initial))?;
+    editor.set_prompt(trial.prompt)?;
+    for _ in 0..trial.readings {
+        editor.read_line_with_optional_initial_value(&mut host, Some(trial.initial))?;
     }
     Ok(())
 }

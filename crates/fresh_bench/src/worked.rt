@@ -1,135 +1,101 @@
-//! Scripts that were worked out by hand.
+//! Trials that were worked out by hand.
 
-use crate::script::{Input, Script};
-use tw_input::KeyCode;
+use crate::trial::Trial;
 
-/// A script with a name.
+/// A trial with a name.
 #[derive(Clone, Copy)]
 pub struct Worked {
     /// What it is about.
     pub name: &'static str,
     /// What is played.
-    pub script: Script<'static>,
+    pub trial: Trial<'static>,
 }
 
-const PLAIN: Script<'static> = Script {
+const PLAIN: Trial<'static> = Trial {
     prompt: "> ",
     initial: "",
     history: &[],
     preview: "",
     column: None,
-    inputs: &[],
+    names: &[],
     readings: 1,
 };
 
 const HISTORY: [&str; 2] = ["git log", "ls"];
 
-const SEARCH: [Input; 3] = [
-    Input::Control('R'),
-    Input::Key(KeyCode::Char('g')),
-    Input::Key(KeyCode::Enter),
+const SEARCH: [&str; 3] = ["C-R", "g", "Enter"];
+
+const CANCELLED_SEARCH: [&str; 3] = ["C-R", "g", "C-C"];
+
+const UNENDED_SEARCH: [&str; 2] = ["C-R", "g"];
+
+const SHORTENED: [&str; 8] = ["a", "b", "c", "d", "e", "f", "Home", "Delete"];
+
+const CLEARED: [&str; 12] = [
+    "a", "b", "c", "d", "e", "f", "g", "h", "i", "j", "C-L", "Enter",
 ];
 
-const CANCELLED_SEARCH: [Input; 3] = [
-    Input::Control('R'),
-    Input::Key(KeyCode::Char('g')),
-    Input::Control('C'),
-];
+const TWO_LINES: [&str; 4] = ["a", "Enter", "b", "Enter"];
 
-const UNENDED_SEARCH: [Input; 2] = [Input::Control('R'), Input::Key(KeyCode::Char('g'))];
+const ONE_LETTER: [&str; 1] = ["x"];
 
-const SHORTENED: [Input; 8] = [
-    Input::Key(KeyCode::Char('a')),
-    Input::Key(KeyCode::Char('b')),
-    Input::Key(KeyCode::Char('c')),
-    Input::Key(KeyCode::Char('d')),
-    Input::Key(KeyCode::Char('e')),
-    Input::Key(KeyCode::Char('f')),
-    Input::Key(KeyCode::Home),
-    Input::Key(KeyCode::Delete),
-];
-
-const CLEARED: [Input; 12] = [
-    Input::Key(KeyCode::Char('a')),
-    Input::Key(KeyCode::Char('b')),
-    Input::Key(KeyCode::Char('c')),
-    Input::Key(KeyCode::Char('d')),
-    Input::Key(KeyCode::Char('e')),
-    Input::Key(KeyCode::Char('f')),
-    Input::Key(KeyCode::Char('g')),
-    Input::Key(KeyCode::Char('h')),
-    Input::Key(KeyCode::Char('i')),
-    Input::Key(KeyCode::Char('j')),
-    Input::Control('L'),
-    Input::Key(KeyCode::Enter),
-];
-
-const TWO_LINES: [Input; 4] = [
-    Input::Key(KeyCode::Char('a')),
-    Input::Key(KeyCode::Enter),
-    Input::Key(KeyCode::Char('b')),
-    Input::Key(KeyCode::Enter),
-];
-
-const ONE_LETTER: [Input; 1] = [Input::Key(KeyCode::Char('x'))];
-
-/// The scripts.
+/// The trials.
 pub const WORKED: [Worked; 11] = [
     Worked {
         name: "a line at the edge",
-        script: Script {
+        trial: Trial {
             initial: "abcdefgh",
             ..PLAIN
         },
     },
     Worked {
         name: "a line that gets shorter",
-        script: Script {
-            inputs: &SHORTENED,
+        trial: Trial {
+            names: &SHORTENED,
             ..PLAIN
         },
     },
     Worked {
         name: "a search that is accepted",
-        script: Script {
+        trial: Trial {
             history: &HISTORY,
-            inputs: &SEARCH,
+            names: &SEARCH,
             ..PLAIN
         },
     },
     Worked {
         name: "a search that is cancelled",
-        script: Script {
+        trial: Trial {
             history: &HISTORY,
-            inputs: &CANCELLED_SEARCH,
+            names: &CANCELLED_SEARCH,
             ..PLAIN
         },
     },
     Worked {
         name: "a search at the end of the events",
-        script: Script {
+        trial: Trial {
             history: &HISTORY,
-            inputs: &UNENDED_SEARCH,
+            names: &UNENDED_SEARCH,
             ..PLAIN
         },
     },
     Worked {
         name: "a cursor far behind the line",
-        script: Script {
+        trial: Trial {
             column: Some(25),
             ..PLAIN
         },
     },
     Worked {
         name: "a screen that is cleared",
-        script: Script {
-            inputs: &CLEARED,
+        trial: Trial {
+            names: &CLEARED,
             ..PLAIN
         },
     },
     Worked {
         name: "a preview",
-        script: Script {
+        trial: Trial {
             initial: "abcdefgh",
             preview: "ok",
             ..PLAIN
@@ -137,25 +103,25 @@ pub const WORKED: [Worked; 11] = [
     },
     Worked {
         name: "two readings",
-        script: Script {
-            inputs: &TWO_LINES,
+        trial: Trial {
+            names: &TWO_LINES,
             readings: 2,
             ..PLAIN
         },
     },
     Worked {
         name: "a preview of three lines",
-        script: Script {
+        trial: Trial {
             preview: "abcde\r\n\r\nfg",
-            inputs: &ONE_LETTER,
+            names: &ONE_LETTER,
             ..PLAIN
         },
     },
     Worked {
         name: "a preview that ends in a line break",
-        script: Script {
+        trial: Trial {
             preview: "abcdef\r\n",
-            inputs: &ONE_LETTER,
+            names: &ONE_LETTER,
             ..PLAIN
         },
     },

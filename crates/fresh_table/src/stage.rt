@@ -1,6 +1,6 @@
 //! Screens on which batches are played, beside the tables of what they are to hold.
 
-use crate::scene::{Batch, Scene};
+use crate::painted::{Batch, PaintedTexts};
 use crate::shows::Shows;
 use crate::table::{Entry, FILLING, ROWS, Table};
 use std::alloc::Global;
@@ -32,7 +32,7 @@ impl Stage {
         play(&mut self.screen, batch)?;
         match Batch::read(batch) {
             Batch::Clears => self.table.clear(),
-            Batch::Paints(scene) => self.table.paint(&scene, column),
+            Batch::Paints(texts) => self.table.paint(&texts, column),
             Batch::Closes => self.table.close(self.table.next_row()),
             Batch::Unknown => return Ok(1),
         }
@@ -81,23 +81,23 @@ impl ScrollingStage {
                 self.table.clear();
                 self.is_known = true;
             }
-            Batch::Paints(scene) => self.paint(&scene, column),
+            Batch::Paints(texts) => self.paint(&texts, column),
             Batch::Closes => self.close(),
             Batch::Unknown => return Ok(Some(1)),
         }
         Ok(self.is_known.then(|| self.table.differences(&self.screen)))
     }
 
-    /// The scene is painted from the first row on, or from as far above as it needs.
-    fn paint(&mut self, scene: &Scene<'_>, column: Option<usize>) {
-        let needed = self.table.rows_of(scene, column);
+    /// The texts are painted from the first row on, or from as far above as it needs.
+    fn paint(&mut self, texts: &PaintedTexts<'_>, column: Option<usize>) {
+        let needed = self.table.rows_of(texts, column);
         if needed > self.rows {
             self.is_known = false;
             return;
         }
         let end = self.table.first_row().saturating_add(needed);
         self.table.raise(end.saturating_sub(self.rows));
-        self.table.paint(scene, column);
+        self.table.paint(texts, column);
     }
 
     /// The reading has ended. The next one enters the screen in the row under the last one, which is scrolled into

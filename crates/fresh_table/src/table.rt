@@ -2,7 +2,7 @@
 
 ghost use Rattle.std.specs.Prelude.{◌<◌};
 
-use crate::scene::Scene;
+use crate::painted::PaintedTexts;
 use crate::shows::Shows;
 use std::alloc::{AllocError, Global};
 
@@ -73,15 +73,15 @@ impl Table {
         self.clear_from(0);
     }
 
-    /// How many rows a scene takes, down to its last one or to the cursor's. The column of the cursor is the one
+    /// How many rows a painting takes, down to its last one or to the cursor's. The column of the cursor is the one
     /// given, or else the number of characters before the cursor.
-    pub fn rows_of(&self, scene: &Scene<'_>, column: Option<usize>) -> usize {
-        let line = scene.prompt.len();
+    pub fn rows_of(&self, texts: &PaintedTexts<'_>, column: Option<usize>) -> usize {
+        let line = texts.prompt.len();
         let end = line
-            .saturating_add(scene.front.len())
-            .saturating_add(scene.back.len());
-        let cursor = line.saturating_add(column.unwrap_or(scene.front.len()));
-        let lower = match scene.lower {
+            .saturating_add(texts.front.len())
+            .saturating_add(texts.back.len());
+        let cursor = line.saturating_add(column.unwrap_or(texts.front.len()));
+        let lower = match texts.lower {
             Some(lower) => self.lower_rows(lower),
             None => 0,
         };
@@ -89,7 +89,7 @@ impl Table {
         last.max(cursor / self.width).saturating_add(1)
     }
 
-    /// The row from which the next scene is painted.
+    /// The row from which the next painting goes.
     pub fn first_row(&self) -> usize {
         self.first_row
     }
@@ -112,23 +112,23 @@ impl Table {
         self.cursor.0 = self.cursor.0.saturating_sub(count);
     }
 
-    /// The scene is painted from the row on where the screen was entered. The column of the cursor is the one
+    /// The texts are painted from the row on where the screen was entered. The column of the cursor is the one
     /// given, or else the number of characters before the cursor.
-    pub fn paint(&mut self, scene: &Scene<'_>, column: Option<usize>) {
+    pub fn paint(&mut self, texts: &PaintedTexts<'_>, column: Option<usize>) {
         let row = self.first_row;
         self.clear_from(row);
-        let line = scene.prompt.len();
-        let cursor = line.saturating_add(scene.front.len());
-        let end = cursor.saturating_add(scene.back.len());
-        self.put_text(row, 0, scene.prompt);
-        self.put_text(row, line, scene.front);
-        self.put_text(row, cursor, scene.back);
+        let line = texts.prompt.len();
+        let cursor = line.saturating_add(texts.front.len());
+        let end = cursor.saturating_add(texts.back.len());
+        self.put_text(row, 0, texts.prompt);
+        self.put_text(row, line, texts.front);
+        self.put_text(row, cursor, texts.back);
         self.cursor = self.place(
             row,
-            line.saturating_add(column.unwrap_or(scene.front.len())),
+            line.saturating_add(column.unwrap_or(texts.front.len())),
         );
         self.last_row = row.saturating_add(end / self.width);
-        if let Some(lower) = scene.lower {
+        if let Some(lower) = texts.lower {
             self.put_lower(lower);
         }
     }

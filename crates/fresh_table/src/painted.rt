@@ -4,7 +4,7 @@ use tw_surface::Change;
 
 /// The texts of a painting.
 #[derive(Debug, Clone, Copy)]
-pub struct Scene<'a> {
+pub struct PaintedTexts<'a> {
     /// The prompt.
     pub prompt: &'a str,
     /// The line before its cursor.
@@ -21,7 +21,7 @@ pub enum Batch<'a> {
     /// It clears the whole screen.
     Clears,
     /// It paints.
-    Paints(Scene<'a>),
+    Paints(PaintedTexts<'a>),
     /// It ends a reading.
     Closes,
     /// Something else.
@@ -52,7 +52,7 @@ fn read_painting(changes: &[Change]) -> Batch<'_> {
             Change::Text(back),
             rest @ ..,
             Change::CursorPosition { .. },
-        ] => Batch::Paints(Scene {
+        ] => Batch::Paints(PaintedTexts {
             prompt: prompt.as_str(),
             front: front.as_str(),
             back: back.as_str(),
