@@ -1,52 +1,49 @@
 //! A terminal that keeps nothing of what is rendered.
 
-ghost use Rattle.std.specs.Prelude.{◌≡◌, length, map};
+ghost use Rattle.std.specs.Prelude.{length, map};
 ghost use Rattle.std.specs.Vec.Iter.{into_iter_items};
-ghost use Rattle.tw_surface.specs.ChangeView.{batch_view};
 ghost use Rattle.tw_input.specs.EventView.{event_view};
-ghost use Rattle.tw_terminal.specs.TerminalState.{TerminalState};
 
-use script_player::Past;
 use std::snapshot::Snapshot;
 use std::vec::IntoIter;
 use tw_input::InputEvent;
 use tw_surface::Change;
-use tw_terminal::{ScreenSize, Terminal, TerminalFault};
+use tw_terminal::{BatchLog, ScreenSize, Terminal, TerminalFault};
 
 /// A terminal that gives events and drops what is rendered. It counts the batches and their changes.
 #[derive(Drop)]
 pub struct Discarding {
     size: ScreenSize,
     events: IntoIter<InputEvent>,
-    past: Past,
-    flushed: Snapshot<Past>,
-    batches: u64,
-    changes: u64,
+    batches: BatchLog,
+    flushed: Snapshot<BatchLog>,
+    batch_count: u64,
+    change_count: u64,
 }
 
 impl Discarding {
     /// A terminal of this size with these events. It takes no memory.
     pub fn new(size: ScreenSize, events: Vec<InputEvent>) -> Self {
-        let past = Past::new();
-        let flushed = Snapshot::of(&past);
+        let batches = BatchLog::new();
+        let flushed = Snapshot::of(&batches);
         Discarding {
             size,
             events: events.into_iter(),
-            past,
+            batches,
             flushed,
-            batches: 0,
-            changes: 0,
+            batch_count: 0,
+            change_count: 0,
         }
     }
 
     /// How many batches were rendered.
     pub fn batches(&self) -> u64 {
-        self.batches
+        self.batch_count
     }
 
     /// How many changes were in them.
     pub fn changes(&self) -> u64 {
-        self.changes
+        self.change_count
     }
 }
 
@@ -54,7 +51,7 @@ impl Terminal for Discarding {
     ghost state = { λ terminal. record {
       size = terminal.size;
       events = map event_view (into_iter_items terminal.events);
-      batches = terminal.past;
+      batches = terminal.batches;
       flushed = length terminal.flushed.value;
       failures = 0;
     } };
@@ -75,14 +72,14 @@ impl Terminal for Discarding {
     }
 
     fn render(&mut self, changes: &[Change]) -> Result<(), TerminalFault> {
-        self.past = self.past.with_batch(changes);
-        self.batches = self.batches.saturating_add(1);
-        self.changes = self.changes.saturating_add(changes.len() as u64);
+        self.batches = self.batches.with_batch(changes);
+        self.batch_count = self.batch_count.saturating_add(1);
+        self.change_count = self.change_count.saturating_add(changes.len() as u64);
         Ok(())
     }
 
     fn flush(&mut self) -> Result<(), TerminalFault> {
-        self.flushed = Snapshot::of(&self.past);
+        self.flushed = Snapshot::of(&self.batches);
         Ok(())
     }
 }

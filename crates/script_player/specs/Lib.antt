@@ -8,3 +8,4 @@ pub mod NewEditor
 pub mod ScriptRules
 pub mod Playback
 pub mod Past
+pub mod Sessions

@@ -5,7 +5,7 @@
 //! lines, `playback` has what is kept from one to the next, `new_editor` reads a line with an editor, and `fault` says
 //! why a run ends early. The host: `script_host`, with its history `list_history`. What is told: `answer` how a
 //! reading ends, `display` what a screen shows, `shown` a terminal that shows what is rendered at once, and `output`
-//! writes it; `past` has what contracts alone see of it.
+//! writes it.
 #![tactic(auto)]
 
 mod answer;
@@ -20,7 +20,6 @@ mod list_history;
 mod new_editor;
 mod number;
 mod output;
-mod past;
 mod playback;
 mod player;
 mod script_host;
@@ -33,6 +32,5 @@ pub use fault::RunFault;
 pub use keys::key_named;
 pub use list_history::ListHistory;
 pub use new_editor::read_line;
-pub use past::Past;
 pub use player::run;
 pub use script_host::ScriptHost;

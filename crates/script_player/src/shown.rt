@@ -1,17 +1,15 @@
 //! A terminal that shows what is rendered at once.
 
-ghost use Rattle.std.specs.Prelude.{◌≡◌, length, map};
+ghost use Rattle.std.specs.Prelude.{length, map};
 ghost use Rattle.std.specs.Vec.Iter.{into_iter_items};
 ghost use Rattle.tw_input.specs.EventView.{event_view};
-ghost use Rattle.tw_terminal.specs.TerminalState.{TerminalState};
 
 use crate::display::play;
-use crate::past::Past;
 use std::snapshot::Snapshot;
 use std::vec::IntoIter;
 use tw_input::InputEvent;
 use tw_surface::{Change, Screen, ScreenFault};
-use tw_terminal::{ScreenSize, Terminal, TerminalFault};
+use tw_terminal::{BatchLog, ScreenSize, Terminal, TerminalFault};
 
 /// What batches came to on a screen.
 #[derive(Debug, Drop)]
@@ -55,15 +53,15 @@ pub struct ScreenTerminal {
     size: ScreenSize,
     events: IntoIter<InputEvent>,
     shown: Shown,
-    past: Past,
-    flushed: Snapshot<Past>,
+    batches: BatchLog,
+    flushed: Snapshot<BatchLog>,
 }
 
 impl ScreenTerminal {
     /// A terminal of this size with these events, on a screen. It takes no memory.
     pub fn new(size: ScreenSize, events: Vec<InputEvent>, screen: Option<Screen>) -> Self {
-        let past = Past::new();
-        let flushed = Snapshot::of(&past);
+        let batches = BatchLog::new();
+        let flushed = Snapshot::of(&batches);
         ScreenTerminal {
             size,
             events: events.into_iter(),
@@ -71,7 +69,7 @@ impl ScreenTerminal {
                 screen,
                 played: Played::Nothing,
             },
-            past,
+            batches,
             flushed,
         }
     }
@@ -86,7 +84,7 @@ impl Terminal for ScreenTerminal {
     ghost state = { λ terminal. record {
       size = terminal.size;
       events = map event_view (into_iter_items terminal.events);
-      batches = terminal.past;
+      batches = terminal.batches;
       flushed = length terminal.flushed.value;
       failures = 0;
     } };
@@ -107,13 +105,13 @@ impl Terminal for ScreenTerminal {
     }
 
     fn render(&mut self, changes: &[Change]) -> Result<(), TerminalFault> {
-        self.past = self.past.with_batch(changes);
+        self.batches = self.batches.with_batch(changes);
         self.shown.play(changes);
         Ok(())
     }
 
     fn flush(&mut self) -> Result<(), TerminalFault> {
-        self.flushed = Snapshot::of(&self.past);
+        self.flushed = Snapshot::of(&self.batches);
         Ok(())
     }
 }

@@ -1,3 +1,4 @@
+pub mod EventLog
 pub mod Faults
 pub mod Live
-pub mod Logs
+pub mod Terminal

@@ -3,10 +3,9 @@
 ghost use Rattle.std.specs.Prelude.{◌≡◌, ◌≤◌, ◌++◌, ◌∷◌, [], List, length, drop, IfOk, IfErr, OnOk, OnErr, MatchOption, ⊤};
 ghost use Rattle.std.specs.Io.KnownBytes.{IsAtEnd};
 ghost use Rattle.tw_input.specs.EventView.{event_view, EventView};
-ghost use Rattle.tw_device.specs.Logs.{events_of};
 ghost use Rattle.tw_device.specs.declared.keys.SourceState.TheVariants.{AtEnd, Refused as HasRefused};
 
-use crate::logs::EventLog;
+use crate::event_log::EventLog;
 use crate::refused::Refused;
 use crate::unread::Unread;
 use std::alloc::{AllocError, Global};
@@ -77,14 +76,14 @@ impl<R: Read> KeyReader<R> {
             reader,
             unread: Unread::new(alloc),
             state: SourceState::Going,
-            told: EventLog::Nothing,
+            told: EventLog::new(),
         }
     }
 
     /// The next event, or none at the end of what is typed.
     #[tactic(auto, using(crate::proofs::ReadLemmas::none_left))]
     fn find(&mut self) -> Result<Option<InputEvent>, Refused>
-        ensures told { events_of self.new.told ≡ events_of self.old.told }
+        ensures told { self.new.told ≡ self.old.told }
         ensures at_end { IfOk result (λ event. MatchOption event ((self.new.unread ≡ []) × IsAtEnd (R.remaining self.new.reader)) (λ _. ⊤)) }
     {
         let mut is_last = false;
@@ -106,7 +105,7 @@ impl<R: Read> KeyReader<R> {
     /// finds the token again.
     fn take(&mut self, found: Scanned) -> Result<Option<InputEvent>, Refused>
         requires { found.used ≤ length self.old.unread }
-        ensures told { events_of self.new.told ≡ events_of self.old.told }
+        ensures told { self.new.told ≡ self.old.told }
         ensures taken { OnOk result (self.new.unread ≡ drop found.used self.old.unread) }
         ensures kept { OnErr result (self.new.unread ≡ self.old.unread) }
         ensures same_reader { self.new.reader ≡ self.old.reader }
@@ -128,22 +127,22 @@ impl<R: Read> KeyReader<R> {
 }
 
 impl<R: Read> EventSource for KeyReader<R> {
-    ghost told = { λ it. events_of it.told };
+    ghost told = { λ it. it.told };
 
     ghost state = { λ it. it.state };
 
     /// It has no more events only where the reader has no more bytes and all are taken.
     fn next_event(&mut self) -> Result<Option<InputEvent>, TerminalFault>
         ensures ok { IfOk result (λ event. MatchOption event
-            ((events_of self.new.told ≡ events_of self.old.told) × (self.new.state ≡ AtEnd))
-            (λ event. events_of self.new.told ≡ events_of self.old.told ++ event_view event ∷ [])) }
-        ensures told { OnErr result (events_of self.new.told ≡ events_of self.old.told) }
+            ((self.new.told ≡ self.old.told) × (self.new.state ≡ AtEnd))
+            (λ event. self.new.told ≡ self.old.told ++ event_view event ∷ [])) }
+        ensures told { OnErr result (self.new.told ≡ self.old.told) }
         ensures refused { IfErr result (λ fault. self.new.state ≡ HasRefused fault) }
         ensures at_end { IfOk result (λ event. MatchOption event ((self.new.unread ≡ []) × IsAtEnd (R.remaining self.new.reader)) (λ _. ⊤)) }
     {
         match self.find() {
             Ok(Some(event)) => {
-                self.told = self.told.and(&event);
+                self.told = self.told.with_event(&event);
                 self.state = SourceState::Going;
                 Ok(Some(event))
             }

@@ -2,16 +2,17 @@
 //!
 //! `terminal` has the terminal over a writer; `keys` the source of events over a reader, with `unread`, the bytes
 //! that were read and are not yet taken; `reading` the line that is read as the events come. `refused` says why a
-//! call to a device is refused, and `logs` has what contracts alone read of the events and batches.
+//! call to a device is refused, and `event_log` has the events that a source told, for contracts alone.
 #![tactic(auto)]
 
+mod event_log;
 mod keys;
-mod logs;
 mod reading;
 mod refused;
 mod terminal;
 mod unread;
 
+pub use event_log::EventLog;
 pub use keys::{EventSource, KeyReader, SourceState};
 pub use reading::{Answer, read_line_from};
 pub use terminal::AnsiTerminal;

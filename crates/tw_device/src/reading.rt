@@ -7,7 +7,7 @@ ghost use Rattle.tw_lineedit.specs.Frame.{frame};
 ghost use Rattle.tw_lineedit.specs.EditState.{Inactive};
 ghost use Rattle.tw_lineedit.specs.Feeding.{status_if};
 ghost use Rattle.tw_lineedit.specs.Outcomes.{is_open};
-ghost use Rattle.tw_device.specs.Logs.{terminal_state};
+ghost use Rattle.tw_device.specs.Terminal.{terminal_state};
 ghost use Rattle.tw_device.specs.Live.{fresh, Comes, ComesBy, FailsFrom, FailsBy, IsRead, FailsToRead, IsStopped, answer_from};
 
 use crate::keys::EventSource;

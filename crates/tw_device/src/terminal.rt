@@ -5,9 +5,8 @@ ghost use Rattle.std.specs.Prelude.{◌≡◌, ◌++◌, [], IfOk, OnOk, OnErr, 
 ghost use Rattle.tw_surface.specs.ChangeView.{batch_view};
 ghost use Rattle.tw_terminal.specs.TerminalState.{RenderFails, Renders};
 ghost use Rattle.tw_ansi.specs.Encoding.{sent_batch};
-ghost use Rattle.tw_device.specs.Logs.{terminal_state};
+ghost use Rattle.tw_device.specs.Terminal.{terminal_state};
 
-use crate::logs::{BatchLog, ChangeLog};
 use crate::refused::Refused;
 use std::alloc::{AllocError, Global};
 use std::io::Write;
@@ -15,7 +14,7 @@ use std::snapshot::Snapshot;
 use tw_ansi::Encoder;
 use tw_input::InputEvent;
 use tw_surface::Change;
-use tw_terminal::{ScreenSize, Terminal, TerminalFault};
+use tw_terminal::{BatchLog, ScreenSize, Terminal, TerminalFault};
 
 /// A terminal over a writer. It has no events, and the size that its owner gives it.
 #[derive(Drop)]
@@ -34,7 +33,7 @@ impl<W: Write> AnsiTerminal<W> {
     pub fn new(alloc: Global, writer: W, size: ScreenSize) -> Self
         ensures { terminal_state result ≡ record { size = size; events = []; batches = []; flushed = 0; failures = 0 } }
     {
-        let batches = BatchLog::Nothing;
+        let batches = BatchLog::new();
         let flushed = Snapshot::of(&batches);
         AnsiTerminal {
             alloc,
@@ -91,7 +90,7 @@ impl<W: Write> AnsiTerminal<W> {
             return Err(Refused::Device);
         }
         self.encoder = encoder;
-        self.batches = self.batches.and(&ChangeLog::of(changes));
+        self.batches = self.batches.with_batch(changes);
         Ok(())
     }
 }

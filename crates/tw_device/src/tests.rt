@@ -1,9 +1,7 @@
 //! What no clause says.
 
-ghost use Rattle.tw_device.specs.Logs.{events_of};
-
+use crate::event_log::EventLog;
 use crate::keys::{EventSource, KeyReader, SourceState};
-use crate::logs::EventLog;
 use crate::reading::{Answer, read_line_from};
 use crate::terminal::AnsiTerminal;
 use std::alloc::Global;
@@ -32,7 +30,7 @@ impl Typed {
             asked: 0,
             refused_call,
             state: SourceState::Going,
-            told: EventLog::Nothing,
+            told: EventLog::new(),
         }
     }
 }
@@ -51,7 +49,7 @@ fn event_of(character: u8) -> InputEvent {
 }
 
 impl EventSource for Typed {
-    ghost told = { λ it. events_of it.told };
+    ghost told = { λ it. it.told };
 
     ghost state = { λ it. it.state };
 
@@ -65,7 +63,7 @@ impl EventSource for Typed {
             Some((first, rest)) => {
                 let event = event_of(*first);
                 self.characters = rest;
-                self.told = self.told.and(&event);
+                self.told = self.told.with_event(&event);
                 Ok(Some(event))
             }
             None => {

@@ -1,2 +1,3 @@
+pub mod BatchLog
 pub mod Script
 pub mod TerminalState

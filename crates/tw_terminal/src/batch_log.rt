@@ -1,4 +1,4 @@
-//! What was rendered, which contracts alone see: it takes no memory, however much it is.
+//! The batches that a terminal took, for contracts alone: they take no memory, however many they are.
 
 ghost use Rattle.std.specs.Prelude.{◌≡◌, ◌∷◌, [], ◌++◌};
 ghost use Rattle.tw_surface.specs.ChangeView.{batch_view, change_view};
@@ -7,29 +7,29 @@ use std::marker::Model;
 use std::snapshot::Snapshot;
 use tw_surface::Change;
 
-/// The changes of a batch.
-#[cycle(taken)]
+/// The changes of a batch, in order.
+#[cycle(changes)]
 #[derive(Drop)]
-pub struct Taken {
-    link: TakenLink,
+pub struct ChangeLog {
+    link: ChangeLink,
 }
 
-#[cycle(taken)]
+#[cycle(changes)]
 #[derive(Drop)]
-enum TakenLink {
+enum ChangeLink {
     Start,
-    Behind(Snapshot<Taken>, Snapshot<Change>),
+    Behind(Snapshot<ChangeLog>, Snapshot<Change>),
 }
 
-impl Model for Taken {
+impl Model for ChangeLog {
     ghost use Rattle.std.specs.Prelude.{length};
     ghost use Rattle.tw_surface.specs.ChangeView.{Batch};
 
     ghost Value = { Batch };
 
-    ghost use Rattle.script_player.specs.Past.{taken_view};
+    ghost use Rattle.tw_terminal.specs.BatchLog.{changes_in};
 
-    ghost view = { λ s. taken_view s.link };
+    ghost view = { λ log. changes_in log.link };
 
     ghost size = { length };
 
@@ -38,57 +38,58 @@ impl Model for Taken {
     ghost size_decreases = { λ a h. Prim.grind (arith, length-append) };
 }
 
-impl Taken {
+impl ChangeLog {
     fn new() -> Self
         ensures { result ≡ [] }
     {
-        Taken {
-            link: TakenLink::Start,
+        ChangeLog {
+            link: ChangeLink::Start,
         }
     }
 
     fn with_change(&self, change: &Change) -> Self
         ensures { result ≡ self.now ++ change_view change.now ∷ [] }
     {
-        Taken {
-            link: TakenLink::Behind(Snapshot::of(self), Snapshot::of(change)),
+        ChangeLog {
+            link: ChangeLink::Behind(Snapshot::of(self), Snapshot::of(change)),
         }
     }
 
     fn of(changes: &[Change]) -> Self
         ensures { result ≡ batch_view changes.now }
     {
-        let mut taken = Taken::new();
+        let mut log = ChangeLog::new();
         for change in changes {
-            taken = taken.with_change(change);
+            log = log.with_change(change);
         }
-        taken
+        log
     }
 }
 
-/// The batches that were rendered.
-#[cycle(past)]
+/// The batches that a terminal took, in order, as its `Terminal::state` needs them. A terminal that keeps no batch
+/// keeps this log in its place; how many are flushed is the length of a `Snapshot` of it.
+#[cycle(batches)]
 #[derive(Drop)]
-pub struct Past {
-    link: PastLink,
+pub struct BatchLog {
+    link: BatchLink,
 }
 
-#[cycle(past)]
+#[cycle(batches)]
 #[derive(Drop)]
-enum PastLink {
+enum BatchLink {
     Start,
-    Behind(Snapshot<Past>, Snapshot<Taken>),
+    Behind(Snapshot<BatchLog>, Snapshot<ChangeLog>),
 }
 
-impl Model for Past {
+impl Model for BatchLog {
     ghost use Rattle.std.specs.Prelude.{List, length};
     ghost use Rattle.tw_surface.specs.ChangeView.{Batch};
 
     ghost Value = { List Batch };
 
-    ghost use Rattle.script_player.specs.Past.{past_view};
+    ghost use Rattle.tw_terminal.specs.BatchLog.{batches_in};
 
-    ghost view = { λ s. past_view s.link };
+    ghost view = { λ log. batches_in log.link };
 
     ghost size = { length };
 
@@ -97,23 +98,23 @@ impl Model for Past {
     ghost size_decreases = { λ a h. Prim.grind (arith, length-append) };
 }
 
-impl Past {
+impl BatchLog {
     /// No batch.
     pub fn new() -> Self
         ensures { result ≡ [] }
     {
-        Past {
-            link: PastLink::Start,
+        BatchLog {
+            link: BatchLink::Start,
         }
     }
 
-    /// One more batch.
+    /// These batches, and one more behind them.
     pub fn with_batch(&self, changes: &[Change]) -> Self
         ensures { result ≡ self.now ++ batch_view changes.now ∷ [] }
     {
-        let taken = Taken::of(changes);
-        Past {
-            link: PastLink::Behind(Snapshot::of(self), Snapshot::of(&taken)),
+        let batch = ChangeLog::of(changes);
+        BatchLog {
+            link: BatchLink::Behind(Snapshot::of(self), Snapshot::of(&batch)),
         }
     }
 }
