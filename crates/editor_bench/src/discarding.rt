@@ -62,11 +62,8 @@ impl Terminal for Discarding {
 
     fn poll_input(&mut self) -> Result<Option<InputEvent>, TerminalFault> {
         let event = self.events.next();
-        if let Some(InputEvent::Resized { cols, rows }) = &event {
-            self.size = ScreenSize {
-                rows: *rows,
-                cols: *cols,
-            };
+        if let Some(event) = &event {
+            self.size = self.size.after(event);
         }
         Ok(event)
     }

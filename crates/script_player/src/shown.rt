@@ -1,8 +1,10 @@
 //! A terminal that shows what is rendered at once.
 
-ghost use Rattle.std.specs.Prelude.{length, map};
+ghost use Rattle.std.specs.Prelude.{◌≡◌, length, map};
 ghost use Rattle.std.specs.Vec.Iter.{into_iter_items};
 ghost use Rattle.tw_input.specs.EventView.{event_view};
+ghost use Rattle.tw_terminal.specs.TerminalState.{fresh_terminal};
+ghost use Rattle.script_player.specs.declared.shown.Played.TheVariants.{Nothing};
 
 use crate::display::play;
 use std::snapshot::Snapshot;
@@ -59,7 +61,11 @@ pub struct ScreenTerminal {
 
 impl ScreenTerminal {
     /// A terminal of this size with these events, on a screen. It takes no memory.
-    pub fn new(size: ScreenSize, events: Vec<InputEvent>, screen: Option<Screen>) -> Self {
+    pub fn new(size: ScreenSize, events: Vec<InputEvent>, screen: Option<Screen>) -> Self
+        ensures state { ⟦<ScreenTerminal as Terminal>⟧.state result ≡
+            fresh_terminal size (map event_view events.items) }
+        ensures shown { result.shown ≡ record { screen = screen; played = Nothing } }
+    {
         let batches = BatchLog::new();
         let flushed = Snapshot::of(&batches);
         ScreenTerminal {
@@ -75,7 +81,9 @@ impl ScreenTerminal {
     }
 
     /// The screen, and what the batches came to on it.
-    pub fn into_shown(self) -> Shown {
+    pub fn into_shown(self) -> Shown
+        ensures { result ≡ self.shown }
+    {
         self.shown
     }
 }
@@ -95,11 +103,8 @@ impl Terminal for ScreenTerminal {
 
     fn poll_input(&mut self) -> Result<Option<InputEvent>, TerminalFault> {
         let event = self.events.next();
-        if let Some(InputEvent::Resized { cols, rows }) = &event {
-            self.size = ScreenSize {
-                rows: *rows,
-                cols: *cols,
-            };
+        if let Some(event) = &event {
+            self.size = self.size.after(event);
         }
         Ok(event)
     }

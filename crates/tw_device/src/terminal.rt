@@ -3,7 +3,7 @@
 ghost use Rattle.std.specs.Io.KnownBytes.{Appends};
 ghost use Rattle.std.specs.Prelude.{◌≡◌, ◌++◌, [], IfOk, OnOk, OnErr, string_bytes};
 ghost use Rattle.tw_surface.specs.ChangeView.{batch_view};
-ghost use Rattle.tw_terminal.specs.TerminalState.{RenderFails, Renders};
+ghost use Rattle.tw_terminal.specs.TerminalState.{fresh_terminal, RenderFails, Renders};
 ghost use Rattle.tw_ansi.specs.Encoding.{sent_batch};
 ghost use Rattle.tw_device.specs.Terminal.{terminal_state};
 
@@ -31,7 +31,7 @@ pub struct AnsiTerminal<W> {
 impl<W: Write> AnsiTerminal<W> {
     /// A terminal of this size, whose cursor stands in column 0.
     pub fn new(alloc: Global, writer: W, size: ScreenSize) -> Self
-        ensures { terminal_state result ≡ record { size = size; events = []; batches = []; flushed = 0; failures = 0 } }
+        ensures { terminal_state result ≡ fresh_terminal size [] }
     {
         let batches = BatchLog::new();
         let flushed = Snapshot::of(&batches);

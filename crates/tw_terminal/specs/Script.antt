@@ -4,7 +4,7 @@ use Rattle.std.specs.Global.{Vec}
 use Rattle.tw_surface.specs.declared.change.Change.{Change}
 use Rattle.tw_surface.specs.ChangeView.{Batch, batch_view}
 use Rattle.tw_input.specs.EventView.{EventView}
-use Rattle.tw_terminal.specs.TerminalState.{TerminalState, size_after, count_up, usize_max}
+use Rattle.tw_terminal.specs.TerminalState.{TerminalState, fresh_terminal, size_after, count_up, usize_max}
 use Rattle.tw_terminal.specs.declared.terminal.ScreenSize.{ScreenSize}
 use Rattle.tw_terminal.specs.declared.script.Fault.{Fault}
 
@@ -17,7 +17,7 @@ pub record Script : Type 0 where
 -- a new script terminal: nothing is rendered, no call was made and none is to fail
 abbrev pub fresh_script : ScreenSize → List EventView → Script
 fresh_script size events = record {
-  terminal = record { size = size; events = events; batches = []; flushed = 0; failures = 0 };
+  terminal = fresh_terminal size events;
   next_call = Some 0;
   fault = None;
 }

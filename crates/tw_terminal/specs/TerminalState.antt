@@ -12,6 +12,10 @@ pub record TerminalState : Type 0 where
   pub flushed : ℕ
   pub failures : ℕ
 
+-- a new terminal: nothing is rendered, and no call has failed
+abbrev pub fresh_terminal : ScreenSize → List EventView → TerminalState
+fresh_terminal size events = record { size = size; events = events; batches = []; flushed = 0; failures = 0 }
+
 -- the greatest number of a `usize`
 abbrev pub usize_max : ℕ
 usize_max = 18446744073709551615

@@ -1,6 +1,6 @@
 //! A terminal with a script of events, which keeps what is rendered and fails where it is told to.
 
-ghost use Rattle.std.specs.Prelude.{◌≡◌, ◌≢◌, ◌↔◌, ◌⊎◌, ◌∷◌, [], length, map, take, Some, IfOk, OnOk, OnErr, MatchOption};
+ghost use Rattle.std.specs.Prelude.{◌≡◌, ◌≢◌, ◌↔◌, ◌∷◌, [], length, map, take, Some, IfOk, OnOk, OnErr, MatchOption};
 ghost use Rattle.tw_surface.specs.ChangeView.{batch_view};
 ghost use Rattle.tw_input.specs.EventView.{event_view};
 ghost use Rattle.tw_terminal.specs.TerminalState.{Fails, Takes, IsAtEnd, Renders, RenderFails, Flushes};
@@ -204,9 +204,11 @@ impl Terminal for ScriptTerminal {
 
     /// Takes no memory, so only the call that is to fail is refused.
     fn poll_input(&mut self) -> Result<Option<InputEvent>, TerminalFault>
-        ensures ok { IfOk result (λ event. MatchOption event
-            (IsAtEnd self.old.terminal self.new.terminal)
-            (λ event. Takes (event_view event) self.old.terminal self.new.terminal)) }
+        ensures ok { let before = self.old.terminal in
+            let after = self.new.terminal in
+            IfOk result (λ event. MatchOption event
+            (IsAtEnd before after)
+            (λ event. Takes (event_view event) before after)) }
         ensures err { OnErr result (Fails self.old.terminal self.new.terminal) }
 
         ensures device { (result ≡ Err TerminalFault.Device) ↔ IsDue self.old }
@@ -215,11 +217,8 @@ impl Terminal for ScriptTerminal {
     {
         self.begin_call()?;
         let event = self.events.next();
-        if let Some(InputEvent::Resized { cols, rows }) = &event {
-            self.size = ScreenSize {
-                rows: *rows,
-                cols: *cols,
-            };
+        if let Some(event) = &event {
+            self.size = self.size.after(event);
         }
         Ok(event)
     }

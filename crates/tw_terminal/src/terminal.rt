@@ -3,7 +3,7 @@
 ghost use Rattle.std.specs.Prelude.{◌≡◌, IfOk, OnOk, OnErr, MatchOption};
 ghost use Rattle.tw_surface.specs.ChangeView.{batch_view};
 ghost use Rattle.tw_input.specs.EventView.{event_view};
-ghost use Rattle.tw_terminal.specs.TerminalState.{TerminalState, Fails, Takes, IsAtEnd, Renders, RenderFails, Flushes};
+ghost use Rattle.tw_terminal.specs.TerminalState.{TerminalState, Fails, size_after, Takes, IsAtEnd, Renders, RenderFails, Flushes};
 
 use std::error::Error;
 use std::fmt;
@@ -15,6 +15,21 @@ use tw_surface::Change;
 pub struct ScreenSize {
     pub rows: usize,
     pub cols: usize,
+}
+
+impl ScreenSize {
+    /// The size once an event is taken: a `Resized` tells it, and any other event leaves it.
+    pub fn after(self, event: &InputEvent) -> Self
+        ensures { result ≡ size_after (event_view event.now) self }
+    {
+        match event {
+            InputEvent::Resized { cols, rows } => ScreenSize {
+                rows: *rows,
+                cols: *cols,
+            },
+            InputEvent::Key(_) | InputEvent::Paste(_) | InputEvent::Wake => self,
+        }
+    }
 }
 
 /// Why a terminal refused a call.
@@ -52,9 +67,11 @@ pub trait Terminal {
     /// Takes the first event left, and answers none exactly where none is left. A `Resized` sets the size. A
     /// refused call takes no event.
     fn poll_input(&mut self) -> Result<Option<InputEvent>, TerminalFault>
-        ensures ok { IfOk result (λ event. MatchOption event
-            (IsAtEnd (state self.old) (state self.new))
-            (λ event. Takes (event_view event) (state self.old) (state self.new))) }
+        ensures ok { let before = state self.old in
+            let after = state self.new in
+            IfOk result (λ event. MatchOption event
+            (IsAtEnd before after)
+            (λ event. Takes (event_view event) before after)) }
         ensures err { OnErr result (Fails (state self.old) (state self.new)) };
 
     /// Takes the changes as the last batch. A refused call has taken a beginning of them as one batch, or
