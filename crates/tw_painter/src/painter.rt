@@ -207,9 +207,8 @@ fn cursor_cell(cols: usize, start: (usize, isize), column: usize) -> Option<(usi
     requires some_columns { 0 < cols }
     requires columns { cols ≤ 65535 }
     requires row { nat_abs start.1 ≤ 2147483647 }
-    ensures { MatchOption result
-        (has_cell cols (place_of start) column ≡ false)
-        (λ cell. IsCellAfter cols (place_of start) column (place_of cell)) }
+    ensures { let from = place_of start in
+        MatchOption result (has_cell cols from column ≡ false) (λ cell. IsCellAfter cols from column (place_of cell)) }
 {
     let (x, y) = start;
     let reach = x.checked_add(column)?;

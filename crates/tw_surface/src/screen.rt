@@ -197,7 +197,8 @@ impl Screen {
         ensures played { OnOk result (picture self.new ≡ play_text self.old.width text.now (picture self.old)) }
         ensures refused { OnErr result (self.new ≡ self.old) }
         ensures plain { (result ≡ Err ScreenFault.NotPlain) ↔ (list_all is_plain text.now ≡ false) }
-        ensures range { list_all is_plain text.now ≡ true → ((result ≡ Err ScreenFault.OutOfRange) ↔ IsPastLimit (TextView text.now) self.old) }
+        ensures range { list_all is_plain text.now ≡ true →
+            ((result ≡ Err ScreenFault.OutOfRange) ↔ IsPastLimit (TextView text.now) self.old) }
     {
         if !is_plain_text(text) {
             return Err(ScreenFault::NotPlain);
@@ -234,7 +235,8 @@ impl Screen {
 
     fn clear_to_end(&mut self)
         ensures width { self.new.width ≡ self.old.width }
-        ensures cleared { picture self.new ≡ record (picture self.old) { cell = cleared (picture self.old).cell self.old.row self.old.col } }
+        ensures cleared { let before = picture self.old in
+            picture self.new ≡ record before { cell = cleared before.cell self.old.row self.old.col } }
     {
         self.near.truncate(place_of(self.width, self.row, self.col));
         trim(&mut self.near);

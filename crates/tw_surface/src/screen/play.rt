@@ -74,7 +74,9 @@ fn play_far(far: &mut Vec<Cell>, width: usize, row: usize, col: usize, byte: u8)
     requires ordered { IsInOrder far.old.items }
     ensures played { IsPlayedFar width byte far.old.items row col far.new.items result.0 result.1 }
     ensures within { result.1 ≤ width }
-    ensures sparse { (first : ℕ) → IsBehind byte first (row * width + col) → IsSparse width first far.old.items → IsSparse width first far.new.items }
+    ensures sparse { let place = row * width + col in
+        (first : ℕ) → IsBehind byte first place →
+        IsSparse width first far.old.items → IsSparse width first far.new.items }
     ensures len { vec_len far.new ≤ vec_len far.old + 1 }
     ensures capacity { vec_capacity far.old ≤ vec_capacity far.new }
 {
@@ -101,14 +103,16 @@ fn play_front(
     requires room { HasRoomFor width text.now (row * width + col) near.old far.old }
     ensures count { 0 < result.0 }
     ensures count_most { result.0 ≤ length text.now }
-    ensures played { picture_of width near.new far.new.items result.1 result.2 ≡ played_at width (take result.0 text.now) near.old far.old.items row col }
+    ensures played { let after = picture_of width near.new far.new.items result.1 result.2 in
+        after ≡ played_at width (take result.0 text.now) near.old far.old.items row col }
     ensures within { result.2 ≤ width }
     ensures near_len { length near.new ≡ length near.old }
     ensures ascii { All (λ b. b < 128) near.new }
     ensures sparse { IsSparse width (length near.old) far.new.items }
     ensures len { vec_len far.new ≤ vec_len far.old + result.0 }
     ensures capacity { vec_capacity far.old ≤ vec_capacity far.new }
-    ensures place { result.1 * width + result.2 + reach_of width (drop result.0 text.now) ≤ row * width + col + reach_of width text.now }
+    ensures place { let rest = drop result.0 text.now in
+        result.1 * width + result.2 + reach_of width rest ≤ row * width + col + reach_of width text.now }
 {
     let room = near.len().saturating_sub(place_of(width, row, col));
     let run = printable_run(&text[..room.min(text.len())]);
@@ -133,7 +137,8 @@ pub fn play_bytes(
     requires row { (played_at width text.now near.old far.old.items start_row start_col).row ≤ 4294967295 }
     requires plain { list_all is_plain text.now ≡ true }
     requires room { HasRoomFor width text.now (start_row * width + start_col) near.old far.old }
-    ensures played { picture_of width near.new far.new.items result.0 result.1 ≡ played_at width text.now near.old far.old.items start_row start_col }
+    ensures played { let after = picture_of width near.new far.new.items result.0 result.1 in
+        after ≡ played_at width text.now near.old far.old.items start_row start_col }
     ensures sound { IsSound width result.0 result.1 near.new far.new.items }
 {
     let mut row = start_row;
