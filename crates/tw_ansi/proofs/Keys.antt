@@ -5,7 +5,8 @@ use Rattle.std.specs.List.{AllByRecursion}
 use Rattle.std.proofs.lemmas.Bool.{ne_eqb, lt-ltb, le-ltb}
 use Rattle.tw_input.specs.declared.key.KeyCode.{KeyCode}
 use Rattle.tw_input.specs.declared.key.KeyCode.TheVariants.{Char, Escape, Insert, Delete, Home, End, PageUp, PageDown, LeftArrow, RightArrow, UpArrow, DownArrow, Function}
-use Rattle.tw_ansi.specs.KeyBytes.{token_at, escape_at, control_at, character_at, behind_escape, key_or, with_control, typed_at, replaced, wide_character, following_len, application_at, found, pressed, none, ctrl, key_in, control_characters}
+use Rattle.tw_input.specs.Modifiers.{none, ctrl}
+use Rattle.tw_ansi.specs.KeyBytes.{token_at, escape_at, control_at, character_at, behind_escape, key_or, with_control, typed_at, replaced, wide_character, following_len, application_at, found, pressed, key_in, control_characters}
 use Rattle.tw_ansi.specs.Sequences.{sequence}
 use Rattle.tw_ansi.specs.KeyLaws.{IsTyped, PrintableKeys, EscapeKey, EscapePair, AltKeys, ControlKeys, ControlLetters, ApplicationKeys, LetterKeys, HeldLetterKeys, NumberKeys, HeldNumberKeys, BackTab}
 

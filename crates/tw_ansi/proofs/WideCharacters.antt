@@ -4,7 +4,8 @@ use Rattle.std.specs.Char.{IsScalar, encode_utf8}
 use Rattle.std.specs.List.{list_all}
 use Rattle.std.proofs.lemmas.Bool.{ne_eqb, lt-ltb, le-ltb, le-leb, lt-leb, and_from, cases_lt}
 use Rattle.tw_input.specs.declared.key.KeyCode.TheVariants.{Char}
-use Rattle.tw_ansi.specs.KeyBytes.{token_at, escape_at, character_at, behind_escape, key_or, with_control, typed_at, replaced, wide_character, whole_character, following_len, is_continuation, code_of, least_code, is_code, found, pressed, none, alt, key_in, control_characters}
+use Rattle.tw_input.specs.Modifiers.{none, alt}
+use Rattle.tw_ansi.specs.KeyBytes.{token_at, escape_at, character_at, behind_escape, key_or, with_control, typed_at, replaced, wide_character, whole_character, following_len, is_continuation, code_of, least_code, is_code, found, pressed, key_in, control_characters}
 use Rattle.tw_ansi.specs.KeyLaws.{IsTyped, CharacterKeys, AltCharacterKeys}
 use Rattle.tw_ansi.proofs.Keys.{none_of, alt_keys}
 

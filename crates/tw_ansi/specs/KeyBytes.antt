@@ -4,26 +4,10 @@ use Rattle.std.specs.List.{list_all, prefix_len, before_first, after_first, star
 use Rattle.std.specs.Option.{option_map}
 use Rattle.tw_input.specs.declared.key.KeyCode.{KeyCode}
 use Rattle.tw_input.specs.declared.key.KeyCode.TheVariants.{Char, Backspace, Tab, Enter, Escape, Insert, Delete, Home, End, PageUp, PageDown, LeftArrow, RightArrow, UpArrow, DownArrow, ApplicationLeftArrow, ApplicationRightArrow, ApplicationUpArrow, ApplicationDownArrow, Function}
-use Rattle.tw_input.specs.Modifiers.{modifier_bits, modifiers_of}
+use Rattle.tw_input.specs.Modifiers.{modifier_bits, modifiers_of, none, shift, alt, ctrl}
 use Rattle.tw_ansi.specs.declared.token.Token.{Token}
 use Rattle.tw_ansi.specs.declared.token.Token.TheVariants.{Key, Size, Paste, Unknown}
 use Rattle.tw_ansi.specs.declared.token.Scanned.{Scanned}
-
--- the bits where no modifier is held
-abbrev pub none : ℕ
-none = 0
-
--- the bits where SHIFT alone is held
-abbrev pub shift : ℕ
-shift = 2
-
--- the bits where ALT alone is held
-abbrev pub alt : ℕ
-alt = 4
-
--- the bits where CTRL alone is held
-abbrev pub ctrl : ℕ
-ctrl = 8
 
 -- a number at which a key's sequence differs from the others of its kind, and the key
 abbrev pub KeyRows : Type 0

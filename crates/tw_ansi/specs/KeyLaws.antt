@@ -5,10 +5,11 @@ use Rattle.std.specs.Fmt.{decimal}
 use Rattle.std.specs.List.{AllByRecursion, list_all}
 use Rattle.tw_input.specs.declared.key.KeyCode.{KeyCode}
 use Rattle.tw_input.specs.declared.key.KeyCode.TheVariants.{Char, Escape, Tab}
+use Rattle.tw_input.specs.Modifiers.{none, shift, alt, ctrl}
 use Rattle.tw_ansi.specs.declared.token.Token.{Token}
 use Rattle.tw_ansi.specs.declared.token.Token.TheVariants.{Size, Paste, Unknown}
 use Rattle.tw_ansi.specs.declared.token.Scanned.{Scanned}
-use Rattle.tw_ansi.specs.KeyBytes.{token_at, found, pressed, none, shift, alt, ctrl, behind_escape, key_in, control_characters, application_keys, letter_keys, number_keys, most, paste_end, replaced, following_len, is_continuation, is_parameter, is_letter}
+use Rattle.tw_ansi.specs.KeyBytes.{token_at, found, pressed, behind_escape, key_in, control_characters, application_keys, letter_keys, number_keys, most, paste_end, replaced, following_len, is_continuation, is_parameter, is_letter}
 use Rattle.tw_ansi.specs.Sequences.{sequence}
 
 -- an ESC alone is Escape, and may begin another key where bytes follow

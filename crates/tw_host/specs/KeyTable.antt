@@ -5,25 +5,9 @@ use Rattle.tw_input.specs.declared.key.KeyCode.{KeyCode}
 use Rattle.tw_input.specs.declared.key.KeyCode.TheVariants.{Char, Backspace, Tab, Enter, Escape, Insert, Delete, Home, End, PageUp, PageDown, LeftArrow, RightArrow, UpArrow, DownArrow, ApplicationLeftArrow, ApplicationRightArrow, ApplicationUpArrow, ApplicationDownArrow, Function}
 use Rattle.tw_input.specs.declared.key.KeyEvent.{KeyEvent}
 use Rattle.tw_input.specs.EventView.{EventView, Key, Resized, Paste, Wake}
-use Rattle.tw_input.specs.Modifiers.{modifier_bits, modifiers_of}
+use Rattle.tw_input.specs.Modifiers.{modifier_bits, modifiers_of, none, shift, alt, ctrl}
 use Rattle.tw_host.specs.ActionView.{ActionView, AcceptLine, Cancel, EndOfFile, InsertChar, InsertText, Repaint, Move, Kill, KillAndMove, HistoryPrevious, HistoryNext, Complete, HistoryIncSearchBackwards, HistoryIncSearchForwards}
 use Rattle.tw_line.specs.declared.movements.Movement.TheVariants as movement
-
--- the bits where no modifier is held
-abbrev pub none : ℕ
-none = 0
-
--- the bits where SHIFT alone is held
-abbrev pub shift : ℕ
-shift = 2
-
--- the bits where ALT alone is held
-abbrev pub alt : ℕ
-alt = 4
-
--- the bits where CTRL alone is held
-abbrev pub ctrl : ℕ
-ctrl = 8
 
 -- a key with the bits of its modifiers
 abbrev pub pressed : ℕ → KeyCode → KeyEvent

@@ -3,8 +3,9 @@
 ghost use Rattle.std.specs.Prelude.{◌≡◌, IfOk, OnErr};
 ghost use Rattle.std.specs.Option.{option_map};
 ghost use Rattle.tw_input.specs.EventView.{event_view};
+ghost use Rattle.tw_input.specs.Modifiers.{none, alt, ctrl};
 ghost use Rattle.tw_host.specs.ActionView.{action_view};
-ghost use Rattle.tw_host.specs.KeyTable.{IsPaste, action_of, key_action_of, typed_code, pressed, none, alt, ctrl};
+ghost use Rattle.tw_host.specs.KeyTable.{IsPaste, action_of, key_action_of, typed_code, pressed};
 
 use crate::actions::Action;
 use std::alloc::{AllocError, Global};

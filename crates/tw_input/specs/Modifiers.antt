@@ -10,6 +10,22 @@ modifier_bits modifiers = modifiers.0
 abbrev pub modifiers_of : ℕ → Modifiers
 modifiers_of bits = record { 0 = bits }
 
+-- the bits where no modifier is held
+abbrev pub none : ℕ
+none = 0
+
+-- the bits where SHIFT alone is held
+abbrev pub shift : ℕ
+shift = 2
+
+-- the bits where ALT alone is held
+abbrev pub alt : ℕ
+alt = 4
+
+-- the bits where CTRL alone is held
+abbrev pub ctrl : ℕ
+ctrl = 8
+
 -- the name and the bits of each modifier
 abbrev pub modifier_table : List (List ℕ × ℕ)
-modifier_table = (codes "SHIFT", 2) ∷ (codes "ALT", 4) ∷ (codes "CTRL", 8) ∷ (codes "SUPER", 16) ∷ []
+modifier_table = (codes "SHIFT", shift) ∷ (codes "ALT", alt) ∷ (codes "CTRL", ctrl) ∷ (codes "SUPER", 16) ∷ []
