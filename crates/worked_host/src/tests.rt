@@ -1,5 +1,5 @@
 use super::*;
-use host_testing::{events_of, last_painting, marked_text};
+use host_testing::{last_painting, marked_text, script_events};
 use std::alloc::{AllocError, Global};
 use std::test::Fail;
 use tw_lineedit::{History, LineEditor, LineEditorHost};
@@ -19,7 +19,7 @@ fn host_of_three(alloc: Global) -> Result<CommandHost, AllocError> {
 /// A terminal of 80 columns with the events of a script.
 fn terminal_of(alloc: Global, script: &str) -> Result<ScriptTerminal, Fail> {
     let size = ScreenSize { rows: 24, cols: 80 };
-    Ok(ScriptTerminal::new(alloc, size, events_of(alloc, script)?))
+    Ok(ScriptTerminal::new(alloc, size, script_events(alloc, script)?))
 }
 
 /// What the host reads from a script.
