@@ -12,7 +12,7 @@ use Rattle.tw_surface.specs.Scrolling.{IsWithin, play_on, play_all_on}
 use Rattle.tw_ansi.specs.declared.encode.Encoder.{Encoder}
 use Rattle.tw_ansi.specs.Encoding.{Sent, sent, sent_clear, sent_batch, at_column, parted_from_wait, with_attribute}
 use Rattle.tw_ansi.specs.Sequences.{sequence, set_attribute, set_attributes, set_unless_off, attributes_of, is_off, to_column, to_first_cell, clear_below, clear_all, clear_with, up_a_row}
-use Rattle.tw_ansi.specs.EcmaScreen.{EcmaScreen, receive, receive_all, receive_by, feed_line, return_to_start}
+use Rattle.tw_ansi.specs.EcmaScreen.{EcmaScreen, receive_all, feed_line, return_to_start}
 use Rattle.tw_ansi.specs.EcmaScreen as terminal
 use Rattle.tw_ansi.specs.EcmaLaws.{at_rest, IsColor, IsAttribute}
 use Rattle.tw_ansi.specs.EcmaTexts.{Shows}

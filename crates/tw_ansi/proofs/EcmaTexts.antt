@@ -9,7 +9,7 @@ use Rattle.tw_surface.specs.Scrolling.{IsWithin, scroll, play_text_on}
 use Rattle.tw_ansi.specs.declared.encode.Encoder.{Encoder}
 use Rattle.tw_ansi.specs.Encoding.{Sent, at_column, parted_from_wait, sent_return, sent_feed, sent_byte, sent_columns, begun, sent_plain, sent_clusters, sent_text}
 use Rattle.tw_ansi.specs.Sequences.{to_column}
-use Rattle.tw_ansi.specs.EcmaScreen.{EcmaScreen, receive, receive_all, receive_by, return_to_start, feed_line, write, write_here}
+use Rattle.tw_ansi.specs.EcmaScreen.{EcmaScreen, receive, receive_all, receive_by, return_to_start, feed_line, write_here}
 use Rattle.tw_ansi.specs.EcmaScreen as terminal
 use Rattle.tw_ansi.specs.EcmaTexts.{Shows, PlainTextIsShown}
 use Rattle.tw_ansi.proofs.EcmaSequences.{received, columns_are_reached}

@@ -1,5 +1,5 @@
 -- What was read of some bytes need not be read again.
-use Rattle.std.proofs.Common.{◌≡◌, ◌≢◌, ◌≤◌, ◌<◌, ◌+◌, ◌-◌, ℕ, zero, suc, Bool, true, false, not, ◌&&◌, cond, eqb, List, [], ◌∷◌, ◌++◌, Option, Some, None, IfSome, Result, Ok, Err, IfOk, OnErr, IfErr, take, drop, length, arith, ap, subst, ◌∙◌, sym, refl, inl, inr, ◌⊎◌, length-drop, length-take}
+use Rattle.std.proofs.Common.{◌≡◌, ◌≤◌, ◌<◌, ◌+◌, ◌-◌, ℕ, zero, suc, Bool, true, false, not, ◌&&◌, cond, eqb, List, [], ◌∷◌, ◌++◌, Option, Some, None, IfSome, Result, Ok, Err, IfOk, OnErr, IfErr, take, drop, length, arith, ap, subst, ◌∙◌, sym, refl, inl, inr, ◌⊎◌, length-drop, length-take}
 use Rattle.std.specs.List.{prefix_len, list_all, starts_with}
 use Rattle.std.specs.Option.{option_map, ok_or}
 use Rattle.std.proofs.lemmas.Bool.{cases_lt, and_parts, ne_eqb, eq-eqb, eqb-true, false≢true}

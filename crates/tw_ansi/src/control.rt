@@ -1,9 +1,9 @@
 //! Control sequences: ESC [, parameters and a letter.
 
-ghost use Rattle.std.specs.Prelude.{◌≡◌, ◌+◌, ◌<◌, ◌≤◌, ◌^◌, length, List, [], IfSome, MatchOption};
+ghost use Rattle.std.specs.Prelude.{◌≡◌, ◌+◌, ◌<◌, ◌≤◌, ◌^◌, length, [], IfSome};
 ghost use Rattle.std.specs.List.{list_all, prefix_len, position_or_len};
 ghost use Rattle.tw_input.specs.Modifiers.{modifier_bits};
-ghost use Rattle.tw_ansi.specs.KeyBytes.{is_parameter, is_numeric, is_semicolon, is_letter, number_of, first_number, second_number, held, sequence_key, numbers_token, paste_len, paste_of, sequence_at, ended_at, control_at, number_keys, letter_keys, key_in};
+ghost use Rattle.tw_ansi.specs.KeyBytes.{is_parameter, is_numeric, is_semicolon, number_of, first_number, second_number, held, numbers_token, paste_len, paste_of, sequence_at, ended_at, control_at, number_keys, letter_keys, key_in};
 
 use crate::token::{Scanned, Token, key};
 use bitflags::Flags;

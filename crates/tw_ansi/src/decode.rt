@@ -1,6 +1,6 @@
 //! What the bytes from a terminal say.
 
-ghost use Rattle.std.specs.Prelude.{◌≡◌, ◌+◌, ◌<◌, ◌≤◌, ◌^◌, length, true, IfSome, IsSome};
+ghost use Rattle.std.specs.Prelude.{◌≡◌, ◌+◌, ◌<◌, ◌≤◌, length, true, IfSome, IsSome};
 ghost use Rattle.tw_ansi.specs.KeyBytes.{token_at, escape_at, application_at, application_keys, key_in};
 
 use crate::characters::character_at;
