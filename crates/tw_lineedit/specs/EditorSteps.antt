@@ -4,7 +4,7 @@ use Rattle.tw_surface.specs.ChangeView.{Batch}
 use Rattle.tw_surface.specs.Paintings.{Mark, closing}
 use Rattle.tw_surface.specs.PaintingBatches.{closing_if, clear_batch}
 use Rattle.tw_input.specs.EventView.{EventView}
-use Rattle.tw_terminal.specs.TerminalState.{TerminalState, Fails, Takes, Renders, RenderFails, count_up}
+use Rattle.tw_terminal.specs.TerminalState.{Fails, Takes, Renders, RenderFails, count_up}
 use Rattle.tw_host.specs.ActionView.{ActionView, Repaint}
 use Rattle.tw_host.specs.HostRules.{HostRules}
 use Rattle.tw_painter.specs.EditState.{Inactive}

@@ -4,7 +4,7 @@ use Rattle.tw_surface.specs.ChangeView.{Batch}
 use Rattle.tw_surface.specs.Paintings.{Mark}
 use Rattle.tw_surface.specs.PaintingBatches.{clear_batch}
 use Rattle.tw_input.specs.EventView.{EventView}
-use Rattle.tw_terminal.specs.TerminalState.{TerminalState, count_up, size_after, IsPart}
+use Rattle.tw_terminal.specs.TerminalState.{count_up, size_after, IsPart}
 use Rattle.tw_terminal.specs.declared.terminal.ScreenSize.{ScreenSize}
 use Rattle.tw_host.specs.ActionView.{ActionView}
 use Rattle.tw_host.specs.HostRules.{HostRules, Resolution, or_default}
