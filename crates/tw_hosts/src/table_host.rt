@@ -1,8 +1,7 @@
 //! A host that is plain data.
 
-ghost use Rattle.std.specs.Prelude.{◌≡◌, map, refl, string_bytes};
+ghost use Rattle.std.specs.Prelude.{◌≡◌, refl};
 ghost use Rattle.tw_host.specs.PlainAnswers.{all_overrides, no_plain_left};
-ghost use Rattle.tw_hosts.specs.Hints.{hint_view};
 ghost use Rattle.tw_hosts.specs.TableRules.{TablesView, table_rules, tables_view};
 
 use crate::bindings::{KeyBinding, resolve_key};
