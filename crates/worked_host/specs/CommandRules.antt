@@ -8,7 +8,7 @@ use Rattle.tw_input.specs.declared.key.KeyCode.TheVariants.{Char, Escape}
 use Rattle.tw_input.specs.Modifiers.{none, ctrl}
 use Rattle.tw_lineedit.specs.declared.Movement.TheVariants.{StartOfLine}
 use Rattle.tw_lineedit.specs.Cut.{Cut}
-use Rattle.tw_lineedit.specs.ElementView.{ElementView, Text}
+use Rattle.tw_lineedit.specs.ElementView.{ElementView}
 use Rattle.tw_lineedit.specs.HostRules.{HostRules, Highlight, plain_text, plain_rules}
 use Rattle.tw_lineedit.specs.KeyTable.{pressed}
 use Rattle.tw_hosts.specs.Bindings.{resolved_event}
