@@ -1,6 +1,6 @@
 //! What an editor is to do, as text, and how it does it.
 
-use crate::events::events_of;
+use crate::events::events_named;
 use crate::told::answer_text;
 use script_player::ScriptHost;
 use std::alloc::{AllocError, Global};
@@ -103,7 +103,7 @@ pub fn readings_of<H: LineEditorHost>(
     case: &Case<'_>,
     host: &mut H,
 ) -> Result<(String, ScriptTerminal), Fail> {
-    let events = events_of(alloc, case.events)?;
+    let events = events_named(alloc, case.events)?;
     let mut terminal = ScriptTerminal::new(alloc, case.size, events);
     if let Some((call, taken)) = case.fault {
         terminal.fail_at(call, taken);

@@ -12,5 +12,5 @@ mod told;
 
 pub use case::{Case, case_of, host_of, readings_of, remember_all};
 pub use column_host::ColumnHost;
-pub use events::{events_of, terminal_of};
+pub use events::{events_named, terminal_of};
 pub use told::{answer_text, batches_text, terminal_text, write_batch};

@@ -1,6 +1,6 @@
 //! Histories: how lines are walked through and searched. The cases run over any history.
 
-use crate::support::{Case, case_of, events_of, host_of, readings_of, terminal_of, write_batch};
+use crate::support::{Case, case_of, events_named, host_of, readings_of, terminal_of, write_batch};
 use script_player::{ListHistory, play_all, show_screen};
 use std::alloc::Global;
 use std::process::Abort;
@@ -24,7 +24,7 @@ pub fn told_of<H: LineEditorHost>(
 
 /// Applies the actions one after another with a new editor.
 fn line_after<H: LineEditorHost>(alloc: Global, names: &str, host: &mut H) -> Result<String, Fail> {
-    let events = events_of(alloc, names)?;
+    let events = events_named(alloc, names)?;
     let mut terminal = terminal_of(alloc, 80, "")?;
     let mut editor = LineEditor::new(alloc, &mut terminal)?;
     for event in &events {

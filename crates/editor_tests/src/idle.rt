@@ -1,5 +1,6 @@
 //! Events that have no action.
 
+use crate::support::events_named;
 use std::alloc::Global;
 use std::process::Abort;
 use std::test::Fail;
@@ -75,19 +76,13 @@ fn has_action(event: KeyEvent) -> bool {
     modifiers == Modifiers::CTRL && matches!(key, KeyCode::Char('A' | 'C' | 'D' | 'L'))
 }
 
-fn plain_key(key: KeyCode) -> InputEvent {
-    InputEvent::Key(KeyEvent {
-        key,
-        modifiers: Modifiers::NONE,
-    })
-}
-
 /// Between a character and Enter the event has one painting, which is that of the character once more, and
 /// the answer is the character.
 fn expect_idle(rt: &impl Abort, alloc: Global, event: InputEvent) -> Result<(), Fail> {
     let name = format!(in alloc; "{event:?}")?;
-    let typed = plain_key(KeyCode::Char('a'));
-    let events = vec![in alloc; typed, event, plain_key(KeyCode::Enter)]?;
+    let mut events = events_named(alloc, "a")?;
+    events.push(event)?;
+    events.extend(events_named(alloc, "Enter")?)?;
     let mut terminal = ScriptTerminal::new(alloc, SIZE, events);
     {
         let mut host = NopLineEditorHost::new(alloc);

@@ -4,7 +4,7 @@ ghost use Rattle.std.specs.Prelude.{ℕ, List, map, string_bytes, refl};
 ghost use Rattle.editor_tests.specs.PiecesHost.{Pieces, pieces_rules, preview_override, pieces_is_plain};
 
 use crate::histories::told_of;
-use crate::support::{case_of, events_of, readings_of};
+use crate::support::{case_of, events_named, readings_of};
 use script_player::ScriptHost;
 use std::alloc::{AllocError, Global};
 use std::process::Abort;
@@ -89,7 +89,7 @@ fn long_texts_are_pasted(rt: HostRuntime) -> Result<(), Fail> {
     let text = "xy".repeat(alloc, 50_000)?;
     let mut events = Vec::new(alloc);
     for names in ["", "Home", "Right Enter"] {
-        events.extend(events_of(alloc, names)?)?;
+        events.extend(events_named(alloc, names)?)?;
         events.push(InputEvent::Paste(text.clone()?))?;
     }
     let size = ScreenSize { rows: 24, cols: 80 };

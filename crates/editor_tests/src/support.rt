@@ -1,7 +1,7 @@
 //! Cases whose outcome is compared with a text.
 
 pub use case_player::{
-    Case, answer_text, batches_text, case_of, events_of, host_of, readings_of, remember_all,
+    Case, answer_text, batches_text, case_of, events_named, host_of, readings_of, remember_all,
     terminal_of, terminal_text, write_batch,
 };
 use std::alloc::Global;

@@ -1,7 +1,7 @@
 //! Actions, prompts and lines of an editor, with each request refused in turn.
 
 use crate::marks::mark;
-use case_player::{batches_text, case_of, events_of, host_of, terminal_of};
+use case_player::{batches_text, case_of, events_named, host_of, terminal_of};
 use std::alloc::Global;
 use std::process::Abort;
 use std::test::Fail;
@@ -177,7 +177,7 @@ fn expect_steps(rt: &impl Abort, alloc: Global, lines: &str, wanted: &str) -> Re
     let mut host = host_of(alloc, BasicHistory::new(alloc), &case)?;
     let mut terminal = terminal_of(alloc, 80, "")?;
     let mut editor = LineEditor::new(alloc, &mut terminal)?;
-    for event in &events_of(alloc, case.actions.unwrap_or(""))? {
+    for event in &events_named(alloc, case.actions.unwrap_or(""))? {
         let action = default_action(alloc, event)?.ok_or("no action")?;
         let again = default_action(alloc, event)?.ok_or("no action")?;
         let refusal = step(rt, alloc, &mut editor, &mut host, action, again)?;
@@ -285,7 +285,7 @@ fn prompts_refused_in_turn(rt: HostRuntime) -> Result<(), Fail> {
 #[test]
 fn a_paste_refused_in_turn(rt: HostRuntime) -> Result<(), Fail> {
     let alloc = rt.alloc();
-    for event in &events_of(alloc, "paste:g")? {
+    for event in &events_named(alloc, "paste:g")? {
         mark(alloc)?;
         let made = default_action(alloc, event);
         mark(alloc)?;

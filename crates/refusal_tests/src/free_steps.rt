@@ -1,7 +1,7 @@
 //! Actions of an editor that make no request for memory.
 
 use crate::marks::mark;
-use case_player::{case_of, events_of, host_of, terminal_of};
+use case_player::{case_of, events_named, host_of, terminal_of};
 use std::alloc::{AllocError, Global};
 use std::process::Abort;
 use std::test::Fail;
@@ -30,7 +30,7 @@ fn expect_free(
     let mut host = host_of(alloc, BasicHistory::new(alloc), &case)?;
     let mut terminal = terminal_of(alloc, 80, "")?;
     let mut editor = LineEditor::new(alloc, &mut terminal)?;
-    for event in &events_of(alloc, mode)? {
+    for event in &events_named(alloc, mode)? {
         let action = default_action(alloc, event)?.ok_or("no action")?;
         editor.apply_action(&mut host, action)?;
     }

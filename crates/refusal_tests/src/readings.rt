@@ -1,7 +1,7 @@
 //! Readings of a line with requests for memory refused, beside the same readings with memory.
 
 use crate::marks::mark;
-use case_player::{Case, answer_text, batches_text, events_of};
+use case_player::{Case, answer_text, batches_text, events_named};
 use std::alloc::{AllocError, Global};
 use std::cell::Cell;
 use std::process::Abort;
@@ -92,12 +92,12 @@ struct End {
 
 /// The last reading of a case, and the terminal at last.
 #[derive(Drop)]
-pub struct Reading {
+pub struct LastReading {
     end: End,
     terminal: ScriptTerminal,
 }
 
-impl Reading {
+impl LastReading {
     /// What it answered.
     pub fn answer(&self) -> &Result<Option<String>, Error> {
         &self.end.answer
@@ -135,7 +135,7 @@ impl Reading {
     }
 
     /// Whether another reading came to the same.
-    fn is_as(&self, alloc: Global, other: &Reading) -> Result<bool, AllocError> {
+    fn is_as(&self, alloc: Global, other: &LastReading) -> Result<bool, AllocError> {
         let answer = answer_text(alloc, self.answer())?;
         let wanted = answer_text(alloc, other.answer())?;
         Ok(
@@ -187,8 +187,8 @@ pub fn last_reading<H: LineEditorHost>(
     case: &Case<'_>,
     host: &mut H,
     play: Play,
-) -> Result<Reading, Fail> {
-    let mut events = events_of(alloc, case.events)?;
+) -> Result<LastReading, Fail> {
+    let mut events = events_named(alloc, case.events)?;
     events.truncate(play.events);
     let seen = Cell::new(Seen {
         sizes: 0,
@@ -207,7 +207,7 @@ pub fn last_reading<H: LineEditorHost>(
         script: terminal,
         seen: _,
     } = terminal;
-    Ok(Reading { end, terminal })
+    Ok(LastReading { end, terminal })
 }
 
 /// The batches without a clearing of the screen behind them.
@@ -222,7 +222,7 @@ fn without_clearing(batches: &[Vec<Change>]) -> &[Vec<Change>] {
 }
 
 /// The paintings of a refused reading, and its closing batch where it was rendered: the terminal was flushed then.
-fn parts_of(refused: &Reading) -> (&[Vec<Change>], Option<&[Change]>) {
+fn parts_of(refused: &LastReading) -> (&[Vec<Change>], Option<&[Change]>) {
     let batches = refused.batches();
     if refused.flushes() == 0 {
         return (batches, None);
@@ -235,7 +235,7 @@ fn parts_of(refused: &Reading) -> (&[Vec<Change>], Option<&[Change]>) {
 
 /// Whether a refused reading was stopped where the events of another one end: it painted the same, and closed
 /// likewise. It may have taken one event more, and cleared the screen for that.
-fn stops_at(refused: &Reading, cut: &Reading) -> bool {
+fn stops_at(refused: &LastReading, cut: &LastReading) -> bool {
     let (begun, closing) = parts_of(refused);
     let Some((cut_closing, cut_begun)) = cut.batches().split_last() else {
         return false;
@@ -254,7 +254,7 @@ fn expect_refusal(
     rt: &impl Abort,
     alloc: Global,
     case: &Case<'_>,
-    refused: &Reading,
+    refused: &LastReading,
 ) -> Result<(), Fail> {
     let events = case.events;
     match refused.answer() {
@@ -283,7 +283,7 @@ pub fn expect_reading<H: LineEditorHost>(
     host: &mut H,
     wanted: &str,
 ) -> Result<(), Fail> {
-    let all = events_of(alloc, case.events)?.len();
+    let all = events_named(alloc, case.events)?.len();
     let whole = Play {
         events: all,
         fault: case.fault,
