@@ -2,7 +2,7 @@
 use Rattle.std.specs.Prelude.{ℕ, true, false, List, [], refl}
 use Rattle.std.proofs.lemmas.Bool.{true≢false}
 use Rattle.tw_lineedit.specs.declared.Overrides.{Overrides}
-use Rattle.tw_lineedit.specs.HostRules.{HostRules, plain_text, unresolved}
+use Rattle.tw_lineedit.specs.HostRules.{HostRules, plain_text, no_resolution}
 use Rattle.tw_lineedit.specs.PlainAnswers.{IsPlainBut}
 
 -- the lines of its history, and the column
@@ -18,7 +18,7 @@ column_rules = record {
   preview = λ v line. [];
   highlight = λ v cut. record { elements = plain_text cut.line; column = v.column };
   candidates = λ v cut. [];
-  resolve = λ v event cut. unresolved v cut;
+  resolve = λ v event cut. no_resolution v cut;
 }
 
 -- the highlighted line alone is an answer of its own

@@ -3,7 +3,7 @@ use Rattle.std.specs.Prelude.{ℕ, true, false, List, [], map, refl}
 use Rattle.std.proofs.lemmas.Bool.{true≢false}
 use Rattle.tw_lineedit.specs.declared.Overrides.{Overrides}
 use Rattle.tw_lineedit.specs.ElementView.{ElementView, Text}
-use Rattle.tw_lineedit.specs.HostRules.{HostRules, plain_text, plain_highlight, unresolved}
+use Rattle.tw_lineedit.specs.HostRules.{HostRules, plain_text, plain_highlight, no_resolution}
 use Rattle.tw_lineedit.specs.PlainAnswers.{IsPlainBut}
 
 -- the lines of its history, and the texts of its preview
@@ -19,7 +19,7 @@ pieces_rules = record {
   preview = λ v line. map (λ piece. Text piece) v.pieces;
   highlight = λ v cut. plain_highlight cut;
   candidates = λ v cut. [];
-  resolve = λ v event cut. unresolved v cut;
+  resolve = λ v event cut. no_resolution v cut;
 }
 
 -- the preview alone is an answer of its own

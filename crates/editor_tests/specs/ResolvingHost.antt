@@ -7,20 +7,20 @@ use Rattle.tw_input.specs.EventView.{EventView, Key}
 use Rattle.tw_lineedit.specs.declared.Overrides.{Overrides}
 use Rattle.tw_lineedit.specs.ActionView.{Cancel, NoAction}
 use Rattle.tw_lineedit.specs.Cut.{Cut, cut_at}
-use Rattle.tw_lineedit.specs.HostRules.{HostRules, Resolution, plain_text, plain_highlight, unresolved}
+use Rattle.tw_lineedit.specs.HostRules.{HostRules, Resolution, plain_text, plain_highlight, no_resolution}
 use Rattle.tw_lineedit.specs.PlainAnswers.{IsPlainBut}
 
 -- the first function key makes the line `clear`, and Escape cancels
 abbrev pub on_key : {V : Type 0} → V → KeyCode → Cut → Resolution V
 on_key v (Function number) cut =
-    if number == 1 then record { value = v; cut = cut_at (codes "clear") 5; action = Some NoAction } else unresolved v cut
+    if number == 1 then record { value = v; cut = cut_at (codes "clear") 5; action = Some NoAction } else no_resolution v cut
 on_key v Escape cut = record { value = v; cut = cut; action = Some Cancel }
-on_key v _ cut = unresolved v cut
+on_key v _ cut = no_resolution v cut
 
 -- other events are left to the key table
 abbrev pub on_event : {V : Type 0} → V → EventView → Cut → Resolution V
 on_event v (Key key) cut = on_key v key.key cut
-on_event v _ cut = unresolved v cut
+on_event v _ cut = no_resolution v cut
 
 -- its own resolutions, and all else plain
 abbrev pub resolving_rules : HostRules (List (List ℕ))

@@ -8,7 +8,7 @@ use Rattle.tw_input.specs.EventView.{EventView, Key}
 use Rattle.tw_lineedit.specs.declared.Overrides.{Overrides}
 use Rattle.tw_lineedit.specs.ActionView.{NoAction, Repaint}
 use Rattle.tw_lineedit.specs.Cut.{Cut, cut_at}
-use Rattle.tw_lineedit.specs.HostRules.{HostRules, Highlight, Resolution, plain_text, unresolved}
+use Rattle.tw_lineedit.specs.HostRules.{HostRules, Highlight, Resolution, plain_text, no_resolution}
 use Rattle.tw_lineedit.specs.PlainAnswers.{IsPlainBut}
 
 -- the lines of its history, and whether the cursor was sent away
@@ -29,13 +29,13 @@ on_key v (Function number) cut =
     if number == 1 then record { value = record v { lines = [] }; cut = cut; action = Some NoAction }
     else if number == 2 then record { value = v; cut = cut_at (codes "abc") 1; action = Some NoAction }
     else if number == 3 then record { value = record v { is_away = true }; cut = cut; action = Some Repaint }
-    else unresolved v cut
-on_key v _ cut = unresolved v cut
+    else no_resolution v cut
+on_key v _ cut = no_resolution v cut
 
 -- other events are left to the key table
 abbrev pub on_event : Stray → EventView → Cut → Resolution Stray
 on_event v (Key key) cut = on_key v key.key cut
-on_event v _ cut = unresolved v cut
+on_event v _ cut = no_resolution v cut
 
 -- its own keys and its own column, and all else plain
 abbrev pub stray_rules : HostRules Stray

@@ -6,7 +6,7 @@ use Rattle.tw_lineedit.specs.declared.Overrides.{Overrides}
 use Rattle.tw_lineedit.specs.Cut.{Cut}
 use Rattle.tw_lineedit.specs.CandidateView.{CandidateView}
 use Rattle.tw_lineedit.specs.ElementView.{ElementView, Attribute, Text}
-use Rattle.tw_lineedit.specs.HostRules.{HostRules, plain_text, unresolved}
+use Rattle.tw_lineedit.specs.HostRules.{HostRules, plain_text, no_resolution}
 use Rattle.tw_lineedit.specs.PlainAnswers.{IsPlainBut}
 
 -- the lines of the history, the text of the preview, the candidates, and the column where it is always the same
@@ -38,7 +38,7 @@ marked_rules = record {
   preview = λ v line. text_unless_empty v.preview;
   highlight = λ v cut. record { elements = two_parts cut; column = column_or v.column cut.cursor };
   candidates = λ v cut. v.candidates;
-  resolve = λ v event cut. unresolved v cut;
+  resolve = λ v event cut. no_resolution v cut;
 }
 
 -- the preview, the highlighted line and the candidates are answers of its own

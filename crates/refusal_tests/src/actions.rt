@@ -189,7 +189,7 @@ fn expect_steps(rt: &impl Abort, alloc: Global, lines: &str, wanted: &str) -> Re
     Ok(())
 }
 
-/// What the later actions come to shows that a refused one left mode, position, kept line and cycle as they were.
+/// What the later actions come to shows that a refused one left mode, index, typed line and cycle as they were.
 #[test]
 fn actions_refused_in_turn(rt: HostRuntime) -> Result<(), Fail> {
     let mut count = 0u32;

@@ -7,8 +7,8 @@ use Rattle.tw_lineedit.specs.HostRules.{HostRules}
 use Rattle.tw_lineedit.specs.EditState.{EditState}
 use Rattle.tw_lineedit.specs.Refusal.{Refusal}
 use Rattle.tw_lineedit.specs.Outcomes.{Outcome, is_over}
-use Rattle.tw_lineedit.specs.Painting.{Rendered}
-use Rattle.tw_lineedit.specs.Run.{Progress, Ending, Moment, Cause, painting_at, state_after, shown, handled, at_end, after_event, at_event, run, run_of, CanStop, unmeasured, unpainted, half_painted, unpolled, uncopied, unresolved, unapplied, half_cleared, later}
+use Rattle.tw_lineedit.specs.Painting.{Rendering}
+use Rattle.tw_lineedit.specs.Run.{Progress, Ending, Moment, Cause, painting_at, state_after, after_painting, after_action, at_end, after_event, at_event, run, run_of, CanStop, unmeasured, unpainted, half_painted, unpolled, uncopied, unresolved, unapplied, half_cleared, later}
 use Rattle.tw_lineedit.specs.Reading.{start, Reads, FailsToRead, Starves, Halts, ClosesBadly}
 use Rattle.tw_lineedit.specs.declared.Error.{Error}
 use Rattle.tw_lineedit.specs.declared.Error.TheVariants.{Memory, Terminal}
@@ -16,7 +16,7 @@ use Rattle.script_player.specs.NewEditor.{IsSteady}
 
 module _ {V : Type 0} (rules : HostRules V) (steady : IsSteady rules) where
   -- where no event is left
-  at_end-value : (s : Progress V) (p : Result Rendered Refusal) → (at_end rules s p).value ≡ s.value
+  at_end-value : (s : Progress V) (p : Result Rendering Refusal) → (at_end rules s p).value ≡ s.value
   at_end-value s (Err n) = refl
   at_end-value s (Ok p) = refl
 
@@ -24,7 +24,7 @@ module _ {V : Type 0} (rules : HostRules V) (steady : IsSteady rules) where
   after_event-value : (e : EventView) (es : List EventView) (s : Progress V) (rest : Progress V → Ending V) (r : Result EditState Refusal)
       → ((t : Progress V) → (rest t).value ≡ t.value) → (after_event rules e es s rest r).value ≡ s.value
   after_event-value e es s rest (Err n) h = steady s.value e s.state.cut
-  after_event-value e es s rest (Ok state) h = h (handled rules s e state) ∙ steady s.value e s.state.cut
+  after_event-value e es s rest (Ok state) h = h (after_action rules s e state) ∙ steady s.value e s.state.cut
 
   -- the value of either ending
   value_by : (b : Bool) (x y : Ending V) (v : V) → x.value ≡ v → y.value ≡ v → (cond b x y).value ≡ v
@@ -32,11 +32,11 @@ module _ {V : Type 0} (rules : HostRules V) (steady : IsSteady rules) where
   value_by false x y v p q = q
 
   -- where an event is left
-  at_event-value : (e : EventView) (es : List EventView) (s : Progress V) (rest : Progress V → Ending V) (r : Result Rendered Refusal)
+  at_event-value : (e : EventView) (es : List EventView) (s : Progress V) (rest : Progress V → Ending V) (r : Result Rendering Refusal)
       → ((t : Progress V) → (rest t).value ≡ t.value) → (at_event rules e es s rest r).value ≡ s.value
   at_event-value e es s rest (Err n) h = refl
   at_event-value e es s rest (Ok p) h =
-      value_by (is_over s.state.mode) _ _ s.value refl (after_event-value e es (shown s p) rest (state_after rules (shown s p) e) h)
+      value_by (is_over s.state.mode) _ _ s.value refl (after_event-value e es (after_painting s p) rest (state_after rules (after_painting s p) e) h)
 
   -- at the end of a run
   run-value : (es : List EventView) (s : Progress V) → (run rules es s).value ≡ s.value

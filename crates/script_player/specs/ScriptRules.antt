@@ -5,7 +5,7 @@ use Rattle.tw_lineedit.specs.declared.Overrides.{Overrides}
 use Rattle.script_player.specs.declared.script_host.ScriptHost.{ScriptHost}
 use Rattle.tw_lineedit.specs.CandidateView.{CandidateView, candidate_view}
 use Rattle.tw_lineedit.specs.ElementView.{ElementView}
-use Rattle.tw_lineedit.specs.HostRules.{HostRules, plain_text, plain_highlight, unresolved}
+use Rattle.tw_lineedit.specs.HostRules.{HostRules, plain_text, plain_highlight, no_resolution}
 use Rattle.tw_lineedit.specs.NearestMatch.{last_line}
 use Rattle.tw_lineedit.specs.PlainAnswers.{IsPlainBut}
 
@@ -56,7 +56,7 @@ script_rules = record {
   preview = λ v line. preview_elements v.preview;
   highlight = λ v cut. plain_highlight cut;
   candidates = λ v cut. v.candidates;
-  resolve = λ v event cut. unresolved v cut;
+  resolve = λ v event cut. no_resolution v cut;
 }
 
 -- the preview and the candidates are answers of its own

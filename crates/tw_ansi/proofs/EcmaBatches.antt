@@ -7,10 +7,10 @@ use Rattle.tw_surface.specs.declared.cell.AttributeChange.{AttributeChange}
 use Rattle.tw_surface.specs.declared.cell.CellAttributes.{CellAttributes}
 use Rattle.tw_surface.specs.declared.color.ColorAttribute.{ColorAttribute}
 use Rattle.tw_surface.specs.ChangeView.{Attribute, AllAttributes, Text, ClearScreen, ClearToEndOfScreen, CursorPosition}
-use Rattle.tw_surface.specs.Pictures.{Picture, blank, cleared, cursor_at}
+use Rattle.tw_surface.specs.Pictures.{Picture, blank, cells_cleared_from, cursor_at}
 use Rattle.tw_surface.specs.Scrolling.{IsWithin, play_on, play_all_on}
 use Rattle.tw_ansi.specs.declared.encode.Encoder.{Encoder}
-use Rattle.tw_ansi.specs.Encoding.{Sent, sent, sent_clear, sent_batch, at_column, parted_from_wait, with_attribute}
+use Rattle.tw_ansi.specs.Encoding.{Sent, sent_change, sent_clear, sent_batch, at_column, parted_from_wait, with_attribute}
 use Rattle.tw_ansi.specs.Sequences.{sequence, set_attribute, set_attributes, set_unless_off, attributes_of, is_off, to_column, to_first_cell, clear_below, clear_all, clear_with, up_a_row}
 use Rattle.tw_ansi.specs.EcmaScreen.{EcmaScreen, receive_all, feed_line, return_to_start}
 use Rattle.tw_ansi.specs.EcmaScreen as terminal
@@ -99,7 +99,7 @@ screen_cleared h w e t s some a = record {
 
 -- a picture that is cleared from its cursor on
 abbrev clear_from : Picture → Picture
-clear_from s = record s { cell = cleared s.cell s.row s.col }
+clear_from s = record s { cell = cells_cleared_from s.cell s.row s.col }
 
 blank_or : (b : Bool) (n : ℕ) → n ≡ blank → cond b blank n ≡ blank
 blank_or true n is = refl
@@ -111,12 +111,12 @@ cleared_within h s within = record {
   below = λ r c low. blank_or (ltb s.row r || (eqb s.row r && leb s.col c)) (s.cell r c) (within.below r c low);
 }
 
-cleared_same : (r0 r1 c0 c1 i j : ℕ) (f g : ℕ → ℕ → ℕ) → r0 ≡ r1 → c0 ≡ c1 → f i j ≡ g i j → cleared f r0 c0 i j ≡ cleared g r1 c1 i j
+cleared_same : (r0 r1 c0 c1 i j : ℕ) (f g : ℕ → ℕ → ℕ) → r0 ≡ r1 → c0 ≡ c1 → f i j ≡ g i j → cells_cleared_from f r0 c0 i j ≡ cells_cleared_from g r1 c1 i j
 cleared_same r0 r1 c0 c1 i j f g rows cols same =
-    ap (λ x. cleared f x c0 i j) rows ∙ ap (λ x. cleared f r1 x i j) cols ∙ ap (λ v. cond (ltb r1 i || (eqb r1 i && leb c1 j)) blank v) same
+    ap (λ x. cells_cleared_from f x c0 i j) rows ∙ ap (λ x. cells_cleared_from f r1 x i j) cols ∙ ap (λ v. cond (ltb r1 i || (eqb r1 i && leb c1 j)) blank v) same
 
 clear_inside : (h w : ℕ) (e : Encoder) (t : EcmaScreen) (s : Picture) → Shows h w e t s → s.col < w
-    → Shows h w e (record t { cell = cleared t.cell t.row t.col; reading = terminal.Text }) (clear_from s)
+    → Shows h w e (record t { cell = cells_cleared_from t.cell t.row t.col; reading = terminal.Text }) (clear_from s)
 clear_inside h w e t s a inside =
     let col : t.col ≡ s.col = omega (arith, a.col, inside) in
     record {
@@ -148,16 +148,16 @@ next_row_on m r c (inr above) other =
     ∙ ap (λ x. false || (x && leb 0 c)) (ne_eqb (m + 1) r (λ e. omega (arith, e, above))) ∙ sym (le-ltb m r above)
 
 -- clearing from the next row on clears what clearing from behind the last column does
-edge_cleared : (w r0 r1 edge i j : ℕ) (f g : ℕ → ℕ → ℕ) → r0 ≡ r1 → edge ≡ w → j < w → f i j ≡ g i j → cleared f (r0 + 1) 0 i j ≡ cleared g r1 edge i j
+edge_cleared : (w r0 r1 edge i j : ℕ) (f g : ℕ → ℕ → ℕ) → r0 ≡ r1 → edge ≡ w → j < w → f i j ≡ g i j → cells_cleared_from f (r0 + 1) 0 i j ≡ cells_cleared_from g r1 edge i j
 edge_cleared w r0 r1 edge i j f g rows at left same =
-    ap (λ x. cleared f (x + 1) 0 i j) rows
+    ap (λ x. cells_cleared_from f (x + 1) 0 i j) rows
     ∙ ap (λ x. cond x blank (f i j)) (next_row_on r1 i j (cases_lt r1 i) (cases_eq (r1 + 1) i))
     ∙ ap (λ x. cond x blank (f i j)) (sym (ap (λ x. ltb r1 i || (eqb r1 i && x)) (lt-leb edge j (omega (arith, at, left))) ∙ or_none (ltb r1 i) (eqb r1 i)))
     ∙ ap (λ v. cond (ltb r1 i || (eqb r1 i && leb edge j)) blank v) same
 
 -- the terminal after that, back in the last column
 abbrev back_at_edge : ℕ → EcmaScreen → EcmaScreen
-back_at_edge w t = record { cell = cleared t.cell (t.row + 1) 0; row = t.row + 1 - 1; col = w - 1; waits = false; reading = terminal.Text }
+back_at_edge w t = record { cell = cells_cleared_from t.cell (t.row + 1) 0; row = t.row + 1 - 1; col = w - 1; waits = false; reading = terminal.Text }
 
 edge_received : (h w : ℕ) (color set : ColorAttribute) (t : EcmaScreen) → 0 < w → w < 2 ^ 64 → IsColor color → IsColor set → (t.row + 1 ≡ h → ⊥)
     → receive_all h w ((13 ∷ 10 ∷ clear_with clear_below color set) ++ up_a_row ++ to_column (w - 1)) (at_rest t) ≡ back_at_edge w t
@@ -167,7 +167,7 @@ edge_received h w color set t some small p q more =
     let down : EcmaScreen = record start { row = t.row + 1; waits = false } in
     let scrolls : EcmaScreen = record start { cell = λ r c. cond (ltb (r + 1) h) (t.cell (r + 1) c) blank; waits = false } in
     let fed_is : feed_line h start ≡ down = ap (λ x. cond x scrolls down) (ne_eqb (t.row + 1) h more) in
-    let empty : EcmaScreen = record down { cell = cleared t.cell (t.row + 1) 0 } in
+    let empty : EcmaScreen = record down { cell = cells_cleared_from t.cell (t.row + 1) 0 } in
     let up : EcmaScreen = record empty { row = t.row + 1 - 1 } in
     ap (receive_all h w (clear ++ up_a_row ++ to_column (w - 1))) fed_is
     ∙ received h w (clear ++ up_a_row) (to_column (w - 1)) down
@@ -244,7 +244,7 @@ change_is_shown h w (CursorPosition x y) e t s some small fits a = move_shown h 
 pub batch_is_shown : BatchIsShown
 batch_is_shown h w [] e t s some small fits a = a
 batch_is_shown h w (change ∷ batch) e t s some small fits a =
-    let x : Sent = sent change e in
+    let x : Sent = sent_change change e in
     let first = change_is_shown h w change e t s some small fits.0 a in
     let rest = batch_is_shown h w batch x.next (receive_all h w x.bytes t) (play_on h w change s) some small fits.1 first in
     subst (λ u. Shows h w (sent_batch batch x.next).next u (play_all_on h w batch (play_on h w change s))) (sym (received h w x.bytes (sent_batch batch x.next).bytes t)) rest

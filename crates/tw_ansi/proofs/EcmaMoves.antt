@@ -7,10 +7,10 @@ use Rattle.tw_surface.specs.declared.change.Position.{Position}
 use Rattle.tw_surface.specs.declared.change.Position.TheVariants.{Absolute, Relative}
 use Rattle.tw_surface.specs.ChangeView.{CursorPosition}
 use Rattle.tw_surface.specs.Pictures.{Picture}
-use Rattle.tw_surface.specs.Positions.{moved, at_least_0}
+use Rattle.tw_surface.specs.Positions.{position_after, at_least_0}
 use Rattle.tw_surface.specs.Scrolling.{IsWithin, scroll, play_on}
 use Rattle.tw_ansi.specs.declared.encode.Encoder.{Encoder}
-use Rattle.tw_ansi.specs.Encoding.{sent, at_column, column_of}
+use Rattle.tw_ansi.specs.Encoding.{sent_change, at_column, column_of}
 use Rattle.tw_ansi.specs.Sequences.{to_column, to_row, sequence, most_rows}
 use Rattle.tw_ansi.specs.EcmaScreen.{EcmaScreen, receive, receive_all, receive_by, feed_line, steps}
 use Rattle.tw_ansi.specs.EcmaScreen as terminal
@@ -112,7 +112,7 @@ rows_up m n = by_sign (pos m +ℤ negsuc n) refl
 
 -- the terminal after the bytes that lead to a row
 row_shown : (h w : ℕ) (y : Position) (e : Encoder) (t : EcmaScreen) (s : Picture) → IsReached h y → Shows h w e t s
-    → Rows h w (receive_all h w (to_row y) t) (scroll h (record s { row = at_least_0 (moved y (pos s.row)) }))
+    → Rows h w (receive_all h w (to_row y) t) (scroll h (record s { row = at_least_0 (position_after y (pos s.row)) }))
 row_shown h w (Relative (pos n)) e t s reached a =
     let rows : Rows h w t s = record { within = a.within; cells = a.cells; row = a.row; reading = a.reading } in
     let all : min n most_rows ≡ n = omega (arith, reached) in
@@ -153,15 +153,15 @@ row_shown h w (Absolute row) e t s reached a =
     }))
 
 pub move_shown : (h w : ℕ) (x y : Position) (e : Encoder) (t : EcmaScreen) (s : Picture) → 0 < w → w < 2 ^ 64 → IsReached h y → Shows h w e t s
-    → Shows h w (sent (CursorPosition x y) e).next (receive_all h w (sent (CursorPosition x y) e).bytes t) (play_on h w (CursorPosition x y) s)
+    → Shows h w (sent_change (CursorPosition x y) e).next (receive_all h w (sent_change (CursorPosition x y) e).bytes t) (play_on h w (CursorPosition x y) s)
 move_shown h w x y e t s some small reached a =
     let col : ℕ = column_of x e in
-    let is : column_of x e ≡ min (w - 1) (at_least_0 (moved x (pos s.col))) =
-    ap (λ n. min (n - 1) (at_least_0 (moved x (pos e.x)))) a.cols ∙ ap (λ n. min (w - 1) (at_least_0 (moved x (pos n)))) a.x in
+    let is : column_of x e ≡ min (w - 1) (at_least_0 (position_after x (pos s.col))) =
+    ap (λ n. min (n - 1) (at_least_0 (position_after x (pos e.x)))) a.cols ∙ ap (λ n. min (w - 1) (at_least_0 (position_after x (pos n)))) a.x in
     let inside : column_of x e < w = omega (arith, is, some) in
     let u : EcmaScreen = receive_all h w (to_row y) t in
     let rows = row_shown h w y e t s reached a in
-    let lower : Picture = scroll h (record s { row = at_least_0 (moved y (pos s.row)) }) in
+    let lower : Picture = scroll h (record s { row = at_least_0 (position_after y (pos s.row)) }) in
     let shown = column_shown h w (column_of x e) e u lower inside small a.cols rows in
     subst (λ v. Shows h w (at_column (column_of x e) e) v (play_on h w (CursorPosition x y) s)) (sym (received h w (to_row y) (to_column (column_of x e)) t))
     (subst (λ c. Shows h w (at_column (column_of x e) e) (receive_all h w (to_column (column_of x e)) u) (record lower { col = c })) is shown)

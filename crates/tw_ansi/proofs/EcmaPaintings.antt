@@ -16,7 +16,7 @@ use Rattle.tw_surface.specs.Scenes.Lower.{NoLower, Preview, Search}
 use Rattle.tw_surface.specs.Scrolling.{play_on, play_all_on, play_batches_on}
 use Rattle.tw_surface.specs.PaintingBatches.{clear_batch, clearing, batches_after, shots, closing_of}
 use Rattle.tw_ansi.specs.declared.encode.Encoder.{Encoder}
-use Rattle.tw_ansi.specs.Encoding.{Sent, sent, sent_batch, sent_plain, sent_byte, sent_clusters, sent_text, with_attribute}
+use Rattle.tw_ansi.specs.Encoding.{Sent, sent_change, sent_batch, sent_plain, sent_byte, sent_clusters, sent_text, with_attribute}
 use Rattle.tw_ansi.specs.EcmaLaws.{IsColor, IsAttribute}
 use Rattle.tw_ansi.specs.EcmaBatches.{AreSendable}
 use Rattle.tw_ansi.specs.EcmaPaintings.{IsTyped, IsTypedLower, IsTypedScene, IsShowable, AreAllSendable, sent_batches, PaintingIsSendable, RepaintingIsSendable, ClosingIsSendable, PaintingKnowsColor, RunIsSendable, BatchesAreShown}
@@ -56,7 +56,7 @@ shown_typed w scene t =
     (both_typed (edge_space w place) (lower_changes scene.lower) (space_typed (eqb place.x w)) (lower_typed scene.lower t.lower))
 
 one_sendable : (h w : ℕ) (x : ChangeView) (ys : Batch) (e : Encoder) (s : Picture) → IsTyped x
-    → AreSendable h w (sent x e).next ys (play_on h w x s) → AreSendable h w e (x ∷ ys) s
+    → AreSendable h w (sent_change x e).next ys (play_on h w x s) → AreSendable h w e (x ∷ ys) s
 one_sendable h w (Text text) ys e s a b = (a, b)
 one_sendable h w (Attribute change) ys e s a b = (a, b)
 one_sendable h w (AllAttributes to) ys e s a b = (a, b)
@@ -78,7 +78,7 @@ painting_is_sendable h w scene e s t near color inside = (
 
 pub repainting_is_sendable : RepaintingIsSendable
 repainting_is_sendable h w before scene e s some t near reached color =
-    (reached, painting_is_sendable h w scene (sent (start_move before) e).next (play_on h w (start_move before) s) t near color (omega (arith, some)))
+    (reached, painting_is_sendable h w scene (sent_change (start_move before) e).next (play_on h w (start_move before) s) t near color (omega (arith, some)))
 
 pub closing_is_sendable : ClosingIsSendable
 closing_is_sendable h w m e s some reached color = (reached, ((tt, color, λ edge. absurd (omega (arith, edge, some))), tt))
@@ -110,7 +110,7 @@ set_color (attribute.Invisible to) c a h = h
 set_color (attribute.Foreground to) c a h = h
 set_color (attribute.Background to) c a h = a
 
-one_color : (x : ChangeView) (e : Encoder) → IsTyped x → IsColor e.attributes.background → IsColor (sent x e).next.attributes.background
+one_color : (x : ChangeView) (e : Encoder) → IsTyped x → IsColor e.attributes.background → IsColor (sent_change x e).next.attributes.background
 one_color (Text text) e a h = subst (λ (c : CellAttributes). IsColor c.background) (sym (keeps_text text e a)) h
 one_color (Attribute change) e a h = set_color change e.attributes a h
 one_color (AllAttributes to) e a h = a.1
@@ -121,11 +121,11 @@ one_color (CursorPosition x y) e a h = absurd a
 typed_color : (xs : Batch) (x y : _) (e : Encoder) → AllByRecursion IsTyped xs → IsColor e.attributes.background
     → IsColor (sent_batch (xs ++ CursorPosition x y ∷ []) e).next.attributes.background
 typed_color [] x y e a h = h
-typed_color (z ∷ xs) x y e a h = typed_color xs x y (sent z e).next a.1 (one_color z e a.0 h)
+typed_color (z ∷ xs) x y e a h = typed_color xs x y (sent_change z e).next a.1 (one_color z e a.0 h)
 
 pub painting_knows_color : PaintingKnowsColor
 painting_knows_color w scene e t =
-    typed_color (shown w scene) _ _ (sent (AllAttributes default_attributes) (sent (ClearToEndOfScreen default_color) e).next).next (shown_typed w scene t) tt
+    typed_color (shown w scene) _ _ (sent_change (AllAttributes default_attributes) (sent_change (ClearToEndOfScreen default_color) e).next).next (shown_typed w scene t) tt
 
 -- batches of which the first is sendable, and the others once the known colour is by bytes
 behind : (h w : ℕ) (batch : Batch) (more : List Batch) (e : Encoder) (s : Picture) → AreSendable h w e batch s → IsColor (sent_batch batch e).next.attributes.background
@@ -140,7 +140,7 @@ module _ (h w : ℕ) (some : 0 < w) where
       → AreAllSendable h w d ((start_move (mark_of (painting w before)) ∷ (painting w scene).changes) ∷ rest) r
   one_later before scene rest p q on d r color =
       behind h w (start_move (mark_of (painting w before)) ∷ (painting w scene).changes) rest d r (repainting_is_sendable h w (mark_of (painting w before)) scene d r some q.typed q.near p.back color)
-      (painting_knows_color w scene (sent (start_move (mark_of (painting w before))) d).next q.typed) on
+      (painting_knows_color w scene (sent_change (start_move (mark_of (painting w before))) d).next q.typed) on
 
   -- the first painting, and then the others
   one_first : (scene : Scene) (rest : List Batch) → IsShowable h w scene

@@ -9,7 +9,7 @@ use Rattle.tw_surface.specs.declared.cell.Underline.TheVariants as underline
 use Rattle.tw_surface.specs.declared.cell.Blink.TheVariants as blink
 use Rattle.tw_surface.specs.declared.color.ColorAttribute.{ColorAttribute}
 use Rattle.tw_surface.specs.declared.color.ColorAttribute.TheVariants.{Default, PaletteIndex, TrueColorWithDefaultFallback}
-use Rattle.tw_surface.specs.Pictures.{no_cells, cleared}
+use Rattle.tw_surface.specs.Pictures.{no_cells, cells_cleared_from}
 use Rattle.tw_ansi.specs.Sequences.{sequence, to_column, set_attribute, clear_below, clear_all, clear_with, is_same_color, most_rows}
 use Rattle.tw_ansi.specs.EcmaScreen.{EcmaScreen, receive, receive_all, is_digit, is_parameter, steps, act}
 use Rattle.tw_ansi.specs.EcmaScreen as terminal
@@ -144,7 +144,7 @@ cleared_with h w clear color set f p q does t =
     ]
 
 pub clears_below : ClearsBelow
-clears_below h w color set t p q = cleared_with h w clear_below color set (λ u. record u { cell = cleared u.cell u.row u.col }) p q (λ u. refl) t
+clears_below h w color set t p q = cleared_with h w clear_below color set (λ u. record u { cell = cells_cleared_from u.cell u.row u.col }) p q (λ u. refl) t
 
 pub clears_all : ClearsAll
 clears_all h w color set t p q =

@@ -4,10 +4,10 @@ use Rattle.std.specs.List.{list_all}
 use Rattle.std.proofs.lemmas.Bool.{eq-eqb, ne_eqb, le-leb, lt-leb, cases_lt, cases_Bool, and_parts}
 use Rattle.unicode_segmentation.specs.Grapheme.{graphemes}
 use Rattle.tw_surface.specs.Characters.{is_plain, is_printable}
-use Rattle.tw_surface.specs.Pictures.{Picture, put, play_char}
+use Rattle.tw_surface.specs.Pictures.{Picture, picture_with, play_char}
 use Rattle.tw_surface.specs.Scrolling.{IsWithin, scroll, play_text_on}
 use Rattle.tw_ansi.specs.declared.encode.Encoder.{Encoder}
-use Rattle.tw_ansi.specs.Encoding.{Sent, at_column, parted_from_wait, sent_return, sent_feed, sent_byte, sent_columns, begun, sent_plain, sent_clusters, sent_text}
+use Rattle.tw_ansi.specs.Encoding.{Sent, at_column, parted_from_wait, sent_return, sent_feed, sent_byte, sent_columns, sent_beginning, sent_plain, sent_clusters, sent_text}
 use Rattle.tw_ansi.specs.Sequences.{to_column}
 use Rattle.tw_ansi.specs.EcmaScreen.{EcmaScreen, receive, receive_all, receive_by, return_to_start, feed_line, write_here}
 use Rattle.tw_ansi.specs.EcmaScreen as terminal
@@ -120,18 +120,18 @@ feed_cases h w e t s some small a (inr edge) false is =
     (fed_waiting h w e t u (receive_all h w (to_column (e.cols - 1)) u) s a f (omega (arith, a.edge, edge)) led)
 
 -- what is sent for one column
-one_column : (e : Encoder) (b : ℕ) (x : Sent) → begun e 1 ≡ x → sent_columns e 1 (b ∷ []) ≡ record { bytes = x.bytes ++ b ∷ []; next = x.next }
+one_column : (e : Encoder) (b : ℕ) (x : Sent) → sent_beginning e 1 ≡ x → sent_columns e 1 (b ∷ []) ≡ record { bytes = x.bytes ++ b ∷ []; next = x.next }
 one_column e b x is = ap (λ (y : Sent). let all : Sent = record { bytes = y.bytes ++ b ∷ []; next = y.next } in all) is
 
 -- a printable character
 print_cases : (h w b : ℕ) (e : Encoder) (t : EcmaScreen) (s : Picture) → 0 < w → is_printable b ≡ true → Shows h w e t s
-    → (s.col < w) ⊎ (w ≤ s.col) → (p : Bool) → e.parted ≡ p → Then h w t (sent_columns e 1 (b ∷ [])) (scroll h (put w b s))
+    → (s.col < w) ⊎ (w ≤ s.col) → (p : Bool) → e.parted ≡ p → Then h w t (sent_columns e 1 (b ∷ [])) (scroll h (picture_with w b s))
 print_cases h w b e t s some printable a (inl inside) p is =
     let here : Sent = record { bytes = []; next = at_column (e.x + 1) e } in
     let below : Sent = record { bytes = cond e.parted (13 ∷ 10 ∷ []) []; next = at_column 1 e } in
     let fits = one_column e b here (ap (λ x. cond x here below) (le-leb (e.x + 1) e.cols (omega (arith, a.x, a.cols, inside)))) in
-    let drawn : put w b s ≡ put_here b s = ap (λ x. cond x (put_below b s) (put_here b s)) (ne_eqb s.col w (λ q. omega (arith, q))) in
-    subst (λ x. Then h w t x (scroll h (put w b s))) (sym fits)
+    let drawn : picture_with w b s ≡ put_here b s = ap (λ x. cond x (put_below b s) (put_here b s)) (ne_eqb s.col w (λ q. omega (arith, q))) in
+    subst (λ x. Then h w t x (scroll h (picture_with w b s))) (sym fits)
     (subst (λ x. Shows h w (at_column (e.x + 1) e) (receive h w b t) (scroll h x)) (sym drawn)
     (still h w (at_column (e.x + 1) e) (receive h w b t) (put_here b s) (written_inside h w b e t s a inside printable)))
 print_cases h w b e t s some printable a (inr edge) true is =
@@ -140,7 +140,7 @@ print_cases h w b e t s some printable a (inr edge) true is =
     let led : Sent = record { bytes = 13 ∷ 10 ∷ []; next = at_column 1 e } in
     let to_led : below ≡ led = ap (λ x. let r : Sent = record { bytes = cond x (13 ∷ 10 ∷ []) []; next = at_column 1 e } in r) is in
     let goes = one_column e b led (ap (λ x. cond x here below) (lt-leb (e.x + 1) e.cols (omega (arith, a.x, a.cols, edge))) ∙ to_led) in
-    let drawn : put w b s ≡ put_below b s = ap (λ x. cond x (put_below b s) (put_here b s)) (eq-eqb s.col w (omega (arith, a.edge, edge))) in
+    let drawn : picture_with w b s ≡ put_below b s = ap (λ x. cond x (put_below b s) (put_here b s)) (eq-eqb s.col w (omega (arith, a.edge, edge))) in
     let start : EcmaScreen = return_to_start t in
     let u : EcmaScreen = feed_line h start in
     let f = fed h w start s a.within a.row a.cells in
@@ -149,7 +149,7 @@ print_cases h w b e t s some printable a (inr edge) true is =
     let second : receive h w 10 (receive h w 13 t) ≡ u = ap (receive h w 10) first ∙ feed_received h w start a.reading in
     let third : receive h w b u ≡ write_here w b u =
     text_write h w b u text printable ∙ ap (λ x. cond x (write_here w b (return_to_start (feed_line h u))) (write_here w b u)) f.waits in
-    subst (λ x. Then h w t x (scroll h (put w b s))) (sym goes)
+    subst (λ x. Then h w t x (scroll h (picture_with w b s))) (sym goes)
     (subst (λ x. Shows h w (at_column 1 e) (receive h w b (receive h w 10 (receive h w 13 t))) (scroll h x)) (sym drawn)
     (subst (λ x. Shows h w (at_column 1 e) x (scroll h (put_below b s))) (sym (ap (receive h w b) second ∙ third))
     (wrapped h w b e start u s a.within some a.cols f f.col text)))
@@ -160,14 +160,14 @@ print_cases h w b e t s some printable a (inr edge) false is =
     let to_plain : below ≡ plain = ap (λ x. let r : Sent = record { bytes = cond x (13 ∷ 10 ∷ []) []; next = at_column 1 e } in r) is in
     let goes = one_column e b plain (ap (λ x. cond x here below) (lt-leb (e.x + 1) e.cols (omega (arith, a.x, a.cols, edge))) ∙ to_plain) in
     let at_edge : eqb s.col w ≡ true = eq-eqb s.col w (omega (arith, a.edge, edge)) in
-    let drawn : put w b s ≡ put_below b s = ap (λ x. cond x (put_below b s) (put_here b s)) at_edge in
+    let drawn : picture_with w b s ≡ put_below b s = ap (λ x. cond x (put_below b s) (put_here b s)) at_edge in
     let u : EcmaScreen = return_to_start (feed_line h t) in
     let f = fed h w t s a.within a.row a.cells in
     let g : Fed h w (return_to_start t) u s = record { cells = f.cells; row = f.row; col = refl; waits = refl; reading = f.reading } in
     let waits : t.waits ≡ true = a.waits ∙ ap (λ x. x && not e.parted) at_edge ∙ ap (λ x. not x) is in
     let third : receive h w b t ≡ write_here w b u =
     text_write h w b t a.reading printable ∙ ap (λ x. cond x (write_here w b u) (write_here w b t)) waits in
-    subst (λ x. Then h w t x (scroll h (put w b s))) (sym goes)
+    subst (λ x. Then h w t x (scroll h (picture_with w b s))) (sym goes)
     (subst (λ x. Shows h w (at_column 1 e) (receive h w b t) (scroll h x)) (sym drawn)
     (subst (λ x. Shows h w (at_column 1 e) x (scroll h (put_below b s))) (sym third)
     (wrapped h w b e (return_to_start t) u s a.within some a.cols g refl (f.reading ∙ a.reading))))
@@ -178,23 +178,23 @@ byte_cases : (h w b : ℕ) (e : Encoder) (t : EcmaScreen) (s : Picture) → 0 < 
     → (eqb b 13 ≡ true) ⊎ (eqb b 13 ≡ false) → (eqb b 10 ≡ true) ⊎ (eqb b 10 ≡ false) → Then h w t (sent_byte e b) (scroll h (play_char w b s))
 byte_cases h w b e t s some small plain a (inl holds) other =
     let typed : Sent = cond (eqb b 10) (sent_feed e) (sent_columns e 1 (b ∷ [])) in
-    let drawn : Picture = cond (eqb b 10) (lower s) (put w b s) in
+    let drawn : Picture = cond (eqb b 10) (lower s) (picture_with w b s) in
     let sent_is : sent_byte e b ≡ sent_return e = ap (λ x. cond x (sent_return e) typed) holds in
     let drawn_is : play_char w b s ≡ record s { col = 0 } = ap (λ x. cond x (record s { col = 0 }) drawn) holds in
     subst (λ x. Then h w t x (scroll h (play_char w b s))) (sym sent_is)
     (subst (λ x. Then h w t (sent_return e) (scroll h x)) (sym drawn_is) (returned h w e t s some a))
 byte_cases h w b e t s some small plain a (inr fails) (inl holds) =
     let typed : Sent = cond (eqb b 10) (sent_feed e) (sent_columns e 1 (b ∷ [])) in
-    let drawn : Picture = cond (eqb b 10) (lower s) (put w b s) in
+    let drawn : Picture = cond (eqb b 10) (lower s) (picture_with w b s) in
     let sent_is : sent_byte e b ≡ sent_feed e = ap (λ x. cond x (sent_return e) typed) fails ∙ ap (λ x. cond x (sent_feed e) (sent_columns e 1 (b ∷ []))) holds in
-    let drawn_is : play_char w b s ≡ lower s = ap (λ x. cond x (record s { col = 0 }) drawn) fails ∙ ap (λ x. cond x (lower s) (put w b s)) holds in
+    let drawn_is : play_char w b s ≡ lower s = ap (λ x. cond x (record s { col = 0 }) drawn) fails ∙ ap (λ x. cond x (lower s) (picture_with w b s)) holds in
     subst (λ x. Then h w t x (scroll h (play_char w b s))) (sym sent_is)
     (subst (λ x. Then h w t (sent_feed e) (scroll h x)) (sym drawn_is) (feed_cases h w e t s some small a (cases_lt s.col w) e.parted refl))
 byte_cases h w b e t s some small plain a (inr fails) (inr neither) =
     let typed : Sent = cond (eqb b 10) (sent_feed e) (sent_columns e 1 (b ∷ [])) in
-    let drawn : Picture = cond (eqb b 10) (lower s) (put w b s) in
+    let drawn : Picture = cond (eqb b 10) (lower s) (picture_with w b s) in
     let sent_is : sent_byte e b ≡ sent_columns e 1 (b ∷ []) = ap (λ x. cond x (sent_return e) typed) fails ∙ ap (λ x. cond x (sent_feed e) (sent_columns e 1 (b ∷ []))) neither in
-    let drawn_is : play_char w b s ≡ put w b s = ap (λ x. cond x (record s { col = 0 }) drawn) fails ∙ ap (λ x. cond x (lower s) (put w b s)) neither in
+    let drawn_is : play_char w b s ≡ picture_with w b s = ap (λ x. cond x (record s { col = 0 }) drawn) fails ∙ ap (λ x. cond x (lower s) (picture_with w b s)) neither in
     let printable : is_printable b ≡ true = ap (λ x. x || is_printable b) (sym (ap (λ x. x || eqb b 10) fails ∙ neither)) ∙ plain in
     subst (λ x. Then h w t x (scroll h (play_char w b s))) (sym sent_is)
     (subst (λ x. Then h w t (sent_columns e 1 (b ∷ [])) (scroll h x)) (sym drawn_is) (print_cases h w b e t s some printable a (cases_lt s.col w) e.parted refl))

@@ -2,7 +2,7 @@
 use Rattle.std.proofs.Common.{◌≡◌, ◌≤◌, ◌<◌, ◌+◌, ◌-◌, ℕ, true, false, not, ◌&&◌, cond, eqb, min, ap, subst, ◌∙◌, sym, refl, inl, inr, ◌⊎◌, arith}
 use Rattle.std.proofs.lemmas.Bool.{eq-eqb, ne_eqb, cases_eq, and_parts, leb-true}
 use Rattle.tw_surface.specs.Characters.{is_printable}
-use Rattle.tw_surface.specs.Pictures.{Picture, written}
+use Rattle.tw_surface.specs.Pictures.{Picture, cells_with}
 use Rattle.tw_surface.specs.Scrolling.{IsWithin, scroll}
 use Rattle.tw_ansi.specs.declared.encode.Encoder.{Encoder}
 use Rattle.tw_ansi.specs.Encoding.{at_column}
@@ -23,13 +23,13 @@ text_write h w b t text printable =
     ∙ ap (λ x. cond x fed last) (ne_eqb b 10 (λ e. omega arith))
     ∙ ap (λ x. cond x (write h w b t) t) printable
 
-written_same : (r0 r1 c0 c1 ch i j : ℕ) (f g : ℕ → ℕ → ℕ) → r0 ≡ r1 → c0 ≡ c1 → f i j ≡ g i j → written f r0 c0 ch i j ≡ written g r1 c1 ch i j
+written_same : (r0 r1 c0 c1 ch i j : ℕ) (f g : ℕ → ℕ → ℕ) → r0 ≡ r1 → c0 ≡ c1 → f i j ≡ g i j → cells_with f r0 c0 ch i j ≡ cells_with g r1 c1 ch i j
 written_same r0 r1 c0 c1 ch i j f g rows cols same =
-    ap (λ x. written f x c0 ch i j) rows ∙ ap (λ x. written f r1 x ch i j) cols ∙ ap (λ v. cond (eqb i r1 && eqb j c1) ch v) same
+    ap (λ x. cells_with f x c0 ch i j) rows ∙ ap (λ x. cells_with f r1 x ch i j) cols ∙ ap (λ v. cond (eqb i r1 && eqb j c1) ch v) same
 
 -- the picture with a character at its cursor
 abbrev pub put_here : ℕ → Picture → Picture
-put_here b s = record { cell = written s.cell s.row s.col b; row = s.row; col = s.col + 1 }
+put_here b s = record { cell = cells_with s.cell s.row s.col b; row = s.row; col = s.col + 1 }
 
 inside_within : (h b : ℕ) (s : Picture) → IsWithin h s → IsWithin h (put_here b s)
 inside_within h b s within = record {
@@ -40,8 +40,8 @@ inside_within h b s within = record {
 inside_cases : (h w b : ℕ) (e : Encoder) (t : EcmaScreen) (s : Picture) → Shows h w e t s → s.col < w → t.waits ≡ false → t.col ≡ s.col
     → (t.col + 1 ≡ w) ⊎ (t.col + 1 ≡ w → ⊥) → Shows h w (at_column (e.x + 1) e) (write_here w b t) (put_here b s)
 inside_cases h w b e t s a inside idle col (inl last) =
-    let ends : EcmaScreen = record t { cell = written t.cell t.row t.col b; waits = true } in
-    let goes : EcmaScreen = record t { cell = written t.cell t.row t.col b; col = t.col + 1 } in
+    let ends : EcmaScreen = record t { cell = cells_with t.cell t.row t.col b; waits = true } in
+    let goes : EcmaScreen = record t { cell = cells_with t.cell t.row t.col b; col = t.col + 1 } in
     let is : write_here w b t ≡ ends = ap (λ x. cond x ends goes) (eq-eqb (t.col + 1) w last) in
     let shown : Shows h w (at_column (e.x + 1) e) ends (put_here b s) = record {
       within = inside_within h b s a.within;
@@ -57,8 +57,8 @@ inside_cases h w b e t s a inside idle col (inl last) =
     } in
     subst (λ u. Shows h w (at_column (e.x + 1) e) u (put_here b s)) (sym is) shown
 inside_cases h w b e t s a inside idle col (inr more) =
-    let ends : EcmaScreen = record t { cell = written t.cell t.row t.col b; waits = true } in
-    let goes : EcmaScreen = record t { cell = written t.cell t.row t.col b; col = t.col + 1 } in
+    let ends : EcmaScreen = record t { cell = cells_with t.cell t.row t.col b; waits = true } in
+    let goes : EcmaScreen = record t { cell = cells_with t.cell t.row t.col b; col = t.col + 1 } in
     let is : write_here w b t ≡ goes = ap (λ x. cond x ends goes) (ne_eqb (t.col + 1) w more) in
     let not_last : s.col + 1 ≡ w → ⊥ = λ e. more (omega (arith, col, e)) in
     let room : s.col + 1 < w = below_from w (s.col + 1) (omega arith) not_last in
@@ -91,7 +91,7 @@ written_inside h w b e t s a inside printable =
 
 -- the picture with a character in the first cell of the next row
 abbrev pub put_below : ℕ → Picture → Picture
-put_below b s = record { cell = written s.cell (s.row + 1) 0 b; row = s.row + 1; col = 1 }
+put_below b s = record { cell = cells_with s.cell (s.row + 1) 0 b; row = s.row + 1; col = 1 }
 
 row_test : (r n k : ℕ) → k ≤ n → (r ≡ n - k) ⊎ (r ≡ n - k → ⊥) → eqb r (n - k) ≡ eqb (r + k) n
 row_test r n k low (inl e) = eq-eqb r (n - k) e ∙ sym (eq-eqb (r + k) n (omega arith))
@@ -108,23 +108,23 @@ below_within h b s within =
     }
 
 below_cells : (h w b : ℕ) (u : EcmaScreen) (t : EcmaScreen) (s : Picture) → Fed h w t u s → s.row < h → (r c : ℕ) → r < h → c < w
-    → written u.cell u.row 0 b r c ≡ written s.cell (s.row + 1) 0 b (r + (s.row + 1 + 1 - h)) c
+    → cells_with u.cell u.row 0 b r c ≡ cells_with s.cell (s.row + 1) 0 b (r + (s.row + 1 + 1 - h)) c
 below_cells h w b u t s fed inside r c low left =
     let k : ℕ = s.row + 1 + 1 - h in
-    ap (λ x. written u.cell x 0 b r c) fed.row
+    ap (λ x. cells_with u.cell x 0 b r c) fed.row
     ∙ ap (λ x. cond (x && eqb c 0) b (u.cell r c)) (row_test r (s.row + 1) (s.row + 1 + 1 - h) (omega (arith, inside)) (cases_eq _ _))
     ∙ ap (λ v. cond (eqb (r + (s.row + 1 + 1 - h)) (s.row + 1) && eqb c 0) b v) (fed.cells r c low left)
 
 wrapped_cases : (h w b : ℕ) (e : Encoder) (t u : EcmaScreen) (s : Picture) → IsWithin h s → 0 < w → e.cols ≡ w → Fed h w t u s → u.col ≡ 0 → u.reading ≡ terminal.Text
     → (u.col + 1 ≡ w) ⊎ (u.col + 1 ≡ w → ⊥) → Shows h w (at_column 1 e) (write_here w b u) (scroll h (put_below b s))
 wrapped_cases h w b e t u s within some cols fed col reading (inl last) =
-    let ends : EcmaScreen = record u { cell = written u.cell u.row u.col b; waits = true } in
-    let goes : EcmaScreen = record u { cell = written u.cell u.row u.col b; col = u.col + 1 } in
+    let ends : EcmaScreen = record u { cell = cells_with u.cell u.row u.col b; waits = true } in
+    let goes : EcmaScreen = record u { cell = cells_with u.cell u.row u.col b; col = u.col + 1 } in
     let is : write_here w b u ≡ ends = ap (λ x. cond x ends goes) (eq-eqb (u.col + 1) w last) in
     let shown : Shows h w (at_column 1 e) ends (scroll h (put_below b s)) = record {
       within = below_within h b s within;
       edge = omega arith;
-      cells = λ r c low left. ap (λ x. written u.cell u.row x b r c) col ∙ below_cells h w b u t s fed within.row r c low left;
+      cells = λ r c low left. ap (λ x. cells_with u.cell u.row x b r c) col ∙ below_cells h w b u t s fed within.row r c low left;
       row = fed.row;
       col = omega (arith, col, last);
       waits = ap (λ x. x && true) (sym (eq-eqb 1 w (omega (arith, col, last))));
@@ -135,14 +135,14 @@ wrapped_cases h w b e t u s within some cols fed col reading (inl last) =
     } in
     subst (λ v. Shows h w (at_column 1 e) v (scroll h (put_below b s))) (sym is) shown
 wrapped_cases h w b e t u s within some cols fed col reading (inr more) =
-    let ends : EcmaScreen = record u { cell = written u.cell u.row u.col b; waits = true } in
-    let goes : EcmaScreen = record u { cell = written u.cell u.row u.col b; col = u.col + 1 } in
+    let ends : EcmaScreen = record u { cell = cells_with u.cell u.row u.col b; waits = true } in
+    let goes : EcmaScreen = record u { cell = cells_with u.cell u.row u.col b; col = u.col + 1 } in
     let is : write_here w b u ≡ goes = ap (λ x. cond x ends goes) (ne_eqb (u.col + 1) w more) in
     let not_one : 1 ≡ w → ⊥ = λ e. more (omega (arith, col, e)) in
     let shown : Shows h w (at_column 1 e) goes (scroll h (put_below b s)) = record {
       within = below_within h b s within;
       edge = omega arith;
-      cells = λ r c low left. ap (λ x. written u.cell u.row x b r c) col ∙ below_cells h w b u t s fed within.row r c low left;
+      cells = λ r c low left. ap (λ x. cells_with u.cell u.row x b r c) col ∙ below_cells h w b u t s fed within.row r c low left;
       row = fed.row;
       col = wide w (u.col) col some not_one;
       waits = fed.waits ∙ ap (λ x. x && true) (sym (ne_eqb 1 w not_one));

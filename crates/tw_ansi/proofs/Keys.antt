@@ -6,7 +6,7 @@ use Rattle.std.proofs.lemmas.Bool.{ne_eqb, lt-ltb, le-ltb}
 use Rattle.tw_input.specs.declared.key.KeyCode.{KeyCode}
 use Rattle.tw_input.specs.declared.key.KeyCode.TheVariants.{Char, Escape, Insert, Delete, Home, End, PageUp, PageDown, LeftArrow, RightArrow, UpArrow, DownArrow, Function}
 use Rattle.tw_input.specs.Modifiers.{none, ctrl}
-use Rattle.tw_ansi.specs.KeyBytes.{token_at, escape_at, control_at, character_at, behind_escape, key_or, with_control, typed_at, replaced, wide_character, following_len, application_at, found, pressed, key_in, control_characters}
+use Rattle.tw_ansi.specs.KeyBytes.{token_at, escape_at, control_at, character_at, behind_escape, key_or, with_control, typed_at, replacement, wide_character, following_len, application_at, scanned_as, key_token, key_in, control_characters}
 use Rattle.tw_ansi.specs.Sequences.{sequence}
 use Rattle.tw_ansi.specs.KeyLaws.{IsTyped, PrintableKeys, EscapeKey, EscapePair, AltKeys, ControlKeys, ControlLetters, ApplicationKeys, LetterKeys, HeldLetterKeys, NumberKeys, HeldNumberKeys, BackTab}
 
@@ -41,7 +41,7 @@ number_keys_typed = (λ l r. refl, (λ l r. refl, (λ l r. refl, (λ l r. refl, 
 pub alt_keys : AltKeys
 unfolding token_at
 alt_keys l b rest e n o =
-    ap (λ t. cond t (found (pressed Escape none) 1) (cond (eqb b 91) (control_at l rest) (cond (eqb b 79) (application_at l rest) (behind_escape (character_at l b rest))))) (ne_eqb b 27 e)
+    ap (λ t. cond t (scanned_as (key_token Escape none) 1) (cond (eqb b 91) (control_at l rest) (cond (eqb b 79) (application_at l rest) (behind_escape (character_at l b rest))))) (ne_eqb b 27 e)
     ∙ ap (λ t. cond t (control_at l rest) (cond (eqb b 79) (application_at l rest) (behind_escape (character_at l b rest)))) (ne_eqb b 91 n)
     ∙ ap (λ t. cond t (application_at l rest) (behind_escape (character_at l b rest))) (ne_eqb b 79 o)
     ∙ ap (λ t. behind_escape (cond t (escape_at l rest) (character_at l b rest))) (sym (ne_eqb b 27 e))
@@ -60,7 +60,7 @@ printable_keys b low high l rest =
     ap (λ t. cond t (escape_at l rest) (character_at l b rest)) (ne_eqb b 27 (λ e. omega arith))
     ∙ ap (λ o. key_or o (cond (ltb b 32) (with_control b) (typed_at l b rest))) (no_row b low high)
     ∙ ap (λ t. cond t (with_control b) (typed_at l b rest)) (le-ltb b 32 low)
-    ∙ ap (λ t. cond t (found (pressed (Char b) none) 1) (cond (ltb b 194 || leb 245 b) replaced (wide_character l b (take (following_len b) rest)))) (lt-ltb b 127 high)
+    ∙ ap (λ t. cond t (scanned_as (key_token (Char b) none) 1) (cond (ltb b 194 || leb 245 b) replacement (wide_character l b (take (following_len b) rest)))) (lt-ltb b 127 high)
 
 pub control_letters : ControlLetters
 unfolding token_at
@@ -68,7 +68,7 @@ control_letters b low high none_in l rest =
     ap (λ t. cond t (escape_at l rest) (character_at l b rest)) (ne_eqb b 27 (λ e. not_escape e))
     ∙ ap (λ o. key_or o (cond (ltb b 32) (with_control b) (typed_at l b rest))) none_in
     ∙ ap (λ t. cond t (with_control b) (typed_at l b rest)) (lt-ltb b 32 high)
-    ∙ ap (λ t. cond t (found (pressed (Char 32) ctrl) 1) (found (pressed (Char (b + 64)) ctrl) 1)) (ne_eqb b 0 (λ e. omega arith))
+    ∙ ap (λ t. cond t (scanned_as (key_token (Char 32) ctrl) 1) (scanned_as (key_token (Char (b + 64)) ctrl) 1)) (ne_eqb b 0 (λ e. omega arith))
   where
     not_escape : b ≡ 27 → ⊥
     not_escape e = let has : key_in control_characters b ≡ Some Escape = ap (key_in control_characters) e in absurd (cc (none_in, has))

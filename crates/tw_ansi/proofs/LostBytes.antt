@@ -4,7 +4,7 @@ use Rattle.std.specs.Char.{IsScalar, encode_utf8}
 use Rattle.std.specs.List.{list_all}
 use Rattle.std.proofs.lemmas.Bool.{ltb-true, ltb-false, leb-true, leb-false, lt-ltb, le-leb, and_parts, and_left, and_right, or_parts, or_left, or_right, not-false, cases_lt}
 use Rattle.tw_ansi.specs.declared.token.Scanned.{Scanned}
-use Rattle.tw_ansi.specs.KeyBytes.{replaced, wide_character, whole_character, following_len, is_continuation, code_of, least_code, is_code, unless_last}
+use Rattle.tw_ansi.specs.KeyBytes.{replacement, wide_character, whole_character, following_len, is_continuation, code_of, least_code, is_code, unless_last}
 use Rattle.tw_ansi.specs.KeyLaws as laws
 use Rattle.tw_ansi.proofs.WideCharacters.{high_byte, encode_two, encode_three, encode_four, one_follows, two_follow, three_follow}
 
@@ -15,7 +15,7 @@ either_way false x y e = e
 
 pub lone_bytes : laws.LoneBytes
 lone_bytes b high alone l rest =
-    high_byte l b rest high ∙ ap (λ t. cond t replaced (wide_character l b (take (following_len b) rest))) (begins_none alone)
+    high_byte l b rest high ∙ ap (λ t. cond t replacement (wide_character l b (take (following_len b) rest))) (begins_none alone)
   where
     begins_none : (b < 194) ⊎ (245 ≤ b) → (ltb b 194 || leb 245 b) ≡ true
     begins_none (inl low) = or_left _ _ (lt-ltb b 194 low)
@@ -30,10 +30,10 @@ fails_at (suc k) d (x ∷ front) rest less fails = and_right (is_continuation x)
 pub cut_characters : laws.CutCharacters
 cut_characters l b d front rest high less fails =
     let bytes = take (following_len b) (front ++ d ∷ rest) in
-    let other = cond (ltb (length bytes) (following_len b)) (unless_last l replaced) (whole_character b bytes) in
+    let other = cond (ltb (length bytes) (following_len b)) (unless_last l replacement) (whole_character b bytes) in
     high_byte l b (front ++ d ∷ rest) high
-    ∙ either_way _ replaced (wide_character l b bytes)
-    (ap (λ t. cond (not t) replaced other) (fails_at (following_len b) d front rest less fails))
+    ∙ either_way _ replacement (wide_character l b bytes)
+    (ap (λ t. cond (not t) replacement other) (fails_at (following_len b) d front rest less fails))
 
 -- the bytes of a character write it
 
@@ -95,16 +95,16 @@ written b xs low high len all least (inr more) (inr four) =
 
 -- a token that is U+FFFD and takes one byte
 record Lost (o : Option Scanned) : Type 0 where
-  pub kept : IfSome o (λ s. Some s ≡ replaced)
+  pub kept : IfSome o (λ s. Some s ≡ replacement)
 
-lost : Lost replaced
+lost : Lost replacement
 lost = record { kept = refl }
 
 lost_if : (t : Bool) (x y : Option Scanned) → (t ≡ true → Lost x) → (t ≡ false → Lost y) → Lost (cond t x y)
 lost_if true x y p q = p refl
 lost_if false x y p q = q refl
 
-waits_or_lost : (l : Bool) → Lost (unless_last l replaced)
+waits_or_lost : (l : Bool) → Lost (unless_last l replacement)
 waits_or_lost true = lost
 waits_or_lost false = record { kept = tt }
 
@@ -130,17 +130,17 @@ following_some l b bytes low high apart =
     let n = following_len b in
     let xs = take n bytes in
     let code : ℕ = code_of b xs in
-    lost_if (not (list_all is_continuation xs)) replaced _ (λ no. lost)
-    (λ yes. lost_if (ltb (length xs) n) (unless_last l replaced) (whole_character b xs) (λ short. waits_or_lost l)
-    (λ long. lost_if (leb (least_code (length xs)) code && is_code code) _ replaced
+    lost_if (not (list_all is_continuation xs)) replacement _ (λ no. lost)
+    (λ yes. lost_if (ltb (length xs) n) (unless_last l replacement) (whole_character b xs) (λ short. waits_or_lost l)
+    (λ long. lost_if (leb (least_code (length xs)) code && is_code code) _ replacement
     (λ whole. let parts = and_parts (leb (least_code (length xs)) code) (is_code code) whole in
     absurd (is_written b n bytes low high refl apart (not-false _ yes) (ltb-false _ _ long) (leb-true _ _ parts.0) parts.1)) (λ no. lost)))
 
 pub lost_bytes : laws.LostBytes
 lost_bytes l b bytes high apart =
     let wide = wide_character l b (take (following_len b) bytes) in
-    let answer : Lost (cond (ltb b 194 || leb 245 b) replaced wide) =
-    lost_if (ltb b 194 || leb 245 b) replaced wide (λ yes. lost)
+    let answer : Lost (cond (ltb b 194 || leb 245 b) replacement wide) =
+    lost_if (ltb b 194 || leb 245 b) replacement wide (λ yes. lost)
     (λ no. following_some l b bytes (ltb-false b 194 (or_parts _ _ no).0) (leb-false 245 b (or_parts _ _ no).1) apart) in
     (subst Lost (sym (high_byte l b bytes high)) answer).kept
 
@@ -158,16 +158,16 @@ waits_if false x y p q = q refl
 following_waits : (b : ℕ) (xs : List ℕ) → Waits (following_len b) xs (wide_character false b xs)
 following_waits b xs =
     let n = following_len b in
-    waits_if (not (list_all is_continuation xs)) replaced _ (λ no. told)
+    waits_if (not (list_all is_continuation xs)) replacement _ (λ no. told)
     (λ yes. waits_if (ltb (length xs) n) None (whole_character b xs) (λ short. record { kept = λ e. (ltb-true _ _ short, not-false _ yes) })
-    (λ long. waits_if (leb (least_code (length xs)) (code_of b xs) && is_code (code_of b xs)) _ replaced (λ whole. told) (λ no. told)))
+    (λ long. waits_if (leb (least_code (length xs)) (code_of b xs) && is_code (code_of b xs)) _ replacement (λ whole. told) (λ no. told)))
 
 pub waits_for_character : laws.WaitsForCharacter
 waits_for_character b bytes high none =
     let n = following_len b in
     let xs = take n bytes in
-    let answer : Waits n xs (cond (ltb b 194 || leb 245 b) replaced (wide_character false b xs)) =
-    waits_if (ltb b 194 || leb 245 b) replaced _ (λ yes. told) (λ no. following_waits b xs) in
+    let answer : Waits n xs (cond (ltb b 194 || leb 245 b) replacement (wide_character false b xs)) =
+    waits_if (ltb b 194 || leb 245 b) replacement _ (λ yes. told) (λ no. following_waits b xs) in
     let parts = answer.kept (sym (high_byte false b bytes high) ∙ none) in
     let short : length bytes < n = omega (arith, parts.0, length-take n bytes) in
     (short, ap (list_all is_continuation) (sym (take_all n bytes (omega arith))) ∙ parts.1)

@@ -9,7 +9,7 @@ use Rattle.tw_input.specs.declared.key.KeyCode.TheVariants.{Char, Escape}
 use Rattle.tw_input.specs.Modifiers.{none}
 use Rattle.tw_ansi.specs.declared.token.Token.TheVariants.{Unknown}
 use Rattle.tw_ansi.specs.declared.token.Scanned.{Scanned}
-use Rattle.tw_ansi.specs.KeyBytes.{token_at, escape_at, control_at, ended_at, sequence_at, paste_at, paste_of, paste_len, application_at, behind_escape, character_at, control_characters, key_in, key_or, typed_at, wide_character, whole_character, following_len, is_continuation, replaced, found, pressed, with_control, is_letter, is_parameter, is_numeric, numbers_token, first_number, second_number}
+use Rattle.tw_ansi.specs.KeyBytes.{token_at, escape_at, control_at, ended_at, sequence_at, paste_at, paste_of, paste_len, application_at, behind_escape, character_at, control_characters, key_in, key_or, typed_at, wide_character, whole_character, following_len, is_continuation, replacement, scanned_as, key_token, with_control, is_letter, is_parameter, is_numeric, numbers_token, first_number, second_number}
 use Rattle.tw_ansi.proofs.Pastes.{paste_more}
 
 -- where the first finds a token the second finds the same
@@ -45,18 +45,18 @@ fails_more (suc k) (x ∷ xs) ys fits h =
 
 wide_same : (l : Bool) (b : ℕ) (following : List ℕ) → Stays (wide_character false b following) (wide_character l b following)
 wide_same l b following =
-    both _ _ _ _ _ (same replaced) (both _ _ _ _ _ (waits (cond l replaced None)) (same (whole_character b following)))
+    both _ _ _ _ _ (same replacement) (both _ _ _ _ _ (waits (cond l replacement None)) (same (whole_character b following)))
 
 wide_short : (l : Bool) (b : ℕ) (bytes more : List ℕ) → length bytes < following_len b → (list_all is_continuation bytes ≡ true) ⊎ (list_all is_continuation bytes ≡ false)
     → Stays (wide_character false b bytes) (wide_character l b (take (following_len b) (bytes ++ more)))
 wide_short l b bytes more short (inl all) =
-    from_none _ _ (ap (λ t. cond (not t) replaced (cond (ltb (length bytes) (following_len b)) None (whole_character b bytes))) all
+    from_none _ _ (ap (λ t. cond (not t) replacement (cond (ltb (length bytes) (following_len b)) None (whole_character b bytes))) all
     ∙ ap (λ t. cond t None (whole_character b bytes)) (lt-ltb _ _ short))
 wide_short l b bytes more short (inr bad) =
     let ys = take (following_len b) (bytes ++ more) in
-    let now : wide_character false b bytes ≡ replaced = ap (λ t. cond (not t) replaced (cond (ltb (length bytes) (following_len b)) None (whole_character b bytes))) bad in
-    let then : wide_character l b ys ≡ replaced = ap (λ t. cond (not t) replaced (cond (ltb (length ys) (following_len b)) (cond l replaced None) (whole_character b ys))) (fails_more (following_len b) bytes more (omega arith) bad) in
-    subst (λ x. Stays x (wide_character l b ys)) (sym now) (along replaced replaced _ then (same replaced))
+    let now : wide_character false b bytes ≡ replacement = ap (λ t. cond (not t) replacement (cond (ltb (length bytes) (following_len b)) None (whole_character b bytes))) bad in
+    let then : wide_character l b ys ≡ replacement = ap (λ t. cond (not t) replacement (cond (ltb (length ys) (following_len b)) (cond l replacement None) (whole_character b ys))) (fails_more (following_len b) bytes more (omega arith) bad) in
+    subst (λ x. Stays x (wide_character l b ys)) (sym now) (along replacement replacement _ then (same replacement))
 
 wide_cases : (l : Bool) (b : ℕ) (bytes more : List ℕ) → (length bytes < following_len b) ⊎ (following_len b ≤ length bytes)
     → Stays (wide_character false b (take (following_len b) bytes)) (wide_character l b (take (following_len b) (bytes ++ more)))
@@ -69,9 +69,9 @@ wide_cases l b bytes more (inr long) =
 
 typed_more : (l : Bool) (b : ℕ) (bytes more : List ℕ) → Stays (typed_at false b bytes) (typed_at l b (bytes ++ more))
 typed_more l b bytes more =
-    let printed : Option Scanned = found (pressed (Char b) none) 1 in
+    let printed : Option Scanned = scanned_as (key_token (Char b) none) 1 in
     both (ltb b 127) printed _ printed _ (same printed)
-    (both (ltb b 194 || leb 245 b) replaced _ replaced _ (same replaced) (wide_cases l b bytes more (cases_lt (length bytes) (following_len b))))
+    (both (ltb b 194 || leb 245 b) replacement _ replacement _ (same replacement) (wide_cases l b bytes more (cases_lt (length bytes) (following_len b))))
 
 key_or_more : (o : Option KeyCode) (x y : Option Scanned) → Stays x y → Stays (key_or o x) (key_or o y)
 key_or_more (Some key) x y h = same _
@@ -97,16 +97,16 @@ paste_of_more l from left longer None p h = waits _
 sequence_more : (l : Bool) (parameters : List ℕ) (letter : ℕ) (bytes more : List ℕ) → Stays (sequence_at false parameters letter bytes) (sequence_at l parameters letter (bytes ++ more))
 sequence_more l parameters letter bytes more =
     let used : ℕ = 3 + length parameters in
-    let token : Option Scanned = found (numbers_token (first_number parameters) (second_number parameters) letter) used in
+    let token : Option Scanned = scanned_as (numbers_token (first_number parameters) (second_number parameters) letter) used in
     let pasted : Stays (paste_at false used bytes) (paste_at l used (bytes ++ more)) =
     paste_of_more l used (length bytes) (length (bytes ++ more)) (paste_len bytes) (paste_len (bytes ++ more)) (paste_more bytes more) in
-    both (not (list_all is_numeric parameters)) (found Unknown used) _ (found Unknown used) _ (same _)
+    both (not (list_all is_numeric parameters)) (scanned_as Unknown used) _ (scanned_as Unknown used) _ (same _)
     (both (eqb letter 126 && eqb (first_number parameters) 200) (paste_at false used bytes) token (paste_at l used (bytes ++ more)) token pasted (same token))
 
 ended_more : (l : Bool) (parameters rest more : List ℕ) → Stays (ended_at false parameters rest) (ended_at l parameters (rest ++ more))
 ended_more l parameters [] more = waits _
 ended_more l parameters (b ∷ bytes) more =
-    let unknown : Option Scanned = found Unknown (2 + length parameters) in
+    let unknown : Option Scanned = scanned_as Unknown (2 + length parameters) in
     both (is_letter b) (sequence_at false parameters b bytes) unknown (sequence_at l parameters b (bytes ++ more)) unknown (sequence_more l parameters b bytes more) (same unknown)
 
 control_cases : (l : Bool) (bytes more : List ℕ) → (prefix_len is_parameter bytes < length bytes) ⊎ (length bytes ≤ prefix_len is_parameter bytes)
@@ -132,7 +132,7 @@ control_cases l bytes more (inr all) =
 
 escape_more : (l : Bool) (b : ℕ) (bytes more : List ℕ) → Stays (escape_at false (b ∷ bytes)) (escape_at l (b ∷ (bytes ++ more)))
 escape_more l b bytes more =
-    let alone : Option Scanned = found (pressed Escape none) 1 in
+    let alone : Option Scanned = scanned_as (key_token Escape none) 1 in
     let typed : Stays (behind_escape (character_at false b bytes)) (behind_escape (character_at l b (bytes ++ more))) = behind_more _ _ (character_more l b bytes more) in
     let applied : Stays _ _ = both (eqb b 79) (application_at false bytes) (behind_escape (character_at false b bytes)) (application_at l (bytes ++ more)) (behind_escape (character_at l b (bytes ++ more))) (application_more l bytes more) typed in
     both (eqb b 27) alone _ alone _ (same alone) (both (eqb b 91) (control_at false bytes) _ (control_at l (bytes ++ more)) _ (control_cases l bytes more (cases_lt _ _)) applied)

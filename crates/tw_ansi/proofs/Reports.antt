@@ -8,7 +8,7 @@ use Rattle.std.proofs.lemmas.Fmt.{decimal_by_steps}
 use Rattle.std.proofs.lemmas.List.Folds.{list_all-append}
 use Rattle.tw_ansi.specs.declared.token.Token.TheVariants.{Size, Paste, Unknown}
 use Rattle.tw_ansi.specs.declared.token.Scanned.{Scanned}
-use Rattle.tw_ansi.specs.KeyBytes.{token_at, control_at, ended_at, paste_of, paste_len, paste_end, numbers_token, first_number, second_number, number_of, value_after, most, is_parameter, is_numeric, is_semicolon, found}
+use Rattle.tw_ansi.specs.KeyBytes.{token_at, control_at, ended_at, paste_of, paste_len, paste_end, numbers_token, first_number, second_number, number_of, value_after, most, is_parameter, is_numeric, is_semicolon, scanned_as}
 use Rattle.tw_ansi.specs.KeyLaws.{CursorReports, PastedTexts}
 
 -- the digits of a number
@@ -128,14 +128,14 @@ unfolding token_at
 cursor_reports row col more small some fits l rest =
     let parameters = decimal row ++ 59 ∷ decimal col in
     let numeric = numbers_are row col small fits in
-    let token : ℕ → ℕ → Option Scanned = λ first second. found (numbers_token first second 82) (3 + length parameters) in
+    let token : ℕ → ℕ → Option Scanned = λ first second. scanned_as (numbers_token first second 82) (3 + length parameters) in
     ap (λ xs. control_at l xs) (append_assoc parameters (82 ∷ []) rest)
     ∙ parameters_end l parameters 82 rest (passes is_numeric is_parameter parameter_if parameters numeric) refl
-    ∙ ap (λ t. cond (not t) (found Unknown (3 + length parameters)) (token (first_number parameters) (second_number parameters))) numeric
+    ∙ ap (λ t. cond (not t) (scanned_as Unknown (3 + length parameters)) (token (first_number parameters) (second_number parameters))) numeric
     ∙ ap (λ n. token n (second_number parameters)) (first_is row (decimal col) small)
     ∙ ap (λ n. token (min row most) n) (second_is row col small fits)
-    ∙ ap (λ t. found t (3 + length parameters)) (is_size (min row most) (min col most) (omega arith) (omega arith))
-    ∙ ap (λ n. found (Size (min col most) (min row most)) n) (omega (arith, length-append parameters (82 ∷ [])))
+    ∙ ap (λ t. scanned_as t (3 + length parameters)) (is_size (min row most) (min col most) (omega arith) (omega arith))
+    ∙ ap (λ n. scanned_as (Size (min col most) (min row most)) n) (omega (arith, length-append parameters (82 ∷ [])))
 
 -- pasted texts
 
@@ -173,4 +173,4 @@ pub pasted_texts : PastedTexts
 unfolding token_at
 pasted_texts text none_in l rest =
     ap (λ o. paste_of l 6 (length (text ++ paste_end ++ rest)) o) (first_end text rest none_in)
-    ∙ ap (λ n. found (Paste 6 (length text)) n) (omega (arith, length-append text paste_end))
+    ∙ ap (λ n. scanned_as (Paste 6 (length text)) n) (omega (arith, length-append text paste_end))

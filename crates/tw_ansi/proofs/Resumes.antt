@@ -9,9 +9,9 @@ use Rattle.std.proofs.lemmas.List.{drop-drop, drop-append-le, take-append-le, ap
 use Rattle.tw_ansi.specs.declared.token.Scanned.{Scanned}
 use Rattle.tw_ansi.specs.declared.resume.Progress.{Progress}
 use Rattle.tw_ansi.specs.declared.resume.Progress.TheVariants.{Start, Parameters, Paste}
-use Rattle.tw_ansi.specs.KeyBytes.{token_at, ended_at, sequence_at, paste_at, paste_of, paste_len, paste_end, is_parameter, is_letter, is_numeric, first_number, second_number, numbers_token, found}
+use Rattle.tw_ansi.specs.KeyBytes.{token_at, ended_at, sequence_at, paste_at, paste_of, paste_len, paste_end, is_parameter, is_letter, is_numeric, first_number, second_number, numbers_token, scanned_as}
 use Rattle.tw_ansi.specs.declared.token.Token.TheVariants.{Unknown}
-use Rattle.tw_ansi.specs.Resuming.{Fits, resumed, parameters_on, paste_on, searched_to, behind_parameters, sequence_start, behind_start, read_on}
+use Rattle.tw_ansi.specs.Resuming.{Fits, token_resumed, parameters_on, paste_on, searched_to, behind_parameters, sequence_start, behind_start, read_on}
 use Rattle.tw_ansi.proofs.Pastes.{starts_long, starts_more}
 use Rattle.tw_ansi.proofs.Tokens.{takes_bytes}
 
@@ -20,8 +20,8 @@ pub fits_start : (bytes : List ℕ) → Fits Start bytes
 fits_start bytes = record { within = omega arith; goes_on = λ l more. refl }
 
 -- going on gives the token of the bytes that are there
-pub goes_here : (p : Progress) (l : Bool) (bytes : List ℕ) → Fits p bytes → resumed p l bytes ≡ token_at l bytes
-goes_here p l bytes f = subst (λ xs. resumed p l xs ≡ token_at l xs) (append-nil bytes) (f.goes_on l [])
+pub goes_here : (p : Progress) (l : Bool) (bytes : List ℕ) → Fits p bytes → token_resumed p l bytes ≡ token_at l bytes
+goes_here p l bytes f = subst (λ xs. token_resumed p l xs ≡ token_at l xs) (append-nil bytes) (f.goes_on l [])
 
 twice : (m n : ℕ) (o : Option ℕ) → option_map (λ k. k + m) (option_map (λ k. k + n) o) ≡ option_map (λ k. k + (n + m)) o
 twice m n None = refl
@@ -128,9 +128,9 @@ ended_begins l m parameters (b ∷ text) more some none =
     let xs = text ++ more in
     let count : length text ≡ length (b ∷ text) - 1 = omega arith in
     let token = numbers_token (first_number parameters) (second_number parameters) b in
-    ap (λ t. cond t (sequence_at m parameters b xs) (found Unknown (2 + length parameters))) letter.0
-    ∙ ap (λ t. cond t (found Unknown used) (cond (eqb b 126 && eqb (first_number parameters) 200) (paste_at m used xs) (found token used))) numeric.0
-    ∙ ap (λ t. cond t (paste_at m used xs) (found token used)) marked.0
+    ap (λ t. cond t (sequence_at m parameters b xs) (scanned_as Unknown (2 + length parameters))) letter.0
+    ∙ ap (λ t. cond t (scanned_as Unknown used) (cond (eqb b 126 && eqb (first_number parameters) 200) (paste_at m used xs) (scanned_as token used))) numeric.0
+    ∙ ap (λ t. cond t (paste_at m used xs) (scanned_as token used)) marked.0
     ∙ ap (λ o. paste_of m used (length xs) o) (sym (at_none (paste_len xs)))
     ∙ sym (paste_further m used 0 (length text - 0 - 5) text more (omega arith) unended (omega arith))
     ∙ ap (λ n. paste_on m used (searched_to 0 n) xs) count
@@ -190,10 +190,10 @@ behind_fits l len bytes inside all is goes none = next (cases_lt all (length res
     next (inl short) =
         let behind : 3 + all ≡ 2 + (all + 1) = omega arith in
         let text : Progress = Paste (3 + all) (searched_to 0 (length rest - all - 1)) in
-        let found : behind_parameters len rest ≡ text =
+        let scanned_as : behind_parameters len rest ≡ text =
         ap (λ n. cond (eqb n (length rest)) (Parameters n) (Paste (3 + n) (searched_to 0 (length rest - n - 1)))) (sym is)
         ∙ ap (λ t. cond t (Parameters all) text) (ne_eqb all (length rest) (λ e. omega (arith, e, short))) in
-        subst (λ p. Fits p bytes) (sym found) (record {
+        subst (λ p. Fits p bytes) (sym scanned_as) (record {
           within = omega (arith, short, many);
           goes_on = λ m more.
               ap (λ xs. paste_on m (3 + all) (searched_to 0 (length rest - all - 1)) xs)
@@ -204,10 +204,10 @@ behind_fits l len bytes inside all is goes none = next (cases_lt all (length res
         })
     next (inr full) =
         let same : all ≡ length rest = omega (arith, full, at_most) in
-        let found : behind_parameters len rest ≡ Parameters all =
+        let scanned_as : behind_parameters len rest ≡ Parameters all =
         ap (λ n. cond (eqb n (length rest)) (Parameters n) (Paste (3 + n) (searched_to 0 (length rest - n - 1)))) (sym is)
         ∙ ap (λ t. cond t (Parameters all) (Paste (3 + all) (searched_to 0 (length rest - all - 1)))) (eq-eqb all (length rest) same) in
-        subst (λ p. Fits p bytes) (sym found) (record {
+        subst (λ p. Fits p bytes) (sym scanned_as) (record {
           within = omega (arith, same, many, inside);
           goes_on = λ m more.
               ap (λ xs. parameters_on m all xs) (split more)
@@ -249,7 +249,7 @@ start_fits l bytes true e none =
     (begins l bytes e ∙ none)
 
 -- what was read of bytes that are no token yet
-read_fits : (p : Progress) (l : Bool) (bytes : List ℕ) → Fits p bytes → resumed p l bytes ≡ None → Fits (read_on p bytes) bytes
+read_fits : (p : Progress) (l : Bool) (bytes : List ℕ) → Fits p bytes → token_resumed p l bytes ≡ None → Fits (read_on p bytes) bytes
 read_fits Start l bytes f none = start_fits l bytes _ refl none
 read_fits (Parameters len) l bytes f none =
     behind_fits l len bytes f.within _ refl
@@ -268,10 +268,10 @@ read_fits (Paste from s) l bytes f none =
           ∙ f.goes_on m more;
     }
 
-module _ (p : Progress) (l : Bool) (bytes : List ℕ) (f : Fits p bytes) (result : Result Scanned Progress) (is : result ≡ ok_or (resumed p l bytes) (read_on p bytes)) where
+module _ (p : Progress) (l : Bool) (bytes : List ℕ) (f : Fits p bytes) (result : Result Scanned Progress) (is : result ≡ ok_or (token_resumed p l bytes) (read_on p bytes)) where
   -- what is answered is the token
   pub is_found : IfOk result (λ s. token_at l bytes ≡ Some s)
-  is_found = subst (λ r. IfOk r (λ s. token_at l bytes ≡ Some s)) (sym is) (found_in (resumed p l bytes) (goes_here p l bytes f))
+  is_found = subst (λ r. IfOk r (λ s. token_at l bytes ≡ Some s)) (sym is) (found_in (token_resumed p l bytes) (goes_here p l bytes f))
     where
       found_in : (o : Option Scanned) → o ≡ token_at l bytes → IfOk (ok_or o (read_on p bytes)) (λ s. token_at l bytes ≡ Some s)
       found_in (Some s) e = sym e
@@ -279,7 +279,7 @@ module _ (p : Progress) (l : Bool) (bytes : List ℕ) (f : Fits p bytes) (result
 
   -- or there is none yet
   pub is_none : OnErr result (token_at l bytes ≡ None)
-  is_none = subst (λ r. OnErr r (token_at l bytes ≡ None)) (sym is) (none_in (resumed p l bytes) (goes_here p l bytes f))
+  is_none = subst (λ r. OnErr r (token_at l bytes ≡ None)) (sym is) (none_in (token_resumed p l bytes) (goes_here p l bytes f))
     where
       none_in : (o : Option Scanned) → o ≡ token_at l bytes → OnErr (ok_or o (read_on p bytes)) (token_at l bytes ≡ None)
       none_in (Some s) e = tt
@@ -287,7 +287,7 @@ module _ (p : Progress) (l : Bool) (bytes : List ℕ) (f : Fits p bytes) (result
 
   -- and what was read fits
   pub is_read : IfErr result (λ q. Fits q bytes)
-  is_read = subst (λ r. IfErr r (λ q. Fits q bytes)) (sym is) (read_in (resumed p l bytes) (read_fits p l bytes f))
+  is_read = subst (λ r. IfErr r (λ q. Fits q bytes)) (sym is) (read_in (token_resumed p l bytes) (read_fits p l bytes f))
     where
       read_in : (o : Option Scanned) → (o ≡ None → Fits (read_on p bytes) bytes) → IfErr (ok_or o (read_on p bytes)) (λ q. Fits q bytes)
       read_in (Some s) h = tt
@@ -295,7 +295,7 @@ module _ (p : Progress) (l : Bool) (bytes : List ℕ) (f : Fits p bytes) (result
 
   -- as far as it can be
   pub is_far : IfErr result (λ q. q ≡ read_on p bytes)
-  is_far = subst (λ r. IfErr r (λ q. q ≡ read_on p bytes)) (sym is) (far_in (resumed p l bytes))
+  is_far = subst (λ r. IfErr r (λ q. q ≡ read_on p bytes)) (sym is) (far_in (token_resumed p l bytes))
     where
       far_in : (o : Option Scanned) → IfErr (ok_or o (read_on p bytes)) (λ q. q ≡ read_on p bytes)
       far_in (Some s) = tt

@@ -8,7 +8,7 @@ use Rattle.tw_input.specs.Modifiers.{none, alt, ctrl}
 use Rattle.tw_ansi.specs.declared.token.Token.{Token}
 use Rattle.tw_ansi.specs.declared.token.Token.TheVariants.{Paste, Unknown}
 use Rattle.tw_ansi.specs.declared.token.Scanned.{Scanned}
-use Rattle.tw_ansi.specs.KeyBytes.{token_at, escape_at, control_at, ended_at, sequence_at, paste_at, paste_of, paste_len, application_at, application_key, application_keys, behind_escape, character_at, control_characters, key_in, key_or, with_control, typed_at, wide_character, whole_character, following_len, replaced, found, pressed, code_of, first_number, second_number, numbers_token, is_parameter}
+use Rattle.tw_ansi.specs.KeyBytes.{token_at, escape_at, control_at, ended_at, sequence_at, paste_at, paste_of, paste_len, application_at, application_key, application_keys, behind_escape, character_at, control_characters, key_in, key_or, with_control, typed_at, wide_character, whole_character, following_len, replacement, scanned_as, key_token, code_of, first_number, second_number, numbers_token, is_parameter}
 use Rattle.tw_ansi.proofs.Pastes.{paste_within}
 
 -- a token takes at least one byte and at most n
@@ -21,22 +21,22 @@ nothing n = record { bounds = tt }
 either : (n : ℕ) (b : Bool) (x y : Option Scanned) → IsWithin n x → IsWithin n y → IsWithin n (cond b x y)
 either n b x y p q = elim b as (λ v. IsWithin n (cond v x y)) [ true ↦ p | false ↦ q ]
 
-taken : (n used : ℕ) (t : Token) → 0 < used → used ≤ n → IsWithin n (found t used)
+taken : (n used : ℕ) (t : Token) → 0 < used → used ≤ n → IsWithin n (scanned_as t used)
 taken n used t some fits = record { bounds = (some, fits) }
 
-one : (n : ℕ) (key : KeyCode) (bits : ℕ) → 0 < n → IsWithin n (found (pressed key bits) 1)
+one : (n : ℕ) (key : KeyCode) (bits : ℕ) → 0 < n → IsWithin n (scanned_as (key_token key bits) 1)
 one n key bits some = record { bounds = (omega arith, omega arith) }
 
 wide_within : (n : ℕ) (l : Bool) (b : ℕ) (following : List ℕ) → 1 + length following ≤ n → IsWithin n (wide_character l b following)
 wide_within n l b following fits =
-    let bad : IsWithin n replaced = one n _ _ (omega arith) in
+    let bad : IsWithin n replacement = one n _ _ (omega arith) in
     let whole : IsWithin n (whole_character b following) =
-    either n _ _ _ (taken n (1 + length following) (pressed (Char (code_of b following)) none) (omega arith) (omega arith)) bad in
-    either n _ _ _ bad (either n _ _ _ (either n l replaced None bad (nothing n)) whole)
+    either n _ _ _ (taken n (1 + length following) (key_token (Char (code_of b following)) none) (omega arith) (omega arith)) bad in
+    either n _ _ _ bad (either n _ _ _ (either n l replacement None bad (nothing n)) whole)
 
 typed_within : (n : ℕ) (l : Bool) (b : ℕ) (bytes : List ℕ) → 1 + length bytes ≤ n → IsWithin n (typed_at l b bytes)
 typed_within n l b bytes fits =
-    let bad : IsWithin n replaced = one n _ _ (omega arith) in
+    let bad : IsWithin n replacement = one n _ _ (omega arith) in
     either n _ _ _ (one n (Char b) none (omega arith))
     (either n _ _ _ bad (wide_within n l b (take (following_len b) bytes) (simp length-take (omega arith))))
 
@@ -59,7 +59,7 @@ application_key_within (Some key) n fits = taken n 3 _ (omega arith) (omega arit
 application_key_within None n fits = taken n 2 _ (omega arith) (omega arith)
 
 application_within : (n : ℕ) (l : Bool) (bytes : List ℕ) → 2 + length bytes ≤ n → IsWithin n (application_at l bytes)
-application_within n l [] fits = either n l _ _ (taken n 2 (pressed (Char 79) alt) (omega arith) (omega arith)) (nothing n)
+application_within n l [] fits = either n l _ _ (taken n 2 (key_token (Char 79) alt) (omega arith) (omega arith)) (nothing n)
 application_within n l (b ∷ bytes) fits = application_key_within (key_in application_keys b) n (omega arith)
 
 paste_of_within : (n : ℕ) (l : Bool) (from left : ℕ) (o : Option ℕ) → 0 < from → from + left ≤ n → IfSome o (λ k. k + 6 ≤ left) → IsWithin n (paste_of l from left o)
@@ -74,7 +74,7 @@ sequence_within n l parameters letter bytes fits =
     either n _ _ _ (taken n used Unknown (omega arith) (omega arith)) (either n _ _ _ pasted (taken n used token (omega arith) (omega arith)))
 
 ended_within : (n : ℕ) (l : Bool) (parameters rest : List ℕ) → 2 + (length parameters + length rest) ≤ n → IsWithin n (ended_at l parameters rest)
-ended_within n l parameters [] fits = either n l _ _ (taken n 2 (pressed (Char 91) alt) (omega arith) (omega arith)) (nothing n)
+ended_within n l parameters [] fits = either n l _ _ (taken n 2 (key_token (Char 91) alt) (omega arith) (omega arith)) (nothing n)
 ended_within n l parameters (b ∷ bytes) fits =
     either n _ _ _ (sequence_within n l parameters b bytes (omega arith)) (taken n (2 + length parameters) Unknown (omega arith) (omega arith))
 
@@ -92,7 +92,7 @@ control_within n l bytes fits =
 escape_within : (n : ℕ) (l : Bool) (bytes : List ℕ) → 1 + length bytes ≤ n → IsWithin n (escape_at l bytes)
 escape_within n l [] fits = one n Escape none (omega arith)
 escape_within n l (b ∷ bytes) fits =
-    let alone : IsWithin n (found (pressed Escape none) 1) = one n Escape none (omega arith) in
+    let alone : IsWithin n (scanned_as (key_token Escape none) 1) = one n Escape none (omega arith) in
     let typed : IsWithin n (behind_escape (character_at l b bytes)) =
     behind_within (1 + length bytes) n _ (omega arith) (character_within _ l b bytes (omega arith)) in
     either n _ _ _ alone (either n _ _ _ (control_within n l bytes (omega arith)) (either n _ _ _ (application_within n l bytes (omega arith)) typed))
@@ -122,11 +122,11 @@ key_or_ends None other h = h
 character_ends : (b : ℕ) (bytes : List ℕ) → Answers (character_at true b bytes)
 character_ends b bytes =
     let following = take (following_len b) bytes in
-    let bad : Answers replaced = yes in
+    let bad : Answers replacement = yes in
     let whole : Answers (whole_character b following) = ends_if _ _ _ yes bad in
-    let short : Answers (cond (ltb (length following) (following_len b)) replaced (whole_character b following)) = ends_if _ _ _ bad whole in
+    let short : Answers (cond (ltb (length following) (following_len b)) replacement (whole_character b following)) = ends_if _ _ _ bad whole in
     let wide : Answers (wide_character true b following) = ends_if _ _ _ bad short in
-    let high : Answers (cond (ltb b 194 || leb 245 b) replaced (wide_character true b following)) = ends_if _ _ _ bad wide in
+    let high : Answers (cond (ltb b 194 || leb 245 b) replacement (wide_character true b following)) = ends_if _ _ _ bad wide in
     let typed : Answers (typed_at true b bytes) = ends_if _ _ _ yes high in
     let control : Answers (with_control b) = ends_if _ _ _ yes yes in
     key_or_ends (key_in control_characters b) (cond (ltb b 32) (with_control b) (typed_at true b bytes)) (ends_if _ _ _ control typed)

@@ -6,17 +6,17 @@ use Rattle.tw_input.specs.declared.key.KeyCode.{KeyCode}
 use Rattle.tw_ansi.specs.declared.token.Token.{Token}
 use Rattle.tw_ansi.specs.declared.token.Token.TheVariants.{Key, Size, Paste, Unknown}
 use Rattle.tw_ansi.specs.declared.token.Scanned.{Scanned}
-use Rattle.tw_ansi.specs.KeyBytes.{token_at, escape_at, control_at, ended_at, sequence_at, paste_at, paste_of, paste_len, application_at, application_key, application_keys, behind_escape, with_alt, character_at, control_characters, key_in, key_or, with_control, typed_at, wide_character, whole_character, following_len, replaced, found, pressed, first_number, second_number, numbers_token, is_numeric, is_parameter, is_letter}
+use Rattle.tw_ansi.specs.KeyBytes.{token_at, escape_at, control_at, ended_at, sequence_at, paste_at, paste_of, paste_len, application_at, application_key, application_keys, behind_escape, with_alt, character_at, control_characters, key_in, key_or, with_control, typed_at, wide_character, whole_character, following_len, replacement, scanned_as, key_token, first_number, second_number, numbers_token, is_numeric, is_parameter, is_letter}
 use Rattle.tw_ansi.specs.KeyLaws.{IsControlSequence, UnknownSequences}
 
 -- a token that is known
 record Known (o : Option Scanned) : Type 0 where
   pub kept : IfSome o (λ s. s.token ≢ Unknown)
 
-no_key : (key : KeyCode) (bits : ℕ) → pressed key bits ≢ Unknown
+no_key : (key : KeyCode) (bits : ℕ) → key_token key bits ≢ Unknown
 no_key key bits e = absurd (cc e)
 
-key : {code : KeyCode} {bits used : ℕ} → Known (found (pressed code bits) used)
+key : {code : KeyCode} {bits used : ℕ} → Known (scanned_as (key_token code bits) used)
 key = record { kept = no_key _ _ }
 
 waits : Known None
@@ -32,9 +32,9 @@ key_or_known None other h = h
 character_known : (l : Bool) (b : ℕ) (bytes : List ℕ) → Known (character_at l b bytes)
 character_known l b bytes =
     let following = take (following_len b) bytes in
-    let bad : Known replaced = key in
+    let bad : Known replacement = key in
     let whole : Known (whole_character b following) = known_if _ _ _ key bad in
-    let wide : Known (wide_character l b following) = known_if _ _ _ bad (known_if _ _ _ (known_if l replaced None bad waits) whole) in
+    let wide : Known (wide_character l b following) = known_if _ _ _ bad (known_if _ _ _ (known_if l replacement None bad waits) whole) in
     let typed : Known (typed_at l b bytes) = known_if _ _ _ key (known_if _ _ _ bad wide) in
     let control : Known (with_control b) = known_if _ _ _ key key in
     key_or_known (key_in control_characters b) (cond (ltb b 32) (with_control b) (typed_at l b bytes)) (known_if _ _ _ control typed)
@@ -62,7 +62,7 @@ paste_known l from left None = known_if l _ _ (record { kept = no_paste from lef
 
 -- what is not known is a sequence at the front of some bytes
 record OnlySequence (bytes : List ℕ) (o : Option Scanned) : Type 0 where
-  pub kept : (used : ℕ) → o ≡ found Unknown used → IsControlSequence (take used bytes)
+  pub kept : (used : ℕ) → o ≡ scanned_as Unknown used → IsControlSequence (take used bytes)
 
 only_if : (bytes : List ℕ) (b : Bool) (x y : Option Scanned) → (b ≡ true → OnlySequence bytes x) → (b ≡ false → OnlySequence bytes y) → OnlySequence bytes (cond b x y)
 only_if bytes true x y p q = p refl
@@ -75,7 +75,7 @@ abbrev used_of : Option Scanned → ℕ
 used_of (Some s) = s.used
 used_of None = 0
 
-taken : (bytes : List ℕ) (t : Token) (used : ℕ) → IsControlSequence (take used bytes) → OnlySequence bytes (found t used)
+taken : (bytes : List ℕ) (t : Token) (used : ℕ) → IsControlSequence (take used bytes) → OnlySequence bytes (scanned_as t used)
 taken bytes t used h = record { kept = λ n e. subst (λ k. IsControlSequence (take k bytes)) (ap used_of e) h }
 
 -- ESC [ and parameters
@@ -109,9 +109,9 @@ sequence_only l parameters letter rest all ends =
     let used : ℕ = 3 + length parameters in
     let token = numbers_token (first_number parameters) (second_number parameters) letter in
     let is = whole parameters letter rest all ends in
-    let told = cond (eqb letter 126 && eqb (first_number parameters) 200) (paste_at l used rest) (found token used) in
-    only_if bytes (not (list_all is_numeric parameters)) (found Unknown used) told (λ no. taken bytes Unknown used is)
-    (λ yes. only_if bytes (eqb letter 126 && eqb (first_number parameters) 200) (paste_at l used rest) (found token used)
+    let told = cond (eqb letter 126 && eqb (first_number parameters) 200) (paste_at l used rest) (scanned_as token used) in
+    only_if bytes (not (list_all is_numeric parameters)) (scanned_as Unknown used) told (λ no. taken bytes Unknown used is)
+    (λ yes. only_if bytes (eqb letter 126 && eqb (first_number parameters) 200) (paste_at l used rest) (scanned_as token used)
     (λ pasted. known bytes _ (paste_known l used (length rest) (paste_len rest))) (λ other. taken bytes token used is))
 
 ended_only : (l : Bool) (parameters rest : List ℕ) → list_all is_parameter parameters ≡ true → OnlySequence (27 ∷ 91 ∷ (parameters ++ rest)) (ended_at l parameters rest)

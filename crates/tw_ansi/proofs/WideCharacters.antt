@@ -5,7 +5,7 @@ use Rattle.std.specs.List.{list_all}
 use Rattle.std.proofs.lemmas.Bool.{ne_eqb, lt-ltb, le-ltb, le-leb, lt-leb, and_from, cases_lt}
 use Rattle.tw_input.specs.declared.key.KeyCode.TheVariants.{Char}
 use Rattle.tw_input.specs.Modifiers.{none, alt}
-use Rattle.tw_ansi.specs.KeyBytes.{token_at, escape_at, character_at, behind_escape, key_or, with_control, typed_at, replaced, wide_character, whole_character, following_len, is_continuation, code_of, least_code, is_code, found, pressed, key_in, control_characters}
+use Rattle.tw_ansi.specs.KeyBytes.{token_at, escape_at, character_at, behind_escape, key_or, with_control, typed_at, replacement, wide_character, whole_character, following_len, is_continuation, code_of, least_code, is_code, scanned_as, key_token, key_in, control_characters}
 use Rattle.tw_ansi.specs.KeyLaws.{IsTyped, CharacterKeys, AltCharacterKeys}
 use Rattle.tw_ansi.proofs.Keys.{none_of, alt_keys}
 
@@ -16,21 +16,21 @@ no_row b high =
 
 -- a byte of 128 or above is replaced, or begins a character
 pub high_byte : (l : Bool) (b : ℕ) (bytes : List ℕ) → 128 ≤ b
-    → token_at l (b ∷ bytes) ≡ cond (ltb b 194 || leb 245 b) replaced (wide_character l b (take (following_len b) bytes))
+    → token_at l (b ∷ bytes) ≡ cond (ltb b 194 || leb 245 b) replacement (wide_character l b (take (following_len b) bytes))
 unfolding token_at
 high_byte l b bytes high =
     ap (λ t. cond t (escape_at l bytes) (character_at l b bytes)) (ne_eqb b 27 (λ e. omega arith))
     ∙ ap (λ o. key_or o (cond (ltb b 32) (with_control b) (typed_at l b bytes))) (no_row b high)
     ∙ ap (λ t. cond t (with_control b) (typed_at l b bytes)) (le-ltb b 32 (omega arith))
-    ∙ ap (λ t. cond t (found (pressed (Char b) none) 1) (cond (ltb b 194 || leb 245 b) replaced (wide_character l b (take (following_len b) bytes)))) (le-ltb b 127 (omega arith))
+    ∙ ap (λ t. cond t (scanned_as (key_token (Char b) none) 1) (cond (ltb b 194 || leb 245 b) replacement (wide_character l b (take (following_len b) bytes)))) (le-ltb b 127 (omega arith))
 
 -- a byte that begins a character of several, so many of which follow
 pub first_byte : (l : Bool) (b n : ℕ) (bytes : List ℕ) → 194 ≤ b → b < 245 → following_len b ≡ n → token_at l (b ∷ bytes) ≡ wide_character l b (take n bytes)
 first_byte l b n bytes low high len =
     let wide = wide_character l b (take (following_len b) bytes) in
     high_byte l b bytes (omega arith)
-    ∙ ap (λ t. cond (t || leb 245 b) replaced wide) (le-ltb b 194 low)
-    ∙ ap (λ t. cond t replaced wide) (lt-leb 245 b high)
+    ∙ ap (λ t. cond (t || leb 245 b) replacement wide) (le-ltb b 194 low)
+    ∙ ap (λ t. cond t replacement wide) (lt-leb 245 b high)
     ∙ ap (λ k. wide_character l b (take k bytes)) len
 
 -- a scalar value is the code of a character
@@ -40,13 +40,13 @@ code_if false y h = h
 
 -- all the bytes of a character
 whole : (l : Bool) (b c : ℕ) (following : List ℕ) → list_all is_continuation following ≡ true → length following ≡ following_len b
-    → code_of b following ≡ c → least_code (length following) ≤ c → IsScalar c → wide_character l b following ≡ found (pressed (Char c) none) (1 + length following)
+    → code_of b following ≡ c → least_code (length following) ≤ c → IsScalar c → wide_character l b following ≡ scanned_as (key_token (Char c) none) (1 + length following)
 whole l b c following all len code least scalar =
-    let answer = found (pressed (Char c) none) (1 + length following) in
-    ap (λ t. cond (not t) replaced (cond (ltb (length following) (following_len b)) (cond l replaced None) (whole_character b following))) all
-    ∙ ap (λ t. cond t (cond l replaced None) (whole_character b following)) (le-ltb (length following) (following_len b) (omega (arith, len)))
-    ∙ ap (λ k. cond (leb (least_code (length following)) k && is_code k) (found (pressed (Char k) none) (1 + length following)) replaced) code
-    ∙ ap (λ t. cond t answer replaced) (and_from _ _ (le-leb _ _ least) (code_if (ltb c 55296) (leb 57344 c && ltb c 1114112) scalar))
+    let answer = scanned_as (key_token (Char c) none) (1 + length following) in
+    ap (λ t. cond (not t) replacement (cond (ltb (length following) (following_len b)) (cond l replacement None) (whole_character b following))) all
+    ∙ ap (λ t. cond t (cond l replacement None) (whole_character b following)) (le-ltb (length following) (following_len b) (omega (arith, len)))
+    ∙ ap (λ k. cond (leb (least_code (length following)) k && is_code k) (scanned_as (key_token (Char k) none) (1 + length following)) replacement) code
+    ∙ ap (λ t. cond t answer replacement) (and_from _ _ (le-leb _ _ least) (code_if (ltb c 55296) (leb 57344 c && ltb c 1114112) scalar))
 
 -- a byte that follows the first one
 follows : (x : ℕ) → is_continuation (128 + x % 64) ≡ true
@@ -143,7 +143,7 @@ behind xs b c more e high h l rest =
     ∙ alt_keys l b (more ++ rest) (λ q. omega arith) (λ q. omega arith) (λ q. omega arith)
     ∙ ap (λ ys. behind_escape (token_at l (ys ++ rest))) (sym e)
     ∙ ap behind_escape (h l rest)
-    ∙ ap (λ n. found (pressed (Char c) alt) n) (omega arith)
+    ∙ ap (λ n. scanned_as (key_token (Char c) alt) n) (omega arith)
 
 alt_cases : (c : ℕ) → 128 ≤ c → IsScalar c → (c < 2048) ⊎ (2048 ≤ c) → (c < 65536) ⊎ (65536 ≤ c) → IsTyped (27 ∷ encode_utf8 c) (Char c) alt
 alt_cases c low scalar (inl two) q = behind _ _ c _ (encode_two c low two) (omega arith) (character_keys c low scalar)

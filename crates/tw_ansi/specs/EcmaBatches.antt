@@ -10,7 +10,7 @@ use Rattle.tw_surface.specs.Pictures.{Picture, blank}
 use Rattle.tw_surface.specs.Scrolling.{play_on, play_all_on}
 use Rattle.tw_ansi.specs.declared.encode.Encoder.{Encoder}
 use Rattle.tw_ansi.specs.Sequences.{most_rows}
-use Rattle.tw_ansi.specs.Encoding.{first_known, sent, sent_batch}
+use Rattle.tw_ansi.specs.Encoding.{first_known, sent_change, sent_batch}
 use Rattle.tw_ansi.specs.EcmaScreen.{EcmaScreen, receive_all}
 use Rattle.tw_ansi.specs.EcmaScreen as terminal
 use Rattle.tw_ansi.specs.EcmaLaws.{IsColor, IsAttribute}
@@ -47,12 +47,12 @@ FirstIsShown = (h w : ℕ) (t : EcmaScreen) → 0 < w → t.row < h → t.col �
 abbrev pub ChangeIsShown : Type 0
 ChangeIsShown = (h w : ℕ) (change : ChangeView) (e : Encoder) (t : EcmaScreen) (s : Picture)
     → 0 < w → w < 2 ^ 64 → IsSendable h w e change s → Shows h w e t s
-    → Shows h w (sent change e).next (receive_all h w (sent change e).bytes t) (play_on h w change s)
+    → Shows h w (sent_change change e).next (receive_all h w (sent_change change e).bytes t) (play_on h w change s)
 
 -- each change of a batch is such a one where it comes, after those before it
 abbrev pub AreSendable : ℕ → ℕ → Encoder → Batch → Picture → Type 0
 AreSendable h w e [] s = ⊤
-AreSendable h w e (change ∷ changes) s = IsSendable h w e change s × AreSendable h w (sent change e).next changes (play_on h w change s)
+AreSendable h w e (change ∷ changes) s = IsSendable h w e change s × AreSendable h w (sent_change change e).next changes (play_on h w change s)
 
 -- a terminal that shows a picture, and is sent the bytes of a batch, shows the picture on which the batch was played
 abbrev pub BatchIsShown : Type 0

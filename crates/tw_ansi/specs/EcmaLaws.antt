@@ -5,7 +5,7 @@ use Rattle.tw_surface.specs.declared.cell.AttributeChange.TheVariants.{Foregroun
 use Rattle.tw_surface.specs.declared.change.Position.TheVariants.{Relative}
 use Rattle.tw_surface.specs.declared.color.ColorAttribute.{ColorAttribute}
 use Rattle.tw_surface.specs.declared.color.ColorAttribute.TheVariants.{Default, PaletteIndex, TrueColorWithDefaultFallback}
-use Rattle.tw_surface.specs.Pictures.{no_cells, cleared}
+use Rattle.tw_surface.specs.Pictures.{no_cells, cells_cleared_from}
 use Rattle.tw_ansi.specs.Sequences.{to_column, to_row, set_attribute, clear_below, clear_all, clear_with, to_first_cell, most_rows}
 use Rattle.tw_ansi.specs.EcmaScreen.{EcmaScreen, receive_all}
 use Rattle.tw_ansi.specs.EcmaScreen as terminal
@@ -44,7 +44,7 @@ RowsAboveAreReached = (h w n : ℕ) (t : EcmaScreen) → n < most_rows
 -- clearing from the cursor on, with any colour, clears the cells from the cursor's on
 abbrev pub ClearsBelow : Type 0
 ClearsBelow = (h w : ℕ) (color set : ColorAttribute) (t : EcmaScreen) → IsColor color → IsColor set
-    → receive_all h w (clear_with clear_below color set) (at_rest t) ≡ record t { cell = cleared t.cell t.row t.col; reading = terminal.Text }
+    → receive_all h w (clear_with clear_below color set) (at_rest t) ≡ record t { cell = cells_cleared_from t.cell t.row t.col; reading = terminal.Text }
 
 -- clearing the screen blanks it all, with the cursor in the first cell
 abbrev pub ClearsAll : Type 0

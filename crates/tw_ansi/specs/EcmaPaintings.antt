@@ -10,10 +10,10 @@ use Rattle.tw_surface.specs.Pictures.{Picture}
 use Rattle.tw_surface.specs.Places.{place_after_all, origin}
 use Rattle.tw_surface.specs.Scenes.{Scene, Lower}
 use Rattle.tw_surface.specs.Scrolling.{play_all_on, play_batches_on}
-use Rattle.tw_surface.specs.PaintingBatches.{whole}
+use Rattle.tw_surface.specs.PaintingBatches.{run_batches}
 use Rattle.tw_surface.specs.Scenes.Lower.{NoLower, Preview, Search}
 use Rattle.tw_ansi.specs.declared.encode.Encoder.{Encoder}
-use Rattle.tw_ansi.specs.Encoding.{Sent, sends, followed, sent_batch}
+use Rattle.tw_ansi.specs.Encoding.{Sent, sends, sent_then, sent_batch}
 use Rattle.tw_ansi.specs.EcmaLaws.{IsColor, IsAttribute}
 use Rattle.tw_ansi.specs.EcmaBatches.{IsReached, AreSendable}
 use Rattle.tw_ansi.specs.EcmaScreen.{EcmaScreen, receive_all}
@@ -70,7 +70,7 @@ PaintingKnowsColor = (w : ℕ) (scene : Scene) (e : Encoder) → IsTypedScene sc
 -- batches
 abbrev pub sent_batches : List Batch → Encoder → Sent
 sent_batches [] e = sends [] e
-sent_batches (batch ∷ more) e = followed (sent_batch batch e) (sent_batches more)
+sent_batches (batch ∷ more) e = sent_then (sent_batch batch e) (sent_batches more)
 
 -- each batch is sendable where it comes, after those before it
 abbrev pub AreAllSendable : ℕ → ℕ → Encoder → List Batch → Picture → Type 0
@@ -88,7 +88,7 @@ pub record IsShowable (h w : ℕ) (scene : Scene) : Type 0 where
 abbrev pub RunIsSendable : Type 0
 RunIsSendable = (h w : ℕ) (scenes : List Scene) (e : Encoder) (s : Picture)
     → 0 < w → AllByRecursion (IsShowable h w) scenes → IsColor e.attributes.background → s.col < w
-    → AreAllSendable h w e (whole w scenes) s
+    → AreAllSendable h w e (run_batches w scenes) s
 
 -- a terminal that shows a picture, and is sent the bytes of sendable batches, shows the picture on which they were played
 abbrev pub BatchesAreShown : Type 0

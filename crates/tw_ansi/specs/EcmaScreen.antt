@@ -1,6 +1,6 @@
 -- A small terminal after ECMA-48: w columns and h rows, and what each byte that comes does to it.
 use Rattle.std.specs.Prelude.{ℕ, ◌+◌, ◌-◌, ◌*◌, ◌&&◌, eqb, ltb, leb, min, Bool, true, false, if◌then◌else◌, List, [], ◌∷◌}
-use Rattle.tw_surface.specs.Pictures.{blank, no_cells, written, cleared}
+use Rattle.tw_surface.specs.Pictures.{blank, no_cells, cells_with, cells_cleared_from}
 use Rattle.tw_surface.specs.Characters.{is_printable, cr, lf}
 
 -- how far a control sequence was read: none, an ESC, ESC [ and one number (0 where none stands there), or another one's parameters
@@ -33,8 +33,8 @@ feed_line h t =
 abbrev pub write_here : ℕ → ℕ → EcmaScreen → EcmaScreen
 write_here w b t =
     if eqb (t.col + 1) w
-    then record t { cell = written t.cell t.row t.col b; waits = true }
-    else record t { cell = written t.cell t.row t.col b; col = t.col + 1 }
+    then record t { cell = cells_with t.cell t.row t.col b; waits = true }
+    else record t { cell = cells_with t.cell t.row t.col b; col = t.col + 1 }
 
 -- a character, at the start of the next row where the cursor waits
 abbrev pub write : ℕ → ℕ → ℕ → EcmaScreen → EcmaScreen
@@ -51,7 +51,7 @@ act h w n letter t =
     if eqb letter 65 then record t { row = t.row - steps n; waits = false }
     else if eqb letter 67 then record t { col = min (w - 1) (t.col + steps n); waits = false }
     else if eqb letter 72 then record t { row = min (h - 1) (steps n - 1); col = 0; waits = false }
-    else if eqb letter 74 && eqb n 0 then record t { cell = cleared t.cell t.row t.col }
+    else if eqb letter 74 && eqb n 0 then record t { cell = cells_cleared_from t.cell t.row t.col }
     else if eqb letter 74 && eqb n 2 then record t { cell = no_cells }
     else if eqb letter 100 then record t { row = min (h - 1) (steps n - 1); waits = false }
     else t

@@ -13,7 +13,7 @@ use Rattle.tw_surface.specs.ChangeView.{ChangeView, Batch}
 use Rattle.tw_surface.specs.ChangeView.{Attribute, AllAttributes, Text, ClearScreen, ClearToEndOfScreen, CursorPosition}
 use Rattle.tw_surface.specs.Characters.{is_plain, cr, lf}
 use Rattle.tw_surface.specs.Defaults.{default_attributes}
-use Rattle.tw_surface.specs.Positions.{moved, at_least_0}
+use Rattle.tw_surface.specs.Positions.{position_after, at_least_0}
 use Rattle.tw_surface.specs.Width.{cluster_width}
 use Rattle.tw_ansi.specs.declared.encode.Encoder.{Encoder}
 use Rattle.tw_ansi.specs.Sequences.{to_column, to_row, clear_below, clear_all, to_first_cell, set_attribute, set_attributes, clear_with, up_a_row}
@@ -32,8 +32,8 @@ abbrev pub sends : List ℕ → Encoder → Sent
 sends bytes e = record { bytes = bytes; next = e }
 
 -- what is sent first, and what follows it
-abbrev pub followed : Sent → (Encoder → Sent) → Sent
-followed first more = record { bytes = first.bytes ++ (more first.next).bytes; next = (more first.next).next }
+abbrev pub sent_then : Sent → (Encoder → Sent) → Sent
+sent_then first more = record { bytes = first.bytes ++ (more first.next).bytes; next = (more first.next).next }
 
 -- the cursor stands in this column, or waits there where it is the number of columns
 abbrev pub at_column : ℕ → Encoder → Encoder
@@ -62,14 +62,14 @@ abbrev pub sent_return_feed : Encoder → Sent
 sent_return_feed e = record { bytes = cr ∷ lf ∷ []; next = at_column 0 e }
 
 -- so many columns begin in the row where they fit, and else in the next one, to which a waiting terminal goes by itself
-abbrev pub begun : Encoder → ℕ → Sent
-begun e width =
+abbrev pub sent_beginning : Encoder → ℕ → Sent
+sent_beginning e width =
     if leb (e.x + width) e.cols then sends [] (at_column (e.x + width) e)
     else record { bytes = if e.parted then cr ∷ lf ∷ [] else []; next = at_column width e }
 
 -- what is shown in so many columns
 abbrev pub sent_columns : Encoder → ℕ → List ℕ → Sent
-sent_columns e width shown = record { bytes = (begun e width).bytes ++ shown; next = (begun e width).next }
+sent_columns e width shown = record { bytes = (sent_beginning e width).bytes ++ shown; next = (sent_beginning e width).next }
 
 -- a character of a plain text
 abbrev pub sent_byte : Encoder → ℕ → Sent
@@ -93,12 +93,12 @@ sent_cluster e cluster =
 -- a plain text
 abbrev pub sent_plain : List ℕ → Encoder → Sent
 sent_plain [] e = sends [] e
-sent_plain (b ∷ text) e = followed (sent_byte e b) (sent_plain text)
+sent_plain (b ∷ text) e = sent_then (sent_byte e b) (sent_plain text)
 
 -- clusters
 abbrev pub sent_clusters : List (List ℕ) → Encoder → Sent
 sent_clusters [] e = sends [] e
-sent_clusters (cluster ∷ more) e = followed (sent_cluster e cluster) (sent_clusters more)
+sent_clusters (cluster ∷ more) e = sent_then (sent_cluster e cluster) (sent_clusters more)
 
 -- a plain text is sent by its characters, every other text by its extended grapheme clusters
 abbrev pub sent_text : List ℕ → Encoder → Sent
@@ -126,21 +126,21 @@ sent_clear color e =
 
 -- the column to which a position leads
 abbrev pub column_of : Position → Encoder → ℕ
-column_of x e = min (e.cols - 1) (at_least_0 (moved x (pos e.x)))
+column_of x e = min (e.cols - 1) (at_least_0 (position_after x (pos e.x)))
 
 -- a change
-abbrev pub sent : ChangeView → Encoder → Sent
-sent (Attribute change) e =
+abbrev pub sent_change : ChangeView → Encoder → Sent
+sent_change (Attribute change) e =
     record { bytes = set_attribute change; next = record e { attributes = with_attribute change e.attributes } }
-sent (AllAttributes to) e = record { bytes = set_attributes to; next = record e { attributes = to } }
-sent (Text text) e = sent_text text e
-sent (ClearScreen color) e =
+sent_change (AllAttributes to) e = record { bytes = set_attributes to; next = record e { attributes = to } }
+sent_change (Text text) e = sent_text text e
+sent_change (ClearScreen color) e =
     record { bytes = to_first_cell ++ clear_with clear_all color e.attributes.background; next = at_column 0 e }
-sent (ClearToEndOfScreen color) e = sent_clear color e
-sent (CursorPosition x y) e =
+sent_change (ClearToEndOfScreen color) e = sent_clear color e
+sent_change (CursorPosition x y) e =
     record { bytes = to_row y ++ to_column (column_of x e); next = at_column (column_of x e) e }
 
 -- a batch
 abbrev pub sent_batch : Batch → Encoder → Sent
 sent_batch [] e = sends [] e
-sent_batch (change ∷ changes) e = followed (sent change e) (sent_batch changes)
+sent_batch (change ∷ changes) e = sent_then (sent_change change e) (sent_batch changes)

@@ -43,16 +43,16 @@ key_in [] n = None
 key_in (row ∷ rows) n = if eqb n row.0 then Some row.1 else key_in rows n
 
 -- a key with the bits of its modifiers
-abbrev pub pressed : KeyCode → ℕ → Token
-pressed key bits = Key (record { key = key; modifiers = modifiers_of bits })
+abbrev pub key_token : KeyCode → ℕ → Token
+key_token key bits = Key (record { key = key; modifiers = modifiers_of bits })
 
 -- a token that takes so many bytes
-abbrev pub found : Token → ℕ → Option Scanned
-found token used = Some (record { token = token; used = used })
+abbrev pub scanned_as : Token → ℕ → Option Scanned
+scanned_as token used = Some (record { token = token; used = used })
 
 -- a byte that is no part of a character
-abbrev pub replaced : Option Scanned
-replaced = found (pressed (Char 65533) none) 1
+abbrev pub replacement : Option Scanned
+replacement = scanned_as (key_token (Char 65533) none) 1
 
 -- more bytes are wanted, unless these are the last ones
 abbrev pub unless_last : Bool → Option Scanned → Option Scanned
@@ -85,29 +85,29 @@ is_code c = ltb c 55296 || (leb 57344 c && ltb c 1114112)
 abbrev pub whole_character : ℕ → List ℕ → Option Scanned
 whole_character b following =
     let code = code_of b following in
-    if leb (least_code (length following)) code && is_code code then found (pressed (Char code) none) (1 + length following) else replaced
+    if leb (least_code (length following)) code && is_code code then scanned_as (key_token (Char code) none) (1 + length following) else replacement
 
 -- a character of several bytes: the first byte, and those that are there of the ones that should follow
 abbrev pub wide_character : Bool → ℕ → List ℕ → Option Scanned
 wide_character is_last b following =
-    if not (list_all is_continuation following) then replaced
-    else if ltb (length following) (following_len b) then unless_last is_last replaced
+    if not (list_all is_continuation following) then replacement
+    else if ltb (length following) (following_len b) then unless_last is_last replacement
     else whole_character b following
 
 -- a character that is no control character, by its first byte and what stands behind it
 abbrev pub typed_at : Bool → ℕ → List ℕ → Option Scanned
 typed_at is_last b bytes =
-    if ltb b 127 then found (pressed (Char b) none) 1
-    else if ltb b 194 || leb 245 b then replaced
+    if ltb b 127 then scanned_as (key_token (Char b) none) 1
+    else if ltb b 194 || leb 245 b then replacement
     else wide_character is_last b (take (following_len b) bytes)
 
 -- the key of a control character that has no key of its own: a letter or a sign with CTRL
 abbrev pub with_control : ℕ → Option Scanned
-with_control b = if eqb b 0 then found (pressed (Char 32) ctrl) 1 else found (pressed (Char (b + 64)) ctrl) 1
+with_control b = if eqb b 0 then scanned_as (key_token (Char 32) ctrl) 1 else scanned_as (key_token (Char (b + 64)) ctrl) 1
 
 -- the first of two answers
 abbrev pub key_or : Option KeyCode → Option Scanned → Option Scanned
-key_or (Some key) other = found (pressed key none) 1
+key_or (Some key) other = scanned_as (key_token key none) 1
 key_or None other = other
 
 -- a character or a control key, by its first byte and what stands behind it
@@ -117,20 +117,20 @@ character_at is_last b bytes =
 
 -- the same key, with ALT held too, behind an ESC
 abbrev pub with_alt : Token → Token
-with_alt (Key event) = pressed event.key (bit_or (modifier_bits event.modifiers) alt)
+with_alt (Key event) = key_token event.key (bit_or (modifier_bits event.modifiers) alt)
 with_alt other = other
 
 abbrev pub behind_escape : Option Scanned → Option Scanned
-behind_escape (Some s) = found (with_alt s.token) (s.used + 1)
+behind_escape (Some s) = scanned_as (with_alt s.token) (s.used + 1)
 behind_escape None = None
 
 -- behind ESC O: a key of the application mode, or ALT and O
 abbrev pub application_key : Option KeyCode → Option Scanned
-application_key (Some key) = found (pressed key none) 3
-application_key None = found (pressed (Char 79) alt) 2
+application_key (Some key) = scanned_as (key_token key none) 3
+application_key None = scanned_as (key_token (Char 79) alt) 2
 
 abbrev pub application_at : Bool → List ℕ → Option Scanned
-application_at is_last [] = unless_last is_last (found (pressed (Char 79) alt) 2)
+application_at is_last [] = unless_last is_last (scanned_as (key_token (Char 79) alt) 2)
 application_at is_last (b ∷ bytes) = application_key (key_in application_keys b)
 
 -- whether a byte stands between ESC [ and the letter that ends the sequence
@@ -170,23 +170,23 @@ abbrev pub second_number : List ℕ → ℕ
 second_number parameters = first_number (after_first is_semicolon parameters)
 
 -- the bits of the modifiers that a number tells: one more than a sum of 1 for SHIFT, 2 for ALT, 4 for CTRL, 8 for SUPER
-abbrev pub held : ℕ → ℕ
-held number = (number - 1) % 16 * 2
+abbrev pub told_bits : ℕ → ℕ
+told_bits number = (number - 1) % 16 * 2
 
 -- the key of a sequence, by its first number and its letter
 abbrev pub sequence_key : ℕ → ℕ → Option KeyCode
 sequence_key number letter = if eqb letter 126 then key_in number_keys number else key_in letter_keys letter
 
 abbrev pub key_or_unknown : Option KeyCode → ℕ → Token
-key_or_unknown (Some key) bits = pressed key bits
+key_or_unknown (Some key) bits = key_token key bits
 key_or_unknown None bits = Unknown
 
 -- what two numbers and a letter say: the cursor's place, Tab with SHIFT, or a key
 abbrev pub numbers_token : ℕ → ℕ → ℕ → Token
 numbers_token first second letter =
     if eqb letter 82 && (ltb 1 first && ltb 0 second) then Size second first
-    else if eqb letter 90 then pressed Tab shift
-    else key_or_unknown (sequence_key first letter) (held second)
+    else if eqb letter 90 then key_token Tab shift
+    else key_or_unknown (sequence_key first letter) (told_bits second)
 
 -- what ends a pasted text
 abbrev pub paste_end : List ℕ
@@ -199,8 +199,8 @@ paste_len (b ∷ bytes) = if starts_with eqb (b ∷ bytes) paste_end then Some 0
 
 -- a pasted text behind a sequence of so many bytes: all up to its first end, or to the last byte
 abbrev pub paste_of : Bool → ℕ → ℕ → Option ℕ → Option Scanned
-paste_of is_last from left (Some len) = found (Paste from len) (from + len + 6)
-paste_of is_last from left None = unless_last is_last (found (Paste from left) (from + left))
+paste_of is_last from left (Some len) = scanned_as (Paste from len) (from + len + 6)
+paste_of is_last from left None = unless_last is_last (scanned_as (Paste from left) (from + left))
 
 abbrev pub paste_at : Bool → ℕ → List ℕ → Option Scanned
 paste_at is_last from bytes = paste_of is_last from (length bytes) (paste_len bytes)
@@ -208,15 +208,15 @@ paste_at is_last from bytes = paste_of is_last from (length bytes) (paste_len by
 -- a sequence with these parameters and this letter, and what stands behind it
 abbrev pub sequence_at : Bool → List ℕ → ℕ → List ℕ → Option Scanned
 sequence_at is_last parameters letter bytes =
-    if not (list_all is_numeric parameters) then found Unknown (3 + length parameters)
+    if not (list_all is_numeric parameters) then scanned_as Unknown (3 + length parameters)
     else if eqb letter 126 && eqb (first_number parameters) 200 then paste_at is_last (3 + length parameters) bytes
-    else found (numbers_token (first_number parameters) (second_number parameters) letter) (3 + length parameters)
+    else scanned_as (numbers_token (first_number parameters) (second_number parameters) letter) (3 + length parameters)
 
 -- parameters, and the byte behind them: where it ends no sequence it is not taken
 abbrev pub ended_at : Bool → List ℕ → List ℕ → Option Scanned
-ended_at is_last parameters [] = unless_last is_last (found (pressed (Char 91) alt) 2)
+ended_at is_last parameters [] = unless_last is_last (scanned_as (key_token (Char 91) alt) 2)
 ended_at is_last parameters (b ∷ bytes) =
-    if is_letter b then sequence_at is_last parameters b bytes else found Unknown (2 + length parameters)
+    if is_letter b then sequence_at is_last parameters b bytes else scanned_as Unknown (2 + length parameters)
 
 -- behind ESC [: parameters, a letter and what stands behind it
 abbrev pub control_at : Bool → List ℕ → Option Scanned
@@ -225,9 +225,9 @@ control_at is_last bytes =
 
 -- behind ESC: nothing or another ESC, a sequence, or a key with ALT
 abbrev pub escape_at : Bool → List ℕ → Option Scanned
-escape_at is_last [] = found (pressed Escape none) 1
+escape_at is_last [] = scanned_as (key_token Escape none) 1
 escape_at is_last (b ∷ bytes) =
-    if eqb b 27 then found (pressed Escape none) 1
+    if eqb b 27 then scanned_as (key_token Escape none) 1
     else if eqb b 91 then control_at is_last bytes
     else if eqb b 79 then application_at is_last bytes
     else behind_escape (character_at is_last b bytes)

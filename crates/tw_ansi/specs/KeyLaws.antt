@@ -9,7 +9,7 @@ use Rattle.tw_input.specs.Modifiers.{none, shift, alt, ctrl}
 use Rattle.tw_ansi.specs.declared.token.Token.{Token}
 use Rattle.tw_ansi.specs.declared.token.Token.TheVariants.{Size, Paste, Unknown}
 use Rattle.tw_ansi.specs.declared.token.Scanned.{Scanned}
-use Rattle.tw_ansi.specs.KeyBytes.{token_at, found, pressed, behind_escape, key_in, control_characters, application_keys, letter_keys, number_keys, most, paste_end, replaced, following_len, is_continuation, is_parameter, is_letter}
+use Rattle.tw_ansi.specs.KeyBytes.{token_at, scanned_as, key_token, behind_escape, key_in, control_characters, application_keys, letter_keys, number_keys, most, paste_end, replacement, following_len, is_continuation, is_parameter, is_letter}
 use Rattle.tw_ansi.specs.Sequences.{sequence}
 
 -- an ESC alone is Escape, and may begin another key where bytes follow
@@ -31,11 +31,11 @@ EndsWithToken = (bytes : List ℕ) → 0 < length bytes → IsSome (token_at tru
 
 -- bytes that give a token and are taken whole, whatever bytes follow
 abbrev pub IsTaken : List ℕ → Token → Type 0
-IsTaken bytes token = (is_last : Bool) (rest : List ℕ) → token_at is_last (bytes ++ rest) ≡ found token (length bytes)
+IsTaken bytes token = (is_last : Bool) (rest : List ℕ) → token_at is_last (bytes ++ rest) ≡ scanned_as token (length bytes)
 
 -- bytes that give a key with these modifiers and are taken whole, whatever bytes follow
 abbrev pub IsTyped : List ℕ → KeyCode → ℕ → Type 0
-IsTyped bytes key bits = IsTaken bytes (pressed key bits)
+IsTyped bytes key bits = IsTaken bytes (key_token key bits)
 
 -- a printable character of ASCII is the key of that character
 abbrev pub PrintableKeys : Type 0
@@ -43,11 +43,11 @@ PrintableKeys = (b : ℕ) → 32 ≤ b → b < 127 → IsTyped (b ∷ []) (Char 
 
 -- ESC where no byte follows
 abbrev pub EscapeKey : Type 0
-EscapeKey = (is_last : Bool) → token_at is_last lone_escape ≡ found (pressed Escape none) 1
+EscapeKey = (is_last : Bool) → token_at is_last lone_escape ≡ scanned_as (key_token Escape none) 1
 
 -- ESC before another ESC
 abbrev pub EscapePair : Type 0
-EscapePair = (is_last : Bool) (rest : List ℕ) → token_at is_last (27 ∷ 27 ∷ rest) ≡ found (pressed Escape none) 1
+EscapePair = (is_last : Bool) (rest : List ℕ) → token_at is_last (27 ∷ 27 ∷ rest) ≡ scanned_as (key_token Escape none) 1
 
 -- ESC before a key's bytes that begin no sequence with it is ALT
 abbrev pub AltKeys : Type 0
@@ -120,12 +120,12 @@ pub record IsControlSequence (bytes : List ℕ) : Type 0 where
 
 -- what is not known is a control sequence, and no byte behind it
 abbrev pub UnknownSequences : Type 0
-UnknownSequences = (is_last : Bool) (bytes : List ℕ) (used : ℕ) → token_at is_last bytes ≡ found Unknown used → IsControlSequence (take used bytes)
+UnknownSequences = (is_last : Bool) (bytes : List ℕ) (used : ℕ) → token_at is_last bytes ≡ scanned_as Unknown used → IsControlSequence (take used bytes)
 
 -- a byte of 128 or above where no character's bytes stand is U+FFFD, and takes no other byte
 abbrev pub LostBytes : Type 0
 LostBytes = (is_last : Bool) (b : ℕ) (bytes : List ℕ) → 128 ≤ b → ((c : ℕ) (rest : List ℕ) → IsScalar c → b ∷ bytes ≢ encode_utf8 c ++ rest)
-    → IfSome (token_at is_last (b ∷ bytes)) (λ s. Some s ≡ replaced)
+    → IfSome (token_at is_last (b ∷ bytes)) (λ s. Some s ≡ replacement)
 
 -- a byte of 128 or above that can begin no character is U+FFFD, whatever follows
 abbrev pub LoneBytes : Type 0
@@ -134,7 +134,7 @@ LoneBytes = (b : ℕ) → 128 ≤ b → (b < 194) ⊎ (245 ≤ b) → IsTyped (b
 -- and so is one that can, where a byte that cannot follow stands among those that should
 abbrev pub CutCharacters : Type 0
 CutCharacters = (is_last : Bool) (b d : ℕ) (front rest : List ℕ) → 128 ≤ b → length front < following_len b → is_continuation d ≡ false
-    → token_at is_last (b ∷ front ++ d ∷ rest) ≡ replaced
+    → token_at is_last (b ∷ front ++ d ∷ rest) ≡ replacement
 
 -- more bytes are wanted behind such a byte only where fewer stand there than should, and each of them can follow
 abbrev pub WaitsForCharacter : Type 0

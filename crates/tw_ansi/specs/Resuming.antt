@@ -19,21 +19,21 @@ paste_on is_last from searched bytes =
     paste_of is_last from (length bytes) (option_map (λ n. n + searched) (paste_len (drop searched bytes)))
 
 -- the token at the front, by going on
-abbrev pub resumed : Progress → Bool → List ℕ → Option Scanned
-resumed Start is_last bytes = token_at is_last bytes
-resumed (Parameters len) is_last bytes = parameters_on is_last len (drop 2 bytes)
-resumed (Paste from searched) is_last bytes = paste_on is_last from searched (drop from bytes)
+abbrev pub token_resumed : Progress → Bool → List ℕ → Option Scanned
+token_resumed Start is_last bytes = token_at is_last bytes
+token_resumed (Parameters len) is_last bytes = parameters_on is_last len (drop 2 bytes)
+token_resumed (Paste from searched) is_last bytes = paste_on is_last from searched (drop from bytes)
 
 -- how many bytes are not looked at again
-abbrev pub passed : Progress → ℕ
-passed Start = 0
-passed (Parameters len) = 2 + len
-passed (Paste from searched) = from + searched
+abbrev pub passed_len : Progress → ℕ
+passed_len Start = 0
+passed_len (Parameters len) = 2 + len
+passed_len (Paste from searched) = from + searched
 
 -- These bytes were read so far: whatever follows them, going on gives the token at the front of them all.
 pub record Fits (p : Progress) (bytes : List ℕ) : Type 0 where
-  pub within : passed p ≤ length bytes
-  pub goes_on : (is_last : Bool) (more : List ℕ) → resumed p is_last (bytes ++ more) ≡ token_at is_last (bytes ++ more)
+  pub within : passed_len p ≤ length bytes
+  pub goes_on : (is_last : Bool) (more : List ℕ) → token_resumed p is_last (bytes ++ more) ≡ token_at is_last (bytes ++ more)
 
 -- how many bytes of a pasted text are passed where no end was found in all of them: one may begin in the last five
 abbrev pub searched_to : ℕ → ℕ → ℕ

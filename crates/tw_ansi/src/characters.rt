@@ -4,7 +4,7 @@ ghost use Rattle.std.specs.Prelude.{◌≡◌, ◌<◌, ◌≤◌, length, take,
 ghost use Rattle.std.specs.List.{list_all};
 ghost use Rattle.tw_ansi.specs.KeyBytes.{is_continuation, following_len, code_of, least_code, whole_character, wide_character, typed_at, with_control, character_at};
 
-use crate::token::{Scanned, key, replaced};
+use crate::token::{Scanned, key, replacement};
 use tw_input::{KeyCode, Modifiers};
 
 /// The code that the bytes of a character write, by its first byte and those that follow.
@@ -41,7 +41,7 @@ fn whole_character(first: u8, following: &[u8]) -> Option<Scanned>
 {
     let code = code_of(first, following);
     if code < least_code(following.len()) {
-        return replaced();
+        return replacement();
     }
     match char::from_u32(code) {
         Some(character) => key(
@@ -49,7 +49,7 @@ fn whole_character(first: u8, following: &[u8]) -> Option<Scanned>
             Modifiers::NONE,
             1 + following.len(),
         ),
-        None => replaced(),
+        None => replacement(),
     }
 }
 
@@ -87,10 +87,10 @@ fn wide_character(first: u8, following: &[u8], is_last: bool) -> Option<Scanned>
     ensures bound { IfSome result (λ s. s.used ≤ 4) }
 {
     if !all_follow(following) {
-        return replaced();
+        return replacement();
     }
     if following.len() < following_len(first) {
-        return if is_last { replaced() } else { None };
+        return if is_last { replacement() } else { None };
     }
     whole_character(first, following)
 }
@@ -115,7 +115,7 @@ fn typed_at(first: u8, bytes: &[u8], is_last: bool) -> Option<Scanned>
     match first {
         0..=0x7e => key(KeyCode::Char(first as char), Modifiers::NONE, 1),
         0xc2..=0xf4 => { wide_character(first, first_bytes(bytes, following_len(first)), is_last) }
-        _ => replaced(),
+        _ => replacement(),
     }
 }
 

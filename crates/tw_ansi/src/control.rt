@@ -3,7 +3,7 @@
 ghost use Rattle.std.specs.Prelude.{◌≡◌, ◌+◌, ◌<◌, ◌≤◌, ◌^◌, length, [], IfSome};
 ghost use Rattle.std.specs.List.{list_all, prefix_len, position_or_len};
 ghost use Rattle.tw_input.specs.Modifiers.{modifier_bits};
-ghost use Rattle.tw_ansi.specs.KeyBytes.{is_parameter, is_numeric, is_semicolon, number_of, first_number, second_number, held, numbers_token, paste_len, paste_of, sequence_at, ended_at, control_at, number_keys, letter_keys, key_in};
+ghost use Rattle.tw_ansi.specs.KeyBytes.{is_parameter, is_numeric, is_semicolon, number_of, first_number, second_number, told_bits, numbers_token, paste_len, paste_of, sequence_at, ended_at, control_at, number_keys, letter_keys, key_in};
 
 use crate::token::{Scanned, Token, key};
 use bitflags::Flags;
@@ -70,8 +70,8 @@ fn second_number(parameters: &[u8]) -> u32
 }
 
 /// The modifiers that a number tells: one more than a sum of 1 for SHIFT, 2 for ALT, 4 for CTRL and 8 for SUPER.
-fn held(number: u32) -> Modifiers
-    ensures { modifier_bits result ≡ held number }
+fn told_modifiers(number: u32) -> Modifiers
+    ensures { modifier_bits result ≡ told_bits number }
 {
     let sum = number.saturating_sub(1) % 16;
     Modifiers::from_bits_retain(sum as u16 * 2)
@@ -147,7 +147,7 @@ fn numbers_token(first: u32, second: u32, letter: u8) -> Token
     match code {
         Some(key) => Token::Key(KeyEvent {
             key,
-            modifiers: held(second),
+            modifiers: told_modifiers(second),
         }),
         None => Token::Unknown,
     }

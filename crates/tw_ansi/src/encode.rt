@@ -6,7 +6,7 @@ ghost use Rattle.std.specs.List.{list_all, list_any};
 ghost use Rattle.unicode_segmentation.specs.Grapheme.{graphemes};
 ghost use Rattle.tw_surface.specs.ChangeView.{change_view};
 ghost use Rattle.tw_surface.specs.Characters.{is_plain};
-ghost use Rattle.tw_ansi.specs.Encoding.{Extends, first_known, at_column, column_of, with_attribute, sent, sent_return, sent_feed, sent_return_feed, begun, sent_byte, shown_as, sent_cluster, sent_plain, sent_clusters, sent_text, sent_clear};
+ghost use Rattle.tw_ansi.specs.Encoding.{Extends, first_known, at_column, column_of, with_attribute, sent_change, sent_return, sent_feed, sent_return_feed, sent_beginning, sent_byte, shown_as, sent_cluster, sent_plain, sent_clusters, sent_text, sent_clear};
 ghost use Rattle.tw_ansi.specs.Sequences.{set_attribute, to_row, to_column, to_first_cell, clear_all, clear_with};
 
 use crate::sequence::{clear_with, go_to_column, go_to_row, send_attribute, send_attributes};
@@ -60,8 +60,8 @@ impl Encoder {
 
     /// Adds what the change is sent as. A refusal leaves the text and what is known as they were.
     pub fn encode(&mut self, change: &Change, out: &mut String) -> Result<(), AllocError>
-        ensures bytes { OnOk result (string_bytes out.new ≡ string_bytes out.old ++ (sent (change_view change.now) self.old).bytes) }
-        ensures next { OnOk result (self.new ≡ (sent (change_view change.now) self.old).next) }
+        ensures bytes { OnOk result (string_bytes out.new ≡ string_bytes out.old ++ (sent_change (change_view change.now) self.old).bytes) }
+        ensures next { OnOk result (self.new ≡ (sent_change (change_view change.now) self.old).next) }
         ensures text_stays { OnErr result (string_bytes out.new ≡ string_bytes out.old) }
         ensures stays { OnErr result (self.new ≡ self.old) }
     {
@@ -79,8 +79,8 @@ impl Encoder {
 
     /// Adds what the change is sent as, or a part of it.
     fn send(&mut self, change: &Change, out: &mut String) -> Result<(), AllocError>
-        ensures bytes { OnOk result (string_bytes out.new ≡ string_bytes out.old ++ (sent (change_view change.now) self.old).bytes) }
-        ensures next { OnOk result (self.new ≡ (sent (change_view change.now) self.old).next) }
+        ensures bytes { OnOk result (string_bytes out.new ≡ string_bytes out.old ++ (sent_change (change_view change.now) self.old).bytes) }
+        ensures next { OnOk result (self.new ≡ (sent_change (change_view change.now) self.old).next) }
         ensures err { OnErr result (Extends (string_bytes out.old) (string_bytes out.new)) }
     {
         match change {
@@ -220,8 +220,8 @@ impl Encoder {
 
     /// Makes room for so many columns: in the row where they fit, and else in the next one.
     fn begin_columns(&mut self, width: usize, out: &mut String) -> Result<(), AllocError>
-        ensures bytes { OnOk result (string_bytes out.new ≡ string_bytes out.old ++ (begun self.old width).bytes) }
-        ensures next { OnOk result (self.new ≡ (begun self.old width).next) }
+        ensures bytes { OnOk result (string_bytes out.new ≡ string_bytes out.old ++ (sent_beginning self.old width).bytes) }
+        ensures next { OnOk result (self.new ≡ (sent_beginning self.old width).next) }
         ensures err { OnErr result (Extends (string_bytes out.old) (string_bytes out.new)) }
     {
         if self.x <= self.cols && width <= self.cols - self.x {

@@ -3,7 +3,7 @@
 ghost use Rattle.std.specs.Prelude.{◌≡◌, ◌+◌, ◌<◌, ◌≤◌, ◌^◌, length, Some, None, IfOk, IfErr, OnErr};
 ghost use Rattle.std.specs.Option.{ok_or};
 ghost use Rattle.tw_ansi.specs.KeyBytes.{token_at};
-ghost use Rattle.tw_ansi.specs.Resuming.{Fits, resumed, read_on, behind_start, passed, parameters_on, paste_on, behind_parameters, searched_to};
+ghost use Rattle.tw_ansi.specs.Resuming.{Fits, token_resumed, read_on, behind_start, passed_len, parameters_on, paste_on, behind_parameters, searched_to};
 ghost use Rattle.tw_ansi.specs.declared.resume.Progress.TheVariants.{Paste};
 
 use crate::control::{PASTE_END, ended_at, parameters_len, paste_len, paste_of};
@@ -40,8 +40,8 @@ pub fn scan_on(bytes: &[u8], progress: Progress, is_last: bool) -> Result<Scanne
 
 /// The token at the front, or how far the bytes were read.
 fn go_on(progress: Progress, bytes: &[u8], is_last: bool) -> Result<Scanned, Progress>
-    requires { passed progress ≤ length bytes.now }
-    ensures { result ≡ ok_or (resumed progress is_last bytes.now) (read_on progress bytes.now) }
+    requires { passed_len progress ≤ length bytes.now }
+    ensures { result ≡ ok_or (token_resumed progress is_last bytes.now) (read_on progress bytes.now) }
 {
     match progress {
         Progress::Start => begin(bytes, is_last),

@@ -1,7 +1,7 @@
 //! What stands at the front of the bytes from a terminal.
 
 ghost use Rattle.std.specs.Prelude.{◌≡◌};
-ghost use Rattle.tw_ansi.specs.KeyBytes.{pressed, found, replaced, with_alt};
+ghost use Rattle.tw_ansi.specs.KeyBytes.{key_token, scanned_as, replacement, with_alt};
 ghost use Rattle.tw_input.specs.Modifiers.{modifier_bits};
 
 use bitflags::Flags;
@@ -30,7 +30,7 @@ pub struct Scanned {
 
 /// A key that takes so many bytes.
 pub fn key(key: KeyCode, modifiers: Modifiers, used: usize) -> Option<Scanned>
-    ensures { result ≡ found (pressed key (modifier_bits modifiers)) used }
+    ensures { result ≡ scanned_as (key_token key (modifier_bits modifiers)) used }
 {
     Some(Scanned {
         token: Token::Key(KeyEvent { key, modifiers }),
@@ -39,8 +39,8 @@ pub fn key(key: KeyCode, modifiers: Modifiers, used: usize) -> Option<Scanned>
 }
 
 /// What a byte that is no part of a character is shown as.
-pub fn replaced() -> Option<Scanned>
-    ensures { result ≡ replaced }
+pub fn replacement() -> Option<Scanned>
+    ensures { result ≡ replacement }
 {
     key(KeyCode::Char('\u{fffd}'), Modifiers::NONE, 1)
 }

@@ -11,17 +11,17 @@ use Rattle.tw_lineedit.specs.Frame.{Frame}
 use Rattle.tw_lineedit.specs.Cut.{Cut}
 use Rattle.tw_lineedit.specs.EditState.{EditState, ModeView, Inactive, Editing, Cancelled, Accepted, Searching}
 use Rattle.tw_lineedit.specs.HostRules.{HostRules}
-use Rattle.tw_lineedit.specs.Painting.{Rendered}
+use Rattle.tw_lineedit.specs.Painting.{Rendering}
 use Rattle.tw_lineedit.specs.Outcomes.{Outcome, outcome_of, answer_at, line_in, is_over, is_open}
 use Rattle.tw_lineedit.specs.Refusal.{Refusal, refusal_of}
 use Rattle.tw_lineedit.specs.Feeding.{paint_end, painted_run, fed_run, run_on, CanMiss, CanRefuse, unresolved, unapplied, half_cleared, missed, CanStopAt, refused, later, CanStopOn, uncopied, at_event, Begins, begun_run, WantsToBegin, FaultsToBegin, FailsToBegin, IsFed, event_run, WantsToFeed, FaultsToFeed, FailsToFeed, FailsToFinish, Uncopied}
-use Rattle.tw_lineedit.specs.Reading.{start, Reads, FailsIn, HaltsIn, HaltsRefused, ClosesBadly, paused}
-use Rattle.tw_lineedit.specs.Run.{Progress, Ending, Moment, Cause, want, fault, run, ends, ending, at_end, moment, progress_of, painting_at, polled, answered, handled, state_after, after_event, CanStop, Quiet}
+use Rattle.tw_lineedit.specs.Reading.{start, Reads, FailsIn, HaltsIn, HaltsRefused, ClosesBadly, final_moment}
+use Rattle.tw_lineedit.specs.Run.{Progress, Ending, Moment, Cause, want, fault, run, ends, ending, at_end, moment, progress_of, painting_at, after_taking, after_resolution, after_action, state_after, after_event, CanStop, Quiet}
 use Rattle.tw_lineedit.specs.SessionView.{SessionView}
 use Rattle.tw_lineedit.specs.declared.Error.{Error}
 use Rattle.tw_lineedit.specs.declared.Error.TheVariants.{Memory, Terminal}
 use Rattle.tw_lineedit.proofs.FeedingLemmas.{open_goes_on, stops_unpainted}
-use Rattle.tw_device.specs.Live.{resized, frame_of, Opens, Comes, ComesBy, FailsFrom, FailsBy, FailsOver, FailsTold, ReadsTold, run_over, IsRead, IsStopped, answer_from}
+use Rattle.tw_device.specs.Live.{resized_frame, frame_of, Opens, Comes, ComesBy, FailsFrom, FailsBy, FailsOver, FailsTold, ReadsTold, run_over, IsRead, IsStopped, answer_from}
 use Rattle.tw_device.specs.Live as live
 use Rattle.tw_device.specs.declared.keys.SourceState.{SourceState}
 use Rattle.tw_device.specs.declared.reading.Answer.{Answer}
@@ -63,7 +63,7 @@ module _ {V : Type 0} (run rest : Ending V) (same : run ≡ rest) (f g h : Frame
     size = r.size;
     state = r.state;
     value = r.value;
-    last = r.last;
+    mark = r.mark;
     flushed = r.flushed;
     failures = r.failures ∙ q.failures;
   })
@@ -71,14 +71,14 @@ module _ {V : Type 0} (run rest : Ending V) (same : run ≡ rest) (f g h : Frame
   -- where the other one halts
   pub halts_in : (Starves Starves_later : Moment V → Type 0) → ((m : Moment V) → Starves_later m → Starves m) → (m : Moment V) → HaltsIn rest Starves_later m → HaltsIn run Starves m
   halts_in Starves Starves_later starves m r = elim r [
-    | inl at ↦ inl (at ∙ ap paused (sym same))
+    | inl at ↦ inl (at ∙ ap final_moment (sym same))
     | inr can ↦ inr (starves m can.0, can.1)
   ]
 
   -- and where it halts with a refusal
   pub halts_refused : (Starves Starves_later : Moment V → Type 0) → ((m : Moment V) → Starves_later m → Starves m) → (m : Moment V) → HaltsRefused rest Starves_later m → HaltsIn run Starves m
   halts_refused Starves Starves_later starves m r = elim r [
-    | inl at ↦ inl (at.1 ∙ ap paused (sym same))
+    | inl at ↦ inl (at.1 ∙ ap final_moment (sym same))
     | inr can ↦ inr (starves m can.0, can.1)
   ]
 
@@ -102,38 +102,38 @@ module _ {V : Type 0} (run rest : Ending V) (same : run ≡ rest) (f g h : Frame
 module _ {V : Type 0} (rules : HostRules V) where
   -- an event is taken at the size that it tells
 
-  polled_twice : (s : Progress V) (e : EventView) → polled (polled s e) e ≡ polled s e
+  polled_twice : (s : Progress V) (e : EventView) → after_taking (after_taking s e) e ≡ after_taking s e
   polled_twice s e = ap (with_size s) (size_twice e s.size)
 
-  answered_twice : (s : Progress V) (e : EventView) → answered rules (polled s e) e ≡ answered rules s e
-  answered_twice s e = ap (with_size (answered rules s e)) (size_twice e s.size)
+  answered_twice : (s : Progress V) (e : EventView) → after_resolution rules (after_taking s e) e ≡ after_resolution rules s e
+  answered_twice s e = ap (with_size (after_resolution rules s e)) (size_twice e s.size)
 
-  handled_twice : (s : Progress V) (e : EventView) (state : EditState) → handled rules (polled s e) e state ≡ handled rules s e state
-  handled_twice s e state = ap (with_size (handled rules s e state)) (size_twice e s.size)
+  handled_twice : (s : Progress V) (e : EventView) (state : EditState) → after_action rules (after_taking s e) e state ≡ after_action rules s e state
+  handled_twice s e state = ap (with_size (after_action rules s e state)) (size_twice e s.size)
 
-  after_twice : (s : Progress V) (e : EventView) (es : List EventView) (r : Result EditState Refusal) → after_event rules e es (polled s e) (run rules es) r ≡ after_event rules e es s (run rules es) r
+  after_twice : (s : Progress V) (e : EventView) (es : List EventView) (r : Result EditState Refusal) → after_event rules e es (after_taking s e) (run rules es) r ≡ after_event rules e es s (run rules es) r
   after_twice s e es (Ok state) = ap (run rules es) (handled_twice s e state)
   after_twice s e es (Err n) = ap (ends (Err n) es) (answered_twice s e)
 
-  run_twice : (s : Progress V) (e : EventView) (es : List EventView) → is_over s.state.mode ≡ false → run_on rules (e ∷ es) (polled s e) ≡ run_on rules (e ∷ es) s
+  run_twice : (s : Progress V) (e : EventView) (es : List EventView) → is_over s.state.mode ≡ false → run_on rules (e ∷ es) (after_taking s e) ≡ run_on rules (e ∷ es) s
   run_twice s e es o =
-      ap (λ (b : Bool). cond b (ends (answer_at s.state) (e ∷ es) (polled s e)) (after_event rules e es (polled s e) (run rules es) (state_after rules s e))) o
+      ap (λ (b : Bool). cond b (ends (answer_at s.state) (e ∷ es) (after_taking s e)) (after_event rules e es (after_taking s e) (run rules es) (state_after rules s e))) o
       ∙ after_twice s e es (state_after rules s e)
       ∙ sym (ap (λ (b : Bool). cond b (ends (answer_at s.state) (e ∷ es) s) (after_event rules e es s (run rules es) (state_after rules s e))) o)
 
-  refuse_twice : (c : Cause) (e : EventView) (es : List EventView) (s : Progress V) (m : Moment V) → CanRefuse rules c e es (polled s e) m → CanRefuse rules c e es s m
+  refuse_twice : (c : Cause) (e : EventView) (es : List EventView) (s : Progress V) (m : Moment V) → CanRefuse rules c e es (after_taking s e) m → CanRefuse rules c e es s m
   refuse_twice c e es s m unresolved = subst (λ (t : Progress V). CanRefuse rules want e es s (moment None es t)) (sym (polled_twice s e)) unresolved
   refuse_twice c e es s m (unapplied t) = subst (λ (y : Progress V). CanRefuse rules want e es s (moment None es y)) (sym (answered_twice s e)) (unapplied t)
   refuse_twice c e es s m (half_cleared r) = subst (λ (y : Progress V). CanRefuse rules fault e es s (moment (Some clear_batch) es y)) (sym (answered_twice s e)) (half_cleared r)
   refuse_twice c e es s m (missed st r) = missed st (subst (λ (y : Progress V). CanMiss rules c es y m) (handled_twice s e _) r)
 
-  stop_twice : (c : Cause) (e : EventView) (es : List EventView) (s : Progress V) (m : Moment V) → CanStopAt rules c e es (polled s e) m → CanStopAt rules c e es s m
+  stop_twice : (c : Cause) (e : EventView) (es : List EventView) (s : Progress V) (m : Moment V) → CanStopAt rules c e es (after_taking s e) m → CanStopAt rules c e es s m
   stop_twice c e es s m (refused r) = refused (refuse_twice c e es s m r)
   stop_twice c e es s m (later st r) = later st (subst (λ (y : Progress V). CanStop rules c es y m) (handled_twice s e _) r)
 
   -- a run that is over once its last painting is shown
 
-  painted_last : (s : Progress V) (r : Result Rendered Refusal) → at_end rules s r ≡ paint_end [] s r
+  painted_last : (s : Progress V) (r : Result Rendering Refusal) → at_end rules s r ≡ paint_end [] s r
   painted_last s (Ok p) = refl
   painted_last s (Err n) = refl
 
@@ -142,16 +142,16 @@ module _ {V : Type 0} (rules : HostRules V) where
   run_none es s none = painted_last s (painting_at rules s) ∙ ap (λ (xs : List EventView). painted_run rules xs s) (sym none)
 
   -- behind an event at the size that it tells
-  after_last : (s : Progress V) (e : EventView) (r : Result EditState Refusal) → after_event rules e [] s (run rules []) r ≡ after_event rules e [] (polled s e) (painted_run rules []) r
-  after_last s e (Ok state) = ap (run rules []) (sym (handled_twice s e state)) ∙ run_none [] (handled rules (polled s e) e state) refl
+  after_last : (s : Progress V) (e : EventView) (r : Result EditState Refusal) → after_event rules e [] s (run rules []) r ≡ after_event rules e [] (after_taking s e) (painted_run rules []) r
+  after_last s e (Ok state) = ap (run rules []) (sym (handled_twice s e state)) ∙ run_none [] (after_action rules (after_taking s e) e state) refl
   after_last s e (Err n) = ap (ends (Err n) []) (sym (answered_twice s e))
 
   -- the run over one event
-  run_one : (es : List EventView) (s : Progress V) (e : EventView) → is_over s.state.mode ≡ false → es ≡ [] → run_on rules (e ∷ []) s ≡ fed_run rules e es (polled s e)
+  run_one : (es : List EventView) (s : Progress V) (e : EventView) → is_over s.state.mode ≡ false → es ≡ [] → run_on rules (e ∷ []) s ≡ fed_run rules e es (after_taking s e)
   run_one es s e o none =
       ap (λ (b : Bool). cond b (ends (answer_at s.state) (e ∷ []) s) (after_event rules e [] s (run rules []) (state_after rules s e))) o
       ∙ after_last s e (state_after rules s e)
-      ∙ ap (λ (xs : List EventView). fed_run rules e xs (polled s e)) (sym none)
+      ∙ ap (λ (xs : List EventView). fed_run rules e xs (after_taking s e)) (sym none)
 
   -- events in a row
 
@@ -160,7 +160,7 @@ module _ {V : Type 0} (rules : HostRules V) where
   opened f g b = record { run = b.run; stops = b.stops; quiet = b.quiet; left = b.left }
 
   -- an event is taken
-  pub comes_one : (e : EventView) (f g : Frame V) → is_over f.state.mode ≡ false → IsFed rules e (resized e f) g → Comes rules (e ∷ []) f g
+  pub comes_one : (e : EventView) (f g : Frame V) → is_over f.state.mode ≡ false → IsFed rules e (resized_frame e f) g → Comes rules (e ∷ []) f g
   comes_one e f g o t = record {
     run = λ xs. sym (run_twice (progress_of f) e xs o) ∙ t.run xs;
     stops = λ c xs m r. at_event o (stop_twice c e xs (progress_of f) m (t.stops c xs m r));
@@ -169,7 +169,7 @@ module _ {V : Type 0} (rules : HostRules V) where
   }
 
   -- an event is taken by an open editor
-  pub comes_fed : (e : EventView) (f h k : Frame V) → is_open f.state.mode ≡ true → h ≡ resized e f → (is_open h.state.mode ≡ true → IsFed rules e h k) → Comes rules (e ∷ []) f k
+  pub comes_fed : (e : EventView) (f h k : Frame V) → is_open f.state.mode ≡ true → h ≡ resized_frame e f → (is_open h.state.mode ≡ true → IsFed rules e h k) → Comes rules (e ∷ []) f k
   comes_fed e f h k o hf t =
       comes_one e f k (open_goes_on f.state.mode o) (subst (λ (y : Frame V). IsFed rules e y k) hf (t (subst (λ (y : Frame V). is_open y.state.mode ≡ true) (sym hf) o)))
 
@@ -193,18 +193,18 @@ module _ {V : Type 0} (rules : HostRules V) where
       e r
 
   -- an event is refused
-  pub refused_one : (e : EventView) (f h : Frame V) (x : Error) → is_over f.state.mode ≡ false → f.terminal.events ≡ [] → FailsToFeed rules e (resized e f) h x → FailsFrom rules (e ∷ []) f h x
+  pub refused_one : (e : EventView) (f h : Frame V) (x : Error) → is_over f.state.mode ≡ false → f.terminal.events ≡ [] → FailsToFeed rules e (resized_frame e f) h x → FailsFrom rules (e ∷ []) f h x
   refused_one e f h x o none r =
       let s : Progress V = progress_of f in
-      let rest : Ending V = event_run rules e (resized e f) in
+      let rest : Ending V = event_run rules e (resized_frame e f) in
       let same : run_on rules (e ∷ []) s ≡ rest = run_one f.terminal.events s e o none in
-      let stops : (c : Cause) (m : Moment V) → CanRefuse rules c e f.terminal.events (polled s e) m → CanStopOn rules c (e ∷ []) s m =
-      λ c m can. at_event o (refused (refuse_twice c e [] s m (subst (λ (es : List EventView). CanRefuse rules c e es (polled s e) m) none can))) in
+      let stops : (c : Cause) (m : Moment V) → CanRefuse rules c e f.terminal.events (after_taking s e) m → CanStopOn rules c (e ∷ []) s m =
+      λ c m can. at_event o (refused (refuse_twice c e [] s m (subst (λ (es : List EventView). CanRefuse rules c e es (after_taking s e) m) none can))) in
       fails_later (run_on rules (e ∷ []) s) rest same
-      f (resized e f) h (record { flushed = refl; failures = refl })
-      (CanStopOn rules want (e ∷ []) s) (CanStopOn rules fault (e ∷ []) s) (WantsToFeed rules e (resized e f)) (FaultsToFeed rules e (resized e f)) (HaltsRefused rest (WantsToFeed rules e (resized e f)))
+      f (resized_frame e f) h (record { flushed = refl; failures = refl })
+      (CanStopOn rules want (e ∷ []) s) (CanStopOn rules fault (e ∷ []) s) (WantsToFeed rules e (resized_frame e f)) (FaultsToFeed rules e (resized_frame e f)) (HaltsRefused rest (WantsToFeed rules e (resized_frame e f)))
       (stops want) (stops fault)
-      (halts_refused (run_on rules (e ∷ []) s) rest same f (resized e f) h (record { flushed = refl; failures = refl }) (CanStopOn rules want (e ∷ []) s) (WantsToFeed rules e (resized e f)) (stops want))
+      (halts_refused (run_on rules (e ∷ []) s) rest same f (resized_frame e f) h (record { flushed = refl; failures = refl }) (CanStopOn rules want (e ∷ []) s) (WantsToFeed rules e (resized_frame e f)) (stops want))
       x r
 
   -- it is refused after others
@@ -271,7 +271,7 @@ module _ {V : Type 0} (rules : HostRules V) where
   -- the same, with the frames of an editor's parts
 
   -- an event is refused
-  pub refused_fed : (e : EventView) (f h k : Frame V) (x : Error) → is_open f.state.mode ≡ true → f.terminal.events ≡ [] → h ≡ resized e f → FailsToFeed rules e h k x → FailsFrom rules (e ∷ []) f k x
+  pub refused_fed : (e : EventView) (f h k : Frame V) (x : Error) → is_open f.state.mode ≡ true → f.terminal.events ≡ [] → h ≡ resized_frame e f → FailsToFeed rules e h k x → FailsFrom rules (e ∷ []) f k x
   refused_fed e f h k x o none hf r = refused_one e f k x (open_goes_on f.state.mode o) none (subst (λ (y : Frame V). FailsToFeed rules e y k x) hf r)
 
   -- a line is not begun
@@ -280,16 +280,16 @@ module _ {V : Type 0} (rules : HostRules V) where
       (subst (λ (y : Frame V). FailsOver rules [] (start None f) y x) (sym gh) (unopened f h x none r))
 
   -- an editor whose terminal has the size that an event tells
-  pub resized_is : (e : EventView) (f : Frame V) (t u : TerminalState) → (let r : TerminalState = record u { size = size_after e u.size } in t ≡ r) → u ≡ f.terminal → (let r : Frame V = record f { terminal = t } in r ≡ resized e f)
+  pub resized_is : (e : EventView) (f : Frame V) (t u : TerminalState) → (let r : TerminalState = record u { size = size_after e u.size } in t ≡ r) → u ≡ f.terminal → (let r : Frame V = record f { terminal = t } in r ≡ resized_frame e f)
   resized_is e f t u tu uf = ap (λ (y : TerminalState). let r : Frame V = record f { terminal = y } in r) (tu ∙ ap (λ (y : TerminalState). let r : TerminalState = record y { size = size_after e y.size } in r) uf)
 
   -- how an event that is fed last is answered
-  pub comes_if : (A : Type 0) (answer : Result A Error) (e : EventView) (f h k : Frame V) → is_open f.state.mode ≡ true → h ≡ resized e f → (is_open h.state.mode ≡ true → OnOk answer (IsFed rules e h k)) → OnOk answer (Comes rules (e ∷ []) f k)
+  pub comes_if : (A : Type 0) (answer : Result A Error) (e : EventView) (f h k : Frame V) → is_open f.state.mode ≡ true → h ≡ resized_frame e f → (is_open h.state.mode ≡ true → OnOk answer (IsFed rules e h k)) → OnOk answer (Comes rules (e ∷ []) f k)
   comes_if A (Ok x) e f h k o hf t = comes_fed e f h k o hf t
   comes_if A (Err x) e f h k o hf t = tt
 
   -- and refused
-  pub refused_if : (A : Type 0) (answer : Result A Error) (e : EventView) (f h k : Frame V) → is_open f.state.mode ≡ true → f.terminal.events ≡ [] → h ≡ resized e f → IfErr answer (FailsToFeed rules e h k) → IfErr answer (FailsFrom rules (e ∷ []) f k)
+  pub refused_if : (A : Type 0) (answer : Result A Error) (e : EventView) (f h k : Frame V) → is_open f.state.mode ≡ true → f.terminal.events ≡ [] → h ≡ resized_frame e f → IfErr answer (FailsToFeed rules e h k) → IfErr answer (FailsFrom rules (e ∷ []) f k)
   refused_if A (Ok x) e f h k o none hf r = tt
   refused_if A (Err x) e f h k o none hf r = refused_fed e f h k x o none hf r
 

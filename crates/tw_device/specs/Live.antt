@@ -60,19 +60,19 @@ IsCut old new state _ = ⊥
 module _ {V : Type 0} where
   -- an editor's parts
   abbrev pub frame_of : SessionView → V → TerminalState → Frame V
-  frame_of s v t = record { state = s.state; value = v; last = s.last; terminal = t }
+  frame_of s v t = record { state = s.state; value = v; mark = s.mark; terminal = t }
 
   -- where a new editor of this prompt begins a line
-  abbrev pub fresh : List ℕ → V → TerminalState → Frame V
-  fresh prompt v t = start None (record { state = record new_state { prompt = prompt }; value = v; last = None; terminal = t })
+  abbrev pub fresh_frame : List ℕ → V → TerminalState → Frame V
+  fresh_frame prompt v t = start None (record { state = record new_state { prompt = prompt }; value = v; mark = None; terminal = t })
 
   -- An editor's parts are not told any more: some state and some mark.
   abbrev pub Left : V → TerminalState → (Frame V → Type 0) → Type 0
   Left v t P = (s : SessionView) × P (frame_of s v t)
 
   -- the terminal has the size that an event tells
-  abbrev pub resized : EventView → Frame V → Frame V
-  resized e f = record f { terminal = record f.terminal { size = size_after e f.terminal.size } }
+  abbrev pub resized_frame : EventView → Frame V → Frame V
+  resized_frame e f = record f { terminal = record f.terminal { size = size_after e f.terminal.size } }
 
 module _ {V : Type 0} (rules : HostRules V) where
   -- the abstract editor's run from f over these events

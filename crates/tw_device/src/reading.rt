@@ -8,7 +8,7 @@ ghost use Rattle.tw_lineedit.specs.EditState.{Inactive};
 ghost use Rattle.tw_lineedit.specs.Feeding.{status_if};
 ghost use Rattle.tw_lineedit.specs.Outcomes.{is_open};
 ghost use Rattle.tw_device.specs.Terminal.{terminal_state};
-ghost use Rattle.tw_device.specs.Live.{fresh, Comes, ComesBy, FailsFrom, FailsBy, IsRead, FailsToRead, IsStopped, answer_from};
+ghost use Rattle.tw_device.specs.Live.{fresh_frame, Comes, ComesBy, FailsFrom, FailsBy, IsRead, FailsToRead, IsStopped, answer_from};
 
 use crate::keys::EventSource;
 use crate::terminal::AnsiTerminal;
@@ -135,10 +135,10 @@ pub fn read_line_from<S: EventSource, W: Write, H: LineEditorHost>(
     host: &mut H,
     prompt: &str,
 ) -> Result<Answer, Error>
-    ensures ok { let begun = fresh prompt.now (H.value host.old) (terminal_state terminal.old) in
+    ensures ok { let begun = fresh_frame prompt.now (H.value host.old) (terminal_state terminal.old) in
         IfOk result (IsRead H.rules (S.told source.old) (S.told source.new) (S.state source.new) begun
         (H.value host.new) (terminal_state terminal.new)) }
-    ensures err { let begun = fresh prompt.now (H.value host.old) (terminal_state terminal.old) in
+    ensures err { let begun = fresh_frame prompt.now (H.value host.old) (terminal_state terminal.old) in
         IfErr result (FailsToRead H.rules (S.told source.old) (S.told source.new) (S.state source.new) begun
         (H.value host.new) (terminal_state terminal.new)) }
 {

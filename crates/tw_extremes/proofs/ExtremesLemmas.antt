@@ -1,7 +1,7 @@
 -- What the searches for an extreme find, and steps that are repeated.
 use Rattle.std.proofs.Common.{◌≡◌, ℕ, zero, suc, ◌+◌, ◌-◌, ◌<◌, ◌≤◌, Bool, true, false, None, Some, refl, sym, ap, ◌∙◌, arith, ⊎_elim}
 use Rattle.std.proofs.lemmas.Bool.{cases_eq}
-use Rattle.tw_extremes.specs.Extremes.{least_from, greatest_below, repeated, NonePasses}
+use Rattle.tw_extremes.specs.Extremes.{least_from, greatest_below, iterate, NonePasses}
 
 -- the least one is found
 pub least_from-is : (p : ℕ → Bool) (count from n : ℕ) → from ≤ n → n < from + count → p n ≡ true → NonePasses p from n → least_from p from count ≡ Some n
@@ -40,24 +40,24 @@ greatest_below-none p (suc to) none =
     rw here (greatest_below-none p to (λ k a b. none k a (omega arith)))
 
 -- a step that does not move can be repeated
-pub repeated_stays : {A : Type 0} (f : A → A) (n : ℕ) (x : A) → f x ≡ x → repeated f n x ≡ x
-unfolding repeated
+pub repeated_stays : {A : Type 0} (f : A → A) (n : ℕ) (x : A) → f x ≡ x → iterate f n x ≡ x
+unfolding iterate
 repeated_stays f zero x still = refl
 repeated_stays f (suc n) x still = rw still (repeated_stays f n x still)
 
 -- m steps and then n steps are m + n steps
-pub repeated-add : {A : Type 0} (f : A → A) (m n : ℕ) (x : A) → repeated f (m + n) x ≡ repeated f n (repeated f m x)
-unfolding repeated
-repeated-add f zero n x = let e : 0 + n ≡ n = omega arith in ap (λ k. repeated f k x) e
-repeated-add f (suc m) n x = let e : suc m + n ≡ suc (m + n) = omega arith in ap (λ k. repeated f k x) e ∙ repeated-add f m n (f x)
+pub iterate-add : {A : Type 0} (f : A → A) (m n : ℕ) (x : A) → iterate f (m + n) x ≡ iterate f n (iterate f m x)
+unfolding iterate
+iterate-add f zero n x = let e : 0 + n ≡ n = omega arith in ap (λ k. iterate f k x) e
+iterate-add f (suc m) n x = let e : suc m + n ≡ suc (m + n) = omega arith in ap (λ k. iterate f k x) e ∙ iterate-add f m n (f x)
 
 -- one step of `count`, of which i are done
-pub repeated_once : {A : Type 0} (f : A → A) (count i : ℕ) (x y : A) → i < count → y ≡ f x → repeated f (count - (i + 1)) y ≡ repeated f (count - i) x
-unfolding repeated
+pub repeated_once : {A : Type 0} (f : A → A) (count i : ℕ) (x y : A) → i < count → y ≡ f x → iterate f (count - (i + 1)) y ≡ iterate f (count - i) x
+unfolding iterate
 repeated_once f count i x y low step =
     let e : count - i ≡ suc (count - (i + 1)) = omega arith in rw (e, step) refl
 
 -- no step at all
-pub repeated_none : {A : Type 0} (f : A → A) (n : ℕ) (x : A) → n ≡ 0 → repeated f n x ≡ x
-unfolding repeated
+pub repeated_none : {A : Type 0} (f : A → A) (n : ℕ) (x : A) → n ≡ 0 → iterate f n x ≡ x
+unfolding iterate
 repeated_none f n x e = rw e refl

@@ -12,9 +12,9 @@ greatest_below p zero = None
 greatest_below p (suc to) = if p to then Some to else greatest_below p to
 
 -- f applied n times to x
-unfoldable pub repeated : {A : Type 0} → (A → A) → ℕ → A → A
-repeated f zero x = x
-repeated f (suc n) x = repeated f n (f x)
+unfoldable pub iterate : {A : Type 0} → (A → A) → ℕ → A → A
+iterate f zero x = x
+iterate f (suc n) x = iterate f n (f x)
 
 -- n is the least number from `from` on, and below `to`, that passes
 pub record IsLeast (p : ℕ → Bool) (from to n : ℕ) : Type 0 where

@@ -12,7 +12,7 @@ use Rattle.tw_input.specs.declared.key.KeyCode.{KeyCode}
 use Rattle.tw_input.specs.declared.key.KeyCode.TheVariants.{Char, Backspace, Tab, Enter, Escape, Insert, Delete, Home, End, PageUp, PageDown, LeftArrow, RightArrow, UpArrow, DownArrow, ApplicationLeftArrow, ApplicationRightArrow, ApplicationUpArrow, ApplicationDownArrow, Function}
 use Rattle.tw_input.specs.declared.key.KeyEvent.{KeyEvent}
 use Rattle.tw_host.specs.ActionView.{ActionView}
-use Rattle.tw_host.specs.KeyTable.{is_same_code, is_same_key, key_table, pressed, looked_up, typed}
+use Rattle.tw_host.specs.KeyTable.{is_same_code, is_same_key, key_table, key_press, looked_up, typed_action}
 
 -- keys that are one are equal
 equal_codes : (a b : KeyCode) → is_same_code a b ≡ true → a ≡ b
@@ -74,7 +74,7 @@ equal_keys a b e =
     let parts = and_parts (modifier_bits a.modifiers == modifier_bits b.modifiers) (is_same_code a.key b.key) e in
     let bits = eqb-true (modifier_bits a.modifiers) (modifier_bits b.modifiers) parts.0 in
     let code = equal_codes a.key b.key parts.1 in
-    ap (λ k. pressed (modifier_bits a.modifiers) k) code ∙ ap (λ m. pressed m b.key) bits
+    ap (λ k. key_press (modifier_bits a.modifiers) k) code ∙ ap (λ m. key_press m b.key) bits
 
 -- key events are compared by value
 pub same_key : ComparesValues is_same_key
@@ -110,5 +110,5 @@ pub found : All (λ row. looked_up key_table row.0 ≡ Some row.1) key_table
 found = all-map (λ row. looked_up key_table row.0) (λ row. Some row.1) key_table refl
 
 -- no row is a typed character
-pub not_typed : All (λ row. typed row.0 ≡ None) key_table
-not_typed = all-map (λ row. typed row.0) (λ row. None) key_table refl
+pub not_typed : All (λ row. typed_action row.0 ≡ None) key_table
+not_typed = all-map (λ row. typed_action row.0) (λ row. None) key_table refl

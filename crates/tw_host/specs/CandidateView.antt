@@ -15,8 +15,8 @@ abbrev pub candidate_view : CompletionCandidate → CandidateView
 candidate_view c = record { start = c.range.start; end = c.range.end; text = string_bytes c.text }
 
 -- the line with the text in the place of the range
-abbrev pub replaced : Cut → CandidateView → List ℕ
-replaced cut c = take c.start cut.line ++ (c.text ++ drop c.end cut.line)
+abbrev pub line_with : Cut → CandidateView → List ℕ
+line_with cut c = take c.start cut.line ++ (c.text ++ drop c.end cut.line)
 
 -- where the cursor comes to stand: it goes by the length of the text, less that of the range
 abbrev pub landing : Cut → CandidateView → ℕ
@@ -30,8 +30,8 @@ fits cut c =
     && (is_boundary cut.line c.start
     && (is_boundary cut.line c.end
     && (nat_le c.end (cut.cursor + length c.text + c.start)
-    && is_boundary (replaced cut c) (landing cut c)))))
+    && is_boundary (line_with cut c) (landing cut c)))))
 
 -- the cut text that a candidate makes, if it fits
 abbrev pub completed_by : CandidateView → Cut → Option Cut
-completed_by c cut = if fits cut c then Some (cut_at (replaced cut c) (landing cut c)) else None
+completed_by c cut = if fits cut c then Some (cut_at (line_with cut c) (landing cut c)) else None

@@ -1,6 +1,6 @@
 -- Hosts that show the prompt and the line themselves, in whatever attributes.
 use Rattle.std.specs.Prelude.{ℕ, ◌≡◌, List, take}
-use Rattle.tw_surface.specs.Scenes.{typed}
+use Rattle.tw_surface.specs.Scenes.{typed_text}
 use Rattle.tw_surface.specs.Width.{column_width}
 use Rattle.tw_line.specs.Cut.{Cut}
 use Rattle.tw_host.specs.ElementView.{ElementView, changes_of}
@@ -8,7 +8,7 @@ use Rattle.tw_host.specs.HostRules.{HostRules}
 
 -- the texts of elements, one after the other
 abbrev pub text_of : List ElementView → List ℕ
-text_of elements = typed (changes_of elements)
+text_of elements = typed_text (changes_of elements)
 
 -- the texts that are shown are the prompt and the line, and the cursor stands behind the columns before it
 pub record IsFaithful {V : Type 0} (rules : HostRules V) : Type 0 where

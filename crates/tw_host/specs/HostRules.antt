@@ -55,8 +55,8 @@ abbrev pub plain_highlight : Cut → Highlight
 plain_highlight cut = record { elements = plain_text cut.line; column = column_width (take cut.cursor cut.line) }
 
 -- no action, and nothing changed
-abbrev pub unresolved : {V : Type 0} → V → Cut → Resolution V
-unresolved v cut = record { value = v; cut = cut; action = None }
+abbrev pub no_resolution : {V : Type 0} → V → Cut → Resolution V
+no_resolution v cut = record { value = v; cut = cut; action = None }
 
 -- the host with this history that shows all as it is, and neither previews, completes nor resolves anything
 abbrev pub plain_rules : {V : Type 0} → (V → List (List ℕ)) → HostRules V
@@ -66,7 +66,7 @@ plain_rules lines = record {
   preview = λ v line. [];
   highlight = λ v cut. plain_highlight cut;
   candidates = λ v cut. [];
-  resolve = λ v event cut. unresolved v cut;
+  resolve = λ v event cut. no_resolution v cut;
 }
 
 -- the host's action, else the key table's

@@ -10,8 +10,8 @@ use Rattle.tw_host.specs.ActionView.{ActionView, AcceptLine, Cancel, EndOfFile, 
 use Rattle.tw_line.specs.declared.movements.Movement.TheVariants as movement
 
 -- a key with the bits of its modifiers
-abbrev pub pressed : ℕ → KeyCode → KeyEvent
-pressed bits key = record { key = key; modifiers = modifiers_of bits }
+abbrev pub key_press : ℕ → KeyCode → KeyEvent
+key_press bits key = record { key = key; modifiers = modifiers_of bits }
 
 -- the key of a text's first character
 abbrev pub letter : List ℕ → KeyCode
@@ -21,42 +21,42 @@ letter (c ∷ rest) = Char c
 -- the keys with an action of their own
 abbrev pub key_table : List (KeyEvent × ActionView)
 key_table =
-    (pressed ctrl (letter (codes "C")), Cancel)
-    ∷ (pressed ctrl (letter (codes "D")), EndOfFile)
-    ∷ (pressed ctrl (letter (codes "J")), AcceptLine)
-    ∷ (pressed ctrl (letter (codes "M")), AcceptLine)
-    ∷ (pressed ctrl (letter (codes "H")), Kill (movement.BackwardChar 1))
-    ∷ (pressed ctrl (letter (codes "P")), HistoryPrevious)
-    ∷ (pressed ctrl (letter (codes "N")), HistoryNext)
-    ∷ (pressed ctrl (letter (codes "B")), Move (movement.BackwardChar 1))
-    ∷ (pressed ctrl (letter (codes "F")), Move (movement.ForwardChar 1))
-    ∷ (pressed ctrl (letter (codes "W")), Kill (movement.BackwardWord 1))
-    ∷ (pressed ctrl (letter (codes "A")), Move movement.StartOfLine)
-    ∷ (pressed ctrl (letter (codes "E")), Move movement.EndOfLine)
-    ∷ (pressed ctrl (letter (codes "L")), Repaint)
-    ∷ (pressed ctrl (letter (codes "K")), Kill movement.EndOfLine)
-    ∷ (pressed ctrl (letter (codes "R")), HistoryIncSearchBackwards)
-    ∷ (pressed ctrl (letter (codes "S")), HistoryIncSearchForwards)
-    ∷ (pressed none Tab, Complete)
-    ∷ (pressed none Enter, AcceptLine)
-    ∷ (pressed none Backspace, Kill (movement.BackwardChar 1))
-    ∷ (pressed none Delete, KillAndMove (movement.ForwardChar 1) movement.None)
-    ∷ (pressed none UpArrow, HistoryPrevious)
-    ∷ (pressed none ApplicationUpArrow, HistoryPrevious)
-    ∷ (pressed none DownArrow, HistoryNext)
-    ∷ (pressed none ApplicationDownArrow, HistoryNext)
-    ∷ (pressed none LeftArrow, Move (movement.BackwardChar 1))
-    ∷ (pressed none ApplicationLeftArrow, Move (movement.BackwardChar 1))
-    ∷ (pressed none RightArrow, Move (movement.ForwardChar 1))
-    ∷ (pressed none ApplicationRightArrow, Move (movement.ForwardChar 1))
-    ∷ (pressed none Home, Move movement.StartOfLine)
-    ∷ (pressed none End, Move movement.EndOfLine)
-    ∷ (pressed alt (letter (codes "b")), Move (movement.BackwardWord 1))
-    ∷ (pressed alt LeftArrow, Move (movement.BackwardWord 1))
-    ∷ (pressed alt ApplicationLeftArrow, Move (movement.BackwardWord 1))
-    ∷ (pressed alt (letter (codes "f")), Move (movement.ForwardWord 1))
-    ∷ (pressed alt RightArrow, Move (movement.ForwardWord 1))
-    ∷ (pressed alt ApplicationRightArrow, Move (movement.ForwardWord 1))
+    (key_press ctrl (letter (codes "C")), Cancel)
+    ∷ (key_press ctrl (letter (codes "D")), EndOfFile)
+    ∷ (key_press ctrl (letter (codes "J")), AcceptLine)
+    ∷ (key_press ctrl (letter (codes "M")), AcceptLine)
+    ∷ (key_press ctrl (letter (codes "H")), Kill (movement.BackwardChar 1))
+    ∷ (key_press ctrl (letter (codes "P")), HistoryPrevious)
+    ∷ (key_press ctrl (letter (codes "N")), HistoryNext)
+    ∷ (key_press ctrl (letter (codes "B")), Move (movement.BackwardChar 1))
+    ∷ (key_press ctrl (letter (codes "F")), Move (movement.ForwardChar 1))
+    ∷ (key_press ctrl (letter (codes "W")), Kill (movement.BackwardWord 1))
+    ∷ (key_press ctrl (letter (codes "A")), Move movement.StartOfLine)
+    ∷ (key_press ctrl (letter (codes "E")), Move movement.EndOfLine)
+    ∷ (key_press ctrl (letter (codes "L")), Repaint)
+    ∷ (key_press ctrl (letter (codes "K")), Kill movement.EndOfLine)
+    ∷ (key_press ctrl (letter (codes "R")), HistoryIncSearchBackwards)
+    ∷ (key_press ctrl (letter (codes "S")), HistoryIncSearchForwards)
+    ∷ (key_press none Tab, Complete)
+    ∷ (key_press none Enter, AcceptLine)
+    ∷ (key_press none Backspace, Kill (movement.BackwardChar 1))
+    ∷ (key_press none Delete, KillAndMove (movement.ForwardChar 1) movement.None)
+    ∷ (key_press none UpArrow, HistoryPrevious)
+    ∷ (key_press none ApplicationUpArrow, HistoryPrevious)
+    ∷ (key_press none DownArrow, HistoryNext)
+    ∷ (key_press none ApplicationDownArrow, HistoryNext)
+    ∷ (key_press none LeftArrow, Move (movement.BackwardChar 1))
+    ∷ (key_press none ApplicationLeftArrow, Move (movement.BackwardChar 1))
+    ∷ (key_press none RightArrow, Move (movement.ForwardChar 1))
+    ∷ (key_press none ApplicationRightArrow, Move (movement.ForwardChar 1))
+    ∷ (key_press none Home, Move movement.StartOfLine)
+    ∷ (key_press none End, Move movement.EndOfLine)
+    ∷ (key_press alt (letter (codes "b")), Move (movement.BackwardWord 1))
+    ∷ (key_press alt LeftArrow, Move (movement.BackwardWord 1))
+    ∷ (key_press alt ApplicationLeftArrow, Move (movement.BackwardWord 1))
+    ∷ (key_press alt (letter (codes "f")), Move (movement.ForwardWord 1))
+    ∷ (key_press alt RightArrow, Move (movement.ForwardWord 1))
+    ∷ (key_press alt ApplicationRightArrow, Move (movement.ForwardWord 1))
     ∷ []
 
 -- whether two keys are one
@@ -98,12 +98,12 @@ typed_code (Char c) = Some (InsertChar 1 c)
 typed_code _ = None
 
 -- a character is typed with no modifier, or with SHIFT alone
-abbrev pub typed : KeyEvent → Option ActionView
-typed k = if (modifier_bits k.modifiers == none) || (modifier_bits k.modifiers == shift) then typed_code k.key else None
+abbrev pub typed_action : KeyEvent → Option ActionView
+typed_action k = if (modifier_bits k.modifiers == none) || (modifier_bits k.modifiers == shift) then typed_code k.key else None
 
 -- the action of a key: its row's, or the typed character's
 abbrev pub key_action_of : KeyEvent → Option ActionView
-key_action_of k = option_or (looked_up key_table k) (typed k)
+key_action_of k = option_or (looked_up key_table k) (typed_action k)
 
 -- the action of an event: a pasted text is inserted once
 abbrev pub action_of : EventView → Option ActionView

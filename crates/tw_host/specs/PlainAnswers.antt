@@ -3,7 +3,7 @@ use Rattle.std.specs.Prelude.{ℕ, ◌≡◌, true, false, List, [], refl}
 use Rattle.std.proofs.lemmas.Bool.{true≢false}
 use Rattle.tw_host.specs.declared.host.Overrides.{Overrides}
 use Rattle.tw_line.specs.Cut.{Cut}
-use Rattle.tw_host.specs.HostRules.{HostRules, plain_text, plain_highlight, unresolved, plain_rules}
+use Rattle.tw_host.specs.HostRules.{HostRules, plain_text, plain_highlight, no_resolution, plain_rules}
 use Rattle.tw_input.specs.EventView.{EventView}
 
 -- no answer of its own
@@ -20,7 +20,7 @@ pub record IsPlainBut {V : Type 0} (rules : HostRules V) (overrides : Overrides)
   pub preview : overrides.render_preview ≡ false → (v : V) (line : List ℕ) → rules.preview v line ≡ []
   pub highlight : overrides.highlight_line ≡ false → (v : V) (cut : Cut) → rules.highlight v cut ≡ plain_highlight cut
   pub complete : overrides.complete ≡ false → (v : V) (cut : Cut) → rules.candidates v cut ≡ []
-  pub resolve : overrides.resolve_action ≡ false → (v : V) (event : EventView) (cut : Cut) → rules.resolve v event cut ≡ unresolved v cut
+  pub resolve : overrides.resolve_action ≡ false → (v : V) (event : EventView) (cut : Cut) → rules.resolve v event cut ≡ no_resolution v cut
 
 -- the plain host answers nothing for itself
 pub plain_is_plain : {V : Type 0} (lines : V → List (List ℕ)) → IsPlainBut (plain_rules lines) no_overrides

@@ -5,7 +5,7 @@ ghost use Rattle.std.specs.Option.{option_map};
 ghost use Rattle.tw_input.specs.EventView.{event_view};
 ghost use Rattle.tw_input.specs.Modifiers.{none, alt, ctrl};
 ghost use Rattle.tw_host.specs.ActionView.{action_view};
-ghost use Rattle.tw_host.specs.KeyTable.{IsPaste, action_of, key_action_of, typed_code, pressed};
+ghost use Rattle.tw_host.specs.KeyTable.{IsPaste, action_of, key_action_of, typed_code, key_press};
 
 use crate::actions::Action;
 use std::alloc::{AllocError, Global};
@@ -46,7 +46,7 @@ fn key_action(event: KeyEvent) -> Option<Action>
 
 /// The action of a key while CTRL is held.
 fn ctrl_action(key: KeyCode) -> Option<Action>
-    ensures { option_map action_view result ≡ key_action_of (pressed ctrl key) }
+    ensures { option_map action_view result ≡ key_action_of (key_press ctrl key) }
 {
     let KeyCode::Char(c) = key else {
         return None;
@@ -73,7 +73,7 @@ fn ctrl_action(key: KeyCode) -> Option<Action>
 
 /// The action of a key while no modifier is held.
 fn plain_action(key: KeyCode) -> Option<Action>
-    ensures { option_map action_view result ≡ key_action_of (pressed none key) }
+    ensures { option_map action_view result ≡ key_action_of (key_press none key) }
 {
     match key {
         KeyCode::Tab => Some(Action::Complete),
@@ -96,7 +96,7 @@ fn plain_action(key: KeyCode) -> Option<Action>
 
 /// The action of a key while ALT is held.
 fn alt_action(key: KeyCode) -> Option<Action>
-    ensures { option_map action_view result ≡ key_action_of (pressed alt key) }
+    ensures { option_map action_view result ≡ key_action_of (key_press alt key) }
 {
     match key {
         KeyCode::Char('b') | KeyCode::LeftArrow | KeyCode::ApplicationLeftArrow => {

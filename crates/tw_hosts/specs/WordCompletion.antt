@@ -9,9 +9,9 @@ abbrev pub candidate : ℕ → ℕ → List ℕ → CandidateView
 candidate start end text = record { start = start; end = end; text = text }
 
 -- those of the words that begin with the one before a cursor, each in its place
-abbrev pub offered : ℕ → List ℕ → List (List ℕ) → List CandidateView
-offered cursor word words = map (candidate (cursor - length word) cursor) (filter (begins_with word) words)
+abbrev pub word_candidates : ℕ → List ℕ → List (List ℕ) → List CandidateView
+word_candidates cursor word words = map (candidate (cursor - length word) cursor) (filter (begins_with word) words)
 
 -- what completes the word before the cursor
 abbrev pub completions : List (List ℕ) → Cut → List CandidateView
-completions words cut = offered cut.cursor (last_word (take cut.cursor cut.line)) words
+completions words cut = word_candidates cut.cursor (last_word (take cut.cursor cut.line)) words

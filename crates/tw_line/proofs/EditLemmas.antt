@@ -7,7 +7,7 @@ use Rattle.std.specs.Str.{chars, IsUtf8, IsCharBoundary}
 use Rattle.tw_line.specs.Boundaries.{boundary_below}
 use Rattle.tw_line.specs.Cut.{Cut, cut_at}
 use Rattle.tw_line.specs.Edits.{with_text, without}
-use Rattle.tw_extremes.specs.Extremes.{repeated}
+use Rattle.tw_extremes.specs.Extremes.{iterate}
 use Rattle.tw_extremes.proofs.ExtremesLemmas.{repeated_stays}
 
 -- the length after an insertion
@@ -57,7 +57,7 @@ with_text-nil s c e =
     ap (λ t. with_text t c) e ∙ ap (λ t. cut_at t (c.cursor + 0)) line ∙ ap (cut_at c.line) at
 
 -- nor does it when it is inserted several times
-pub with_text-nothing : (s : List ℕ) (count : ℕ) (c : Cut) → s ≡ [] → c ≡ repeated (with_text s) count c
+pub with_text-nothing : (s : List ℕ) (count : ℕ) (c : Cut) → s ≡ [] → c ≡ iterate (with_text s) count c
 with_text-nothing s count c e = sym (repeated_stays (with_text s) count c (with_text-nil s c e))
 
 -- what is left of a text, and the cursor in it

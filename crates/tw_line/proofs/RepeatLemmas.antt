@@ -3,7 +3,7 @@ use Rattle.std.proofs.Common.{◌≡◌, ℕ, zero, suc, ◌+◌, ◌≤◌, Lis
 use Rattle.std.specs.List.{insert_slice, repeat}
 use Rattle.tw_line.specs.Cut.{Cut, cut_at}
 use Rattle.tw_line.specs.Edits.{with_text}
-use Rattle.tw_extremes.specs.Extremes.{repeated}
+use Rattle.tw_extremes.specs.Extremes.{iterate}
 use Rattle.tw_line.proofs.EditLemmas.{length-insert_slice, with_text-nil}
 
 -- a text inserted behind one that was inserted
@@ -20,10 +20,10 @@ with_text-twice s t c within =
     ap (λ l. cut_at l (at + length t)) line ∙ ap (cut_at (insert_slice c.line c.cursor (s ++ t))) cursor
 
 -- repeated insertions of a text insert it repeated
-pub with_text-repeated : (s : List ℕ) (count : ℕ) (c : Cut) → c.cursor ≤ length c.line → repeated (with_text s) count c ≡ with_text (repeat count s) c
-unfolding repeated
-with_text-repeated s zero c within = sym (with_text-nil [] c refl)
-with_text-repeated s (suc count) c within =
+pub with_text-iterate : (s : List ℕ) (count : ℕ) (c : Cut) → c.cursor ≤ length c.line → iterate (with_text s) count c ≡ with_text (repeat count s) c
+unfolding iterate
+with_text-iterate s zero c within = sym (with_text-nil [] c refl)
+with_text-iterate s (suc count) c within =
     let line = insert_slice c.line c.cursor s in
     let longer = length-insert_slice c.line s line c.cursor refl in
-    with_text-repeated s count (with_text s c) (omega arith) ∙ with_text-twice s (repeat count s) c within
+    with_text-iterate s count (with_text s c) (omega arith) ∙ with_text-twice s (repeat count s) c within

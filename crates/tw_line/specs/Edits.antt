@@ -22,5 +22,5 @@ without to at c =
     cut_at line (boundary_below line (min at (length line)))
 
 -- both movements are taken on the old cut text
-abbrev pub killed : Movement → Movement → Cut → Cut
-killed kill m c = without (destination kill c) (destination m c) c
+abbrev pub after_kill : Movement → Movement → Cut → Cut
+after_kill kill m c = without (destination kill c) (destination m c) c

@@ -5,13 +5,13 @@ use Rattle.tw_line.specs.Cut.{Cut, IsCut}
 use Rattle.tw_line.specs.Boundaries.{is_boundary, boundary_below}
 use Rattle.tw_line.specs.Clusters.{is_cluster_boundary, cluster_after, cluster_before}
 use Rattle.tw_extremes.specs.Extremes.{IsLeastOr, IsGreatestOr}
-use Rattle.tw_line.specs.Movements.{destination, moved}
+use Rattle.tw_line.specs.Movements.{destination, after_move}
 use Rattle.tw_line.specs.Words.{is_space, is_no_space, follows_space, space_from, word_from, word_before}
 use Rattle.tw_line.specs.declared.movements.Movement.{Movement}
 
 -- a steps and then b steps lead where a + b steps lead
 abbrev pub CountsAddUp : (ℕ → Movement) → Type 0
-CountsAddUp m = (c : Cut) (a b : ℕ) → IsCut c → destination (m (a + b)) c ≡ destination (m b) (moved (m a) c)
+CountsAddUp m = (c : Cut) (a b : ℕ) → IsCut c → destination (m (a + b)) c ≡ destination (m b) (after_move (m a) c)
 
 -- the boundaries are those of std, and each step and the clamp lead to the extreme of a set of them
 pub record OffsetsAreExtremes (text : List ℕ) (at : ℕ) : Type 0 where

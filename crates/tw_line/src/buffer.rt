@@ -34,10 +34,10 @@ impl Model for LineEditBuffer {
 
 impl LineEditBuffer {
     ghost use Rattle.tw_line.specs.Cut.{cut_at, empty_cut, IsCut};
-    ghost use Rattle.tw_line.specs.Edits.{with_char, with_text, killed};
-    ghost use Rattle.tw_extremes.specs.Extremes.{repeated};
+    ghost use Rattle.tw_line.specs.Edits.{with_char, with_text, after_kill};
+    ghost use Rattle.tw_extremes.specs.Extremes.{iterate};
     ghost use Rattle.tw_line.specs.Indices.{index_of};
-    ghost use Rattle.tw_line.specs.Movements.{moved};
+    ghost use Rattle.tw_line.specs.Movements.{after_move};
     ghost use Rattle.tw_line.specs.Starts.{binary_digits};
 
     /// The empty line. It takes no memory.
@@ -130,7 +130,7 @@ impl LineEditBuffer {
     /// Inserts the character `count` times, or not at all: where it is refused the buffer is as it
     /// was. It is refused before anything is inserted where the line would pass `isize::MAX` bytes.
     pub fn insert_char_times(&mut self, count: RepeatCount, c: char) -> Result<(), AllocError>
-        ensures ok { OnOk result (self.new ≡ repeated (with_char c) count self.old) }
+        ensures ok { OnOk result (self.new ≡ iterate (with_char c) count self.old) }
         ensures err { OnErr result (self.new ≡ self.old) }
         ensures nothing { count ≡ 0 → IsOk result }
         ensures too_long { 2 ^ 63 ≤ length self.old.line + count * length (encode_utf8 c) → IsErr result }
@@ -157,7 +157,7 @@ impl LineEditBuffer {
     /// Inserts the text `count` times, or not at all: where it is refused the buffer is as it was.
     /// It is refused before anything is inserted where the line would pass `isize::MAX` bytes.
     pub fn insert_text_times(&mut self, count: RepeatCount, text: &str) -> Result<(), AllocError>
-        ensures ok { OnOk result (self.new ≡ repeated (with_text text.now) count self.old) }
+        ensures ok { OnOk result (self.new ≡ iterate (with_text text.now) count self.old) }
         ensures err { OnErr result (self.new ≡ self.old) }
         ensures none { count ≡ 0 → IsOk result }
         ensures empty { text.now ≡ [] → IsOk result × (self.new ≡ self.old) }
@@ -175,7 +175,7 @@ impl LineEditBuffer {
 
     /// Moves the cursor. It returns for every count, and takes no memory.
     pub fn exec_movement(&mut self, movement: Movement)
-        ensures { self.new ≡ moved movement self.old }
+        ensures { self.new ≡ after_move movement self.old }
     {
         self.cursor = destination(&self.line, self.cursor, movement);
     }
@@ -184,7 +184,7 @@ impl LineEditBuffer {
     /// greatest boundary of what is left that is not above where `movement` leads; both movements
     /// are those in the old line. It takes no memory.
     pub fn kill_text(&mut self, kill: Movement, movement: Movement)
-        ensures { self.new ≡ killed kill movement self.old }
+        ensures { self.new ≡ after_kill kill movement self.old }
     {
         let end = destination(&self.line, self.cursor, kill);
         let target = destination(&self.line, self.cursor, movement);

@@ -3,7 +3,7 @@
 ghost use Rattle.std.specs.Prelude.{◌≡◌, ◌≤◌, ◌<◌, true, length};
 ghost use Rattle.std.specs.Str.{IsCharBoundary};
 ghost use Rattle.tw_line.specs.Clusters.{is_cluster_boundary, cluster_after, cluster_before};
-ghost use Rattle.tw_extremes.specs.Extremes.{repeated};
+ghost use Rattle.tw_extremes.specs.Extremes.{iterate};
 
 use crate::movements::RepeatCount;
 use unicode_segmentation::GraphemeCursor;
@@ -24,7 +24,7 @@ pub fn cluster_after(line: &str, at: usize) -> usize
 /// there is no boundary above.
 pub fn clusters_after(line: &str, at: usize, count: RepeatCount) -> usize
     requires { IsCharBoundary line.now at }
-    ensures value { result ≡ repeated (cluster_after line.now) count at }
+    ensures value { result ≡ iterate (cluster_after line.now) count at }
     ensures boundary { IsCharBoundary line.now result }
 {
     let mut cursor = GraphemeCursor::new(at, line.len(), IS_EXTENDED);
@@ -67,7 +67,7 @@ pub fn cluster_from(line: &str, from: usize, at: usize) -> (bool, usize)
 /// there is no boundary below.
 pub fn clusters_before(line: &str, at: usize, count: RepeatCount) -> usize
     requires { IsCharBoundary line.now at }
-    ensures value { result ≡ repeated (cluster_before line.now) count at }
+    ensures value { result ≡ iterate (cluster_before line.now) count at }
     ensures boundary { IsCharBoundary line.now result }
 {
     let mut cursor = GraphemeCursor::new(at, line.len(), IS_EXTENDED);

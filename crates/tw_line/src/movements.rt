@@ -3,7 +3,7 @@
 ghost use Rattle.std.specs.Prelude.{◌≡◌};
 ghost use Rattle.std.specs.Str.{IsCharBoundary};
 ghost use Rattle.tw_line.specs.Cut.{cut_at};
-ghost use Rattle.tw_extremes.specs.Extremes.{repeated};
+ghost use Rattle.tw_extremes.specs.Extremes.{iterate};
 ghost use Rattle.tw_line.specs.Movements.{destination};
 ghost use Rattle.tw_line.specs.OffsetSteps.{step_from};
 ghost use Rattle.tw_line.specs.Text.{bytes_of};
@@ -62,7 +62,7 @@ pub fn destination(line: &Text, cursor: usize, movement: Movement) -> usize
 /// Where `count` steps over words lead from `start`. It returns as soon as a step leads nowhere.
 fn steps_from(line: &Text, start: usize, step: Step, count: RepeatCount) -> usize
     requires { IsCharBoundary (bytes_of line.now) start }
-    ensures value { result ≡ repeated (step_from step (bytes_of line.now)) count start }
+    ensures value { result ≡ iterate (step_from step (bytes_of line.now)) count start }
     ensures boundary { IsCharBoundary (bytes_of line.now) result }
 {
     let mut at = start;

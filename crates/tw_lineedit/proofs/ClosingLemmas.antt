@@ -13,7 +13,7 @@ use Rattle.tw_session.specs.Outcomes.{Outcome, answer_at, IsLine, IsRefusal}
 use Rattle.tw_lineedit.specs.Frame.{Frame, with_value}
 use Rattle.tw_lineedit.specs.Run.{Ending, Moment, run_of, ending, StandsAt, Quiet, IsAnswered, moment, progress_of, IsRefusedIn}
 use Rattle.tw_lineedit.specs.EditorSteps.{Closes, CutsClosing, MissesFlush, FailsToClose, GivesUp}
-use Rattle.tw_lineedit.specs.Reading.{start, unbegun, Reads, paused, Leaves, ClosesWhole, ClosesInPart, ClosesUnflushed, ClosesBadly, Starves, Faults, Halts, FailsToRead, IsTurnedDown, HaltsIn, HaltsRefused, FailsIn}
+use Rattle.tw_lineedit.specs.Reading.{start, unbegun, Reads, final_moment, Leaves, ClosesWhole, ClosesInPart, ClosesUnflushed, ClosesBadly, Starves, Faults, Halts, FailsToRead, IsTurnedDown, HaltsIn, HaltsRefused, FailsIn}
 use Rattle.tw_painter.specs.declared.error.Error.{Error}
 use Rattle.tw_painter.specs.declared.error.Error.TheVariants.{Memory, Terminal}
 use Rattle.tw_lineedit.specs.Feeding.{Uncopied, FailsToFinish, begun_run, WantsToBegin, FaultsToBegin, IsNotBegun, FailsToBegin}
@@ -22,13 +22,13 @@ use Rattle.tw_lineedit.proofs.StandLemmas.{stands_here}
 -- what is done without the host, with a host's value
 module _ {V : Type 0} (v : V) where
   pub closes_with : (f g : Frame ⊤) → Closes f g → Closes (with_value v f) (with_value v g)
-  closes_with f g c = record { state = c.state; value = refl; last = c.last; terminal = c.terminal }
+  closes_with f g c = record { state = c.state; value = refl; mark = c.mark; terminal = c.terminal }
 
   cuts_with : (f g : Frame ⊤) → CutsClosing f g → CutsClosing (with_value v f) (with_value v g)
-  cuts_with f g c = record { state = c.state; value = refl; last = c.last; terminal = c.terminal }
+  cuts_with f g c = record { state = c.state; value = refl; mark = c.mark; terminal = c.terminal }
 
   misses_with : (f g : Frame ⊤) → MissesFlush f g → MissesFlush (with_value v f) (with_value v g)
-  misses_with f g c = record { state = c.state; value = refl; last = c.last; terminal = c.terminal }
+  misses_with f g c = record { state = c.state; value = refl; mark = c.mark; terminal = c.terminal }
 
   pub fails_with : (f g : Frame ⊤) (e : Error) → FailsToClose f g e → FailsToClose (with_value v f) (with_value v g) e
   fails_with f g (Terminal x) (inl c) = inl (cuts_with f g c)
@@ -41,20 +41,20 @@ module _ {V : Type 0} (v : V) where
 
   -- what is left then
   abbrev moment_with : Moment ⊤ → Moment V
-  moment_with m = record { state = m.state; value = v; size = m.size; last = m.last; taken = m.taken; rendering = m.rendering; left = m.left }
+  moment_with m = record { state = m.state; value = v; size = m.size; mark = m.mark; taken = m.taken; rendering = m.rendering; left = m.left }
 
   leaves_with : (m : Moment ⊤) (end : List Batch) (g : Frame ⊤) → Leaves m end g → Leaves (moment_with m) end (with_value v g)
-  leaves_with m end g l = record { batches = l.batches; left = l.left; size = l.size; state = l.state; value = refl; last = l.last }
+  leaves_with m end g l = record { batches = l.batches; left = l.left; size = l.size; state = l.state; value = refl; mark = l.mark }
 
   closes_whole_with : (m : Moment ⊤) (g : Frame ⊤) → ClosesWhole m g → ClosesWhole (moment_with m) (with_value v g)
-  closes_whole_with m g c = record { leaves = leaves_with m (closing_if m.last) g c.leaves; flushed = c.flushed }
+  closes_whole_with m g c = record { leaves = leaves_with m (closing_if m.mark) g c.leaves; flushed = c.flushed }
 
   closes_badly_with : (m : Moment ⊤) (f g : Frame ⊤) → ClosesBadly m f g → ClosesBadly (moment_with m) (with_value v f) (with_value v g)
   closes_badly_with m f g (inl part) = inl (record {
     leaves = (part.leaves.0, part.leaves.1, part.leaves.2, part.leaves.3, leaves_with m part.leaves.1 g part.leaves.4);
     flushed = part.flushed;
   })
-  closes_badly_with m f g (inr whole) = inr (record { leaves = leaves_with m (closing_if m.last) g whole.leaves; flushed = whole.flushed })
+  closes_badly_with m f g (inr whole) = inr (record { leaves = leaves_with m (closing_if m.mark) g whole.leaves; flushed = whole.flushed })
 
   -- the end of a line that is fed its events
   pub reads_with : (f g : Frame ⊤) (answer : Outcome) → Reads (ending (answer_at f.state) f) f g answer → Reads (ending (answer_at f.state) (with_value v f)) (with_value v f) (with_value v g) answer
@@ -65,7 +65,7 @@ module _ {V : Type 0} (v : V) where
     size = r.size;
     state = r.state;
     value = refl;
-    last = r.last;
+    mark = r.mark;
     flushed = r.flushed;
     failures = r.failures;
   }
@@ -96,14 +96,14 @@ module _ {V : Type 0} where
         st.part.0,
         st.part.1,
         ap (λ (t : TerminalState). t.batches) c.terminal
-            ∙ ap (λ (y : Option Mark). h.terminal.batches ++ closing_if y) st.last
-            ∙ ap (λ (x : List Batch). x ++ closing_if m.last) st.part.2,
+            ∙ ap (λ (y : Option Mark). h.terminal.batches ++ closing_if y) st.mark
+            ∙ ap (λ (x : List Batch). x ++ closing_if m.mark) st.part.2,
       );
       left = ap (λ (t : TerminalState). t.events) c.terminal ∙ st.left;
       size = ap (λ (t : TerminalState). t.size) c.terminal ∙ st.size;
       state = inactive m h g st c.state;
       value = c.value ∙ st.value;
-      last = c.last;
+      mark = c.mark;
     };
     flushed = ap (λ (t : TerminalState). t.flushed) c.terminal ∙ ap (λ (t : TerminalState). length t.batches) (sym c.terminal);
   }
@@ -116,7 +116,7 @@ module _ {V : Type 0} where
         leaves = (
           c.terminal.0,
           fails.part.0,
-          sym st.last ∙ c.terminal.1,
+          sym st.mark ∙ c.terminal.1,
           fails.part.1,
           record {
             batches = (st.part.0, st.part.1, fails.part.2 ∙ ap (λ (x : List Batch). x ++ fails.part.0) st.part.2);
@@ -124,7 +124,7 @@ module _ {V : Type 0} where
             size = ap (λ (t : TerminalState). t.size) fails.rest ∙ st.size;
             state = inactive m h g st c.state;
             value = c.value ∙ st.value;
-            last = c.last;
+            mark = c.mark;
           },
         );
         flushed = ap (λ (t : TerminalState). t.flushed) fails.rest ∙ hf;
@@ -138,14 +138,14 @@ module _ {V : Type 0} where
         st.part.0,
         st.part.1,
         ap (λ (t : TerminalState). t.batches) c.terminal
-            ∙ ap (λ (y : Option Mark). h.terminal.batches ++ closing_if y) st.last
-            ∙ ap (λ (x : List Batch). x ++ closing_if m.last) st.part.2,
+            ∙ ap (λ (y : Option Mark). h.terminal.batches ++ closing_if y) st.mark
+            ∙ ap (λ (x : List Batch). x ++ closing_if m.mark) st.part.2,
       );
       left = ap (λ (t : TerminalState). t.events) c.terminal ∙ st.left;
       size = ap (λ (t : TerminalState). t.size) c.terminal ∙ st.size;
       state = inactive m h g st c.state;
       value = c.value ∙ st.value;
-      last = c.last;
+      mark = c.mark;
     };
     flushed = ap (λ (t : TerminalState). t.flushed) c.terminal ∙ hf;
   }
@@ -175,15 +175,15 @@ module _ {V : Type 0} (run : Ending V) (f : Frame V) where
     size = ap (λ (t : TerminalState). t.size) c.terminal;
     state = c.state;
     value = c.value;
-    last = c.last;
+    mark = c.mark;
     flushed = ap (λ (t : TerminalState). t.flushed) c.terminal ∙ ap (λ (t : TerminalState). length t.batches) (sym c.terminal);
     failures = ap (λ (t : TerminalState). t.failures) c.terminal ∙ q.failures;
   })
 
   -- a run stands at its ending
-  stands_ended : (h : Frame V) (answer : Outcome) → run ≡ ending answer h → StandsAt (paused run) h
-  stands_ended h answer r = subst (λ (x : Ending V). StandsAt (paused x) h) (sym r)
-      (record { state = refl; value = refl; size = refl; last = refl; left = refl; part = ([], refl, sym (append-nil h.terminal.batches)) })
+  stands_ended : (h : Frame V) (answer : Outcome) → run ≡ ending answer h → StandsAt (final_moment run) h
+  stands_ended h answer r = subst (λ (x : Ending V). StandsAt (final_moment x) h) (sym r)
+      (record { state = refl; value = refl; size = refl; mark = refl; left = refl; part = ([], refl, sym (append-nil h.terminal.batches)) })
 
   -- a run that ends with a refusal does not end with a line
   ends_refused : (h : Frame V) (r : Refusal) → run ≡ ending (Err r) h → IsRefusal run.answer
@@ -203,11 +203,11 @@ module _ {V : Type 0} (run : Ending V) (Starves Faults Halts : Moment V → Type
   halted m h g can st q c = (m, inr (inr (can, closes_badly m f h g st q.flushed c, one_more h g c ∙ ap count_up q.failures)))
 
   -- the run ended, and the closing is refused
-  ended : (h g : Frame V) (answer : Outcome) → Halts (paused run) → run ≡ ending answer h → Quiet f h → CutsClosing h g ⊎ MissesFlush h g → Fault g
-  ended h g answer can r q c = halted (paused run) h g can (stands_ended run f h answer r) q c
+  ended : (h g : Frame V) (answer : Outcome) → Halts (final_moment run) → run ≡ ending answer h → Quiet f h → CutsClosing h g ⊎ MissesFlush h g → Fault g
+  ended h g answer can r q c = halted (final_moment run) h g can (stands_ended run f h answer r) q c
 
   -- an answer, and the closing is refused
-  pub ended_unclosed : (h g : Frame V) (answer : Outcome) (e : Error) → Halts (paused run) → run ≡ ending answer h → Quiet f h → FailsToClose h g e → FailsIn run Starves Faults Halts f g e
+  pub ended_unclosed : (h g : Frame V) (answer : Outcome) (e : Error) → Halts (final_moment run) → run ≡ ending answer h → Quiet f h → FailsToClose h g e → FailsIn run Starves Faults Halts f g e
   ended_unclosed h g answer (Terminal x) can r q c = ended h g answer can r q c
   ended_unclosed h g answer _ can r q bad = absurd bad
 
@@ -218,7 +218,7 @@ module _ {V : Type 0} (run : Ending V) (Starves Faults Halts : Moment V → Type
   refused_closed h g e (r, q) c = reads run f h g (Err (refusal_of e)) r q c
 
   -- Among those are a refusal of memory and an ending with a refusal.
-  module _ (starved : (m : Moment V) → Starves m × (m.rendering ≡ None) → Halts m) (refused : IsRefusal run.answer → Halts (paused run)) where
+  module _ (starved : (m : Moment V) → Starves m × (m.rendering ≡ None) → Halts m) (refused : IsRefusal run.answer → Halts (final_moment run)) where
     -- a refusal, and then that of the closing
     refused_then : (h g : Frame V) (x : Error) → IsRefusedIn run Starves Faults f h x → CutsClosing h g ⊎ MissesFlush h g → Fault g
     refused_then h g (Memory y) ((m, can, idle, st), q) c = halted m h g (starved m (can, idle)) st q c
@@ -246,7 +246,7 @@ module _ {V : Type 0} (rules : HostRules V) (initial : Option (List ℕ)) (f : F
   -- the initial value found no memory
   pub not_begun : (h : Frame V) → h ≡ start None f → IsSome initial → ((m : Moment V) × WantsToBegin rules initial f m × (m.rendering ≡ None) × StandsAt m h) × Quiet f h
   not_begun h same some = subst (λ (y : Frame V). ((m : Moment V) × WantsToBegin rules initial f m × (m.rendering ≡ None) × StandsAt m y) × Quiet f y) (sym same) (
-    (unbegun f, inr (some, refl), refl, record { state = refl; value = refl; size = refl; last = refl; left = refl; part = ([], refl, sym (append-nil f.terminal.batches)) }),
+    (unbegun f, inr (some, refl), refl, record { state = refl; value = refl; size = refl; mark = refl; left = refl; part = ([], refl, sym (append-nil f.terminal.batches)) }),
     record { flushed = refl; failures = refl },
   )
 

@@ -11,13 +11,13 @@ use Rattle.tw_host.specs.ActionView.{Repaint}
 use Rattle.tw_host.specs.HostRules.{HostRules}
 use Rattle.tw_painter.specs.EditState.{EditState, ModeView, Inactive, Editing, Searching}
 use Rattle.tw_painter.specs.Refusal.{Refusal, refusal_of}
-use Rattle.tw_painter.specs.Painting.{Rendered}
+use Rattle.tw_painter.specs.Painting.{Rendering}
 use Rattle.tw_painter.specs.declared.error.Error.{Error}
 use Rattle.tw_painter.specs.declared.error.Error.TheVariants.{Memory, Terminal}
 use Rattle.tw_session.specs.Outcomes.{Outcome, is_over, is_open, answer_at}
 use Rattle.tw_session.specs.Steps.{clears_if, TakesMemory}
 use Rattle.tw_lineedit.specs.Frame.{Frame}
-use Rattle.tw_lineedit.specs.Run.{Progress, Ending, Moment, Cause, want, fault, run, run_of, ends, ending, at_end, after_event, chosen, resolved, handled, state_after, answered, polled, shown, painting_at, moment, progress_of, CanStop, StandsAt, Quiet, IsRefusedIn}
+use Rattle.tw_lineedit.specs.Run.{Progress, Ending, Moment, Cause, want, fault, run, run_of, ends, ending, at_end, after_event, chosen_action, resolution_of, after_action, state_after, after_resolution, after_taking, after_painting, painting_at, moment, progress_of, CanStop, StandsAt, Quiet, IsRefusedIn}
 use Rattle.tw_lineedit.specs.Run as stop
 use Rattle.tw_lineedit.specs.EditorSteps.{Paints, FailsToPaint, Handles, FailsToHandle, Advances, FailsToAdvance, GivesUp, answered_frame}
 use Rattle.tw_lineedit.specs.Reading.{start, IsTurnedDown}
@@ -28,12 +28,12 @@ use Rattle.tw_session.proofs.ModeLemmas.{never_inactive}
 use Rattle.tw_lineedit.proofs.StandLemmas.{stands_here, stands_failed, stands_in_part, quiet_self, quiet_on, fails_on, failed, render_failed, refused_later}
 
 -- runs of the same parts have come as far
-pub same_progress : {V : Type 0} (s t : Progress V) → s.state ≡ t.state → s.value ≡ t.value → s.size ≡ t.size → s.last ≡ t.last → s.taken ≡ t.taken → s ≡ t
+pub same_progress : {V : Type 0} (s t : Progress V) → s.state ≡ t.state → s.value ≡ t.value → s.size ≡ t.size → s.mark ≡ t.mark → s.taken ≡ t.taken → s ≡ t
 same_progress {V = V} s t a b c d e =
     ap (λ (x : EditState). let r : Progress V = record s { state = x } in r) a
     ∙ ap (λ (x : V). let r : Progress V = record s { state = t.state; value = x } in r) b
-    ∙ ap (λ (x : ScreenSize). let r : Progress V = record t { size = x; last = s.last; taken = s.taken } in r) c
-    ∙ ap (λ (x : Option Mark). let r : Progress V = record t { last = x; taken = s.taken } in r) d
+    ∙ ap (λ (x : ScreenSize). let r : Progress V = record t { size = x; mark = s.mark; taken = s.taken } in r) c
+    ∙ ap (λ (x : Option Mark). let r : Progress V = record t { mark = x; taken = s.taken } in r) d
     ∙ ap (λ (x : List Batch). let r : Progress V = record t { taken = x } in r) e
 
 -- a line is no refusal
@@ -79,7 +79,7 @@ module _ {V : Type 0} (rules : HostRules V) where
   stops_unpainted c es s m (half_painted h) = stop.half_painted h
 
   -- a refusal of a painting ends the run
-  refused_by : (es : List EventView) (s : Progress V) (r : Refusal) (g : Frame V) (p : Result Rendered Refusal) → painting_at rules s ≡ p → paint_end es s p ≡ ending (Err r) g → run rules es s ≡ ending (Err r) g
+  refused_by : (es : List EventView) (s : Progress V) (r : Refusal) (g : Frame V) (p : Result Rendering Refusal) → painting_at rules s ≡ p → paint_end es s p ≡ ending (Err r) g → run rules es s ≡ ending (Err r) g
   refused_by es s r g (Err n) h at = run_unpainted es s n h ∙ at
   refused_by es s r g (Ok p) h at = absurd (false≢true (sym (ap (λ (x : Ending V). has_line x.answer) at)))
 
@@ -89,27 +89,27 @@ module _ {V : Type 0} (rules : HostRules V) where
   -- a painting
 
   -- a run goes on from its first painting
-  run_painted : (es : List EventView) (s : Progress V) (p : Rendered) → painting_at rules s ≡ Ok p → run rules es s ≡ run_on rules es (shown s p)
+  run_painted : (es : List EventView) (s : Progress V) (p : Rendering) → painting_at rules s ≡ Ok p → run rules es s ≡ run_on rules es (after_painting s p)
   run_painted [] s p h = ap (at_end rules s) h
   run_painted (e ∷ es) s p h = ap (stop.at_event rules e es s (run rules es)) h
 
   -- a moment at which an event can be refused, behind a painting
-  stops_refused : (c : Cause) (e : EventView) (es : List EventView) (s : Progress V) (p : Rendered) (m : Moment V) → painting_at rules s ≡ Ok p → is_over s.state.mode ≡ false → CanRefuse rules c e es (shown s p) m → CanStop rules c (e ∷ es) s m
+  stops_refused : (c : Cause) (e : EventView) (es : List EventView) (s : Progress V) (p : Rendering) (m : Moment V) → painting_at rules s ≡ Ok p → is_over s.state.mode ≡ false → CanRefuse rules c e es (after_painting s p) m → CanStop rules c (e ∷ es) s m
   stops_refused c e es s p m h o unresolved = stop.unresolved h o
   stops_refused c e es s p m h o (unapplied t) = stop.unapplied h o t
   stops_refused c e es s p m h o (half_cleared r) = stop.half_cleared h o r
   stops_refused c e es s p m h o (missed st r) = stop.later h o st (stops_unpainted c es _ m r)
 
   -- a moment at which the run can be stopped behind its first painting
-  stops_painted : (c : Cause) (es : List EventView) (s : Progress V) (p : Rendered) (m : Moment V) → painting_at rules s ≡ Ok p → CanStopOn rules c es (shown s p) m → CanStop rules c es s m
+  stops_painted : (c : Cause) (es : List EventView) (s : Progress V) (p : Rendering) (m : Moment V) → painting_at rules s ≡ Ok p → CanStopOn rules c es (after_painting s p) m → CanStop rules c es s m
   stops_painted c es s p m h (unpolled o) = stop.unpolled h o
   stops_painted c es s p m h (uncopied o l) = stop.uncopied h o l
   stops_painted c es s p m h (at_event o (refused r)) = stops_refused c _ _ s p m h o r
   stops_painted c es s p m h (at_event o (later st r)) = stop.later h o st r
 
   -- how far a painted frame has come
-  painted_is : (f g : Frame V) (h : Paints rules f g) → progress_of g ≡ shown (progress_of f) h.picture.0
-  painted_is f g h = same_progress (progress_of g) (shown (progress_of f) h.picture.0) h.state h.value
+  painted_is : (f g : Frame V) (h : Paints rules f g) → progress_of g ≡ after_painting (progress_of f) h.picture.0
+  painted_is f g h = same_progress (progress_of g) (after_painting (progress_of f) h.picture.0) h.state h.value
       (ap (λ (t : TerminalState). t.size) h.picture.3) h.picture.2 (ap (λ (t : TerminalState). t.batches) h.picture.3)
 
   -- a painting is quiet
@@ -130,12 +130,12 @@ module _ {V : Type 0} (rules : HostRules V) where
 
   -- once the event is taken, the action leads to a state
   abbrev kept : Progress V → EventView → EditState → Progress V
-  kept s e state = record s { state = state; value = (resolved rules s e).value; taken = s.taken ++ clears_if (chosen rules s e) }
+  kept s e state = record s { state = state; value = (resolution_of rules s e).value; taken = s.taken ++ clears_if (chosen_action rules s e) }
 
   -- how far a frame has come that has handled an event
   handled_is : (h i : Frame V) (e : EventView) → Handles rules e h i → progress_of i ≡ kept (progress_of h) e i.state
   handled_is h i e a = same_progress (progress_of i) (kept (progress_of h) e i.state) refl a.value
-      (ap (λ (t : TerminalState). t.size) a.terminal) a.last (ap (λ (t : TerminalState). t.batches) a.terminal)
+      (ap (λ (t : TerminalState). t.size) a.terminal) a.mark (ap (λ (t : TerminalState). t.batches) a.terminal)
 
   -- the handling of an event is quiet
   quiet_handled : (h i : Frame V) (e : EventView) → Handles rules e h i → Quiet h i
@@ -151,20 +151,20 @@ module _ {V : Type 0} (rules : HostRules V) where
   refused_event_by : (e : EventView) (es : List EventView) (s : Progress V) (r : Refusal) (g : Frame V) (x : Result EditState Refusal) → is_over s.state.mode ≡ false → state_after rules s e ≡ x
       → after_event rules e es s (painted_run rules es) x ≡ ending (Err r) g → run_on rules (e ∷ es) s ≡ ending (Err r) g
   refused_event_by e es s r g (Err n) o st at = run_taken e es s (Err n) o st ∙ at
-  refused_event_by e es s r g (Ok state) o st at = run_taken e es s (Ok state) o st ∙ refused_painting es (handled rules s e state) r g at
+  refused_event_by e es s r g (Ok state) o st at = run_taken e es s (Ok state) o st ∙ refused_painting es (after_action rules s e state) r g at
 
   pub refused_event : (e : EventView) (es : List EventView) (s : Progress V) (r : Refusal) (g : Frame V) → is_over s.state.mode ≡ false → fed_run rules e es s ≡ ending (Err r) g → run_on rules (e ∷ es) s ≡ ending (Err r) g
   refused_event e es s r g o at = refused_event_by e es s r g (state_after rules s e) o refl at
 
   -- A run that was painted at s takes the event, and then the frame h handles it.
-  module _ (s : Progress V) (e : EventView) (h : Frame V) (at : progress_of h ≡ polled s e) where
+  module _ (s : Progress V) (e : EventView) (h : Frame V) (at : progress_of h ≡ after_taking s e) where
     module _ (i : Frame V) (a : Handles rules e h i) where
       -- the event leads to the state of i
       leads : state_after rules s e ≡ Ok i.state
       leads = subst (λ (t : Progress V). state_after rules t e ≡ Ok i.state) at a.state
 
       -- and so far the run has come
-      comes : progress_of i ≡ handled rules s e i.state
+      comes : progress_of i ≡ after_action rules s e i.state
       comes = handled_is h i e a ∙ ap (λ (t : Progress V). kept t e i.state) at
 
       -- the run goes on from i
@@ -191,7 +191,7 @@ module _ {V : Type 0} (rules : HostRules V) where
     stops_advanced g (i, a, p) c es m r = stops_handled i a c es m ((begins i g p).stops c es m r)
 
     -- the frame h stands where the event is taken
-    stands_taken : StandsAt (moment None h.terminal.events (polled s e)) h
+    stands_taken : StandsAt (moment None h.terminal.events (after_taking s e)) h
     stands_taken = subst (λ (t : Progress V). StandsAt (moment None h.terminal.events t) h) at (stands_here h)
 
     -- what a refusal leaves
@@ -204,10 +204,10 @@ module _ {V : Type 0} (rules : HostRules V) where
 
     -- once the host has answered
     abbrev turned : Progress V → Progress V
-    turned t = record t { state = (answered rules t e).state; value = (answered rules t e).value }
+    turned t = record t { state = (after_resolution rules t e).state; value = (after_resolution rules t e).value }
 
     -- how far the run has come where the host has answered
-    comes_asked : progress_of asked ≡ answered rules s e
+    comes_asked : progress_of asked ≡ after_resolution rules s e
     comes_asked = ap turned at
 
     -- that was quiet
@@ -217,11 +217,11 @@ module _ {V : Type 0} (rules : HostRules V) where
     -- the event is not handled
     unhandled : (g : Frame V) (x : Error) → FailsToHandle rules e h g x → Refused g x
     unhandled g (Memory y) r = elim r [
-      | inl same ↦ subst (λ (k : Frame V). Refused k (Memory y)) (sym same) ((moment None h.terminal.events (polled s e), unresolved, refl, stands_taken), quiet_self h)
+      | inl same ↦ subst (λ (k : Frame V). Refused k (Memory y)) (sym same) ((moment None h.terminal.events (after_taking s e), unresolved, refl, stands_taken), quiet_self h)
       | inr apart ↦ subst (λ (k : Frame V). Refused k (Memory y)) (sym apart.0) (
         (
-          moment None h.terminal.events (answered rules s e),
-          unapplied (subst (λ (t : Progress V). TakesMemory (chosen rules t e) t.state.mode) at apart.1),
+          moment None h.terminal.events (after_resolution rules s e),
+          unapplied (subst (λ (t : Progress V). TakesMemory (chosen_action rules t e) t.state.mode) at apart.1),
           refl,
           subst (λ (t : Progress V). StandsAt (moment None h.terminal.events t) asked) comes_asked (stands_here asked),
         ),
@@ -230,8 +230,8 @@ module _ {V : Type 0} (rules : HostRules V) where
     ]
     unhandled g (Terminal y) r = (
       (
-        moment (Some clear_batch) h.terminal.events (answered rules s e),
-        half_cleared (subst (λ (t : Progress V). chosen rules t e ≡ Some Repaint) at r.0),
+        moment (Some clear_batch) h.terminal.events (after_resolution rules s e),
+        half_cleared (subst (λ (t : Progress V). chosen_action rules t e ≡ Some Repaint) at r.0),
         subst (λ (t : Progress V). StandsAt (moment (Some clear_batch) h.terminal.events t) g) comes_asked (stands_in_part clear_batch asked g r.1 r.2),
       ),
       fails_on h asked g quiet_asked (render_failed clear_batch asked g r.2),
@@ -278,17 +278,17 @@ module _ {V : Type 0} (rules : HostRules V) where
   -- and don't close the line
   begun_advanced : (e : EventView) (f g : Frame V) → f.state.mode ≢ Inactive → Advances rules e f g → g.state.mode ≢ Inactive
   begun_advanced e f g b (i, a, p) inactive =
-      never_inactive rules (answered_frame rules e f).value (chosen rules (progress_of f) e) (answered_frame rules e f).state i.state b a.state
+      never_inactive rules (answered_frame rules e f).value (chosen_action rules (progress_of f) e) (answered_frame rules e f).state i.state b a.state
       (ap (λ (x : EditState). x.mode) (sym p.state) ∙ inactive)
 
   -- the taking of an event that has the terminal's size changes nothing
-  at_own_size : (f : Frame V) (e : EventView) → size_after e f.terminal.size ≡ f.terminal.size → progress_of f ≡ polled (progress_of f) e
+  at_own_size : (f : Frame V) (e : EventView) → size_after e f.terminal.size ≡ f.terminal.size → progress_of f ≡ after_taking (progress_of f) e
   at_own_size f e told = ap (λ (z : ScreenSize). let r : Progress V = record (progress_of f) { size = z } in r) (sym told)
 
   -- An event that is fed has the size that the terminal has already.
   pub fed : (e : EventView) (f g : Frame V) → size_after e f.terminal.size ≡ f.terminal.size → is_open f.state.mode ≡ true → Advances rules e f g → IsFed rules e f g
   fed e f g told o a =
-      let at : progress_of f ≡ polled (progress_of f) e = at_own_size f e told in
+      let at : progress_of f ≡ after_taking (progress_of f) e = at_own_size f e told in
       let goes : is_over f.state.mode ≡ false = open_goes_on f.state.mode o in
       record {
         advances = a;

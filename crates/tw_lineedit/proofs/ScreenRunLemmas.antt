@@ -91,8 +91,8 @@ module _ {V : Type 0} (rules : HostRules V) where
   calls_stack f g w earlier station none others second later before h nothing k clear =
       let closed = closes_below f w earlier station none before h nothing in
       let fresh = later_is_fresh g w others second later _ k clear in
-      let under : (play_batches w (closing_if (run_of rules f).last) (play_batches w (batches_of rules (earlier ++ station ∷ [])) before)).row
+      let under : (play_batches w (closing_if (run_of rules f).mark) (play_batches w (batches_of rules (earlier ++ station ∷ [])) before)).row
       ≡ last_row w (first_row rules before.row (earlier ++ station ∷ [])) (sized_scene rules station).scene + 1 = closed.1.row in
       let below : ShowsFresh rules g w (last_row w (first_row rules before.row (earlier ++ station ∷ [])) (sized_scene rules station).scene + 1) others second _ =
-      subst (λ (s : ℕ). ShowsFresh rules g w s others second (play_batches w (closing_if (run_of rules f).last) (play_batches w (batches_of rules (earlier ++ station ∷ [])) before))) under fresh in
+      subst (λ (s : ℕ). ShowsFresh rules g w s others second (play_batches w (closing_if (run_of rules f).mark) (play_batches w (batches_of rules (earlier ++ station ∷ [])) before))) under fresh in
       (below, λ r c low inside. below.above r c low inside ∙ closed.1.same_above r c (omega arith) inside)

@@ -41,7 +41,7 @@ module _ {V : Type 0} (rules : HostRules V) where
   pub scrolled_calls_stack : ScrolledCallsStack rules
   scrolled_calls_stack h f g w earlier station none others second later before k nothing l =
       let shown : Picture = play_batches_on h w (batches_of rules (earlier ++ station ∷ [])) before in
-      let entered : Picture = play_batches_on h w (closing_if (run_of rules f).last) shown in
+      let entered : Picture = play_batches_on h w (closing_if (run_of rules f).mark) shown in
       let s : ℕ = top_row_at rules h w entered.row (others ++ second ∷ []) in
       let closed = (scrolled_closes f h w earlier station none before k nothing).1 in
       let fresh = scrolled_is_fresh g h w others second later entered l in

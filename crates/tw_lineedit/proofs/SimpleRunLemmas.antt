@@ -73,7 +73,7 @@ module _ {V : Type 0} (rules : HostRules V) where
   pub simple_calls_stack : SimpleCallsStack rules
   simple_calls_stack f g w earlier station none others second later before h nothing k clear =
       let shown : Picture = play_batches w (spelled_batches (batches_of rules (earlier ++ station ∷ []))) before in
-      let entered : Picture = play_batches w (spelled_batches (closing_if (run_of rules f).last)) shown in
+      let entered : Picture = play_batches w (spelled_batches (closing_if (run_of rules f).mark)) shown in
       let closed = simple_closes f w earlier station none before h nothing in
       let fresh = simple_is_fresh g w others second later entered k in
       let under : entered.row ≡ last_row w (first_row rules before.row (earlier ++ station ∷ [])) (spelled_scene (sized_scene rules station).scene) + 1 = closed.1.row in

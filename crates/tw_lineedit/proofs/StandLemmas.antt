@@ -13,7 +13,7 @@ use Rattle.tw_painter.specs.declared.error.Error.TheVariants.{Memory, Terminal}
 module _ {V : Type 0} where
   -- a frame stands at its own moment
   pub stands_here : (f : Frame V) → StandsAt (moment None f.terminal.events (progress_of f)) f
-  stands_here f = record { state = refl; value = refl; size = refl; last = refl; left = refl; part = ([], refl, sym (append-nil f.terminal.batches)) }
+  stands_here f = record { state = refl; value = refl; size = refl; mark = refl; left = refl; part = ([], refl, sym (append-nil f.terminal.batches)) }
 
   -- a refused call that took nothing changes no moment
   pub stands_failed : (m : Moment V) (f g : Frame V) → Keeps f g → Fails f.terminal g.terminal → StandsAt m f → StandsAt m g
@@ -21,7 +21,7 @@ module _ {V : Type 0} where
     state = keeps.state ∙ st.state;
     value = keeps.value ∙ st.value;
     size = ap (λ (t : TerminalState). t.size) fails ∙ st.size;
-    last = keeps.last ∙ st.last;
+    mark = keeps.mark ∙ st.mark;
     left = ap (λ (t : TerminalState). t.events) fails ∙ st.left;
     part = (st.part.0, st.part.1, ap (λ (t : TerminalState). t.batches) fails ∙ st.part.2);
   }
@@ -32,7 +32,7 @@ module _ {V : Type 0} where
     state = keeps.state;
     value = keeps.value;
     size = ap (λ (t : TerminalState). t.size) fails.rest;
-    last = keeps.last;
+    mark = keeps.mark;
     left = ap (λ (t : TerminalState). t.events) fails.rest;
     part = fails.part;
   }

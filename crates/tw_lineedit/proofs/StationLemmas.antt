@@ -12,12 +12,12 @@ use Rattle.tw_input.specs.EventView.{EventView}
 use Rattle.tw_terminal.specs.declared.terminal.ScreenSize.{ScreenSize}
 use Rattle.tw_host.specs.HostRules.{HostRules}
 use Rattle.tw_painter.specs.EditState.{EditState}
-use Rattle.tw_painter.specs.Painting.{Rendered, rendered, painted_on, is_paintable}
+use Rattle.tw_painter.specs.Painting.{Rendering, rendering_of, painted_on, is_paintable}
 use Rattle.tw_painter.specs.Refusal.{Refusal, ZeroSize, SizeOutOfRange}
 use Rattle.tw_session.specs.Outcomes.{is_over, answer_at}
 use Rattle.tw_session.specs.Steps.{is_repaint}
 use Rattle.tw_lineedit.specs.Frame.{Frame}
-use Rattle.tw_lineedit.specs.Run.{Progress, Ending, progress_of, run, run_of, ends, at_end, at_event, after_event, painting_at, shown, chosen, state_after, handled}
+use Rattle.tw_lineedit.specs.Run.{Progress, Ending, progress_of, run, run_of, ends, at_end, at_event, after_event, painting_at, after_painting, chosen_action, state_after, after_action}
 use Rattle.tw_lineedit.specs.Stations.{Station, station_at, painting_of, shots_by, clearing_by, painted_shots, refused_clearing, station_batches, stations_after, stations_unless, stations_by, stations_from, stations_of, BatchesByStations}
 use Rattle.tw_lineedit.specs.ScreenRuns.{sized_scene, batches_of, RendersNothing}
 
@@ -30,7 +30,7 @@ err_is_no_ok : {a : Painting} {b : Refusal} → Err b ≡ Ok a → ⊥
 err_is_no_ok h = subst IsErr h tt
 
 -- no rendering either
-abbrev IsErrRendered : Result Rendered Refusal → Type 0
+abbrev IsErrRendered : Result Rendering Refusal → Type 0
 IsErrRendered (Err b) = Unit {0}
 IsErrRendered (Ok a) = ⊥
 
@@ -64,80 +64,80 @@ module _ {V : Type 0} (rules : HostRules V) where
   same_painting s cleared = refl
 
   -- a station's painting as it is rendered
-  rendered_at : (s : Progress V) (cleared : Bool) → painting_at rules s ≡ rendered s.last (painting_of rules (station_at cleared s))
-  rendered_at s cleared = ap (rendered s.last) (sym (same_painting s cleared))
+  rendered_at : (s : Progress V) (cleared : Bool) → painting_at rules s ≡ rendering_of s.mark (painting_of rules (station_at cleared s))
+  rendered_at s cleared = ap (rendering_of s.mark) (sym (same_painting s cleared))
 
   -- ---- what a run takes and leaves
 
   -- the batches of a station, by its painting, and of the stations behind it
   abbrev batches_by : Option Mark → Bool → List (Station V) → Result Painting Refusal → List Batch
-  batches_by last cleared more q = batches_after last (shots_by cleared (painted_shots rules more) q) ++ clearing_by cleared (refused_clearing rules more) q
+  batches_by mark cleared more q = batches_after mark (shots_by cleared (painted_shots rules more) q) ++ clearing_by cleared (refused_clearing rules more) q
 
   -- a run comes to its end with these batches, and leaves the mark of the last painting
   abbrev Tells : List Batch → Option Mark → Bool → List (Station V) → Result Painting Refusal → Ending V → Type 0
-  Tells base last cleared more q end =
-      (end.taken ≡ base ++ batches_by last cleared more q) × (end.last ≡ mark_after last (shots_by cleared (painted_shots rules more) q))
+  Tells base mark cleared more q end =
+      (end.taken ≡ base ++ batches_by mark cleared more q) × (end.mark ≡ mark_after mark (shots_by cleared (painted_shots rules more) q))
 
   -- what a painting and the stations behind it add to a clearing
-  joined : (base taken : List Batch) (last : Option Mark) (cleared : Bool) (p : Painting) (more : List (Station V)) → taken ≡ base ++ clearing cleared
-      → (taken ++ (start_of last ++ p.changes) ∷ []) ++ station_batches rules (Some (mark_of p)) more ≡ base ++ batches_by last cleared more (Ok p)
-  joined base taken last cleared p more h =
-      let batch : Batch = start_of last ++ p.changes in
+  joined : (base taken : List Batch) (mark : Option Mark) (cleared : Bool) (p : Painting) (more : List (Station V)) → taken ≡ base ++ clearing cleared
+      → (taken ++ (start_of mark ++ p.changes) ∷ []) ++ station_batches rules (Some (mark_of p)) more ≡ base ++ batches_by mark cleared more (Ok p)
+  joined base taken mark cleared p more h =
+      let batch : Batch = start_of mark ++ p.changes in
       append_assoc taken (batch ∷ []) (station_batches rules (Some (mark_of p)) more)
       ∙ ap (λ (b : List Batch). b ++ batch ∷ station_batches rules (Some (mark_of p)) more) h
       ∙ append_assoc base (clearing cleared) (batch ∷ station_batches rules (Some (mark_of p)) more)
       ∙ ap (λ (b : List Batch). base ++ b) (sym (append_assoc (clearing cleared) (batch ∷ batches_after (Some (mark_of p)) (painted_shots rules more)) (refused_clearing rules more)))
 
   -- where no station is behind
-  alone : (base taken : List Batch) (last : Option Mark) (cleared : Bool) (p : Painting) → taken ≡ base ++ clearing cleared
-      → taken ++ (start_of last ++ p.changes) ∷ [] ≡ base ++ batches_by last cleared [] (Ok p)
-  alone base taken last cleared p h = sym (append-nil (taken ++ (start_of last ++ p.changes) ∷ [])) ∙ joined base taken last cleared p [] h
+  alone : (base taken : List Batch) (mark : Option Mark) (cleared : Bool) (p : Painting) → taken ≡ base ++ clearing cleared
+      → taken ++ (start_of mark ++ p.changes) ∷ [] ≡ base ++ batches_by mark cleared [] (Ok p)
+  alone base taken mark cleared p h = sym (append-nil (taken ++ (start_of mark ++ p.changes) ∷ [])) ∙ joined base taken mark cleared p [] h
 
   -- a run tells its stations
   abbrev ToldFrom : List EventView → Type 0
   ToldFrom es = (cleared : Bool) (s : Progress V) (base : List Batch) → s.taken ≡ base ++ clearing cleared
-      → ((run rules es s).taken ≡ base ++ station_batches rules s.last (stations_from rules es cleared s))
-      × ((run rules es s).last ≡ mark_after s.last (painted_shots rules (stations_from rules es cleared s)))
+      → ((run rules es s).taken ≡ base ++ station_batches rules s.mark (stations_from rules es cleared s))
+      × ((run rules es s).mark ≡ mark_after s.mark (painted_shots rules (stations_from rules es cleared s)))
 
   -- the last station
   by_last : (s : Progress V) (base : List Batch) (cleared : Bool) → s.taken ≡ base ++ clearing cleared → (q : Result Painting Refusal)
-      → Tells base s.last cleared [] q (at_end rules s (rendered s.last q))
+      → Tells base s.mark cleared [] q (at_end rules s (rendering_of s.mark q))
   by_last s base cleared h (Err r) = (h, refl)
-  by_last s base cleared h (Ok p) = (alone base s.taken s.last cleared p h, refl)
+  by_last s base cleared h (Ok p) = (alone base s.taken s.mark cleared p h, refl)
 
   -- one event more
   by_event : (e : EventView) (es : List EventView) → ToldFrom es → ToldFrom (e ∷ es)
   by_event e es rest cleared s base h =
       subst Told (sym (rendered_at s cleared)) (by_painting (painting_of rules (station_at cleared s)))
     where
-      Told : Result Rendered Refusal → Type 0
-      Told r = Tells base s.last cleared (stations_by rules e s (stations_from rules es) r) (painting_of rules (station_at cleared s)) (at_event rules e es s (run rules es) r)
+      Told : Result Rendering Refusal → Type 0
+      Told r = Tells base s.mark cleared (stations_by rules e s (stations_from rules es) r) (painting_of rules (station_at cleared s)) (at_event rules e es s (run rules es) r)
 
       after : Painting → Progress V
-      after p = shown s (record { changes = start_of s.last ++ p.changes; mark = mark_of p })
+      after p = after_painting s (record { changes = start_of s.mark ++ p.changes; mark = mark_of p })
 
       by_state : (p : Painting) (a : Result EditState Refusal)
-          → Tells base s.last cleared (stations_after rules e (after p) (stations_from rules es) a) (Ok p) (after_event rules e es (after p) (run rules es) a)
-      by_state p (Err r) = (alone base s.taken s.last cleared p h, refl)
+          → Tells base s.mark cleared (stations_after rules e (after p) (stations_from rules es) a) (Ok p) (after_event rules e es (after p) (run rules es) a)
+      by_state p (Err r) = (alone base s.taken s.mark cleared p h, refl)
       by_state p (Ok state) =
-          let next : Progress V = handled rules (after p) e state in
-          let told = rest (is_repaint (chosen rules (after p) e)) next (s.taken ++ (start_of s.last ++ p.changes) ∷ []) refl in
-          (told.0 ∙ joined base s.taken s.last cleared p (stations_from rules es (is_repaint (chosen rules (after p) e)) next) h, told.1)
+          let next : Progress V = after_action rules (after p) e state in
+          let told = rest (is_repaint (chosen_action rules (after p) e)) next (s.taken ++ (start_of s.mark ++ p.changes) ∷ []) refl in
+          (told.0 ∙ joined base s.taken s.mark cleared p (stations_from rules es (is_repaint (chosen_action rules (after p) e)) next) h, told.1)
 
       by_over : (p : Painting) (over : Bool)
-          → Tells base s.last cleared (stations_unless (stations_after rules e (after p) (stations_from rules es) (state_after rules s e)) over) (Ok p)
+          → Tells base s.mark cleared (stations_unless (stations_after rules e (after p) (stations_from rules es) (state_after rules s e)) over) (Ok p)
           (cond over (ends (answer_at s.state) (e ∷ es) (after p)) (after_event rules e es (after p) (run rules es) (state_after rules s e)))
-      by_over p true = (alone base s.taken s.last cleared p h, refl)
+      by_over p true = (alone base s.taken s.mark cleared p h, refl)
       by_over p false = by_state p (state_after rules s e)
 
       by_painting : (q : Result Painting Refusal)
-          → Tells base s.last cleared (stations_by rules e s (stations_from rules es) (rendered s.last q)) q (at_event rules e es s (run rules es) (rendered s.last q))
+          → Tells base s.mark cleared (stations_by rules e s (stations_from rules es) (rendering_of s.mark q)) q (at_event rules e es s (run rules es) (rendering_of s.mark q))
       by_painting (Err r) = (h, refl)
       by_painting (Ok p) = by_over p (is_over s.state.mode)
 
   by_stations : (es : List EventView) → ToldFrom es
   by_stations [] cleared s base h =
-      subst (λ (r : Result Rendered Refusal). Tells base s.last cleared [] (painting_of rules (station_at cleared s)) (at_end rules s r))
+      subst (λ (r : Result Rendering Refusal). Tells base s.mark cleared [] (painting_of rules (station_at cleared s)) (at_end rules s r))
       (sym (rendered_at s cleared)) (by_last s base cleared h (painting_of rules (station_at cleared s)))
   by_stations (e ∷ es) cleared s base h = by_event e es (by_stations es) cleared s base h
 
@@ -146,7 +146,7 @@ module _ {V : Type 0} (rules : HostRules V) where
   batches_by_stations f = (by_stations f.terminal.events false (progress_of f) f.terminal.batches (sym (append-nil f.terminal.batches))).0
 
   -- and the mark that it leaves
-  mark_by_stations : (f : Frame V) → (run_of rules f).last ≡ mark_after f.last (painted_shots rules (stations_of rules f))
+  mark_by_stations : (f : Frame V) → (run_of rules f).mark ≡ mark_after f.mark (painted_shots rules (stations_of rules f))
   mark_by_stations f = (by_stations f.terminal.events false (progress_of f) f.terminal.batches (sym (append-nil f.terminal.batches))).1
 
   -- ---- stations that are painted
@@ -172,31 +172,31 @@ module _ {V : Type 0} (rules : HostRules V) where
   painted_more s (next ∷ more) one rest = (one, rest)
 
   -- a painting that is rendered is not refused
-  rendered-ok : (last : Option Mark) (q : Result Painting Refusal) (p : Rendered) → rendered last q ≡ Ok p → (painted : Painting) × (q ≡ Ok painted)
-  rendered-ok last (Ok q) p h = (q, refl)
-  rendered-ok last (Err r) p h = absurd (subst IsErrRendered h tt)
+  rendering_of-ok : (mark : Option Mark) (q : Result Painting Refusal) (p : Rendering) → rendering_of mark q ≡ Ok p → (painted : Painting) × (q ≡ Ok painted)
+  rendering_of-ok mark (Ok q) p h = (q, refl)
+  rendering_of-ok mark (Err r) p h = absurd (subst IsErrRendered h tt)
 
   -- all stations of a run but the last are painted
   painted_from : (es : List EventView) (cleared : Bool) (s : Progress V) → ArePaintedButLast (stations_from rules es cleared s)
   painted_from [] cleared s = tt
   painted_from (e ∷ es) cleared s = by_painting (painted_from es) (painting_at rules s) refl
     where
-      by_state : ((cleared : Bool) (s : Progress V) → ArePaintedButLast (stations_from rules es cleared s)) → (p : Rendered) → IsPainted (station_at cleared s)
-          → (a : Result EditState Refusal) → ArePaintedButLast (station_at cleared s ∷ stations_after rules e (shown s p) (stations_from rules es) a)
+      by_state : ((cleared : Bool) (s : Progress V) → ArePaintedButLast (stations_from rules es cleared s)) → (p : Rendering) → IsPainted (station_at cleared s)
+          → (a : Result EditState Refusal) → ArePaintedButLast (station_at cleared s ∷ stations_after rules e (after_painting s p) (stations_from rules es) a)
       by_state rest p one (Err r) = tt
       by_state rest p one (Ok state) =
-          painted_more (station_at cleared s) _ one (rest (is_repaint (chosen rules (shown s p) e)) (handled rules (shown s p) e state))
+          painted_more (station_at cleared s) _ one (rest (is_repaint (chosen_action rules (after_painting s p) e)) (after_action rules (after_painting s p) e state))
 
-      by_over : ((cleared : Bool) (s : Progress V) → ArePaintedButLast (stations_from rules es cleared s)) → (p : Rendered) → IsPainted (station_at cleared s)
-          → (over : Bool) → ArePaintedButLast (station_at cleared s ∷ stations_unless (stations_after rules e (shown s p) (stations_from rules es) (state_after rules s e)) over)
+      by_over : ((cleared : Bool) (s : Progress V) → ArePaintedButLast (stations_from rules es cleared s)) → (p : Rendering) → IsPainted (station_at cleared s)
+          → (over : Bool) → ArePaintedButLast (station_at cleared s ∷ stations_unless (stations_after rules e (after_painting s p) (stations_from rules es) (state_after rules s e)) over)
       by_over rest p one true = tt
       by_over rest p one false = by_state rest p one (state_after rules s e)
 
-      by_painting : ((cleared : Bool) (s : Progress V) → ArePaintedButLast (stations_from rules es cleared s)) → (q : Result Rendered Refusal) → painting_at rules s ≡ q
+      by_painting : ((cleared : Bool) (s : Progress V) → ArePaintedButLast (stations_from rules es cleared s)) → (q : Result Rendering Refusal) → painting_at rules s ≡ q
           → ArePaintedButLast (station_at cleared s ∷ stations_by rules e s (stations_from rules es) q)
       by_painting rest (Err r) h = tt
       by_painting rest (Ok p) h =
-          by_over rest p (rendered-ok s.last (painting_of rules (station_at cleared s)) p (sym (rendered_at s cleared) ∙ h)) (is_over s.state.mode)
+          by_over rest p (rendering_of-ok s.mark (painting_of rules (station_at cleared s)) p (sym (rendered_at s cleared) ∙ h)) (is_over s.state.mode)
 
   -- the stations up to a painted one are painted
   painted_up_to : (earlier : List (Station V)) (station : Station V) (later : List (Station V)) → ArePaintedButLast (earlier ++ station ∷ later)
@@ -229,9 +229,9 @@ module _ {V : Type 0} (rules : HostRules V) where
   pub batches_are_shots : (stations : List (Station V)) → ArePainted stations → batches_of rules stations ≡ batches (map shot_of (map (sized_scene rules) stations))
   batches_are_shots stations h =
       let list : List Shot = map shot_of (map (sized_scene rules) stations) in
-      let shown : painted_shots rules stations ≡ list = ap (painted_shots rules) (sym (append-nil stations)) ∙ shots_before stations [] h ∙ append-nil list in
+      let after_painting : painted_shots rules stations ≡ list = ap (painted_shots rules) (sym (append-nil stations)) ∙ shots_before stations [] h ∙ append-nil list in
       let none : refused_clearing rules stations ≡ [] = ap (refused_clearing rules) (sym (append-nil stations)) ∙ clearing_behind stations [] h in
-      ap (λ (l : List Shot). batches l ++ refused_clearing rules stations) shown ∙ ap (λ (b : List Batch). batches list ++ b) none ∙ append-nil (batches list)
+      ap (λ (l : List Shot). batches l ++ refused_clearing rules stations) after_painting ∙ ap (λ (b : List Batch). batches list ++ b) none ∙ append-nil (batches list)
 
   -- where nothing is rendered there are no paintings
   no_shots : (later : List (Station V)) → All (RendersNothing rules) later → painted_shots rules later ≡ []
@@ -249,7 +249,7 @@ module _ {V : Type 0} (rules : HostRules V) where
 
   -- nothing was painted before the run, which comes to a station and paints it
   pub record Comes (f : Frame V) (earlier : List (Station V)) (station : Station V) (later : List (Station V)) : Type 0 where
-    pub nothing_painted : f.last ≡ None
+    pub nothing_painted : f.mark ≡ None
     pub stations : stations_of rules f ≡ earlier ++ station ∷ later
     pub painting : Painting
     pub painted : painting_of rules station ≡ Ok painting
@@ -280,7 +280,7 @@ module _ {V : Type 0} (rules : HostRules V) where
     taken-is : (run_of rules f).taken ≡ f.terminal.batches ++ (batches (so_far ++ painted_shots rules later) ++ refused_clearing rules later)
     taken-is =
         batches_by_stations f
-        ∙ ap (λ (last : Option Mark). f.terminal.batches ++ station_batches rules last (stations_of rules f)) h.nothing_painted
+        ∙ ap (λ (mark : Option Mark). f.terminal.batches ++ station_batches rules mark (stations_of rules f)) h.nothing_painted
         ∙ ap (λ (l : List Shot). f.terminal.batches ++ (batches l ++ refused_clearing rules (stations_of rules f))) shots-are
         ∙ ap (λ (b : List Batch). f.terminal.batches ++ (batches (so_far ++ painted_shots rules later) ++ b))
         (ap (refused_clearing rules) parted ∙ clearing_behind (earlier ++ station ∷ []) later all_painted)
@@ -305,9 +305,9 @@ module _ {V : Type 0} (rules : HostRules V) where
         ∙ ap (λ (b : List Batch). f.terminal.batches ++ b) (append-nil (batches (so_far ++ [])) ∙ ap batches (append-nil so_far) ∙ sym played-is)
 
     -- then the closing batch is that of what is shown
-    pub closing-is : All (RendersNothing rules) later → closing_if (run_of rules f).last ≡ closing_batch so_far
+    pub closing-is : All (RendersNothing rules) later → closing_if (run_of rules f).mark ≡ closing_batch so_far
     closing-is none =
         ap closing_if
         (mark_by_stations f
-        ∙ ap (λ (last : Option Mark). mark_after last (painted_shots rules (stations_of rules f))) h.nothing_painted
+        ∙ ap (λ (mark : Option Mark). mark_after mark (painted_shots rules (stations_of rules f))) h.nothing_painted
         ∙ ap (mark_after None) (shots-are ∙ ap (λ (l : List Shot). so_far ++ l) (no_shots later none) ∙ append-nil so_far))

@@ -5,7 +5,7 @@ use Rattle.tw_terminal.specs.TerminalState.{TerminalState}
 use Rattle.tw_painter.specs.Refusal.{IsMemory}
 use Rattle.tw_session.specs.Outcomes.{is_over, answer_at, IsLine, Outcome}
 use Rattle.tw_lineedit.specs.Frame.{Frame}
-use Rattle.tw_lineedit.specs.Run.{Progress, Moment, Cause, want, fault, run, ends, after_event, state_after, polled, moment, progress_of, CanStopFrom, Quiet, run_of, IsAnswered}
+use Rattle.tw_lineedit.specs.Run.{Progress, Moment, Cause, want, fault, run, ends, after_event, state_after, after_taking, moment, progress_of, CanStopFrom, Quiet, run_of, IsAnswered}
 use Rattle.tw_lineedit.specs.EditorSteps.{CallFails, TakesEvent, HasNoEvent, Advances, FailsToAdvance}
 use Rattle.tw_painter.specs.declared.error.Error.{Error}
 use Rattle.tw_painter.specs.declared.error.Error.TheVariants.{Memory, Terminal}
@@ -44,9 +44,9 @@ module _ {V : Type 0} (rules : HostRules V) where
   -- with an event
 
   -- how far a frame has come that has taken an event
-  taken_is : (f g : Frame V) (e : EventView) → TakesEvent e f g → progress_of g ≡ polled (progress_of f) e
-  taken_is f g e t = same_progress (progress_of g) (polled (progress_of f) e) t.keeps.state t.keeps.value
-      (ap (λ (x : TerminalState). x.size) t.terminal.rest) t.keeps.last (ap (λ (x : TerminalState). x.batches) t.terminal.rest)
+  taken_is : (f g : Frame V) (e : EventView) → TakesEvent e f g → progress_of g ≡ after_taking (progress_of f) e
+  taken_is f g e t = same_progress (progress_of g) (after_taking (progress_of f) e) t.keeps.state t.keeps.value
+      (ap (λ (x : TerminalState). x.size) t.terminal.rest) t.keeps.mark (ap (λ (x : TerminalState). x.batches) t.terminal.rest)
 
   -- the taking of an event is quiet
   quiet_taken : (f g : Frame V) (e : EventView) → TakesEvent e f g → Quiet f g

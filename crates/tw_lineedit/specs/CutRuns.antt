@@ -24,7 +24,7 @@ module _ {V : Type 0} (rules : HostRules V) where
 
   -- The run from a frame comes to a station and paints it. So far every station was plain, each for some two columns or more; a screen is entered at column 0.
   pub record ComesAtAnyWidth (f : Frame V) (earlier : List (Station V)) (station : Station V) (later : List (Station V)) (before : Picture) : Type 0 where
-    pub nothing_painted : f.last ≡ None
+    pub nothing_painted : f.mark ≡ None
     pub stations : stations_of rules f ≡ earlier ++ station ∷ later
     pub painting : Painting
     pub painted : painting_of rules station ≡ Ok painting
@@ -52,4 +52,4 @@ module _ {V : Type 0} (rules : HostRules V) where
       → let after = cut_to station.size.cols w (play_cut v (sized_batches_of (earlier ++ station ∷ [])) before) in
       ((run_of rules f).taken ≡ f.terminal.batches ++ batches_of rules (earlier ++ station ∷ []))
       × IsClosed w (last_row station.size.cols (first_row rules before.row (earlier ++ station ∷ [])) (sized_scene rules station).scene) after
-      (play_batches w (closing_if (run_of rules f).last) after)
+      (play_batches w (closing_if (run_of rules f).mark) after)

@@ -10,9 +10,9 @@ use Rattle.tw_host.specs.HostRules.{HostRules}
 use Rattle.tw_painter.specs.EditState.{Inactive}
 use Rattle.tw_painter.specs.Refusal.{refusal_of}
 use Rattle.tw_session.specs.Steps.{apply_if, clears_if, TakesMemory}
-use Rattle.tw_painter.specs.Painting.{Rendered}
+use Rattle.tw_painter.specs.Painting.{Rendering}
 use Rattle.tw_lineedit.specs.Frame.{Frame}
-use Rattle.tw_lineedit.specs.Run.{progress_of, painting_at, chosen, answered}
+use Rattle.tw_lineedit.specs.Run.{progress_of, painting_at, chosen_action, after_resolution}
 use Rattle.tw_painter.specs.DrawSteps.{IsSized}
 use Rattle.tw_painter.specs.declared.error.Error.{Error}
 use Rattle.tw_painter.specs.declared.error.Error.TheVariants.{Memory, Terminal}
@@ -22,7 +22,7 @@ module _ {V : Type 0} where
   pub record Keeps (f g : Frame V) : Type 0 where
     pub state : g.state ≡ f.state
     pub value : g.value ≡ f.value
-    pub last : g.last ≡ f.last
+    pub mark : g.mark ≡ f.mark
 
   -- a terminal call was refused, with nothing taken
   abbrev pub CallFails : Frame V → Frame V → Error → Type 0
@@ -54,7 +54,7 @@ module _ {V : Type 0} (rules : HostRules V) where
   pub record Applies (a : Option ActionView) (f g : Frame V) : Type 0 where
     pub state : apply_if rules f.value a f.state ≡ Ok g.state
     pub value : g.value ≡ f.value
-    pub last : g.last ≡ f.last
+    pub mark : g.mark ≡ f.mark
     pub terminal : g.terminal ≡ record f.terminal { batches = f.terminal.batches ++ clears_if a }
 
   -- what a refused action leaves: all is as before, and only a Repaint has called the terminal
@@ -65,13 +65,13 @@ module _ {V : Type 0} (rules : HostRules V) where
 
   -- the painting of f was rendered, and its mark is kept
   pub record Paints (f g : Frame V) : Type 0 where
-    pub picture : (p : Rendered) × (painting_at rules (progress_of f) ≡ Ok p) × (g.last ≡ Some p.mark) × Renders p.changes f.terminal g.terminal
+    pub picture : (p : Rendering) × (painting_at rules (progress_of f) ≡ Ok p) × (g.mark ≡ Some p.mark) × Renders p.changes f.terminal g.terminal
     pub state : g.state ≡ f.state
     pub value : g.value ≡ f.value
 
   -- f's painting was rendered in part
   abbrev pub PaintsPart : Frame V → Frame V → Type 0
-  PaintsPart f g = (p : Rendered) × (painting_at rules (progress_of f) ≡ Ok p) × RenderFails p.changes f.terminal g.terminal
+  PaintsPart f g = (p : Rendering) × (painting_at rules (progress_of f) ≡ Ok p) × RenderFails p.changes f.terminal g.terminal
 
   -- f was not painted: no memory, a fault, or the painting's own refusal
   abbrev pub FailsToPaint : Frame V → Frame V → Error → Type 0
@@ -81,17 +81,17 @@ module _ {V : Type 0} (rules : HostRules V) where
 
   -- the host has answered the event
   abbrev pub answered_frame : EventView → Frame V → Frame V
-  answered_frame e f = record f { state = (answered rules (progress_of f) e).state; value = (answered rules (progress_of f) e).value }
+  answered_frame e f = record f { state = (after_resolution rules (progress_of f) e).state; value = (after_resolution rules (progress_of f) e).value }
 
   -- the host has answered the event, and the action that follows was applied
   abbrev pub Handles : EventView → Frame V → Frame V → Type 0
-  Handles e f g = Applies (chosen rules (progress_of f) e) (answered_frame e f) g
+  Handles e f g = Applies (chosen_action rules (progress_of f) e) (answered_frame e f) g
 
   -- the event was not handled: the host refused, or the action
   abbrev pub FailsToHandle : EventView → Frame V → Frame V → Error → Type 0
-  FailsToHandle e f g (Memory x) = (g ≡ f) ⊎ FailsToApply (chosen rules (progress_of f) e) (answered_frame e f) g (Memory x)
-  FailsToHandle e f g (Terminal x) = FailsToApply (chosen rules (progress_of f) e) (answered_frame e f) g (Terminal x)
-  FailsToHandle e f g x = FailsToApply (chosen rules (progress_of f) e) (answered_frame e f) g x
+  FailsToHandle e f g (Memory x) = (g ≡ f) ⊎ FailsToApply (chosen_action rules (progress_of f) e) (answered_frame e f) g (Memory x)
+  FailsToHandle e f g (Terminal x) = FailsToApply (chosen_action rules (progress_of f) e) (answered_frame e f) g (Terminal x)
+  FailsToHandle e f g x = FailsToApply (chosen_action rules (progress_of f) e) (answered_frame e f) g x
 
   -- the event was handled, and what came of it is painted
   abbrev pub Advances : EventView → Frame V → Frame V → Type 0
@@ -106,22 +106,22 @@ module _ {V : Type 0} where
   pub record Closes (f g : Frame V) : Type 0 where
     pub state : g.state ≡ record f.state { mode = Inactive }
     pub value : g.value ≡ f.value
-    pub last : g.last ≡ None
-    pub terminal : g.terminal ≡ record f.terminal { batches = f.terminal.batches ++ closing_if f.last; flushed = length (f.terminal.batches ++ closing_if f.last) }
+    pub mark : g.mark ≡ None
+    pub terminal : g.terminal ≡ record f.terminal { batches = f.terminal.batches ++ closing_if f.mark; flushed = length (f.terminal.batches ++ closing_if f.mark) }
 
   -- its closing batch is rendered in part
   pub record CutsClosing (f g : Frame V) : Type 0 where
     pub state : g.state ≡ record f.state { mode = Inactive }
     pub value : g.value ≡ f.value
-    pub last : g.last ≡ None
-    pub terminal : (p : Mark) × (f.last ≡ Some p) × RenderFails (closing p) f.terminal g.terminal
+    pub mark : g.mark ≡ None
+    pub terminal : (p : Mark) × (f.mark ≡ Some p) × RenderFails (closing p) f.terminal g.terminal
 
   -- its closing batch is rendered, and not flushed
   pub record MissesFlush (f g : Frame V) : Type 0 where
     pub state : g.state ≡ record f.state { mode = Inactive }
     pub value : g.value ≡ f.value
-    pub last : g.last ≡ None
-    pub terminal : g.terminal ≡ record f.terminal { batches = f.terminal.batches ++ closing_if f.last; failures = count_up f.terminal.failures }
+    pub mark : g.mark ≡ None
+    pub terminal : g.terminal ≡ record f.terminal { batches = f.terminal.batches ++ closing_if f.mark; failures = count_up f.terminal.failures }
 
   -- the closing was refused
   abbrev pub FailsToClose : Frame V → Frame V → Error → Type 0

@@ -6,13 +6,13 @@ use Rattle.tw_host.specs.ActionView.{Repaint}
 use Rattle.tw_host.specs.HostRules.{HostRules}
 use Rattle.tw_painter.specs.DrawSteps.{IsSized}
 use Rattle.tw_painter.specs.EditState.{EditState, Inactive}
-use Rattle.tw_painter.specs.Painting.{Rendered}
+use Rattle.tw_painter.specs.Painting.{Rendering}
 use Rattle.tw_painter.specs.Refusal.{Refusal}
 use Rattle.tw_painter.specs.declared.error.Error.{Error}
 use Rattle.tw_session.specs.Outcomes.{Outcome, answer_at, IsLine, is_over}
 use Rattle.tw_session.specs.Steps.{TakesMemory}
 use Rattle.tw_lineedit.specs.Frame.{Frame}
-use Rattle.tw_lineedit.specs.Run.{Progress, Ending, Moment, Cause, want, fault, ends, ending, shown, polled, moment, progress_of, painting_at, chosen, answered, handled, state_after, after_event, run, CanStop, Quiet, IsRefusedIn}
+use Rattle.tw_lineedit.specs.Run.{Progress, Ending, Moment, Cause, want, fault, ends, ending, after_painting, after_taking, moment, progress_of, painting_at, chosen_action, after_resolution, after_action, state_after, after_event, run, CanStop, Quiet, IsRefusedIn}
 use Rattle.tw_lineedit.specs.EditorSteps.{Paints, Advances}
 use Rattle.tw_lineedit.specs.Reading.{start, unbegun, FailsIn, HaltsIn, HaltsRefused}
 use Rattle.tw_lineedit.specs.declared.editor.feeding.LineStatus.{LineStatus}
@@ -24,9 +24,9 @@ status_if true = Open
 status_if false = Ended
 
 -- the ending behind a painting, or its refusal; no event is taken
-abbrev pub paint_end : {V : Type 0} → List EventView → Progress V → Result Rendered Refusal → Ending V
+abbrev pub paint_end : {V : Type 0} → List EventView → Progress V → Result Rendering Refusal → Ending V
 paint_end es s (Err n) = ends (Err n) es s
-paint_end es s (Ok p) = ends (answer_at s.state) es (shown s p)
+paint_end es s (Ok p) = ends (answer_at s.state) es (after_painting s p)
 
 module _ {V : Type 0} (rules : HostRules V) where
   -- the run that paints, and takes no event
@@ -51,25 +51,25 @@ module _ {V : Type 0} (rules : HostRules V) where
     -- it found no memory; a size that is refused takes none
     unpainted : {es : List EventView} {s : Progress V} → IsSized s.size → CanMiss want es s (moment None es s)
     -- it was not rendered
-    half_painted : {es : List EventView} {s : Progress V} {p : Rendered} → painting_at rules s ≡ Ok p → CanMiss fault es s (moment (Some p.changes) es s)
+    half_painted : {es : List EventView} {s : Progress V} {p : Rendering} → painting_at rules s ≡ Ok p → CanMiss fault es s (moment (Some p.changes) es s)
 
   -- the moments at which an event that is fed can be refused, by the cause
   pub data CanRefuse : Cause → EventView → List EventView → Progress V → Moment V → Type 0 where
     -- the host refused the event
-    unresolved : {e : EventView} {es : List EventView} {s : Progress V} → CanRefuse want e es s (moment None es (polled s e))
+    unresolved : {e : EventView} {es : List EventView} {s : Progress V} → CanRefuse want e es s (moment None es (after_taking s e))
     -- the action or its making was refused
-    unapplied : {e : EventView} {es : List EventView} {s : Progress V} → TakesMemory (chosen rules s e) s.state.mode → CanRefuse want e es s (moment None es (answered rules s e))
+    unapplied : {e : EventView} {es : List EventView} {s : Progress V} → TakesMemory (chosen_action rules s e) s.state.mode → CanRefuse want e es s (moment None es (after_resolution rules s e))
     -- the clearing of the screen was not rendered
-    half_cleared : {e : EventView} {es : List EventView} {s : Progress V} → chosen rules s e ≡ Some Repaint → CanRefuse fault e es s (moment (Some clear_batch) es (answered rules s e))
+    half_cleared : {e : EventView} {es : List EventView} {s : Progress V} → chosen_action rules s e ≡ Some Repaint → CanRefuse fault e es s (moment (Some clear_batch) es (after_resolution rules s e))
     -- the painting behind it was refused
-    missed : {c : Cause} {e : EventView} {es : List EventView} {s : Progress V} {state : EditState} {m : Moment V} → state_after rules s e ≡ Ok state → CanMiss c es (handled rules s e state) m → CanRefuse c e es s m
+    missed : {c : Cause} {e : EventView} {es : List EventView} {s : Progress V} {state : EditState} {m : Moment V} → state_after rules s e ≡ Ok state → CanMiss c es (after_action rules s e state) m → CanRefuse c e es s m
 
   -- the moments at which the run that takes an event can be stopped, by the cause
   pub data CanStopAt : Cause → EventView → List EventView → Progress V → Moment V → Type 0 where
     -- at the event
     refused : {c : Cause} {e : EventView} {es : List EventView} {s : Progress V} {m : Moment V} → CanRefuse c e es s m → CanStopAt c e es s m
     -- behind it
-    later : {c : Cause} {e : EventView} {es : List EventView} {s : Progress V} {state : EditState} {m : Moment V} → state_after rules s e ≡ Ok state → CanStop rules c es (handled rules s e state) m → CanStopAt c e es s m
+    later : {c : Cause} {e : EventView} {es : List EventView} {s : Progress V} {state : EditState} {m : Moment V} → state_after rules s e ≡ Ok state → CanStop rules c es (after_action rules s e state) m → CanStopAt c e es s m
 
   -- the moments at which the run from a painting on can be stopped
   pub data CanStopOn : Cause → List EventView → Progress V → Moment V → Type 0 where

@@ -10,12 +10,12 @@ use Rattle.tw_lineedit.specs.declared.editor.EditorOver.{EditorOver}
 pub record Frame (V : Type 0) : Type 0 where
   pub state : EditState
   pub value : V
-  pub last : Option Mark
+  pub mark : Option Mark
   pub terminal : TerminalState
 
 -- an editor with its host and its terminal
 abbrev pub frame : {T H V : Type 0} → (T → TerminalState) → (H → V) → EditorOver T SessionView → H → Frame V
-frame state value editor host = record { state = editor.session.state; value = value host; last = editor.session.last; terminal = state editor.terminal.now }
+frame state value editor host = record { state = editor.session.state; value = value host; mark = editor.session.mark; terminal = state editor.terminal.now }
 
 -- an editor with its terminal, for what is done without the host
 abbrev pub own_frame : {T : Type 0} → (T → TerminalState) → EditorOver T SessionView → Frame ⊤
@@ -23,4 +23,4 @@ own_frame state editor = frame state (λ (x : ⊤). x) editor tt
 
 -- the same with a host's value
 abbrev pub with_value : {V : Type 0} → V → Frame ⊤ → Frame V
-with_value v f = record { state = f.state; value = v; last = f.last; terminal = f.terminal }
+with_value v f = record { state = f.state; value = v; mark = f.mark; terminal = f.terminal }

@@ -18,7 +18,7 @@ use Rattle.tw_lineedit.specs.Stations.{Station, painting_of, stations_of}
 module _ {V : Type 0} (rules : HostRules V) where
   -- The run from a frame comes to a station and paints it. The screen was cleared before the first of the stations since then, and these are plain and for w columns; those before may be anything.
   pub record ComesCleared (f : Frame V) (w : ℕ) (earlier since : List (Station V)) (station : Station V) (later : List (Station V)) : Type 0 where
-    pub nothing_painted : f.last ≡ None
+    pub nothing_painted : f.mark ≡ None
     pub stations : stations_of rules f ≡ earlier ++ (since ++ station ∷ later)
     pub painting : Painting
     pub painted : painting_of rules station ≡ Ok painting
@@ -46,10 +46,10 @@ module _ {V : Type 0} (rules : HostRules V) where
     pub up_to : batches_of rules (earlier ++ (since ++ station ∷ [])) ≡ batches_of rules earlier ++ played
     pub taken : (run_of rules f).taken ≡ f.terminal.batches ++ batches_of rules (earlier ++ (since ++ station ∷ []))
     pub closed : (before : Picture) → let after = play_batches w played before in
-        IsClosed w (last_row w 0 (sized_scene rules station).scene) after (play_batches w (closing_if (run_of rules f).last) after)
+        IsClosed w (last_row w 0 (sized_scene rules station).scene) after (play_batches w (closing_if (run_of rules f).mark) after)
     pub closed_on : (h : ℕ) (before : Picture) → All (IsLow h w) (scenes_at rules (since ++ station ∷ []))
         → let after = play_batches_on h w played before in
-        IsClosedOn h w (last_row w 0 (sized_scene rules station).scene) after (play_batches_on h w (closing_if (run_of rules f).last) after)
+        IsClosedOn h w (last_row w 0 (sized_scene rules station).scene) after (play_batches_on h w (closing_if (run_of rules f).mark) after)
 
   -- the closing batch of a run whose screen was cleared, also where the run then ends with the refusal of a painting
   abbrev pub HealedCloses : Frame V → Type 0

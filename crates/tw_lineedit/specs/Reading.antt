@@ -22,25 +22,25 @@ initial_text initial = option_map (λ s. s.now) initial
 module _ {V : Type 0} where
   -- where a call with an initial value begins
   abbrev pub start : Option (List ℕ) → Frame V → Frame V
-  start initial f = record f { state = begun_state (initial_cut initial) f.state; last = None }
+  start initial f = record f { state = begun_state (initial_cut initial) f.state; mark = None }
 
   -- where a call stands whose initial value found no memory
   abbrev pub unbegun : Frame V → Moment V
   unbegun f = moment None f.terminal.events (progress_of (start None f))
 
   -- where a run ends
-  abbrev pub paused : Ending V → Moment V
-  paused r = record { state = r.state; value = r.value; size = r.size; last = r.last; taken = r.taken; rendering = None; left = r.left }
+  abbrev pub final_moment : Ending V → Moment V
+  final_moment r = record { state = r.state; value = r.value; size = r.size; mark = r.mark; taken = r.taken; rendering = None; left = r.left }
 
   -- A run that nothing stopped: all its batches and the closing one are taken and flushed.
   pub record Reads (run : Ending V) (f g : Frame V) (answer : Outcome) : Type 0 where
     pub answer_is : answer ≡ run.answer
-    pub batches : g.terminal.batches ≡ run.taken ++ closing_if run.last
+    pub batches : g.terminal.batches ≡ run.taken ++ closing_if run.mark
     pub left : g.terminal.events ≡ run.left
     pub size : g.terminal.size ≡ run.size
     pub state : g.state ≡ record run.state { mode = Inactive }
     pub value : g.value ≡ run.value
-    pub last : g.last ≡ None
+    pub mark : g.mark ≡ None
     pub flushed : g.terminal.flushed ≡ length g.terminal.batches
     pub failures : g.terminal.failures ≡ f.terminal.failures
 
@@ -51,21 +51,21 @@ module _ {V : Type 0} where
     pub size : g.terminal.size ≡ m.size
     pub state : g.state ≡ record m.state { mode = Inactive }
     pub value : g.value ≡ m.value
-    pub last : g.last ≡ None
+    pub mark : g.mark ≡ None
 
   -- the closing batch is whole, and all is flushed
   pub record ClosesWhole (m : Moment V) (g : Frame V) : Type 0 where
-    pub leaves : Leaves m (closing_if m.last) g
+    pub leaves : Leaves m (closing_if m.mark) g
     pub flushed : g.terminal.flushed ≡ length g.terminal.batches
 
   -- the closing batch was refused: a beginning of it is taken, and nothing is flushed
   pub record ClosesInPart (m : Moment V) (f g : Frame V) : Type 0 where
-    pub leaves : (p : Mark) × (end : List Batch) × (m.last ≡ Some p) × IsPart (closing p) end × Leaves m end g
+    pub leaves : (p : Mark) × (end : List Batch) × (m.mark ≡ Some p) × IsPart (closing p) end × Leaves m end g
     pub flushed : g.terminal.flushed ≡ f.terminal.flushed
 
   -- the closing batch is whole, but the flush was refused
   pub record ClosesUnflushed (m : Moment V) (f g : Frame V) : Type 0 where
-    pub leaves : Leaves m (closing_if m.last) g
+    pub leaves : Leaves m (closing_if m.mark) g
     pub flushed : g.terminal.flushed ≡ f.terminal.flushed
 
   -- the closing was refused
@@ -74,11 +74,11 @@ module _ {V : Type 0} where
 
 -- where no call of the terminal was refused before the closing, in a run with this ending that memory can stop at these moments
 abbrev pub HaltsIn : {V : Type 0} → Ending V → (Moment V → Type 0) → Moment V → Type 0
-HaltsIn run Starves m = (m ≡ paused run) ⊎ (Starves m × (m.rendering ≡ None))
+HaltsIn run Starves m = (m ≡ final_moment run) ⊎ (Starves m × (m.rendering ≡ None))
 
 -- the same, where nothing but a refusal ends the run
 abbrev pub HaltsRefused : {V : Type 0} → Ending V → (Moment V → Type 0) → Moment V → Type 0
-HaltsRefused run Starves m = (IsRefusal run.answer × (m ≡ paused run)) ⊎ (Starves m × (m.rendering ≡ None))
+HaltsRefused run Starves m = (IsRefusal run.answer × (m ≡ final_moment run)) ⊎ (Starves m × (m.rendering ≡ None))
 
 -- A run from f with this ending, which memory and the terminal can stop at these moments; at the last ones no call of the terminal was refused before the closing.
 module _ {V : Type 0} (run : Ending V) (Starves Faults Halts : Moment V → Type 0) (f : Frame V) where

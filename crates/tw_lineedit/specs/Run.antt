@@ -14,7 +14,7 @@ use Rattle.tw_painter.specs.Refusal.{Refusal, refusal_of}
 use Rattle.tw_lineedit.specs.Frame.{Frame}
 use Rattle.tw_session.specs.Outcomes.{Outcome, answer_at, IsLine, is_over}
 use Rattle.tw_session.specs.Steps.{apply_if, clears_if, TakesMemory}
-use Rattle.tw_painter.specs.Painting.{Rendered, rendered, painted_on, scene_of}
+use Rattle.tw_painter.specs.Painting.{Rendering, rendering_of, painted_on, scene_of}
 use Rattle.tw_painter.specs.DrawSteps.{IsSized}
 use Rattle.tw_painter.specs.declared.error.Error.{Error}
 use Rattle.tw_painter.specs.declared.error.Error.TheVariants.{Memory, Terminal}
@@ -24,7 +24,7 @@ pub record Progress (V : Type 0) : Type 0 where
   pub state : EditState
   pub value : V
   pub size : ScreenSize
-  pub last : Option Mark
+  pub mark : Option Mark
   pub taken : List Batch
 
 -- how a run ends: its answer, how far it had come, and the events left
@@ -33,7 +33,7 @@ pub record Ending (V : Type 0) : Type 0 where
   pub state : EditState
   pub value : V
   pub size : ScreenSize
-  pub last : Option Mark
+  pub mark : Option Mark
   pub taken : List Batch
   pub left : List EventView
 
@@ -47,7 +47,7 @@ pub record Moment (V : Type 0) : Type 0 where
   pub state : EditState
   pub value : V
   pub size : ScreenSize
-  pub last : Option Mark
+  pub mark : Option Mark
   pub taken : List Batch
   pub rendering : Option Batch
   pub left : List EventView
@@ -55,23 +55,23 @@ pub record Moment (V : Type 0) : Type 0 where
 module _ {V : Type 0} where
   -- the ending with this answer
   abbrev pub ends : Outcome → List EventView → Progress V → Ending V
-  ends answer left s = record { answer = answer; state = s.state; value = s.value; size = s.size; last = s.last; taken = s.taken; left = left }
+  ends answer left s = record { answer = answer; state = s.state; value = s.value; size = s.size; mark = s.mark; taken = s.taken; left = left }
 
   -- once it is painted
-  abbrev pub shown : Progress V → Rendered → Progress V
-  shown s p = record s { last = Some p.mark; taken = s.taken ++ p.changes ∷ [] }
+  abbrev pub after_painting : Progress V → Rendering → Progress V
+  after_painting s p = record s { mark = Some p.mark; taken = s.taken ++ p.changes ∷ [] }
 
   -- once an event is taken
-  abbrev pub polled : Progress V → EventView → Progress V
-  polled s e = record s { size = size_after e s.size }
+  abbrev pub after_taking : Progress V → EventView → Progress V
+  after_taking s e = record s { size = size_after e s.size }
 
   -- the moment at which a run that has come so far is stopped
   abbrev pub moment : Option Batch → List EventView → Progress V → Moment V
-  moment rendering left s = record { state = s.state; value = s.value; size = s.size; last = s.last; taken = s.taken; rendering = rendering; left = left }
+  moment rendering left s = record { state = s.state; value = s.value; size = s.size; mark = s.mark; taken = s.taken; rendering = rendering; left = left }
 
   -- how far an editor has come
   abbrev pub progress_of : Frame V → Progress V
-  progress_of f = record { state = f.state; value = f.value; size = f.terminal.size; last = f.last; taken = f.terminal.batches }
+  progress_of f = record { state = f.state; value = f.value; size = f.terminal.size; mark = f.mark; taken = f.terminal.batches }
 
   -- the ending at which an editor stands
   abbrev pub ending : Outcome → Frame V → Ending V
@@ -79,45 +79,45 @@ module _ {V : Type 0} where
 
 module _ {V : Type 0} (rules : HostRules V) where
   -- the painting that comes next, as it is rendered, or its refusal
-  abbrev pub painting_at : Progress V → Result Rendered Refusal
-  painting_at s = rendered s.last (painted_on s.size (scene_of rules s.value s.state false))
+  abbrev pub painting_at : Progress V → Result Rendering Refusal
+  painting_at s = rendering_of s.mark (painted_on s.size (scene_of rules s.value s.state false))
 
   -- what the host makes of an event
-  abbrev pub resolved : Progress V → EventView → Resolution V
-  resolved s e = rules.resolve s.value e s.state.cut
+  abbrev pub resolution_of : Progress V → EventView → Resolution V
+  resolution_of s e = rules.resolve s.value e s.state.cut
 
   -- the event's action: the host's, else the key table's
-  abbrev pub chosen : Progress V → EventView → Option ActionView
-  chosen s e = or_default (resolved s e).action e
+  abbrev pub chosen_action : Progress V → EventView → Option ActionView
+  chosen_action s e = or_default (resolution_of s e).action e
 
   -- once an event is taken, and the host has answered it
-  abbrev pub answered : Progress V → EventView → Progress V
-  answered s e = record s { state = record s.state { cut = (resolved s e).cut }; value = (resolved s e).value; size = size_after e s.size }
+  abbrev pub after_resolution : Progress V → EventView → Progress V
+  after_resolution s e = record s { state = record s.state { cut = (resolution_of s e).cut }; value = (resolution_of s e).value; size = size_after e s.size }
 
   -- the event's action leads to a state
-  abbrev pub handled : Progress V → EventView → EditState → Progress V
-  handled s e state = record (answered s e) { state = state; taken = s.taken ++ clears_if (chosen s e) }
+  abbrev pub after_action : Progress V → EventView → EditState → Progress V
+  after_action s e state = record (after_resolution s e) { state = state; taken = s.taken ++ clears_if (chosen_action s e) }
 
   -- the state to which the event's action leads, or its refusal
   abbrev pub state_after : Progress V → EventView → Result EditState Refusal
-  state_after s e = apply_if rules (answered s e).value (chosen s e) (answered s e).state
+  state_after s e = apply_if rules (after_resolution s e).value (chosen_action s e) (after_resolution s e).state
 
   -- where no event is left, by the painting
-  abbrev pub at_end : Progress V → Result Rendered Refusal → Ending V
+  abbrev pub at_end : Progress V → Result Rendering Refusal → Ending V
   at_end s (Err n) = ends (Err n) [] s
-  at_end s (Ok p) = ends (answer_at s.state) [] (shown s p)
+  at_end s (Ok p) = ends (answer_at s.state) [] (after_painting s p)
 
   -- where it is painted, and an event leads to a state or is refused; rest is the run from there on
   abbrev pub after_event : EventView → List EventView → Progress V → (Progress V → Ending V) → Result EditState Refusal → Ending V
-  after_event e es s rest (Err n) = ends (Err n) es (answered s e)
-  after_event e es s rest (Ok state) = rest (handled s e state)
+  after_event e es s rest (Err n) = ends (Err n) es (after_resolution s e)
+  after_event e es s rest (Ok state) = rest (after_action s e state)
 
   -- where an event is left, by the painting
-  abbrev pub at_event : EventView → List EventView → Progress V → (Progress V → Ending V) → Result Rendered Refusal → Ending V
+  abbrev pub at_event : EventView → List EventView → Progress V → (Progress V → Ending V) → Result Rendering Refusal → Ending V
   at_event e es s rest (Err n) = ends (Err n) (e ∷ es) s
   at_event e es s rest (Ok p) = cond (is_over s.state.mode)
-      (ends (answer_at s.state) (e ∷ es) (shown s p))
-      (after_event e es (shown s p) rest (state_after s e))
+      (ends (answer_at s.state) (e ∷ es) (after_painting s p))
+      (after_event e es (after_painting s p) rest (state_after s e))
 
   -- Each state is painted, and then the next event leads to the next one.
   abbrev pub run : List EventView → Progress V → Ending V
@@ -131,19 +131,19 @@ module _ {V : Type 0} (rules : HostRules V) where
     -- the painting found no memory; a size that is refused takes none
     unpainted : {es : List EventView} {s : Progress V} → IsSized s.size → CanStop want es s (moment None es s)
     -- the painting was not rendered
-    half_painted : {es : List EventView} {s : Progress V} {p : Rendered} → painting_at s ≡ Ok p → CanStop fault es s (moment (Some p.changes) es s)
+    half_painted : {es : List EventView} {s : Progress V} {p : Rendering} → painting_at s ≡ Ok p → CanStop fault es s (moment (Some p.changes) es s)
     -- no event was told
-    unpolled : {es : List EventView} {s : Progress V} {p : Rendered} → painting_at s ≡ Ok p → is_over s.state.mode ≡ false → CanStop fault es s (moment None es (shown s p))
+    unpolled : {es : List EventView} {s : Progress V} {p : Rendering} → painting_at s ≡ Ok p → is_over s.state.mode ≡ false → CanStop fault es s (moment None es (after_painting s p))
     -- the run ended with a line, and the line was not copied
-    uncopied : {es : List EventView} {s : Progress V} {p : Rendered} → painting_at s ≡ Ok p → (is_over s.state.mode ≡ true) ⊎ (es ≡ []) → IsLine (answer_at s.state) → CanStop want es s (moment None es (shown s p))
+    uncopied : {es : List EventView} {s : Progress V} {p : Rendering} → painting_at s ≡ Ok p → (is_over s.state.mode ≡ true) ⊎ (es ≡ []) → IsLine (answer_at s.state) → CanStop want es s (moment None es (after_painting s p))
     -- the host refused the event
-    unresolved : {e : EventView} {es : List EventView} {s : Progress V} {p : Rendered} → painting_at s ≡ Ok p → is_over s.state.mode ≡ false → CanStop want (e ∷ es) s (moment None es (polled (shown s p) e))
+    unresolved : {e : EventView} {es : List EventView} {s : Progress V} {p : Rendering} → painting_at s ≡ Ok p → is_over s.state.mode ≡ false → CanStop want (e ∷ es) s (moment None es (after_taking (after_painting s p) e))
     -- the action or its making was refused
-    unapplied : {e : EventView} {es : List EventView} {s : Progress V} {p : Rendered} → painting_at s ≡ Ok p → is_over s.state.mode ≡ false → TakesMemory (chosen s e) s.state.mode → CanStop want (e ∷ es) s (moment None es (answered (shown s p) e))
+    unapplied : {e : EventView} {es : List EventView} {s : Progress V} {p : Rendering} → painting_at s ≡ Ok p → is_over s.state.mode ≡ false → TakesMemory (chosen_action s e) s.state.mode → CanStop want (e ∷ es) s (moment None es (after_resolution (after_painting s p) e))
     -- the clearing of the screen was not rendered
-    half_cleared : {e : EventView} {es : List EventView} {s : Progress V} {p : Rendered} → painting_at s ≡ Ok p → is_over s.state.mode ≡ false → chosen s e ≡ Some Repaint → CanStop fault (e ∷ es) s (moment (Some clear_batch) es (answered (shown s p) e))
+    half_cleared : {e : EventView} {es : List EventView} {s : Progress V} {p : Rendering} → painting_at s ≡ Ok p → is_over s.state.mode ≡ false → chosen_action s e ≡ Some Repaint → CanStop fault (e ∷ es) s (moment (Some clear_batch) es (after_resolution (after_painting s p) e))
     -- after the first painting
-    later : {c : Cause} {e : EventView} {es : List EventView} {s : Progress V} {p : Rendered} {state : EditState} {m : Moment V} → painting_at s ≡ Ok p → is_over s.state.mode ≡ false → state_after s e ≡ Ok state → CanStop c es (handled (shown s p) e state) m → CanStop c (e ∷ es) s m
+    later : {c : Cause} {e : EventView} {es : List EventView} {s : Progress V} {p : Rendering} {state : EditState} {m : Moment V} → painting_at s ≡ Ok p → is_over s.state.mode ≡ false → state_after s e ≡ Ok state → CanStop c es (after_action (after_painting s p) e state) m → CanStop c (e ∷ es) s m
 
   -- the run that begins at a frame
   abbrev pub run_of : Frame V → Ending V
@@ -164,7 +164,7 @@ module _ {V : Type 0} where
     pub state : f.state ≡ m.state
     pub value : f.value ≡ m.value
     pub size : f.terminal.size ≡ m.size
-    pub last : f.last ≡ m.last
+    pub mark : f.mark ≡ m.mark
     pub left : f.terminal.events ≡ m.left
     pub part : (part : List Batch) × IsPartOf m.rendering part × (f.terminal.batches ≡ m.taken ++ part)
 

@@ -28,7 +28,7 @@ module _ {V : Type 0} (rules : HostRules V) where
 
   -- The run from a frame comes to a station and paints it. So far every station was plain and for w columns; a screen of this width is entered at column 0.
   pub record ReachesPlainly (f : Frame V) (w : ℕ) (earlier : List (Station V)) (station : Station V) (later : List (Station V)) (before : Picture) : Type 0 where
-    pub nothing_painted : f.last ≡ None
+    pub nothing_painted : f.mark ≡ None
     pub stations : stations_of rules f ≡ earlier ++ station ∷ later
     pub painting : Painting
     pub painted : painting_of rules station ≡ Ok painting
@@ -75,14 +75,14 @@ module _ {V : Type 0} (rules : HostRules V) where
       → let after = play_batches w (batches_of (earlier ++ station ∷ [])) before in
       ((run_of rules f).taken ≡ f.terminal.batches ++ batches_of (earlier ++ station ∷ []))
       × IsClosed w (last_row w (first_row before.row (earlier ++ station ∷ [])) (sized_scene station).scene) after
-      (play_batches w (closing_if (run_of rules f).last) after)
+      (play_batches w (closing_if (run_of rules f).mark) after)
 
   -- Two calls stack: a second run that clears nothing and enters the screen where the closing batch of a first one left it is fresh under that one's last painting, of which nothing is changed.
   abbrev pub CallsStack : Type 0
   CallsStack = (f g : Frame V) (w : ℕ) (earlier : List (Station V)) (station : Station V) (none : List (Station V)) (others : List (Station V)) (second : Station V) (later : List (Station V)) (before : Picture)
       → ReachesPlainly f w earlier station none before → All RendersNothing none
       → let shown = play_batches w (batches_of (earlier ++ station ∷ [])) before in
-      let entered = play_batches w (closing_if (run_of rules f).last) shown in
+      let entered = play_batches w (closing_if (run_of rules f).mark) shown in
       let under = last_row w (first_row before.row (earlier ++ station ∷ [])) (sized_scene station).scene + 1 in
       ReachesPlainly g w others second later entered → is_cleared (others ++ second ∷ []) ≡ false
       → ShowsFresh g w under others second entered

@@ -24,7 +24,7 @@ module _ {V : Type 0} (rules : HostRules V) where
 
   -- The run from a frame comes to a station and paints it. So far every station was simple and for w columns; a screen of this width is entered at column 0.
   pub record ComesSimple (f : Frame V) (w : ℕ) (earlier : List (Station V)) (station : Station V) (later : List (Station V)) (before : Picture) : Type 0 where
-    pub nothing_painted : f.last ≡ None
+    pub nothing_painted : f.mark ≡ None
     pub stations : stations_of rules f ≡ earlier ++ station ∷ later
     pub painting : Painting
     pub painted : painting_of rules station ≡ Ok painting
@@ -51,7 +51,7 @@ module _ {V : Type 0} (rules : HostRules V) where
       → let after = play_batches w (spelled_batches (batches_of rules (earlier ++ station ∷ []))) before in
       ((run_of rules f).taken ≡ f.terminal.batches ++ batches_of rules (earlier ++ station ∷ []))
       × IsClosed w (last_row w (first_row rules before.row (earlier ++ station ∷ [])) (spelled_scene (sized_scene rules station).scene)) after
-      (play_batches w (spelled_batches (closing_if (run_of rules f).last)) after)
+      (play_batches w (spelled_batches (closing_if (run_of rules f).mark)) after)
 
   -- The run comes to a station on a screen of h rows, and each painting so far has at most h rows.
   pub record ComesSimpleOn (h : ℕ) (f : Frame V) (w : ℕ) (earlier : List (Station V)) (station : Station V) (later : List (Station V)) (before : Picture) : Type 0 where
@@ -76,17 +76,17 @@ module _ {V : Type 0} (rules : HostRules V) where
   SimpleScrolledCloses f = (h w : ℕ) (earlier : List (Station V)) (station : Station V) (later : List (Station V)) (before : Picture)
       → ComesSimpleOn h f w earlier station later before → All (RendersNothing rules) later
       → let played = batches_of rules (earlier ++ station ∷ []) in
-      let last = last_row w (top_row h w before.row (spelled_at (earlier ++ station ∷ []))) (spelled_scene (sized_scene rules station).scene) in
+      let mark = last_row w (top_row h w before.row (spelled_at (earlier ++ station ∷ []))) (spelled_scene (sized_scene rules station).scene) in
       let after = play_batches_on h w (spelled_batches played) before in
       ((run_of rules f).taken ≡ f.terminal.batches ++ played)
-      × IsClosedOn h w last after (play_batches_on h w (spelled_batches (closing_if (run_of rules f).last)) after)
+      × IsClosedOn h w mark after (play_batches_on h w (spelled_batches (closing_if (run_of rules f).mark)) after)
 
   -- Two calls stack: a second run that clears nothing and enters the screen where the closing batch of a first one left it is fresh under that one's last painting, of which nothing is changed.
   abbrev pub SimpleCallsStack : Type 0
   SimpleCallsStack = (f g : Frame V) (w : ℕ) (earlier : List (Station V)) (station : Station V) (none : List (Station V)) (others : List (Station V)) (second : Station V) (later : List (Station V)) (before : Picture)
       → ComesSimple f w earlier station none before → All (RendersNothing rules) none
       → let shown = play_batches w (spelled_batches (batches_of rules (earlier ++ station ∷ []))) before in
-      let entered = play_batches w (spelled_batches (closing_if (run_of rules f).last)) shown in
+      let entered = play_batches w (spelled_batches (closing_if (run_of rules f).mark)) shown in
       let under = last_row w (first_row rules before.row (earlier ++ station ∷ [])) (spelled_scene (sized_scene rules station).scene) + 1 in
       ComesSimple g w others second later entered → is_cleared rules (others ++ second ∷ []) ≡ false
       → ShowsSimple g w under others second entered
@@ -96,7 +96,7 @@ module _ {V : Type 0} (rules : HostRules V) where
 
   -- The run from a frame comes to a station and paints it. The screen was cleared before the first of the stations since then, and these are simple and for w columns; those before may be anything.
   pub record ComesSimpleCleared (f : Frame V) (w : ℕ) (earlier since : List (Station V)) (station : Station V) (later : List (Station V)) : Type 0 where
-    pub nothing_painted : f.last ≡ None
+    pub nothing_painted : f.mark ≡ None
     pub stations : stations_of rules f ≡ earlier ++ (since ++ station ∷ later)
     pub painting : Painting
     pub painted : painting_of rules station ≡ Ok painting

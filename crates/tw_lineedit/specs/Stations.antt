@@ -9,10 +9,10 @@ use Rattle.tw_painter.specs.EditState.{EditState}
 use Rattle.tw_host.specs.HostRules.{HostRules}
 use Rattle.tw_session.specs.Outcomes.{is_over}
 use Rattle.tw_session.specs.Steps.{is_repaint}
-use Rattle.tw_painter.specs.Painting.{Rendered, painted_on, scene_of}
+use Rattle.tw_painter.specs.Painting.{Rendering, painted_on, scene_of}
 use Rattle.tw_painter.specs.Refusal.{Refusal}
 use Rattle.tw_lineedit.specs.Frame.{Frame}
-use Rattle.tw_lineedit.specs.Run.{Progress, run_of, progress_of, painting_at, shown, chosen, state_after, handled}
+use Rattle.tw_lineedit.specs.Run.{Progress, run_of, progress_of, painting_at, after_painting, chosen_action, state_after, after_action}
 
 -- what is painted once: a state, the host's value and the screen's size, and whether the screen was cleared just before
 pub record Station (V : Type 0) : Type 0 where
@@ -57,17 +57,17 @@ module _ {V : Type 0} (rules : HostRules V) where
 
   -- the batches of stations after an earlier painting, if there was one: those of what is painted, and then the clearing before a painting that is refused
   abbrev pub station_batches : Option Mark → List (Station V) → List Batch
-  station_batches last stations = batches_after last (painted_shots stations) ++ refused_clearing stations
+  station_batches mark stations = batches_after mark (painted_shots stations) ++ refused_clearing stations
 
   -- the stations behind an event that leads to a state or is refused; rest are those from a station on
   abbrev pub stations_after : EventView → Progress V → (Bool → Progress V → List (Station V)) → Result EditState Refusal → List (Station V)
   stations_after e s rest (Err r) = []
-  stations_after e s rest (Ok state) = rest (is_repaint (chosen rules s e)) (handled rules s e state)
+  stations_after e s rest (Ok state) = rest (is_repaint (chosen_action rules s e)) (after_action rules s e state)
 
   -- the stations behind one, by its painting
-  abbrev pub stations_by : EventView → Progress V → (Bool → Progress V → List (Station V)) → Result Rendered Refusal → List (Station V)
+  abbrev pub stations_by : EventView → Progress V → (Bool → Progress V → List (Station V)) → Result Rendering Refusal → List (Station V)
   stations_by e s rest (Err r) = []
-  stations_by e s rest (Ok p) = stations_unless (stations_after e (shown s p) rest (state_after rules s e)) (is_over s.state.mode)
+  stations_by e s rest (Ok p) = stations_unless (stations_after e (after_painting s p) rest (state_after rules s e)) (is_over s.state.mode)
 
   -- the stations of a run over a list of events: each is painted, and then the next event leads to the next one
   abbrev pub stations_from : List EventView → Bool → Progress V → List (Station V)
@@ -80,4 +80,4 @@ module _ {V : Type 0} (rules : HostRules V) where
 
   -- the batches that a run takes are a function of its stations alone
   abbrev pub BatchesByStations : Type 0
-  BatchesByStations = (f : Frame V) → (run_of rules f).taken ≡ f.terminal.batches ++ station_batches f.last (stations_of f)
+  BatchesByStations = (f : Frame V) → (run_of rules f).taken ≡ f.terminal.batches ++ station_batches f.mark (stations_of f)

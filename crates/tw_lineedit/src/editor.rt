@@ -13,7 +13,7 @@ ghost use Rattle.tw_session.specs.Outcomes.{outcome_of, answer_at, IsLine};
 ghost use Rattle.tw_session.specs.SessionView.{new_session, on_state};
 ghost use Rattle.tw_painter.specs.Refusal.{IsMemory};
 ghost use Rattle.tw_lineedit.specs.Frame.{frame, own_frame};
-ghost use Rattle.tw_lineedit.specs.Run.{progress_of, resolved, run_of, IsAnswered};
+ghost use Rattle.tw_lineedit.specs.Run.{progress_of, resolution_of, run_of, IsAnswered};
 ghost use Rattle.tw_lineedit.specs.Lent.{EndsAs, editor_row};
 ghost use Rattle.tw_lineedit.specs.EditorSteps.{Closes, FailsToClose, Paints, FailsToPaint, Applies, FailsToApply, Handles, FailsToHandle, answered_frame, Advances, FailsToAdvance, GivesUp};
 ghost use Rattle.tw_lineedit.specs.Feeding.{Begins, IsNotBegun, IsRefusedOn, Continues, IsEnded, IsAnsweredOn};
@@ -116,9 +116,9 @@ impl<'term, T: Terminal> LineEditor<'term, T> {
             IfErr result (FailsToPaint H.rules before after) }
     {
         let size = self.terminal.get_screen_size()?;
-        let (changes, painted) = self.session.painting(host, size)?;
+        let (changes, mark) = self.session.painting(host, size)?;
         self.terminal.render(changes.as_slice())?;
-        self.session.set_mark(painted);
+        self.session.set_mark(mark);
         Ok(())
     }
 
@@ -214,7 +214,7 @@ impl<'term, T: Terminal> LineEditor<'term, T> {
             let after = frame T.state H.value self.new host.new in
             OnOk result (after ≡ answered_frame H.rules (event_view event.now) before) }
         ensures action { let before = frame T.state H.value self.old host.old in
-            IfOk result (λ action. option_map action_view action ≡ (resolved H.rules (progress_of before) (event_view event.now)).action) }
+            IfOk result (λ action. option_map action_view action ≡ (resolution_of H.rules (progress_of before) (event_view event.now)).action) }
         ensures err { OnErr result (frame T.state H.value self.new host.new ≡ frame T.state H.value self.old host.old) }
     {
         self.session.resolve(host, event)
@@ -281,11 +281,11 @@ impl<'term, T: Terminal> LineEditor<'term, T> {
             IfErr result (IsRefusedOn H.rules (T.state self.old.terminal.now).events before after) }
     {
         while self.turn(host)? {}
-        self.answered()
+        self.answer()
     }
 
     /// The answer at the end of a run.
-    fn answered(&self) -> Result<Option<String>, Error>
+    fn answer(&self) -> Result<Option<String>, Error>
         ensures ok { IfOk result (λ it. outcome_of (Ok it) ≡ answer_at self.now.session.state) }
         ensures err { IfErr result IsMemory }
         ensures line { OnErr result (IsLine (answer_at self.now.session.state)) }
@@ -301,7 +301,7 @@ impl<'term, T: Terminal> LineEditor<'term, T> {
     {
         match self.session.end() {
             None => {}
-            Some(painted) => self.terminal.render(&painted.closing_batch())?,
+            Some(mark) => self.terminal.render(&mark.closing_batch())?,
         }
         Ok(self.terminal.flush()?)
     }

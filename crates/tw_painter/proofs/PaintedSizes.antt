@@ -14,7 +14,7 @@ use Rattle.tw_painter.specs.declared.error.Error.{Error}
 use Rattle.tw_painter.specs.declared.error.Error.TheVariants.{EndOfFile, Recursive, CandidateDoesNotFit, Memory, Terminal}
 use Rattle.tw_painter.specs.declared.error.Error.TheVariants as error
 use Rattle.tw_painter.specs.Refusal.{Refusal, ZeroSize, SizeOutOfRange}
-use Rattle.tw_painter.specs.Painting.{Rendered, rendered, painted_on, is_paintable}
+use Rattle.tw_painter.specs.Painting.{Rendering, rendering_of, painted_on, is_paintable}
 use Rattle.tw_painter.specs.DrawSteps.{IsSized, IsUnpainted, size_error, IsStepRefusal, DrawnScene}
 
 -- no rows or no columns
@@ -91,12 +91,12 @@ refused-scene size scene (Terminal x) sized h = absurd h
 
 -- a scene that is painted
 pub painted-scene : (size : ScreenSize) (scene : Scene) (before : Option Mark) (new : Drawing) (batch : Batch) (left : Mark) → IsSized size → DrawnScene size.cols scene new left
-    → batch ≡ start_of before ++ new.changes → rendered before (painted_on size scene) ≡ Ok (record { changes = batch; mark = left })
+    → batch ≡ start_of before ++ new.changes → rendering_of before (painted_on size scene) ≡ Ok (record { changes = batch; mark = left })
 painted-scene size scene before new batch left sized h e =
     let is_painting : painted_on size scene ≡ Ok (painting size.cols scene) = painted_on-sized size scene sized ∙ rw h.paintable refl in
-    ap (rendered before) is_painting
+    ap (rendering_of before) is_painting
     ∙ ap (λ b. as_rendered b (mark_of (painting size.cols scene))) (sym (e ∙ ap (λ b. start_of before ++ b) h.changes))
     ∙ ap (as_rendered batch) (sym h.leaves)
   where
-    as_rendered : Batch → Mark → Result Rendered Refusal
+    as_rendered : Batch → Mark → Result Rendering Refusal
     as_rendered changes mark = Ok (record { changes = changes; mark = mark })

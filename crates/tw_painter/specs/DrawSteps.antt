@@ -22,7 +22,7 @@ use Rattle.tw_terminal.specs.declared.terminal.ScreenSize.{ScreenSize}
 use Rattle.tw_line.specs.Cut.{Cut}
 use Rattle.tw_host.specs.HostRules.{HostRules}
 use Rattle.tw_painter.specs.Refusal.{ZeroSize, SizeOutOfRange}
-use Rattle.tw_painter.specs.Painting.{search_text, preview_of, is_paintable, painted_on, rendered, scene_with}
+use Rattle.tw_painter.specs.Painting.{search_text, preview_of, is_paintable, painted_on, rendering_of, scene_with}
 
 -- the error for a change that is refused
 abbrev pub add_error : AddFault → Error
@@ -105,7 +105,7 @@ pub record IsSized (size : ScreenSize) : Type 0 where
 -- the batch and the mark are those of the scene's painting, as it is rendered after the one before
 abbrev pub IsPainted : Option Mark → ScreenSize → Scene → Vec Change × Mark → Type 0
 IsPainted before size scene painted =
-    rendered before (painted_on size scene) ≡ Ok (record { changes = batch_view painted.0.items; mark = painted.1 })
+    rendering_of before (painted_on size scene) ≡ Ok (record { changes = batch_view painted.0.items; mark = painted.1 })
 
 -- why there is no painting of the scene: no memory, or the refusal of the painting
 abbrev pub IsUnpainted : ScreenSize → Scene → Error → Type 0

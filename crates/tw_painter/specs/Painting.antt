@@ -75,11 +75,11 @@ pub record IsInLimits (m : Mark) : Type 0 where
   pub low : m.height ≤ 4294967294
 
 -- a painting as it is rendered, behind its start move, and its mark
-pub record Rendered : Type 0 where
+pub record Rendering : Type 0 where
   pub changes : Batch
   pub mark : Mark
 
 -- the painting as it is rendered after the one before, or its refusal
-abbrev pub rendered : Option Mark → Result Painting Refusal → Result Rendered Refusal
-rendered last (Err r) = Err r
-rendered last (Ok p) = Ok (record { changes = start_of last ++ p.changes; mark = mark_of p })
+abbrev pub rendering_of : Option Mark → Result Painting Refusal → Result Rendering Refusal
+rendering_of mark (Err r) = Err r
+rendering_of mark (Ok p) = Ok (record { changes = start_of mark ++ p.changes; mark = mark_of p })

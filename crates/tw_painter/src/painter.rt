@@ -293,9 +293,9 @@ pub fn painting<H: LineEditorHost>(
     ensures err { IfErr result (IsUnpainted size (scene_of_line H.rules (H.value host.now) prompt.now line.now below.entry)) }
 {
     let mut drawing = ChangeSequence::new(alloc, size.rows, size.cols)?;
-    let painted = draw_scene(&mut drawing, host, alloc, prompt, line, below, size.cols)?;
+    let mark = draw_scene(&mut drawing, host, alloc, prompt, line, below, size.cols)?;
     let batch = from_start(before, drawing.consume())?;
-    Ok((batch, painted))
+    Ok((batch, mark))
 }
 
 #[cfg(test)]

@@ -3,7 +3,7 @@ use Rattle.std.proofs.Common.{◌≡◌, ℕ, ◌+◌, ◌-◌, ◌<◌, ◌≤�
 use Rattle.std.proofs.lemmas.Bool.{and_parts, leb-true, le-leb, false_from_ne_true}
 use Rattle.std.specs.Str.{IsCharBoundary}
 use Rattle.tw_line.specs.Cut.{Cut, cut_at}
-use Rattle.tw_host.specs.CandidateView.{CandidateView, fits, replaced, landing}
+use Rattle.tw_host.specs.CandidateView.{CandidateView, fits, line_with, landing}
 use Rattle.tw_line.proofs.BoundaryLemmas.{is_boundary-from, IsCharBoundary-from}
 use Rattle.tw_session.proofs.LandingLemmas.{boundary_behind, boundary_before, boundary_was_before, boundary_inside, boundary_was_inside}
 
@@ -14,7 +14,7 @@ pub record IsFitting (cut : Cut) (c : CandidateView) : Type 0 where
   pub from : IsCharBoundary cut.line c.start
   pub to : IsCharBoundary cut.line c.end
   pub low : c.end ≤ cut.cursor + length c.text + c.start
-  pub lands : IsCharBoundary (replaced cut c) (landing cut c)
+  pub lands : IsCharBoundary (line_with cut c) (landing cut c)
 
 -- with its parts the test passes
 fits-from : (cut : Cut) (c : CandidateView) → IsFitting cut c → fits cut c ≡ true
@@ -55,13 +55,13 @@ module _ (line text : List ℕ) (start end cursor : ℕ) where
 
   module _ (ordered : start ≤ end) (from : IsCharBoundary line start) (to : IsCharBoundary line end) where
     -- a landing that is a boundary
-    fits_landing : (at : ℕ) → end + at ≡ cursor + length text + start → IsCharBoundary (replaced cut candidate) at → fits cut candidate ≡ true
+    fits_landing : (at : ℕ) → end + at ≡ cursor + length text + start → IsCharBoundary (line_with cut candidate) at → fits cut candidate ≡ true
     fits_landing at landed stands =
         let same : cursor + length text + start - end ≡ at = omega arith in
         fits-from cut candidate (record { ordered = ordered; within = to.0; from = from; to = to; low = omega arith; lands = rw same stands })
 
     -- a landing that is none
-    misfits_landing : (at : ℕ) → end + at ≡ cursor + length text + start → (IsCharBoundary (replaced cut candidate) at → ⊥) → fits cut candidate ≡ false
+    misfits_landing : (at : ℕ) → end + at ≡ cursor + length text + start → (IsCharBoundary (line_with cut candidate) at → ⊥) → fits cut candidate ≡ false
     misfits_landing at landed none =
         let same : cursor + length text + start - end ≡ at = omega arith in
         fits-false cut candidate (λ f. none (rw same at f.lands))

@@ -6,12 +6,12 @@ use Rattle.std.proofs.lemmas.Bool.{lt-ltb}
 use Rattle.std.proofs.lemmas.List.Sums.{AllPass-from_list_all}
 use Rattle.std.proofs.lemmas.Option.{slice_get-get_or}
 use Rattle.tw_line.specs.Cut.{Cut, cut_at}
-use Rattle.tw_host.specs.CandidateView.{CandidateView, fits, replaced, landing, completed_by}
+use Rattle.tw_host.specs.CandidateView.{CandidateView, fits, line_with, landing, completed_by}
 use Rattle.tw_host.specs.ActionView.{Complete}
 use Rattle.tw_host.specs.HostRules.{HostRules}
 use Rattle.tw_painter.specs.EditState.{EditState, ModeView, Inactive, Editing, Cancelled, Accepted, Searching}
 use Rattle.tw_session.specs.Search.{IsSearching, search_left_in}
-use Rattle.tw_session.specs.Completion.{completed}
+use Rattle.tw_session.specs.Completion.{completion_step}
 use Rattle.tw_session.specs.Steps.{apply}
 use Rattle.tw_session.specs.HistoryLaws.{apply_all}
 use Rattle.tw_session.specs.CompletionLaws.{GoesRound}
@@ -33,7 +33,7 @@ module _ {V : Type 0} (rules : HostRules V) (v : V) (s : EditState) (candidates 
 
   -- the cut text that it makes
   abbrev made : ℕ → Cut
-  made i = cut_at (replaced s.cut (at i)) (landing s.cut (at i))
+  made i = cut_at (line_with s.cut (at i)) (landing s.cut (at i))
 
   -- the state once it has come in
   abbrev standing : ℕ → EditState
@@ -51,13 +51,13 @@ module _ {V : Type 0} (rules : HostRules V) (v : V) (s : EditState) (candidates 
 
   -- the first completion
   apply-first : s.cycle ≡ None → apply rules v Complete s ≡ Ok (standing 0)
-  unfolding apply completed
+  unfolding apply completion_step
   apply-first none = rw (search_left-plain s s.mode plain, none, there, stands 0 (omega arith), makes 0 (omega arith), lt-ltb 1 (length candidates) some) refl
 
   -- a further completion
-  apply-next : (i : ℕ) → apply rules v Complete (standing i) ≡ Ok (standing ((i + 1) % length candidates))
-  unfolding apply completed
-  apply-next i =
+  apply-next_step : (i : ℕ) → apply rules v Complete (standing i) ≡ Ok (standing ((i + 1) % length candidates))
+  unfolding apply completion_step
+  apply-next_step i =
       let low : (i + 1) % length candidates < length candidates = mod-lt (i + 1) (omega arith) in
       rw (search_left-plain (standing i) s.mode plain, stands _ low, makes _ low) refl
 
@@ -76,7 +76,7 @@ module _ {V : Type 0} (rules : HostRules V) (v : V) (s : EditState) (candidates 
       let further : (i + 1) + k ≡ i + suc k = omega arith in
       let same : ((i + 1) % length candidates + k) % length candidates ≡ (i + suc k) % length candidates =
       mod-add-mod (i + 1) (length candidates) k ∙ ap (λ n. n % length candidates) further in
-      IsOkAnd-step rules v Complete (replicate k Complete) (standing i) (standing ((i + 1) % length candidates)) (MakesAt ((i + suc k) % length candidates)) (apply-next i)
+      IsOkAnd-step rules v Complete (replicate k Complete) (standing i) (standing ((i + 1) % length candidates)) (MakesAt ((i + suc k) % length candidates)) (apply-next_step i)
       (subst (λ n. IsOkAnd (apply_all rules v (replicate k Complete) (standing ((i + 1) % length candidates))) (MakesAt n)) same (round k ((i + 1) % length candidates) below))
 
 -- the law

@@ -3,7 +3,7 @@ use Rattle.std.proofs.Common.{◌≡◌, ℕ, zero, suc, ◌+◌, ◌-◌, ◌<�
 use Rattle.std.proofs.lemmas.Bool.{cases_Bool, lt-ltb, ne_eqb}
 use Rattle.std.proofs.lemmas.List.{take_more, take_all, reverse-append}
 use Rattle.tw_line.specs.Cut.{Cut, cut_at}
-use Rattle.tw_extremes.specs.Extremes.{greatest_below, repeated}
+use Rattle.tw_extremes.specs.Extremes.{greatest_below, iterate}
 use Rattle.tw_history.specs.Patterns.{contains}
 use Rattle.tw_history.specs.NearestMatch.{MatchView, line_at, last_index, matches, match_at, nearest_match}
 use Rattle.tw_host.specs.ActionView.{InsertChar, InsertText, HistoryIncSearchBackwards}
@@ -180,6 +180,6 @@ module _ {V : Type 0} (rules : HostRules V) (v : V) where
   -- the law of searches
   pub enumerates : Enumerates rules v
   unfolding apply
-  enumerates s t style match (InsertChar r x) k searches inserts done some = enumerates_edit (repeated (with_char x) r) s t style match k searches done some
-  enumerates s t style match (InsertText r text) k searches inserts done some = enumerates_edit (repeated (with_text text) r) s t style match k searches done some
+  enumerates s t style match (InsertChar r x) k searches inserts done some = enumerates_edit (iterate (with_char x) r) s t style match k searches done some
+  enumerates s t style match (InsertText r text) k searches inserts done some = enumerates_edit (iterate (with_text text) r) s t style match k searches done some
   enumerates s t style match _ k searches inserts done some = absurd inserts

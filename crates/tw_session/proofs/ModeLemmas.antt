@@ -11,8 +11,8 @@ use Rattle.tw_history.specs.declared.history.SearchDirection.{SearchDirection}
 use Rattle.tw_history.specs.declared.history.SearchDirection.TheVariants.{Backwards, Forwards}
 use Rattle.tw_painter.specs.EditState.{EditState, ModeView, CycleView, Inactive, Editing, Cancelled, Accepted, Searching}
 use Rattle.tw_painter.specs.Refusal.{Refusal}
-use Rattle.tw_session.specs.Completion.{with_completion, with_candidate, completed_from, completed}
-use Rattle.tw_session.specs.Walk.{with_line_if, previous_of_typed, previous_from, previous, with_line_or_typed, next_from, next}
+use Rattle.tw_session.specs.Completion.{with_completion, with_candidate, completed_from, completion_step}
+use Rattle.tw_session.specs.Walk.{with_line_if, previous_of_typed, previous_from, previous_step, with_line_or_typed, next_from, next_step}
 use Rattle.tw_session.specs.Search.{search_left_in, search_left, shown_match, searched_again_in, searched_again, search_step_from, search_step_in, search_step}
 use Rattle.tw_session.specs.Steps.{apply, apply_if, history_step}
 
@@ -84,24 +84,24 @@ previous_begun_typed : (lines : List (List ℕ)) (s : EditState) (last : Option 
 previous_begun_typed lines s None b = b
 previous_begun_typed lines s (Some last) b = taken_begun _ last _ b
 
-previous_begun_from : (lines : List (List ℕ)) (s : EditState) (position : Option ℕ) → Begun s → Begun (previous_from lines s position)
+previous_begun_from : (lines : List (List ℕ)) (s : EditState) (index : Option ℕ) → Begun s → Begun (previous_from lines s index)
 previous_begun_from lines s (Some p) b = taken_begun s _ _ b
 previous_begun_from lines s None b = previous_begun_typed lines s _ b
 
-previous_begun : (lines : List (List ℕ)) (s : EditState) → Begun s → Begun (previous lines s)
-unfolding previous
+previous_begun : (lines : List (List ℕ)) (s : EditState) → Begun s → Begun (previous_step lines s)
+unfolding previous_step
 previous_begun lines s b = previous_begun_from lines s s.history_index b
 
 restored_begun : (s : EditState) (i : ℕ) (line : Option (List ℕ)) → Begun s → Begun (with_line_or_typed s i line)
 restored_begun s i None b = b
 restored_begun s i (Some line) b = b
 
-next_begun_from : (lines : List (List ℕ)) (s : EditState) (position : Option ℕ) → Begun s → Begun (next_from lines s position)
+next_begun_from : (lines : List (List ℕ)) (s : EditState) (index : Option ℕ) → Begun s → Begun (next_from lines s index)
 next_begun_from lines s (Some p) b = restored_begun s _ _ b
 next_begun_from lines s None b = b
 
-next_begun : (lines : List (List ℕ)) (s : EditState) → Begun s → Begun (next lines s)
-unfolding next
+next_begun : (lines : List (List ℕ)) (s : EditState) → Begun s → Begun (next_step lines s)
+unfolding next_step
 next_begun lines s b = next_begun_from lines s s.history_index b
 
 -- a step of the history or of the search
@@ -125,8 +125,8 @@ completed_begun_from : (candidates : List CandidateView) (s : EditState) (cycle 
 completed_begun_from candidates s None b = filled_begun s _ _ _ b
 completed_begun_from candidates s (Some c) b = filled_begun s _ _ _ b
 
-completed_begun : (candidates : Cut → List CandidateView) (s : EditState) → Begun s → begins (completed candidates s) ≡ true
-unfolding completed
+completed_begun : (candidates : Cut → List CandidateView) (s : EditState) → Begun s → begins (completion_step candidates s) ≡ true
+unfolding completion_step
 completed_begun candidates s b = completed_begun_from (candidates s.cut) s s.cycle b
 
 module _ {V : Type 0} (rules : HostRules V) (v : V) where
@@ -142,8 +142,8 @@ module _ {V : Type 0} (rules : HostRules V) (v : V) where
   apply_begun (Move m) s b = left_begun s b
   apply_begun (Kill m) s b = again_begun (rules.lines v) _ b
   apply_begun (KillAndMove k m) s b = again_begun (rules.lines v) _ b
-  apply_begun HistoryPrevious s b = stepped_begun (rules.lines v) Backwards (previous (rules.lines v)) s s.mode (previous_begun (rules.lines v) s b) b
-  apply_begun HistoryNext s b = stepped_begun (rules.lines v) Forwards (next (rules.lines v)) s s.mode (next_begun (rules.lines v) s b) b
+  apply_begun HistoryPrevious s b = stepped_begun (rules.lines v) Backwards (previous_step (rules.lines v)) s s.mode (previous_begun (rules.lines v) s b) b
+  apply_begun HistoryNext s b = stepped_begun (rules.lines v) Forwards (next_step (rules.lines v)) s s.mode (next_begun (rules.lines v) s b) b
   apply_begun Complete s b = completed_begun (rules.candidates v) (search_left s) (left_begun s b)
   apply_begun NoAction s b = b
   apply_begun HistoryIncSearchBackwards s b = sought_begun (rules.lines v) Backwards s b

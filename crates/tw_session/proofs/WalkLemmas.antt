@@ -6,7 +6,7 @@ use Rattle.tw_history.specs.NearestMatch.{line_at, last_index, last_line}
 use Rattle.tw_host.specs.ActionView.{ActionView, HistoryPrevious, HistoryNext}
 use Rattle.tw_host.specs.HostRules.{HostRules}
 use Rattle.tw_painter.specs.EditState.{EditState, ModeView, Inactive, Editing, Cancelled, Accepted, Searching}
-use Rattle.tw_session.specs.Walk.{previous, next}
+use Rattle.tw_session.specs.Walk.{previous_step, next_step}
 use Rattle.tw_session.specs.Search.{IsSearching}
 use Rattle.tw_session.specs.Steps.{apply, history_step, without_cycle}
 use Rattle.tw_session.specs.HistoryLaws.{apply_all, LeavesHistory, WalksBack}
@@ -31,22 +31,22 @@ abbrev held : EditState → Cut → ℕ → EditState
 held s cut i = record s { cut = cut; history_index = Some i; typed_line = Some s.cut.line; cycle = None }
 
 -- the first step back
-previous-first : (lines : List (List ℕ)) (s : EditState) → s.history_index ≡ None → 1 ≤ length lines → without_cycle (previous lines s) ≡ held s (at_end (line_at lines (length lines - 1))) (length lines - 1)
-unfolding previous
-previous-first lines s typed some =
+previous_step-first : (lines : List (List ℕ)) (s : EditState) → s.history_index ≡ None → 1 ≤ length lines → without_cycle (previous_step lines s) ≡ held s (at_end (line_at lines (length lines - 1))) (length lines - 1)
+unfolding previous_step
+previous_step-first lines s typed some =
     rw (typed, last_index-some lines some, slice_get-get_or lines (length lines - 1) [] (omega arith)) refl
 
 -- a further step back
-previous-held : (lines : List (List ℕ)) (s : EditState) (cut : Cut) (i : ℕ) → suc i ≤ length lines → without_cycle (previous lines (held s cut (suc i))) ≡ held s (at_end (line_at lines i)) i
-unfolding previous
-previous-held lines s cut i low =
+previous_step-held : (lines : List (List ℕ)) (s : EditState) (cut : Cut) (i : ℕ) → suc i ≤ length lines → without_cycle (previous_step lines (held s cut (suc i))) ≡ held s (at_end (line_at lines i)) i
+unfolding previous_step
+previous_step-held lines s cut i low =
     let e : suc i - 1 ≡ i = omega arith in
     rw (e, slice_get-get_or lines i [] low) refl
 
 -- a step forth to a line
-next-held : (lines : List (List ℕ)) (s : EditState) (cut : Cut) (i : ℕ) → suc i < length lines → without_cycle (next lines (held s cut i)) ≡ held s (at_end (line_at lines (suc i))) (suc i)
-unfolding next
-next-held lines s cut i low =
+next_step-held : (lines : List (List ℕ)) (s : EditState) (cut : Cut) (i : ℕ) → suc i < length lines → without_cycle (next_step lines (held s cut i)) ≡ held s (at_end (line_at lines (suc i))) (suc i)
+unfolding next_step
+next_step-held lines s cut i low =
     let e : i + 1 ≡ suc i = omega arith in
     rw (e, slice_get-get_or lines (suc i) [] low) refl
 
@@ -55,22 +55,22 @@ abbrev move_step : EditState → EditState
 move_step s = record s { cut = at_end s.cut.line; history_index = None; typed_line = None; cycle = None }
 
 -- the step forth behind the last line leaves the history
-next-last : (lines : List (List ℕ)) (s : EditState) (cut : Cut) (i : ℕ) → length lines ≤ suc i → without_cycle (next lines (held s cut i)) ≡ move_step s
-unfolding next
-next-last lines s cut i high =
+next_step-last : (lines : List (List ℕ)) (s : EditState) (cut : Cut) (i : ℕ) → length lines ≤ suc i → without_cycle (next_step lines (held s cut i)) ≡ move_step s
+unfolding next_step
+next_step-last lines s cut i high =
     let e : i + 1 ≡ suc i = omega arith in
     rw (e, slice_get_past lines (suc i) high) refl
 
 module _ {V : Type 0} (rules : HostRules V) (v : V) where
   -- a step back is applied
-  apply-previous : (s : EditState) → ¬ (IsSearching s.mode) → apply rules v HistoryPrevious s ≡ Ok (without_cycle (previous (rules.lines v) s))
+  apply-previous_step : (s : EditState) → ¬ (IsSearching s.mode) → apply rules v HistoryPrevious s ≡ Ok (without_cycle (previous_step (rules.lines v) s))
   unfolding apply
-  apply-previous s plain = ap (λ (t : EditState). Ok (without_cycle t)) (history_step-plain (rules.lines v) Backwards (previous (rules.lines v)) s s.mode plain)
+  apply-previous_step s plain = ap (λ (t : EditState). Ok (without_cycle t)) (history_step-plain (rules.lines v) Backwards (previous_step (rules.lines v)) s s.mode plain)
 
   -- a step forth is applied
-  apply-next : (s : EditState) → ¬ (IsSearching s.mode) → apply rules v HistoryNext s ≡ Ok (without_cycle (next (rules.lines v) s))
+  apply-next_step : (s : EditState) → ¬ (IsSearching s.mode) → apply rules v HistoryNext s ≡ Ok (without_cycle (next_step (rules.lines v) s))
   unfolding apply
-  apply-next s plain = ap (λ (t : EditState). Ok (without_cycle t)) (history_step-plain (rules.lines v) Forwards (next (rules.lines v)) s s.mode plain)
+  apply-next_step s plain = ap (λ (t : EditState). Ok (without_cycle t)) (history_step-plain (rules.lines v) Forwards (next_step (rules.lines v)) s s.mode plain)
 
   -- what a list of actions leads to, where the first one leads to t
   pub IsOkAnd-step : (a : ActionView) (actions : List ActionView) (s t : EditState) (P : EditState → Type 0) → apply rules v a s ≡ Ok t → IsOkAnd (apply_all rules v actions t) P → IsOkAnd (apply_all rules v (a ∷ actions) s) P
@@ -81,11 +81,11 @@ module _ {V : Type 0} (rules : HostRules V) (v : V) where
     forth : (i p : ℕ) (cut : Cut) → 1 ≤ i → p + i ≡ length (rules.lines v) → IsOkAnd (apply_all rules v (replicate i HistoryNext) (held s cut p)) P
     forth zero p cut some counts = absurd (omega arith)
     forth (suc zero) p cut some counts =
-        let on = ap Ok (next-last (rules.lines v) s cut p (omega arith)) in
-        IsOkAnd-step HistoryNext [] (held s cut p) _ _ (apply-next (held s cut p) plain ∙ on) ends
+        let on = ap Ok (next_step-last (rules.lines v) s cut p (omega arith)) in
+        IsOkAnd-step HistoryNext [] (held s cut p) _ _ (apply-next_step (held s cut p) plain ∙ on) ends
     forth (suc (suc i)) p cut some counts =
-        let on = ap Ok (next-held (rules.lines v) s cut p (omega arith)) in
-        IsOkAnd-step HistoryNext (replicate (suc i) HistoryNext) (held s cut p) _ _ (apply-next (held s cut p) plain ∙ on)
+        let on = ap Ok (next_step-held (rules.lines v) s cut p (omega arith)) in
+        IsOkAnd-step HistoryNext (replicate (suc i) HistoryNext) (held s cut p) _ _ (apply-next_step (held s cut p) plain ∙ on)
         (forth (suc i) (suc p) _ (omega arith) (omega arith))
 
     -- the steps back from a line of the history, and then the steps forth
@@ -94,8 +94,8 @@ module _ {V : Type 0} (rules : HostRules V) (v : V) where
     back zero i p cut some low high counts = forth i p cut some (omega arith)
     back (suc j) i zero cut some low high counts = absurd (omega arith)
     back (suc j) i (suc p) cut some low high counts =
-        let on = ap Ok (previous-held (rules.lines v) s cut p (omega arith)) in
-        IsOkAnd-step HistoryPrevious (replicate j HistoryPrevious ++ replicate i HistoryNext) (held s cut (suc p)) _ _ (apply-previous (held s cut (suc p)) plain ∙ on)
+        let on = ap Ok (previous_step-held (rules.lines v) s cut p (omega arith)) in
+        IsOkAnd-step HistoryPrevious (replicate j HistoryPrevious ++ replicate i HistoryNext) (held s cut (suc p)) _ _ (apply-previous_step (held s cut (suc p)) plain ∙ on)
         (back j i p _ some (omega arith) (omega arith) (omega arith))
 
     -- a whole walk
@@ -103,8 +103,8 @@ module _ {V : Type 0} (rules : HostRules V) (v : V) where
     walk zero typed some low = absurd (omega arith)
     walk (suc k) typed some low =
         let lines = rules.lines v in
-        let on = ap Ok (previous-first lines s typed (omega arith)) in
-        IsOkAnd-step HistoryPrevious (replicate k HistoryPrevious ++ replicate (suc k) HistoryNext) s _ _ (apply-previous s plain ∙ on)
+        let on = ap Ok (previous_step-first lines s typed (omega arith)) in
+        IsOkAnd-step HistoryPrevious (replicate k HistoryPrevious ++ replicate (suc k) HistoryNext) s _ _ (apply-previous_step s plain ∙ on)
         (back k (suc k) (length lines - 1) _ (omega arith) (omega arith) (omega arith) (omega arith))
 
   -- the law of walks
@@ -115,7 +115,7 @@ module _ {V : Type 0} (rules : HostRules V) (v : V) where
   first_again : (s : EditState) → ¬ (IsSearching s.mode) → 1 ≤ length (rules.lines v) → IsOkAnd (apply rules v HistoryPrevious (move_step s)) (λ u. Some u.cut.line ≡ last_line (rules.lines v))
   first_again s plain some =
       let lines = rules.lines v in
-      let on = apply-previous (move_step s) plain ∙ ap Ok (previous-first lines (move_step s) refl some) in
+      let on = apply-previous_step (move_step s) plain ∙ ap Ok (previous_step-first lines (move_step s) refl some) in
       rw on (sym (slice_get-get_or lines (length lines - 1) [] (omega arith)))
 
   -- a walk leaves the history

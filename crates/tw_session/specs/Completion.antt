@@ -32,8 +32,8 @@ completed_from candidates s None = with_candidate s (cycle_of candidates s.cut) 
 completed_from candidates s (Some c) = with_candidate s (Some (record c { index = next_in c })) c.original (slice_get c.candidates (next_in c))
 
 -- one completion, by the host's candidates for the cut text
-unfoldable pub completed : (Cut → List CandidateView) → EditState → Result EditState Refusal
-completed candidates s = completed_from (candidates s.cut) s s.cycle
+unfoldable pub completion_step : (Cut → List CandidateView) → EditState → Result EditState Refusal
+completion_step candidates s = completed_from (candidates s.cut) s s.cycle
 
 -- why a candidate is not put in: memory, or it does not fit
 abbrev pub IsMisfit : CandidateView → Cut → Error → Type 0

@@ -1,16 +1,16 @@
 -- The edits of a session.
 use Rattle.std.specs.Prelude.{⊤}
 use Rattle.tw_line.specs.Cut.{Cut}
-use Rattle.tw_extremes.specs.Extremes.{repeated}
-use Rattle.tw_line.specs.Edits.{with_char, with_text, killed}
+use Rattle.tw_extremes.specs.Extremes.{iterate}
+use Rattle.tw_line.specs.Edits.{with_char, with_text, after_kill}
 use Rattle.tw_session.specs.declared.session.edit.Edit.{Edit}
 use Rattle.tw_session.specs.declared.session.edit.Edit.TheVariants.{InsertChar, InsertText, Kill}
 
 -- what an edit makes of a cut text
 abbrev pub edit_of : Edit → Cut → Cut
-edit_of (InsertChar r x) = repeated (with_char x) r
-edit_of (InsertText r text) = repeated (with_text text.now) r
-edit_of (Kill k m) = killed k m
+edit_of (InsertChar r x) = iterate (with_char x) r
+edit_of (InsertText r text) = iterate (with_text text.now) r
+edit_of (Kill k m) = after_kill k m
 
 -- the edit may take memory
 abbrev pub TakesMemoryToEdit : Edit → Type 0

@@ -43,7 +43,7 @@ module _ {V : Type 0} (rules : HostRules V) (v : V) where
   WalksBack = (s : EditState) (k : ℕ) → s.history_index ≡ None → ¬ (IsSearching s.mode) → 1 ≤ k → k ≤ length (rules.lines v)
       → IsOkAnd (apply_all (replicate k HistoryPrevious ++ replicate k HistoryNext) s) (λ t. t.cut ≡ at_end s.cut.line)
 
-  -- then there is no position and nothing is kept, so that one more step back shows the last line again
+  -- then there is no index and nothing is kept, so that one more step back shows the last line again
   abbrev pub LeavesHistory : Type 0
   LeavesHistory = (s : EditState) (k : ℕ) → s.history_index ≡ None → ¬ (IsSearching s.mode) → 1 ≤ k → k ≤ length (rules.lines v)
       → IsOkAnd (apply_all (replicate k HistoryPrevious ++ replicate k HistoryNext) s) (λ t.

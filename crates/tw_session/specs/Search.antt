@@ -41,10 +41,10 @@ searched_again_in lines s _ = s
 unfoldable pub searched_again : List (List ℕ) → EditState → EditState
 searched_again lines s = searched_again_in lines s s.mode
 
--- where a search starts: beside the position, or without one at the last line
+-- where a search starts: beside the index, or without one at the last line
 abbrev pub search_start : List (List ℕ) → SearchDirection → Option ℕ → Option ℕ
 search_start lines direction None = last_index lines
-search_start lines direction (Some position) = next_index direction position
+search_start lines direction (Some index) = next_index direction index
 
 -- the pattern is sought from an index on; without one nothing is done
 abbrev pub search_step_from : List (List ℕ) → SearchStyle → SearchDirection → Cut → EditState → Option ℕ → EditState

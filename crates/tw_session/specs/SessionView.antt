@@ -19,7 +19,7 @@ use Rattle.tw_painter.specs.declared.error.Error.TheVariants.{Memory, Terminal}
 -- the state, and the mark of the last painting, if there was one
 pub record SessionView : Type 0 where
   pub state : EditState
-  pub last : Option Mark
+  pub mark : Option Mark
 
 -- the view of a mode
 abbrev pub mode_view : Mode → ModeView
@@ -44,7 +44,7 @@ new_state = record { prompt = codes "> "; cut = empty_cut; history_index = None;
 
 -- a new editor
 abbrev pub new_session : SessionView
-new_session = record { state = new_state; last = None }
+new_session = record { state = new_state; mark = None }
 
 -- this is done to the state, and to nothing else
 abbrev pub on_state : (EditState → EditState) → SessionView → SessionView
@@ -63,7 +63,7 @@ module _ {V : Type 0} (rules : HostRules V) (v : V) where
   -- a session once an action is applied
   pub record ActsOn (action : ActionView) (old new : SessionView) : Type 0 where
     pub state : apply rules v action old.state ≡ Ok new.state
-    pub last : new.last ≡ old.last
+    pub mark : new.mark ≡ old.mark
 
   -- why an action is not applied: memory, where it may take some, or its own refusal; nothing is changed
   abbrev pub FailsToActOn : ActionView → SessionView → SessionView → Error → Type 0

@@ -3,13 +3,13 @@ use Rattle.std.specs.Prelude.{ℕ, Bool, true, false, List, Option, Some, None, 
 use Rattle.tw_surface.specs.ChangeView.{Batch}
 use Rattle.tw_surface.specs.PaintingBatches.{clearing}
 use Rattle.tw_line.specs.Cut.{Cut}
-use Rattle.tw_extremes.specs.Extremes.{repeated}
-use Rattle.tw_line.specs.Movements.{moved}
-use Rattle.tw_line.specs.Edits.{with_char, with_text, killed}
+use Rattle.tw_extremes.specs.Extremes.{iterate}
+use Rattle.tw_line.specs.Movements.{after_move}
+use Rattle.tw_line.specs.Edits.{with_char, with_text, after_kill}
 use Rattle.tw_host.specs.ActionView.{ActionView, AcceptLine, Cancel, EndOfFile, InsertChar, InsertText, Repaint, Move, Kill, KillAndMove, HistoryPrevious, HistoryNext, Complete, NoAction, HistoryIncSearchBackwards, HistoryIncSearchForwards}
 use Rattle.tw_host.specs.HostRules.{HostRules}
-use Rattle.tw_session.specs.Completion.{completed}
-use Rattle.tw_session.specs.Walk.{previous, next}
+use Rattle.tw_session.specs.Completion.{completion_step}
+use Rattle.tw_session.specs.Walk.{previous_step, next_step}
 use Rattle.tw_session.specs.Search.{IsSearching, search_left, searched_again, search_step}
 use Rattle.tw_painter.specs.Refusal.{Refusal}
 use Rattle.tw_painter.specs.Refusal as refusal
@@ -40,15 +40,15 @@ module _ {V : Type 0} (rules : HostRules V) (v : V) where
   apply AcceptLine s = Ok (record (search_left s) { mode = Accepted })
   apply Cancel s = Ok (record s { mode = Cancelled })
   apply EndOfFile s = Err refusal.EndOfFile
-  apply (InsertChar r x) s = Ok (without_cycle (edit_step (rules.lines v) (repeated (with_char x) r) s))
-  apply (InsertText r text) s = Ok (without_cycle (edit_step (rules.lines v) (repeated (with_text text) r) s))
+  apply (InsertChar r x) s = Ok (without_cycle (edit_step (rules.lines v) (iterate (with_char x) r) s))
+  apply (InsertText r text) s = Ok (without_cycle (edit_step (rules.lines v) (iterate (with_text text) r) s))
   apply Repaint s = Ok s
-  apply (Move m) s = Ok (without_cycle (move_step (moved m) s))
-  apply (Kill m) s = Ok (without_cycle (edit_step (rules.lines v) (killed m m) s))
-  apply (KillAndMove k m) s = Ok (without_cycle (edit_step (rules.lines v) (killed k m) s))
-  apply HistoryPrevious s = Ok (without_cycle (history_step (rules.lines v) Backwards (previous (rules.lines v)) s s.mode))
-  apply HistoryNext s = Ok (without_cycle (history_step (rules.lines v) Forwards (next (rules.lines v)) s s.mode))
-  apply Complete s = completed (rules.candidates v) (search_left s)
+  apply (Move m) s = Ok (without_cycle (move_step (after_move m) s))
+  apply (Kill m) s = Ok (without_cycle (edit_step (rules.lines v) (after_kill m m) s))
+  apply (KillAndMove k m) s = Ok (without_cycle (edit_step (rules.lines v) (after_kill k m) s))
+  apply HistoryPrevious s = Ok (without_cycle (history_step (rules.lines v) Backwards (previous_step (rules.lines v)) s s.mode))
+  apply HistoryNext s = Ok (without_cycle (history_step (rules.lines v) Forwards (next_step (rules.lines v)) s s.mode))
+  apply Complete s = completion_step (rules.candidates v) (search_left s)
   apply NoAction s = Ok s
   apply HistoryIncSearchBackwards s = Ok (without_cycle (search_step (rules.lines v) Backwards s))
   apply HistoryIncSearchForwards s = Ok (without_cycle (search_step (rules.lines v) Forwards s))

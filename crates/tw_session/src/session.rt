@@ -8,7 +8,7 @@ ghost use Rattle.tw_host.specs.ActionView.{action_view};
 ghost use Rattle.tw_line.specs.Cut.{cut_at, empty_cut};
 ghost use Rattle.tw_painter.specs.EditState.{Inactive as InactiveView};
 ghost use Rattle.tw_session.specs.Outcomes.{outcome_of, answer_at, IsLine, is_over, is_open};
-ghost use Rattle.tw_painter.specs.Painting.{painted_on, scene_of, shown_in, rendered};
+ghost use Rattle.tw_painter.specs.Painting.{painted_on, scene_of, shown_in, rendering_of};
 ghost use Rattle.tw_painter.specs.DrawSteps.{IsUnpainted};
 
 use std::alloc::{AllocError, Global};
@@ -56,7 +56,7 @@ pub struct Session {
     typed_line: Option<String>,
     cycle: Option<Cycle>,
     mode: Mode,
-    painted: Option<Mark>,
+    mark: Option<Mark>,
 }
 
 impl Model for Session {
@@ -74,7 +74,7 @@ impl Model for Session {
         cycle = s.cycle;
         mode = mode_view s.mode;
       };
-      last = s.painted;
+      mark = s.mark;
     } };
 }
 
@@ -93,7 +93,7 @@ impl Session {
             typed_line: None,
             cycle: None,
             mode: Mode::Inactive,
-            painted: None,
+            mark: None,
         }
     }
 
@@ -150,32 +150,32 @@ impl Session {
         matches!(self.mode, Mode::Accepted | Mode::Cancelled)
     }
 
-    /// Remembers the last painting.
-    pub fn set_mark(&mut self, painted: Mark)
-        ensures { self.new ≡ record self.old { last = Some painted } }
+    /// Keeps the mark of the last painting.
+    pub fn set_mark(&mut self, mark: Mark)
+        ensures { self.new ≡ record self.old { mark = Some mark } }
     {
-        self.painted = Some(painted);
+        self.mark = Some(mark);
     }
 
     /// Begins a run: empties the line, and forgets the place in the history and the last painting.
     pub fn begin(&mut self)
-        ensures { self.new ≡ record { state = begun_state empty_cut self.old.state; last = None } }
+        ensures { self.new ≡ record { state = begun_state empty_cut self.old.state; mark = None } }
     {
         self.line.clear();
         self.history_index = None;
         self.typed_line = None;
         self.cycle = None;
         self.mode = Mode::Editing;
-        self.painted = None;
+        self.mark = None;
     }
 
     /// Ends a run, and forgets its last painting, which it answers.
     pub fn end(&mut self) -> Option<Mark>
-        ensures session { self.new ≡ record { state = record self.old.state { mode = InactiveView }; last = None } }
-        ensures painted { result ≡ self.old.last }
+        ensures session { self.new ≡ record { state = record self.old.state { mode = InactiveView }; mark = None } }
+        ensures painted { result ≡ self.old.mark }
     {
         self.mode = Mode::Inactive;
-        self.painted.take()
+        self.mark.take()
     }
 
     /// Applies an action to the state. A `Repaint` changes nothing in it. An edit, a movement, and a step
@@ -252,7 +252,7 @@ impl Session {
         host: &H,
         size: ScreenSize,
     ) -> Result<(Vec<Change>, Mark), Error>
-        ensures ok { IfOk result (λ shown. rendered self.now.last (painted_on size (scene_of H.rules (H.value host.now) self.now.state false)) ≡ Ok (record { changes = batch_view shown.0.items; mark = shown.1 })) }
+        ensures ok { IfOk result (λ shown. rendering_of self.now.mark (painted_on size (scene_of H.rules (H.value host.now) self.now.state false)) ≡ Ok (record { changes = batch_view shown.0.items; mark = shown.1 })) }
         ensures err { IfErr result (IsUnpainted size (scene_of H.rules (H.value host.now) self.now.state false)) }
     {
         let below = match &self.mode {
@@ -265,7 +265,7 @@ impl Session {
         };
         let prompt = self.prompt.as_str();
         let line = self.shown_line();
-        painting(host, self.alloc, prompt, line, below, size, self.painted)
+        painting(host, self.alloc, prompt, line, below, size, self.mark)
     }
 
     /// The line that is shown: while searching the matching one.

@@ -6,7 +6,7 @@ use Rattle.std.proofs.lemmas.Bool.{cases_eq, cases_lt, cases_order, eq-eqb, ne_e
 use Rattle.std.proofs.lemmas.List.{get_or-take, get_or-drop, length-take-le, length-drop, take-append-drop, append-nil}
 use Rattle.std.proofs.lemmas.List.Elements.{All-take}
 use Rattle.tw_surface.specs.declared.screen.far.Cell.{Cell}
-use Rattle.tw_surface.specs.Pictures.{blank, cleared}
+use Rattle.tw_surface.specs.Pictures.{blank, cells_cleared_from}
 use Rattle.tw_surface.specs.Cells.{cell_in, cell_at, IsBefore, IsInOrder, IsAt, IsGapFor, IsCut, IsSparse, IsLastRow}
 use Rattle.tw_surface.proofs.CellLookups.{StandsAt, cell_in-none, cell_in-same_front, before_found, behind_found, cell_in_at}
 
@@ -59,7 +59,7 @@ module _ (cells : List Cell) (row col i : ℕ) (cut : IsCut cells row col i) whe
       later (record { rows = omega (arith, before.rows, stands.row_is); columns = λ same. omega (arith, before.columns, stands.row_is, stands.col_is) }))
 
   -- so clearing drops the cells from the cut on
-  cleared_at : (r c : ℕ) → cell_in (take i cells) r c ≡ cleared (cell_in cells) row col r c
+  cleared_at : (r c : ℕ) → cell_in (take i cells) r c ≡ cells_cleared_from (cell_in cells) row col r c
   cleared_at r c =
       elim (cases_order r row) [
         | inl same ↦ elim (cases_lt c col) [
@@ -72,7 +72,7 @@ module _ (cells : List Cell) (row col i : ℕ) (cut : IsCut cells row col i) whe
         ]
       ]
 
-  pub cleared_take : cell_in (take i cells) ≡ cleared (cell_in cells) row col
+  pub cleared_take : cell_in (take i cells) ≡ cells_cleared_from (cell_in cells) row col
   cleared_take = fun_ext (λ r. fun_ext (λ c. cleared_at r c))
 
   pub sparse_take : (width first : ℕ) → IsSparse width first cells → IsSparse width first (take i cells)

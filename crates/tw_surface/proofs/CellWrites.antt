@@ -9,7 +9,7 @@ use Rattle.std.proofs.lemmas.List.Edits.{length-insert, get_or-insert_below, get
 use Rattle.std.proofs.lemmas.List.Elements.{All-set, All-take, All-drop, All-append, All-cons}
 use Rattle.std.proofs.lemmas.List.Quantifiers.{all_pairs_remove}
 use Rattle.tw_surface.specs.declared.screen.far.Cell.{Cell}
-use Rattle.tw_surface.specs.Pictures.{blank, written}
+use Rattle.tw_surface.specs.Pictures.{blank, cells_with}
 use Rattle.tw_surface.specs.Cells.{cell_in, cell_at, IsBefore, IsInOrder, IsAt, IsGapFor, IsSparse}
 use Rattle.tw_surface.proofs.CellLookups.{StandsAt, cell_in-past, cell_in-same_front, before_found, behind_found, cell_in_at, cell_in_gap}
 
@@ -18,7 +18,7 @@ record Writes (row col ch : ℕ) (old new : List Cell) : Type 0 where
   pub here : cell_in new row col ≡ ch
   pub elsewhere : (r c : ℕ) → ((r ≡ row) × (c ≡ col) → ⊥) → cell_in new r c ≡ cell_in old r c
 
-written_at : (row col ch : ℕ) (old new : List Cell) → Writes row col ch old new → (r c : ℕ) → cell_in new r c ≡ written (cell_in old) row col ch r c
+written_at : (row col ch : ℕ) (old new : List Cell) → Writes row col ch old new → (r c : ℕ) → cell_in new r c ≡ cells_with (cell_in old) row col ch r c
 written_at row col ch old new writes r c =
     elim (cases_eq r row) [
       | inl same_row ↦ elim (cases_eq c col) [
@@ -29,7 +29,7 @@ written_at row col ch old new writes r c =
     ]
 
 -- such a list is one equation
-written_from : (row col ch : ℕ) (old new : List Cell) → Writes row col ch old new → cell_in new ≡ written (cell_in old) row col ch
+written_from : (row col ch : ℕ) (old new : List Cell) → Writes row col ch old new → cell_in new ≡ cells_with (cell_in old) row col ch
 written_from row col ch old new writes = fun_ext (λ r. fun_ext (λ c. written_at row col ch old new writes r c))
 
 -- order, by the cell at each index
@@ -74,7 +74,7 @@ module _ (cells : List Cell) (ordered : IsInOrder cells) (row col i : ℕ) (at :
       let second = set_places ch b in
       record { rows = omega (arith, old.rows, first.row_is, second.row_is); columns = λ same. omega (arith, old.columns, first.row_is, first.col_is, second.row_is, second.col_is) })
 
-  pub written_set : (ch : ℕ) → cell_in (set cells i (new_cell row col ch)) ≡ written (cell_in cells) row col ch
+  pub written_set : (ch : ℕ) → cell_in (set cells i (new_cell row col ch)) ≡ cells_with (cell_in cells) row col ch
   written_set ch =
       let new = set cells i (new_cell row col ch) in
       let here : cell_at new i ≡ new_cell row col ch = get_or-set_same cells i _ _ at.in_range in
@@ -113,7 +113,7 @@ module _ (cells : List Cell) (ordered : IsInOrder cells) (row col i : ℕ) (at :
         behind = λ k le below. rw (get_or-remove_above cells i (record { row = 0; col = 0; ch = 0 }) k le at.in_range) (behind_found cells ordered row col i at (k + 1) (omega arith) (omega arith));
       }
 
-  pub written_remove : cell_in (remove cells i) ≡ written (cell_in cells) row col blank
+  pub written_remove : cell_in (remove cells i) ≡ cells_with (cell_in cells) row col blank
   written_remove = written_from row col blank cells (remove cells i) (record {
     here = cell_in_gap (remove cells i) row col i gap_removed;
     elsewhere = λ r c other.
@@ -133,7 +133,7 @@ module _ (cells : List Cell) (ordered : IsInOrder cells) (row col i : ℕ) (at :
 -- ---- a character and a blank where no cell stands
 
 module _ (cells : List Cell) (row col i : ℕ) (gap : IsGapFor cells row col i) where
-  pub written_nothing : cell_in cells ≡ written (cell_in cells) row col blank
+  pub written_nothing : cell_in cells ≡ cells_with (cell_in cells) row col blank
   written_nothing = written_from row col blank cells cells (record { here = cell_in_gap cells row col i gap; elsewhere = λ r c other. refl })
 
   module _ (ordered : IsInOrder cells) (ch : ℕ) where
@@ -179,7 +179,7 @@ module _ (cells : List Cell) (row col i : ℕ) (gap : IsGapFor cells row col i) 
           | inr up ↦ before_from_up a b up below within
         ])
 
-    pub written_insert : cell_in inserted ≡ written (cell_in cells) row col ch
+    pub written_insert : cell_in inserted ≡ cells_with (cell_in cells) row col ch
     written_insert =
         let at_new : IsAt inserted row col i = record { in_range = omega (arith, length-insert cells i (new_cell row col ch) gap.in_range, gap.in_range); row_is = ap (λ x. x.row) inserted_here; col_is = ap (λ x. x.col) inserted_here } in
         written_from row col ch cells inserted (record {

@@ -4,7 +4,7 @@ use Rattle.std.specs.List.{list_all}
 use Rattle.std.proofs.lemmas.Bool.{and_parts, ne_eqb, leb-true}
 use Rattle.std.proofs.lemmas.List.{append-nil}
 use Rattle.tw_surface.specs.Characters.{is_printable, cr, lf}
-use Rattle.tw_surface.specs.Lines.{before_lines, lines_of, joined}
+use Rattle.tw_surface.specs.Lines.{before_lines, lines_of, text_of_lines}
 use Rattle.tw_surface.proofs.LowerText.{one_line}
 
 not_cr : (b : ℕ) → is_printable b ≡ true → eqb b cr ≡ false
@@ -28,10 +28,10 @@ cut_there : (next : List ℕ) (more : List (List ℕ)) → before_lines cr (befo
 cut_there [] more = refl
 cut_there (c ∷ next) more = refl
 
-pub lines_of_joined : (line : List ℕ) (more : List (List ℕ)) → list_all (list_all is_printable) (line ∷ more) ≡ true → lines_of (joined (line ∷ more)) ≡ line ∷ more
+pub lines_of_joined : (line : List ℕ) (more : List (List ℕ)) → list_all (list_all is_printable) (line ∷ more) ≡ true → lines_of (text_of_lines (line ∷ more)) ≡ line ∷ more
 lines_of_joined line [] h = one_line line (and_parts (list_all is_printable line) true h).0
 lines_of_joined line (next ∷ more) h =
     let p = and_parts (list_all is_printable line) (list_all (list_all is_printable) (next ∷ more)) h in
-    let e : lines_of (cr ∷ lf ∷ joined (next ∷ more)) ≡ [] ∷ next ∷ more =
+    let e : lines_of (cr ∷ lf ∷ text_of_lines (next ∷ more)) ≡ [] ∷ next ∷ more =
     ap (λ (ls : List (List ℕ)). before_lines cr (before_lines lf ls)) (lines_of_joined next more p.1) ∙ cut_there next more in
-    all_first line (cr ∷ lf ∷ joined (next ∷ more)) [] (next ∷ more) p.0 e ∙ ap (λ (l : List ℕ). l ∷ next ∷ more) (append-nil line)
+    all_first line (cr ∷ lf ∷ text_of_lines (next ∷ more)) [] (next ∷ more) p.0 e ∙ ap (λ (l : List ℕ). l ∷ next ∷ more) (append-nil line)

@@ -3,7 +3,7 @@ use Rattle.std.proofs.Common.{◌≡◌, ℕ, zero, suc, ◌+◌, ◌*◌, ◌<�
 use Rattle.std.proofs.lemmas.Bool.{cases_eq, cases_lt, eq-eqb, ne_eqb, eqb-true, eqb-false, and_left, and_right, cond-true, cond-false, le-leb, lt-leb, lt-ltb, le-ltb}
 use Rattle.std.proofs.lemmas.Nat.{same_from_place, rows}
 use Rattle.std.proofs.Math.Nat.{add-mul, one-mul}
-use Rattle.tw_surface.specs.Pictures.{Picture, blank, written, cleared, put}
+use Rattle.tw_surface.specs.Pictures.{Picture, blank, cells_with, cells_cleared_from, picture_with}
 
 -- ---- one line of cells
 
@@ -79,19 +79,19 @@ pub record Stands (w : ℕ) (s : Picture) (p : ℕ) (f : ℕ → ℕ) : Type 0 w
   pub place : s.row * w + s.col ≡ p
   pub within : s.col ≤ w
 
-written-at : (w ch : ℕ) (s : Picture) (f : ℕ → ℕ) (i j p : ℕ) → j < w → i * w + j ≡ p
+cells_with-at : (w ch : ℕ) (s : Picture) (f : ℕ → ℕ) (i j p : ℕ) → j < w → i * w + j ≡ p
     → ((r c : ℕ) → c < w → s.cell r c ≡ f (r * w + c))
-    → (r c : ℕ) → c < w → written s.cell i j ch r c ≡ point p ch f (r * w + c)
-written-at w ch s f i j p h e at r c k = rw (same_cell w r c i j k h, e, at r c k) refl
+    → (r c : ℕ) → c < w → cells_with s.cell i j ch r c ≡ point p ch f (r * w + c)
+cells_with-at w ch s f i j p h e at r c k = rw (same_cell w r c i j k h, e, at r c k) refl
 
-pub put-stands : (w ch : ℕ) (s : Picture) (p : ℕ) (f : ℕ → ℕ) → 0 < w → Stands w s p f → Stands w (put w ch s) (p + 1) (point p ch f)
-put-stands w ch s p f h t = go (eqb s.col w) refl
+pub picture_with-stands : (w ch : ℕ) (s : Picture) (p : ℕ) (f : ℕ → ℕ) → 0 < w → Stands w s p f → Stands w (picture_with w ch s) (p + 1) (point p ch f)
+picture_with-stands w ch s p f h t = go (eqb s.col w) refl
   where
-    go : (b : Bool) → eqb s.col w ≡ b → Stands w (put w ch s) (p + 1) (point p ch f)
+    go : (b : Bool) → eqb s.col w ≡ b → Stands w (picture_with w ch s) (p + 1) (point p ch f)
     go true e =
         let e' : s.col ≡ w = eqb-true _ _ e in
         rw e (record {
-          at = written-at w ch s f (s.row + 1) 0 p h (omega (arith, next_row s.row w 0, t.place)) t.at;
+          at = cells_with-at w ch s f (s.row + 1) 0 p h (omega (arith, next_row s.row w 0, t.place)) t.at;
           place = omega (arith, next_row s.row w 1, t.place);
           within = omega arith;
         })
@@ -99,18 +99,18 @@ put-stands w ch s p f h t = go (eqb s.col w) refl
         let n : s.col ≡ w → ⊥ = eqb-false _ _ e in
         let k : s.col < w = omega (arith, n, t.within) in
         rw e (record {
-          at = written-at w ch s f s.row s.col p k t.place t.at;
+          at = cells_with-at w ch s f s.row s.col p k t.place t.at;
           place = omega (arith, t.place);
           within = omega arith;
         })
 
 -- after a character the column is not 0
-pub put-col : (w ch : ℕ) (s : Picture) → 0 < (put w ch s).col
-put-col w ch s = elim (eqb s.col w) as (λ b. 0 < (cond {A = Picture} b record { cell = written s.cell (s.row + 1) 0 ch; row = s.row + 1; col = 1 } record { cell = written s.cell s.row s.col ch; row = s.row; col = s.col + 1 }).col) [ true ↦ omega arith | false ↦ omega arith ]
+pub picture_with-col : (w ch : ℕ) (s : Picture) → 0 < (picture_with w ch s).col
+picture_with-col w ch s = elim (eqb s.col w) as (λ b. 0 < (cond {A = Picture} b record { cell = cells_with s.cell (s.row + 1) 0 ch; row = s.row + 1; col = 1 } record { cell = cells_with s.cell s.row s.col ch; row = s.row; col = s.col + 1 }).col) [ true ↦ omega arith | false ↦ omega arith ]
 
-pub cleared-stands : (w : ℕ) (s : Picture) (p : ℕ) (f : ℕ → ℕ) → s.col < w → Stands w s p f
-    → Stands w (record s { cell = cleared s.cell s.row s.col }) p (blank_from p f)
-cleared-stands w s p f h t = record {
+pub cells_cleared_from-stands : (w : ℕ) (s : Picture) (p : ℕ) (f : ℕ → ℕ) → s.col < w → Stands w s p f
+    → Stands w (record s { cell = cells_cleared_from s.cell s.row s.col }) p (blank_from p f)
+cells_cleared_from-stands w s p f h t = record {
   at = λ r c k. rw (behind w s.row s.col r c h k, t.place, t.at r c k) refl;
   place = t.place;
   within = t.within;

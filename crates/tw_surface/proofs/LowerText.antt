@@ -13,8 +13,8 @@ use Rattle.tw_surface.specs.ChangeView.{Batch}
 use Rattle.tw_surface.specs.Pictures.{Picture, play_char, play_text, play_all}
 use Rattle.tw_surface.specs.Characters.{is_printable, is_plain}
 use Rattle.tw_surface.specs.Places.{Place, place_after, place_after_all}
-use Rattle.tw_surface.specs.Scenes.{is_typing, typed, Lower, lower_lines, IsPlainLower, is_text}
-use Rattle.tw_surface.specs.Lines.{before_lines, lines_of, joined}
+use Rattle.tw_surface.specs.Scenes.{is_typing, typed_text, Lower, lower_lines, IsPlainLower, is_text}
+use Rattle.tw_surface.specs.Lines.{before_lines, lines_of, text_of_lines}
 use Rattle.tw_surface.specs.Paintings.{lower_changes}
 
 -- the rows of a line of q characters
@@ -56,16 +56,16 @@ pub breaks-lines : (t : List ℕ) → breaks (lines_of t) ≡ 13 ∷ 10 ∷ t
 breaks-lines [] = refl
 breaks-lines (b ∷ t) = breaks-before b (lines_of t) t (breaks-lines t)
 
-joined-breaks : (line : List ℕ) (more : List (List ℕ)) → breaks (line ∷ more) ≡ 13 ∷ 10 ∷ joined (line ∷ more)
-joined-breaks line [] = rw append-nil refl
-joined-breaks line (next ∷ more) = ap (λ x. 13 ∷ 10 ∷ (line ++ x)) (joined-breaks next more)
+text_of_lines-breaks : (line : List ℕ) (more : List (List ℕ)) → breaks (line ∷ more) ≡ 13 ∷ 10 ∷ text_of_lines (line ∷ more)
+text_of_lines-breaks line [] = rw append-nil refl
+text_of_lines-breaks line (next ∷ more) = ap (λ x. 13 ∷ 10 ∷ (line ++ x)) (text_of_lines-breaks next more)
 
-pub joined-lines : (t : List ℕ) → joined (lines_of t) ≡ t
-joined-lines t = go (lines_of t) (breaks-lines t)
+pub text_of_lines-lines : (t : List ℕ) → text_of_lines (lines_of t) ≡ t
+text_of_lines-lines t = go (lines_of t) (breaks-lines t)
   where
-    go : (ls : List (List ℕ)) → breaks ls ≡ 13 ∷ 10 ∷ t → joined ls ≡ t
+    go : (ls : List (List ℕ)) → breaks ls ≡ 13 ∷ 10 ∷ t → text_of_lines ls ≡ t
     go [] e = absurd (cc (e))
-    go (line ∷ more) e = cc (joined-breaks line more, e)
+    go (line ∷ more) e = cc (text_of_lines-breaks line more, e)
 
 before_lines-plain : (b : ℕ) (t : List ℕ) → is_printable b ≡ true → before_lines b (t ∷ []) ≡ (b ∷ t) ∷ []
 before_lines-plain b [] h = refl
@@ -94,22 +94,22 @@ play_text-append w [] b s = refl
 play_text-append w (ch ∷ a) b s = play_text-append w a b (play_char w ch s)
 
 -- attributes and texts play as one text
-pub changes-text : (w : ℕ) (changes : Batch) (s : Picture) → list_all is_text changes ≡ true → play_all w changes s ≡ play_text w (typed changes) s
+pub changes-text : (w : ℕ) (changes : Batch) (s : Picture) → list_all is_text changes ≡ true → play_all w changes s ≡ play_text w (typed_text changes) s
 changes-text w [] s a = refl
 changes-text w (Attribute x ∷ changes) s a = changes-text w changes s a
 changes-text w (AllAttributes x ∷ changes) s a = changes-text w changes s a
-changes-text w (Text t ∷ changes) s a = changes-text w changes (play_text w t s) a ∙ sym (play_text-append w t (typed changes) s)
+changes-text w (Text t ∷ changes) s a = changes-text w changes (play_text w t s) a ∙ sym (play_text-append w t (typed_text changes) s)
 changes-text w (ClearScreen c ∷ changes) s a = absurd (false≢true a)
 changes-text w (ClearToEndOfScreen c ∷ changes) s a = absurd (false≢true a)
 changes-text w (CursorPosition x y ∷ changes) s a = absurd (false≢true a)
 
 pub tracks-texts : (w start : ℕ) (changes : Batch) (at : Place) (s : Picture) → 0 < w → list_all is_text changes ≡ true
-    → list_all is_plain (typed changes) ≡ true → Tracks w start at s → Tracks w start (place_after_all w changes at) (play_all w changes s)
+    → list_all is_plain (typed_text changes) ≡ true → Tracks w start at s → Tracks w start (place_after_all w changes at) (play_all w changes s)
 tracks-texts w start [] at s h a p k = k
 tracks-texts w start (Attribute x ∷ changes) at s h a p k = tracks-texts w start changes at s h a p k
 tracks-texts w start (AllAttributes x ∷ changes) at s h a p k = tracks-texts w start changes at s h a p k
 tracks-texts w start (Text t ∷ changes) at s h a p k =
-    let both = and_parts (list_all is_plain t) (list_all is_plain (typed changes)) (sym (list_all-append is_plain t (typed changes)) ∙ p) in
+    let both = and_parts (list_all is_plain t) (list_all is_plain (typed_text changes)) (sym (list_all-append is_plain t (typed_text changes)) ∙ p) in
     tracks-texts w start changes (place_after w (Text t) at) (play_text w t s) h a both.1 (tracks-text w start t at s h both.0 k)
 tracks-texts w start (ClearScreen c ∷ changes) at s h a p k = absurd (false≢true a)
 tracks-texts w start (ClearToEndOfScreen c ∷ changes) at s h a p k = absurd (false≢true a)
@@ -131,10 +131,10 @@ lower-is_text NoLower a = refl
 lower-is_text (Preview elements) a = a.0
 lower-is_text (Search text) a = refl
 
-pub lower-typed : (lower : Lower) → typed (lower_changes lower) ≡ breaks (lower_lines lower)
-lower-typed NoLower = refl
-lower-typed (Preview elements) = sym (breaks-lines (typed elements))
-lower-typed (Search text) = refl
+pub lower-typed_text : (lower : Lower) → typed_text (lower_changes lower) ≡ breaks (lower_lines lower)
+lower-typed_text NoLower = refl
+lower-typed_text (Preview elements) = sym (breaks-lines (typed_text elements))
+lower-typed_text (Search text) = refl
 
 pub lower-printable : (lower : Lower) → IsPlainLower lower → list_all (list_all is_printable) (lower_lines lower) ≡ true
 lower-printable NoLower a = refl

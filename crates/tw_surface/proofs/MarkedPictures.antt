@@ -7,12 +7,12 @@ use Rattle.std.proofs.lemmas.List.Sums.{sum_by-cons}
 use Rattle.tw_surface.specs.Characters.{cr, lf, is_plain}
 use Rattle.tw_surface.specs.Lines.{rows_of}
 use Rattle.tw_surface.specs.Pictures.{Picture, blank}
-use Rattle.tw_surface.specs.Scenes.{Scene, typed, lower_lines}
+use Rattle.tw_surface.specs.Scenes.{Scene, typed_text, lower_lines}
 use Rattle.tw_surface.specs.Fresh.{IsFresh, IsSameAbove, IsClosed, IsShown, IsIn, AreShown, IsInLines, text_of, last_row, cursor_row}
 use Rattle.tw_surface.specs.Scrolling.{IsMovedUp, IsClosedOn}
 use Rattle.tw_surface.specs.Simple.{spelled_all, spelled_scene, spelled_lower}
 use Rattle.tw_surface.proofs.RenamedPictures.{Keeps, renamed, named_all}
-use Rattle.tw_surface.proofs.NamedPaintings.{named_scene, named_lower, typed-named, lower_lines-named}
+use Rattle.tw_surface.proofs.NamedPaintings.{named_scene, named_lower, typed_text-named, lower_lines-named}
 
 -- ---- marks
 
@@ -133,12 +133,12 @@ fresh_of w s text lines at after h = record {
 
 text-named : (ch : ℕ) (scene : Scene) → text_of (named_scene (mark ch) scene) ≡ map (mark ch) (text_of (spelled_scene scene))
 text-named ch scene =
-    ap (λ l. l ++ typed (named_all (mark ch) scene.line)) (typed-named (mark ch) (mark-keeps ch) scene.prompt)
-    ∙ ap (λ l. map (mark ch) (typed (spelled_all scene.prompt)) ++ l) (typed-named (mark ch) (mark-keeps ch) scene.line)
-    ∙ sym (map-append (mark ch) (typed (spelled_all scene.prompt)) (typed (spelled_all scene.line)))
+    ap (λ l. l ++ typed_text (named_all (mark ch) scene.line)) (typed_text-named (mark ch) (mark-keeps ch) scene.prompt)
+    ∙ ap (λ l. map (mark ch) (typed_text (spelled_all scene.prompt)) ++ l) (typed_text-named (mark ch) (mark-keeps ch) scene.line)
+    ∙ sym (map-append (mark ch) (typed_text (spelled_all scene.prompt)) (typed_text (spelled_all scene.line)))
 
-prompt-named : (ch : ℕ) (scene : Scene) → length (typed (named_all (mark ch) scene.prompt)) ≡ length (typed (spelled_all scene.prompt))
-prompt-named ch scene = ap length (typed-named (mark ch) (mark-keeps ch) scene.prompt) ∙ length-map (typed (spelled_all scene.prompt)) (mark ch)
+prompt-named : (ch : ℕ) (scene : Scene) → length (typed_text (named_all (mark ch) scene.prompt)) ≡ length (typed_text (spelled_all scene.prompt))
+prompt-named ch scene = ap length (typed_text-named (mark ch) (mark-keeps ch) scene.prompt) ∙ length-map (typed_text (spelled_all scene.prompt)) (mark ch)
 
 FreshOf-at : (w s at at' : ℕ) (text text' : List ℕ) (lines lines' : List (List ℕ)) (after : Picture) → text ≡ text' → lines ≡ lines' → at ≡ at'
     → FreshOf w s text lines at after → FreshOf w s text' lines' at' after
@@ -146,14 +146,14 @@ FreshOf-at w s at at' text text' lines lines' after a b c h = rw (sym a, sym b, 
 
 pub fresh_by : (w s : ℕ) (scene : Scene) (after : Picture) → ((ch : ℕ) → IsFresh w s (named_scene (mark ch) scene) (renamed (mark ch) after)) → IsFresh w s (spelled_scene scene) after
 fresh_by w s scene after h =
-    let all = fresh_of w s (text_of (spelled_scene scene)) (lower_lines (spelled_lower scene.lower)) (length (typed (spelled_all scene.prompt)) + scene.column) after one in
+    let all = fresh_of w s (text_of (spelled_scene scene)) (lower_lines (spelled_lower scene.lower)) (length (typed_text (spelled_all scene.prompt)) + scene.column) after one in
     record { shown = all.shown; below = all.below; rest = all.rest; row = all.row; col = all.col }
   where
     one : (ch : ℕ)
-        → FreshOf w s (map (mark ch) (text_of (spelled_scene scene))) (map (map (mark ch)) (lower_lines (spelled_lower scene.lower))) (length (typed (spelled_all scene.prompt)) + scene.column) (renamed (mark ch) after)
+        → FreshOf w s (map (mark ch) (text_of (spelled_scene scene))) (map (map (mark ch)) (lower_lines (spelled_lower scene.lower))) (length (typed_text (spelled_all scene.prompt)) + scene.column) (renamed (mark ch) after)
     one ch =
         let q = h ch in
-        FreshOf-at w s (length (typed (named_all (mark ch) scene.prompt)) + scene.column) _ _ _ _ _ (renamed (mark ch) after)
+        FreshOf-at w s (length (typed_text (named_all (mark ch) scene.prompt)) + scene.column) _ _ _ _ _ (renamed (mark ch) after)
         (text-named ch scene) (lower_lines-named (mark ch) (mark-keeps ch) scene.lower) (ap (λ n. n + scene.column) (prompt-named ch scene))
         (record { shown = q.shown; below = q.below; rest = q.rest; row = q.row; col = q.col })
 

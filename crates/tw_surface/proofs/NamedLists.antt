@@ -5,7 +5,7 @@ use Rattle.std.proofs.lemmas.List.{map-append}
 use Rattle.std.proofs.lemmas.List.Elements.{All-head, All-tail, All-map, All-weaker}
 use Rattle.tw_surface.specs.Paintings.{painting, Mark, mark_of, start_move}
 use Rattle.tw_surface.specs.Scenes.{Scene, IsPlain}
-use Rattle.tw_surface.specs.PaintingBatches.{Shot, SizedScene, shot_of, scenes_of, clear_batch, clearing, start_of, batches_after, batches, closing_batch, shots, shows, closing_of, whole, last_of, start_row}
+use Rattle.tw_surface.specs.PaintingBatches.{Shot, SizedScene, shot_of, scenes_of, clear_batch, clearing, start_of, batches_after, batches, closing_batch, shots, shown_batches, closing_of, run_batches, last_of, start_row}
 use Rattle.tw_surface.specs.Simple.{IsSimple}
 use Rattle.tw_surface.proofs.RenamedPictures.{Keeps, named_all, named_batches}
 use Rattle.tw_surface.proofs.NamedPaintings.{named_scene, named_painting, painting-named, plain-scene}
@@ -46,16 +46,16 @@ module _ (f : ℕ → ℕ) (keeps : Keeps f) where
       ap (λ p. record { painting = p; cleared = scene.cleared } ∷ shots w (map (named_scene f) more)) (painting-named f keeps w scene (All-head IsSimple scene more all))
       ∙ ap (λ l. named_shot f (record { painting = painting w scene; cleared = scene.cleared }) ∷ l) (shots-named w more (All-tail IsSimple scene more all))
 
-  pub shows-named : (w : ℕ) (scenes : List Scene) → All IsSimple scenes → shows w (map (named_scene f) scenes) ≡ named_batches f (shows w scenes)
-  shows-named w scenes all = ap batches (shots-named w scenes all) ∙ batches-named f None (shots w scenes)
+  pub shown_batches-named : (w : ℕ) (scenes : List Scene) → All IsSimple scenes → shown_batches w (map (named_scene f) scenes) ≡ named_batches f (shown_batches w scenes)
+  shown_batches-named w scenes all = ap batches (shots-named w scenes all) ∙ batches-named f None (shots w scenes)
 
   pub closing_of-named : (w : ℕ) (scenes : List Scene) → All IsSimple scenes → closing_of w (map (named_scene f) scenes) ≡ named_batches f (closing_of w scenes)
   closing_of-named w scenes all = ap closing_batch (shots-named w scenes all) ∙ closing-named f (shots w scenes)
 
-  pub whole-named : (w : ℕ) (scenes : List Scene) → All IsSimple scenes → whole w (map (named_scene f) scenes) ≡ named_batches f (whole w scenes)
-  whole-named w scenes all =
-      ap (λ l. l ++ closing_of w (map (named_scene f) scenes)) (shows-named w scenes all) ∙ ap (λ l. named_batches f (shows w scenes) ++ l) (closing_of-named w scenes all)
-      ∙ sym (map-append (named_all f) (shows w scenes) (closing_of w scenes))
+  pub run_batches-named : (w : ℕ) (scenes : List Scene) → All IsSimple scenes → run_batches w (map (named_scene f) scenes) ≡ named_batches f (run_batches w scenes)
+  run_batches-named w scenes all =
+      ap (λ l. l ++ closing_of w (map (named_scene f) scenes)) (shown_batches-named w scenes all) ∙ ap (λ l. named_batches f (shown_batches w scenes) ++ l) (closing_of-named w scenes all)
+      ∙ sym (map-append (named_all f) (shown_batches w scenes) (closing_of w scenes))
 
   pub plain-scenes : (scenes : List Scene) → All IsSimple scenes → All IsPlain (map (named_scene f) scenes)
   plain-scenes scenes all = All-map IsPlain (named_scene f) scenes (All-weaker IsSimple (λ x. IsPlain (named_scene f x)) (plain-scene f keeps) scenes all)

@@ -18,9 +18,9 @@ use Rattle.tw_surface.specs.Drawings.{height}
 use Rattle.tw_surface.specs.Lines.{before_lines, lines_of}
 use Rattle.tw_surface.specs.Paintings.{Painting, lower_changes, before_line, edge_space, shown_part, cursor_place, place_at, painting}
 use Rattle.tw_surface.specs.Places.{Place, pieces, plain_piece, next_place, places_after, place_after_all, origin, move_between}
-use Rattle.tw_surface.specs.Scenes.{Scene, Lower, IsPlain, IsPlainLower, is_typing, is_text, typed, lower_lines}
+use Rattle.tw_surface.specs.Scenes.{Scene, Lower, IsPlain, IsPlainLower, is_typing, is_text, typed_text, lower_lines}
 use Rattle.tw_surface.specs.Scenes.Lower.{NoLower, Preview, Search}
-use Rattle.tw_surface.specs.Simple.{is_break, parted, spelled_all, spelled_lower, AreSimple, AreCounted, IsCounted, IsSimple, IsSimpleLower}
+use Rattle.tw_surface.specs.Simple.{is_break, parted_pieces, spelled_all, spelled_lower, AreSimple, AreCounted, IsCounted, IsSimple, IsSimpleLower}
 use Rattle.tw_surface.specs.Extents.{place_of, reach, reach_all, extent_after, extent_after_all, start_extent}
 use Rattle.tw_surface.proofs.DrawingLemmas.{place_of-extent_after_all, height-extent}
 use Rattle.tw_surface.proofs.RenamedPictures.{Keeps, named, named_all}
@@ -54,19 +54,19 @@ reach-same t x q h =
     ap (λ n. record { x = q.x; y = q.y; least = n; greatest = (reach (reach t (record { x = x; y = t.y })) q).greatest }) (omega (arith, ints, clamps, low))
     ∙ ap (λ n. record { x = q.x; y = q.y; least = (reach t q).least; greatest = n }) (omega (arith, ints, clamps, high))
 
-reach-parted : (w : ℕ) (ps : List Piece) (t : Extent) → Inside t → reach_all t (places_after w (parted ps) (place_of t)) ≡ reach_all t (places_after w ps (place_of t))
-reach-parted w [] t h = refl
-reach-parted w (CrLf ∷ more) t h =
+reach-parted_pieces : (w : ℕ) (ps : List Piece) (t : Extent) → Inside t → reach_all t (places_after w (parted_pieces ps) (place_of t)) ≡ reach_all t (places_after w ps (place_of t))
+reach-parted_pieces w [] t h = refl
+reach-parted_pieces w (CrLf ∷ more) t h =
     let q : Place = record { x = 0; y = t.y +ℤ pos 1 } in
-    ap (λ n. reach_all n (places_after w (parted more) q)) (reach-same t 0 q h) ∙ reach-parted w more (reach t q) (inside-reach t q)
-reach-parted w (Cr ∷ more) t h = reach-parted w more (reach t (next_place w Cr (place_of t))) (inside-reach t _)
-reach-parted w (Lf ∷ more) t h = reach-parted w more (reach t (next_place w Lf (place_of t))) (inside-reach t _)
-reach-parted w (Wide v ∷ more) t h = reach-parted w more (reach t (next_place w (Wide v) (place_of t))) (inside-reach t _)
+    ap (λ n. reach_all n (places_after w (parted_pieces more) q)) (reach-same t 0 q h) ∙ reach-parted_pieces w more (reach t q) (inside-reach t q)
+reach-parted_pieces w (Cr ∷ more) t h = reach-parted_pieces w more (reach t (next_place w Cr (place_of t))) (inside-reach t _)
+reach-parted_pieces w (Lf ∷ more) t h = reach-parted_pieces w more (reach t (next_place w Lf (place_of t))) (inside-reach t _)
+reach-parted_pieces w (Wide v ∷ more) t h = reach-parted_pieces w more (reach t (next_place w (Wide v) (place_of t))) (inside-reach t _)
 
 -- texts whose pieces differ in CR LF alone are measured alike
-same_text : (w : ℕ) (a b : List ℕ) (t : Extent) → Inside t → parted (pieces a) ≡ parted (pieces b) → extent_after w (Text a) t ≡ extent_after w (Text b) t
+same_text : (w : ℕ) (a b : List ℕ) (t : Extent) → Inside t → parted_pieces (pieces a) ≡ parted_pieces (pieces b) → extent_after w (Text a) t ≡ extent_after w (Text b) t
 same_text w a b t h e =
-    sym (reach-parted w (pieces a) t h) ∙ ap (λ ps. reach_all t (places_after w ps (place_of t))) e ∙ reach-parted w (pieces b) t h
+    sym (reach-parted_pieces w (pieces a) t h) ∙ ap (λ ps. reach_all t (places_after w ps (place_of t))) e ∙ reach-parted_pieces w (pieces b) t h
 
 -- changes whose texts are measured by their characters
 abbrev pub AreMeasured : Batch → Type 0
@@ -89,16 +89,16 @@ measured-append (CursorPosition x y ∷ a) b h k = measured-append a b h k
 
 -- ---- simple texts are measured by their characters
 
-wide-parted : (text : List ℕ) → parted (map (λ ch. Wide 1) text) ≡ map (λ ch. Wide 1) text
-wide-parted [] = refl
-wide-parted (ch ∷ text) = ap (λ l. Wide 1 ∷ l) (wide-parted text)
+wide-parted_pieces : (text : List ℕ) → parted_pieces (map (λ ch. Wide 1) text) ≡ map (λ ch. Wide 1) text
+wide-parted_pieces [] = refl
+wide-parted_pieces (ch ∷ text) = ap (λ l. Wide 1 ∷ l) (wide-parted_pieces text)
 
-pub plain-parted : (text : List ℕ) → parted (map plain_piece text) ≡ map plain_piece text
-plain-parted [] = refl
-plain-parted (ch ∷ text) = by_kind (eqb ch cr) (eqb ch lf) (plain-parted text)
+pub plain-parted_pieces : (text : List ℕ) → parted_pieces (map plain_piece text) ≡ map plain_piece text
+plain-parted_pieces [] = refl
+plain-parted_pieces (ch ∷ text) = by_kind (eqb ch cr) (eqb ch lf) (plain-parted_pieces text)
   where
-    by_kind : (e d : Bool) → parted (map plain_piece text) ≡ map plain_piece text
-        → parted ((if e then Cr else if d then Lf else Wide 1) ∷ map plain_piece text) ≡ (if e then Cr else if d then Lf else Wide 1) ∷ map plain_piece text
+    by_kind : (e d : Bool) → parted_pieces (map plain_piece text) ≡ map plain_piece text
+        → parted_pieces ((if e then Cr else if d then Lf else Wide 1) ∷ map plain_piece text) ≡ (if e then Cr else if d then Lf else Wide 1) ∷ map plain_piece text
     by_kind true d rest = ap (λ l. Cr ∷ l) rest
     by_kind false true rest = ap (λ l. Lf ∷ l) rest
     by_kind false false rest = ap (λ l. Wide 1 ∷ l) rest
@@ -113,7 +113,7 @@ wide-plain (ch ∷ text) h =
 simple_measured : (changes : Batch) → AreSimple changes → AreMeasured changes
 simple_measured [] a = tt
 simple_measured (Text text ∷ changes) a =
-    (ap parted a.0.measured ∙ wide-parted (chars text) ∙ sym (wide-plain (chars text) a.0.no_breaks), simple_measured changes a.1)
+    (ap parted_pieces a.0.measured ∙ wide-parted_pieces (chars text) ∙ sym (wide-plain (chars text) a.0.no_breaks), simple_measured changes a.1)
 simple_measured (Attribute x ∷ changes) a = simple_measured changes a
 simple_measured (AllAttributes x ∷ changes) a = simple_measured changes a
 simple_measured (ClearScreen c ∷ changes) a = elim a [ ]
@@ -184,9 +184,9 @@ module _ (f : ℕ → ℕ) (keeps : Keeps f) where
   plain-named [] = refl
   plain-named (ch ∷ text) = rw (keeps.plain ch, plain-named text) refl
 
-  counted-named : (text : List ℕ) → IsCounted text → parted (pieces (map f (chars text))) ≡ parted (pieces text)
+  counted-named : (text : List ℕ) → IsCounted text → parted_pieces (pieces (map f (chars text))) ≡ parted_pieces (pieces text)
   unfolding pieces
-  counted-named text h = rw (plain-named (chars text)) (ap parted (piece-named (chars text)) ∙ plain-parted (chars text) ∙ sym h)
+  counted-named text h = rw (plain-named (chars text)) (ap parted_pieces (piece-named (chars text)) ∙ plain-parted_pieces (chars text) ∙ sym h)
 
   extent-named : (w : ℕ) (changes : Batch) (t : Extent) → AreMeasured changes → Inside t → extent_after_all w (named_all f changes) t ≡ extent_after_all w changes t
   extent-named w [] t a h = refl
@@ -297,15 +297,15 @@ module _ (f : ℕ → ℕ) (keeps : Keeps f) where
 
   -- ---- what it types
 
-  pub typed-named : (changes : Batch) → typed (named_all f changes) ≡ map f (typed (spelled_all changes))
-  typed-named [] = refl
-  typed-named (Text text ∷ changes) =
-      ap (λ l. map f (chars text) ++ l) (typed-named changes) ∙ sym (map-append f (chars text) (typed (spelled_all changes)))
-  typed-named (Attribute x ∷ changes) = typed-named changes
-  typed-named (AllAttributes x ∷ changes) = typed-named changes
-  typed-named (ClearScreen c ∷ changes) = typed-named changes
-  typed-named (ClearToEndOfScreen c ∷ changes) = typed-named changes
-  typed-named (CursorPosition x y ∷ changes) = typed-named changes
+  pub typed_text-named : (changes : Batch) → typed_text (named_all f changes) ≡ map f (typed_text (spelled_all changes))
+  typed_text-named [] = refl
+  typed_text-named (Text text ∷ changes) =
+      ap (λ l. map f (chars text) ++ l) (typed_text-named changes) ∙ sym (map-append f (chars text) (typed_text (spelled_all changes)))
+  typed_text-named (Attribute x ∷ changes) = typed_text-named changes
+  typed_text-named (AllAttributes x ∷ changes) = typed_text-named changes
+  typed_text-named (ClearScreen c ∷ changes) = typed_text-named changes
+  typed_text-named (ClearToEndOfScreen c ∷ changes) = typed_text-named changes
+  typed_text-named (CursorPosition x y ∷ changes) = typed_text-named changes
 
   before_lines-named : (ch : ℕ) (ls : List (List ℕ)) → before_lines (f ch) (map (map f) ls) ≡ map (map f) (before_lines ch ls)
   before_lines-named ch [] = refl
@@ -323,7 +323,7 @@ module _ (f : ℕ → ℕ) (keeps : Keeps f) where
 
   pub lower_lines-named : (lower : Lower) → lower_lines (named_lower f lower) ≡ map (map f) (lower_lines (spelled_lower lower))
   lower_lines-named NoLower = refl
-  lower_lines-named (Preview elements) = ap lines_of (typed-named elements) ∙ lines-named (typed (spelled_all elements))
+  lower_lines-named (Preview elements) = ap lines_of (typed_text-named elements) ∙ lines-named (typed_text (spelled_all elements))
   lower_lines-named (Search text) = refl
 
   -- ---- and that it is plain
@@ -368,7 +368,7 @@ module _ (f : ℕ → ℕ) (keeps : Keeps f) where
   lower_plain : (lower : Lower) → IsSimpleLower lower → IsPlainLower (named_lower f lower)
   lower_plain NoLower a = tt
   lower_plain (Preview elements) a =
-      (texts-named elements a.0, ap (list_all (list_all is_printable)) (lower_lines-named (Preview elements)) ∙ lines_printable (lines_of (typed (spelled_all elements))) a.1)
+      (texts-named elements a.0, ap (list_all (list_all is_printable)) (lower_lines-named (Preview elements)) ∙ lines_printable (lines_of (typed_text (spelled_all elements))) a.1)
   lower_plain (Search text) a = text_printable (chars text) a.1
 
   pub plain-scene : (scene : Scene) → IsSimple scene → IsPlain (named_scene f scene)

@@ -9,7 +9,7 @@ use Rattle.std.proofs.lemmas.List.FromFn.{fill_by_all, map-range_with_len_more}
 use Rattle.std.proofs.lemmas.Nat.{mod_below, div-add-mod'}
 use Rattle.std.proofs.Math.Nat.{min-eq_left, min-eq_right, min-le_left, min-le_right, le-min}
 use Rattle.tw_surface.specs.declared.screen.far.Cell.{Cell}
-use Rattle.tw_surface.specs.Pictures.{blank, written, cleared}
+use Rattle.tw_surface.specs.Pictures.{blank, cells_with, cells_cleared_from}
 use Rattle.tw_surface.specs.Cells.{cell_in, cell_at, shown_at, row_of, IsSparse, IsSound, IsGrown, IsLastRow}
 use Rattle.tw_surface.proofs.LineOfCells.{same_cell, behind, next_row, below_row}
 use Rattle.tw_surface.proofs.CellLookups.{cell_in-none, cell_in_at, cell_ascii}
@@ -48,24 +48,24 @@ take_within near place kept most is below =
     ]
 
 -- a write shows nothing in another column
-written_column : (cell : ℕ → ℕ → ℕ) (row col ch r c : ℕ) → (c ≡ col → ⊥) → written cell row col ch r c ≡ cell r c
+written_column : (cell : ℕ → ℕ → ℕ) (row col ch r c : ℕ) → (c ≡ col → ⊥) → cells_with cell row col ch r c ≡ cell r c
 written_column cell row col ch r c other = rw (and_right (eqb r row) (eqb c col) (ne_eqb c col other)) refl
 
 -- inside the width, a write shows by its place
 written_place : (width : ℕ) (cell : ℕ → ℕ → ℕ) (row col ch r c : ℕ) → c < width → col < width → (r * width + c ≡ row * width + col → ⊥)
-    → written cell row col ch r c ≡ cell r c
+    → cells_with cell row col ch r c ≡ cell r c
 written_place width cell row col ch r c inside within other =
     rw (same_cell width r c row col inside within, ne_eqb (r * width + c) (row * width + col) other) refl
 
 written_here : (width : ℕ) (cell : ℕ → ℕ → ℕ) (row col ch r c : ℕ) → c < width → col < width → r * width + c ≡ row * width + col
-    → written cell row col ch r c ≡ ch
+    → cells_with cell row col ch r c ≡ ch
 written_here width cell row col ch r c inside within same =
     rw (same_cell width r c row col inside within, eq-eqb (r * width + c) (row * width + col) same) refl
 
 module _ (width : ℕ) (near : List ℕ) (far : List Cell) (row col ch : ℕ) (inside : col < width) where
   -- ---- a write
 
-  near_write : row * width + col < length near → (r c : ℕ) → shown_at width (set near (row * width + col) ch) far r c ≡ written (shown_at width near far) row col ch r c
+  near_write : row * width + col < length near → (r c : ℕ) → shown_at width (set near (row * width + col) ch) far r c ≡ cells_with (shown_at width near far) row col ch r c
   near_write within r c =
       let new : List ℕ = set near (row * width + col) ch in
       let size : length new ≡ length near = length-set near _ _ in
@@ -84,11 +84,11 @@ module _ (width : ℕ) (near : List ℕ) (far : List Cell) (row col ch : ℕ) (i
         ]
       ]
 
-  pub written_near : row * width + col < length near → shown_at width (set near (row * width + col) ch) far ≡ written (shown_at width near far) row col ch
+  pub written_near : row * width + col < length near → shown_at width (set near (row * width + col) ch) far ≡ cells_with (shown_at width near far) row col ch
   written_near within = fun_ext (λ r. fun_ext (λ c. near_write within r c))
 
-  far_write : (new : List Cell) → length near ≤ row * width + col → cell_in new ≡ written (cell_in far) row col ch → (r c : ℕ)
-      → shown_at width near new r c ≡ written (shown_at width near far) row col ch r c
+  far_write : (new : List Cell) → length near ≤ row * width + col → cell_in new ≡ cells_with (cell_in far) row col ch → (r c : ℕ)
+      → shown_at width near new r c ≡ cells_with (shown_at width near far) row col ch r c
   far_write new past is r c =
       elim (cases_lt c width) [
         | inr outside ↦ shown_far width near new r c (λ h. absurd (omega arith)) ∙ ap (λ f. f r c) is ∙ written_column (cell_in far) row col ch r c (λ e. omega arith)
@@ -104,8 +104,8 @@ module _ (width : ℕ) (near : List ℕ) (far : List Cell) (row col ch : ℕ) (i
         ]
       ]
 
-  pub written_far : (new : List Cell) → length near ≤ row * width + col → cell_in new ≡ written (cell_in far) row col ch
-      → shown_at width near new ≡ written (shown_at width near far) row col ch
+  pub written_far : (new : List Cell) → length near ≤ row * width + col → cell_in new ≡ cells_with (cell_in far) row col ch
+      → shown_at width near new ≡ cells_with (shown_at width near far) row col ch
   written_far new past is = fun_ext (λ r. fun_ext (λ c. far_write new past is r c))
 
 -- ---- more room, and less
@@ -184,7 +184,7 @@ behind_cursor w row col r c most inside =
           ]
     ]
 
-module _ (width : ℕ) (near : List ℕ) (far new : List Cell) (row col : ℕ) (most : col ≤ width) (is : cell_in new ≡ cleared (cell_in far) row col) where
+module _ (width : ℕ) (near : List ℕ) (far new : List Cell) (row col : ℕ) (most : col ≤ width) (is : cell_in new ≡ cells_cleared_from (cell_in far) row col) where
   abbrev kept : List ℕ
   kept = take (row * width + col) near
 
@@ -192,12 +192,12 @@ module _ (width : ℕ) (near : List ℕ) (far new : List Cell) (row col : ℕ) (
   size_kept = length-take (row * width + col) near
 
   -- outside the width only far cells show
-  cleared_outside : (r c : ℕ) → width ≤ c → shown_at width kept new r c ≡ cleared (shown_at width near far) row col r c
+  cleared_outside : (r c : ℕ) → width ≤ c → shown_at width kept new r c ≡ cells_cleared_from (shown_at width near far) row col r c
   cleared_outside r c outside =
       shown_far width kept new r c (λ h. absurd (omega arith)) ∙ ap (λ f. f r c) is
       ∙ ap (λ ch. if ltb row r || (eqb row r && leb col c) then blank else ch) (sym (shown_far width near far r c (λ h. absurd (omega arith))))
 
-  cleared_inside : (r c : ℕ) → c < width → shown_at width kept new r c ≡ cleared (shown_at width near far) row col r c
+  cleared_inside : (r c : ℕ) → c < width → shown_at width kept new r c ≡ cells_cleared_from (shown_at width near far) row col r c
   cleared_inside r c left =
       let by_place = behind_cursor width row col r c most left in
       elim (cases_lt (r * width + c) (row * width + col)) [
@@ -212,7 +212,7 @@ module _ (width : ℕ) (near : List ℕ) (far new : List Cell) (row col : ℕ) (
             (shown_far width kept new r c (λ h. omega (arith, size_kept, min-le_left (row * width + col) (length near))) ∙ ap (λ f. f r c) is ∙ rw (by_place, le-leb _ _ after) refl)
       ]
 
-  pub cleared_kept : shown_at width kept new ≡ cleared (shown_at width near far) row col
+  pub cleared_kept : shown_at width kept new ≡ cells_cleared_from (shown_at width near far) row col
   cleared_kept = fun_ext (λ r. fun_ext (λ c. elim (cases_lt c width) [ inl inside ↦ cleared_inside r c inside | inr outside ↦ cleared_outside r c outside ]))
 
 -- with fewer near cells, the far ones stand behind them still

@@ -8,17 +8,17 @@ use Rattle.std.proofs.Math.Nat.{zero-div, mul-add-div_right, mul-add-mod_self_ri
 use Rattle.std.proofs.lemmas.List.Sums.{sum_by-cons}
 use Rattle.tw_surface.specs.declared.change.Position.TheVariants.{Absolute, Relative}
 use Rattle.tw_surface.specs.ChangeView.{AllAttributes, ClearToEndOfScreen, CursorPosition}
-use Rattle.tw_surface.proofs.LowerText.{breaks, play_text-append, changes-text, tracks-texts, lower-is_text, lower-typed, lower-printable, breaks-plain, rows-is}
+use Rattle.tw_surface.proofs.LowerText.{breaks, play_text-append, changes-text, tracks-texts, lower-is_text, lower-typed_text, lower-printable, breaks-plain, rows-is}
 use Rattle.tw_surface.proofs.TypedText.{typed-col}
-use Rattle.tw_surface.proofs.LineOfCells.{point, over, blank_from, over-inside, over-outside, Stands, cleared-stands, next_row, below_row}
+use Rattle.tw_surface.proofs.LineOfCells.{point, over, blank_from, over-inside, over-outside, Stands, cells_cleared_from-stands, next_row, below_row}
 use Rattle.tw_surface.proofs.TypedText.{play-typed, Tracks, tracks-text}
 use Rattle.tw_surface.proofs.TypedChanges.{play_all-append, place_after_all-append, Stands-same, over-append, changes-stand, tracks-changes}
 use Rattle.tw_surface.specs.ChangeView.{ChangeView, Batch}
-use Rattle.tw_surface.specs.Pictures.{Picture, blank, cleared, put, play_text, play, play_all, cursor_at}
+use Rattle.tw_surface.specs.Pictures.{Picture, blank, cells_cleared_from, picture_with, play_text, play, play_all, cursor_at}
 use Rattle.tw_surface.specs.Positions.{at_least_0}
 use Rattle.tw_surface.specs.Characters.{is_printable, is_plain}
 use Rattle.tw_surface.specs.Places.{Place, place_after_all, origin, move_between}
-use Rattle.tw_surface.specs.Scenes.{is_typing, typed, Scene, IsPlain, Lower, lower_lines, IsPlainLower}
+use Rattle.tw_surface.specs.Scenes.{is_typing, typed_text, Scene, IsPlain, Lower, lower_lines, IsPlainLower}
 use Rattle.tw_surface.specs.Lines.{rows_of}
 use Rattle.tw_surface.specs.Paintings.{lower_changes, before_line, edge_space, place_at, shown_part, cursor_place, painting, mark_of, start_move}
 use Rattle.tw_surface.specs.Defaults.{default_color, default_attributes}
@@ -62,12 +62,12 @@ pub record After (w s : ℕ) (p : ℕ) (f : ℕ → ℕ) (at : Place) (s' : Pict
 
 pub after-prompt : (w s : ℕ) (prompt : Batch) (before : Picture) → 2 ≤ w
     → before.row ≡ s → before.col ≡ 0 → list_all is_typing prompt ≡ true
-    → After w s (s * w + length (typed prompt)) (over (s * w) (typed prompt) (base w s before))
+    → After w s (s * w + length (typed_text prompt)) (over (s * w) (typed_text prompt) (base w s before))
     (place_after_all w (before_line prompt) origin) (play_all w (before_line prompt) before)
 after-prompt w s prompt before two row col a =
-    let clear : Picture = record before { cell = cleared before.cell before.row before.col } in
+    let clear : Picture = record before { cell = cells_cleared_from before.cell before.row before.col } in
     let start : Stands w clear (s * w) (base w s before) =
-    cleared-stands w before (s * w) (line_of w before) (omega arith) (line_of-stands w s before (omega arith) row col) in
+    cells_cleared_from-stands w before (s * w) (line_of w before) (omega arith) (line_of-stands w s before (omega arith) row col) in
     let enter : Tracks w s origin clear = record { x = col; y = omega (arith, ints, row); within = omega arith } in
     rw (play_all-append w prompt (AllAttributes default_attributes ∷ []) clear, place_after_all-append w prompt (AllAttributes default_attributes ∷ []) origin)
     (record {
@@ -77,7 +77,7 @@ after-prompt w s prompt before two row col a =
 
 after-changes : (w s : ℕ) (changes : Batch) (p : ℕ) (f : ℕ → ℕ) (at : Place) (t : Picture) → 2 ≤ w → list_all is_typing changes ≡ true
     → After w s p f at t
-    → After w s (p + length (typed changes)) (over p (typed changes) f) (place_after_all w changes at) (play_all w changes t)
+    → After w s (p + length (typed_text changes)) (over p (typed_text changes) f) (place_after_all w changes at) (play_all w changes t)
 after-changes w s changes p f at t two a k = record {
   stands = changes-stand w changes t p f (omega arith) a k.stands;
   tracks = tracks-changes w s changes at t (omega arith) a k.tracks;
@@ -100,7 +100,7 @@ blank_point p f h i =
       | inr n ↦ rw (ne_eqb i p n) refl
     ]
 
-put_waiting : (w ch : ℕ) (t : Picture) → t.col ≡ w → ((put w ch t).row ≡ t.row + 1) × ((put w ch t).col ≡ 1)
+put_waiting : (w ch : ℕ) (t : Picture) → t.col ≡ w → ((picture_with w ch t).row ≡ t.row + 1) × ((picture_with w ch t).col ≡ 1)
 put_waiting w ch t e = rw (eq-eqb t.col w e) (refl, refl)
 
 after-edge : (w s p : ℕ) (f : ℕ → ℕ) (at : Place) (t : Picture) → 2 ≤ w → f p ≡ blank → After w s p f at t
@@ -200,14 +200,14 @@ after-lower : (w s p : ℕ) (lower : Lower) (f : ℕ → ℕ) (at : Place) (t : 
     (place_after_all w (lower_changes lower) at) (play_all w (lower_changes lower) t)
 after-lower w s p lower f at t two a k =
     let e : play_all w (lower_changes lower) t ≡ play_text w (breaks (lower_lines lower)) t =
-    changes-text w (lower_changes lower) t (lower-is_text lower a) ∙ ap (λ q. play_text w q t) (lower-typed lower) in
+    changes-text w (lower_changes lower) t (lower-is_text lower a) ∙ ap (λ q. play_text w q t) (lower-typed_text lower) in
     let start : Rests w (p / w) f t = record { row = k.row; cells = k.cells } in
     let all = after-breaks w (p / w) (lower_lines lower) f t two (lower-printable lower a) start in
     record {
       last_is = ap (λ q. q.row) e ∙ all.row;
       cells = λ r c h. ap (λ q. q.cell r c) e ∙ all.cells r c h;
       tracks = tracks-texts w s (lower_changes lower) at t (omega arith) (lower-is_text lower a)
-          (ap (list_all is_plain) (lower-typed lower) ∙ breaks-plain (lower_lines lower) (lower-printable lower a)) k.tracks;
+          (ap (list_all is_plain) (lower-typed_text lower) ∙ breaks-plain (lower_lines lower) (lower-printable lower a)) k.tracks;
     }
 
 -- ---- everything before the last move
@@ -226,28 +226,28 @@ blank_behind w s prompt line before i h =
 
 after-line : (w s : ℕ) (prompt line : Batch) (before : Picture) → 2 ≤ w
     → before.row ≡ s → before.col ≡ 0 → list_all is_typing prompt ≡ true → list_all is_typing line ≡ true
-    → After w s (s * w + length (typed prompt ++ typed line)) (cells_of w s (typed prompt) (typed line) before)
+    → After w s (s * w + length (typed_text prompt ++ typed_text line)) (cells_of w s (typed_text prompt) (typed_text line) before)
     (place_after_all w (before_line prompt ++ line) origin) (play_all w (before_line prompt ++ line) before)
 after-line w s prompt line before two row col a b =
     let head = before_line prompt in
     let first = after-prompt w s prompt before two row col a in
     let both = after-changes w s line _ _ _ _ two b first in
-    let e : s * w + length (typed prompt ++ typed line) ≡ s * w + length (typed prompt) + length (typed line) =
-    omega (arith, length-append (typed prompt) (typed line)) in
+    let e : s * w + length (typed_text prompt ++ typed_text line) ≡ s * w + length (typed_text prompt) + length (typed_text line) =
+    omega (arith, length-append (typed_text prompt) (typed_text line)) in
     rw (play_all-append w head line before, place_after_all-append w head line origin, e) (record {
-      stands = Stands-same w _ _ _ _ (over-append (s * w) (typed prompt) (typed line) (base w s before)) both.stands;
+      stands = Stands-same w _ _ _ _ (over-append (s * w) (typed_text prompt) (typed_text line) (base w s before)) both.stands;
       tracks = both.tracks;
     })
 
 pub after-shown : (w s : ℕ) (scene : Scene) (before : Picture) → 2 ≤ w → before.row ≡ s → before.col ≡ 0 → IsPlain scene
-    → Shown w s (last_row w s scene) (all_cells w s (typed scene.prompt) (typed scene.line) (lower_lines scene.lower) before)
+    → Shown w s (last_row w s scene) (all_cells w s (typed_text scene.prompt) (typed_text scene.line) (lower_lines scene.lower) before)
     (place_after_all w (shown_part w scene) origin) (play_all w (shown_part w scene) before)
 after-shown w s scene before two row col plain =
     let head = before_line scene.prompt ++ scene.line in
     let first = after-line w s scene.prompt scene.line before two row col plain.prompt plain.line in
     let edge = edge_space w (place_after_all w head origin) in
     let low = lower_changes scene.lower in
-    let behind_all = blank_behind w s (typed scene.prompt) (typed scene.line) before (s * w + length (text_of scene)) (omega arith) in
+    let behind_all = blank_behind w s (typed_text scene.prompt) (typed_text scene.line) before (s * w + length (text_of scene)) (omega arith) in
     let second = after-edge w s _ _ _ _ two behind_all first in
     let third = after-lower w s _ scene.lower _ _ _ two plain.lower second in
     let e = at_row w s (length (text_of scene)) (omega arith) in
@@ -257,7 +257,7 @@ after-shown w s scene before two row col plain =
     play_all-append w head (edge ++ low) before ∙ play_all-append w edge low (play_all w head before) in
     Shown-at w s _ _ _ _ _ _ _ _
     (ap (λ i. i + sum_by (rows_of w) (lower_lines scene.lower)) (sym e))
-    (ap (λ i. over_lines w (i + 1) (lower_lines scene.lower) (cells_of w s (typed scene.prompt) (typed scene.line) before)) (sym e))
+    (ap (λ i. over_lines w (i + 1) (lower_lines scene.lower) (cells_of w s (typed_text scene.prompt) (typed_text scene.line) before)) (sym e))
     places pictures third
   where
     Shown-at : (w s last last' : ℕ) (f f' : ℕ → ℕ) (at at' : Place) (t t' : Picture) → last ≡ last' → f ≡ f' → at ≡ at' → t ≡ t'
@@ -379,8 +379,8 @@ painted w s scene before two row col plain =
     let all = after-shown w s scene before two row col plain in
     let head = after-prompt w s scene.prompt before two row col plain.prompt in
     let shown = shown_part w scene in
-    let prompt = typed scene.prompt in
-    let line = typed scene.line in
+    let prompt = typed_text scene.prompt in
+    let line = typed_text scene.line in
     let lower = lower_lines scene.lower in
     let t : Picture = play_all w shown before in
     let move : ChangeView = move_between (place_after_all w shown origin) (cursor_place w scene) in
@@ -401,7 +401,7 @@ pub cursor_place-row : (w : ℕ) (scene : Scene) → 2 ≤ w → IsPlain scene �
 cursor_place-row w scene two plain =
     let first = after-prompt w 0 scene.prompt (cursor_at 0 0) two refl refl plain.prompt in
     let t : Picture = play_all w (before_line scene.prompt) (cursor_at 0 0) in
-    let n : ℕ = length (typed scene.prompt) in
+    let n : ℕ = length (typed_text scene.prompt) in
     let e : t.row * w + (t.col + scene.column) ≡ 0 * w + (n + scene.column) = omega (arith, first.stands.place) in
     let q : t.row + (t.col + scene.column) / w ≡ 0 + (n + scene.column) / w =
     sym (at_row w t.row (t.col + scene.column) (omega arith)) ∙ ap (λ i. i / w) e ∙ at_row w 0 (n + scene.column) (omega arith) in
@@ -429,14 +429,14 @@ painted_cleared w earlier scene before two row first plain =
     let q = painted w 0 scene (play w (start_move (mark_of (painting w earlier))) before) two (none_above _ e) (min-eq_right (omega arith)) plain in
     record { fresh = q.fresh; above = λ r c h k. absurd (omega arith) }
 
-cleared_below : (cell : ℕ → ℕ → ℕ) (r i c : ℕ) → r ≤ i → cleared cell r 0 i c ≡ blank
+cleared_below : (cell : ℕ → ℕ → ℕ) (r i c : ℕ) → r ≤ i → cells_cleared_from cell r 0 i c ≡ blank
 cleared_below cell r i c h =
     elim (cases_eq r i) [
       | inl e ↦ rw (le-ltb r i (omega arith), eq-eqb r i e, le-leb 0 c (omega arith)) refl
       | inr n ↦ rw (lt-ltb r i (omega (arith, n))) refl
     ]
 
-cleared_above : (cell : ℕ → ℕ → ℕ) (r i c : ℕ) → i < r → cleared cell r 0 i c ≡ cell i c
+cleared_above : (cell : ℕ → ℕ → ℕ) (r i c : ℕ) → i < r → cells_cleared_from cell r 0 i c ≡ cell i c
 cleared_above cell r i c h = rw (le-ltb r i (omega arith), ne_eqb r i (λ e. omega arith)) refl
 
 pub closed : (w s r h : ℕ) (y : ℤ) (before : Picture) → 2 ≤ w → before.row ≡ s + r → y ≡ pos r
@@ -449,9 +449,9 @@ closed w s r h y before two row is =
       row = at;
       col = left;
       blank_below = λ i c p q.
-          ap (λ k. cleared before.cell k (min (w - 1) 0) i c) at ∙ ap (λ k. cleared before.cell (s + h + 1) k i c) left
+          ap (λ k. cells_cleared_from before.cell k (min (w - 1) 0) i c) at ∙ ap (λ k. cells_cleared_from before.cell (s + h + 1) k i c) left
           ∙ cleared_below before.cell (s + h + 1) i c (omega arith);
       same_above = λ i c p q.
-          ap (λ k. cleared before.cell k (min (w - 1) 0) i c) at ∙ ap (λ k. cleared before.cell (s + h + 1) k i c) left
+          ap (λ k. cells_cleared_from before.cell k (min (w - 1) 0) i c) at ∙ ap (λ k. cells_cleared_from before.cell (s + h + 1) k i c) left
           ∙ cleared_above before.cell (s + h + 1) i c (omega arith);
     }

@@ -13,13 +13,13 @@ use Rattle.tw_surface.specs.Characters.{is_plain, is_printable}
 use Rattle.tw_surface.specs.Lines.{lines_of}
 use Rattle.tw_surface.specs.Paintings.{lower_changes}
 use Rattle.tw_surface.specs.Places.{pieces}
-use Rattle.tw_surface.specs.Scenes.{Lower, IsPlainLower, is_typing, is_text, typed, lower_lines}
+use Rattle.tw_surface.specs.Scenes.{Lower, IsPlainLower, is_typing, is_text, typed_text, lower_lines}
 use Rattle.tw_surface.specs.Scenes.Lower.{NoLower, Preview, Search}
 use Rattle.tw_surface.specs.Simple.{is_break, spelled_all, spelled_lower, AreSimple, AreCounted, IsCounted, IsSimpleText, IsSimpleLower}
 use Rattle.tw_surface.specs.SimpleLaws.{PlainIsSimple}
-use Rattle.tw_surface.proofs.LowerText.{lower-typed, lower-printable, breaks-plain}
+use Rattle.tw_surface.proofs.LowerText.{lower-typed_text, lower-printable, breaks-plain}
 use Rattle.tw_surface.proofs.TypedChanges.{plain_from_printable}
-use Rattle.tw_surface.proofs.NamedPaintings.{plain-parted, wide-plain}
+use Rattle.tw_surface.proofs.NamedPaintings.{plain-parted_pieces, wide-plain}
 
 -- ---- texts
 
@@ -66,7 +66,7 @@ simple_text text h =
 
 counted_text : (text : List ℕ) → list_all is_plain text ≡ true → IsCounted text
 unfolding pieces
-counted_text text plain = rw (plain, plain_chars text plain) (plain-parted text)
+counted_text text plain = rw (plain, plain_chars text plain) (plain-parted_pieces text)
 
 -- ---- changes
 
@@ -93,10 +93,10 @@ spelled_same (ClearToEndOfScreen c ∷ changes) a = absurd (false≢true a)
 spelled_same (CursorPosition x y ∷ changes) a = absurd (false≢true a)
 
 -- attributes and plain texts
-counted_changes : (changes : Batch) → list_all is_text changes ≡ true → list_all is_plain (typed changes) ≡ true → AreCounted changes
+counted_changes : (changes : Batch) → list_all is_text changes ≡ true → list_all is_plain (typed_text changes) ≡ true → AreCounted changes
 counted_changes [] a p = tt
 counted_changes (Text text ∷ changes) a p =
-    let both = and_parts (list_all is_plain text) (list_all is_plain (typed changes)) (sym (list_all-append is_plain text (typed changes)) ∙ p) in
+    let both = and_parts (list_all is_plain text) (list_all is_plain (typed_text changes)) (sym (list_all-append is_plain text (typed_text changes)) ∙ p) in
     (counted_text text both.0, counted_changes changes a both.1)
 counted_changes (Attribute x ∷ changes) a p = counted_changes changes a p
 counted_changes (AllAttributes x ∷ changes) a p = counted_changes changes a p
@@ -104,10 +104,10 @@ counted_changes (ClearScreen c ∷ changes) a p = absurd (false≢true a)
 counted_changes (ClearToEndOfScreen c ∷ changes) a p = absurd (false≢true a)
 counted_changes (CursorPosition x y ∷ changes) a p = absurd (false≢true a)
 
-counted_same : (changes : Batch) → list_all is_text changes ≡ true → list_all is_plain (typed changes) ≡ true → spelled_all changes ≡ changes
+counted_same : (changes : Batch) → list_all is_text changes ≡ true → list_all is_plain (typed_text changes) ≡ true → spelled_all changes ≡ changes
 counted_same [] a p = refl
 counted_same (Text text ∷ changes) a p =
-    let both = and_parts (list_all is_plain text) (list_all is_plain (typed changes)) (sym (list_all-append is_plain text (typed changes)) ∙ p) in
+    let both = and_parts (list_all is_plain text) (list_all is_plain (typed_text changes)) (sym (list_all-append is_plain text (typed_text changes)) ∙ p) in
     ap (λ l. Text l ∷ spelled_all changes) (plain_chars text both.0) ∙ ap (λ l. Text text ∷ l) (counted_same changes a both.1)
 counted_same (Attribute x ∷ changes) a p = ap (λ l. Attribute x ∷ l) (counted_same changes a p)
 counted_same (AllAttributes x ∷ changes) a p = ap (λ l. AllAttributes x ∷ l) (counted_same changes a p)
@@ -117,15 +117,15 @@ counted_same (CursorPosition x y ∷ changes) a p = absurd (false≢true a)
 
 -- ---- the lower text
 
-lower_plain : (lower : Lower) → IsPlainLower lower → list_all is_plain (typed (lower_changes lower)) ≡ true
-lower_plain lower a = ap (list_all is_plain) (lower-typed lower) ∙ breaks-plain (lower_lines lower) (lower-printable lower a)
+lower_plain : (lower : Lower) → IsPlainLower lower → list_all is_plain (typed_text (lower_changes lower)) ≡ true
+lower_plain lower a = ap (list_all is_plain) (lower-typed_text lower) ∙ breaks-plain (lower_lines lower) (lower-printable lower a)
 
 simple_lower : (lower : Lower) → IsPlainLower lower → IsSimpleLower lower × (spelled_lower lower ≡ lower)
 simple_lower NoLower a = (tt, refl)
 simple_lower (Preview elements) a =
-    let plain : list_all is_plain (typed elements) ≡ true = lower_plain (Preview elements) a in
+    let plain : list_all is_plain (typed_text elements) ≡ true = lower_plain (Preview elements) a in
     let same = counted_same elements a.0 plain in
-    ((counted_changes elements a.0 plain, ap (λ l. list_any (list_any is_break) (lines_of (typed l))) same ∙ unbroken_lines (lines_of (typed elements)) a.1), ap Preview same)
+    ((counted_changes elements a.0 plain, ap (λ l. list_any (list_any is_break) (lines_of (typed_text l))) same ∙ unbroken_lines (lines_of (typed_text elements)) a.1), ap Preview same)
 simple_lower (Search text) a =
     let plain = plain_from_printable text a in
     let same = plain_chars text plain in

@@ -8,7 +8,7 @@ use Rattle.std.proofs.lemmas.List.{get_or-take, get_or-drop, get_or-map, get_or_
 use Rattle.std.proofs.lemmas.List.Elements.{All-head, All-tail, All-drop, All-map}
 use Rattle.tw_surface.specs.declared.screen.far.Cell.{Cell}
 use Rattle.tw_surface.specs.Pictures.{blank}
-use Rattle.tw_surface.specs.Cells.{cell_in, cell_at, shown_at, raised, IsBefore, IsInOrder, IsPartedAt, IsSparse, IsTrimmed}
+use Rattle.tw_surface.specs.Cells.{cell_in, cell_at, shown_at, higher_cell, IsBefore, IsInOrder, IsPartedAt, IsSparse, IsTrimmed}
 use Rattle.tw_surface.proofs.CellLookups.{StandsAt, NoneAtBefore, cell_in-past}
 use Rattle.std.proofs.lemmas.Nat.{mod_below, div-add-mod'}
 use Rattle.tw_surface.proofs.LineOfCells.{below_row}
@@ -30,11 +30,11 @@ raised_row-eqb row k r low = elim (cases_eq row (r + k)) [
 ]
 
 -- raised cells show what stood below
-cell_in-raised : (k : ℕ) (cells : List Cell) (r c : ℕ) → All (λ x. k ≤ x.row) cells → cell_in (map (raised k) cells) r c ≡ cell_in cells (r + k) c
-cell_in-raised k [] r c low = refl
-cell_in-raised k (cell ∷ cells) r c low =
-    ap (λ e. if e && eqb cell.col c then cell.ch else cell_in (map (raised k) cells) r c) (raised_row-eqb cell.row k r (All-head (λ x. k ≤ x.row) cell cells low))
-    ∙ ap (λ x. if eqb cell.row (r + k) && eqb cell.col c then cell.ch else x) (cell_in-raised k cells r c (All-tail (λ x. k ≤ x.row) cell cells low))
+cell_in-higher_cell : (k : ℕ) (cells : List Cell) (r c : ℕ) → All (λ x. k ≤ x.row) cells → cell_in (map (higher_cell k) cells) r c ≡ cell_in cells (r + k) c
+cell_in-higher_cell k [] r c low = refl
+cell_in-higher_cell k (cell ∷ cells) r c low =
+    ap (λ e. if e && eqb cell.col c then cell.ch else cell_in (map (higher_cell k) cells) r c) (raised_row-eqb cell.row k r (All-head (λ x. k ≤ x.row) cell cells low))
+    ∙ ap (λ x. if eqb cell.row (r + k) && eqb cell.col c then cell.ch else x) (cell_in-higher_cell k cells r c (All-tail (λ x. k ≤ x.row) cell cells low))
 
 module _ (cells : List Cell) (rows i : ℕ) (parted : IsPartedAt cells rows i) where
   -- the cells from there on stand in the row or below
@@ -54,19 +54,19 @@ module _ (cells : List Cell) (rows i : ℕ) (parted : IsPartedAt cells rows i) w
       omega (arith, above, stands.row_is)
 
   -- so dropping them and raising the others shows what stood below
-  pub raised_drop : cell_in (map (raised rows) (drop i cells)) ≡ (λ r c. cell_in cells (r + rows) c)
+  pub raised_drop : cell_in (map (higher_cell rows) (drop i cells)) ≡ (λ r c. cell_in cells (r + rows) c)
   raised_drop = fun_ext (λ r. fun_ext (λ c.
-      cell_in-raised rows (drop i cells) r c low_enough
+      cell_in-higher_cell rows (drop i cells) r c low_enough
       ∙ sym (cell_in-behind (take i cells) (drop i cells) (r + rows) c (dropped_none r c))
       ∙ ap (λ l. cell_in l (r + rows) c) (take-append-drop i cells)))
 
   -- their order and their places
-  raised_order : IsInOrder cells → IsInOrder (map (raised rows) (drop i cells))
+  raised_order : IsInOrder cells → IsInOrder (map (higher_cell rows) (drop i cells))
   raised_order ordered a b d before within =
-      let size : length (map (raised rows) (drop i cells)) ≡ length (drop i cells) = length-map (drop i cells) (raised rows) in
+      let size : length (map (higher_cell rows) (drop i cells)) ≡ length (drop i cells) = length-map (drop i cells) (higher_cell rows) in
       let less : length (drop i cells) ≡ length cells - i = length-drop i cells in
-      let first : get_or (map (raised rows) (drop i cells)) a d ≡ raised rows (get_or (drop i cells) a d) = get_or-map (raised rows) (drop i cells) a d d (omega arith) in
-      let second : get_or (map (raised rows) (drop i cells)) b d ≡ raised rows (get_or (drop i cells) b d) = get_or-map (raised rows) (drop i cells) b d d (omega arith) in
+      let first : get_or (map (higher_cell rows) (drop i cells)) a d ≡ higher_cell rows (get_or (drop i cells) a d) = get_or-map (higher_cell rows) (drop i cells) a d d (omega arith) in
+      let second : get_or (map (higher_cell rows) (drop i cells)) b d ≡ higher_cell rows (get_or (drop i cells) b d) = get_or-map (higher_cell rows) (drop i cells) b d d (omega arith) in
       let was : IsBefore (get_or (drop i cells) a d).row (get_or (drop i cells) a d).col (get_or (drop i cells) b d).row (get_or (drop i cells) b d).col =
       rw (get_or-drop i cells a d, get_or-drop i cells b d) (ordered (i + a) (i + b) d (omega arith) (omega arith)) in
       let low = low_enough a d (omega arith) in
@@ -74,8 +74,8 @@ module _ (cells : List Cell) (rows i : ℕ) (parted : IsPartedAt cells rows i) w
       rw (first, second) (record { rows = omega (arith, was.rows); columns = λ same. was.columns (omega (arith, same, low, low', was.rows)) })
 
   raised_behind : (width first : ℕ) → All (λ x. first ≤ x.row * width + x.col) cells
-      → All (λ x. first - rows * width ≤ x.row * width + x.col) (map (raised rows) (drop i cells))
-  raised_behind width first behind = All-map (λ x. first - rows * width ≤ x.row * width + x.col) (raised rows) (drop i cells) (λ k d below.
+      → All (λ x. first - rows * width ≤ x.row * width + x.col) (map (higher_cell rows) (drop i cells))
+  raised_behind width first behind = All-map (λ x. first - rows * width ≤ x.row * width + x.col) (higher_cell rows) (drop i cells) (λ k d below.
       let low : rows ≤ (get_or (drop i cells) k d).row = low_enough k d below in
       let from : first ≤ (get_or (drop i cells) k d).row * width + (get_or (drop i cells) k d).col = All-drop (λ x. first ≤ x.row * width + x.col) i cells behind k d below in
       let split : (get_or (drop i cells) k d).row ≡ (get_or (drop i cells) k d).row - rows + rows = omega arith in
@@ -83,12 +83,12 @@ module _ (cells : List Cell) (rows i : ℕ) (parted : IsPartedAt cells rows i) w
       ap (λ n. n * width) split ∙ add-mul ((get_or (drop i cells) k d).row - rows) rows width in
       omega (arith, from, product))
 
-  pub sparse_raised : (width first : ℕ) → IsSparse width first cells → IsSparse width (first - rows * width) (map (raised rows) (drop i cells))
+  pub sparse_raised : (width first : ℕ) → IsSparse width first cells → IsSparse width (first - rows * width) (map (higher_cell rows) (drop i cells))
   sparse_raised width first sparse = record {
     ordered = raised_order sparse.ordered;
-    inside = All-map (λ x. x.col < width) (raised rows) (drop i cells) (All-drop (λ x. x.col < width) i cells sparse.inside);
-    visible = All-map (λ x. x.ch ≢ blank) (raised rows) (drop i cells) (All-drop (λ x. x.ch ≢ blank) i cells sparse.visible);
-    ascii = All-map (λ x. x.ch < 128) (raised rows) (drop i cells) (All-drop (λ x. x.ch < 128) i cells sparse.ascii);
+    inside = All-map (λ x. x.col < width) (higher_cell rows) (drop i cells) (All-drop (λ x. x.col < width) i cells sparse.inside);
+    visible = All-map (λ x. x.ch ≢ blank) (higher_cell rows) (drop i cells) (All-drop (λ x. x.ch ≢ blank) i cells sparse.visible);
+    ascii = All-map (λ x. x.ch < 128) (higher_cell rows) (drop i cells) (All-drop (λ x. x.ch < 128) i cells sparse.ascii);
     behind = raised_behind width first sparse.behind;
   }
 

@@ -5,7 +5,7 @@ use Rattle.std.specs.Prelude.{chars}
 use Rattle.tw_surface.specs.ChangeView.{ChangeView, Batch}
 use Rattle.tw_surface.specs.ChangeView.{Attribute, AllAttributes, Text, ClearScreen, ClearToEndOfScreen, CursorPosition}
 use Rattle.tw_surface.specs.Characters.{cr, lf, is_plain}
-use Rattle.tw_surface.specs.Pictures.{Picture, blank, no_cells, written, cleared, put, play_char, play_text, play, play_all}
+use Rattle.tw_surface.specs.Pictures.{Picture, blank, no_cells, cells_with, cells_cleared_from, picture_with, play_char, play_text, play, play_all}
 use Rattle.tw_surface.specs.PaintingBatches.{play_batches}
 use Rattle.tw_surface.specs.Scrolling.{scroll, play_text_on, play_on, play_all_on, play_batches_on}
 use Rattle.tw_surface.specs.Cutting.{cut_to}
@@ -46,33 +46,33 @@ module _ (f : ℕ → ℕ) (keeps : Keeps f) where
   by_blank true old = sym keeps.blanks
   by_blank false old = refl
 
-  renamed-written : (cell : ℕ → ℕ → ℕ) (r c ch : ℕ) → written (λ i j. f (cell i j)) r c (f ch) ≡ (λ i j. f (written cell r c ch i j))
-  renamed-written cell r c ch = fun_ext (λ i. fun_ext (λ j. by_choice (eqb i r && eqb j c) ch (cell i j)))
+  renamed-cells_with : (cell : ℕ → ℕ → ℕ) (r c ch : ℕ) → cells_with (λ i j. f (cell i j)) r c (f ch) ≡ (λ i j. f (cells_with cell r c ch i j))
+  renamed-cells_with cell r c ch = fun_ext (λ i. fun_ext (λ j. by_choice (eqb i r && eqb j c) ch (cell i j)))
 
-  renamed-cleared : (cell : ℕ → ℕ → ℕ) (r c : ℕ) → cleared (λ i j. f (cell i j)) r c ≡ (λ i j. f (cleared cell r c i j))
-  renamed-cleared cell r c = fun_ext (λ i. fun_ext (λ j. by_blank (ltb r i || (eqb r i && leb c j)) (cell i j)))
+  renamed-cells_cleared_from : (cell : ℕ → ℕ → ℕ) (r c : ℕ) → cells_cleared_from (λ i j. f (cell i j)) r c ≡ (λ i j. f (cells_cleared_from cell r c i j))
+  renamed-cells_cleared_from cell r c = fun_ext (λ i. fun_ext (λ j. by_blank (ltb r i || (eqb r i && leb c j)) (cell i j)))
 
   no_cells-renamed : no_cells ≡ (λ i j. f (no_cells i j))
   no_cells-renamed = fun_ext (λ i. fun_ext (λ j. sym keeps.blanks))
 
-  renamed-put : (w ch : ℕ) (s : Picture) → put w (f ch) (renamed f s) ≡ renamed f (put w ch s)
-  renamed-put w ch s = by_wrap (eqb s.col w)
+  renamed-picture_with : (w ch : ℕ) (s : Picture) → picture_with w (f ch) (renamed f s) ≡ renamed f (picture_with w ch s)
+  renamed-picture_with w ch s = by_wrap (eqb s.col w)
     where
       by_wrap : (e : Bool)
-          → (if e then record { cell = written (λ i j. f (s.cell i j)) (s.row + 1) 0 (f ch); row = s.row + 1; col = 1 } else record { cell = written (λ i j. f (s.cell i j)) s.row s.col (f ch); row = s.row; col = s.col + 1 })
-          ≡ renamed f (if e then record { cell = written s.cell (s.row + 1) 0 ch; row = s.row + 1; col = 1 } else record { cell = written s.cell s.row s.col ch; row = s.row; col = s.col + 1 })
-      by_wrap true = ap (λ cell. record { cell = cell; row = s.row + 1; col = 1 }) (renamed-written s.cell (s.row + 1) 0 ch)
-      by_wrap false = ap (λ cell. record { cell = cell; row = s.row; col = s.col + 1 }) (renamed-written s.cell s.row s.col ch)
+          → (if e then record { cell = cells_with (λ i j. f (s.cell i j)) (s.row + 1) 0 (f ch); row = s.row + 1; col = 1 } else record { cell = cells_with (λ i j. f (s.cell i j)) s.row s.col (f ch); row = s.row; col = s.col + 1 })
+          ≡ renamed f (if e then record { cell = cells_with s.cell (s.row + 1) 0 ch; row = s.row + 1; col = 1 } else record { cell = cells_with s.cell s.row s.col ch; row = s.row; col = s.col + 1 })
+      by_wrap true = ap (λ cell. record { cell = cell; row = s.row + 1; col = 1 }) (renamed-cells_with s.cell (s.row + 1) 0 ch)
+      by_wrap false = ap (λ cell. record { cell = cell; row = s.row; col = s.col + 1 }) (renamed-cells_with s.cell s.row s.col ch)
 
   renamed-char : (w ch : ℕ) (s : Picture) → play_char w (f ch) (renamed f s) ≡ renamed f (play_char w ch s)
   renamed-char w ch s = rw (keeps.returns ch, keeps.feeds ch) (by_kind (eqb ch cr) (eqb ch lf))
     where
       by_kind : (e d : Bool)
-          → (if e then record (renamed f s) { col = 0 } else if d then record (renamed f s) { row = s.row + 1 } else put w (f ch) (renamed f s))
-          ≡ renamed f (if e then record s { col = 0 } else if d then record s { row = s.row + 1 } else put w ch s)
+          → (if e then record (renamed f s) { col = 0 } else if d then record (renamed f s) { row = s.row + 1 } else picture_with w (f ch) (renamed f s))
+          ≡ renamed f (if e then record s { col = 0 } else if d then record s { row = s.row + 1 } else picture_with w ch s)
       by_kind true d = refl
       by_kind false true = refl
-      by_kind false false = renamed-put w ch s
+      by_kind false false = renamed-picture_with w ch s
 
   renamed-text : (w : ℕ) (text : List ℕ) (s : Picture) → play_text w (map f text) (renamed f s) ≡ renamed f (play_text w text s)
   renamed-text w [] s = refl
@@ -81,8 +81,8 @@ module _ (f : ℕ → ℕ) (keeps : Keeps f) where
   renamed-cursor : (row col : ℕ) → record { cell = no_cells; row = row; col = col } ≡ renamed f (record { cell = no_cells; row = row; col = col })
   renamed-cursor row col = ap (λ cell. record { cell = cell; row = row; col = col }) no_cells-renamed
 
-  renamed-clear : (s : Picture) → record (renamed f s) { cell = cleared (renamed f s).cell s.row s.col } ≡ renamed f (record s { cell = cleared s.cell s.row s.col })
-  renamed-clear s = ap (λ cell. record { cell = cell; row = s.row; col = s.col }) (renamed-cleared s.cell s.row s.col)
+  renamed-clear : (s : Picture) → record (renamed f s) { cell = cells_cleared_from (renamed f s).cell s.row s.col } ≡ renamed f (record s { cell = cells_cleared_from s.cell s.row s.col })
+  renamed-clear s = ap (λ cell. record { cell = cell; row = s.row; col = s.col }) (renamed-cells_cleared_from s.cell s.row s.col)
 
   pub renamed-play_all : (w : ℕ) (changes : Batch) (s : Picture) → play_all w (named_all f changes) (renamed f s) ≡ renamed f (play_all w (spelled_all changes) s)
   renamed-play_all w [] s = refl

@@ -9,9 +9,9 @@ use Rattle.std.proofs.lemmas.List.Sums.{sum_by-append}
 use Rattle.std.proofs.lemmas.Nat.{same_from_place, mod_below, div-add-mod'}
 use Rattle.tw_surface.specs.declared.screen.far.Cell.{Cell}
 use Rattle.tw_surface.specs.Characters.{is_printable, is_plain, lf}
-use Rattle.tw_surface.specs.Pictures.{Picture, blank, cursor_at, written, play_char, play_text}
+use Rattle.tw_surface.specs.Pictures.{Picture, blank, cursor_at, cells_with, play_char, play_text}
 use Rattle.tw_surface.specs.Cells.{cell_in, shown_at, picture_of, reach_of, IsOverwritten}
-use Rattle.tw_surface.proofs.LineOfCells.{Stands, next_row, over, put-col}
+use Rattle.tw_surface.proofs.LineOfCells.{Stands, next_row, over, picture_with-col}
 use Rattle.tw_surface.proofs.TypedText.{play-typed, typed-col, printable_play}
 use Rattle.tw_surface.proofs.NearCells.{written_near, written_far}
 
@@ -119,13 +119,13 @@ pub far_place : (w row col ch next_row next_col : ℕ) → 0 < w → col ≤ w �
     → (next_col - 1 < w) × (next_row * w + (next_col - 1) ≡ row * w + col)
 far_place w row col ch next_row next_col positive most printable row_is col_is =
     let at = char_place w ch (cursor_at row col) positive most printable in
-    let behind : 0 < (play_char w ch (cursor_at row col)).col = rw (printable_play w ch (cursor_at row col) printable) (put-col w ch (cursor_at row col)) in
+    let behind : 0 < (play_char w ch (cursor_at row col)).col = rw (printable_play w ch (cursor_at row col) printable) (picture_with-col w ch (cursor_at row col)) in
     let rows = ap (λ r. r * w) row_is in
     (omega (arith, at.1), omega (arith, at.0, rows))
 
 pub far_played : (w : ℕ) (near : List ℕ) (far new : List Cell) (row col ch new_row new_col : ℕ) → 0 < w → col ≤ w → is_printable ch ≡ true → length near ≤ row * w + col
     → new_row ≡ (play_char w ch (cursor_at row col)).row → new_col ≡ (play_char w ch (cursor_at row col)).col
-    → cell_in new ≡ written (cell_in far) new_row (new_col - 1) ch
+    → cell_in new ≡ cells_with (cell_in far) new_row (new_col - 1) ch
     → picture_of w near new new_row new_col ≡ play_char w ch (picture_of w near far row col)
 far_played w near far new row col ch new_row new_col positive most printable past row_is col_is is =
     elim (cases_eq col w) [

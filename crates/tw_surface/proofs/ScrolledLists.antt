@@ -11,7 +11,7 @@ use Rattle.tw_surface.specs.Pictures.{Picture, play, play_all}
 use Rattle.tw_surface.specs.Scenes.{Scene, IsPlain}
 use Rattle.tw_surface.specs.Paintings.{painting, cursor_place, mark_of, start_move, closing}
 use Rattle.tw_surface.specs.Fresh.{IsFresh, IsClosed, last_row, cursor_row}
-use Rattle.tw_surface.specs.PaintingBatches.{SizedScene, IsPlainAt, shot_of, scenes_of, batches, closing_batch, last_of, clear_batch, clearing, start_of, batches_after, shots, shows, closing_of, whole}
+use Rattle.tw_surface.specs.PaintingBatches.{SizedScene, IsPlainAt, shot_of, scenes_of, batches, closing_batch, last_of, clear_batch, clearing, start_of, batches_after, shots, shown_batches, closing_of, run_batches}
 use Rattle.tw_surface.specs.Scrolling.{scroll, play_all_on, play_batches_on, IsLow, raised_row, top_row, IsMovedUp, IsClosedOn}
 use Rattle.tw_surface.proofs.PaintedScenes.{cursor_place-row, none_above}
 use Rattle.tw_surface.proofs.PaintingHeights.{closed_painting}
@@ -116,7 +116,7 @@ painted_more h w s scene (next ∷ more) t two inside plain others fresh =
     (joined_paintings w s s1 (top_row h w s1 more) next (last_of next more) t u _ le (top-le h w s1 more) one rest)
 
 painted_list : (h w s : ℕ) (first : Scene) (more : List Scene) (t : Picture) → 2 ≤ w → s < h → t.row ≡ s → t.col ≡ 0 → AreFit h w (first ∷ more)
-    → PaintedOn w s (top_row h w s (first ∷ more)) (last_of first more) t (play_batches_on h w (shows w (first ∷ more)) t)
+    → PaintedOn w s (top_row h w s (first ∷ more)) (last_of first more) t (play_batches_on h w (shown_batches w (first ∷ more)) t)
 painted_list h w s first more t two inside row col fit =
     let s1 : ℕ = raised_row h w (cond first.cleared 0 s) first in
     let le : s1 ≤ s = raised-le h w s first first.cleared in
@@ -128,7 +128,7 @@ painted_list h w s first more t two inside row col fit =
 
 pub scrolled_painting : (h w : ℕ) (first : Scene) (more : List Scene) (t : Picture) → 2 ≤ w → t.row < h → t.col ≡ 0 → All IsPlain (first ∷ more) → All (IsLow h w) (first ∷ more)
     → let s = top_row h w t.row (first ∷ more) in
-    let after = play_batches_on h w (shows w (first ∷ more)) t in
+    let after = play_batches_on h w (shown_batches w (first ∷ more)) t in
     IsFresh w s (last_of first more) after × IsMovedUp w s (t.row - s) t after
 scrolled_painting h w first more t two inside col plain low =
     let q = painted_list h w t.row first more t two inside refl col (are_fit h w (first ∷ more) plain low) in (q.fresh, q.above)
@@ -158,7 +158,7 @@ last_fits h w scene (next ∷ more) a = last_fits h w next more a.1
 
 pub scrolled_closing : (h w : ℕ) (first : Scene) (more : List Scene) (t : Picture) → 2 ≤ w → t.row < h → t.col ≡ 0 → All IsPlain (first ∷ more) → All (IsLow h w) (first ∷ more)
     → let last = last_row w (top_row h w t.row (first ∷ more)) (last_of first more) in
-    let after = play_batches_on h w (shows w (first ∷ more)) t in
+    let after = play_batches_on h w (shown_batches w (first ∷ more)) t in
     IsClosedOn h w last after (play_batches_on h w (closing_of w (first ∷ more)) after)
 scrolled_closing h w first more t two inside col plain low =
     let fit = are_fit h w (first ∷ more) plain low in
@@ -169,17 +169,17 @@ scrolled_closing h w first more t two inside col plain low =
 pub scrolled_stacking : (h w : ℕ) (first : Scene) (more : List Scene) (second : Scene) (others : List Scene) (t : Picture)
     → 2 ≤ w → t.row < h → t.col ≡ 0 → All IsPlain (first ∷ more) → All (IsLow h w) (first ∷ more)
     → All IsPlain (second ∷ others) → All (IsLow h w) (second ∷ others)
-    → let shown = play_batches_on h w (shows w (first ∷ more)) t in
+    → let shown = play_batches_on h w (shown_batches w (first ∷ more)) t in
     let under = last_row w (top_row h w t.row (first ∷ more)) (last_of first more) + 1 in
-    let entered = play_batches_on h w (whole w (first ∷ more)) t in
+    let entered = play_batches_on h w (run_batches w (first ∷ more)) t in
     let s = top_row h w entered.row (second ∷ others) in
-    let after = play_batches_on h w (shows w (second ∷ others)) entered in
+    let after = play_batches_on h w (shown_batches w (second ∷ others)) entered in
     IsFresh w s (last_of second others) after × IsMovedUp w s (under - s) shown after
 scrolled_stacking h w first more second others t two inside col plain low plain' low' =
-    let shown : Picture = play_batches_on h w (shows w (first ∷ more)) t in
-    let entered : Picture = play_batches_on h w (whole w (first ∷ more)) t in
+    let shown : Picture = play_batches_on h w (shown_batches w (first ∷ more)) t in
+    let entered : Picture = play_batches_on h w (run_batches w (first ∷ more)) t in
     let last : ℕ = last_row w (top_row h w t.row (first ∷ more)) (last_of first more) in
-    let e : entered ≡ play_batches_on h w (closing_of w (first ∷ more)) shown = play_batches_on-append h w (shows w (first ∷ more)) (closing_of w (first ∷ more)) t in
+    let e : entered ≡ play_batches_on h w (closing_of w (first ∷ more)) shown = play_batches_on-append h w (shown_batches w (first ∷ more)) (closing_of w (first ∷ more)) t in
     let c : IsClosedOn h w last shown entered = rw e (scrolled_closing h w first more t two inside col plain low) in
     let q = scrolled_painting h w second others entered two (omega (arith, c.row)) c.col plain' low' in
     let s : ℕ = top_row h w entered.row (second ∷ others) in
@@ -195,7 +195,7 @@ fit_scenes h w [] a b = tt
 fit_scenes h w (x ∷ xs) a b = ((a.0.1, b 0 x.scene (omega arith)), fit_scenes h w xs a.1 (λ k d q. b (suc k) d (omega arith)))
 
 last_painted : (h w s : ℕ) (scenes : List Scene) (last : Scene) (t : Picture) → 2 ≤ w → s < h → t.row ≡ s → t.col ≡ 0 → AreFit h w (scenes ++ last ∷ [])
-    → PaintedOn w s (top_row h w s (scenes ++ last ∷ [])) last t (play_batches_on h w (shows w (scenes ++ last ∷ [])) t)
+    → PaintedOn w s (top_row h w s (scenes ++ last ∷ [])) last t (play_batches_on h w (shown_batches w (scenes ++ last ∷ [])) t)
 last_painted h w s [] last t two inside row col fit = painted_list h w s last [] t two inside row col fit
 last_painted h w s (first ∷ more) last t two inside row col fit =
     rw (last_of-push first more last) at (painted_list h w s first (more ++ last ∷ []) t two inside row col fit)

@@ -9,10 +9,10 @@ use Rattle.tw_surface.specs.ChangeView.{Batch}
 use Rattle.tw_surface.specs.ChangeView.{AllAttributes, Text}
 use Rattle.tw_surface.specs.Defaults.{default_attributes}
 use Rattle.tw_surface.specs.Positions.{at_least_0}
-use Rattle.tw_surface.specs.Pictures.{Picture, blank, cleared, play, play_all}
+use Rattle.tw_surface.specs.Pictures.{Picture, blank, cells_cleared_from, play, play_all}
 use Rattle.tw_surface.specs.Places.{Place, place_after_all, origin, move_between}
 use Rattle.tw_surface.specs.Lines.{rows_of}
-use Rattle.tw_surface.specs.Scenes.{is_text, typed, Scene, IsPlain, lower_lines}
+use Rattle.tw_surface.specs.Scenes.{is_text, typed_text, Scene, IsPlain, lower_lines}
 use Rattle.tw_surface.specs.Paintings.{lower_changes, before_line, edge_space, shown_part, cursor_place, painting}
 use Rattle.tw_surface.specs.Fresh.{IsFresh, IsIn, IsInLines, AreShown, text_of, line_row, last_row, cursor_row}
 use Rattle.tw_surface.specs.Scrolling.{play_on, play_all_on, IsLow, raised_row, IsMovedUp}
@@ -87,10 +87,10 @@ texts_behind w scene plain =
 sees-shown : (h w : ℕ) (scene : Scene) (before : Picture) → before.row < h → IsPlain scene
     → Sees (seen_from h 0 (play_all w (shown_part w scene) before).row) (play_all_on h w (shown_part w scene) before) (play_all w (shown_part w scene) before)
 sees-shown h w scene before low plain =
-    let clear : Picture = record before { cell = cleared before.cell before.row before.col } in
+    let clear : Picture = record before { cell = cells_cleared_from before.cell before.row before.col } in
     let all : Batch = behind_clearing w scene in
     let texts = texts_behind w scene plain in
-    rw (changes-text w all clear texts, changes-text_on h w all clear texts) (sees-text h w (typed all) 0 clear clear low (sees-same clear))
+    rw (changes-text w all clear texts, changes-text_on h w all clear texts) (sees-text h w (typed_text all) 0 clear clear low (sees-same clear))
 
 -- ---- the painting
 

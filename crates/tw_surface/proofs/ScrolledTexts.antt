@@ -7,9 +7,9 @@ use Rattle.tw_surface.specs.declared.change.Position.{Position}
 use Rattle.tw_surface.specs.Characters.{cr, lf}
 use Rattle.tw_surface.specs.ChangeView.{ChangeView, Batch}
 use Rattle.tw_surface.specs.ChangeView.{Attribute, AllAttributes, Text, ClearScreen, ClearToEndOfScreen, CursorPosition}
-use Rattle.tw_surface.specs.Positions.{moved, at_least_0}
-use Rattle.tw_surface.specs.Pictures.{Picture, blank, written, cleared, put, play_char, play_text, play}
-use Rattle.tw_surface.specs.Scenes.{is_text, typed}
+use Rattle.tw_surface.specs.Positions.{position_after, at_least_0}
+use Rattle.tw_surface.specs.Pictures.{Picture, blank, cells_with, cells_cleared_from, picture_with, play_char, play_text, play}
+use Rattle.tw_surface.specs.Scenes.{is_text, typed_text}
 use Rattle.tw_surface.specs.Scrolling.{IsWithin, scroll, play_text_on, play_on, play_all_on, play_batches_on}
 use Rattle.tw_surface.proofs.TextCursor.{text-row}
 
@@ -30,35 +30,35 @@ shift-eqb i r t = elim (cases_eq i r) [
   | inr n ↦ rw (ne_eqb i r n, ne_eqb (i + t) (r + t) (λ e. n (omega (arith, e)))) refl
 ]
 
-sees-written : (t ch r c : ℕ) (f g : ℕ → ℕ → ℕ) → ((i j : ℕ) → f i j ≡ g (i + t) j) → (i j : ℕ) → written f r c ch i j ≡ written g (r + t) c ch (i + t) j
-sees-written t ch r c f g h i j =
+sees-cells_with : (t ch r c : ℕ) (f g : ℕ → ℕ → ℕ) → ((i j : ℕ) → f i j ≡ g (i + t) j) → (i j : ℕ) → cells_with f r c ch i j ≡ cells_with g (r + t) c ch (i + t) j
+sees-cells_with t ch r c f g h i j =
     ap (λ e. if e && eqb j c then ch else f i j) (shift-eqb i r t) ∙ ap (λ x. if eqb (i + t) (r + t) && eqb j c then ch else x) (h i j)
 
-sees-put : (w t ch : ℕ) (b u : Picture) → Sees t b u → Sees t (put w ch b) (put w ch u)
-sees-put w t ch b u s =
-    subst (λ x. Sees t (put w ch b) x) (sym (ap (λ c. if eqb c w then record { cell = written u.cell (u.row + 1) 0 ch; row = u.row + 1; col = 1 } else record { cell = written u.cell u.row u.col ch; row = u.row; col = u.col + 1 }) s.col)) (by_wrap (eqb b.col w))
+sees-picture_with : (w t ch : ℕ) (b u : Picture) → Sees t b u → Sees t (picture_with w ch b) (picture_with w ch u)
+sees-picture_with w t ch b u s =
+    subst (λ x. Sees t (picture_with w ch b) x) (sym (ap (λ c. if eqb c w then record { cell = cells_with u.cell (u.row + 1) 0 ch; row = u.row + 1; col = 1 } else record { cell = cells_with u.cell u.row u.col ch; row = u.row; col = u.col + 1 }) s.col)) (by_wrap (eqb b.col w))
   where
-    by_wrap : (e : Bool) → Sees t (if e then record { cell = written b.cell (b.row + 1) 0 ch; row = b.row + 1; col = 1 } else record { cell = written b.cell b.row b.col ch; row = b.row; col = b.col + 1 })
-        (if e then record { cell = written u.cell (u.row + 1) 0 ch; row = u.row + 1; col = 1 } else record { cell = written u.cell u.row u.col ch; row = u.row; col = u.col + 1 })
+    by_wrap : (e : Bool) → Sees t (if e then record { cell = cells_with b.cell (b.row + 1) 0 ch; row = b.row + 1; col = 1 } else record { cell = cells_with b.cell b.row b.col ch; row = b.row; col = b.col + 1 })
+        (if e then record { cell = cells_with u.cell (u.row + 1) 0 ch; row = u.row + 1; col = 1 } else record { cell = cells_with u.cell u.row u.col ch; row = u.row; col = u.col + 1 })
     by_wrap true = record {
       row = omega (arith, s.row);
       col = refl;
-      cell = λ i j. sees-written t ch (b.row + 1) 0 b.cell u.cell s.cell i j ∙ ap (λ r. written u.cell r 0 ch (i + t) j) (omega (arith, s.row));
+      cell = λ i j. sees-cells_with t ch (b.row + 1) 0 b.cell u.cell s.cell i j ∙ ap (λ r. cells_with u.cell r 0 ch (i + t) j) (omega (arith, s.row));
     }
     by_wrap false = record {
       row = s.row;
       col = omega (arith, s.col);
-      cell = λ i j. sees-written t ch b.row b.col b.cell u.cell s.cell i j ∙ ap (λ r. written u.cell r b.col ch (i + t) j) (sym s.row) ∙ ap (λ c. written u.cell u.row c ch (i + t) j) (sym s.col);
+      cell = λ i j. sees-cells_with t ch b.row b.col b.cell u.cell s.cell i j ∙ ap (λ r. cells_with u.cell r b.col ch (i + t) j) (sym s.row) ∙ ap (λ c. cells_with u.cell u.row c ch (i + t) j) (sym s.col);
     }
 
 pub sees-char : (w t ch : ℕ) (b u : Picture) → Sees t b u → Sees t (play_char w ch b) (play_char w ch u)
 sees-char w t ch b u s = by_cr (eqb ch cr)
   where
-    by_lf : (e : Bool) → Sees t (if e then record b { row = b.row + 1 } else put w ch b) (if e then record u { row = u.row + 1 } else put w ch u)
+    by_lf : (e : Bool) → Sees t (if e then record b { row = b.row + 1 } else picture_with w ch b) (if e then record u { row = u.row + 1 } else picture_with w ch u)
     by_lf true = record { row = omega (arith, s.row); col = s.col; cell = s.cell }
-    by_lf false = sees-put w t ch b u s
+    by_lf false = sees-picture_with w t ch b u s
 
-    by_cr : (e : Bool) → Sees t (if e then record b { col = 0 } else if eqb ch lf then record b { row = b.row + 1 } else put w ch b) (if e then record u { col = 0 } else if eqb ch lf then record u { row = u.row + 1 } else put w ch u)
+    by_cr : (e : Bool) → Sees t (if e then record b { col = 0 } else if eqb ch lf then record b { row = b.row + 1 } else picture_with w ch b) (if e then record u { col = 0 } else if eqb ch lf then record u { row = u.row + 1 } else picture_with w ch u)
     by_cr true = record { row = s.row; col = refl; cell = s.cell }
     by_cr false = by_lf (eqb ch lf)
 
@@ -70,18 +70,18 @@ shift-ltb i r t = elim (cases_lt i r) [
   | inr n ↦ rw (le-ltb i r n, le-ltb (i + t) (r + t) (omega (arith, n))) refl
 ]
 
-sees-cleared : (t r c : ℕ) (f g : ℕ → ℕ → ℕ) → ((i j : ℕ) → f i j ≡ g (i + t) j) → (i j : ℕ) → cleared f r c i j ≡ cleared g (r + t) c (i + t) j
-sees-cleared t r c f g h i j =
+sees-cells_cleared_from : (t r c : ℕ) (f g : ℕ → ℕ → ℕ) → ((i j : ℕ) → f i j ≡ g (i + t) j) → (i j : ℕ) → cells_cleared_from f r c i j ≡ cells_cleared_from g (r + t) c (i + t) j
+sees-cells_cleared_from t r c f g h i j =
     ap (λ e. if e || (eqb r i && leb c j) then blank else f i j) (shift-ltb r i t)
     ∙ ap (λ e. if ltb (r + t) (i + t) || (e && leb c j) then blank else f i j) (shift-eqb r i t)
     ∙ ap (λ x. if ltb (r + t) (i + t) || (eqb (r + t) (i + t) && leb c j) then blank else x) (h i j)
 
 -- a clearing to the end
-pub sees-clear : (t : ℕ) (b u : Picture) → Sees t b u → Sees t (record b { cell = cleared b.cell b.row b.col }) (record u { cell = cleared u.cell u.row u.col })
+pub sees-clear : (t : ℕ) (b u : Picture) → Sees t b u → Sees t (record b { cell = cells_cleared_from b.cell b.row b.col }) (record u { cell = cells_cleared_from u.cell u.row u.col })
 sees-clear t b u s = record {
   row = s.row;
   col = s.col;
-  cell = λ i j. sees-cleared t b.row b.col b.cell u.cell s.cell i j ∙ ap (λ r. cleared u.cell r b.col (i + t) j) (sym s.row) ∙ ap (λ c. cleared u.cell u.row c (i + t) j) (sym s.col);
+  cell = λ i j. sees-cells_cleared_from t b.row b.col b.cell u.cell s.cell i j ∙ ap (λ r. cells_cleared_from u.cell r b.col (i + t) j) (sym s.row) ∙ ap (λ c. cells_cleared_from u.cell u.row c (i + t) j) (sym s.col);
 }
 
 pub sees-scrolled : (h t : ℕ) (b u : Picture) → 0 < h → Sees t b u → Sees (t + (b.row + 1 - h)) (scroll h b) u
@@ -112,11 +112,11 @@ sees-text h w (ch ∷ text) t b u low s =
     (seen-step h t c.row v.row (play_text w text v).row (omega arith) one.row (text-row w text v)) rest
 
 -- attributes and texts play as one text
-pub changes-text_on : (h w : ℕ) (changes : Batch) (s : Picture) → list_all is_text changes ≡ true → play_all_on h w changes s ≡ play_text_on h w (typed changes) s
+pub changes-text_on : (h w : ℕ) (changes : Batch) (s : Picture) → list_all is_text changes ≡ true → play_all_on h w changes s ≡ play_text_on h w (typed_text changes) s
 changes-text_on h w [] s a = refl
 changes-text_on h w (Attribute x ∷ changes) s a = changes-text_on h w changes s a
 changes-text_on h w (AllAttributes x ∷ changes) s a = changes-text_on h w changes s a
-changes-text_on h w (Text t ∷ changes) s a = changes-text_on h w changes (play_text_on h w t s) a ∙ sym (text_on-append t (typed changes) s)
+changes-text_on h w (Text t ∷ changes) s a = changes-text_on h w changes (play_text_on h w t s) a ∙ sym (text_on-append t (typed_text changes) s)
   where
     text_on-append : (a b : List ℕ) (s : Picture) → play_text_on h w (a ++ b) s ≡ play_text_on h w b (play_text_on h w a s)
     text_on-append [] b s = refl
@@ -128,12 +128,12 @@ changes-text_on h w (CursorPosition x y ∷ changes) s a = absurd (false≢true 
 -- a relative move that does not lead above the first row that is seen
 pub sees-move : (h w t : ℕ) (x : Position) (by : ℤ) (b u : Picture) → 0 < h → Sees t b u → pos 0 ≤ℤ (pos b.row +ℤ by)
     → Sees (t + (at_least_0 (pos b.row +ℤ by) + 1 - h))
-    (scroll h (record b { row = at_least_0 (pos b.row +ℤ by); col = min (w - 1) (at_least_0 (moved x (pos b.col))) }))
-    (record u { row = at_least_0 (pos u.row +ℤ by); col = min (w - 1) (at_least_0 (moved x (pos u.col))) })
+    (scroll h (record b { row = at_least_0 (pos b.row +ℤ by); col = min (w - 1) (at_least_0 (position_after x (pos b.col))) }))
+    (record u { row = at_least_0 (pos u.row +ℤ by); col = min (w - 1) (at_least_0 (position_after x (pos u.col))) })
 sees-move h w t x by b u some s up =
     sees-scrolled h t _ _ some (record {
       row = row_at (pos b.row +ℤ by) (pos u.row +ℤ by) up (omega (arith, ints, s.row));
-      col = ap (λ c. min (w - 1) (at_least_0 (moved x (pos c)))) s.col;
+      col = ap (λ c. min (w - 1) (at_least_0 (position_after x (pos c)))) s.col;
       cell = s.cell;
     })
   where
@@ -150,25 +150,25 @@ within-scrolled h s some free = record {
   below = λ r c k. free (r + (s.row + 1 - h)) c (omega arith, omega arith);
 }
 
-within-written : (h r c ch : ℕ) (f : ℕ → ℕ → ℕ) → ((i j : ℕ) → h ≤ i → f i j ≡ blank) → (i j : ℕ) → (h ≤ i) × (r < i) → written f r c ch i j ≡ blank
-within-written h r c ch f below i j k = rw (ne_eqb i r (λ e. omega (arith, e, k.1))) (below i j k.0)
+within-cells_with : (h r c ch : ℕ) (f : ℕ → ℕ → ℕ) → ((i j : ℕ) → h ≤ i → f i j ≡ blank) → (i j : ℕ) → (h ≤ i) × (r < i) → cells_with f r c ch i j ≡ blank
+within-cells_with h r c ch f below i j k = rw (ne_eqb i r (λ e. omega (arith, e, k.1))) (below i j k.0)
 
-within-put : (h w ch : ℕ) (s : Picture) → IsWithin h s → (r c : ℕ) → (h ≤ r) × ((put w ch s).row < r) → (put w ch s).cell r c ≡ blank
-within-put h w ch s k = by_wrap (eqb s.col w)
+within-picture_with : (h w ch : ℕ) (s : Picture) → IsWithin h s → (r c : ℕ) → (h ≤ r) × ((picture_with w ch s).row < r) → (picture_with w ch s).cell r c ≡ blank
+within-picture_with h w ch s k = by_wrap (eqb s.col w)
   where
-    by_wrap : (e : Bool) → let p : Picture = if e then record { cell = written s.cell (s.row + 1) 0 ch; row = s.row + 1; col = 1 } else record { cell = written s.cell s.row s.col ch; row = s.row; col = s.col + 1 } in
+    by_wrap : (e : Bool) → let p : Picture = if e then record { cell = cells_with s.cell (s.row + 1) 0 ch; row = s.row + 1; col = 1 } else record { cell = cells_with s.cell s.row s.col ch; row = s.row; col = s.col + 1 } in
         (r c : ℕ) → (h ≤ r) × (p.row < r) → p.cell r c ≡ blank
-    by_wrap true = within-written h (s.row + 1) 0 ch s.cell k.below
-    by_wrap false = within-written h s.row s.col ch s.cell k.below
+    by_wrap true = within-cells_with h (s.row + 1) 0 ch s.cell k.below
+    by_wrap false = within-cells_with h s.row s.col ch s.cell k.below
 
 within-char : (h w ch : ℕ) (s : Picture) → IsWithin h s → IsWithin h (scroll h (play_char w ch s))
 within-char h w ch s k = within-scrolled h (play_char w ch s) (omega (arith, k.row)) (by_cr (eqb ch cr))
   where
-    by_lf : (e : Bool) → let p : Picture = if e then record s { row = s.row + 1 } else put w ch s in (r c : ℕ) → (h ≤ r) × (p.row < r) → p.cell r c ≡ blank
+    by_lf : (e : Bool) → let p : Picture = if e then record s { row = s.row + 1 } else picture_with w ch s in (r c : ℕ) → (h ≤ r) × (p.row < r) → p.cell r c ≡ blank
     by_lf true r c q = k.below r c q.0
-    by_lf false r c q = within-put h w ch s k r c q
+    by_lf false r c q = within-picture_with h w ch s k r c q
 
-    by_cr : (e : Bool) → let p : Picture = if e then record s { col = 0 } else if eqb ch lf then record s { row = s.row + 1 } else put w ch s in
+    by_cr : (e : Bool) → let p : Picture = if e then record s { col = 0 } else if eqb ch lf then record s { row = s.row + 1 } else picture_with w ch s in
         (r c : ℕ) → (h ≤ r) × (p.row < r) → p.cell r c ≡ blank
     by_cr true r c q = k.below r c q.0
     by_cr false r c q = by_lf (eqb ch lf) r c q

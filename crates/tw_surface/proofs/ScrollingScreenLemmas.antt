@@ -3,7 +3,7 @@ use Rattle.std.proofs.Common.{◌≡◌, ℕ, ◌+◌, ◌-◌, ◌<◌, refl, s
 use Rattle.std.proofs.Math.Path.{fun_ext}
 use Rattle.tw_surface.specs.ChangeView.{ChangeView}
 use Rattle.tw_surface.specs.ChangeView.{Attribute, AllAttributes, Text, ClearScreen, ClearToEndOfScreen, CursorPosition}
-use Rattle.tw_surface.specs.Pictures.{Picture, cursor_at, cleared, play, play_text}
+use Rattle.tw_surface.specs.Pictures.{Picture, cursor_at, cells_cleared_from, play, play_text}
 use Rattle.tw_surface.specs.Scrolling.{IsWithin, from_row, scroll, play_text_on, play_on}
 use Rattle.tw_surface.specs.ScrollingLaws.{ScrollsBehindChanges}
 use Rattle.tw_surface.proofs.ScrolledTexts.{sees-same, sees-text, within-change}
@@ -26,7 +26,7 @@ scrolls_behind h w (Text text) s low =
     same_picture (play_text_on h w text s) (scroll h (play_text w text s))
     (λ i j. seen.cell i j ∙ ap (λ r. (play_text w text s).cell r j) (omega arith)) (omega (arith, seen.row)) (sym seen.col)
 scrolls_behind h w (ClearScreen color) s low = still h (cursor_at 0 0) (omega arith)
-scrolls_behind h w (ClearToEndOfScreen color) s low = still h (record s { cell = cleared s.cell s.row s.col }) low
+scrolls_behind h w (ClearToEndOfScreen color) s low = still h (record s { cell = cells_cleared_from s.cell s.row s.col }) low
 scrolls_behind h w (CursorPosition x y) s low = refl
 
 -- ---- once a change was played without a bottom, and the rows went up

@@ -7,7 +7,7 @@ use Rattle.tw_surface.specs.ChangeView.{Batch}
 use Rattle.tw_surface.specs.Fresh.{IsFresh, IsSameAbove, IsClosed, last_row}
 use Rattle.tw_surface.specs.Pictures.{Picture}
 use Rattle.tw_surface.specs.Scenes.{Scene}
-use Rattle.tw_surface.specs.PaintingBatches.{Shot, SizedScene, IsPlainAt, shot_of, scenes_of, batches, closing_batch, shows, closing_of, whole, play_batches, last_of, start_row}
+use Rattle.tw_surface.specs.PaintingBatches.{Shot, SizedScene, IsPlainAt, shot_of, scenes_of, batches, closing_batch, shown_batches, closing_of, run_batches, play_batches, last_of, start_row}
 use Rattle.tw_surface.specs.Simple.{IsSimple, IsSimpleAt, spelled_batches, spelled_scene}
 use Rattle.tw_surface.specs.SimpleLaws.{SimplePaintings, SimpleClosing, SimpleStacking, EverySimplePainting, LastSimplePainting}
 use Rattle.tw_surface.proofs.PaintedScenes.{Painted}
@@ -15,7 +15,7 @@ use Rattle.tw_surface.proofs.ShotLemmas.{incremental, closed_run, stacked}
 use Rattle.tw_surface.proofs.SizedScenes.{every_painting, last_painting}
 use Rattle.tw_surface.proofs.RenamedPictures.{renamed, named_batches, renamed-batches}
 use Rattle.tw_surface.proofs.NamedPaintings.{named_scene, plain-scene}
-use Rattle.tw_surface.proofs.NamedLists.{named_station, batches-named, closing-named, shows-named, closing_of-named, whole-named, plain-scenes, last-named, start-named, cleared-named, played-named, scenes_played-named}
+use Rattle.tw_surface.proofs.NamedLists.{named_station, batches-named, closing-named, shown_batches-named, closing_of-named, run_batches-named, plain-scenes, last-named, start-named, cleared-named, played-named, scenes_played-named}
 use Rattle.tw_surface.proofs.MarkedPictures.{mark, mark-keeps, fresh_by, above_by, closed_by, last_row-named}
 
 pub Painted-at : (w s s' : ℕ) (scene scene' : Scene) (before after after' : Picture) → s ≡ s' → scene ≡ scene' → after ≡ after'
@@ -37,19 +37,19 @@ module _ (w e : ℕ) (first : Scene) (more : List Scene) (before : Picture) (two
   start = start_row e (first ∷ more)
 
   abbrev shown : Picture
-  shown = play_batches w (spelled_batches (shows w (first ∷ more))) before
+  shown = play_batches w (spelled_batches (shown_batches w (first ∷ more))) before
 
   abbrev entered : Picture
-  entered = play_batches w (spelled_batches (whole w (first ∷ more))) before
+  entered = play_batches w (spelled_batches (run_batches w (first ∷ more))) before
 
   abbrev marked_scenes : ℕ → List Scene
   marked_scenes ch = map (named_scene (mark ch)) (first ∷ more)
 
-  shown-marked : (ch : ℕ) → play_batches w (shows w (marked_scenes ch)) (renamed (mark ch) before) ≡ renamed (mark ch) shown
-  shown-marked ch = marked_play w ch (shows w (marked_scenes ch)) (shows w (first ∷ more)) before (shows-named (mark ch) (mark-keeps ch) w (first ∷ more) all)
+  shown-marked : (ch : ℕ) → play_batches w (shown_batches w (marked_scenes ch)) (renamed (mark ch) before) ≡ renamed (mark ch) shown
+  shown-marked ch = marked_play w ch (shown_batches w (marked_scenes ch)) (shown_batches w (first ∷ more)) before (shown_batches-named (mark ch) (mark-keeps ch) w (first ∷ more) all)
 
-  pub entered-marked : (ch : ℕ) → play_batches w (whole w (marked_scenes ch)) (renamed (mark ch) before) ≡ renamed (mark ch) entered
-  entered-marked ch = marked_play w ch (whole w (marked_scenes ch)) (whole w (first ∷ more)) before (whole-named (mark ch) (mark-keeps ch) w (first ∷ more) all)
+  pub entered-marked : (ch : ℕ) → play_batches w (run_batches w (marked_scenes ch)) (renamed (mark ch) before) ≡ renamed (mark ch) entered
+  entered-marked ch = marked_play w ch (run_batches w (marked_scenes ch)) (run_batches w (first ∷ more)) before (run_batches-named (mark ch) (mark-keeps ch) w (first ∷ more) all)
 
   painted_marked : (ch : ℕ) → Painted w start (named_scene (mark ch) (last_of first more)) (renamed (mark ch) before) (renamed (mark ch) shown)
   painted_marked ch =
@@ -97,16 +97,16 @@ simple_stacking w e first more second others before two row col all all' none = 
 )
   where
     shown : Picture
-    shown = play_batches w (spelled_batches (shows w (first ∷ more))) before
+    shown = play_batches w (spelled_batches (shown_batches w (first ∷ more))) before
 
     entered : Picture
-    entered = play_batches w (spelled_batches (whole w (first ∷ more))) before
+    entered = play_batches w (spelled_batches (run_batches w (first ∷ more))) before
 
     again : Picture
-    again = play_batches w (spelled_batches (shows w (second ∷ others))) entered
+    again = play_batches w (spelled_batches (shown_batches w (second ∷ others))) entered
 
     closed : Picture
-    closed = play_batches w (spelled_batches (whole w (second ∷ others))) entered
+    closed = play_batches w (spelled_batches (run_batches w (second ∷ others))) entered
 
     under : ℕ
     under = last_row w (start_row e (first ∷ more)) (spelled_scene (last_of first more)) + 1
@@ -117,10 +117,10 @@ simple_stacking w e first more second others before two row col all all' none = 
         (ap (λ n. n + 1) (last-marked w e first more before two row col all ch))
         (last-named (mark ch) (mark-keeps ch) second others)
         (shown-marked w e first more before two row col all ch)
-        (ap (play_batches w (shows w (map (named_scene (mark ch)) (second ∷ others)))) (entered-marked w e first more before two row col all ch)
-        ∙ marked_play w ch (shows w (map (named_scene (mark ch)) (second ∷ others))) (shows w (second ∷ others)) entered (shows-named (mark ch) (mark-keeps ch) w (second ∷ others) all'))
-        (ap (play_batches w (whole w (map (named_scene (mark ch)) (second ∷ others)))) (entered-marked w e first more before two row col all ch)
-        ∙ marked_play w ch (whole w (map (named_scene (mark ch)) (second ∷ others))) (whole w (second ∷ others)) entered (whole-named (mark ch) (mark-keeps ch) w (second ∷ others) all'))
+        (ap (play_batches w (shown_batches w (map (named_scene (mark ch)) (second ∷ others)))) (entered-marked w e first more before two row col all ch)
+        ∙ marked_play w ch (shown_batches w (map (named_scene (mark ch)) (second ∷ others))) (shown_batches w (second ∷ others)) entered (shown_batches-named (mark ch) (mark-keeps ch) w (second ∷ others) all'))
+        (ap (play_batches w (run_batches w (map (named_scene (mark ch)) (second ∷ others)))) (entered-marked w e first more before two row col all ch)
+        ∙ marked_play w ch (run_batches w (map (named_scene (mark ch)) (second ∷ others))) (run_batches w (second ∷ others)) entered (run_batches-named (mark ch) (mark-keeps ch) w (second ∷ others) all'))
         (stacked w e (named_scene (mark ch) first) (map (named_scene (mark ch)) more) (named_scene (mark ch) second) (map (named_scene (mark ch)) others) (renamed (mark ch) before)
         two row col (plain-scenes (mark ch) (mark-keeps ch) (first ∷ more) all) (plain-scenes (mark ch) (mark-keeps ch) (second ∷ others) all')
         (cleared-named (mark ch) (mark-keeps ch) (second ∷ others) ∙ none))

@@ -7,13 +7,13 @@ use Rattle.tw_surface.specs.Fresh.{IsFresh, last_row, cursor_row}
 use Rattle.tw_surface.specs.Pictures.{Picture}
 use Rattle.tw_surface.specs.Scenes.{Scene}
 use Rattle.tw_surface.specs.Scrolling.{play_batches_on, painted_rows, IsLow, raised_row, top_row, IsMovedUp, IsClosedOn}
-use Rattle.tw_surface.specs.PaintingBatches.{Shot, SizedScene, shot_of, scenes_of, batches, closing_batch, shows, closing_of, whole, last_of}
+use Rattle.tw_surface.specs.PaintingBatches.{Shot, SizedScene, shot_of, scenes_of, batches, closing_batch, shown_batches, closing_of, run_batches, last_of}
 use Rattle.tw_surface.specs.Simple.{IsSimple, IsSimpleAt, spelled_batches, spelled_scene}
 use Rattle.tw_surface.specs.SimpleScreens.{ScrolledSimplePainting, ScrolledSimpleClosing, ScrolledSimpleStacking, EveryScrolledSimplePainting, LastScrolledSimplePainting}
 use Rattle.tw_surface.proofs.ScrolledLists.{scrolled_painting, scrolled_closing, scrolled_stacking, every_scrolled, last_scrolled}
 use Rattle.tw_surface.proofs.RenamedPictures.{renamed, named_batches, renamed-batches_on}
 use Rattle.tw_surface.proofs.NamedPaintings.{named_scene}
-use Rattle.tw_surface.proofs.NamedLists.{named_shot, named_station, batches-named, closing-named, shows-named, closing_of-named, whole-named, plain-scenes, last-named, played-named, scenes_played-named}
+use Rattle.tw_surface.proofs.NamedLists.{named_shot, named_station, batches-named, closing-named, shown_batches-named, closing_of-named, run_batches-named, plain-scenes, last-named, played-named, scenes_played-named}
 use Rattle.tw_surface.proofs.MarkedPictures.{mark, mark-keeps, fresh_by, moved_up_by, closed_on_by, last_row-named, cursor_row-named}
 use Rattle.tw_surface.proofs.SimpleLists.{plain_stations, simple_ones}
 
@@ -69,10 +69,10 @@ module _ (h w : ℕ) (first : Scene) (more : List Scene) (before : Picture) (two
   top = top_row h w before.row (map spelled_scene (first ∷ more))
 
   abbrev shown : Picture
-  shown = play_batches_on h w (spelled_batches (shows w (first ∷ more))) before
+  shown = play_batches_on h w (spelled_batches (shown_batches w (first ∷ more))) before
 
   abbrev entered : Picture
-  entered = play_batches_on h w (spelled_batches (whole w (first ∷ more))) before
+  entered = play_batches_on h w (spelled_batches (run_batches w (first ∷ more))) before
 
   abbrev under : ℕ
   under = last_row w top (spelled_scene (last_of first more))
@@ -86,11 +86,11 @@ module _ (h w : ℕ) (first : Scene) (more : List Scene) (before : Picture) (two
   top-marked : (ch : ℕ) → top_row h w before.row (marked_scenes ch) ≡ top
   top-marked ch = top-named h w ch before.row (first ∷ more)
 
-  shown-marked : (ch : ℕ) → play_batches_on h w (shows w (marked_scenes ch)) (renamed (mark ch) before) ≡ renamed (mark ch) shown
-  shown-marked ch = marked_play_on h w ch (shows w (marked_scenes ch)) (shows w (first ∷ more)) before (shows-named (mark ch) (mark-keeps ch) w (first ∷ more) all)
+  shown-marked : (ch : ℕ) → play_batches_on h w (shown_batches w (marked_scenes ch)) (renamed (mark ch) before) ≡ renamed (mark ch) shown
+  shown-marked ch = marked_play_on h w ch (shown_batches w (marked_scenes ch)) (shown_batches w (first ∷ more)) before (shown_batches-named (mark ch) (mark-keeps ch) w (first ∷ more) all)
 
-  entered-marked : (ch : ℕ) → play_batches_on h w (whole w (marked_scenes ch)) (renamed (mark ch) before) ≡ renamed (mark ch) entered
-  entered-marked ch = marked_play_on h w ch (whole w (marked_scenes ch)) (whole w (first ∷ more)) before (whole-named (mark ch) (mark-keeps ch) w (first ∷ more) all)
+  entered-marked : (ch : ℕ) → play_batches_on h w (run_batches w (marked_scenes ch)) (renamed (mark ch) before) ≡ renamed (mark ch) entered
+  entered-marked ch = marked_play_on h w ch (run_batches w (marked_scenes ch)) (run_batches w (first ∷ more)) before (run_batches-named (mark ch) (mark-keeps ch) w (first ∷ more) all)
 
   last-marked : (ch : ℕ) → last_row w (top_row h w before.row (marked_scenes ch)) (last_of (named_scene (mark ch) first) (map (named_scene (mark ch)) more)) ≡ under
   last-marked ch =
@@ -128,20 +128,20 @@ scrolled_simple_stacking h w first more second others before two inside col all 
     (difference _ (below + 1) _ s (ap (λ n. n + 1) (last-marked h w first more before two inside col all low ch)) places)
     (last-named (mark ch) (mark-keeps ch) second others)
     (shown-marked h w first more before two inside col all low ch)
-    (ap (play_batches_on h w (shows w (map (named_scene (mark ch)) (second ∷ others)))) (entered-marked h w first more before two inside col all low ch)
-    ∙ marked_play_on h w ch (shows w (map (named_scene (mark ch)) (second ∷ others))) (shows w (second ∷ others)) last_picture (shows-named (mark ch) (mark-keeps ch) w (second ∷ others) all'))
+    (ap (play_batches_on h w (shown_batches w (map (named_scene (mark ch)) (second ∷ others)))) (entered-marked h w first more before two inside col all low ch)
+    ∙ marked_play_on h w ch (shown_batches w (map (named_scene (mark ch)) (second ∷ others))) (shown_batches w (second ∷ others)) last_picture (shown_batches-named (mark ch) (mark-keeps ch) w (second ∷ others) all'))
     (scrolled_stacking h w (named_scene (mark ch) first) (map (named_scene (mark ch)) more) (named_scene (mark ch) second) (map (named_scene (mark ch)) others) (renamed (mark ch) before) two inside col
     (plain-scenes (mark ch) (mark-keeps ch) (first ∷ more) all) (low-named h w ch (first ∷ more) low)
     (plain-scenes (mark ch) (mark-keeps ch) (second ∷ others) all') (low-named h w ch (second ∷ others) low')))
   where
     begun : Picture
-    begun = play_batches_on h w (spelled_batches (shows w (first ∷ more))) before
+    begun = play_batches_on h w (spelled_batches (shown_batches w (first ∷ more))) before
 
     last_picture : Picture
-    last_picture = play_batches_on h w (spelled_batches (whole w (first ∷ more))) before
+    last_picture = play_batches_on h w (spelled_batches (run_batches w (first ∷ more))) before
 
     again : Picture
-    again = play_batches_on h w (spelled_batches (shows w (second ∷ others))) last_picture
+    again = play_batches_on h w (spelled_batches (shown_batches w (second ∷ others))) last_picture
 
     below : ℕ
     below = last_row w (top_row h w before.row (map spelled_scene (first ∷ more))) (spelled_scene (last_of first more))

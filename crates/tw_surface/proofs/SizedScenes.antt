@@ -9,7 +9,7 @@ use Rattle.tw_surface.specs.Pictures.{Picture, play_all}
 use Rattle.tw_surface.specs.Scenes.{Scene, IsPlain}
 use Rattle.tw_surface.specs.Paintings.{painting, mark_of, closing}
 use Rattle.tw_surface.specs.Fresh.{IsFresh, IsSameAbove, IsClosed, last_row}
-use Rattle.tw_surface.specs.PaintingBatches.{Shot, SizedScene, IsPlainAt, shot_of, scenes_of, shots, batches, closing_batch, shows, closing_of, play_batches, last_of, start_row}
+use Rattle.tw_surface.specs.PaintingBatches.{Shot, SizedScene, IsPlainAt, shot_of, scenes_of, shots, batches, closing_batch, shown_batches, closing_of, play_batches, last_of, start_row}
 
 -- stations that are plain and for w columns
 abbrev pub ArePlainAt : ℕ → List SizedScene → Type 0
@@ -37,7 +37,7 @@ last_of-push first [] last = refl
 last_of-push first (next ∷ more) last = last_of-push next more last
 
 run_of : (w e : ℕ) (scenes : List Scene) (last : Scene) (t : Picture) → 2 ≤ w → t.row ≡ e → t.col ≡ 0 → ArePlain (scenes ++ last ∷ [])
-    → Painted w (start_row e (scenes ++ last ∷ [])) last t (play_batches w (shows w (scenes ++ last ∷ [])) t)
+    → Painted w (start_row e (scenes ++ last ∷ [])) last t (play_batches w (shown_batches w (scenes ++ last ∷ [])) t)
 run_of w e [] last t two row col plain = painted_run w e last [] t two row col plain
 run_of w e (first ∷ more) last t two row col plain =
     rw (last_of-push first more last) at (painted_run w e first (more ++ last ∷ []) t two row col plain)

@@ -5,7 +5,7 @@ use Rattle.std.proofs.lemmas.List.{at_drop_more}
 use Rattle.tw_surface.specs.declared.screen.far.Cell.{Cell}
 use Rattle.std.proofs.lemmas.List.Sums.{sum_by-cons}
 use Rattle.tw_surface.specs.Characters.{cr, lf}
-use Rattle.tw_surface.specs.Pictures.{Picture, put, play_char, play_text}
+use Rattle.tw_surface.specs.Pictures.{Picture, picture_with, play_char, play_text}
 use Rattle.tw_surface.specs.Cells.{picture_of, reach_of}
 use Rattle.std.proofs.Math.Nat.{add-mul, one-mul}
 use Rattle.tw_surface.specs.Pictures.{cursor_at}
@@ -15,8 +15,8 @@ abbrev pub only_cursor : Picture → Picture
 only_cursor s = cursor_at s.row s.col
 
 -- a printable character leads the cursor by the cursor alone
-put-cursor : (width ch : ℕ) (s : Picture) → only_cursor (put width ch s) ≡ only_cursor (put width ch (only_cursor s))
-put-cursor width ch s =
+picture_with-cursor : (width ch : ℕ) (s : Picture) → only_cursor (picture_with width ch s) ≡ only_cursor (picture_with width ch (only_cursor s))
+picture_with-cursor width ch s =
     elim (cases_eq s.col width) [
       | inl e ↦ rw (eq-eqb s.col width e) refl
       | inr n ↦ rw (ne_eqb s.col width n) refl
@@ -29,7 +29,7 @@ char-cursor width ch s =
       | inl e ↦ rw (eq-eqb ch cr e) refl
       | inr n ↦ elim (cases_eq ch lf) [
         | inl e ↦ rw (ne_eqb ch cr n, eq-eqb ch lf e) refl
-        | inr m ↦ rw (ne_eqb ch cr n, ne_eqb ch lf m) (put-cursor width ch s)
+        | inr m ↦ rw (ne_eqb ch cr n, ne_eqb ch lf m) (picture_with-cursor width ch s)
       ]
     ]
 
@@ -42,8 +42,8 @@ text-cursor width (ch ∷ text) s =
     ∙ sym (text-cursor width text (play_char width ch (only_cursor s)))
 
 -- a printable character leads to no row above
-put-row : (width ch : ℕ) (s : Picture) → s.row ≤ (put width ch s).row
-put-row width ch s =
+picture_with-row : (width ch : ℕ) (s : Picture) → s.row ≤ (picture_with width ch s).row
+picture_with-row width ch s =
     elim (cases_eq s.col width) [
       | inl e ↦ rw (eq-eqb s.col width e) (omega arith)
       | inr n ↦ rw (ne_eqb s.col width n) (omega arith)
@@ -56,7 +56,7 @@ char-row width ch s =
       | inl e ↦ rw (eq-eqb ch cr e) (omega arith)
       | inr n ↦ elim (cases_eq ch lf) [
         | inl e ↦ rw (ne_eqb ch cr n, eq-eqb ch lf e) (omega arith)
-        | inr m ↦ rw (ne_eqb ch cr n, ne_eqb ch lf m) (put-row width ch s)
+        | inr m ↦ rw (ne_eqb ch cr n, ne_eqb ch lf m) (picture_with-row width ch s)
       ]
     ]
 
@@ -69,8 +69,8 @@ text-row width (ch ∷ text) s =
     omega arith
 
 -- a printable character leads at most one row down
-put-row-most : (width ch : ℕ) (s : Picture) → (put width ch s).row ≤ s.row + 1
-put-row-most width ch s =
+picture_with-row-most : (width ch : ℕ) (s : Picture) → (picture_with width ch s).row ≤ s.row + 1
+picture_with-row-most width ch s =
     elim (cases_eq s.col width) [
       | inl e ↦ rw (eq-eqb s.col width e) (omega arith)
       | inr n ↦ rw (ne_eqb s.col width n) (omega arith)
@@ -83,7 +83,7 @@ char-row-most width ch s =
       | inl e ↦ rw (eq-eqb ch cr e) (omega arith)
       | inr n ↦ elim (cases_eq ch lf) [
         | inl e ↦ rw (ne_eqb ch cr n, eq-eqb ch lf e) (omega arith)
-        | inr m ↦ rw (ne_eqb ch cr n, ne_eqb ch lf m) (put-row-most width ch s)
+        | inr m ↦ rw (ne_eqb ch cr n, ne_eqb ch lf m) (picture_with-row-most width ch s)
       ]
     ]
 

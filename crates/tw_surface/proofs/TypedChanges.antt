@@ -9,7 +9,7 @@ use Rattle.tw_surface.specs.ChangeView.{Batch}
 use Rattle.tw_surface.specs.Pictures.{Picture, play_text, play, play_all}
 use Rattle.tw_surface.specs.Characters.{is_printable, is_plain}
 use Rattle.tw_surface.specs.Places.{Place, place_after, place_after_all}
-use Rattle.tw_surface.specs.Scenes.{is_typing, typed}
+use Rattle.tw_surface.specs.Scenes.{is_typing, typed_text}
 
 pub plain_from_printable : (t : List ℕ) → list_all is_printable t ≡ true → list_all is_plain t ≡ true
 plain_from_printable [] h = refl
@@ -41,7 +41,7 @@ over-append p (ch ∷ a) b f i =
 -- ---- changes
 
 pub changes-stand : (w : ℕ) (changes : Batch) (s : Picture) (p : ℕ) (f : ℕ → ℕ) → 0 < w → list_all is_typing changes ≡ true
-    → Stands w s p f → Stands w (play_all w changes s) (p + length (typed changes)) (over p (typed changes) f)
+    → Stands w s p f → Stands w (play_all w changes s) (p + length (typed_text changes)) (over p (typed_text changes) f)
 changes-stand w [] s p f h a st = rw add-zero st
 changes-stand w (Attribute x ∷ changes) s p f h a st = changes-stand w changes s p f h a st
 changes-stand w (AllAttributes x ∷ changes) s p f h a st = changes-stand w changes s p f h a st
@@ -49,8 +49,8 @@ changes-stand w (Text t ∷ changes) s p f h a st =
     let both = and_parts (list_all is_printable t) (list_all is_typing changes) a in
     let first : Stands w (play_text w t s) (p + length t) (over p t f) = play-typed w t s p f h both.0 st in
     let more = changes-stand w changes (play_text w t s) (p + length t) (over p t f) h both.1 first in
-    let e : p + length (t ++ typed changes) ≡ p + length t + length (typed changes) = omega (arith, length-append t (typed changes)) in
-    rw e (Stands-same w _ _ _ _ (over-append p t (typed changes) f) more)
+    let e : p + length (t ++ typed_text changes) ≡ p + length t + length (typed_text changes) = omega (arith, length-append t (typed_text changes)) in
+    rw e (Stands-same w _ _ _ _ (over-append p t (typed_text changes) f) more)
 changes-stand w (ClearScreen c ∷ changes) s p f h a st = absurd (false≢true a)
 changes-stand w (ClearToEndOfScreen c ∷ changes) s p f h a st = absurd (false≢true a)
 changes-stand w (CursorPosition x y ∷ changes) s p f h a st = absurd (false≢true a)
@@ -68,7 +68,7 @@ tracks-changes w start (ClearScreen c ∷ changes) at s h a k = absurd (false≢
 tracks-changes w start (ClearToEndOfScreen c ∷ changes) at s h a k = absurd (false≢true a)
 tracks-changes w start (CursorPosition x y ∷ changes) at s h a k = absurd (false≢true a)
 
-pub changes-col : (w : ℕ) (changes : Batch) (s : Picture) → list_all is_typing changes ≡ true → (0 < s.col) ⊎ (0 < length (typed changes))
+pub changes-col : (w : ℕ) (changes : Batch) (s : Picture) → list_all is_typing changes ≡ true → (0 < s.col) ⊎ (0 < length (typed_text changes))
     → 0 < (play_all w changes s).col
 changes-col w [] s a (inl h) = h
 changes-col w [] s a (inr h) = absurd (omega arith)
@@ -80,14 +80,14 @@ changes-col w (Text t ∷ changes) s a h =
       | inl k ↦ changes-col w changes (play_text w t s) both.1 (inl (typed-col w t s both.0 (inr k)))
       | inr k ↦ elim h [
         | inl j ↦ changes-col w changes (play_text w t s) both.1 (inl (typed-col w t s both.0 (inl j)))
-        | inr j ↦ changes-col w changes (play_text w t s) both.1 (inr (omega (arith, length-append t (typed changes))))
+        | inr j ↦ changes-col w changes (play_text w t s) both.1 (inr (omega (arith, length-append t (typed_text changes))))
       ]
     ]
 changes-col w (ClearScreen c ∷ changes) s a h = absurd (false≢true a)
 changes-col w (ClearToEndOfScreen c ∷ changes) s a h = absurd (false≢true a)
 changes-col w (CursorPosition x y ∷ changes) s a h = absurd (false≢true a)
 
-pub changes-same : (w : ℕ) (changes : Batch) (s : Picture) → list_all is_typing changes ≡ true → length (typed changes) ≡ 0 → play_all w changes s ≡ s
+pub changes-same : (w : ℕ) (changes : Batch) (s : Picture) → list_all is_typing changes ≡ true → length (typed_text changes) ≡ 0 → play_all w changes s ≡ s
 changes-same w [] s a h = refl
 changes-same w (Attribute x ∷ changes) s a h = changes-same w changes s a h
 changes-same w (AllAttributes x ∷ changes) s a h = changes-same w changes s a h

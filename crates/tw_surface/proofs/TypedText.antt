@@ -3,14 +3,14 @@ use Rattle.std.proofs.Common.{◌≡◌, ℕ, suc, ◌+◌, ◌<◌, ◌≤◌, 
 use Rattle.std.specs.List.{list_all}
 use Rattle.std.proofs.lemmas.Bool.{cases_eq, eq-eqb, ne_eqb, leb-true, and_parts, le-leb, lt-leb}
 use Rattle.std.proofs.lemmas.Int.{ints}
-use Rattle.tw_surface.proofs.LineOfCells.{point, over, Stands, put-stands, put-col}
-use Rattle.tw_surface.specs.Pictures.{Picture, put, play_char, play_text}
+use Rattle.tw_surface.proofs.LineOfCells.{point, over, Stands, picture_with-stands, picture_with-col}
+use Rattle.tw_surface.specs.Pictures.{Picture, picture_with, play_char, play_text}
 use Rattle.tw_surface.specs.Characters.{is_printable, is_plain}
 use Rattle.tw_surface.specs.Places.{plain_piece, pieces, Place, next_place, end_of_pieces}
 
 -- ---- characters
 
-pub printable_play : (w ch : ℕ) (s : Picture) → is_printable ch ≡ true → play_char w ch s ≡ put w ch s
+pub printable_play : (w ch : ℕ) (s : Picture) → is_printable ch ≡ true → play_char w ch s ≡ picture_with w ch s
 printable_play w ch s h =
     let low : 32 ≤ ch = leb-true _ _ (and_parts _ _ h).0 in
     rw (ne_eqb ch 13 (λ e. omega arith), ne_eqb ch 10 (λ e. omega arith)) refl
@@ -22,7 +22,7 @@ play-typed w (ch ∷ t) s p f h a st =
     let both = and_parts (is_printable ch) (list_all is_printable t) a in
     let e : p + suc (length t) ≡ p + 1 + length t = omega arith in
     rw (e, printable_play w ch s both.0)
-    (play-typed w t (put w ch s) (p + 1) (point p ch f) h both.1 (put-stands w ch s p f h st))
+    (play-typed w t (picture_with w ch s) (p + 1) (point p ch f) h both.1 (picture_with-stands w ch s p f h st))
 
 -- ---- the screen's cursor and the measured place, for a screen entered at row start
 
@@ -31,9 +31,9 @@ pub record Tracks (w start : ℕ) (at : Place) (s : Picture) : Type 0 where
   pub y : pos s.row ≡ pos start +ℤ at.y
   pub within : s.col ≤ w
 
-tracks-put : (w start ch : ℕ) (at : Place) (s : Picture) → 0 < w → Tracks w start at s
-    → Tracks w start (cond (leb (at.x + 1) w) record { x = at.x + 1; y = at.y } record { x = 1; y = at.y +ℤ pos 1 }) (put w ch s)
-tracks-put w start ch at s h t =
+tracks-picture_with : (w start ch : ℕ) (at : Place) (s : Picture) → 0 < w → Tracks w start at s
+    → Tracks w start (cond (leb (at.x + 1) w) record { x = at.x + 1; y = at.y } record { x = 1; y = at.y +ℤ pos 1 }) (picture_with w ch s)
+tracks-picture_with w start ch at s h t =
     elim (cases_eq s.col w) [
       | inl e ↦ rw (eq-eqb _ _ e, lt-leb (at.x + 1) w (omega (arith, t.x, e))) (record {
         x = refl;
@@ -54,7 +54,7 @@ tracks-char w start ch at s h t =
       | inl e ↦ rw (eq-eqb _ _ e) (record { x = refl; y = t.y; within = omega arith })
       | inr n ↦ elim (cases_eq ch 10) [
         | inl e ↦ rw (ne_eqb _ _ n, eq-eqb _ _ e) (record { x = t.x; y = omega (arith, ints, t.y); within = t.within })
-        | inr m ↦ rw (ne_eqb _ _ n, ne_eqb _ _ m) (tracks-put w start ch at s h t)
+        | inr m ↦ rw (ne_eqb _ _ n, ne_eqb _ _ m) (tracks-picture_with w start ch at s h t)
       ]
     ]
 
@@ -75,5 +75,5 @@ typed-col w [] s a (inl h) = h
 typed-col w [] s a (inr h) = absurd (omega arith)
 typed-col w (ch ∷ t) s a h =
     let both = and_parts (is_printable ch) (list_all is_printable t) a in
-    let first : 0 < (play_char w ch s).col = rw (printable_play w ch s both.0) (put-col w ch s) in
+    let first : 0 < (play_char w ch s).col = rw (printable_play w ch s both.0) (picture_with-col w ch s) in
     typed-col w t (play_char w ch s) both.1 (inl first)

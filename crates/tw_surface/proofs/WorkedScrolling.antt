@@ -8,7 +8,7 @@ use Rattle.tw_surface.specs.Places.{pieces}
 use Rattle.tw_surface.specs.Scenes.{Scene}
 use Rattle.tw_surface.specs.Scenes.Lower.{NoLower, Preview}
 use Rattle.tw_surface.specs.Scrolling.{play_batches_on, painted_rows, top_row}
-use Rattle.tw_surface.specs.PaintingBatches.{shows, whole}
+use Rattle.tw_surface.specs.PaintingBatches.{shown_batches, run_batches}
 use Rattle.tw_surface.proofs.WorkedPaintings.{scene_of, a_to_f}
 
 -- rows of A, of B and of C, the cursor in the last one
@@ -23,7 +23,7 @@ rows_in s = map (λ r. map (λ c. s.cell r c) (0 ∷ 1 ∷ 2 ∷ 3 ∷ [])) (0 �
 abbrev two_rows : Scene
 two_rows = scene_of a_to_f 6 NoLower false
 
-scrolls_once : let after = play_batches_on 3 5 (shows 5 (two_rows ∷ [])) full in
+scrolls_once : let after = play_batches_on 3 5 (shown_batches 5 (two_rows ∷ [])) full in
     (painted_rows 5 two_rows ≡ 2) × (top_row 3 5 2 (two_rows ∷ []) ≡ 1)
     × (rows_in after ≡ (66 ∷ 66 ∷ 66 ∷ 66 ∷ []) ∷ (62 ∷ 32 ∷ 97 ∷ 98 ∷ []) ∷ (100 ∷ 101 ∷ 102 ∷ 32 ∷ []) ∷ [])
     × (after.row ≡ 2) × (after.col ≡ 3)
@@ -34,7 +34,7 @@ scrolls_once = (refl, refl, refl, refl, refl)
 abbrev one_row : Scene
 one_row = scene_of [] 0 NoLower false
 
-stays_up : let after = play_batches_on 3 5 (shows 5 (two_rows ∷ one_row ∷ [])) full in
+stays_up : let after = play_batches_on 3 5 (shown_batches 5 (two_rows ∷ one_row ∷ [])) full in
     (top_row 3 5 2 (two_rows ∷ one_row ∷ []) ≡ 1)
     × (rows_in after ≡ (66 ∷ 66 ∷ 66 ∷ 66 ∷ []) ∷ (62 ∷ 32 ∷ 32 ∷ 32 ∷ []) ∷ (32 ∷ 32 ∷ 32 ∷ 32 ∷ []) ∷ [])
     × (after.row ≡ 1) × (after.col ≡ 2)
@@ -42,7 +42,7 @@ unfolding pieces
 stays_up = (refl, refl, refl, refl)
 
 -- the closing batch scrolls once more where the painting ends in the last row
-closes_below : let after = play_batches_on 3 5 (whole 5 (two_rows ∷ [])) full in
+closes_below : let after = play_batches_on 3 5 (run_batches 5 (two_rows ∷ [])) full in
     (last_row 5 1 two_rows ≡ 2)
     × (rows_in after ≡ (62 ∷ 32 ∷ 97 ∷ 98 ∷ []) ∷ (100 ∷ 101 ∷ 102 ∷ 32 ∷ []) ∷ (32 ∷ 32 ∷ 32 ∷ 32 ∷ []) ∷ [])
     × (after.row ≡ 2) × (after.col ≡ 0)
@@ -54,7 +54,7 @@ abbrev play_stopped : Batch → Picture → Picture
 play_stopped [] s = s
 play_stopped (change ∷ changes) s = let u = play 5 change s in play_stopped changes (record u { row = min u.row 2 })
 
-stopped_move_blanks : let after = play_stopped (closing (mark_of (painting 5 two_rows))) (play_batches_on 3 5 (shows 5 (two_rows ∷ [])) full) in
+stopped_move_blanks : let after = play_stopped (closing (mark_of (painting 5 two_rows))) (play_batches_on 3 5 (shown_batches 5 (two_rows ∷ [])) full) in
     rows_in after ≡ (66 ∷ 66 ∷ 66 ∷ 66 ∷ []) ∷ (62 ∷ 32 ∷ 97 ∷ 98 ∷ []) ∷ (32 ∷ 32 ∷ 32 ∷ 32 ∷ []) ∷ []
 unfolding pieces
 stopped_move_blanks = refl
@@ -63,7 +63,7 @@ stopped_move_blanks = refl
 abbrev far_cursor : Scene
 far_cursor = scene_of (120 ∷ []) 10 NoLower false
 
-move_scrolls : let after = play_batches_on 3 5 (shows 5 (far_cursor ∷ [])) full in
+move_scrolls : let after = play_batches_on 3 5 (shown_batches 5 (far_cursor ∷ [])) full in
     (painted_rows 5 far_cursor ≡ 3) × (top_row 3 5 2 (far_cursor ∷ []) ≡ 0)
     × (rows_in after ≡ (62 ∷ 32 ∷ 120 ∷ 32 ∷ []) ∷ (32 ∷ 32 ∷ 32 ∷ 32 ∷ []) ∷ (32 ∷ 32 ∷ 32 ∷ 32 ∷ []) ∷ [])
     × (after.row ≡ 2) × (after.col ≡ 2)
@@ -71,7 +71,7 @@ unfolding pieces
 move_scrolls = (refl, refl, refl, refl, refl)
 
 -- after a clearing all is painted from row 0 on
-clears : let after = play_batches_on 3 5 (shows 5 (two_rows ∷ scene_of (97 ∷ []) 1 NoLower true ∷ [])) full in
+clears : let after = play_batches_on 3 5 (shown_batches 5 (two_rows ∷ scene_of (97 ∷ []) 1 NoLower true ∷ [])) full in
     (top_row 3 5 2 (two_rows ∷ scene_of (97 ∷ []) 1 NoLower true ∷ []) ≡ 0)
     × (rows_in after ≡ (62 ∷ 32 ∷ 97 ∷ 32 ∷ []) ∷ (32 ∷ 32 ∷ 32 ∷ 32 ∷ []) ∷ (32 ∷ 32 ∷ 32 ∷ 32 ∷ []) ∷ [])
     × (after.row ≡ 0) × (after.col ≡ 3)
@@ -82,7 +82,7 @@ clears = (refl, refl, refl, refl)
 abbrev four_rows : Scene
 four_rows = scene_of (120 ∷ []) 1 (Preview (Text (97 ∷ 13 ∷ 10 ∷ 98 ∷ 13 ∷ 10 ∷ 99 ∷ []) ∷ [])) false
 
-too_high : let after = play_batches_on 3 5 (shows 5 (four_rows ∷ [])) full in
+too_high : let after = play_batches_on 3 5 (shown_batches 5 (four_rows ∷ [])) full in
     (painted_rows 5 four_rows ≡ 4)
     × (rows_in after ≡ (97 ∷ 32 ∷ 32 ∷ 32 ∷ []) ∷ (98 ∷ 32 ∷ 32 ∷ 32 ∷ []) ∷ (99 ∷ 32 ∷ 32 ∷ 32 ∷ []) ∷ [])
     × (after.row ≡ 0) × (after.col ≡ 3)

@@ -9,7 +9,7 @@ use Rattle.tw_surface.specs.Pictures.{Picture, cursor_at}
 use Rattle.tw_surface.specs.Places.{pieces}
 use Rattle.tw_surface.specs.Scenes.{Scene}
 use Rattle.tw_surface.specs.Scenes.Lower.{NoLower, Preview, Search}
-use Rattle.tw_surface.specs.PaintingBatches.{shows, play_batches}
+use Rattle.tw_surface.specs.PaintingBatches.{shown_batches, play_batches}
 use Rattle.tw_surface.specs.Simple.{IsSimple, IsSimpleText, IsSimpleLower, spelled_batches}
 use Rattle.tw_surface.proofs.SimpleLists.{simple_paintings}
 use Rattle.tw_surface.proofs.WorkedPaintings.{scene_of}
@@ -55,13 +55,13 @@ one = scene_of accent 1 NoLower false
 abbrev rows_in : Picture → List (List ℕ)
 rows_in s = map (λ r. map (λ c. s.cell r c) (0 ∷ 1 ∷ 2 ∷ 3 ∷ 4 ∷ [])) (0 ∷ 1 ∷ 2 ∷ [])
 
-shows_six : let after = play_batches 5 (spelled_batches (shows 5 (six ∷ []))) (cursor_at 0 0) in
+shows_six : let after = play_batches 5 (spelled_batches (shown_batches 5 (six ∷ []))) (cursor_at 0 0) in
     (rows_in after ≡ (62 ∷ 32 ∷ 233 ∷ 9472 ∷ 233 ∷ []) ∷ (9472 ∷ 233 ∷ 9472 ∷ 32 ∷ 32 ∷ []) ∷ (233 ∷ 32 ∷ 32 ∷ 32 ∷ 32 ∷ []) ∷ [])
     × (after.row ≡ 1) × (after.col ≡ 3)
 unfolding pieces unicode_segmentation unicode_width
 shows_six = (refl, refl, refl)
 
-then_one : let after = play_batches 5 (spelled_batches (shows 5 (six ∷ one ∷ []))) (cursor_at 0 0) in
+then_one : let after = play_batches 5 (spelled_batches (shown_batches 5 (six ∷ one ∷ []))) (cursor_at 0 0) in
     (rows_in after ≡ (62 ∷ 32 ∷ 233 ∷ 32 ∷ 32 ∷ []) ∷ (32 ∷ 32 ∷ 32 ∷ 32 ∷ 32 ∷ []) ∷ (32 ∷ 32 ∷ 32 ∷ 32 ∷ 32 ∷ []) ∷ [])
     × (after.row ≡ 0) × (after.col ≡ 3)
 unfolding pieces unicode_segmentation unicode_width
@@ -76,7 +76,7 @@ one_is_simple : IsSimple one
 unfolding pieces unicode_segmentation unicode_width
 one_is_simple = record { prompt = (record { measured = refl; no_breaks = refl }, tt); line = (record { measured = refl; no_breaks = refl }, tt); lower = tt }
 
-by_the_law : (before : Picture) → before.row ≡ 0 → before.col ≡ 0 → let after = play_batches 5 (spelled_batches (shows 5 (six ∷ one ∷ []))) before in
+by_the_law : (before : Picture) → before.row ≡ 0 → before.col ≡ 0 → let after = play_batches 5 (spelled_batches (shown_batches 5 (six ∷ one ∷ []))) before in
     (after.cell 0 2 ≡ 233) × (after.row ≡ 0) × (after.col ≡ 3)
 unfolding pieces unicode_segmentation unicode_width
 by_the_law before row col =

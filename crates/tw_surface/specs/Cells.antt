@@ -122,8 +122,8 @@ pub record IsPartedAt (cells : List Cell) (row i : ℕ) : Type 0 where
   pub others : (k : ℕ) → i ≤ k → k < length cells → row ≤ (cell_at cells k).row
 
 -- a cell so many rows higher up
-abbrev pub raised : ℕ → Cell → Cell
-raised rows cell = record cell { row = cell.row - rows }
+abbrev pub higher_cell : ℕ → Cell → Cell
+higher_cell rows cell = record cell { row = cell.row - rows }
 
 -- near cells with these characters from a place on, and the others as they were
 pub record IsOverwritten (old new : List ℕ) (place : ℕ) (run : List ℕ) : Type 0 where

@@ -23,10 +23,10 @@ pub record SizedBatch : Type 0 where
 
 -- the batches of a list of stations, after an earlier painting, if there was one: each comes at the columns of its station
 abbrev pub sized_after : Option Mark → List SizedScene → List SizedBatch
-sized_after last [] = []
-sized_after last (station ∷ more) =
+sized_after mark [] = []
+sized_after mark (station ∷ more) =
     let shot = shot_of station in
-    map (λ batch. record { cols = station.cols; batch = batch }) (clearing shot.cleared ++ (start_of last ++ shot.painting.changes) ∷ [])
+    map (λ batch. record { cols = station.cols; batch = batch }) (clearing shot.cleared ++ (start_of mark ++ shot.painting.changes) ∷ [])
     ++ sized_after (Some (mark_of shot.painting)) more
 
 -- the batches of a list of stations from the first one on
@@ -67,6 +67,6 @@ abbrev pub CutClosing : Type 0
 CutClosing = (v w : ℕ) (earlier : List SizedScene) (station : SizedScene) (before : Picture)
     → 2 ≤ w → before.col ≡ 0 → All IsPlainWide (earlier ++ station ∷ [])
     → let stations = earlier ++ station ∷ [] in
-    let last = last_row station.cols (start_row before.row (scenes_of stations)) station.scene in
+    let mark = last_row station.cols (start_row before.row (scenes_of stations)) station.scene in
     let after = cut_to station.cols w (play_cut v (sized_batches stations) before) in
-    IsClosed w last after (play_batches w (closing_batch (map shot_of stations)) after)
+    IsClosed w mark after (play_batches w (closing_batch (map shot_of stations)) after)

@@ -1,7 +1,7 @@
 -- What a fresh painting shows, by division alone.
 use Rattle.std.specs.Prelude.{ℕ, ◌≡◌, ◌+◌, ◌/◌, ◌%◌, ◌<◌, ◌≤◌, ◌⊎◌, List, [], ◌∷◌, ◌++◌, length, slice_index}
 use Rattle.std.specs.List.{sum_by}
-use Rattle.tw_surface.specs.Scenes.{typed, Scene, lower_lines}
+use Rattle.tw_surface.specs.Scenes.{typed_text, Scene, lower_lines}
 use Rattle.tw_surface.specs.Pictures.{Picture, blank}
 use Rattle.tw_surface.specs.Lines.{rows_of}
 
@@ -29,14 +29,14 @@ IsInLines width from (line ∷ more) r c = IsIn width from line r c ⊎ IsInLine
 
 -- the characters of the prompt and the line
 abbrev pub text_of : Scene → List ℕ
-text_of scene = typed scene.prompt ++ typed scene.line
+text_of scene = typed_text scene.prompt ++ typed_text scene.line
 
 -- the row in which the prompt and the line end, and the cursor's row, counted from the first row
 abbrev pub line_row : ℕ → Scene → ℕ
 line_row width scene = length (text_of scene) / width
 
 abbrev pub cursor_row : ℕ → Scene → ℕ
-cursor_row width scene = (length (typed scene.prompt) + scene.column) / width
+cursor_row width scene = (length (typed_text scene.prompt) + scene.column) / width
 
 -- a fresh painting of a scene from row s on
 pub record IsFresh (width s : ℕ) (scene : Scene) (after : Picture) : Type 0 where
@@ -47,7 +47,7 @@ pub record IsFresh (width s : ℕ) (scene : Scene) (after : Picture) : Type 0 wh
       → (IsInLines width (s + line_row width scene + 1) (lower_lines scene.lower) r c → ⊥)
       → after.cell r c ≡ blank
   pub row : after.row ≡ s + cursor_row width scene
-  pub col : after.col ≡ (length (typed scene.prompt) + scene.column) % width
+  pub col : after.col ≡ (length (typed_text scene.prompt) + scene.column) % width
 
 -- the rows above row s are as they were
 abbrev pub IsSameAbove : ℕ → ℕ → Picture → Picture → Type 0

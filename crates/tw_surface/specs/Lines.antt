@@ -14,10 +14,10 @@ lines_of [] = [] ∷ []
 lines_of (b ∷ text) = before_lines b (lines_of text)
 
 -- the text of a list of lines, with CR LF between each two
-abbrev pub joined : List (List ℕ) → List ℕ
-joined [] = []
-joined (line ∷ []) = line
-joined (line ∷ next ∷ more) = line ++ cr ∷ lf ∷ joined (next ∷ more)
+abbrev pub text_of_lines : List (List ℕ) → List ℕ
+text_of_lines [] = []
+text_of_lines (line ∷ []) = line
+text_of_lines (line ∷ next ∷ more) = line ++ cr ∷ lf ∷ text_of_lines (next ∷ more)
 
 -- the rows that a line takes
 abbrev pub rows_of : ℕ → List ℕ → ℕ

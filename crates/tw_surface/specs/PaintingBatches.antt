@@ -33,14 +33,14 @@ closing_if (Some m) = closing m ∷ []
 
 -- the batches of a list of paintings, after an earlier one, if there was one
 abbrev pub batches_after : Option Mark → List Shot → List Batch
-batches_after last [] = []
-batches_after last (shot ∷ more) =
-    clearing shot.cleared ++ (start_of last ++ shot.painting.changes) ∷ batches_after (Some (mark_of shot.painting)) more
+batches_after mark [] = []
+batches_after mark (shot ∷ more) =
+    clearing shot.cleared ++ (start_of mark ++ shot.painting.changes) ∷ batches_after (Some (mark_of shot.painting)) more
 
 -- the mark that a list of paintings leaves, after an earlier one, if there was one
 abbrev pub mark_after : Option Mark → List Shot → Option Mark
-mark_after last [] = last
-mark_after last (shot ∷ more) = mark_after (Some (mark_of shot.painting)) more
+mark_after mark [] = mark
+mark_after mark (shot ∷ more) = mark_after (Some (mark_of shot.painting)) more
 
 -- the batches of a list of paintings from the first one on
 abbrev pub batches : List Shot → List Batch
@@ -55,15 +55,15 @@ abbrev pub shots : ℕ → List Scene → List Shot
 shots cols scenes = map (λ scene. record { painting = painting cols scene; cleared = scene.cleared }) scenes
 
 -- the batches that show a list of scenes, and the batch that closes them
-abbrev pub shows : ℕ → List Scene → List Batch
-shows cols scenes = batches (shots cols scenes)
+abbrev pub shown_batches : ℕ → List Scene → List Batch
+shown_batches cols scenes = batches (shots cols scenes)
 
 abbrev pub closing_of : ℕ → List Scene → List Batch
 closing_of cols scenes = closing_batch (shots cols scenes)
 
 -- the batches of a whole run
-abbrev pub whole : ℕ → List Scene → List Batch
-whole cols scenes = shows cols scenes ++ closing_of cols scenes
+abbrev pub run_batches : ℕ → List Scene → List Batch
+run_batches cols scenes = shown_batches cols scenes ++ closing_of cols scenes
 
 abbrev pub play_batches : ℕ → List Batch → Picture → Picture
 play_batches width [] s = s

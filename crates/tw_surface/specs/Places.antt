@@ -9,7 +9,7 @@ use Rattle.tw_surface.specs.declared.change.Position.TheVariants.{Relative}
 use Rattle.tw_surface.specs.ChangeView.{ChangeView, Batch}
 use Rattle.tw_surface.specs.ChangeView.{Attribute, AllAttributes, Text, ClearScreen, ClearToEndOfScreen, CursorPosition}
 use Rattle.tw_surface.specs.Characters.{is_plain, cr, lf}
-use Rattle.tw_surface.specs.Positions.{moved, at_least_0}
+use Rattle.tw_surface.specs.Positions.{position_after, at_least_0}
 use Rattle.tw_surface.specs.Width.{cluster_width}
 
 -- a column from 0 on, where the number of columns says that the wrap is pending, and a row
@@ -88,7 +88,7 @@ place_after cols (Text text) p = end_of_pieces cols (pieces text) p
 place_after cols (ClearScreen color) p = origin
 place_after cols (ClearToEndOfScreen color) p = p
 place_after cols (CursorPosition x y) p =
-    record { x = min (cols - 1) (at_least_0 (moved x (pos p.x))); y = moved y p.y }
+    record { x = min (cols - 1) (at_least_0 (position_after x (pos p.x))); y = position_after y p.y }
 
 -- the place after a list of changes
 abbrev pub place_after_all : ℕ → Batch → Place → Place

@@ -4,9 +4,9 @@ use Rattle.tw_surface.specs.declared.change.Position.{Position}
 use Rattle.tw_surface.specs.declared.change.Position.TheVariants.{Absolute, Relative}
 
 -- where a position puts a column or a row that stands at a number
-abbrev pub moved : Position → ℤ → ℤ
-moved (Absolute n) at = pos n
-moved (Relative by) at = at +ℤ by
+abbrev pub position_after : Position → ℤ → ℤ
+position_after (Absolute n) at = pos n
+position_after (Relative by) at = at +ℤ by
 
 -- the whole number, or 0 in place of a negative one
 abbrev pub at_least_0 : ℤ → ℕ

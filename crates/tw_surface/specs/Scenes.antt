@@ -7,14 +7,14 @@ use Rattle.tw_surface.specs.Characters.{is_printable}
 use Rattle.tw_surface.specs.Lines.{lines_of}
 
 -- the characters of the texts of a list of changes
-abbrev pub typed : Batch → List ℕ
-typed [] = []
-typed (Text text ∷ changes) = text ++ typed changes
-typed (Attribute a ∷ changes) = typed changes
-typed (AllAttributes a ∷ changes) = typed changes
-typed (ClearScreen color ∷ changes) = typed changes
-typed (ClearToEndOfScreen color ∷ changes) = typed changes
-typed (CursorPosition x y ∷ changes) = typed changes
+abbrev pub typed_text : Batch → List ℕ
+typed_text [] = []
+typed_text (Text text ∷ changes) = text ++ typed_text changes
+typed_text (Attribute a ∷ changes) = typed_text changes
+typed_text (AllAttributes a ∷ changes) = typed_text changes
+typed_text (ClearScreen color ∷ changes) = typed_text changes
+typed_text (ClearToEndOfScreen color ∷ changes) = typed_text changes
+typed_text (CursorPosition x y ∷ changes) = typed_text changes
 
 -- a change that is an attribute or a text
 abbrev pub is_text : ChangeView → Bool
@@ -43,7 +43,7 @@ pub data Lower : Type 0 where
 -- the lines under the prompt and the line
 abbrev pub lower_lines : Lower → List (List ℕ)
 lower_lines NoLower = []
-lower_lines (Preview elements) = lines_of (typed elements)
+lower_lines (Preview elements) = lines_of (typed_text elements)
 lower_lines (Search text) = text ∷ []
 
 -- what one painting shows: the changes of the prompt and of the line, the cursor's column in the line and what stands under it, and whether the screen is cleared just before
@@ -57,7 +57,7 @@ pub record Scene : Type 0 where
 -- a lower text of attributes and printable characters, a preview's with pairs of CR and LF too
 abbrev pub IsPlainLower : Lower → Type 0
 IsPlainLower NoLower = Unit {0}
-IsPlainLower (Preview elements) = (list_all is_text elements ≡ true) × (list_all (list_all is_printable) (lines_of (typed elements)) ≡ true)
+IsPlainLower (Preview elements) = (list_all is_text elements ≡ true) × (list_all (list_all is_printable) (lines_of (typed_text elements)) ≡ true)
 IsPlainLower (Search text) = list_all is_printable text ≡ true
 
 -- a scene of attributes and printable characters

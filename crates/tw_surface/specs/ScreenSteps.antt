@@ -7,13 +7,13 @@ use Rattle.tw_surface.specs.declared.screen.ScreenFault.{ScreenFault}
 use Rattle.tw_surface.specs.declared.screen.ScreenFault.TheVariants.{OutOfRange}
 use Rattle.tw_surface.specs.Characters.{is_printable}
 use Rattle.tw_surface.specs.ChangeView.{ChangeView}
-use Rattle.tw_surface.specs.Positions.{moved, at_least_0}
+use Rattle.tw_surface.specs.Positions.{position_after, at_least_0}
 use Rattle.tw_surface.specs.Pictures.{Picture, can_play, play, play_char, play_text}
 use Rattle.tw_surface.specs.Cells.{ScreenView, picture, picture_of, reach_of, IsSparse}
 
 -- where a position leads from a row or a column: to 0 in place of a negative one
 abbrev pub moved_from : Position → ℕ → ℕ
-moved_from position at = at_least_0 (moved position (pos at))
+moved_from position at = at_least_0 (position_after position (pos at))
 
 -- the cursor goes where two positions lead, to the last column at most
 abbrev pub with_cursor_moved : Position → Position → ScreenView → ScreenView

@@ -5,7 +5,7 @@ use Rattle.tw_surface.specs.ChangeView.{ChangeView, Batch}
 use Rattle.tw_surface.specs.Pictures.{Picture, play}
 use Rattle.tw_surface.specs.Scenes.{Scene, IsPlain}
 use Rattle.tw_surface.specs.Fresh.{IsFresh, last_row}
-use Rattle.tw_surface.specs.PaintingBatches.{SizedScene, IsPlainAt, shot_of, scenes_of, batches, closing_batch, last_of, shows, closing_of, whole}
+use Rattle.tw_surface.specs.PaintingBatches.{SizedScene, IsPlainAt, shot_of, scenes_of, batches, closing_batch, last_of, shown_batches, closing_of, run_batches}
 use Rattle.tw_surface.specs.Scrolling.{IsWithin, scroll, play_on, play_batches_on, IsLow, top_row, IsMovedUp, IsClosedOn}
 
 -- a screen of h rows stays one
@@ -21,7 +21,7 @@ abbrev pub ScrolledPainting : Type 0
 ScrolledPainting = (h w : ℕ) (first : Scene) (more : List Scene) (before : Picture)
     → 2 ≤ w → before.row < h → before.col ≡ 0 → All IsPlain (first ∷ more) → All (IsLow h w) (first ∷ more)
     → let s = top_row h w before.row (first ∷ more) in
-    let after = play_batches_on h w (shows w (first ∷ more)) before in
+    let after = play_batches_on h w (shown_batches w (first ∷ more)) before in
     IsFresh w s (last_of first more) after × IsMovedUp w s (before.row - s) before after
 
 -- the closing batch leaves the cursor in the row under the last painting, and the rows above as they were, moved up
@@ -29,7 +29,7 @@ abbrev pub ScrolledClosing : Type 0
 ScrolledClosing = (h w : ℕ) (first : Scene) (more : List Scene) (before : Picture)
     → 2 ≤ w → before.row < h → before.col ≡ 0 → All IsPlain (first ∷ more) → All (IsLow h w) (first ∷ more)
     → let last = last_row w (top_row h w before.row (first ∷ more)) (last_of first more) in
-    let after = play_batches_on h w (shows w (first ∷ more)) before in
+    let after = play_batches_on h w (shown_batches w (first ∷ more)) before in
     IsClosedOn h w last after (play_batches_on h w (closing_of w (first ∷ more)) after)
 
 -- a second list paints from the closing on, and the rows of the first one stay as its last painting left them, moved up
@@ -37,11 +37,11 @@ abbrev pub ScrolledStacking : Type 0
 ScrolledStacking = (h w : ℕ) (first : Scene) (more : List Scene) (second : Scene) (others : List Scene) (before : Picture)
     → 2 ≤ w → before.row < h → before.col ≡ 0 → All IsPlain (first ∷ more) → All (IsLow h w) (first ∷ more)
     → All IsPlain (second ∷ others) → All (IsLow h w) (second ∷ others)
-    → let shown = play_batches_on h w (shows w (first ∷ more)) before in
+    → let shown = play_batches_on h w (shown_batches w (first ∷ more)) before in
     let under = last_row w (top_row h w before.row (first ∷ more)) (last_of first more) + 1 in
-    let entered = play_batches_on h w (whole w (first ∷ more)) before in
+    let entered = play_batches_on h w (run_batches w (first ∷ more)) before in
     let s = top_row h w entered.row (second ∷ others) in
-    let after = play_batches_on h w (shows w (second ∷ others)) entered in
+    let after = play_batches_on h w (shown_batches w (second ∷ others)) entered in
     IsFresh w s (last_of second others) after × IsMovedUp w s (under - s) shown after
 
 -- of any list of stations: where each station so far is plain, for w columns and low enough, the batches up to a painting leave its fresh painting

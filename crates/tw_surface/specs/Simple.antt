@@ -8,7 +8,7 @@ use Rattle.tw_surface.specs.ChangeView.{Attribute, AllAttributes, Text, ClearScr
 use Rattle.tw_surface.specs.Characters.{cr, lf}
 use Rattle.tw_surface.specs.Lines.{lines_of}
 use Rattle.tw_surface.specs.Places.{pieces, plain_piece}
-use Rattle.tw_surface.specs.Scenes.{Scene, Lower, typed}
+use Rattle.tw_surface.specs.Scenes.{Scene, Lower, typed_text}
 use Rattle.tw_surface.specs.Scenes.Lower.{NoLower, Preview, Search}
 use Rattle.tw_surface.specs.PaintingBatches.{SizedScene}
 
@@ -19,16 +19,16 @@ is_break ch = eqb ch cr || eqb ch lf
 -- ---- spelled
 
 -- the characters of a change's text in place of its bytes
-abbrev pub spelled : ChangeView → ChangeView
-spelled (Text text) = Text (chars text)
-spelled (Attribute a) = Attribute a
-spelled (AllAttributes a) = AllAttributes a
-spelled (ClearScreen color) = ClearScreen color
-spelled (ClearToEndOfScreen color) = ClearToEndOfScreen color
-spelled (CursorPosition x y) = CursorPosition x y
+abbrev pub spelled_change : ChangeView → ChangeView
+spelled_change (Text text) = Text (chars text)
+spelled_change (Attribute a) = Attribute a
+spelled_change (AllAttributes a) = AllAttributes a
+spelled_change (ClearScreen color) = ClearScreen color
+spelled_change (ClearToEndOfScreen color) = ClearToEndOfScreen color
+spelled_change (CursorPosition x y) = CursorPosition x y
 
 abbrev pub spelled_all : Batch → Batch
-spelled_all changes = map spelled changes
+spelled_all changes = map spelled_change changes
 
 abbrev pub spelled_batches : List Batch → List Batch
 spelled_batches played = map spelled_all played
@@ -60,16 +60,16 @@ AreSimple (ClearToEndOfScreen color ∷ changes) = ⊥
 AreSimple (CursorPosition x y ∷ changes) = ⊥
 
 -- pieces with the pair CR LF taken apart
-abbrev pub parted : List Piece → List Piece
-parted [] = []
-parted (CrLf ∷ more) = Cr ∷ Lf ∷ parted more
-parted (Cr ∷ more) = Cr ∷ parted more
-parted (Lf ∷ more) = Lf ∷ parted more
-parted (Wide v ∷ more) = Wide v ∷ parted more
+abbrev pub parted_pieces : List Piece → List Piece
+parted_pieces [] = []
+parted_pieces (CrLf ∷ more) = Cr ∷ Lf ∷ parted_pieces more
+parted_pieces (Cr ∷ more) = Cr ∷ parted_pieces more
+parted_pieces (Lf ∷ more) = Lf ∷ parted_pieces more
+parted_pieces (Wide v ∷ more) = Wide v ∷ parted_pieces more
 
 -- a text that is measured by its characters: CR, LF, or one column each
 abbrev pub IsCounted : List ℕ → Type 0
-IsCounted text = parted (pieces text) ≡ map plain_piece (chars text)
+IsCounted text = parted_pieces (pieces text) ≡ map plain_piece (chars text)
 
 -- attributes and such texts
 abbrev pub AreCounted : Batch → Type 0
@@ -84,7 +84,7 @@ AreCounted (CursorPosition x y ∷ changes) = ⊥
 -- a lower text that is measured by its characters, with no CR or LF but in pairs that end the lines of a preview
 abbrev pub IsSimpleLower : Lower → Type 0
 IsSimpleLower NoLower = Unit {0}
-IsSimpleLower (Preview elements) = AreCounted elements × (list_any (list_any is_break) (lines_of (typed (spelled_all elements))) ≡ false)
+IsSimpleLower (Preview elements) = AreCounted elements × (list_any (list_any is_break) (lines_of (typed_text (spelled_all elements))) ≡ false)
 IsSimpleLower (Search text) = IsCounted (cr ∷ lf ∷ text) × (list_any is_break (chars text) ≡ false)
 
 -- a scene of simple texts

@@ -5,7 +5,7 @@ use Rattle.tw_surface.specs.Pictures.{Picture, play_all}
 use Rattle.tw_surface.specs.Paintings.{painting}
 use Rattle.tw_surface.specs.Scenes.{Scene, IsPlain}
 use Rattle.tw_surface.specs.Fresh.{IsFresh, IsSameAbove, IsClosed, last_row}
-use Rattle.tw_surface.specs.PaintingBatches.{SizedScene, shot_of, scenes_of, batches, closing_batch, last_of, shows, closing_of, whole, play_batches, start_row}
+use Rattle.tw_surface.specs.PaintingBatches.{SizedScene, shot_of, scenes_of, batches, closing_batch, last_of, shown_batches, closing_of, run_batches, play_batches, start_row}
 use Rattle.tw_surface.specs.Simple.{IsSimple, IsSimpleAt, spelled_all, spelled_batches, spelled_scene}
 
 -- a painting of a simple scene is the fresh one of its characters
@@ -19,14 +19,14 @@ abbrev pub SimplePaintings : Type 0
 SimplePaintings = (w e : ℕ) (first : Scene) (more : List Scene) (before : Picture)
     → 2 ≤ w → before.row ≡ e → before.col ≡ 0 → All IsSimple (first ∷ more)
     → let s = start_row e (first ∷ more) in
-    let after = play_batches w (spelled_batches (shows w (first ∷ more))) before in
+    let after = play_batches w (spelled_batches (shown_batches w (first ∷ more))) before in
     IsFresh w s (spelled_scene (last_of first more)) after × IsSameAbove w s before after
 
 -- the closing batch leaves the cursor under the last painting, blank from there on, and the rest as it was
 abbrev pub SimpleClosing : Type 0
 SimpleClosing = (w e : ℕ) (first : Scene) (more : List Scene) (before : Picture)
     → 2 ≤ w → before.row ≡ e → before.col ≡ 0 → All IsSimple (first ∷ more)
-    → let after = play_batches w (spelled_batches (shows w (first ∷ more))) before in
+    → let after = play_batches w (spelled_batches (shown_batches w (first ∷ more))) before in
     IsClosed w (last_row w (start_row e (first ∷ more)) (spelled_scene (last_of first more))) after
     (play_batches w (spelled_batches (closing_of w (first ∷ more))) after)
 
@@ -35,12 +35,12 @@ abbrev pub SimpleStacking : Type 0
 SimpleStacking = (w e : ℕ) (first : Scene) (more : List Scene) (second : Scene) (others : List Scene) (before : Picture)
     → 2 ≤ w → before.row ≡ e → before.col ≡ 0 → All IsSimple (first ∷ more) → All IsSimple (second ∷ others)
     → list_any (λ scene. scene.cleared) (second ∷ others) ≡ false
-    → let shown = play_batches w (spelled_batches (shows w (first ∷ more))) before in
-    let entered = play_batches w (spelled_batches (whole w (first ∷ more))) before in
+    → let shown = play_batches w (spelled_batches (shown_batches w (first ∷ more))) before in
+    let entered = play_batches w (spelled_batches (run_batches w (first ∷ more))) before in
     let under = last_row w (start_row e (first ∷ more)) (spelled_scene (last_of first more)) + 1 in
-    IsSameAbove w under shown (play_batches w (spelled_batches (shows w (second ∷ others))) entered)
-    × IsSameAbove w under shown (play_batches w (spelled_batches (whole w (second ∷ others))) entered)
-    × IsFresh w under (spelled_scene (last_of second others)) (play_batches w (spelled_batches (shows w (second ∷ others))) entered)
+    IsSameAbove w under shown (play_batches w (spelled_batches (shown_batches w (second ∷ others))) entered)
+    × IsSameAbove w under shown (play_batches w (spelled_batches (run_batches w (second ∷ others))) entered)
+    × IsFresh w under (spelled_scene (last_of second others)) (play_batches w (spelled_batches (shown_batches w (second ∷ others))) entered)
 
 -- of any list of stations: where each station so far is simple and for w columns, the batches up to a painting leave its fresh painting
 abbrev pub EverySimplePainting : Type 0

@@ -5,7 +5,7 @@ use Rattle.tw_surface.specs.ChangeView.{Batch}
 use Rattle.tw_surface.specs.Pictures.{Picture, blank}
 use Rattle.tw_surface.specs.Scenes.{Scene}
 use Rattle.tw_surface.specs.Fresh.{IsFresh, IsClosed, last_row}
-use Rattle.tw_surface.specs.PaintingBatches.{SizedScene, shot_of, scenes_of, batches, closing_batch, last_of, shows, closing_of, whole, play_batches, start_row}
+use Rattle.tw_surface.specs.PaintingBatches.{SizedScene, shot_of, scenes_of, batches, closing_batch, last_of, shown_batches, closing_of, run_batches, play_batches, start_row}
 use Rattle.tw_surface.specs.Cutting.{cut_to, SizedBatch, sized_batches, play_cut, narrowest}
 use Rattle.tw_surface.specs.HealingLaws.{begins_cleared, HasTextPrompt, IsFreshOnAny, IsFreshOnAnyOf}
 use Rattle.tw_surface.specs.Scrolling.{play_batches_on, IsLow, top_row, IsMovedUp, IsClosedOn}
@@ -18,7 +18,7 @@ abbrev pub ScrolledSimplePainting : Type 0
 ScrolledSimplePainting = (h w : ℕ) (first : Scene) (more : List Scene) (before : Picture)
     → 2 ≤ w → before.row < h → before.col ≡ 0 → All IsSimple (first ∷ more) → All (IsLow h w) (map spelled_scene (first ∷ more))
     → let s = top_row h w before.row (map spelled_scene (first ∷ more)) in
-    let after = play_batches_on h w (spelled_batches (shows w (first ∷ more))) before in
+    let after = play_batches_on h w (spelled_batches (shown_batches w (first ∷ more))) before in
     IsFresh w s (spelled_scene (last_of first more)) after × IsMovedUp w s (before.row - s) before after
 
 -- the closing batch leaves the cursor in the row under the last painting, and the rows above as they were, moved up
@@ -26,7 +26,7 @@ abbrev pub ScrolledSimpleClosing : Type 0
 ScrolledSimpleClosing = (h w : ℕ) (first : Scene) (more : List Scene) (before : Picture)
     → 2 ≤ w → before.row < h → before.col ≡ 0 → All IsSimple (first ∷ more) → All (IsLow h w) (map spelled_scene (first ∷ more))
     → let last = last_row w (top_row h w before.row (map spelled_scene (first ∷ more))) (spelled_scene (last_of first more)) in
-    let after = play_batches_on h w (spelled_batches (shows w (first ∷ more))) before in
+    let after = play_batches_on h w (spelled_batches (shown_batches w (first ∷ more))) before in
     IsClosedOn h w last after (play_batches_on h w (spelled_batches (closing_of w (first ∷ more))) after)
 
 -- a second list paints from the closing on, and the rows of the first one stay as its last painting left them, moved up
@@ -34,11 +34,11 @@ abbrev pub ScrolledSimpleStacking : Type 0
 ScrolledSimpleStacking = (h w : ℕ) (first : Scene) (more : List Scene) (second : Scene) (others : List Scene) (before : Picture)
     → 2 ≤ w → before.row < h → before.col ≡ 0 → All IsSimple (first ∷ more) → All (IsLow h w) (map spelled_scene (first ∷ more))
     → All IsSimple (second ∷ others) → All (IsLow h w) (map spelled_scene (second ∷ others))
-    → let shown = play_batches_on h w (spelled_batches (shows w (first ∷ more))) before in
+    → let shown = play_batches_on h w (spelled_batches (shown_batches w (first ∷ more))) before in
     let under = last_row w (top_row h w before.row (map spelled_scene (first ∷ more))) (spelled_scene (last_of first more)) + 1 in
-    let entered = play_batches_on h w (spelled_batches (whole w (first ∷ more))) before in
+    let entered = play_batches_on h w (spelled_batches (run_batches w (first ∷ more))) before in
     let s = top_row h w entered.row (map spelled_scene (second ∷ others)) in
-    let after = play_batches_on h w (spelled_batches (shows w (second ∷ others))) entered in
+    let after = play_batches_on h w (spelled_batches (shown_batches w (second ∷ others))) entered in
     IsFresh w s (spelled_scene (last_of second others)) after × IsMovedUp w s (under - s) shown after
 
 -- of any list of stations: where each station so far is simple, for w columns and low enough, the batches up to a painting leave its fresh painting

@@ -2,7 +2,7 @@
 
 ghost use Rattle.std.specs.Prelude.{◌≡◌, ◌≤◌, ℕ, List, pos, IfOk, OnErr, string_bytes};
 ghost use Rattle.tw_surface.specs.ChangeView.{change_view, Text as TextView};
-ghost use Rattle.tw_surface.specs.Positions.{moved, at_least_0};
+ghost use Rattle.tw_surface.specs.Positions.{position_after, at_least_0};
 
 use crate::cell::{AttributeChange, CellAttributes};
 use crate::color::ColorAttribute;
@@ -21,7 +21,7 @@ impl Position {
     /// Where it leads from a column or a row up to 4,294,967,295, or 0 in place of a negative number.
     pub(crate) fn moved_from(self, at: usize) -> usize
         requires { at ≤ 4294967295 }
-        ensures { result ≡ at_least_0 (moved self (pos at)) }
+        ensures { result ≡ at_least_0 (position_after self (pos at)) }
     {
         match self {
             Position::Absolute(to) => to,

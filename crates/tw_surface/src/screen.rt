@@ -4,7 +4,7 @@ ghost use Rattle.std.specs.Prelude.{string_bytes, ◌++◌, ◌≡◌, ℕ, ◌+
 ghost use Rattle.std.specs.List.{list_all};
 ghost use Rattle.tw_surface.specs.ChangeView.{change_view, Text as TextView};
 ghost use Rattle.tw_surface.specs.Characters.{is_plain};
-ghost use Rattle.tw_surface.specs.Pictures.{blank, cleared, play, play_text, can_play};
+ghost use Rattle.tw_surface.specs.Pictures.{blank, cells_cleared_from, play, play_text, can_play};
 ghost use Rattle.tw_surface.specs.Cells.{shown_at, picture, blank_screen, row_of, IsInOrder, IsSparse, IsTrimmed, IsLastRow};
 ghost use Rattle.tw_surface.specs.ScreenSteps.{moved_from, with_cursor_moved, IsPastLimit, RefusesPastLimit};
 
@@ -236,7 +236,7 @@ impl Screen {
     fn clear_to_end(&mut self)
         ensures width { self.new.width ≡ self.old.width }
         ensures cleared { let before = picture self.old in
-            picture self.new ≡ record before { cell = cleared before.cell self.old.row self.old.col } }
+            picture self.new ≡ record before { cell = cells_cleared_from before.cell self.old.row self.old.col } }
     {
         self.near.truncate(place_of(self.width, self.row, self.col));
         trim(&mut self.near);

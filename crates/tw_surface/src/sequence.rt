@@ -2,7 +2,7 @@
 
 ghost use Rattle.std.specs.Prelude.{◌≡◌, ◌+◌, ◌-◌, ◌<◌, ◌≤◌, ◌⊎◌, ◌↔◌, Ok, Err, OnOk, OnErr, MatchOption, [], ◌∷◌, ◌++◌, true, nat_abs, is_ok, if◌then◌else◌};
 ghost use Rattle.tw_surface.specs.ChangeView.{change_view, batch_view};
-ghost use Rattle.tw_surface.specs.Positions.{moved};
+ghost use Rattle.tw_surface.specs.Positions.{position_after};
 ghost use Rattle.tw_surface.specs.Places.{places_of_change, is_in_range, move_between};
 ghost use Rattle.tw_surface.specs.Drawings.{Drawing, place, height};
 ghost use Rattle.tw_surface.specs.Extents.{place_of, Measures};
@@ -40,7 +40,7 @@ impl Error for AddFault {}
 /// The row to which a position leads, or `None` where it is far out of range.
 fn moved_row(position: Position, at: isize) -> Option<isize>
     requires { nat_abs at ≤ 2147483647 }
-    ensures { MatchOption result (2147483647 < nat_abs (moved position at)) (λ row. row ≡ moved position at) }
+    ensures { MatchOption result (2147483647 < nat_abs (position_after position at)) (λ row. row ≡ position_after position at) }
 {
     match position {
         Position::Absolute(row) => {

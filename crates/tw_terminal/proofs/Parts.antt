@@ -4,7 +4,7 @@ use Rattle.std.proofs.lemmas.List.{take-map, take_min, append-nil}
 use Rattle.tw_surface.specs.declared.change.Change.{Change}
 use Rattle.tw_surface.specs.ChangeView.{Batch, batch_view, change_view}
 use Rattle.tw_terminal.specs.TerminalState.{RenderFails, IsPart}
-use Rattle.tw_terminal.specs.Script.{Script, failed, as_batch, on_terminal, recorded}
+use Rattle.tw_terminal.specs.Script.{Script, after_failure, as_batch, on_terminal, with_batches}
 
 -- changes that are some are one batch
 pub as_batch-map : (changes : List Change) → length changes ≢ 0 → as_batch (batch_view changes) ≡ batch_view changes ∷ []
@@ -19,8 +19,8 @@ as_batch-take n changes some =
     ∙ as_batch-map (take (min n (length changes)) changes) some
 
 -- a call that fails and records nothing
-pub RenderFails-failed : (batch : Batch) (old new : Script) → new ≡ failed old → RenderFails batch old.terminal new.terminal
-RenderFails-failed batch old new same = record {
+pub RenderFails-after_failure : (batch : Batch) (old new : Script) → new ≡ after_failure old → RenderFails batch old.terminal new.terminal
+RenderFails-after_failure batch old new same = record {
   part = ([], inl refl, ap (λ script. script.terminal.batches) same ∙ sym (append-nil old.terminal.batches));
   rest = rw same refl;
 }
@@ -32,7 +32,7 @@ IsPart-as_batch (suc n) [] = inl refl
 IsPart-as_batch (suc n) (change ∷ changes) = inr (suc n, refl)
 
 -- a call that fails once it has recorded a beginning
-pub RenderFails-part : (n : ℕ) (batch : Batch) (old new : Script) → new ≡ failed (on_terminal (recorded (as_batch (take n batch))) old)
+pub RenderFails-part : (n : ℕ) (batch : Batch) (old new : Script) → new ≡ after_failure (on_terminal (with_batches (as_batch (take n batch))) old)
     → RenderFails batch old.terminal new.terminal
 RenderFails-part n batch old new same = record {
   part = (_, IsPart-as_batch n batch, ap (λ script. script.terminal.batches) same);
@@ -40,4 +40,4 @@ RenderFails-part n batch old new same = record {
 }
 
 -- what a `render` that fails is proved by
-pub ruleset parts = (as_batch-take, RenderFails-failed, RenderFails-part)
+pub ruleset parts = (as_batch-take, RenderFails-after_failure, RenderFails-part)

@@ -28,36 +28,36 @@ taken_at call None = None
 taken_at call (Some fault) = if call == fault.call then Some fault.taken else None
 
 -- how many changes the next call takes before it fails, where it is the one to fail
-abbrev pub due : Script → Option ℕ
-due script = option_and_then (λ call. taken_at call script.fault) script.next_call
+abbrev pub part_due : Script → Option ℕ
+part_due script = option_and_then (λ call. taken_at call script.fault) script.next_call
 
 -- the next call is the one to fail
 abbrev pub IsDue : Script → Type 0
-IsDue script = IsSome (due script)
+IsDue script = IsSome (part_due script)
 
 -- the number after a call's: none after the last
 abbrev pub number_after : ℕ → Option ℕ
 number_after call = if call == usize_max then None else Some (call + 1)
 
 -- a call is counted
-abbrev pub counted : Script → Script
-counted script = record script { next_call = option_and_then number_after script.next_call }
+abbrev pub with_call_counted : Script → Script
+with_call_counted script = record script { next_call = option_and_then number_after script.next_call }
 
 -- this is done to the terminal, and to nothing else
 abbrev pub on_terminal : (TerminalState → TerminalState) → Script → Script
 on_terminal effect script = record script { terminal = effect script.terminal }
 
 -- a failure is counted
-abbrev pub failure_counted : TerminalState → TerminalState
-failure_counted terminal = record terminal { failures = count_up terminal.failures }
+abbrev pub with_failure_counted : TerminalState → TerminalState
+with_failure_counted terminal = record terminal { failures = count_up terminal.failures }
 
 -- a call is counted, and its failure too
-abbrev pub failed : Script → Script
-failed script = on_terminal failure_counted (counted script)
+abbrev pub after_failure : Script → Script
+after_failure script = on_terminal with_failure_counted (with_call_counted script)
 
 -- a call is made: it fails where it is due, and else this is done to the terminal
-abbrev pub called : (TerminalState → TerminalState) → Script → Script
-called effect script = if is_some (due script) then failed script else on_terminal effect (counted script)
+abbrev pub after_call : (TerminalState → TerminalState) → Script → Script
+after_call effect script = if is_some (part_due script) then after_failure script else on_terminal effect (with_call_counted script)
 
 -- the first of these events is taken, if there is one
 abbrev pub without_first : List EventView → TerminalState → TerminalState
@@ -65,16 +65,16 @@ without_first [] terminal = terminal
 without_first (event ∷ rest) terminal = record terminal { events = rest; size = size_after event terminal.size }
 
 -- the first event left is taken, if there is one
-abbrev pub polled : TerminalState → TerminalState
-polled terminal = without_first terminal.events terminal
+abbrev pub after_poll : TerminalState → TerminalState
+after_poll terminal = without_first terminal.events terminal
 
 -- all batches are flushed
 abbrev pub all_flushed : TerminalState → TerminalState
 all_flushed terminal = record terminal { flushed = length terminal.batches }
 
 -- these batches are taken
-abbrev pub recorded : List Batch → TerminalState → TerminalState
-recorded batches terminal = record terminal { batches = terminal.batches ++ batches }
+abbrev pub with_batches : List Batch → TerminalState → TerminalState
+with_batches batches terminal = record terminal { batches = terminal.batches ++ batches }
 
 -- changes as one batch, or no batch where there are none
 abbrev pub as_batch : Batch → List Batch
@@ -88,11 +88,11 @@ taken_with batch (Some taken) = as_batch (take taken batch)
 
 -- the batches that a `render` takes: its changes as one batch, or where it is due the beginning that it takes before it fails
 abbrev pub taken_of : Batch → Script → List Batch
-taken_of batch script = taken_with batch (due script)
+taken_of batch script = taken_with batch (part_due script)
 
 -- a `render` takes its batches, and fails where it is due
-abbrev pub rendered : Batch → Script → Script
-rendered batch script = called (λ terminal. terminal) (on_terminal (recorded (taken_of batch script)) script)
+abbrev pub after_render : Batch → Script → Script
+after_render batch script = after_call (λ terminal. terminal) (on_terminal (with_batches (taken_of batch script)) script)
 
 -- the batches that vectors of changes are
 abbrev pub batches_view : List (Vec Change) → List Batch

@@ -4,8 +4,8 @@ ghost use Rattle.std.specs.Prelude.{◌≡◌, ◌≢◌, ◌↔◌, ◌∷◌, 
 ghost use Rattle.tw_surface.specs.ChangeView.{batch_view};
 ghost use Rattle.tw_input.specs.EventView.{event_view};
 ghost use Rattle.tw_terminal.specs.TerminalState.{Fails, Takes, IsAtEnd, Renders, RenderFails, Flushes};
-ghost use Rattle.tw_terminal.specs.Script.{fresh_script, due, IsDue, counted, on_terminal, failure_counted, failed, called};
-ghost use Rattle.tw_terminal.specs.Script.{polled, all_flushed, recorded, as_batch, taken_of, rendered, batches_view};
+ghost use Rattle.tw_terminal.specs.Script.{fresh_script, part_due, IsDue, with_call_counted, on_terminal, with_failure_counted, after_failure, after_call};
+ghost use Rattle.tw_terminal.specs.Script.{after_poll, all_flushed, with_batches, as_batch, taken_of, after_render, batches_view};
 
 use crate::terminal::{ScreenSize, Terminal, TerminalFault};
 use std::alloc::{AllocError, Global};
@@ -116,8 +116,8 @@ impl ScriptTerminal {
 
     /// Counts a call, and says how many changes it takes first where it is the one to fail.
     fn count_call(&mut self) -> Option<usize>
-        ensures due { result ≡ due self.old }
-        ensures script { self.new ≡ counted self.old }
+        ensures due { result ≡ part_due self.old }
+        ensures script { self.new ≡ with_call_counted self.old }
     {
         let call = self.next_call?;
         self.next_call = call.checked_add(1);
@@ -129,7 +129,7 @@ impl ScriptTerminal {
 
     /// Counts a failure.
     fn count_failure(&mut self)
-        ensures { self.new ≡ on_terminal failure_counted self.old }
+        ensures { self.new ≡ on_terminal with_failure_counted self.old }
     {
         self.failures = self.failures.saturating_add(1);
     }
@@ -138,7 +138,7 @@ impl ScriptTerminal {
     fn begin_call(&mut self) -> Result<(), TerminalFault>
         ensures device { (result ≡ Err TerminalFault.Device) ↔ IsDue self.old }
         ensures memory { result ≢ Err TerminalFault.Memory }
-        ensures script { self.new ≡ called (λ terminal. terminal) self.old }
+        ensures script { self.new ≡ after_call (λ terminal. terminal) self.old }
     {
         if self.count_call().is_some() {
             self.count_failure();
@@ -150,7 +150,7 @@ impl ScriptTerminal {
     /// Records the changes as a batch, or nothing where no memory is found.
     fn record(&mut self, changes: &[Change]) -> Result<(), AllocError>
         ensures ok { OnOk result
-            (self.new ≡ on_terminal (recorded (batch_view changes.now ∷ [])) self.old) }
+            (self.new ≡ on_terminal (with_batches (batch_view changes.now ∷ [])) self.old) }
         ensures err { OnErr result (self.new ≡ self.old) }
     {
         let batch = copies(self.alloc, changes)?;
@@ -162,7 +162,7 @@ impl ScriptTerminal {
     #[tactic(auto, using(crate::proofs::Parts::parts))]
     fn record_part(&mut self, changes: &[Change], taken: usize) -> Result<(), AllocError>
         ensures ok { OnOk result
-            (self.new ≡ on_terminal (recorded (as_batch (take taken (batch_view changes.now)))) self.old) }
+            (self.new ≡ on_terminal (with_batches (as_batch (take taken (batch_view changes.now)))) self.old) }
         ensures err { OnErr result (self.new ≡ self.old) }
         ensures some { OnErr result (as_batch (take taken (batch_view changes.now)) ≢ []) }
     {
@@ -196,7 +196,7 @@ impl Terminal for ScriptTerminal {
 
         ensures device { (result ≡ Err TerminalFault.Device) ↔ IsDue self.old }
         ensures memory { result ≢ Err TerminalFault.Memory }
-        ensures script { self.new ≡ called (λ terminal. terminal) self.old }
+        ensures script { self.new ≡ after_call (λ terminal. terminal) self.old }
     {
         self.begin_call()?;
         Ok(self.size)
@@ -213,7 +213,7 @@ impl Terminal for ScriptTerminal {
 
         ensures device { (result ≡ Err TerminalFault.Device) ↔ IsDue self.old }
         ensures memory { result ≢ Err TerminalFault.Memory }
-        ensures script { self.new ≡ called polled self.old }
+        ensures script { self.new ≡ after_call after_poll self.old }
     {
         self.begin_call()?;
         let event = self.events.next();
@@ -236,8 +236,8 @@ impl Terminal for ScriptTerminal {
         ensures device { result ≢ Err TerminalFault.Memory →
             ((result ≡ Err TerminalFault.Device) ↔ IsDue self.old) }
         ensures script { result ≢ Err TerminalFault.Memory →
-            self.new ≡ rendered (batch_view changes.now) self.old }
-        ensures memory { result ≡ Err TerminalFault.Memory → self.new ≡ failed self.old }
+            self.new ≡ after_render (batch_view changes.now) self.old }
+        ensures memory { result ≡ Err TerminalFault.Memory → self.new ≡ after_failure self.old }
         ensures some { result ≡ Err TerminalFault.Memory →
             taken_of (batch_view changes.now) self.old ≢ [] }
     {
@@ -264,7 +264,7 @@ impl Terminal for ScriptTerminal {
 
         ensures device { (result ≡ Err TerminalFault.Device) ↔ IsDue self.old }
         ensures memory { result ≢ Err TerminalFault.Memory }
-        ensures script { self.new ≡ called all_flushed self.old }
+        ensures script { self.new ≡ after_call all_flushed self.old }
     {
         self.begin_call()?;
         self.flushed = self.batches.len();

@@ -10,7 +10,7 @@ use Rattle.tw_lineedit.specs.declared.Movement.TheVariants.{StartOfLine}
 use Rattle.tw_lineedit.specs.Cut.{Cut}
 use Rattle.tw_lineedit.specs.ElementView.{ElementView}
 use Rattle.tw_lineedit.specs.HostRules.{HostRules, Highlight, plain_text, plain_rules}
-use Rattle.tw_lineedit.specs.KeyTable.{pressed}
+use Rattle.tw_lineedit.specs.KeyTable.{key_press}
 use Rattle.tw_hosts.specs.Bindings.{resolved_event}
 use Rattle.tw_hosts.specs.Tokens.{styled}
 use Rattle.tw_hosts.specs.WordCompletion.{completions}
@@ -35,8 +35,8 @@ highlight_of v cut = record { elements = shown_line v.known cut.line; column = c
 -- the keys of the host's own
 abbrev pub own_keys : List KeyBinding
 own_keys =
-    record { key = pressed none Escape; binding = Cancel }
-    ∷ record { key = pressed ctrl (Char 85); binding = Kill StartOfLine }
+    record { key = key_press none Escape; binding = Cancel }
+    ∷ record { key = key_press ctrl (Char 85); binding = Kill StartOfLine }
     ∷ []
 
 -- the prompt as it is, no preview, and the answers above; a command completes the word before the cursor

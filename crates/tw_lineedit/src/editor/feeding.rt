@@ -150,7 +150,7 @@ impl<'term, T: Terminal> LineEditor<'term, T> {
             let after = own_frame T.state self.new in
             IfErr result (FailsToFinish before after) }
     {
-        match self.answered() {
+        match self.answer() {
             Ok(line) => {
                 self.close()?;
                 Ok(line)

@@ -110,7 +110,7 @@ fn completed_by(
 impl Session {
     /// Puts in the first of the host's candidates for the line that is shown, or the cycle's next one, and
     /// leaves a search. Where it is refused nothing is changed.
-    #[tactic(auto, unfolding(crate::specs::Steps::apply, crate::specs::Completion::completed))]
+    #[tactic(auto, unfolding(crate::specs::Steps::apply, crate::specs::Completion::completion_step))]
     pub(super) fn complete<H: LineEditorHost>(&mut self, host: &H) -> Result<(), Error>
         ensures ok { OnOk result (ActsOn H.rules (H.value host.now) Complete self.old self.new) }
         ensures err { IfErr result (FailsToActOn H.rules (H.value host.now) Complete self.old self.new) }
@@ -127,7 +127,7 @@ impl Session {
     }
 
     /// Puts in the first of the host's candidates, and keeps two or more.
-    #[tactic(auto, unfolding(crate::specs::Steps::apply, crate::specs::Completion::completed))]
+    #[tactic(auto, unfolding(crate::specs::Steps::apply, crate::specs::Completion::completion_step))]
     fn begin_completion<H: LineEditorHost>(&mut self, host: &H) -> Result<(), Error>
         requires { self.old.state.cycle ≡ None }
         ensures ok { OnOk result (ActsOn H.rules (H.value host.now) Complete self.old self.new) }

@@ -104,7 +104,7 @@ impl Session {
         Ok(())
     }
 
-    /// Begins a search, or goes on with it beside the position. Where it is refused nothing is changed.
+    /// Begins a search, or goes on with it beside the index. Where it is refused nothing is changed.
     #[tactic(auto, unfolding(crate::specs::Search::search_step))]
     pub(super) fn search<H: LineEditorHost>(
         &mut self,
@@ -122,7 +122,7 @@ impl Session {
                 matching,
             } => {
                 let start = match self.history_index {
-                    Some(position) => direction.next(position),
+                    Some(index) => direction.next(index),
                     None => host.history().last(),
                 };
                 let Some(start) = start else {

@@ -3,7 +3,7 @@
 ghost use Rattle.std.specs.Prelude.{◌≡◌, ◌+◌, ◌<◌, ◌^◌, IfOk, IfSome, OnOk, OnErr, slice_get, option_map};
 ghost use Rattle.std.specs.Cow.{cow_str_bytes};
 ghost use Rattle.tw_session.specs.Steps.{history_step};
-ghost use Rattle.tw_session.specs.Walk.{previous, next, with_line_of, with_typed_line};
+ghost use Rattle.tw_session.specs.Walk.{previous_step, next_step, with_line_of, with_typed_line};
 ghost use Rattle.tw_session.specs.SessionView.{on_state};
 
 use super::{Mode, Session};
@@ -31,7 +31,7 @@ impl Session {
     /// Takes the line before; while searching, searches backwards. Where it is refused nothing is changed.
     pub(super) fn step_back<H: LineEditorHost>(&mut self, host: &mut H) -> Result<(), AllocError>
         ensures host { host.new ≡ host.old }
-        ensures ok { OnOk result (self.new ≡ on_state (λ s. history_step (H.rules.lines (H.value host.old)) SearchDirection.Backwards (previous (H.rules.lines (H.value host.old))) s s.mode) self.old) }
+        ensures ok { OnOk result (self.new ≡ on_state (λ s. history_step (H.rules.lines (H.value host.old)) SearchDirection.Backwards (previous_step (H.rules.lines (H.value host.old))) s s.mode) self.old) }
         ensures err { OnErr result (self.new ≡ self.old) }
     {
         match self.mode {
@@ -43,7 +43,7 @@ impl Session {
     /// Takes the line after; while searching, searches forwards. Where it is refused nothing is changed.
     pub(super) fn step_forth<H: LineEditorHost>(&mut self, host: &mut H) -> Result<(), AllocError>
         ensures host { host.new ≡ host.old }
-        ensures ok { OnOk result (self.new ≡ on_state (λ s. history_step (H.rules.lines (H.value host.old)) SearchDirection.Forwards (next (H.rules.lines (H.value host.old))) s s.mode) self.old) }
+        ensures ok { OnOk result (self.new ≡ on_state (λ s. history_step (H.rules.lines (H.value host.old)) SearchDirection.Forwards (next_step (H.rules.lines (H.value host.old))) s s.mode) self.old) }
         ensures err { OnErr result (self.new ≡ self.old) }
     {
         match self.mode {
@@ -52,17 +52,17 @@ impl Session {
         }
     }
 
-    /// Takes the line before the position, or without one the last line, and keeps the typed one.
-    #[tactic(auto, unfolding(crate::specs::Walk::previous))]
+    /// Takes the line before the index, or without one the last line, and keeps the typed one.
+    #[tactic(auto, unfolding(crate::specs::Walk::previous_step))]
     fn history_previous<H: LineEditorHost>(&mut self, host: &mut H) -> Result<(), AllocError>
         ensures host { host.new ≡ host.old }
-        ensures ok { OnOk result (self.new ≡ on_state (previous (H.rules.lines (H.value host.old))) self.old) }
+        ensures ok { OnOk result (self.new ≡ on_state (previous_step (H.rules.lines (H.value host.old))) self.old) }
         ensures err { OnErr result (self.new ≡ self.old) }
     {
         let history = host.history();
         match self.history_index {
-            Some(position) => {
-                let before = position.saturating_sub(1);
+            Some(index) => {
+                let before = index.saturating_sub(1);
                 if let Some(line) = history.get(self.alloc, before)? {
                     self.take(before, line.as_str())?;
                 }
@@ -80,19 +80,19 @@ impl Session {
         Ok(())
     }
 
-    /// Takes the line after the position, and leaves the history where there is none. Without a position it
+    /// Takes the line after the index, and leaves the history where there is none. Without an index it
     /// does nothing.
-    #[tactic(auto, unfolding(crate::specs::Walk::next))]
+    #[tactic(auto, unfolding(crate::specs::Walk::next_step))]
     fn history_next<H: LineEditorHost>(&mut self, host: &mut H) -> Result<(), AllocError>
         ensures host { host.new ≡ host.old }
-        ensures ok { OnOk result (self.new ≡ on_state (next (H.rules.lines (H.value host.old))) self.old) }
+        ensures ok { OnOk result (self.new ≡ on_state (next_step (H.rules.lines (H.value host.old))) self.old) }
         ensures err { OnErr result (self.new ≡ self.old) }
     {
-        let Some(position) = self.history_index else {
+        let Some(index) = self.history_index else {
             return Ok(());
         };
-        match line_after(host.history(), self.alloc, position)? {
-            Some(line) => self.take(position + 1, line.as_str()),
+        match line_after(host.history(), self.alloc, index)? {
+            Some(line) => self.take(index + 1, line.as_str()),
             None => self.restore(),
         }
     }
@@ -107,7 +107,7 @@ impl Session {
         Ok(())
     }
 
-    /// Leaves the history: the kept line comes back, or the line is cleared. Where it is refused nothing is
+    /// Leaves the history: the typed line comes back, or the line is cleared. Where it is refused nothing is
     /// changed.
     fn restore(&mut self) -> Result<(), AllocError>
         ensures ok { OnOk result (self.new ≡ on_state with_typed_line self.old) }

@@ -1,7 +1,7 @@
 //! Far cells: behind the near ones a screen keeps the cells that are not blank, in order, and so no others.
 
 ghost use Rattle.std.specs.Prelude.{◌≡◌, ◌≢◌, ℕ, ◌+◌, ◌<◌, ◌≤◌, vec_len, vec_capacity, IfOk, IfErr};
-ghost use Rattle.tw_surface.specs.Pictures.{blank, written, cleared};
+ghost use Rattle.tw_surface.specs.Pictures.{blank, cells_with, cells_cleared_from};
 ghost use Rattle.tw_surface.specs.Cells.{cell_in, IsInOrder, IsAt, IsGapFor, IsCut, IsSparse};
 ghost use Rattle.tw_surface.specs.ScreenSteps.{StaysSparse};
 
@@ -39,7 +39,7 @@ fn put_cell(cells: &mut Vec<Cell>, row: usize, col: usize, ch: char)
     requires ascii { ch < 128 }
     requires room { vec_len cells.old < vec_capacity cells.old }
     requires ordered { IsInOrder cells.old.items }
-    ensures written { cell_in cells.new.items ≡ written (cell_in cells.old.items) row col ch }
+    ensures written { cell_in cells.new.items ≡ cells_with (cell_in cells.old.items) row col ch }
     ensures sparse { StaysSparse row col cells.old.items cells.new.items }
     ensures len { vec_len cells.new ≤ vec_len cells.old + 1 }
     ensures capacity { vec_capacity cells.old ≤ vec_capacity cells.new }
@@ -55,7 +55,7 @@ fn put_cell(cells: &mut Vec<Cell>, row: usize, col: usize, ch: char)
 // Puts a blank.
 fn remove_cell(cells: &mut Vec<Cell>, row: usize, col: usize)
     requires { IsInOrder cells.old.items }
-    ensures written { cell_in cells.new.items ≡ written (cell_in cells.old.items) row col blank }
+    ensures written { cell_in cells.new.items ≡ cells_with (cell_in cells.old.items) row col blank }
     ensures sparse { StaysSparse row col cells.old.items cells.new.items }
     ensures len { vec_len cells.new ≤ vec_len cells.old }
     ensures capacity { vec_capacity cells.old ≤ vec_capacity cells.new }
@@ -70,7 +70,7 @@ pub fn write_cell(cells: &mut Vec<Cell>, row: usize, col: usize, ch: char)
     requires ascii { ch < 128 }
     requires room { vec_len cells.old < vec_capacity cells.old }
     requires ordered { IsInOrder cells.old.items }
-    ensures written { cell_in cells.new.items ≡ written (cell_in cells.old.items) row col ch }
+    ensures written { cell_in cells.new.items ≡ cells_with (cell_in cells.old.items) row col ch }
     ensures sparse { StaysSparse row col cells.old.items cells.new.items }
     ensures len { vec_len cells.new ≤ vec_len cells.old + 1 }
     ensures capacity { vec_capacity cells.old ≤ vec_capacity cells.new }
@@ -96,7 +96,7 @@ fn count_before(cells: &[Cell], row: usize, col: usize) -> usize
 // Removes the cells at a row and a column and behind.
 pub fn clear_from(cells: &mut Vec<Cell>, row: usize, col: usize)
     requires { IsInOrder cells.old.items }
-    ensures cleared { cell_in cells.new.items ≡ cleared (cell_in cells.old.items) row col }
+    ensures cleared { cell_in cells.new.items ≡ cells_cleared_from (cell_in cells.old.items) row col }
     ensures sparse { (width first : ℕ) → IsSparse width first cells.old.items → IsSparse width first cells.new.items }
 {
     cells.truncate(count_before(cells, row, col));

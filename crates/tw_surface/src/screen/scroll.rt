@@ -2,7 +2,7 @@
 
 ghost use Rattle.std.specs.Prelude.{◌≡◌, ℕ, ◌+◌, ◌-◌, ◌*◌, ◌≤◌, drop, length, map};
 ghost use Rattle.std.specs.List.{All};
-ghost use Rattle.tw_surface.specs.Cells.{cell_in, picture, raised, IsInOrder, IsPartedAt, IsSparse};
+ghost use Rattle.tw_surface.specs.Cells.{cell_in, picture, higher_cell, IsInOrder, IsPartedAt, IsSparse};
 ghost use Rattle.tw_surface.specs.Pictures.{blank};
 ghost use Rattle.tw_surface.specs.Scrolling.{from_row};
 
@@ -13,7 +13,7 @@ use crate::screen::near::place_of;
 // Cells that stand in some row or below go up by so many rows.
 fn raise_cells(cells: &mut [Cell], rows: usize)
     requires { All (λ x. rows ≤ x.row) cells.old }
-    ensures { cells.new ≡ map (raised rows) cells.old }
+    ensures { cells.new ≡ map (higher_cell rows) cells.old }
 {
     for cell in cells.iter_mut() {
         cell.row -= rows;

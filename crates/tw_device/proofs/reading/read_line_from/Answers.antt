@@ -1,6 +1,6 @@
 use Rattle.std.proofs.Common.{rules, refl}
 use Rattle.std.proofs.lemmas.Result.{err_from_is_err_and}
-use Rattle.tw_device.specs.Live.{fresh}
+use Rattle.tw_device.specs.Live.{fresh_frame}
 use Rattle.tw_device.specs.contracts.terminal.AnsiTerminalTerminal.TheImpl as terminal
 use Rattle.tw_device.proofs.LiveLemmas.{opened_at, unbegun_at, stopped_at, ended_at, closed_at, read_as, cut_as}
 use Rattle.tw_device.proofs.reading.read_line_from.Goals as goal
@@ -13,7 +13,7 @@ returns-in_err-begin_line-clause-err g c =
     let state = (terminal.ghosts g.row.W g.W.Write g.W.Write-dict).state in
     let value = g.H.LineEditorHost.value in
     let i = frame state value c.set_prompt.new.self c.args.host.now in
-    let f = fresh c.args.prompt.now (value c.args.host.now) (state c.args.terminal.now) in
+    let f = fresh_frame c.args.prompt.now (value c.args.host.now) (state c.args.terminal.now) in
     let painted = frame state value c.begin_line.new.self c.args.host.now in
     rw (p.1, p.2) (unbegun_at g.H.LineEditorHost.rules (g.S.EventSource.told c.args.source.now) (g.S.EventSource.state c.args.source.now) f c.begin_line.new.self.session _ _ painted (search rules)
     c.in_err-begin_line.field-0.0 i refl (search rules) (c.in_err-begin_line.ensures.err (search rules)))
@@ -24,7 +24,7 @@ returns-in_err-stop-clause-err g c =
     let state = (terminal.ghosts g.row.W g.W.Write g.W.Write-dict).state in
     let value = g.H.LineEditorHost.value in
     let i = frame state value c.set_prompt.new.self c.args.host.now in
-    let f = fresh c.args.prompt.now (value c.args.host.now) (state c.args.terminal.now) in
+    let f = fresh_frame c.args.prompt.now (value c.args.host.now) (state c.args.terminal.now) in
     let painted = frame state value c.begin_line.new.self c.args.host.now in
     rw (p.1, p.2) (stopped_at g.H.LineEditorHost.rules (g.S.EventSource.told c.args.source.now) (g.S.EventSource.told c.take_events.new.source) (g.S.EventSource.state c.take_events.new.source) f c.take_events.new.editor.session _ _
     (frame state value c.take_events.new.editor c.take_events.new.host) (search rules) c.in_err-stop.field-0.0 painted
@@ -36,7 +36,7 @@ returns-in_err-line-clause-err g c =
     let state = (terminal.ghosts g.row.W g.W.Write g.W.Write-dict).state in
     let value = g.H.LineEditorHost.value in
     let i = frame state value c.set_prompt.new.self c.args.host.now in
-    let f = fresh c.args.prompt.now (value c.args.host.now) (state c.args.terminal.now) in
+    let f = fresh_frame c.args.prompt.now (value c.args.host.now) (state c.args.terminal.now) in
     let painted = frame state value c.begin_line.new.self c.args.host.now in
     rw (p.1, p.2) (ended_at g.H.LineEditorHost.rules (g.S.EventSource.told c.args.source.now) (g.S.EventSource.told c.take_events.new.source) (g.S.EventSource.state c.take_events.new.source) f c.finish_line.new.self.session _ _
     (frame state value c.finish_line.new.self c.take_events.new.host) (search rules) c.in_err-line.field-0.0 painted
@@ -49,7 +49,7 @@ returns-clause-ok g c =
     let state = (terminal.ghosts g.row.W g.W.Write g.W.Write-dict).state in
     let value = g.H.LineEditorHost.value in
     let i = frame state value c.set_prompt.new.self c.args.host.now in
-    let f = fresh c.args.prompt.now (value c.args.host.now) (state c.args.terminal.now) in
+    let f = fresh_frame c.args.prompt.now (value c.args.host.now) (state c.args.terminal.now) in
     let painted = frame state value c.begin_line.new.self c.args.host.now in
     let fed = frame state value c.take_events.new.editor c.take_events.new.host in
     read_as g.H.LineEditorHost.rules (g.S.EventSource.told c.args.source.now) (g.S.EventSource.told c.take_events.new.source) (g.S.EventSource.state c.take_events.new.source) f painted fed c.finish_line.new.self.session _ _ refl
@@ -62,7 +62,7 @@ returns-clause-err g c =
     let state = (terminal.ghosts g.row.W g.W.Write g.W.Write-dict).state in
     let value = g.H.LineEditorHost.value in
     let i = frame state value c.set_prompt.new.self c.args.host.now in
-    let f = fresh c.args.prompt.now (value c.args.host.now) (state c.args.terminal.now) in
+    let f = fresh_frame c.args.prompt.now (value c.args.host.now) (state c.args.terminal.now) in
     let painted = frame state value c.begin_line.new.self c.args.host.now in
     let fed = frame state value c.take_events.new.editor c.take_events.new.host in
     cut_as g.H.LineEditorHost.rules (g.S.EventSource.told c.args.source.now) (g.S.EventSource.told c.take_events.new.source) (g.S.EventSource.state c.take_events.new.source) f painted fed c.finish_line.new.self.session _ _ refl

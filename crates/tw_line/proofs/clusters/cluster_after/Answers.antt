@@ -1,6 +1,6 @@
-use Rattle.tw_extremes.specs.Extremes.{repeated}
+use Rattle.tw_extremes.specs.Extremes.{iterate}
 use Rattle.tw_line.proofs.clusters.cluster_after.Goals as goal
 
 pub returns-clause-value : goal.returns-clause-value
-unfolding repeated
+unfolding iterate
 returns-clause-value c = c.clusters_after.ensures.value

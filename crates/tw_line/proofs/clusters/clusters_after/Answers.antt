@@ -1,7 +1,7 @@
 use Rattle.std.proofs.Common.{◌≡◌, ◌-◌, refl, sym, ap, ◌∙◌, arith, rules}
 use Rattle.unicode_segmentation.proofs.CursorLemmas.{IsChunkOf-whole}
 use Rattle.tw_line.specs.Clusters.{cluster_after}
-use Rattle.tw_extremes.specs.Extremes.{repeated}
+use Rattle.tw_extremes.specs.Extremes.{iterate}
 use Rattle.tw_line.proofs.ClusterLemmas.{StandsAt-next, cluster_after-end}
 use Rattle.tw_extremes.proofs.ExtremesLemmas.{repeated_none, repeated_once, repeated_stays}
 use Rattle.tw_line.proofs.clusters.clusters_after.Goals as goal
@@ -12,7 +12,7 @@ loop-round-init c =
     record {
       stands = record { on = made.on _ c.utf8.line refl c.requires; offset = made.offset; kind = made.is_extended; done = made.fresh.0; awaits = made.fresh.1 };
       boundary = c.requires;
-      rest = let all : c.args.count - 0 ≡ c.args.count = omega arith in ap (λ n. repeated (cluster_after c.args.line.now) n c.args.at) all;
+      rest = let all : c.args.count - 0 ≡ c.args.count = omega arith in ap (λ n. iterate (cluster_after c.args.line.now) n c.args.at) all;
     }
 
 pub loop-round-preserved : goal.loop-round-preserved

@@ -1,6 +1,6 @@
 use Rattle.tw_surface.proofs.PaintedScenes.{cursor_place-row}
 use Rattle.tw_surface.proofs.PaintingHeights.{height-is}
-use Rattle.tw_surface.proofs.LowerText.{joined-lines, one_line, rows-is}
+use Rattle.tw_surface.proofs.LowerText.{text_of_lines-lines, one_line, rows-is}
 use Rattle.tw_surface.proofs.JoinedLines.{lines_of_joined}
 use Rattle.tw_surface.proofs.SizedScenes.{every_painting, last_painting}
 use Rattle.tw_surface.proofs.FreshLemmas.{one_fresh}
@@ -20,7 +20,7 @@ returns c = record {
   closed = closed_run;
   stacked = stacked;
   rows_counted = λ w s scene two plain. (cursor_place-row w scene two plain, height-is w s scene two plain);
-  lines = (joined-lines, one_line, lines_of_joined);
+  lines = (text_of_lines-lines, one_line, lines_of_joined);
   rows = λ w line two. rows-is w (length line) (omega arith);
   one = one_fresh;
 }

@@ -4,11 +4,11 @@ use Rattle.std.proofs.Math.Nat.{mul-zero, zero-mul}
 use Rattle.std.specs.List.{insert_slice, repeat}
 use Rattle.tw_line.specs.Cut.{cut_at}
 use Rattle.tw_line.specs.Edits.{with_text}
-use Rattle.tw_extremes.specs.Extremes.{repeated}
+use Rattle.tw_extremes.specs.Extremes.{iterate}
 use Rattle.tw_line.specs.Text.{bytes_of}
 use Rattle.tw_line.proofs.EditLemmas.{length-insert_slice, with_text-nothing}
 use Rattle.tw_extremes.proofs.ExtremesLemmas.{repeated_none}
-use Rattle.tw_line.proofs.RepeatLemmas.{with_text-repeated}
+use Rattle.tw_line.proofs.RepeatLemmas.{with_text-iterate}
 use Rattle.tw_line.proofs.TextLemmas.{length-bytes}
 use Rattle.tw_line.proofs.buffer.LineEditBuffer.insert_text_times.Goals.{then-count-eq0-via-then-count-eq0, then-count-eq0-via-else-count-eq0+then-is_empty}
 use Rattle.tw_line.proofs.buffer.LineEditBuffer.insert_text_times.Goals as goal
@@ -41,7 +41,7 @@ returns-clause-ok c =
     let text_is : c.deref.result.now ≡ many = c.deref.ensures ∙ c.in_ok-repeated.ensures.bytes in
     let width : c.len.result ≡ length many = c.len.ensures ∙ c.in_ok-repeated.repeated.bytes.ok.0 ∙ ap length c.in_ok-repeated.ensures.bytes in
     ap (λ l. cut_at l (cursor + c.len.result)) (c.in_ok-insert_text.ensures.ok ∙ ap (insert_slice line cursor) text_is) ∙ ap (λ n. cut_at (insert_slice line cursor many) (cursor + n)) width
-    ∙ sym (with_text-repeated text c.args.count (cut_at line cursor) c.self.invariant.0) ∙ ap (repeated (with_text text) c.args.count) c.self.view_is
+    ∙ sym (with_text-iterate text c.args.count (cut_at line cursor) c.self.invariant.0) ∙ ap (iterate (with_text text) c.args.count) c.self.view_is
 
 pub returns-clause-too_long : goal.returns-clause-too_long
 returns-clause-too_long c long =

@@ -9,9 +9,9 @@ pub returns-in_err-render-clause-err : goal.returns-in_err-render-clause-err
 returns-in_err-render-clause-err g c =
     let p = err_from_is_err_and c.from_residual-in_err-render.result c.from_residual-in_err-render.ensures.1 in
     let sized = same_frame g.H.LineEditorHost.rules _ _ refl refl refl c.in_ok-size.ensures.ok in
-    rw (p.1, p.2) (fails_to_show g.H.LineEditorHost.rules _ _ _ (Terminal c.in_err-render.field-0.0) c.in_ok-size.ensures.size sized c.in_ok-changes.ensures.ok (ap (map change_view) c.as_slice.ensures.value) (record { state = refl; value = refl; last = refl }, c.in_err-render.ensures.err))
+    rw (p.1, p.2) (fails_to_show g.H.LineEditorHost.rules _ _ _ (Terminal c.in_err-render.field-0.0) c.in_ok-size.ensures.size sized c.in_ok-changes.ensures.ok (ap (map change_view) c.as_slice.ensures.value) (record { state = refl; value = refl; mark = refl }, c.in_err-render.ensures.err))
 
 pub returns-clause-ok : goal.returns-clause-ok
 returns-clause-ok g c =
     let sized = same_frame g.H.LineEditorHost.rules _ _ refl refl refl c.in_ok-size.ensures.ok in
-    paints g.H.LineEditorHost.rules _ _ _ _ c.in_ok-size.ensures.size sized c.in_ok-changes.ensures.ok (ap (map change_view) c.as_slice.ensures.value) (record { keeps = record { state = refl; value = refl; last = refl }; terminal = c.in_ok-render.ensures.ok }) (ap (λ s. s.state) c.set_mark.ensures) refl (ap (λ s. s.last) c.set_mark.ensures) refl
+    paints g.H.LineEditorHost.rules _ _ _ _ c.in_ok-size.ensures.size sized c.in_ok-changes.ensures.ok (ap (map change_view) c.as_slice.ensures.value) (record { keeps = record { state = refl; value = refl; mark = refl }; terminal = c.in_ok-render.ensures.ok }) (ap (λ s. s.state) c.set_mark.ensures) refl (ap (λ s. s.mark) c.set_mark.ensures) refl

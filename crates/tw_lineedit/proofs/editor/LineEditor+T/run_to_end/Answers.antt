@@ -12,4 +12,4 @@ returns-in_err-turn-clause-err g c =
     c.in_err-turn.field-0.0 c.loop.invariant.follows c.in_err-turn.ensures.err)
 
 pub returns-clause-err : goal.returns-clause-err
-returns-clause-err g c = not_copied_if g.H.LineEditorHost.rules _ c.answered.result (frame g.T.Terminal.state g.H.LineEditorHost.value c.args.self.now c.args.host.now) _ _ (ended_later g.H.LineEditorHost.rules _ _ _ c.loop.invariant.follows (rw c.if-branch.false at c.in_ok-turn.ensures.ok)) refl c.answered.ensures.err c.answered.ensures.line
+returns-clause-err g c = not_copied_if g.H.LineEditorHost.rules _ c.answer.result (frame g.T.Terminal.state g.H.LineEditorHost.value c.args.self.now c.args.host.now) _ _ (ended_later g.H.LineEditorHost.rules _ _ _ c.loop.invariant.follows (rw c.if-branch.false at c.in_ok-turn.ensures.ok)) refl c.answer.ensures.err c.answer.ensures.line
