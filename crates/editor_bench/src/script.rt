@@ -1,10 +1,10 @@
 //! Scripts, and the three ways in which they are played.
 
 use crate::discarding::Discarding;
-use script_player::{RunFault, ScriptHost, key_named, run};
+use script_player::{Directive, RunFault, ScriptHost, parse_line, push_events, run};
 use std::alloc::{AllocError, Global};
 use std::io::{self, Read, Write};
-use tw_input::{InputEvent, KeyCode, KeyEvent, Modifiers};
+use tw_input::InputEvent;
 use tw_lineedit::{BasicHistory, Error, LineEditor, LineEditorHost};
 use tw_surface::Change;
 use tw_terminal::{ScreenSize, ScriptTerminal, Terminal};
@@ -188,40 +188,19 @@ impl Bench {
 
     /// Does what a line asks for that is none of the readings.
     fn obey(&mut self, line: &str) -> Result<(), AllocError> {
-        let (word, text) = line.split_once(' ').unwrap_or((line, ""));
-        match word {
-            "cols" => self.cols = text.parse().unwrap_or(80),
-            "prompt" => self.prompt = String::from_str(self.alloc, text)?,
-            "history" => self.host.remember(text)?,
-            "preview" => self.host.set_preview(text)?,
-            "cand" => self.offer(text)?,
-            "type" => self.type_text(text)?,
-            "paste" => {
-                let text = String::from_str(self.alloc, text)?;
-                self.events.push(InputEvent::Paste(text))?;
+        let Some(directive) = parse_line(line.as_bytes()) else {
+            return Ok(());
+        };
+        match directive {
+            Directive::Cols(cols) => self.cols = cols,
+            Directive::Prompt(prompt) => self.prompt = String::from_str(self.alloc, prompt)?,
+            Directive::Preview(preview) => self.host.set_preview(preview)?,
+            Directive::History(line) => self.host.remember(line)?,
+            Directive::Candidate(range, text) => self.host.offer(range, text)?,
+            Directive::Type(_) | Directive::Paste(_) | Directive::Key(_) => {
+                push_events(self.alloc, &directive, &mut self.events)?;
             }
-            _ => {
-                if let Some(key) = key_named(text) {
-                    self.events.push(InputEvent::Key(key))?;
-                }
-            }
-        }
-        Ok(())
-    }
-
-    /// A candidate for the first characters of the line.
-    fn offer(&mut self, text: &str) -> Result<(), AllocError> {
-        let (_, rest) = text.split_once(' ').unwrap_or((text, ""));
-        let (end, text) = rest.split_once(' ').unwrap_or((rest, ""));
-        self.host.offer(0..end.parse().unwrap_or(0), text)
-    }
-
-    fn type_text(&mut self, text: &str) -> Result<(), AllocError> {
-        for character in text.chars() {
-            self.events.push(InputEvent::Key(KeyEvent {
-                key: KeyCode::Char(character),
-                modifiers: Modifiers::NONE,
-            }))?;
+            Directive::Read => {}
         }
         Ok(())
     }
