@@ -2,7 +2,7 @@
 use Rattle.std.specs.Prelude.{ℕ, true, false, List, [], map, refl}
 use Rattle.std.proofs.lemmas.Bool.{true≢false}
 use Rattle.tw_lineedit.specs.declared.Overrides.{Overrides}
-use Rattle.tw_lineedit.specs.ElementView.{ElementView, Text}
+use Rattle.tw_lineedit.specs.ElementView.{Text}
 use Rattle.tw_lineedit.specs.HostRules.{HostRules, plain_text, plain_highlight, no_resolution}
 use Rattle.tw_lineedit.specs.PlainAnswers.{IsPlainBut}
 

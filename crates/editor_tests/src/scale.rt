@@ -1,6 +1,6 @@
 //! Long lines, wide prompts, long histories, and hosts with many candidates or elements.
 
-ghost use Rattle.std.specs.Prelude.{ℕ, List, map, string_bytes, refl};
+ghost use Rattle.std.specs.Prelude.{map, string_bytes, refl};
 ghost use Rattle.editor_tests.specs.PiecesHost.{Pieces, pieces_rules, preview_override, pieces_is_plain};
 
 use crate::histories::told_of;

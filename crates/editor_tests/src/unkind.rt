@@ -1,6 +1,6 @@
 //! Hosts that keep the laws and are unkind all the same.
 
-ghost use Rattle.std.specs.Prelude.{ℕ, List, refl};
+ghost use Rattle.std.specs.Prelude.{refl};
 ghost use Rattle.editor_tests.specs.StrayHost.{Stray, stray_rules, stray_overrides, stray_is_plain};
 
 use crate::calls::Listing;

@@ -7,5 +7,4 @@ pub mod Written
 pub mod NewEditor
 pub mod ScriptRules
 pub mod Playback
-pub mod Past
 pub mod Sessions
