@@ -55,7 +55,12 @@ impl<L: History> LineEditorHost for MarkedHost<L> {
 
     ghost Value = { Marked };
 
-    ghost value = { λ host. record { lines = L.lines host.history; preview = string_bytes host.preview; candidates = map candidate_view host.candidates.items; column = host.column } };
+    ghost value = { λ host. record {
+      lines = L.lines host.history;
+      preview = string_bytes host.preview;
+      candidates = map candidate_view host.candidates.items;
+      column = host.column;
+    } };
 
     ghost rules = { marked_rules };
 

@@ -7,4 +7,3 @@ pub mod Written
 pub mod NewEditor
 pub mod ScriptRules
 pub mod Playback
-pub mod Sessions

@@ -141,7 +141,8 @@ impl Encoder {
     }
 
     fn write_clusters(&mut self, text: &str, out: &mut String) -> Result<(), AllocError>
-        ensures bytes { OnOk result (string_bytes out.new ≡ string_bytes out.old ++ (sent_clusters (graphemes true text.now) self.old).bytes) }
+        ensures bytes { OnOk result (string_bytes out.new
+            ≡ string_bytes out.old ++ (sent_clusters (graphemes true text.now) self.old).bytes) }
         ensures next { OnOk result (self.new ≡ (sent_clusters (graphemes true text.now) self.old).next) }
         ensures err { OnErr result (Extends (string_bytes out.old) (string_bytes out.new)) }
     {
@@ -246,7 +247,8 @@ impl Encoder {
 
     /// Clears the screen to a colour, and goes to its first cell.
     fn clear_screen(&mut self, color: ColorAttribute, out: &mut String) -> Result<(), AllocError>
-        ensures bytes { OnOk result (string_bytes out.new ≡ string_bytes out.old ++ (to_first_cell ++ clear_with clear_all color self.old.attributes.background)) }
+        ensures bytes { OnOk result (string_bytes out.new
+            ≡ string_bytes out.old ++ (to_first_cell ++ clear_with clear_all color self.old.attributes.background)) }
         ensures next { self.new ≡ at_column 0 self.old }
         ensures err { OnErr result (Extends (string_bytes out.old) (string_bytes out.new)) }
     {

@@ -84,7 +84,9 @@ impl<R: Read> KeyReader<R> {
     #[tactic(auto, using(crate::proofs::ReadLemmas::none_left))]
     fn find(&mut self) -> Result<Option<InputEvent>, Refused>
         ensures told { self.new.told ≡ self.old.told }
-        ensures at_end { IfOk result (λ event. MatchOption event ((self.new.unread ≡ []) × IsAtEnd (R.remaining self.new.reader)) (λ _. ⊤)) }
+        ensures at_end { IfOk result (λ event. MatchOption event
+            ((self.new.unread ≡ []) × IsAtEnd (R.remaining self.new.reader))
+            (λ _. ⊤)) }
     {
         let mut is_last = false;
         for _ in 0..u64::MAX {
@@ -138,7 +140,9 @@ impl<R: Read> EventSource for KeyReader<R> {
             (λ event. self.new.told ≡ self.old.told ++ event_view event ∷ [])) }
         ensures told { OnErr result (self.new.told ≡ self.old.told) }
         ensures refused { IfErr result (λ fault. self.new.state ≡ HasRefused fault) }
-        ensures at_end { IfOk result (λ event. MatchOption event ((self.new.unread ≡ []) × IsAtEnd (R.remaining self.new.reader)) (λ _. ⊤)) }
+        ensures at_end { IfOk result (λ event. MatchOption event
+            ((self.new.unread ≡ []) × IsAtEnd (R.remaining self.new.reader))
+            (λ _. ⊤)) }
     {
         match self.find() {
             Ok(Some(event)) => {

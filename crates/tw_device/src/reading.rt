@@ -89,7 +89,8 @@ fn take_events<S: EventSource, W: Write, H: LineEditorHost>(
         let after = frame terminal_state H.value editor.new host.new in
         OnOk result (ComesBy H.rules (S.told source.old) (S.told source.new) before after) }
     ensures begun { OnOk result (editor.new.session.state.mode ≢ Inactive) }
-    ensures stopped { IfOk result (λ stop. IsStopped stop (is_open editor.new.session.state.mode) (S.state source.new) (S.told source.old) (S.told source.new)) }
+    ensures stopped { let is_open_after = is_open editor.new.session.state.mode in
+        IfOk result (λ stop. IsStopped stop is_open_after (S.state source.new) (S.told source.old) (S.told source.new)) }
     ensures err { let before = frame terminal_state H.value editor.old host.old in
         let after = frame terminal_state H.value editor.new host.new in
         IfErr result (FailsBy H.rules (S.told source.old) (S.told source.new) before after) }

@@ -67,7 +67,8 @@ impl<W: Write> AnsiTerminal<W> {
 
     /// Adds what a batch is sent as, and answers what is then known.
     fn encode(&self, changes: &[Change], text: &mut String) -> Result<Encoder, AllocError>
-        ensures bytes { OnOk result (string_bytes text.new ≡ string_bytes text.old ++ (sent_batch (batch_view changes.now) self.now.encoder).bytes) }
+        ensures bytes { let sent = sent_batch (batch_view changes.now) self.now.encoder in
+            OnOk result (string_bytes text.new ≡ string_bytes text.old ++ sent.bytes) }
         ensures next { IfOk result (λ encoder. encoder ≡ (sent_batch (batch_view changes.now) self.now.encoder).next) }
     {
         let mut encoder = self.encoder;
@@ -79,7 +80,8 @@ impl<W: Write> AnsiTerminal<W> {
 
     /// Sends a batch.
     fn put(&mut self, changes: &[Change]) -> Result<(), Refused>
-        ensures sent { OnOk result (Appends (W.contents self.old.writer) (W.contents self.new.writer) (sent_batch (batch_view changes.now) self.old.encoder).bytes) }
+        ensures sent { let sent = sent_batch (batch_view changes.now) self.old.encoder in
+            OnOk result (Appends (W.contents self.old.writer) (W.contents self.new.writer) sent.bytes) }
         ensures next { OnOk result (self.new.encoder ≡ (sent_batch (batch_view changes.now) self.old.encoder).next) }
         ensures ok { OnOk result (Renders (batch_view changes.now) (terminal_state self.old) (terminal_state self.new)) }
         ensures err { OnErr result (terminal_state self.new ≡ terminal_state self.old) }
@@ -110,7 +112,8 @@ impl<W: Write> Terminal for AnsiTerminal<W> {
     fn render(&mut self, changes: &[Change]) -> Result<(), TerminalFault>
         ensures ok { OnOk result (Renders (batch_view changes.now) (terminal_state self.old) (terminal_state self.new)) }
         ensures err { OnErr result (RenderFails (batch_view changes.now) (terminal_state self.old) (terminal_state self.new)) }
-        ensures sent { OnOk result (Appends (W.contents self.old.writer) (W.contents self.new.writer) (sent_batch (batch_view changes.now) self.old.encoder).bytes) }
+        ensures sent { let sent = sent_batch (batch_view changes.now) self.old.encoder in
+            OnOk result (Appends (W.contents self.old.writer) (W.contents self.new.writer) sent.bytes) }
         ensures next { OnOk result (self.new.encoder ≡ (sent_batch (batch_view changes.now) self.old.encoder).next) }
     {
         match self.put(changes) {

@@ -90,7 +90,8 @@ impl Unread {
     /// Reads what there is, and waits where there is nothing. It answers false at the end. It finds room for the
     /// bytes before it reads, so that none is lost for want of memory.
     pub(crate) fn read_from<R: Read>(&mut self, reader: &mut R) -> Result<bool, Refused>
-        ensures ok { OnOk result ((more : List ℕ) × (self.new ≡ self.old ++ more) × Consumes (R.remaining reader.old) (R.remaining reader.new) more) }
+        ensures ok { OnOk result ((more : List ℕ) × (self.new ≡ self.old ++ more)
+            × Consumes (R.remaining reader.old) (R.remaining reader.new) more) }
         ensures end { IfOk result (λ is_more. is_more ≡ false → IsAtEnd (R.remaining reader.new)) }
         ensures err { OnErr result (self.new ≡ self.old) }
     {
@@ -101,7 +102,8 @@ impl Unread {
 
 /// Reads what there is behind the bytes of a buffer, and answers false at the end. Room is found before bytes are read.
 fn read_more<R: Read>(reader: &mut R, buffer: &mut Vec<u8>) -> Result<bool, Refused>
-    ensures ok { OnOk result ((more : List ℕ) × (buffer.new.items ≡ buffer.old.items ++ more) × Consumes (R.remaining reader.old) (R.remaining reader.new) more) }
+    ensures ok { OnOk result ((more : List ℕ) × (buffer.new.items ≡ buffer.old.items ++ more)
+        × Consumes (R.remaining reader.old) (R.remaining reader.new) more) }
     ensures end { IfOk result (λ is_more. is_more ≡ false → IsAtEnd (R.remaining reader.new)) }
     ensures err { OnErr result (buffer.new.items ≡ buffer.old.items) }
 {

@@ -174,7 +174,8 @@ pub trait LineEditorHost {
         cursor_position: usize,
     ) -> Result<(Vec<OutputElement>, usize), AllocError>
         requires { IsCharBoundary line.now cursor_position }
-        ensures elements { IfOk result (λ shown. map element_view shown.0.items ≡ shown_elements rules (value self.now) line.now cursor_position) }
+        ensures elements { IfOk result (λ shown. map element_view shown.0.items
+            ≡ shown_elements rules (value self.now) line.now cursor_position) }
         ensures column { IfOk result (λ shown. shown.1 ≡ shown_column rules (value self.now) line.now cursor_position) }
     {
         if Self::OVERRIDES.highlight_line {
@@ -192,7 +193,8 @@ pub trait LineEditorHost {
         cursor_position: usize,
     ) -> Result<Vec<CompletionCandidate>, AllocError>
         requires { IsCharBoundary line.now cursor_position }
-        ensures { IfOk result (λ candidates. map candidate_view candidates.items ≡ candidates_for rules (value self.now) line.now cursor_position) }
+        ensures { IfOk result (λ candidates. map candidate_view candidates.items
+            ≡ candidates_for rules (value self.now) line.now cursor_position) }
     {
         if Self::OVERRIDES.complete {
             return Err(AllocError);

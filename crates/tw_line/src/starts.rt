@@ -90,7 +90,8 @@ fn raise_from(starts: &mut Vec<usize>, index: usize, by: usize)
 fn move_forward(starts: &mut Vec<usize>, index: usize, count: usize)
     requires order { index ≤ count }
     requires inside { count ≤ vec_len starts.old }
-    ensures items { starts.new.items ≡ take index starts.old.items ++ (drop count starts.old.items ++ slice_range starts.old.items index count) }
+    ensures items { let old = starts.old.items in
+        starts.new.items ≡ take index old ++ (drop count old ++ slice_range old index count) }
     ensures capacity { vec_capacity starts.new ≡ vec_capacity starts.old }
 {
     let moved = starts.len() - count;

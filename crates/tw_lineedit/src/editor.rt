@@ -214,7 +214,8 @@ impl<'term, T: Terminal> LineEditor<'term, T> {
             let after = frame T.state H.value self.new host.new in
             OnOk result (after ≡ answered_frame H.rules (event_view event.now) before) }
         ensures action { let before = frame T.state H.value self.old host.old in
-            IfOk result (λ action. option_map action_view action ≡ (resolution_of H.rules (progress_of before) (event_view event.now)).action) }
+            IfOk result (λ action. option_map action_view action
+            ≡ (resolution_of H.rules (progress_of before) (event_view event.now)).action) }
         ensures err { OnErr result (frame T.state H.value self.new host.new ≡ frame T.state H.value self.old host.old) }
     {
         self.session.resolve(host, event)
@@ -412,10 +413,12 @@ impl<'term, T: Terminal> LineEditor<'term, T> {
         ensures recursive { let before = frame T.state H.value self.old host.old in
             let after = frame T.state H.value self.new host.new in
             before.state.mode ≢ Inactive → (result ≡ Err Error.Recursive) × (after ≡ before) }
-        ensures untouched { self.old.session.state.mode ≢ Inactive → (self.new.terminal.now ≡ self.old.terminal.now) × (host.new ≡ host.old) }
+        ensures untouched { self.old.session.state.mode ≢ Inactive
+            → (self.new.terminal.now ≡ self.old.terminal.now) × (host.new ≡ host.old) }
         ensures ok { let before = frame T.state H.value self.old host.old in
             let after = frame T.state H.value self.new host.new in
-            before.state.mode ≡ Inactive → IfOk result (λ it. Reads (run_of H.rules (start (initial_text initial_value.entry) before)) before after (outcome_of (Ok it))) }
+            let run = run_of H.rules (start (initial_text initial_value.entry) before) in
+            before.state.mode ≡ Inactive → IfOk result (λ it. Reads run before after (outcome_of (Ok it))) }
         ensures err { let before = frame T.state H.value self.old host.old in
             let after = frame T.state H.value self.new host.new in
             before.state.mode ≡ Inactive → IfErr result (FailsToRead H.rules (initial_text initial_value.entry) before after) }
@@ -453,10 +456,12 @@ impl<'term, T: Terminal> LineEditor<'term, T> {
         ensures recursive { let before = frame T.state H.value self.old host.old in
             let after = frame T.state H.value self.new host.new in
             before.state.mode ≢ Inactive → (result ≡ Err Error.Recursive) × (after ≡ before) }
-        ensures untouched { self.old.session.state.mode ≢ Inactive → (self.new.terminal.now ≡ self.old.terminal.now) × (host.new ≡ host.old) }
+        ensures untouched { self.old.session.state.mode ≢ Inactive
+            → (self.new.terminal.now ≡ self.old.terminal.now) × (host.new ≡ host.old) }
         ensures ok { let before = frame T.state H.value self.old host.old in
             let after = frame T.state H.value self.new host.new in
-            before.state.mode ≡ Inactive → IfOk result (λ it. Reads (run_of H.rules (start None before)) before after (outcome_of (Ok it))) }
+            let run = run_of H.rules (start None before) in
+            before.state.mode ≡ Inactive → IfOk result (λ it. Reads run before after (outcome_of (Ok it))) }
         ensures err { let before = frame T.state H.value self.old host.old in
             let after = frame T.state H.value self.new host.new in
             before.state.mode ≡ Inactive → IfErr result (FailsToRead H.rules None before after) }

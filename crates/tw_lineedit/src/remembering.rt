@@ -26,11 +26,16 @@ impl<'term, T: Terminal> LineEditor<'term, T> {
         ensures recursive { let before = frame T.state H.value self.old host.old in
             let after = frame T.state H.value self.new host.new in
             before.state.mode ≢ Inactive → (result ≡ Err Error.Recursive) × (after ≡ before) }
-        ensures untouched { self.old.session.state.mode ≢ Inactive → (self.new.terminal.now ≡ self.old.terminal.now) × (host.new ≡ host.old) }
+        ensures untouched { self.old.session.state.mode ≢ Inactive
+            → (self.new.terminal.now ≡ self.old.terminal.now) × (host.new ≡ host.old) }
         ensures ok { let before = frame T.state H.value self.old host.old in
-            before.state.mode ≡ Inactive → IfOk result (λ line. ReadsAndRemembers H.rules H.value H.history_of H.with_history H.Hist.add_gives before (frame T.state H.value self.new) host.new (option_map string_bytes line)) }
+            before.state.mode ≡ Inactive → IfOk result (λ line.
+            ReadsAndRemembers H.rules H.value H.history_of H.with_history H.Hist.add_gives
+            before (frame T.state H.value self.new) host.new (option_map string_bytes line)) }
         ensures err { let before = frame T.state H.value self.old host.old in
-            before.state.mode ≡ Inactive → IfErr result (FailsToReadAndRemember H.rules H.value H.history_of H.with_history H.Hist.add_gives before (frame T.state H.value self.new) host.new) }
+            before.state.mode ≡ Inactive → IfErr result (
+            FailsToReadAndRemember H.rules H.value H.history_of H.with_history H.Hist.add_gives
+            before (frame T.state H.value self.new) host.new) }
         ensures first_painting { FirstIsFresh H.rules (start None (frame T.state H.value self.old host.old)) }
         ensures later_painting { LaterIsFresh H.rules (start None (frame T.state H.value self.old host.old)) }
         ensures cleared_painting { ClearedIsFresh H.rules (start None (frame T.state H.value self.old host.old)) }

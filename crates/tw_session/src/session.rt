@@ -238,9 +238,12 @@ impl Session {
         host: &mut H,
         event: &InputEvent,
     ) -> Result<Option<Action>, AllocError>
-        ensures state { OnOk result (self.new ≡ on_state (λ state. record state { cut = (H.rules.resolve (H.value host.old) (event_view event.now) state.cut).cut }) self.old) }
-        ensures value { OnOk result (H.value host.new ≡ (H.rules.resolve (H.value host.old) (event_view event.now) self.old.state.cut).value) }
-        ensures action { IfOk result (λ action. option_map action_view action ≡ (H.rules.resolve (H.value host.old) (event_view event.now) self.old.state.cut).action) }
+        ensures state { let answer = H.rules.resolve (H.value host.old) (event_view event.now) self.old.state.cut in
+            OnOk result (self.new ≡ on_state (λ state. record state { cut = answer.cut }) self.old) }
+        ensures value { let answer = H.rules.resolve (H.value host.old) (event_view event.now) self.old.state.cut in
+            OnOk result (H.value host.new ≡ answer.value) }
+        ensures action { let answer = H.rules.resolve (H.value host.old) (event_view event.now) self.old.state.cut in
+            IfOk result (λ action. option_map action_view action ≡ answer.action) }
         ensures err { OnErr result ((self.new ≡ self.old) × (H.value host.new ≡ H.value host.old)) }
     {
         host.resolve_action(self.alloc, event, &mut self.line)
@@ -252,7 +255,9 @@ impl Session {
         host: &H,
         size: ScreenSize,
     ) -> Result<(Vec<Change>, Mark), Error>
-        ensures ok { IfOk result (λ shown. rendering_of self.now.mark (painted_on size (scene_of H.rules (H.value host.now) self.now.state false)) ≡ Ok (record { changes = batch_view shown.0.items; mark = shown.1 })) }
+        ensures ok { let scene = scene_of H.rules (H.value host.now) self.now.state false in
+            IfOk result (λ shown. rendering_of self.now.mark (painted_on size scene)
+            ≡ Ok (record { changes = batch_view shown.0.items; mark = shown.1 })) }
         ensures err { IfErr result (IsUnpainted size (scene_of H.rules (H.value host.now) self.now.state false)) }
     {
         let below = match &self.mode {

@@ -100,7 +100,8 @@ impl<'term, T: Terminal> LineEditor<'term, T> {
         ensures ended { let before = frame T.state H.value self.old host.old in
             let after = frame T.state H.value self.new host.new in
             is_open before.state.mode ≡ false → (result ≡ Ok LineStatus.Ended) × (after ≡ before) }
-        ensures untouched { is_open self.old.session.state.mode ≡ false → (self.new.terminal.now ≡ self.old.terminal.now) × (host.new ≡ host.old) }
+        ensures untouched { is_open self.old.session.state.mode ≡ false
+            → (self.new.terminal.now ≡ self.old.terminal.now) × (host.new ≡ host.old) }
         ensures ok { let before = frame T.state H.value self.old host.old in
             let after = frame T.state H.value self.new host.new in
             is_open before.state.mode ≡ true → OnOk result (IsFed H.rules (event_view event.now) before after) }
@@ -127,7 +128,8 @@ impl<'term, T: Terminal> LineEditor<'term, T> {
         ensures untouched { self.old.session.state.mode ≡ Inactive → self.new.terminal.now ≡ self.old.terminal.now }
         ensures ok { let before = own_frame T.state self.old in
             let after = own_frame T.state self.new in
-            before.state.mode ≢ Inactive → IfOk result (λ it. Reads (ending (answer_at self.old.session.state) before) before after (outcome_of (Ok it))) }
+            let run = ending (answer_at before.state) before in
+            before.state.mode ≢ Inactive → IfOk result (λ it. Reads run before after (outcome_of (Ok it))) }
         ensures err { let before = own_frame T.state self.old in
             let after = own_frame T.state self.new in
             IfErr result (FailsToFinish before after) }

@@ -28,7 +28,8 @@ fn find<H: LineEditorHost>(
     direction: SearchDirection,
     pattern: &str,
 ) -> Result<Option<Found>, AllocError>
-    ensures found { IfOk result (λ found. option_map found_view found ≡ nearest_match (H.rules.lines (H.value host.old)) start direction pattern.now) }
+    ensures found { let lines = H.rules.lines (H.value host.old) in
+        IfOk result (λ found. option_map found_view found ≡ nearest_match lines start direction pattern.now) }
     ensures host { host.new ≡ host.old }
 {
     match host
@@ -54,7 +55,9 @@ fn find_from_last<H: LineEditorHost>(
     direction: SearchDirection,
     pattern: &str,
 ) -> Result<Option<Found>, AllocError>
-    ensures found { IfOk result (λ found. option_map found_view found ≡ nearest_match_from (H.rules.lines (H.value host.old)) (last_index (H.rules.lines (H.value host.old))) direction pattern.now) }
+    ensures found { let lines = H.rules.lines (H.value host.old) in
+        IfOk result (λ found. option_map found_view found
+        ≡ nearest_match_from lines (last_index lines) direction pattern.now) }
     ensures host { host.new ≡ host.old }
 {
     match host.history().last() {
@@ -83,7 +86,8 @@ impl Session {
         line: LineEditBuffer,
     ) -> Result<(), AllocError>
         ensures host { host.new ≡ host.old }
-        ensures ok { OnOk result (self.new ≡ on_state (λ s. searched_again (H.rules.lines (H.value host.old)) (record s { cut = line })) self.old) }
+        ensures ok { let lines = H.rules.lines (H.value host.old) in
+            OnOk result (self.new ≡ on_state (λ s. searched_again lines (record s { cut = line })) self.old) }
         ensures err { OnErr result (self.new ≡ self.old) }
     {
         if let Mode::Searching {

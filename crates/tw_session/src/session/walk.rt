@@ -31,7 +31,9 @@ impl Session {
     /// Takes the line before; while searching, searches backwards. Where it is refused nothing is changed.
     pub(super) fn step_back<H: LineEditorHost>(&mut self, host: &mut H) -> Result<(), AllocError>
         ensures host { host.new ≡ host.old }
-        ensures ok { OnOk result (self.new ≡ on_state (λ s. history_step (H.rules.lines (H.value host.old)) SearchDirection.Backwards (previous_step (H.rules.lines (H.value host.old))) s s.mode) self.old) }
+        ensures ok { let lines = H.rules.lines (H.value host.old) in
+            OnOk result (self.new
+            ≡ on_state (λ s. history_step lines SearchDirection.Backwards (previous_step lines) s s.mode) self.old) }
         ensures err { OnErr result (self.new ≡ self.old) }
     {
         match self.mode {
@@ -43,7 +45,9 @@ impl Session {
     /// Takes the line after; while searching, searches forwards. Where it is refused nothing is changed.
     pub(super) fn step_forth<H: LineEditorHost>(&mut self, host: &mut H) -> Result<(), AllocError>
         ensures host { host.new ≡ host.old }
-        ensures ok { OnOk result (self.new ≡ on_state (λ s. history_step (H.rules.lines (H.value host.old)) SearchDirection.Forwards (next_step (H.rules.lines (H.value host.old))) s s.mode) self.old) }
+        ensures ok { let lines = H.rules.lines (H.value host.old) in
+            OnOk result (self.new
+            ≡ on_state (λ s. history_step lines SearchDirection.Forwards (next_step lines) s s.mode) self.old) }
         ensures err { OnErr result (self.new ≡ self.old) }
     {
         match self.mode {
