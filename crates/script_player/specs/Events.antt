@@ -4,7 +4,7 @@ use Rattle.std.specs.Str.{chars}
 use Rattle.std.specs.Str.Parse.{IsNumeral, digits_value, without_leading_plus}
 use Rattle.tw_input.specs.EventView.{EventView}
 use Rattle.tw_input.specs.EventView.EventView.{Key, Resized, Paste, Wake}
-use Rattle.tw_input.specs.Modifiers.{modifiers_of, modifier_bits}
+use Rattle.tw_input.specs.Modifiers.{modifiers_of, modifier_bits, none}
 use Rattle.tw_input.specs.declared.key.KeyCode.{KeyCode}
 use Rattle.tw_input.specs.declared.key.KeyCode.TheVariants.{Char, Function}
 use Rattle.tw_input.specs.declared.key.KeyEvent.{KeyEvent}
@@ -14,7 +14,7 @@ use Rattle.script_player.specs.declared.directive.Directive.TheVariants as direc
 
 -- the key of a character, with no modifier
 abbrev pub typed_key : ℕ → EventView
-typed_key c = Key (record { key = Char c; modifiers = modifiers_of 0 })
+typed_key c = Key (record { key = Char c; modifiers = modifiers_of none })
 
 -- a key for each character of a text
 abbrev pub typed_keys : List ℕ → List EventView
@@ -39,7 +39,7 @@ IsPlainName name _ = ⊥
 
 -- the same, of a key with no modifier
 abbrev pub IsPlainKeyName : List ℕ → KeyEvent → Type 0
-IsPlainKeyName name event = (modifier_bits event.modifiers ≡ 0) × IsPlainName name event.key
+IsPlainKeyName name event = (modifier_bits event.modifiers ≡ none) × IsPlainName name event.key
 
 -- columns and rows, with an x between them
 abbrev pub IsSizeName : List ℕ → ℕ → ℕ → Type 0

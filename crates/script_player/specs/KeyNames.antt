@@ -3,7 +3,7 @@ use Rattle.std.specs.Prelude.{ℕ, ◌==◌, if◌then◌else◌, List, [], ◌�
 use Rattle.tw_input.specs.declared.key.KeyCode.{KeyCode}
 use Rattle.tw_input.specs.declared.key.KeyCode.TheVariants.{Char, Backspace, Tab, Enter, Escape, Delete, Home, End, LeftArrow, RightArrow, UpArrow, DownArrow, ApplicationLeftArrow, ApplicationRightArrow, ApplicationUpArrow, ApplicationDownArrow}
 use Rattle.tw_input.specs.declared.key.KeyEvent.{KeyEvent}
-use Rattle.tw_input.specs.Modifiers.{modifier_bits}
+use Rattle.tw_input.specs.Modifiers.{modifier_bits, none, shift, alt, ctrl}
 
 -- with no modifier
 abbrev pub plain_name : KeyCode → Option (List ℕ)
@@ -41,10 +41,10 @@ character_name letter _ = None
 -- the name of a key with the bits of its modifiers, if it has one
 abbrev pub name_with : ℕ → KeyCode → Option (List ℕ)
 name_with bits key =
-    if bits == 0 then plain_name key
-    else (if bits == 4 then alt_name key
-    else (if bits == 8 then character_name (codes "C-") key
-    else (if bits == 2 then character_name (codes "S-") key else None)))
+    if bits == none then plain_name key
+    else (if bits == alt then alt_name key
+    else (if bits == ctrl then character_name (codes "C-") key
+    else (if bits == shift then character_name (codes "S-") key else None)))
 
 -- the name of a key, if it has one
 abbrev pub key_name : KeyEvent → Option (List ℕ)
