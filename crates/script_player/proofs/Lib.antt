@@ -2,3 +2,4 @@ pub mod Numbers
 pub mod Writes
 pub mod Steadiness
 pub mod EscapeLemmas
+pub mod EventLemmas

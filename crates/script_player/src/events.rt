@@ -1,10 +1,10 @@
 //! Events: those of a line of a script, and events by their names.
 
 ghost use Rattle.std.specs.Char.{IsScalar};
-ghost use Rattle.std.specs.Prelude.{◌≡◌, ◌<◌, ◌++◌, ℕ, List, Contains, IfOk, IfSome, IsSome, OnOk, codes, encode_utf8, map};
+ghost use Rattle.std.specs.Prelude.{◌≡◌, ◌<◌, ◌^◌, ◌++◌, ℕ, List, Contains, IfOk, IfSome, IsSome, OnOk, codes, encode_utf8, map};
 ghost use Rattle.tw_input.specs.EventView.{event_view};
-ghost use Rattle.script_player.specs.Events.{IsEventName, IsPlainKeyName, IsPlainName, directive_events, typed_keys};
-ghost use Rattle.script_player.specs.KeyNames.{key_names};
+ghost use Rattle.script_player.specs.Events.{IsEventName, IsPlainKeyName, IsPlainName, IsSizeName, directive_events, typed_keys};
+ghost use Rattle.script_player.specs.KeyNames.{character_names, key_names};
 
 use crate::directive::Directive;
 use crate::keys::key_named;
@@ -51,8 +51,10 @@ pub fn event_named(alloc: Global, name: &str) -> Result<Option<InputEvent>, Allo
     ensures named { IfOk result (λ found. IfSome found (λ event. IsEventName name.now (event_view event))) }
     ensures pasted { (text : List ℕ) → name.now ≡ codes "paste:" ++ text → IfOk result IsSome }
     ensures key { Contains key_names name.now → IfOk result IsSome }
+    ensures modified { (c : ℕ) → IsScalar c → Contains (character_names c) name.now → IfOk result IsSome }
     ensures character { (c : ℕ) → IsScalar c → name.now ≡ encode_utf8 c → IfOk result IsSome }
     ensures function { (n : ℕ) → n < 256 → IsPlainName name.now (KeyCode.Function n) → IfOk result IsSome }
+    ensures size { (cols rows : ℕ) → cols < 2 ^ 64 → rows < 2 ^ 64 → IsSizeName name.now cols rows → IfOk result IsSome }
 {
     if let Some(text) = name.strip_prefix("paste:") {
         let text = String::from_str(alloc, text)?;
@@ -85,7 +87,8 @@ fn plain_key_named(name: &str) -> Option<KeyEvent>
 
 /// The change of the size that two numbers name, with an `x` between them: columns and rows.
 fn size_named(name: &str) -> Option<InputEvent>
-    ensures { IfSome result (λ event. IsEventName name.now (event_view event)) }
+    ensures named { IfSome result (λ event. IsEventName name.now (event_view event)) }
+    ensures size { (cols rows : ℕ) → cols < 2 ^ 64 → rows < 2 ^ 64 → IsSizeName name.now cols rows → IsSome result }
 {
     let (cols, rows) = name.split_once('x')?;
     Some(InputEvent::Resized {
