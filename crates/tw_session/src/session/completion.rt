@@ -5,8 +5,8 @@ ghost use Rattle.std.specs.Str.{IsCharBoundary};
 ghost use Rattle.tw_line.specs.Cut.{cut_at};
 ghost use Rattle.tw_host.specs.CandidateView.{candidate_view, fits, landing, completed_by};
 ghost use Rattle.tw_host.specs.ActionView.{Complete};
-ghost use Rattle.tw_session.specs.Completion.{Advances, FailsToAdvance, IsMisfit};
-ghost use Rattle.tw_session.specs.SessionView.{ActsOn, FailsToActOn};
+ghost use Rattle.tw_session.specs.Completion.{Advances, FailsToAdvance, IsMisfit, cycle_of};
+ghost use Rattle.tw_session.specs.SessionView.{ActsOn, FailsToActOn, on_state};
 
 use super::Session;
 use std::alloc::{AllocError, Global};
@@ -141,10 +141,18 @@ impl Session {
         };
         let completed = completed_by(self.alloc, first, line)?;
         self.leave_search();
+        self.take_first(completed, candidates);
+        Ok(())
+    }
+
+    /// The first of the candidates has come in, and makes this line; two or more are kept.
+    fn take_first(&mut self, completed: LineEditBuffer, candidates: Vec<CompletionCandidate>)
+        requires { self.old.state.cycle ≡ None }
+        ensures { self.new ≡ on_state (λ s. record s { cut = completed; cycle = cycle_of (map candidate_view candidates.items) s.cut }) self.old }
+    {
         let original = mem::replace(&mut self.line, completed);
         if candidates.len() > 1 {
             self.cycle = Some(Cycle::new(candidates, original));
         }
-        Ok(())
     }
 }
