@@ -6,9 +6,5 @@ pub mod FailureLemmas
 pub mod StationLemmas
 pub mod PaintLemmas
 pub mod ScreenRunLemmas
-pub mod WorkedRuns
-pub mod ScrollingRunLemmas
-pub mod HealedRunLemmas
-pub mod CutRunLemmas
-pub mod SimpleRunLemmas
-pub mod WorkedScrolledRuns
+pub mod StoppedLemmas
+pub mod ShownLemmas

@@ -19,7 +19,7 @@ use Rattle.tw_session.specs.Steps.{is_repaint}
 use Rattle.tw_lineedit.specs.Frame.{Frame}
 use Rattle.tw_lineedit.specs.Run.{Progress, Ending, progress_of, run, run_of, ends, at_end, at_event, after_event, painting_at, after_painting, chosen_action, state_after, after_action}
 use Rattle.tw_lineedit.specs.Stations.{Station, station_at, painting_of, shots_by, clearing_by, painted_shots, refused_clearing, station_batches, stations_after, stations_unless, stations_by, stations_from, stations_of, BatchesByStations}
-use Rattle.tw_lineedit.specs.ScreenRuns.{sized_scene, batches_of, RendersNothing}
+use Rattle.tw_lineedit.specs.ScreenRuns.{sized_scene, batches_of, RendersNothing, Comes, RunsTellScenes}
 
 -- a refusal is no painting
 abbrev IsErr : Result Painting Refusal → Type 0
@@ -30,7 +30,7 @@ err_is_no_ok : {a : Painting} {b : Refusal} → Err b ≡ Ok a → ⊥
 err_is_no_ok h = subst IsErr h tt
 
 -- no rendering either
-abbrev IsErrRendered : Result Rendering Refusal → Type 0
+abbrev pub IsErrRendered : Result Rendering Refusal → Type 0
 IsErrRendered (Err b) = Unit {0}
 IsErrRendered (Ok a) = ⊥
 
@@ -64,7 +64,7 @@ module _ {V : Type 0} (rules : HostRules V) where
   same_painting s cleared = refl
 
   -- a station's painting as it is rendered
-  rendered_at : (s : Progress V) (cleared : Bool) → painting_at rules s ≡ rendering_of s.mark (painting_of rules (station_at cleared s))
+  pub rendered_at : (s : Progress V) (cleared : Bool) → painting_at rules s ≡ rendering_of s.mark (painting_of rules (station_at cleared s))
   rendered_at s cleared = ap (rendering_of s.mark) (sym (same_painting s cleared))
 
   -- ---- what a run takes and leaves
@@ -89,7 +89,7 @@ module _ {V : Type 0} (rules : HostRules V) where
       ∙ ap (λ (b : List Batch). base ++ b) (sym (append_assoc (clearing cleared) (batch ∷ batches_after (Some (mark_of p)) (painted_shots rules more)) (refused_clearing rules more)))
 
   -- where no station is behind
-  alone : (base taken : List Batch) (mark : Option Mark) (cleared : Bool) (p : Painting) → taken ≡ base ++ clearing cleared
+  pub alone : (base taken : List Batch) (mark : Option Mark) (cleared : Bool) (p : Painting) → taken ≡ base ++ clearing cleared
       → taken ++ (start_of mark ++ p.changes) ∷ [] ≡ base ++ batches_by mark cleared [] (Ok p)
   alone base taken mark cleared p h = sym (append-nil (taken ++ (start_of mark ++ p.changes) ∷ [])) ∙ joined base taken mark cleared p [] h
 
@@ -210,7 +210,7 @@ module _ {V : Type 0} (rules : HostRules V) where
   painting-is s p h = painted-is s.size (sized_scene rules s).scene p h
 
   -- their paintings are those of their scenes, and come before those of the stations behind them
-  shots_before : (stations later : List (Station V)) → ArePainted stations
+  pub shots_before : (stations later : List (Station V)) → ArePainted stations
       → painted_shots rules (stations ++ later) ≡ map shot_of (map (sized_scene rules) stations) ++ painted_shots rules later
   shots_before [] later h = refl
   shots_before (s ∷ stations) later ((p, e), more) =
@@ -247,14 +247,7 @@ module _ {V : Type 0} (rules : HostRules V) where
 
   -- ---- a run that comes to a station
 
-  -- nothing was painted before the run, which comes to a station and paints it
-  pub record Comes (f : Frame V) (earlier : List (Station V)) (station : Station V) (later : List (Station V)) : Type 0 where
-    pub nothing_painted : f.mark ≡ None
-    pub stations : stations_of rules f ≡ earlier ++ station ∷ later
-    pub painting : Painting
-    pub painted : painting_of rules station ≡ Ok painting
-
-  module _ {f : Frame V} {earlier : List (Station V)} {station : Station V} {later : List (Station V)} (h : Comes f earlier station later) where
+  module _ {f : Frame V} {earlier : List (Station V)} {station : Station V} {later : List (Station V)} (h : Comes rules f earlier station later) where
     -- what is shown up to the station
     abbrev so_far : List Shot
     so_far = map shot_of (map (sized_scene rules) (earlier ++ station ∷ []))
@@ -311,3 +304,7 @@ module _ {V : Type 0} (rules : HostRules V) where
         (mark_by_stations f
         ∙ ap (λ (mark : Option Mark). mark_after mark (painted_shots rules (stations_of rules f))) h.nothing_painted
         ∙ ap (mark_after None) (shots-are ∙ ap (λ (l : List Shot). so_far ++ l) (no_shots later none) ∙ append-nil so_far))
+
+  -- a run tells its scenes
+  pub tells_scenes : RunsTellScenes rules
+  tells_scenes f earlier station later h = record { scenes = played-is h; beginning = first_batches h; all = all_taken h; closing = closing-is h }

@@ -163,10 +163,6 @@ module _ {V : Type 0} (rules : HostRules V) where
     pub quiet : Quiet f g
 
 module _ {V : Type 0} where
-  -- an editor as if these were the events left
-  abbrev pub as_if : List EventView → Frame V → Frame V
-  as_if es f = record f { terminal = record f.terminal { events = es } }
-
   -- where the copy of the line finds no memory
   abbrev pub Uncopied : Frame V → Moment V → Type 0
   Uncopied f m = IsLine (answer_at f.state) × (m ≡ moment None f.terminal.events (progress_of f))

@@ -7,10 +7,6 @@ pub mod Remembering
 pub mod Feeding
 pub mod Stations
 pub mod ScreenRuns
-pub mod ScrollingRuns
-pub mod HealedRuns
-pub mod CutRuns
-pub mod SimpleRuns
 pub use Rattle.tw_extremes.specs.Extremes
 pub use Rattle.tw_line.specs.Cut
 pub use Rattle.tw_line.specs.Boundaries

@@ -1,17 +1,25 @@
--- What a screen shows while the batches of a run are played on it.
-use Rattle.std.specs.Prelude.{◌≡◌, ℕ, ◌+◌, ◌≤◌, Bool, true, false, List, [], ◌∷◌, ◌++◌, map, None, Ok, Err}
+-- What a screen shows while the batches that a call takes are played on it.
+use Rattle.std.specs.Prelude.{◌≡◌, ℕ, ◌+◌, ◌<◌, ◌≤◌, Bool, true, false, length, List, [], ◌∷◌, ◌++◌, map, None, Result, Ok, Err}
 use Rattle.std.specs.List.{list_any, All}
 use Rattle.tw_surface.specs.ChangeView.{Batch}
 use Rattle.tw_surface.specs.Paintings.{Painting}
 use Rattle.tw_surface.specs.Pictures.{Picture}
 use Rattle.tw_surface.specs.Fresh.{IsFresh, IsSameAbove, IsClosed, last_row}
-use Rattle.tw_surface.specs.PaintingBatches.{SizedScene, IsPlainAt, play_batches, scenes_of, start_row, closing_if}
+use Rattle.tw_surface.specs.PaintingBatches.{SizedScene, Shot, shot_of, IsPlainAt, play_batches, scenes_of, start_row, batches, closing_batch, closing_if}
 use Rattle.tw_host.specs.HostRules.{HostRules}
 use Rattle.tw_painter.specs.Painting.{scene_of}
 use Rattle.tw_painter.specs.Refusal.{Refusal}
+use Rattle.tw_painter.specs.declared.error.Error.{Error}
+use Rattle.tw_painter.specs.declared.error.Error.TheVariants.{Memory, Terminal}
 use Rattle.tw_lineedit.specs.Frame.{Frame}
 use Rattle.tw_lineedit.specs.Run.{run_of}
 use Rattle.tw_lineedit.specs.Stations.{Station, painting_of, station_batches, stations_of}
+
+-- memory or the terminal stopped a call
+abbrev pub IsStopped : {A : Type 0} → Result A Error → Type 0
+IsStopped (Err (Memory e)) = Unit {0}
+IsStopped (Err (Terminal e)) = Unit {0}
+IsStopped _ = ⊥
 
 module _ {V : Type 0} (rules : HostRules V) where
   -- what is shown at a station, and the columns of its screen
@@ -36,29 +44,6 @@ module _ {V : Type 0} (rules : HostRules V) where
     pub two_columns : 2 ≤ w
     pub at_start : before.col ≡ 0
 
-  -- The batches up to the station's painting are the first of the run, and after them the screen shows its fresh painting from a row on; the rows above are as they were.
-  pub record ShowsFresh (f : Frame V) (w s : ℕ) (earlier : List (Station V)) (station : Station V) (before : Picture) : Type 0 where
-    pub beginning : (rest : List Batch) × ((run_of rules f).taken ≡ f.terminal.batches ++ (batches_of (earlier ++ station ∷ []) ++ rest))
-    pub fresh : IsFresh w s (sized_scene station).scene (play_batches w (batches_of (earlier ++ station ∷ [])) before)
-    pub above : IsSameAbove w s before (play_batches w (batches_of (earlier ++ station ∷ [])) before)
-
-  -- the first painting, from the row on in which the screen is entered
-  abbrev pub FirstIsFresh : Frame V → Type 0
-  FirstIsFresh f = (w : ℕ) (station : Station V) (later : List (Station V)) (before : Picture)
-      → ReachesPlainly f w [] station later before → ShowsFresh f w before.row [] station before
-
-  -- each painting with no clearing before it, from that row on
-  abbrev pub LaterIsFresh : Frame V → Type 0
-  LaterIsFresh f = (w : ℕ) (earlier : List (Station V)) (station : Station V) (later : List (Station V)) (before : Picture)
-      → ReachesPlainly f w earlier station later before → is_cleared (earlier ++ station ∷ []) ≡ false
-      → ShowsFresh f w before.row earlier station before
-
-  -- each painting with a clearing before it, from row 0 on
-  abbrev pub ClearedIsFresh : Frame V → Type 0
-  ClearedIsFresh f = (w : ℕ) (earlier : List (Station V)) (station : Station V) (later : List (Station V)) (before : Picture)
-      → ReachesPlainly f w earlier station later before → is_cleared (earlier ++ station ∷ []) ≡ true
-      → ShowsFresh f w 0 earlier station before
-
   -- the row from which a station is painted on a screen that is entered in a row
   abbrev pub first_row : ℕ → List (Station V) → ℕ
   first_row entry stations = start_row entry (scenes_of (map sized_scene stations))
@@ -68,22 +53,66 @@ module _ {V : Type 0} (rules : HostRules V) where
     pub refused : (r : Refusal) × (painting_of rules station ≡ Err r)
     pub not_cleared : station.cleared ≡ false
 
-  -- The closing batch after the last station that is painted leaves the cursor at column 0 of the row below its fresh painting, all from there on blank, and what is above as it was; also where the run then ends with the refusal of a painting, at a station at which nothing is rendered.
-  abbrev pub ClosesBelow : Frame V → Type 0
-  ClosesBelow f = (w : ℕ) (earlier : List (Station V)) (station : Station V) (later : List (Station V)) (before : Picture)
-      → ReachesPlainly f w earlier station later before → All RendersNothing later
-      → let after = play_batches w (batches_of (earlier ++ station ∷ [])) before in
-      ((run_of rules f).taken ≡ f.terminal.batches ++ batches_of (earlier ++ station ∷ []))
-      × IsClosed w (last_row w (first_row before.row (earlier ++ station ∷ [])) (sized_scene station).scene) after
-      (play_batches w (closing_if (run_of rules f).mark) after)
+  -- ---- a run
 
-  -- Two calls stack: a second run that clears nothing and enters the screen where the closing batch of a first one left it is fresh under that one's last painting, of which nothing is changed.
-  abbrev pub CallsStack : Type 0
-  CallsStack = (f g : Frame V) (w : ℕ) (earlier : List (Station V)) (station : Station V) (none : List (Station V)) (others : List (Station V)) (second : Station V) (later : List (Station V)) (before : Picture)
-      → ReachesPlainly f w earlier station none before → All RendersNothing none
-      → let shown = play_batches w (batches_of (earlier ++ station ∷ [])) before in
-      let entered = play_batches w (closing_if (run_of rules f).mark) shown in
-      let under = last_row w (first_row before.row (earlier ++ station ∷ [])) (sized_scene station).scene + 1 in
-      ReachesPlainly g w others second later entered → is_cleared (others ++ second ∷ []) ≡ false
-      → ShowsFresh g w under others second entered
-      × IsSameAbove w under shown (play_batches w (batches_of (others ++ second ∷ [])) entered)
+  -- the paintings of stations
+  abbrev pub shots_at : List (Station V) → List Shot
+  shots_at stations = map shot_of (map sized_scene stations)
+
+  -- nothing was painted before the run from a frame, which comes to a station and paints it
+  pub record Comes (f : Frame V) (earlier : List (Station V)) (station : Station V) (later : List (Station V)) : Type 0 where
+    pub nothing_painted : f.mark ≡ None
+    pub stations : stations_of rules f ≡ earlier ++ station ∷ later
+    pub painting : Painting
+    pub painted : painting_of rules station ≡ Ok painting
+
+  -- The batches up to the station's painting are those that show the scenes so far, and the first of the run. Where nothing is rendered behind it they are all, and the run's closing batch is theirs.
+  pub record TellsScenes (f : Frame V) (earlier : List (Station V)) (station : Station V) (later : List (Station V)) : Type 0 where
+    pub scenes : batches_of (earlier ++ station ∷ []) ≡ batches (shots_at (earlier ++ station ∷ []))
+    pub beginning : (rest : List Batch) × ((run_of rules f).taken ≡ f.terminal.batches ++ (batches_of (earlier ++ station ∷ []) ++ rest))
+    pub all : All RendersNothing later → (run_of rules f).taken ≡ f.terminal.batches ++ batches_of (earlier ++ station ∷ [])
+    pub closing : All RendersNothing later → closing_if (run_of rules f).mark ≡ closing_batch (shots_at (earlier ++ station ∷ []))
+
+  -- From this and a law on lists of scenes follows what any screen shows of a run.
+  abbrev pub RunsTellScenes : Type 0
+  RunsTellScenes = (f : Frame V) (earlier : List (Station V)) (station : Station V) (later : List (Station V))
+      → Comes f earlier station later → TellsScenes f earlier station later
+
+  -- ---- a call
+
+  -- On the way from f to g the terminal took the batches up to the station's painting first, and after them the screen shows its fresh painting from a row on; the rows above are as they were.
+  pub record ShowsFresh (f g : Frame V) (w s : ℕ) (earlier : List (Station V)) (station : Station V) (before : Picture) : Type 0 where
+    pub beginning : (rest : List Batch) × (g.terminal.batches ≡ f.terminal.batches ++ (batches_of (earlier ++ station ∷ []) ++ rest))
+    pub fresh : IsFresh w s (sized_scene station).scene (play_batches w (batches_of (earlier ++ station ∷ [])) before)
+    pub above : IsSameAbove w s before (play_batches w (batches_of (earlier ++ station ∷ [])) before)
+
+  -- the first painting, by a call that begins a line
+  abbrev pub ShowsFirst : Frame V → Frame V → Type 0
+  ShowsFirst f g = (w : ℕ) (station : Station V) (later : List (Station V)) (before : Picture) → ReachesPlainly f w [] station later before → ShowsFresh f g w before.row [] station before
+
+  -- What it took behind them leaves the cursor at column 0 of the row below the fresh painting, all from there on blank, and what is above as it was.
+  pub record ClosesBelow (f g : Frame V) (w : ℕ) (earlier : List (Station V)) (station : Station V) (before : Picture) : Type 0 where
+    pub end : List Batch
+    pub taken : g.terminal.batches ≡ f.terminal.batches ++ (batches_of (earlier ++ station ∷ []) ++ end)
+    pub closed : let after = play_batches w (batches_of (earlier ++ station ∷ [])) before in
+        IsClosed w (last_row w (first_row before.row (earlier ++ station ∷ [])) (sized_scene station).scene) after (play_batches w end after)
+
+  module _ {A : Type 0} (f g : Frame V) (result : Result A Error) where
+    -- the call painted the station behind these: where it was stopped, it took an event behind that station
+    abbrev pub HasPainted : List (Station V) → Type 0
+    HasPainted earlier = IsStopped result → length earlier + length g.terminal.events < length f.terminal.events
+
+    -- What a screen shows of a call whose run begins at f, and which left g with this answer: for each station that the run reaches plainly the fresh painting, from the row on in which the screen was entered, and from row 0 on once it was cleared. Where nothing stopped the call, and nothing is rendered behind a station, the call ends below it.
+    pub record Shows : Type 0 where
+      pub first : (w : ℕ) (station : Station V) (later : List (Station V)) (before : Picture)
+          → ReachesPlainly f w [] station later before → HasPainted []
+          → ShowsFresh f g w before.row [] station before
+      pub later : (w : ℕ) (earlier : List (Station V)) (station : Station V) (later : List (Station V)) (before : Picture)
+          → ReachesPlainly f w earlier station later before → HasPainted earlier → is_cleared (earlier ++ station ∷ []) ≡ false
+          → ShowsFresh f g w before.row earlier station before
+      pub cleared : (w : ℕ) (earlier : List (Station V)) (station : Station V) (later : List (Station V)) (before : Picture)
+          → ReachesPlainly f w earlier station later before → HasPainted earlier → is_cleared (earlier ++ station ∷ []) ≡ true
+          → ShowsFresh f g w 0 earlier station before
+      pub closing : (w : ℕ) (earlier : List (Station V)) (station : Station V) (later : List (Station V)) (before : Picture)
+          → ReachesPlainly f w earlier station later before → All RendersNothing later → (IsStopped result → ⊥)
+          → ClosesBelow f g w earlier station before

@@ -17,10 +17,7 @@ ghost use Rattle.tw_lineedit.specs.Run.{progress_of, resolution_of, run_of, IsAn
 ghost use Rattle.tw_lineedit.specs.Lent.{EndsAs, editor_row};
 ghost use Rattle.tw_lineedit.specs.EditorSteps.{Closes, FailsToClose, Paints, FailsToPaint, Applies, FailsToApply, Handles, FailsToHandle, answered_frame, Advances, FailsToAdvance, GivesUp};
 ghost use Rattle.tw_lineedit.specs.Feeding.{Begins, IsNotBegun, IsRefusedOn, Continues, IsEnded, IsAnsweredOn};
-ghost use Rattle.tw_lineedit.specs.ScreenRuns.{FirstIsFresh, LaterIsFresh, ClearedIsFresh, ClosesBelow};
-ghost use Rattle.tw_lineedit.specs.ScrollingRuns.{ScrolledIsFresh, ScrolledCloses};
-ghost use Rattle.tw_lineedit.specs.CutRuns.{CutCloses, CutIsFresh};
-ghost use Rattle.tw_lineedit.specs.HealedRuns.{HealedIsFresh, HealedCloses};
+ghost use Rattle.tw_lineedit.specs.ScreenRuns.{Shows};
 ghost use Rattle.tw_lineedit.specs.Reading.{initial_text, start, Reads, FailsToRead, IsTurnedDown, FailuresTell};
 
 mod feeding;
@@ -422,26 +419,9 @@ impl<'term, T: Terminal> LineEditor<'term, T> {
         ensures err { let before = frame T.state H.value self.old host.old in
             let after = frame T.state H.value self.new host.new in
             before.state.mode ≡ Inactive → IfErr result (FailsToRead H.rules (initial_text initial_value.entry) before after) }
-        ensures first_painting { let before = frame T.state H.value self.old host.old in
-            FirstIsFresh H.rules (start (initial_text initial_value.entry) before) }
-        ensures later_painting { let before = frame T.state H.value self.old host.old in
-            LaterIsFresh H.rules (start (initial_text initial_value.entry) before) }
-        ensures cleared_painting { let before = frame T.state H.value self.old host.old in
-            ClearedIsFresh H.rules (start (initial_text initial_value.entry) before) }
-        ensures closing_batch { let before = frame T.state H.value self.old host.old in
-            ClosesBelow H.rules (start (initial_text initial_value.entry) before) }
-        ensures scrolled_painting { let before = frame T.state H.value self.old host.old in
-            ScrolledIsFresh H.rules (start (initial_text initial_value.entry) before) }
-        ensures scrolled_closing { let before = frame T.state H.value self.old host.old in
-            ScrolledCloses H.rules (start (initial_text initial_value.entry) before) }
-        ensures healed_painting { let before = frame T.state H.value self.old host.old in
-            HealedIsFresh H.rules (start (initial_text initial_value.entry) before) }
-        ensures healed_closing { let before = frame T.state H.value self.old host.old in
-            HealedCloses H.rules (start (initial_text initial_value.entry) before) }
-        ensures cut_painting { let before = frame T.state H.value self.old host.old in
-            CutIsFresh H.rules (start (initial_text initial_value.entry) before) }
-        ensures cut_closing { let before = frame T.state H.value self.old host.old in
-            CutCloses H.rules (start (initial_text initial_value.entry) before) }
+        ensures shows { let before = frame T.state H.value self.old host.old in
+            let after = frame T.state H.value self.new host.new in
+            before.state.mode ≡ Inactive → Shows H.rules (start (initial_text initial_value.entry) before) after result }
         ensures failures { FailuresTell result (T.state self.old.terminal.now).failures (T.state self.new.terminal.now).failures }
     {
         if !self.session.is_inactive() {
@@ -465,16 +445,9 @@ impl<'term, T: Terminal> LineEditor<'term, T> {
         ensures err { let before = frame T.state H.value self.old host.old in
             let after = frame T.state H.value self.new host.new in
             before.state.mode ≡ Inactive → IfErr result (FailsToRead H.rules None before after) }
-        ensures first_painting { FirstIsFresh H.rules (start None (frame T.state H.value self.old host.old)) }
-        ensures later_painting { LaterIsFresh H.rules (start None (frame T.state H.value self.old host.old)) }
-        ensures cleared_painting { ClearedIsFresh H.rules (start None (frame T.state H.value self.old host.old)) }
-        ensures closing_batch { ClosesBelow H.rules (start None (frame T.state H.value self.old host.old)) }
-        ensures scrolled_painting { ScrolledIsFresh H.rules (start None (frame T.state H.value self.old host.old)) }
-        ensures scrolled_closing { ScrolledCloses H.rules (start None (frame T.state H.value self.old host.old)) }
-        ensures healed_painting { HealedIsFresh H.rules (start None (frame T.state H.value self.old host.old)) }
-        ensures healed_closing { HealedCloses H.rules (start None (frame T.state H.value self.old host.old)) }
-        ensures cut_painting { CutIsFresh H.rules (start None (frame T.state H.value self.old host.old)) }
-        ensures cut_closing { CutCloses H.rules (start None (frame T.state H.value self.old host.old)) }
+        ensures shows { let before = frame T.state H.value self.old host.old in
+            let after = frame T.state H.value self.new host.new in
+            before.state.mode ≡ Inactive → Shows H.rules (start None before) after result }
         ensures failures { FailuresTell result (T.state self.old.terminal.now).failures (T.state self.new.terminal.now).failures }
     {
         self.read_line_with_optional_initial_value(host, None)

@@ -1,8 +1,6 @@
 //! Laws over the definitions alone: each is the contract of a function that does nothing.
 
-ghost use Rattle.tw_lineedit.specs.ScreenRuns.{CallsStack};
-ghost use Rattle.tw_lineedit.specs.ScrollingRuns.{ScrolledCallsStack};
-ghost use Rattle.tw_lineedit.specs.SimpleRuns.{SimpleCallsStack, SimpleClosings, SimpleHealedPaintings, SimplePaintings, SimpleScrolledClosings, SimpleScrolledPaintings};
+ghost use Rattle.tw_lineedit.specs.ScreenRuns.{RunsTellScenes};
 ghost use Rattle.tw_lineedit.specs.Stations.{BatchesByStations};
 
 pub use tw_history::laws::{equality, searches};
@@ -18,26 +16,7 @@ pub fn batches<H: LineEditorHost>()
     ensures { BatchesByStations H.rules }
 {}
 
-/// Calls stack: what a second call paints, while it clears nothing, is fresh under what the first one left,
-/// and changes nothing of that.
-pub fn stacking<H: LineEditorHost>()
-    ensures { CallsStack H.rules }
-{}
-
-/// Calls stack on a screen that scrolls: what a second call paints is fresh, and what the first one left is as
-/// it was, moved up.
-pub fn scrolled_stacking<H: LineEditorHost>()
-    ensures { ScrolledCallsStack H.rules }
-{}
-
-/// What the screen clauses of `read_line` and `begin_line` say of printable ASCII holds for simple texts too, whose
-/// clusters are one character of one column each, on screens whose cells hold characters: whatever the frame is at which
-/// a reading starts. `stacking` says that calls stack.
-pub fn simple_runs<H: LineEditorHost>()
-    ensures painting { SimplePaintings H.rules }
-    ensures closing { SimpleClosings H.rules }
-    ensures scrolled_painting { SimpleScrolledPaintings H.rules }
-    ensures scrolled_closing { SimpleScrolledClosings H.rules }
-    ensures healed_painting { SimpleHealedPaintings H.rules }
-    ensures stacking { SimpleCallsStack H.rules }
+/// What a run takes, by its scenes: from this, and a law on lists of scenes, follows what any screen shows of a run.
+pub fn tells_scenes<H: LineEditorHost>()
+    ensures { RunsTellScenes H.rules }
 {}

@@ -5,7 +5,7 @@ ghost use Rattle.tw_painter.specs.EditState.{Inactive};
 ghost use Rattle.tw_lineedit.specs.Frame.{frame};
 ghost use Rattle.tw_lineedit.specs.Reading.{FailuresTell, start};
 ghost use Rattle.tw_lineedit.specs.Remembering.{FailsToReadAndRemember, ReadsAndRemembers};
-ghost use Rattle.tw_lineedit.specs.ScreenRuns.{ClearedIsFresh, ClosesBelow, FirstIsFresh, LaterIsFresh};
+ghost use Rattle.tw_lineedit.specs.ScreenRuns.{Shows};
 
 use crate::editor::LineEditor;
 use tw_host::LineEditorHost;
@@ -36,10 +36,9 @@ impl<'term, T: Terminal> LineEditor<'term, T> {
             before.state.mode ≡ Inactive → IfErr result (
             FailsToReadAndRemember H.rules H.value H.history_of H.with_history H.Hist.add_gives
             before (frame T.state H.value self.new) host.new) }
-        ensures first_painting { FirstIsFresh H.rules (start None (frame T.state H.value self.old host.old)) }
-        ensures later_painting { LaterIsFresh H.rules (start None (frame T.state H.value self.old host.old)) }
-        ensures cleared_painting { ClearedIsFresh H.rules (start None (frame T.state H.value self.old host.old)) }
-        ensures closing_batch { ClosesBelow H.rules (start None (frame T.state H.value self.old host.old)) }
+        ensures shows { let before = frame T.state H.value self.old host.old in
+            let after = frame T.state H.value self.new host.new in
+            before.state.mode ≡ Inactive → Shows H.rules (start None before) after result }
         ensures failures { FailuresTell result (T.state self.old.terminal.now).failures (T.state self.new.terminal.now).failures }
     {
         let line = self.read_line(host)?;

@@ -1,19 +1,16 @@
 //! A line that is fed its events as they come.
 
-ghost use Rattle.std.specs.Prelude.{◌≡◌, ◌≢◌, Ok, Err, None, IfOk, IfErr, OnOk, List, true, false};
+ghost use Rattle.std.specs.Prelude.{◌≡◌, ◌≢◌, Ok, Err, None, IfOk, IfErr, OnOk, true, false};
 ghost use Rattle.std.specs.Borrow.{sem};
 ghost use Rattle.tw_lineedit.specs.Frame.{frame, own_frame};
 ghost use Rattle.tw_lineedit.specs.Lent.{LendsTerminal};
-ghost use Rattle.tw_input.specs.EventView.{event_view, EventView};
+ghost use Rattle.tw_input.specs.EventView.{event_view};
 ghost use Rattle.tw_terminal.specs.TerminalState.{size_after};
 ghost use Rattle.tw_painter.specs.EditState.{Inactive};
 ghost use Rattle.tw_session.specs.Outcomes.{outcome_of, answer_at, is_open};
 ghost use Rattle.tw_lineedit.specs.Run.{ending};
-ghost use Rattle.tw_lineedit.specs.Feeding.{as_if, status_if, Begins, FailsToBegin, IsFed, FailsToFeed, FailsToFinish};
-ghost use Rattle.tw_lineedit.specs.ScreenRuns.{FirstIsFresh, LaterIsFresh, ClearedIsFresh, ClosesBelow};
-ghost use Rattle.tw_lineedit.specs.ScrollingRuns.{ScrolledIsFresh, ScrolledCloses};
-ghost use Rattle.tw_lineedit.specs.CutRuns.{CutCloses, CutIsFresh};
-ghost use Rattle.tw_lineedit.specs.HealedRuns.{HealedIsFresh, HealedCloses};
+ghost use Rattle.tw_lineedit.specs.Feeding.{status_if, Begins, FailsToBegin, IsFed, FailsToFeed, FailsToFinish};
+ghost use Rattle.tw_lineedit.specs.ScreenRuns.{ShowsFirst};
 ghost use Rattle.tw_lineedit.specs.Reading.{initial_text, start, Reads, FailuresTell};
 
 use crate::editor::LineEditor;
@@ -37,7 +34,8 @@ impl<'term, T: Terminal> LineEditor<'term, T> {
     /// line open: the closing batch is rendered and flushed, unless the terminal refuses that too, which is then
     /// the answer.
     ///
-    /// Whatever events the line is fed, a screen shows what `read_line` says of it.
+    /// A screen shows the first painting as `read_line` says of it. What it shows of the later ones, whatever events the
+    /// line is fed, is a law on runs.
     pub fn begin_line<H: LineEditorHost>(
         &mut self,
         host: &H,
@@ -55,26 +53,9 @@ impl<'term, T: Terminal> LineEditor<'term, T> {
         ensures err { let before = frame T.state H.value self.old host.now in
             let after = frame T.state H.value self.new host.now in
             before.state.mode ≡ Inactive → IfErr result (FailsToBegin H.rules (initial_text initial_value.entry) before after) }
-        ensures first_painting { let before = frame T.state H.value self.old host.now in
-            (events : List EventView) → FirstIsFresh H.rules (as_if events (start (initial_text initial_value.entry) before)) }
-        ensures later_painting { let before = frame T.state H.value self.old host.now in
-            (events : List EventView) → LaterIsFresh H.rules (as_if events (start (initial_text initial_value.entry) before)) }
-        ensures cleared_painting { let before = frame T.state H.value self.old host.now in
-            (events : List EventView) → ClearedIsFresh H.rules (as_if events (start (initial_text initial_value.entry) before)) }
-        ensures closing_batch { let before = frame T.state H.value self.old host.now in
-            (events : List EventView) → ClosesBelow H.rules (as_if events (start (initial_text initial_value.entry) before)) }
-        ensures scrolled_painting { let before = frame T.state H.value self.old host.now in
-            (events : List EventView) → ScrolledIsFresh H.rules (as_if events (start (initial_text initial_value.entry) before)) }
-        ensures scrolled_closing { let before = frame T.state H.value self.old host.now in
-            (events : List EventView) → ScrolledCloses H.rules (as_if events (start (initial_text initial_value.entry) before)) }
-        ensures healed_painting { let before = frame T.state H.value self.old host.now in
-            (events : List EventView) → HealedIsFresh H.rules (as_if events (start (initial_text initial_value.entry) before)) }
-        ensures healed_closing { let before = frame T.state H.value self.old host.now in
-            (events : List EventView) → HealedCloses H.rules (as_if events (start (initial_text initial_value.entry) before)) }
-        ensures cut_painting { let before = frame T.state H.value self.old host.now in
-            (events : List EventView) → CutIsFresh H.rules (as_if events (start (initial_text initial_value.entry) before)) }
-        ensures cut_closing { let before = frame T.state H.value self.old host.now in
-            (events : List EventView) → CutCloses H.rules (as_if events (start (initial_text initial_value.entry) before)) }
+        ensures shows { let before = frame T.state H.value self.old host.now in
+            let after = frame T.state H.value self.new host.now in
+            before.state.mode ≡ Inactive → OnOk result (ShowsFirst H.rules (start (initial_text initial_value.entry) before) after) }
         ensures failures { FailuresTell result (T.state self.old.terminal.now).failures (T.state self.new.terminal.now).failures }
     {
         if self.session.is_inactive() {

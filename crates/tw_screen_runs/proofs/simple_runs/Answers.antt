@@ -1,5 +1,5 @@
-use Rattle.tw_lineedit.proofs.SimpleRunLemmas.{simple_is_fresh, simple_closes, simple_scrolled_is_fresh, simple_scrolled_closes, simple_healed, simple_calls_stack}
-use Rattle.tw_lineedit.proofs.laws.simple_runs.Goals as goal
+use Rattle.tw_screen_runs.proofs.SimpleRunLemmas.{simple_is_fresh, simple_closes, simple_scrolled_is_fresh, simple_scrolled_closes, simple_healed, simple_calls_stack}
+use Rattle.tw_screen_runs.proofs.simple_runs.Goals as goal
 
 pub returns-clause-painting : goal.returns-clause-painting
 returns-clause-painting g c = simple_is_fresh g.H.LineEditorHost.rules

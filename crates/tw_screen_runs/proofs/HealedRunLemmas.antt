@@ -12,12 +12,12 @@ use Rattle.tw_surface.proofs.HealedLists.{healing}
 use Rattle.tw_host.specs.ElementView.{ElementView, Attribute, AllAttributes, Text, changes_of}
 use Rattle.tw_host.specs.HostRules.{HostRules}
 use Rattle.tw_lineedit.specs.Frame.{Frame}
-use Rattle.tw_lineedit.specs.HealedRuns.{ComesCleared, HealedIsFresh, HealedCloses}
+use Rattle.tw_screen_runs.specs.HealedRuns.{ComesCleared, HealedIsFresh, HealedCloses}
 use Rattle.tw_lineedit.specs.Run.{run_of}
-use Rattle.tw_lineedit.specs.ScreenRuns.{sized_scene, batches_of}
-use Rattle.tw_lineedit.specs.ScrollingRuns.{scenes_at}
+use Rattle.tw_lineedit.specs.ScreenRuns.{sized_scene, batches_of, Comes}
+use Rattle.tw_screen_runs.specs.ScrollingRuns.{scenes_at}
 use Rattle.tw_lineedit.specs.Stations.{Station}
-use Rattle.tw_lineedit.proofs.StationLemmas.{Comes, ArePainted, all_painted, batches_are_shots, played-is, first_batches, all_taken, closing-is}
+use Rattle.tw_lineedit.proofs.StationLemmas.{ArePainted, all_painted, batches_are_shots, played-is, first_batches, all_taken, closing-is}
 
 -- elements become attributes and texts
 changes_are_texts : (elements : List ElementView) → list_all is_text (changes_of elements) ≡ true

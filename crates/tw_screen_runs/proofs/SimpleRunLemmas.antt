@@ -12,11 +12,11 @@ use Rattle.tw_host.specs.HostRules.{HostRules}
 use Rattle.tw_lineedit.specs.Frame.{Frame}
 use Rattle.tw_lineedit.specs.Run.{run_of}
 use Rattle.tw_lineedit.specs.Stations.{Station}
-use Rattle.tw_lineedit.specs.ScreenRuns.{sized_scene, batches_of, is_cleared, first_row}
-use Rattle.tw_lineedit.specs.SimpleRuns.{ComesSimple, ComesSimpleCleared, SimpleIsFresh, SimpleCloses, SimpleScrolledIsFresh, SimpleScrolledCloses, ShowsSimple, SimpleCallsStack, SimpleHealedIsFresh}
-use Rattle.tw_lineedit.proofs.StationLemmas.{Comes, played-is, first_batches, all_taken, closing-is}
+use Rattle.tw_lineedit.specs.ScreenRuns.{sized_scene, batches_of, is_cleared, first_row, Comes}
+use Rattle.tw_screen_runs.specs.SimpleRuns.{ComesSimple, ComesSimpleCleared, SimpleIsFresh, SimpleCloses, SimpleScrolledIsFresh, SimpleScrolledCloses, ShowsSimple, SimpleCallsStack, SimpleHealedIsFresh}
+use Rattle.tw_lineedit.proofs.StationLemmas.{played-is, first_batches, all_taken, closing-is}
 use Rattle.tw_lineedit.proofs.ScreenRunLemmas.{cleared_scenes}
-use Rattle.tw_lineedit.proofs.HealedRunLemmas.{text_prompts, played_since, first_since}
+use Rattle.tw_screen_runs.proofs.HealedRunLemmas.{text_prompts, played_since, first_since}
 
 module _ {V : Type 0} (rules : HostRules V) where
   comes_simply : {f : Frame V} {w : ℕ} {earlier : List (Station V)} {station : Station V} {later : List (Station V)} {before : Picture}

@@ -5,10 +5,10 @@ use Rattle.tw_surface.specs.Pictures.{Picture}
 use Rattle.tw_surface.proofs.CutLists.{sized_batches_are, cut_painting, cut_closing}
 use Rattle.tw_host.specs.HostRules.{HostRules}
 use Rattle.tw_lineedit.specs.Frame.{Frame}
-use Rattle.tw_lineedit.specs.CutRuns.{ComesAtAnyWidth, CutIsFresh, CutCloses}
-use Rattle.tw_lineedit.specs.ScreenRuns.{sized_scene}
+use Rattle.tw_screen_runs.specs.CutRuns.{ComesAtAnyWidth, CutIsFresh, CutCloses}
+use Rattle.tw_lineedit.specs.ScreenRuns.{sized_scene, Comes}
 use Rattle.tw_lineedit.specs.Stations.{Station}
-use Rattle.tw_lineedit.proofs.StationLemmas.{Comes, played-is, first_batches, all_taken, closing-is}
+use Rattle.tw_lineedit.proofs.StationLemmas.{played-is, first_batches, all_taken, closing-is}
 
 module _ {V : Type 0} (rules : HostRules V) where
   -- the columns of stations

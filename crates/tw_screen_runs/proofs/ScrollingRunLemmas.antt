@@ -9,7 +9,7 @@ use Rattle.tw_host.specs.HostRules.{HostRules}
 use Rattle.tw_lineedit.specs.Frame.{Frame}
 use Rattle.tw_lineedit.specs.Run.{run_of}
 use Rattle.tw_lineedit.specs.ScreenRuns.{sized_scene, batches_of}
-use Rattle.tw_lineedit.specs.ScrollingRuns.{scenes_at, top_row_at, ScrolledIsFresh, ScrolledCloses, ScrolledCallsStack}
+use Rattle.tw_screen_runs.specs.ScrollingRuns.{scenes_at, top_row_at, ScrolledIsFresh, ScrolledCloses, ScrolledCallsStack}
 use Rattle.tw_lineedit.proofs.StationLemmas.{played-is, first_batches, all_taken, closing-is}
 use Rattle.tw_lineedit.proofs.ScreenRunLemmas.{comes_plainly}
 

@@ -24,7 +24,7 @@ use Rattle.tw_session.specs.Steps.{apply}
 use Rattle.tw_painter.specs.Refusal.{Refusal, ZeroSize}
 use Rattle.tw_lineedit.specs.Stations.{Station, painting_of, stations_of}
 use Rattle.tw_lineedit.specs.ScreenRuns.{ReachesPlainly, RendersNothing, batches_of, sized_scene}
-use Rattle.tw_lineedit.proofs.ScreenRunLemmas.{later_is_fresh, cleared_is_fresh, closes_below}
+use Rattle.tw_screen_runs.proofs.PlainRunLemmas.{later_is_fresh, cleared_is_fresh, closes_below}
 
 abbrev Lines : Type 0
 Lines = List (List ℕ)

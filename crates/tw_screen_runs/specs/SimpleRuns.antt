@@ -14,7 +14,7 @@ use Rattle.tw_host.specs.HostRules.{HostRules}
 use Rattle.tw_lineedit.specs.Frame.{Frame}
 use Rattle.tw_lineedit.specs.Run.{run_of}
 use Rattle.tw_lineedit.specs.ScreenRuns.{sized_scene, batches_of, is_cleared, first_row, RendersNothing}
-use Rattle.tw_lineedit.specs.ScrollingRuns.{scenes_at}
+use Rattle.tw_screen_runs.specs.ScrollingRuns.{scenes_at}
 use Rattle.tw_lineedit.specs.Stations.{Station, painting_of, stations_of}
 
 module _ {V : Type 0} (rules : HostRules V) where

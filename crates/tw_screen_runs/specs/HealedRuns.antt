@@ -12,7 +12,7 @@ use Rattle.tw_host.specs.HostRules.{HostRules}
 use Rattle.tw_lineedit.specs.Frame.{Frame}
 use Rattle.tw_lineedit.specs.Run.{run_of}
 use Rattle.tw_lineedit.specs.ScreenRuns.{sized_scene, batches_of, RendersNothing}
-use Rattle.tw_lineedit.specs.ScrollingRuns.{scenes_at}
+use Rattle.tw_screen_runs.specs.ScrollingRuns.{scenes_at}
 use Rattle.tw_lineedit.specs.Stations.{Station, painting_of, stations_of}
 
 module _ {V : Type 0} (rules : HostRules V) where
@@ -55,3 +55,11 @@ module _ {V : Type 0} (rules : HostRules V) where
   abbrev pub HealedCloses : Frame V → Type 0
   HealedCloses f = (w : ℕ) (earlier since : List (Station V)) (station : Station V) (later : List (Station V))
       → ComesCleared f w earlier since station later → All (RendersNothing rules) later → ClosesHealed f w earlier since station
+
+  -- ---- for the run from any frame
+
+  abbrev pub HealedPaintings : Type 0
+  HealedPaintings = (f : Frame V) → HealedIsFresh f
+
+  abbrev pub HealedClosings : Type 0
+  HealedClosings = (f : Frame V) → HealedCloses f

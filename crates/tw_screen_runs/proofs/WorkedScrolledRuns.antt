@@ -16,8 +16,8 @@ use Rattle.tw_line.specs.Boundaries.{boundary_below, is_boundary}
 use Rattle.tw_host.specs.ElementView as element
 use Rattle.tw_extremes.specs.Extremes.{iterate, greatest_below, least_from}
 use Rattle.tw_lineedit.specs.Frame.{Frame}
-use Rattle.tw_lineedit.specs.CutRuns.{ComesAtAnyWidth, sized_batches_of}
-use Rattle.tw_lineedit.specs.HealedRuns.{ComesCleared}
+use Rattle.tw_screen_runs.specs.CutRuns.{ComesAtAnyWidth, sized_batches_of}
+use Rattle.tw_screen_runs.specs.HealedRuns.{ComesCleared}
 use Rattle.tw_host.specs.HostRules.{HostRules, plain_rules}
 use Rattle.tw_host.specs.KeyTable.{key_press}
 use Rattle.tw_line.specs.Movements.{destination}
@@ -26,14 +26,14 @@ use Rattle.tw_lineedit.specs.Reading.{start}
 use Rattle.tw_painter.specs.Refusal.{Refusal, ZeroSize}
 use Rattle.tw_lineedit.specs.Run.{run_of}
 use Rattle.tw_lineedit.specs.ScreenRuns.{batches_of, sized_scene, RendersNothing}
-use Rattle.tw_lineedit.specs.ScrollingRuns.{ComesOn}
+use Rattle.tw_screen_runs.specs.ScrollingRuns.{ComesOn}
 use Rattle.tw_session.specs.Search.{searched_again, search_step}
 use Rattle.tw_session.specs.SessionView.{new_state}
 use Rattle.tw_lineedit.specs.Stations.{Station, painting_of, stations_of}
 use Rattle.tw_session.specs.Steps.{apply}
-use Rattle.tw_lineedit.proofs.ScrollingRunLemmas.{scrolled_is_fresh, scrolled_closes}
-use Rattle.tw_lineedit.proofs.CutRunLemmas.{cut_is_fresh, cut_closes}
-use Rattle.tw_lineedit.proofs.HealedRunLemmas.{healed_is_fresh, healed_closes}
+use Rattle.tw_screen_runs.proofs.ScrollingRunLemmas.{scrolled_is_fresh, scrolled_closes}
+use Rattle.tw_screen_runs.proofs.CutRunLemmas.{cut_is_fresh, cut_closes}
+use Rattle.tw_screen_runs.proofs.HealedRunLemmas.{healed_is_fresh, healed_closes}
 
 abbrev Lines : Type 0
 Lines = List (List ℕ)

@@ -53,3 +53,11 @@ module _ {V : Type 0} (rules : HostRules V) where
       ((run_of rules f).taken ≡ f.terminal.batches ++ batches_of rules (earlier ++ station ∷ []))
       × IsClosed w (last_row station.size.cols (first_row rules before.row (earlier ++ station ∷ [])) (sized_scene rules station).scene) after
       (play_batches w (closing_if (run_of rules f).mark) after)
+
+  -- ---- for the run from any frame
+
+  abbrev pub CutPaintings : Type 0
+  CutPaintings = (f : Frame V) → CutIsFresh f
+
+  abbrev pub CutClosings : Type 0
+  CutClosings = (f : Frame V) → CutCloses f

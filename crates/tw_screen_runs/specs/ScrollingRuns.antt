@@ -61,3 +61,11 @@ module _ {V : Type 0} (rules : HostRules V) where
       ComesOn h g w others second later entered
       → ShowsScrolled h g w s others second entered
       × IsMovedUp w s (under - s) shown (play_batches_on h w (batches_of rules (others ++ second ∷ [])) entered)
+
+  -- ---- for the run from any frame
+
+  abbrev pub ScrolledPaintings : Type 0
+  ScrolledPaintings = (f : Frame V) → ScrolledIsFresh f
+
+  abbrev pub ScrolledClosings : Type 0
+  ScrolledClosings = (f : Frame V) → ScrolledCloses f

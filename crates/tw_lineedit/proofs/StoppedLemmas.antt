@@ -1,0 +1,179 @@
+-- What was taken before a run is stopped is a beginning of its batches: those of the stations so far.
+use Rattle.std.proofs.Common.{◌≡◌, ◌+◌, ◌<◌, ◌≤◌, List, [], ◌∷◌, ◌++◌, Bool, false, length, refl, sym, ◌∙◌, ap, subst, append_assoc, Option, Some, None, Result, Ok, Err, arith}
+use Rattle.std.proofs.lemmas.List.{append-nil}
+use Rattle.tw_surface.specs.ChangeView.{Batch}
+use Rattle.tw_surface.specs.Paintings.{Painting, Mark, mark_of}
+use Rattle.tw_surface.specs.PaintingBatches.{Shot, start_of, clearing, batches_after, mark_after, batches}
+use Rattle.tw_surface.proofs.ShotLemmas.{batches_after-append}
+use Rattle.tw_input.specs.EventView.{EventView}
+use Rattle.tw_terminal.specs.TerminalState.{TerminalState}
+use Rattle.tw_host.specs.HostRules.{HostRules}
+use Rattle.tw_painter.specs.EditState.{EditState}
+use Rattle.tw_painter.specs.Painting.{Rendering, rendering_of}
+use Rattle.tw_painter.specs.Refusal.{Refusal}
+use Rattle.tw_session.specs.Outcomes.{is_over}
+use Rattle.tw_session.specs.Steps.{is_repaint}
+use Rattle.tw_lineedit.specs.EditorSteps.{Paints}
+use Rattle.tw_lineedit.specs.Frame.{Frame}
+use Rattle.tw_lineedit.specs.Run.{Progress, Moment, Cause, CanStop, progress_of, painting_at, after_painting, chosen_action, state_after, after_action}
+use Rattle.tw_lineedit.specs.Run.CanStop.{unmeasured, unpainted, half_painted, unpolled, uncopied, unresolved, unapplied, half_cleared, later}
+use Rattle.tw_lineedit.specs.Stations.{Station, station_at, station_batches, painting_of, painted_shots, stations_by, stations_unless, stations_after, stations_from}
+use Rattle.tw_lineedit.specs.ScreenRuns.{batches_of, shots_at, Comes}
+use Rattle.tw_lineedit.proofs.StationLemmas.{IsErrRendered, ArePainted, rendered_at, alone, shots_before, all_painted, played-is}
+
+module _ {A : Type 0} where
+  abbrev head_or : A → List A → A
+  head_or a [] = a
+  head_or a (x ∷ xs) = x
+
+  abbrev behind : List A → List A
+  behind [] = []
+  behind (x ∷ xs) = xs
+
+  -- of two beginnings of a list the longer one begins with the shorter one
+  longer : (earlier : List A) (x : A) (more painted others : List A) → painted ++ others ≡ earlier ++ x ∷ more → length earlier < length painted
+      → (rest : List A) × (painted ≡ (earlier ++ x ∷ []) ++ rest)
+  longer earlier x more [] others e h = absurd (omega (arith, h))
+  longer [] x more (p ∷ painted) others e h = (painted, ap (λ (y : A). y ∷ painted) (ap (head_or x) e))
+  longer (y ∷ earlier) x more (p ∷ painted) others e h =
+      let q = longer earlier x more painted others (ap behind e) (omega (arith, h)) in
+      (q.0, ap (λ (z : A). z ∷ painted) (ap (head_or y) e) ∙ ap (λ (l : List A). y ∷ l) q.1)
+
+abbrev rendering_in : Rendering → Result Rendering Refusal → Rendering
+rendering_in p (Err r) = p
+rendering_in p (Ok q) = q
+
+-- a painting as it is rendered
+abbrev rendered : Option Mark → Painting → Rendering
+rendered mark q = record { changes = start_of mark ++ q.changes; mark = mark_of q }
+
+rendered-is : (mark : Option Mark) (r : Result Painting Refusal) (p : Rendering) → rendering_of mark r ≡ Ok p → (q : Painting) × (r ≡ Ok q) × (p ≡ rendered mark q)
+rendered-is mark (Ok q) p h = (q, refl, sym (ap (rendering_in p) h))
+rendered-is mark (Err r) p h = absurd (subst IsErrRendered h tt)
+
+module _ {V : Type 0} (rules : HostRules V) where
+  -- The stations that were painted before a run was stopped, and what was taken: their batches, and maybe a clearing. Each event that was taken came behind one of them.
+  pub record Stopped (es : List EventView) (cleared : Bool) (s : Progress V) (base : List Batch) (m : Moment V) : Type 0 where
+    pub painted : List (Station V)
+    pub others : List (Station V)
+    pub extra : List Batch
+    pub stations : stations_from rules es cleared s ≡ painted ++ others
+    pub are_painted : ArePainted rules painted
+    pub taken : m.taken ≡ base ++ (batches_after s.mark (painted_shots rules painted) ++ extra)
+    pub enough : length es ≤ length m.left + length painted
+
+  -- nothing was painted
+  nothing : (es : List EventView) (cleared : Bool) (s : Progress V) (base : List Batch) (m : Moment V) → s.taken ≡ base ++ clearing cleared
+      → m.taken ≡ s.taken → m.left ≡ es → Stopped es cleared s base m
+  nothing es cleared s base m h taken left = record {
+    painted = [];
+    others = stations_from rules es cleared s;
+    extra = clearing cleared;
+    stations = refl;
+    are_painted = tt;
+    taken = taken ∙ h;
+    enough = rw left (omega arith);
+  }
+
+  -- the painting of a station
+  painted_as : (cleared : Bool) (s : Progress V) (p : Rendering) → painting_at rules s ≡ Ok p
+      → (q : Painting) × (painting_of rules (station_at cleared s) ≡ Ok q) × (p ≡ rendered s.mark q)
+  painted_as cleared s p h = rendered-is s.mark (painting_of rules (station_at cleared s)) p (sym (rendered_at rules s cleared) ∙ h)
+
+  stations_begin : (es : List EventView) (cleared : Bool) (s : Progress V) → (others : List (Station V)) × (stations_from rules es cleared s ≡ station_at cleared s ∷ others)
+  stations_begin [] cleared s = ([], refl)
+  stations_begin (e ∷ es) cleared s = (stations_by rules e s (stations_from rules es) (painting_at rules s), refl)
+
+  -- one station was painted
+  one : (es : List EventView) (cleared : Bool) (s : Progress V) (base : List Batch) (p : Rendering) (m : Moment V) → painting_at rules s ≡ Ok p → s.taken ≡ base ++ clearing cleared
+      → m.taken ≡ s.taken ++ p.changes ∷ [] → length es ≤ length m.left + 1 → Stopped es cleared s base m
+  one es cleared s base p m k h taken enough =
+      let q = painted_as cleared s p k in
+      let b = stations_begin es cleared s in
+      record {
+        painted = station_at cleared s ∷ [];
+        others = b.0;
+        extra = [];
+        stations = b.1;
+        are_painted = ((q.0, q.1), tt);
+        taken = taken ∙ ap (λ (r : Rendering). s.taken ++ r.changes ∷ []) q.2 ∙ rw q.1 (alone rules base s.taken s.mark cleared q.0 h);
+        enough = enough;
+      }
+
+  -- what a painting and the batches behind it add to a clearing
+  joined : (base taken c y extra : List Batch) (b : Batch) → taken ≡ base ++ c → (taken ++ b ∷ []) ++ (y ++ extra) ≡ base ++ ((c ++ b ∷ y) ++ extra)
+  joined base taken c y extra b h =
+      append_assoc taken (b ∷ []) (y ++ extra)
+      ∙ ap (λ (l : List Batch). l ++ b ∷ (y ++ extra)) h
+      ∙ append_assoc base c (b ∷ (y ++ extra))
+      ∙ ap (λ (l : List Batch). base ++ l) (sym (append_assoc c (b ∷ y) extra))
+
+  -- a station was painted, and its event led to the next one
+  more : (e : EventView) (es : List EventView) (cleared : Bool) (s : Progress V) (base : List Batch) (p : Rendering) (state : EditState) (m : Moment V)
+      → painting_at rules s ≡ Ok p → is_over s.state.mode ≡ false → state_after rules s e ≡ Ok state → s.taken ≡ base ++ clearing cleared
+      → Stopped es (is_repaint (chosen_action rules (after_painting s p) e)) (after_action rules (after_painting s p) e state) (s.taken ++ p.changes ∷ []) m
+      → Stopped (e ∷ es) cleared s base m
+  more e es cleared s base p state m k over leads h rest =
+      let q = painted_as cleared s p k in
+      record {
+        painted = station_at cleared s ∷ rest.painted;
+        others = rest.others;
+        extra = rest.extra;
+        stations = ap (λ (l : List (Station V)). station_at cleared s ∷ l)
+            (ap (stations_by rules e s (stations_from rules es)) k
+            ∙ ap (stations_unless (stations_after rules e (after_painting s p) (stations_from rules es) (state_after rules s e))) over
+            ∙ ap (stations_after rules e (after_painting s p) (stations_from rules es)) leads
+            ∙ rest.stations);
+        are_painted = ((q.0, q.1), rest.are_painted);
+        taken = rest.taken ∙ ap (λ (r : Rendering). (s.taken ++ r.changes ∷ []) ++ (batches_after (Some r.mark) (painted_shots rules rest.painted) ++ rest.extra)) q.2
+            ∙ rw q.1 (joined base s.taken (clearing cleared) (batches_after (Some (mark_of q.0)) (painted_shots rules rest.painted)) rest.extra (start_of s.mark ++ q.0.changes) h);
+        enough = omega (arith, rest.enough);
+      }
+
+  pub stopped : (c : Cause) (es : List EventView) (cleared : Bool) (s : Progress V) (base : List Batch) (m : Moment V) → s.taken ≡ base ++ clearing cleared → CanStop rules c es s m → Stopped es cleared s base m
+  stopped c es cleared s base m h (unmeasured) = nothing es cleared s base m h refl refl
+  stopped c es cleared s base m h (unpainted sized) = nothing es cleared s base m h refl refl
+  stopped c es cleared s base m h (half_painted k) = nothing es cleared s base m h refl refl
+  stopped c es cleared s base m h (unpolled k over) = one es cleared s base _ m k h refl (omega arith)
+  stopped c es cleared s base m h (uncopied k over line) = one es cleared s base _ m k h refl (omega arith)
+  stopped c es cleared s base m h (unresolved k over) = one es cleared s base _ m k h refl (omega arith)
+  stopped c es cleared s base m h (unapplied k over takes) = one es cleared s base _ m k h refl (omega arith)
+  stopped c es cleared s base m h (half_cleared k over repaint) = one es cleared s base _ m k h refl (omega arith)
+  stopped c (e ∷ es) cleared s base m h (later k over leads n) = more e es cleared s base _ _ m k over leads h (stopped c es _ _ _ m refl n)
+
+  -- where a station was painted before a run was stopped, its batches are the first that were taken
+  pub first_stopped : {f : Frame V} {earlier : List (Station V)} {station : Station V} {behind : List (Station V)} → Comes rules f earlier station behind
+      → (m : Moment V) → Stopped f.terminal.events false (progress_of f) f.terminal.batches m → length earlier + length m.left < length f.terminal.events
+      → (rest : List Batch) × (m.taken ≡ f.terminal.batches ++ (batches_of rules (earlier ++ station ∷ []) ++ rest))
+  first_stopped {f = f} {earlier = earlier} {station = station} {behind = behind} comes m st far =
+      let up_to : List (Station V) = earlier ++ station ∷ [] in
+      let p = longer earlier station behind st.painted st.others (sym st.stations ∙ comes.stations) (omega (arith, far, st.enough)) in
+      let shots = shots_before rules up_to p.0 (all_painted rules comes) in
+      let others : List Batch = batches_after (mark_after None (shots_at rules up_to)) (painted_shots rules p.0) in (
+        others ++ st.extra,
+        st.taken
+            ∙ ap (λ (mark : Option Mark). f.terminal.batches ++ (batches_after mark (painted_shots rules st.painted) ++ st.extra)) comes.nothing_painted
+            ∙ ap (λ (l : List Shot). f.terminal.batches ++ (batches l ++ st.extra)) (ap (painted_shots rules) p.1 ∙ shots)
+            ∙ ap (λ (b : List Batch). f.terminal.batches ++ (b ++ st.extra)) (batches_after-append None (shots_at rules up_to) (painted_shots rules p.0))
+            ∙ ap (λ (b : List Batch). f.terminal.batches ++ b) (append_assoc (batches (shots_at rules up_to)) others st.extra)
+            ∙ ap (λ (b : List Batch). f.terminal.batches ++ (b ++ (others ++ st.extra))) (sym (played-is rules comes)),
+      )
+
+  -- where the first station was painted, its batches were taken
+  pub first_begun : {f g : Frame V} {station : Station V} {behind : List (Station V)} → Comes rules f [] station behind → Paints rules f g
+      → g.terminal.batches ≡ f.terminal.batches ++ (batches_of rules (station ∷ []) ++ [])
+  first_begun {f = f} {g = g} {station = station} comes paints =
+      let s : Progress V = progress_of f in
+      let first : Station V = station_at false s in
+      let p : Rendering = paints.picture.0 in
+      let q = painted_as false s p paints.picture.1 in
+      let begins = stations_begin f.terminal.events false s in
+      let is : station ≡ first = ap (head_or station) (sym comes.stations ∙ begins.1) in
+      let told : f.terminal.batches ++ (start_of f.mark ++ q.0.changes) ∷ [] ≡ f.terminal.batches ++ station_batches rules f.mark (first ∷ []) =
+      rw q.1 (alone rules f.terminal.batches f.terminal.batches f.mark false q.0 (sym (append-nil f.terminal.batches))) in
+      ap (λ (t : TerminalState). t.batches) paints.picture.3
+      ∙ ap (λ (r : Rendering). f.terminal.batches ++ r.changes ∷ []) q.2
+      ∙ told
+      ∙ ap (λ (mark : Option Mark). f.terminal.batches ++ station_batches rules mark (first ∷ [])) comes.nothing_painted
+      ∙ ap (λ (x : Station V). f.terminal.batches ++ batches_of rules (x ∷ [])) (sym is)
+      ∙ ap (λ (b : List Batch). f.terminal.batches ++ b) (sym (append-nil (batches_of rules (station ∷ []))))

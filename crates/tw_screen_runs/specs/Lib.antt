@@ -1,0 +1,5 @@
+pub mod PlainRuns
+pub mod ScrollingRuns
+pub mod HealedRuns
+pub mod CutRuns
+pub mod SimpleRuns
