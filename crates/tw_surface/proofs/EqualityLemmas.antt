@@ -1,13 +1,17 @@
--- `==` of all attributes of a cell.
+-- `==` of colours, of attributes, and of all attributes of a cell.
 use Rattle.std.proofs.Common.{◌≡◌, ◌↔◌, IsTrue, Bool, true, false, ap, ◌∙◌, refl, subst, rules}
-use Rattle.std.proofs.lemmas.Bool.{and_parts, and_from, false≢true}
+use Rattle.std.proofs.lemmas.Bool.{and_parts, and_from, eqb-true, false≢true}
 use mathlib.Core.Bool.{beq}
 use denote.Enum.Bare.{same_true, true_same}
+use Rattle.tw_surface.specs.declared.cell.AttributeChange.{AttributeChange}
+use Rattle.tw_surface.specs.declared.cell.AttributeChange.TheVariants.{Intensity, Underline, Italic, Blink, Reverse, StrikeThrough, Invisible, Foreground, Background}
 use Rattle.tw_surface.specs.declared.cell.CellAttributes.{CellAttributes}
 use Rattle.tw_surface.specs.declared.color.ColorAttribute.{ColorAttribute}
+use Rattle.tw_surface.specs.declared.color.ColorAttribute.TheVariants.{Default, PaletteIndex, TrueColorWithDefaultFallback}
 use Rattle.tw_surface.specs.contracts.cell.Intensity.{the_type as intensity}
 use Rattle.tw_surface.specs.contracts.cell.Underline.{the_type as underline}
 use Rattle.tw_surface.specs.contracts.cell.Blink.{the_type as blink}
+use Rattle.tw_surface.specs.contracts.cell.AttributeChangePartialEq.TheImpl.{ghosts as changes}
 use Rattle.tw_surface.specs.contracts.cell.CellAttributesPartialEq.TheImpl.{ghosts as attributes}
 use Rattle.tw_surface.specs.contracts.color.ColorAttributePartialEq.TheImpl.{ghosts as colors}
 
@@ -24,8 +28,45 @@ is-beq a b e = subst (λ (x : Bool). beq a x ≡ true) e (beq-same a)
     beq-same true = refl
     beq-same false = refl
 
+equal-colors : (a b : ColorAttribute) → IsTrue (colors.eq a b) → a ≡ b
+equal-colors Default Default h = refl
+equal-colors (PaletteIndex x) (PaletteIndex y) h = ap PaletteIndex (eqb-true x y h)
+equal-colors (TrueColorWithDefaultFallback r g b) (TrueColorWithDefaultFallback s h c) e = search rules
+equal-colors _ _ h = absurd (false≢true h)
+
+same-color : (a : ColorAttribute) → IsTrue (colors.eq a a)
+same-color Default = refl
+same-color (PaletteIndex x) = search rules
+same-color (TrueColorWithDefaultFallback r g b) = search rules
+
 pub colors_equal : (a b : ColorAttribute) → IsTrue (colors.eq a b) ↔ (a ≡ b)
-colors_equal a b = search rules
+colors_equal a b = (equal-colors a b, λ e. subst (λ (x : ColorAttribute). IsTrue (colors.eq a x)) e (same-color a))
+
+equal-changes : (a b : AttributeChange) → IsTrue (changes.eq a b) → a ≡ b
+equal-changes (Intensity x) (Intensity y) h = ap Intensity (same_true intensity tt _ _ h)
+equal-changes (Underline x) (Underline y) h = ap Underline (same_true underline tt _ _ h)
+equal-changes (Italic x) (Italic y) h = ap Italic (beq-is _ _ h)
+equal-changes (Blink x) (Blink y) h = ap Blink (same_true blink tt _ _ h)
+equal-changes (Reverse x) (Reverse y) h = ap Reverse (beq-is _ _ h)
+equal-changes (StrikeThrough x) (StrikeThrough y) h = ap StrikeThrough (beq-is _ _ h)
+equal-changes (Invisible x) (Invisible y) h = ap Invisible (beq-is _ _ h)
+equal-changes (Foreground x) (Foreground y) h = ap Foreground (equal-colors _ _ h)
+equal-changes (Background x) (Background y) h = ap Background (equal-colors _ _ h)
+equal-changes _ _ h = absurd (false≢true h)
+
+same-change : (a : AttributeChange) → IsTrue (changes.eq a a)
+same-change (Intensity x) = true_same intensity _ _ refl
+same-change (Underline x) = true_same underline _ _ refl
+same-change (Italic x) = is-beq _ _ refl
+same-change (Blink x) = true_same blink _ _ refl
+same-change (Reverse x) = is-beq _ _ refl
+same-change (StrikeThrough x) = is-beq _ _ refl
+same-change (Invisible x) = is-beq _ _ refl
+same-change (Foreground x) = same-color x
+same-change (Background x) = same-color x
+
+pub changes_equal : (a b : AttributeChange) → IsTrue (changes.eq a b) ↔ (a ≡ b)
+changes_equal a b = (equal-changes a b, λ e. subst (λ (x : AttributeChange). IsTrue (changes.eq a x)) e (same-change a))
 
 -- attributes are equal where each of them is
 joined : (a b : CellAttributes) → a.intensity ≡ b.intensity → a.underline ≡ b.underline → a.blink ≡ b.blink → a.italic ≡ b.italic → a.reverse ≡ b.reverse

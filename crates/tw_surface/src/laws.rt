@@ -29,7 +29,6 @@ use crate::sequence::AddFault;
 use crate::size::SizeFault;
 
 /// `==` is equality of values; texts are compared by their characters.
-#[tactic(auto, using(crate::proofs::EqualityLemmas::attributes_equal))]
 pub fn equality()
     ensures changes { (a b : Change) → IsTrue (⟦<Change as PartialEq>⟧.eq a b) ↔ (change_view a ≡ change_view b) }
     ensures positions { (a b : Position) → IsTrue (⟦<Position as PartialEq>⟧.eq a b) ↔ (a ≡ b) }
