@@ -1,4 +1,5 @@
 pub mod Appends
+pub mod EqualityLemmas
 pub mod Numbers
 pub mod Pastes
 pub mod Tokens

@@ -1,4 +1,5 @@
 pub mod Sequences
+pub mod Renditions
 pub mod Encoding
 pub mod KeyBytes
 pub mod KeyLaws

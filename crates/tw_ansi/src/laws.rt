@@ -1,10 +1,29 @@
 //! Laws of this crate's definitions: each function does nothing, and its contract is the law.
 
+ghost use Rattle.tw_input.specs.Equality.{ComparesValues};
+ghost use Rattle.tw_ansi.specs.Renditions.{AttributesByNumber};
 ghost use Rattle.tw_ansi.specs.EcmaLaws.{AttributeShowsNothing, ColumnsAreReached, RowsAboveAreReached, ClearsBelow, ClearsAll};
 ghost use Rattle.tw_ansi.specs.EcmaTexts.{PlainTextIsShown};
 ghost use Rattle.tw_ansi.specs.EcmaBatches.{FirstIsShown, ChangeIsShown, BatchIsShown};
 ghost use Rattle.tw_ansi.specs.EcmaPaintings.{PaintingIsSendable, RepaintingIsSendable, ClosingIsSendable, PaintingKnowsColor, RunIsSendable, BatchesAreShown};
 ghost use Rattle.tw_ansi.specs.KeyLaws.{StaysFound, TakesBytes, EndsWithToken, PrintableKeys, CharacterKeys, AltCharacterKeys, EscapeKey, EscapePair, AltKeys, ControlKeys, ControlLetters, ApplicationKeys, LetterKeys, HeldLetterKeys, NumberKeys, HeldNumberKeys, BackTab, CursorReports, PastedTexts, UnknownSequences, LostBytes, LoneBytes, CutCharacters, WaitsForCharacter};
+
+use crate::encode::Encoder;
+use crate::resume::Progress;
+use crate::token::{Scanned, Token};
+
+/// `==` is equality of values.
+pub fn equality()
+    ensures tokens { ComparesValues ⟦<Token as PartialEq>⟧.eq }
+    ensures scanned { ComparesValues ⟦<Scanned as PartialEq>⟧.eq }
+    ensures progress { ComparesValues ⟦<Progress as PartialEq>⟧.eq }
+    ensures encoders { ComparesValues ⟦<Encoder as PartialEq>⟧.eq }
+{}
+
+/// Each attribute is sent by the number that ECMA-48 gives it.
+pub fn renditions()
+    ensures { AttributesByNumber }
+{}
 
 /// Tokens do not depend on how the bytes come in pieces: what is found stays found, whatever follows. An ESC alone is
 /// Escape, and may begin another key where bytes follow. No token takes nothing, or bytes that are not there, and where

@@ -33,7 +33,7 @@ pub trait EventSource {
 
     ghost state: { Self → SourceState };
 
-    /// The next event, or none where there are no more. A refusal tells none, and loses none: a later call tells it.
+    /// The next event, or none where there are no more. A refusal tells none.
     fn next_event(&mut self) -> Result<Option<InputEvent>, TerminalFault>
         ensures ok { IfOk result (λ event. MatchOption event
             ((told self.new ≡ told self.old) × (state self.new ≡ AtEnd))

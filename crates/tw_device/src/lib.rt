@@ -7,6 +7,7 @@
 
 mod event_log;
 mod keys;
+pub mod laws;
 mod reading;
 mod refused;
 mod terminal;

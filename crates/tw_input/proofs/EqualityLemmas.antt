@@ -1,9 +1,11 @@
--- `==` of key codes.
+-- `==` of key codes and of key events.
 use Rattle.std.proofs.Common.{◌≡◌, ◌↔◌, IsTrue, refl, subst, rules}
 use Rattle.std.proofs.lemmas.Bool.{false≢true}
 use Rattle.tw_input.specs.declared.key.KeyCode.{KeyCode}
 use Rattle.tw_input.specs.declared.key.KeyCode.TheVariants.{Char, Backspace, Tab, Enter, Escape, Insert, Delete, Home, End, PageUp, PageDown, LeftArrow, RightArrow, UpArrow, DownArrow, ApplicationLeftArrow, ApplicationRightArrow, ApplicationUpArrow, ApplicationDownArrow, Function}
+use Rattle.tw_input.specs.declared.key.KeyEvent.{KeyEvent}
 use Rattle.tw_input.specs.contracts.key.KeyCodePartialEq.TheImpl.{ghosts as key_codes}
+use Rattle.tw_input.specs.contracts.key.KeyEventPartialEq.TheImpl.{ghosts as key_events}
 
 equal-is : (a b : KeyCode) → IsTrue (key_codes.eq a b) → a ≡ b
 equal-is (Char x) (Char y) h = search rules
@@ -52,3 +54,6 @@ is-equal ApplicationDownArrow = refl
 
 pub key_codes_equal : (a b : KeyCode) → IsTrue (key_codes.eq a b) ↔ (a ≡ b)
 key_codes_equal a b = (equal-is a b, λ e. subst (λ (k : KeyCode). IsTrue (key_codes.eq a k)) e (is-equal a))
+
+pub key_events_equal : (a b : KeyEvent) → IsTrue (key_events.eq a b) ↔ (a ≡ b)
+key_events_equal a b = search (rules, key_codes_equal)

@@ -34,7 +34,7 @@ pub enum Below<'a> {
 }
 
 /// Where a painting left the cursor and how high it was, both counted from its first row.
-#[derive(Clone, Copy, Debug, PartialEq, Eq)]
+#[derive(Clone, Copy, Debug)]
 pub struct Mark {
     pub row: isize,
     pub height: usize,

@@ -45,10 +45,10 @@ module _ {V : Type 0} (rules : HostRules V) where
   ScrolledCloses f = (h w : ℕ) (earlier : List (Station V)) (station : Station V) (later : List (Station V)) (before : Picture)
       → ComesOn h f w earlier station later before → All (RendersNothing rules) later
       → let played = batches_of rules (earlier ++ station ∷ []) in
-      let mark = last_row w (top_row_at h w before.row (earlier ++ station ∷ [])) (sized_scene rules station).scene in
+      let last = last_row w (top_row_at h w before.row (earlier ++ station ∷ [])) (sized_scene rules station).scene in
       let after = play_batches_on h w played before in
       ((run_of rules f).taken ≡ f.terminal.batches ++ played)
-      × IsClosedOn h w mark after (play_batches_on h w (closing_if (run_of rules f).mark) after)
+      × IsClosedOn h w last after (play_batches_on h w (closing_if (run_of rules f).mark) after)
 
   -- Two calls stack: a second run that enters the screen where the closing batch of a first one left it is fresh, and what the first one showed is as it was, moved up.
   abbrev pub ScrolledCallsStack : Type 0

@@ -76,10 +76,10 @@ module _ {V : Type 0} (rules : HostRules V) where
   SimpleScrolledCloses f = (h w : ℕ) (earlier : List (Station V)) (station : Station V) (later : List (Station V)) (before : Picture)
       → ComesSimpleOn h f w earlier station later before → All (RendersNothing rules) later
       → let played = batches_of rules (earlier ++ station ∷ []) in
-      let mark = last_row w (top_row h w before.row (spelled_at (earlier ++ station ∷ []))) (spelled_scene (sized_scene rules station).scene) in
+      let last = last_row w (top_row h w before.row (spelled_at (earlier ++ station ∷ []))) (spelled_scene (sized_scene rules station).scene) in
       let after = play_batches_on h w (spelled_batches played) before in
       ((run_of rules f).taken ≡ f.terminal.batches ++ played)
-      × IsClosedOn h w mark after (play_batches_on h w (spelled_batches (closing_if (run_of rules f).mark)) after)
+      × IsClosedOn h w last after (play_batches_on h w (spelled_batches (closing_if (run_of rules f).mark)) after)
 
   -- Two calls stack: a second run that clears nothing and enters the screen where the closing batch of a first one left it is fresh under that one's last painting, of which nothing is changed.
   abbrev pub SimpleCallsStack : Type 0
@@ -104,7 +104,7 @@ module _ {V : Type 0} (rules : HostRules V) where
     pub simple : All (IsSimpleAt w) (map (sized_scene rules) (since ++ station ∷ []))
     pub two_columns : 2 ≤ w
 
-  -- The batches from the clearing to the station's painting, played on any picture, leave the fresh painting of its characters from row 0 on, and the closing batch leaves the cursor below it: without a bottom, and on h rows where each painting since has at most h rows.
+  -- The batches from the clearing to the station's painting, played on any picture, leave the fresh painting of its characters from row 0 on: without a bottom, and on h rows where each painting since has at most h rows.
   pub record ShowsSimpleHealed (f : Frame V) (w : ℕ) (earlier since : List (Station V)) (station : Station V) : Type 0 where
     pub played : List Batch
     pub up_to : batches_of rules (earlier ++ (since ++ station ∷ [])) ≡ batches_of rules earlier ++ played

@@ -15,13 +15,13 @@ use Rattle.tw_surface.specs.contracts.cell.AttributeChangePartialEq.TheImpl.{gho
 use Rattle.tw_surface.specs.contracts.cell.CellAttributesPartialEq.TheImpl.{ghosts as attributes}
 use Rattle.tw_surface.specs.contracts.color.ColorAttributePartialEq.TheImpl.{ghosts as colors}
 
-beq-is : (a b : Bool) → beq a b ≡ true → a ≡ b
+pub beq-is : (a b : Bool) → beq a b ≡ true → a ≡ b
 beq-is true true h = refl
 beq-is true false h = absurd (false≢true h)
 beq-is false true h = absurd (false≢true h)
 beq-is false false h = refl
 
-is-beq : (a b : Bool) → a ≡ b → beq a b ≡ true
+pub is-beq : (a b : Bool) → a ≡ b → beq a b ≡ true
 is-beq a b e = subst (λ (x : Bool). beq a x ≡ true) e (beq-same a)
   where
     beq-same : (a : Bool) → beq a a ≡ true

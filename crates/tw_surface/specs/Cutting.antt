@@ -67,6 +67,6 @@ abbrev pub CutClosing : Type 0
 CutClosing = (v w : ℕ) (earlier : List SizedScene) (station : SizedScene) (before : Picture)
     → 2 ≤ w → before.col ≡ 0 → All IsPlainWide (earlier ++ station ∷ [])
     → let stations = earlier ++ station ∷ [] in
-    let mark = last_row station.cols (start_row before.row (scenes_of stations)) station.scene in
+    let last = last_row station.cols (start_row before.row (scenes_of stations)) station.scene in
     let after = cut_to station.cols w (play_cut v (sized_batches stations) before) in
-    IsClosed w mark after (play_batches w (closing_batch (map shot_of stations)) after)
+    IsClosed w last after (play_batches w (closing_batch (map shot_of stations)) after)

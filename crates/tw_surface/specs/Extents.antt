@@ -32,7 +32,7 @@ extent_after_all cols (change ∷ changes) t = extent_after_all cols changes (ex
 abbrev pub start_extent : Extent
 start_extent = record { x = 0; y = pos 0; least = pos 0; greatest = pos 0 }
 
--- a extent whose rows and column are in range
+-- an extent whose rows and column are in range
 pub record IsSound (t : Extent) : Type 0 where
   pub place : is_in_range (place_of t) ≡ true
   pub low : nat_abs t.least ≤ 2147483647
