@@ -5,7 +5,7 @@ use Rattle.script_player.specs.Lines.{IsBad, IsBadAt, IsFirstBad, script_lines}
 use Rattle.script_player.specs.Directives.{IsLineOf}
 use Rattle.script_player.specs.Playback.{FailsToObey, Stage, first_stage}
 use Rattle.script_player.specs.Playing.{Ends, FailsToPlay, Plays, PlaysLine, PlaysUpTo, Runs}
-use Rattle.script_player.specs.Written.{Contents, ExtendsInPart, bad_line}
+use Rattle.script_player.specs.Written.{Contents, ExtendsInPart, NamesBadLine, bad_line}
 use Rattle.std.specs.Io.KnownBytes.{Appends, Consumes, IsAtEnd, Keeps}
 use Rattle.script_player.specs.declared.directive.Directive.{Directive}
 use Rattle.script_player.specs.declared.fault.RunFault.{RunFault}
@@ -100,3 +100,8 @@ pub run_unflushed : (unread left old held new : Contents) (script read : List �
     → Consumes unread left read → IsAtEnd left → Ends (script_lines script) old held (Ok tt) → Keeps held new → Runs unread left old new (Err Io)
 run_unflushed unread left old held new script read same consumes end ends kept =
     inl (read, held, consumes, end, kept, inr (refl, subst (λ s. Ends (script_lines s) old held (Ok tt)) same ends))
+
+-- a bad line is named by its number
+pub bad_line_named : (old new : Contents) (n number : ℕ) → n ≡ number → 0 < number → Appends old new (bad_line number) → NamesBadLine old new (BadLine n)
+bad_line_named old new n number same some named =
+    subst (λ m. NamesBadLine old new (BadLine m)) (sym same) (some, [], named)
