@@ -1,5 +1,5 @@
 -- Runs over a host whose value no event changes.
-use Rattle.std.proofs.Common.{◌≡◌, ◌∙◌, inl, inr, refl, ap, Bool, true, false, cond, List, [], ◌∷◌, None, Result, Ok, Err}
+use Rattle.std.proofs.Common.{◌≡◌, ◌∙◌, ℕ, inl, inr, refl, sym, subst, ap, Bool, true, false, cond, List, [], ◌∷◌, None, Result, Ok, Err}
 use Rattle.std.specs.Prelude.{IfOk, IfErr}
 use Rattle.tw_input.specs.EventView.{EventView}
 use Rattle.tw_lineedit.specs.Frame.{Frame}
@@ -12,7 +12,8 @@ use Rattle.tw_lineedit.specs.Run.{Progress, Ending, Moment, Cause, painting_at, 
 use Rattle.tw_lineedit.specs.Reading.{start, Reads, FailsToRead, Starves, Halts, ClosesBadly}
 use Rattle.tw_lineedit.specs.declared.Error.{Error}
 use Rattle.tw_lineedit.specs.declared.Error.TheVariants.{Memory, Terminal}
-use Rattle.script_player.specs.NewEditor.{IsSteady}
+use Rattle.tw_terminal.specs.TerminalState.{TerminalState}
+use Rattle.script_player.specs.NewEditor.{IsSteady, RefusesLine, before}
 
 module _ {V : Type 0} (rules : HostRules V) (steady : IsSteady rules) where
   -- where no event is left
@@ -87,3 +88,11 @@ module _ {V : Type 0} (rules : HostRules V) (steady : IsSteady rules) where
       → IfOk r (λ it. Reads (run_of rules (start None f)) f g (answer it)) → IfErr r (FailsToRead rules None f g) → g.value ≡ f.value
   reading-value f g (Ok it) answer ok err = read-value f g (answer it) ok
   reading-value f g (Err e) answer ok err = refused-value f g e err
+
+-- what a refused reading of a new editor leaves
+pub refused-line : {V A : Type 0} {prompt : List ℕ} {old : TerminalState} (rules : HostRules V) (f g : Frame V) (new : TerminalState) (r : Result A Error)
+    → f ≡ before prompt f.value old → new ≡ g.terminal → IfErr r (FailsToRead rules None f g)
+    → IfErr r (RefusesLine rules prompt f.value g.value old new)
+refused-line rules f g new (Ok it) begins ends fails = fails
+refused-line rules f g new (Err e) begins ends fails =
+    inl (g.state, g.mark, rw begins at (subst (λ t. FailsToRead rules None f (record g { terminal = t }) e) (sym ends) fails))

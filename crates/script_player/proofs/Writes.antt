@@ -1,8 +1,12 @@
 -- Known bytes that are written or read one part after another.
-use Rattle.std.proofs.Common.{◌≡◌, ℕ, List, ◌++◌, Option, Some, None, sym, ap, ◌∙◌, append_assoc, length, take, drop, ◌-◌, take-append-drop, subst}
+use Rattle.std.proofs.Common.{◌≡◌, ℕ, List, [], ◌++◌, Option, Some, None, sym, ap, ◌∙◌, append_assoc, length, take, drop, ◌-◌, take-append-drop, subst}
 use Rattle.std.proofs.lemmas.List.{take_rest}
 use Rattle.std.specs.Io.KnownBytes.{Appends}
-use Rattle.script_player.specs.Written.{Extends, NamesBadLine, bad_line}
+use Rattle.script_player.specs.Answers.{IsContinuation}
+use Rattle.script_player.specs.Playback.{FailsToObey, Stage, Stays, Tells}
+use Rattle.script_player.specs.Written.{Contents, Extends, ExtendsInPart, NamesBadLine, bad_line}
+use Rattle.script_player.specs.declared.directive.Directive.{Directive}
+use Rattle.script_player.specs.declared.directive.Directive.TheVariants.{Read}
 use Rattle.script_player.specs.declared.fault.RunFault.{RunFault}
 use Rattle.script_player.specs.declared.fault.RunFault.TheVariants.{BadLine, Io, Memory}
 
@@ -26,3 +30,14 @@ names_then a b c (BadLine n) (xs, p) (some, ys, q) =
     (some, xs ++ ys, subst (Appends a c) (sym (append_assoc xs ys (bad_line n))) (appended_then a b c xs (ys ++ bad_line n) p q))
 names_then a b c Io p q = tt
 names_then a b c Memory p q = tt
+
+pub continues_then : (a b c : List ℕ) → IsContinuation a b → IsContinuation b c → IsContinuation a c
+continues_then a b c (xs, p) (ys, q) = (xs ++ ys, q ∙ ap (λ (l : List ℕ). l ++ ys) p ∙ append_assoc a xs ys)
+
+-- the writing of what a reading tells is refused
+pub read_refused : (directive : Directive) (s t : Stage) (old new : Contents) (told : List ℕ) (fault : RunFault)
+    → directive ≡ Read → fault ≡ Io → t ≡ record s { events = []; screen = t.screen } → Tells s told → ExtendsInPart old new told
+    → FailsToObey directive s t old new fault
+read_refused directive s t old new told fault is io kept tells part =
+    subst (FailsToObey directive s t old new) (sym io)
+    (is, subst (λ d. Stays d s t) (sym is) kept, (told, tells, part))

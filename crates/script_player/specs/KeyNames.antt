@@ -1,9 +1,19 @@
 -- The names of keys in a script.
 use Rattle.std.specs.Prelude.{ℕ, ◌==◌, if◌then◌else◌, List, [], ◌∷◌, ◌++◌, Option, Some, None, codes, encode_utf8}
+use Rattle.std.specs.Char.{IsScalar}
 use Rattle.tw_input.specs.declared.key.KeyCode.{KeyCode}
 use Rattle.tw_input.specs.declared.key.KeyCode.TheVariants.{Char, Backspace, Tab, Enter, Escape, Delete, Home, End, LeftArrow, RightArrow, UpArrow, DownArrow, ApplicationLeftArrow, ApplicationRightArrow, ApplicationUpArrow, ApplicationDownArrow}
 use Rattle.tw_input.specs.declared.key.KeyEvent.{KeyEvent}
 use Rattle.tw_input.specs.Modifiers.{modifier_bits, none, shift, alt, ctrl}
+
+-- the character of a key, if it has one, is one that a `char` can be
+abbrev pub IsKeyCode : KeyCode → Type 0
+IsKeyCode (Char c) = IsScalar c
+IsKeyCode key = Unit {0}
+
+-- the same of a key with its modifiers
+abbrev pub IsKey : KeyEvent → Type 0
+IsKey event = IsKeyCode event.key
 
 -- with no modifier
 abbrev pub plain_name : KeyCode → Option (List ℕ)

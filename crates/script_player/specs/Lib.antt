@@ -7,3 +7,5 @@ pub mod Written
 pub mod NewEditor
 pub mod ScriptRules
 pub mod Playback
+pub mod Answers
+pub mod Playing

@@ -1,12 +1,12 @@
 -- The host of a script: one preview under every line, and the same candidates at every request.
-use Rattle.std.specs.Prelude.{◌≡◌, ℕ, true, false, List, [], ◌∷◌, ◌++◌, Some, map, string_bytes, refl}
+use Rattle.std.specs.Prelude.{ℕ, true, false, List, [], ◌∷◌, ◌++◌, map, string_bytes, refl}
 use Rattle.std.proofs.lemmas.Bool.{true≢false}
 use Rattle.tw_lineedit.specs.declared.Overrides.{Overrides}
 use Rattle.script_player.specs.declared.script_host.ScriptHost.{ScriptHost}
 use Rattle.tw_lineedit.specs.CandidateView.{CandidateView, candidate_view}
 use Rattle.tw_lineedit.specs.ElementView.{ElementView}
 use Rattle.tw_lineedit.specs.HostRules.{HostRules, plain_text, plain_highlight, no_resolution}
-use Rattle.tw_lineedit.specs.NearestMatch.{last_line}
+use Rattle.tw_lineedit.specs.HistoryAdditions.{with_line}
 use Rattle.tw_lineedit.specs.PlainAnswers.{IsPlainBut}
 
 -- the lines of its history, the text of its preview, and its candidates
@@ -27,9 +27,9 @@ value_of lines host = record {
 abbrev pub history_only : List (List ℕ) → Scripted
 history_only lines = record { lines = lines; preview = []; candidates = [] }
 
--- the history ends with the line, and the rest is as it was
-abbrev pub Remembers : List ℕ → Scripted → Scripted → Type 0
-Remembers line old new = (last_line new.lines ≡ Some line) × (new ≡ record old { lines = new.lines })
+-- the history with one more line, unless it is its last one
+abbrev pub with_line_added : List ℕ → Scripted → Scripted
+with_line_added line v = record v { lines = with_line v.lines line }
 
 -- a text in the place of a part of the line
 abbrev pub candidate : ℕ → ℕ → List ℕ → CandidateView

@@ -5,12 +5,16 @@ use Rattle.std.specs.Io.KnownBytes.{Appends}
 use Rattle.script_player.specs.declared.fault.RunFault.{RunFault}
 use Rattle.script_player.specs.declared.fault.RunFault.TheVariants.{BadLine, Io, Memory}
 
+-- the bytes that a writer holds, where they are known
+abbrev pub Contents : Type 0
+Contents = Option (List ℕ)
+
 -- the known bytes stay, and more follow them
-abbrev pub Extends : Option (List ℕ) → Option (List ℕ) → Type 0
+abbrev pub Extends : Contents → Contents → Type 0
 Extends old new = (more : List ℕ) × Appends old new more
 
 -- the known bytes stay, and a beginning of a text follows them
-abbrev pub ExtendsInPart : Option (List ℕ) → Option (List ℕ) → List ℕ → Type 0
+abbrev pub ExtendsInPart : Contents → Contents → List ℕ → Type 0
 ExtendsInPart old new text = (part : List ℕ) × (rest : List ℕ) × Appends old new part × (text ≡ part ++ rest)
 
 -- the line that names a bad line, with its end
@@ -18,7 +22,7 @@ abbrev pub bad_line : ℕ → List ℕ
 bad_line n = (codes "bad line " ++ decimal n) ++ (10 ∷ [])
 
 -- a bad line is counted from 1, and the last that is written names it
-abbrev pub NamesBadLine : Option (List ℕ) → Option (List ℕ) → RunFault → Type 0
+abbrev pub NamesBadLine : Contents → Contents → RunFault → Type 0
 NamesBadLine old new (BadLine n) = (0 < n) × (more : List ℕ) × Appends old new (more ++ bad_line n)
 NamesBadLine old new Io = ⊤
 NamesBadLine old new Memory = ⊤

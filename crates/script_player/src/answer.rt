@@ -1,6 +1,7 @@
 //! How the reading of a line ends.
 
-ghost use Rattle.std.specs.Prelude.{IfErr};
+ghost use Rattle.std.specs.Prelude.{IfErr, Some};
+ghost use Rattle.script_player.specs.Answers.{IsAnswerTo, text_of};
 ghost use Rattle.script_player.specs.Written.{IsOutside};
 
 use crate::fault::RunFault;
@@ -21,7 +22,8 @@ pub enum Answer {
 impl Answer {
     /// The answer of an editor. Want of memory ends the run.
     pub fn new(outcome: Result<Option<String>, Error>) -> Result<Answer, RunFault>
-        ensures { IfErr result IsOutside }
+        ensures told { IsAnswerTo outcome result }
+        ensures fault { IfErr result IsOutside }
     {
         match outcome {
             Ok(Some(line)) => Ok(Answer::Line(line)),
@@ -33,6 +35,8 @@ impl Answer {
 }
 
 impl fmt::Display for Answer {
+    ghost output = { λ answer. Some (text_of answer) };
+
     fn fmt<W: fmt::Write>(&self, f: &mut fmt::Formatter<W>) -> fmt::Result {
         match self {
             Answer::Line(line) => write!(f, "line {line}"),

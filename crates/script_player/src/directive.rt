@@ -1,7 +1,7 @@
 //! The lines of a script.
 
-ghost use Rattle.std.specs.Prelude.{IfSome};
-ghost use Rattle.script_player.specs.Directives.{IsLineOf, IsRangeAndText, IsWordAndText};
+ghost use Rattle.std.specs.Prelude.{◌≡◌, ℕ, IfSome, IsSome, IsUtf8};
+ghost use Rattle.script_player.specs.Directives.{IsDirective, IsLineOf, IsRangeAndText, behind_word, first_word};
 
 use crate::keys::key_named;
 use crate::number::parse_number;
@@ -31,10 +31,12 @@ pub enum Directive<'a> {
     Read,
 }
 
-/// The directive on a line, which is a word, or a word, a space and a text that goes to the line's end. The
-/// contract says what is taken, and tests show what is not.
+/// The directive on a line, which is a word, or a word, a space and a text that goes to the line's end. None where
+/// the line is no directive, or is not UTF-8.
 pub fn parse_line(line: &[u8]) -> Option<Directive<'_>>
-    ensures { IfSome result (IsLineOf line.now) }
+    ensures named { IfSome result (IsLineOf line.now) }
+    ensures utf8 { IsSome result → IsUtf8 line.now }
+    ensures found { IsDirective line.now → IsSome result }
 {
     let line = std::str::from_utf8(line).ok()?;
     let (word, text) = split_word(line);
@@ -57,7 +59,8 @@ pub fn parse_line(line: &[u8]) -> Option<Directive<'_>>
 
 /// The range and the text of a candidate: two numbers and the text, which may be left out with its space.
 fn parse_candidate(text: &str) -> Option<(Range<usize>, &str)>
-    ensures { IfSome result (λ candidate. IsRangeAndText text.now candidate.0.start candidate.0.end candidate.1.now) }
+    ensures named { IfSome result (λ candidate. IsRangeAndText text.now candidate.0.start candidate.0.end candidate.1.now) }
+    ensures found { (start end : ℕ) → IsRangeAndText text.now start end (behind_word (behind_word text.now)) → IsSome result }
 {
     let (start, rest) = split_word(text);
     let (end, text) = split_word(rest);
@@ -67,7 +70,11 @@ fn parse_candidate(text: &str) -> Option<(Range<usize>, &str)>
 /// The word that a line begins with, and the text behind the space that follows it. Without a space the whole
 /// line is the word, and the text is empty.
 fn split_word(line: &str) -> (&str, &str)
-    ensures { IsWordAndText line.now result.0.now result.1.now }
+    ensures word { result.0.now ≡ first_word line.now }
+    ensures text { result.1.now ≡ behind_word line.now }
 {
-    line.split_once(' ').unwrap_or((line, ""))
+    match line.split_once(' ') {
+        Some(parts) => parts,
+        None => (line, ""),
+    }
 }

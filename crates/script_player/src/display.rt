@@ -1,5 +1,8 @@
 //! What a screen shows.
 
+ghost use Rattle.std.specs.Prelude.{OnOk, string_bytes};
+ghost use Rattle.script_player.specs.Answers.{IsContinuation};
+
 use std::alloc::AllocError;
 use tw_surface::{Change, Screen, ScreenFault};
 
@@ -31,7 +34,9 @@ pub fn show_screen(
     cols: usize,
     cursor: (usize, usize),
     shown: &mut String,
-) -> Result<(), AllocError> {
+) -> Result<(), AllocError>
+    ensures { OnOk result (IsContinuation (string_bytes shown.old) (string_bytes shown.new)) }
+{
     if let Some(last) = screen.last_row() {
         for row in 0..=last {
             show_row(screen, cols, row, shown)?;
@@ -43,12 +48,9 @@ pub fn show_screen(
 }
 
 /// Adds a row of the screen, between two bars.
-fn show_row(
-    screen: &Screen,
-    cols: usize,
-    row: usize,
-    shown: &mut String,
-) -> Result<(), AllocError> {
+fn show_row(screen: &Screen, cols: usize, row: usize, shown: &mut String) -> Result<(), AllocError>
+    ensures { OnOk result (IsContinuation (string_bytes shown.old) (string_bytes shown.new)) }
+{
     shown.push('|')?;
     screen.push_row(row, cols, shown)?;
     shown.push_str("|\n")

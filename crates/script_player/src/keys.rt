@@ -2,13 +2,14 @@
 
 ghost use Rattle.std.specs.Prelude.{◌≡◌, ℕ, Some, IfSome, IsSome, Contains};
 ghost use Rattle.std.specs.Char.{IsScalar};
-ghost use Rattle.script_player.specs.KeyNames.{key_name, key_names, character_names};
+ghost use Rattle.script_player.specs.KeyNames.{key_name, key_names, character_names, IsKey};
 
 use tw_input::{KeyCode, KeyEvent, Modifiers};
 
 /// The key of this name.
 pub fn key_named(name: &str) -> Option<KeyEvent>
     ensures named { IfSome result (λ key. key_name key ≡ Some name.now) }
+    ensures scalar { IfSome result IsKey }
     ensures known { Contains key_names name.now → IsSome result }
     ensures character { (c : ℕ) → IsScalar c → Contains (character_names c) name.now → IsSome result }
 {
@@ -40,6 +41,7 @@ pub fn key_named(name: &str) -> Option<KeyEvent>
 /// The key of a name such as `C-x`: a letter for the modifier, a hyphen, and the character.
 fn character_named(name: &str) -> Option<KeyEvent>
     ensures named { IfSome result (λ key. key_name key ≡ Some name.now) }
+    ensures scalar { IfSome result IsKey }
     ensures character { (c : ℕ) → IsScalar c → Contains (character_names c) name.now → IsSome result }
 {
     let (modifier, character) = name.split_once('-')?;

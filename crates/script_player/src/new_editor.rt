@@ -1,7 +1,7 @@
 //! A new editor for each line.
 
-ghost use Rattle.std.specs.Prelude.{◌≡◌, IfOk};
-ghost use Rattle.script_player.specs.NewEditor.{AnswersLine, IsSteady};
+ghost use Rattle.std.specs.Prelude.{◌≡◌, IfErr, IfOk};
+ghost use Rattle.script_player.specs.NewEditor.{AnswersLine, IsSteady, RefusesLine};
 
 use std::alloc::Global;
 use tw_lineedit::{Error, LineEditor, LineEditorHost};
@@ -17,6 +17,9 @@ pub fn read_line<T: Terminal, H: LineEditorHost>(
     ensures read { let before = T.state terminal.old in
         let after = T.state terminal.new in
         IfOk result (AnswersLine H.rules prompt.now (H.value host.old) (H.value host.new) before after) }
+    ensures refused { let before = T.state terminal.old in
+        let after = T.state terminal.new in
+        IfErr result (RefusesLine H.rules prompt.now (H.value host.old) (H.value host.new) before after) }
     ensures kept { IsSteady H.rules → H.value host.new ≡ H.value host.old }
 {
     let mut editor = LineEditor::new(alloc, terminal)?;

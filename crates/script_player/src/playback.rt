@@ -1,6 +1,7 @@
 //! What a script keeps from line to line.
 
-ghost use Rattle.std.specs.Prelude.{◌≡◌, [], IfErr, IfOk, OnOk};
+ghost use Rattle.std.specs.Prelude.{◌≡◌, [], IfErr, IfOk, OnErr, OnOk, string_bytes};
+ghost use Rattle.script_player.specs.Answers.{IsContinuation};
 ghost use Rattle.script_player.specs.Written.{Extends, IsOutside};
 
 use crate::answer::Answer;
@@ -39,12 +40,11 @@ pub struct Playback {
 }
 
 impl Playback {
-    ghost use Rattle.script_player.specs.ScriptRules.{history_only};
-    ghost use Rattle.script_player.specs.Playback.{host_of, Obeys};
+    ghost use Rattle.script_player.specs.Playback.{FailsToObey, Obeys, Tells, first_stage, screen_of, stage_of};
 
     /// The playback at the start of a script.
     pub fn new(alloc: Global) -> Result<Self, AllocError>
-        ensures { IfOk result (λ playback. host_of playback ≡ history_only []) }
+        ensures { IfOk result (λ playback. stage_of playback ≡ first_stage) }
     {
         Ok(Playback {
             alloc,
@@ -56,7 +56,9 @@ impl Playback {
         })
     }
 
-    /// Does what a line of the script asks for.
+    /// Does what a line of the script asks for. Where memory is refused nothing is written, and all that is kept stays,
+    /// but for events: some keys may have been added, and a reading has taken them all. A refused write has written a
+    /// beginning of what the reading tells.
     pub fn obey<W: Write>(
         &mut self,
         directive: Directive<'_>,
@@ -64,7 +66,10 @@ impl Playback {
     ) -> Result<(), RunFault>
         ensures kept { Extends (W.contents writer.old) (W.contents writer.new) }
         ensures fault { IfErr result IsOutside }
-        ensures host { OnOk result (Obeys directive.entry (host_of self.old) (host_of self.new)) }
+        ensures obeyed { OnOk result
+            (Obeys directive.entry (stage_of self.old) (stage_of self.new) (W.contents writer.old) (W.contents writer.new)) }
+        ensures refused { IfErr result
+            (FailsToObey directive.entry (stage_of self.old) (stage_of self.new) (W.contents writer.old) (W.contents writer.new)) }
     {
         match directive {
             Directive::Cols(cols) => {
@@ -91,15 +96,16 @@ impl Playback {
 
     /// A new screen, or none where no screen has so many columns.
     fn clear_screen(&mut self)
-        ensures { host_of self.new ≡ host_of self.old }
+        ensures { stage_of self.new ≡ record (stage_of self.old) { screen = screen_of self.old.cols } }
     {
         self.screen = Screen::new(self.alloc, self.cols).ok();
     }
 
     /// Reads a line from the events, and tells the answer and what the screen then shows.
     fn read(&mut self) -> Result<String, RunFault>
-        ensures fault { IfErr result IsOutside }
-        ensures host { host_of self.new ≡ host_of self.old }
+        ensures told { IfOk result (λ shown. Tells (stage_of self.old) (string_bytes shown)) }
+        ensures memory { IfErr result (λ fault. fault ≡ RunFault.Memory) }
+        ensures kept { stage_of self.new ≡ record (stage_of self.old) { events = []; screen = self.new.screen } }
     {
         let events = mem::replace(&mut self.events, Vec::new(self.alloc));
         let size = ScreenSize {
@@ -120,8 +126,9 @@ impl Playback {
 
     /// Adds what the screen shows. Where it can not tell, the next reading begins on a new one.
     fn show(&mut self, played: Played, shown: &mut String) -> Result<(), RunFault>
-        ensures fault { IfErr result IsOutside }
-        ensures host { host_of self.new ≡ host_of self.old }
+        ensures more { OnOk result (IsContinuation (string_bytes shown.old) (string_bytes shown.new)) }
+        ensures memory { IfErr result (λ fault. fault ≡ RunFault.Memory) }
+        ensures kept { stage_of self.new ≡ record (stage_of self.old) { screen = self.new.screen } }
     {
         let Some(screen) = &self.screen else {
             return Ok(());

@@ -2,7 +2,9 @@
 
 ghost use Rattle.std.specs.Prelude.{◌≡◌, ◌<◌, ◌⊎◌, length, string_bytes, IfErr, IfOk, OnOk};
 ghost use Rattle.std.specs.Io.KnownBytes.{IsAtEnd};
-ghost use Rattle.script_player.specs.Lines.{IsFirstLine};
+ghost use Rattle.script_player.specs.Lines.{IsFirstLine, script_lines};
+ghost use Rattle.script_player.specs.Playback.{stage_of};
+ghost use Rattle.script_player.specs.Playing.{Ends, FailsToPlay, PlaysLine, Runs};
 ghost use Rattle.script_player.specs.Written.{Extends, NamesBadLine, bad_line};
 
 use crate::directive::parse_line;
@@ -18,6 +20,7 @@ use std::io::{Read, Write};
 pub fn run<R: Read, W: Write>(alloc: Global, reader: &mut R, writer: &mut W) -> Result<(), RunFault>
     ensures kept { Extends (W.contents writer.old) (W.contents writer.new) }
     ensures bad_line { IfErr result (NamesBadLine (W.contents writer.old) (W.contents writer.new)) }
+    ensures played { Runs (R.remaining reader.old) (R.remaining reader.new) (W.contents writer.old) (W.contents writer.new) result }
     ensures end { OnOk result (IsAtEnd (R.remaining reader.new)) }
     ensures unread { IsAtEnd (R.remaining reader.new) ⊎ (writer.new ≡ writer.old) }
 {
@@ -33,6 +36,7 @@ pub fn run<R: Read, W: Write>(alloc: Global, reader: &mut R, writer: &mut W) -> 
 fn play_script<W: Write>(alloc: Global, script: &[u8], writer: &mut W) -> Result<(), RunFault>
     ensures kept { Extends (W.contents writer.old) (W.contents writer.new) }
     ensures bad_line { IfErr result (NamesBadLine (W.contents writer.old) (W.contents writer.new)) }
+    ensures played { Ends (script_lines script.now) (W.contents writer.old) (W.contents writer.new) result }
 {
     let mut playback = Playback::new(alloc)?;
     let mut rest = script;
@@ -69,6 +73,10 @@ fn play_line<W: Write>(
     requires { 0 < number }
     ensures kept { Extends (W.contents writer.old) (W.contents writer.new) }
     ensures bad_line { IfErr result (NamesBadLine (W.contents writer.old) (W.contents writer.new)) }
+    ensures played { OnOk result
+        (PlaysLine line.now (stage_of playback.old) (stage_of playback.new) (W.contents writer.old) (W.contents writer.new)) }
+    ensures fails { IfErr result
+        (FailsToPlay number line.now (stage_of playback.old) (W.contents writer.old) (W.contents writer.new)) }
 {
     if line.is_empty() {
         return Ok(());
