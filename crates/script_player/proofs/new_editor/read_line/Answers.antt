@@ -7,4 +7,4 @@ use Rattle.script_player.proofs.new_editor.read_line.Goals as goal
 pub returns-clause-kept : goal.returns-clause-kept
 returns-clause-kept g c steady =
     let inactive : c.set_prompt.new.self.session.state.mode ≡ Inactive = search rules in
-    reading-value g.H.LineEditorHost.rules steady _ _ c.read_line.result (λ it. outcome_of (Ok it)) (c.read_line.ensures.ok inactive) (c.read_line.ensures.err inactive)
+    reading-value g.H.LineEditorHost.rules g.H.LineEditorHost.OVERRIDES steady _ _ c.read_line.result (λ it. outcome_of (Ok it)) (c.read_line.ensures.ok inactive) (c.read_line.ensures.err inactive)
