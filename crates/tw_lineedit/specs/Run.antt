@@ -156,6 +156,10 @@ module _ {V : Type 0} (rules : HostRules V) (overrides : Overrides) where
   abbrev pub CanStopFrom : Cause → Frame V → Moment V → Type 0
   CanStopFrom c f m = CanStop c f.terminal.events (progress_of f) m
 
+  -- what was taken where a run is stopped is a beginning of what the run takes
+  abbrev pub StoppedRunsBegin : Type 0
+  StoppedRunsBegin = (c : Cause) (f : Frame V) (m : Moment V) → CanStopFrom c f m → (rest : List Batch) × ((run_of rules f).taken ≡ m.taken ++ rest)
+
 -- a beginning of what was being rendered, if anything was
 abbrev pub IsPartOf : Option Batch → List Batch → Type 0
 IsPartOf None part = part ≡ []
