@@ -4,6 +4,7 @@ use Rattle.std.specs.Prelude.{IfOk, IfErr}
 use Rattle.tw_input.specs.EventView.{EventView}
 use Rattle.tw_lineedit.specs.Frame.{Frame}
 use Rattle.tw_lineedit.specs.HostRules.{HostRules}
+use Rattle.tw_lineedit.specs.declared.Overrides.{Overrides}
 use Rattle.tw_lineedit.specs.EditState.{EditState}
 use Rattle.tw_lineedit.specs.Refusal.{Refusal}
 use Rattle.tw_lineedit.specs.Outcomes.{Outcome, is_over}
@@ -15,7 +16,7 @@ use Rattle.tw_lineedit.specs.declared.Error.TheVariants.{Memory, Terminal}
 use Rattle.tw_terminal.specs.TerminalState.{TerminalState}
 use Rattle.script_player.specs.NewEditor.{IsSteady, RefusesLine, before}
 
-module _ {V : Type 0} (rules : HostRules V) (steady : IsSteady rules) where
+module _ {V : Type 0} (rules : HostRules V) (overrides : Overrides) (steady : IsSteady rules) where
   -- where no event is left
   at_end-value : (s : Progress V) (p : Result Rendering Refusal) → (at_end rules s p).value ≡ s.value
   at_end-value s (Err n) = refl
@@ -45,24 +46,24 @@ module _ {V : Type 0} (rules : HostRules V) (steady : IsSteady rules) where
   run-value (e ∷ es) s = at_event-value e es s (run rules es) (painting_at rules s) (run-value es)
 
   -- where a run can be stopped
-  stop-value : {c : Cause} {es : List EventView} {s : Progress V} {m : Moment V} → CanStop rules c es s m → m.value ≡ s.value
+  stop-value : {c : Cause} {es : List EventView} {s : Progress V} {m : Moment V} → CanStop rules overrides c es s m → m.value ≡ s.value
   stop-value unmeasured = refl
   stop-value (unpainted sized) = refl
   stop-value (half_painted painted) = refl
   stop-value (unpolled painted goes) = refl
   stop-value (uncopied painted over line) = refl
-  stop-value (unresolved painted goes) = refl
+  stop-value (unresolved painted goes own) = refl
   stop-value {s = s} (unapplied {e = e} painted goes takes) = steady s.value e s.state.cut
   stop-value {s = s} (half_cleared {e = e} painted goes clears) = steady s.value e s.state.cut
   stop-value {s = s} (later {e = e} painted goes leads rest) = stop-value rest ∙ steady s.value e s.state.cut
 
   -- where memory was refused
-  starved-value : (f : Frame V) (m : Moment V) → Starves rules None f m → m.value ≡ f.value
+  starved-value : (f : Frame V) (m : Moment V) → Starves rules overrides None f m → m.value ≡ f.value
   starved-value f m (inl stopped) = stop-value stopped
   starved-value f m (inr (some, same)) = ap (λ (x : Moment V). x.value) same
 
   -- where the closing begins
-  halted-value : (f : Frame V) (m : Moment V) → Halts rules None f m → m.value ≡ f.value
+  halted-value : (f : Frame V) (m : Moment V) → Halts rules overrides None f m → m.value ≡ f.value
   halted-value f m (inl same) = ap (λ (x : Moment V). x.value) same ∙ run-value _ _
   halted-value f m (inr (starved, none)) = starved-value f m starved
 
@@ -76,7 +77,7 @@ module _ {V : Type 0} (rules : HostRules V) (steady : IsSteady rules) where
   bad-value m f g (inr unflushed) = unflushed.leaves.value
 
   -- after a reading that was refused
-  refused-value : (f g : Frame V) (e : Error) → FailsToRead rules None f g e → g.value ≡ f.value
+  refused-value : (f g : Frame V) (e : Error) → FailsToRead rules overrides None f g e → g.value ≡ f.value
   refused-value f g (Memory e) (m, starved, none, closes, same) = closes.leaves.value ∙ starved-value f m starved
   refused-value f g (Terminal e) (m, inl (faults, closes, count)) = closes.leaves.value ∙ stop-value faults
   refused-value f g (Terminal e) (m, inr (inl (faults, closes, count))) = bad-value m f g closes ∙ stop-value faults
@@ -85,14 +86,14 @@ module _ {V : Type 0} (rules : HostRules V) (steady : IsSteady rules) where
 
   -- after a reading
   pub reading-value : {A : Type 0} (f g : Frame V) (r : Result A Error) (answer : A → Outcome)
-      → IfOk r (λ it. Reads (run_of rules (start None f)) f g (answer it)) → IfErr r (FailsToRead rules None f g) → g.value ≡ f.value
+      → IfOk r (λ it. Reads (run_of rules (start None f)) f g (answer it)) → IfErr r (FailsToRead rules overrides None f g) → g.value ≡ f.value
   reading-value f g (Ok it) answer ok err = read-value f g (answer it) ok
   reading-value f g (Err e) answer ok err = refused-value f g e err
 
 -- what a refused reading of a new editor leaves
-pub refused-line : {V A : Type 0} {prompt : List ℕ} {old : TerminalState} (rules : HostRules V) (f g : Frame V) (new : TerminalState) (r : Result A Error)
-    → f ≡ before prompt f.value old → new ≡ g.terminal → IfErr r (FailsToRead rules None f g)
-    → IfErr r (RefusesLine rules prompt f.value g.value old new)
-refused-line rules f g new (Ok it) begins ends fails = fails
-refused-line rules f g new (Err e) begins ends fails =
-    inl (g.state, g.mark, rw begins at (subst (λ t. FailsToRead rules None f (record g { terminal = t }) e) (sym ends) fails))
+pub refused-line : {V A : Type 0} {prompt : List ℕ} {old : TerminalState} (rules : HostRules V) (overrides : Overrides) (f g : Frame V) (new : TerminalState) (r : Result A Error)
+    → f ≡ before prompt f.value old → new ≡ g.terminal → IfErr r (FailsToRead rules overrides None f g)
+    → IfErr r (RefusesLine rules overrides prompt f.value g.value old new)
+refused-line rules overrides f g new (Ok it) begins ends fails = fails
+refused-line rules overrides f g new (Err e) begins ends fails =
+    inl (g.state, g.mark, rw begins at (subst (λ t. FailsToRead rules overrides None f (record g { terminal = t }) e) (sym ends) fails))

@@ -11,6 +11,7 @@ use Rattle.tw_lineedit.specs.Frame.{Frame}
 use Rattle.tw_lineedit.specs.Cut.{Cut}
 use Rattle.tw_lineedit.specs.EditState.{EditState, ModeView, Inactive, Editing, Cancelled, Accepted, Searching}
 use Rattle.tw_lineedit.specs.HostRules.{HostRules}
+use Rattle.tw_lineedit.specs.declared.Overrides.{Overrides}
 use Rattle.tw_lineedit.specs.Painting.{Rendering}
 use Rattle.tw_lineedit.specs.Outcomes.{Outcome, outcome_of, answer_at, line_in, is_over, is_open}
 use Rattle.tw_lineedit.specs.Refusal.{Refusal, refusal_of}
@@ -99,7 +100,7 @@ module _ {V : Type 0} (run rest : Ending V) (same : run ≡ rest) (f g h : Frame
     )
     fails_later e r = reads_later (Err (refusal_of e)) r
 
-module _ {V : Type 0} (rules : HostRules V) where
+module _ {V : Type 0} (rules : HostRules V) (overrides : Overrides) where
   -- an event is taken at the size that it tells
 
   polled_twice : (s : Progress V) (e : EventView) → after_taking (after_taking s e) e ≡ after_taking s e
@@ -121,15 +122,15 @@ module _ {V : Type 0} (rules : HostRules V) where
       ∙ after_twice s e es (state_after rules s e)
       ∙ sym (ap (λ (b : Bool). cond b (ends (answer_at s.state) (e ∷ es) s) (after_event rules e es s (run rules es) (state_after rules s e))) o)
 
-  refuse_twice : (c : Cause) (e : EventView) (es : List EventView) (s : Progress V) (m : Moment V) → CanRefuse rules c e es (after_taking s e) m → CanRefuse rules c e es s m
-  refuse_twice c e es s m unresolved = subst (λ (t : Progress V). CanRefuse rules want e es s (moment None es t)) (sym (polled_twice s e)) unresolved
-  refuse_twice c e es s m (unapplied t) = subst (λ (y : Progress V). CanRefuse rules want e es s (moment None es y)) (sym (answered_twice s e)) (unapplied t)
-  refuse_twice c e es s m (half_cleared r) = subst (λ (y : Progress V). CanRefuse rules fault e es s (moment (Some clear_batch) es y)) (sym (answered_twice s e)) (half_cleared r)
+  refuse_twice : (c : Cause) (e : EventView) (es : List EventView) (s : Progress V) (m : Moment V) → CanRefuse rules overrides c e es (after_taking s e) m → CanRefuse rules overrides c e es s m
+  refuse_twice c e es s m (unresolved own) = subst (λ (t : Progress V). CanRefuse rules overrides want e es s (moment None es t)) (sym (polled_twice s e)) (unresolved own)
+  refuse_twice c e es s m (unapplied t) = subst (λ (y : Progress V). CanRefuse rules overrides want e es s (moment None es y)) (sym (answered_twice s e)) (unapplied t)
+  refuse_twice c e es s m (half_cleared r) = subst (λ (y : Progress V). CanRefuse rules overrides fault e es s (moment (Some clear_batch) es y)) (sym (answered_twice s e)) (half_cleared r)
   refuse_twice c e es s m (missed st r) = missed st (subst (λ (y : Progress V). CanMiss rules c es y m) (handled_twice s e _) r)
 
-  stop_twice : (c : Cause) (e : EventView) (es : List EventView) (s : Progress V) (m : Moment V) → CanStopAt rules c e es (after_taking s e) m → CanStopAt rules c e es s m
+  stop_twice : (c : Cause) (e : EventView) (es : List EventView) (s : Progress V) (m : Moment V) → CanStopAt rules overrides c e es (after_taking s e) m → CanStopAt rules overrides c e es s m
   stop_twice c e es s m (refused r) = refused (refuse_twice c e es s m r)
-  stop_twice c e es s m (later st r) = later st (subst (λ (y : Progress V). CanStop rules c es y m) (handled_twice s e _) r)
+  stop_twice c e es s m (later st r) = later st (subst (λ (y : Progress V). CanStop rules overrides c es y m) (handled_twice s e _) r)
 
   -- a run that is over once its last painting is shown
 
@@ -156,11 +157,11 @@ module _ {V : Type 0} (rules : HostRules V) where
   -- events in a row
 
   -- a line is begun
-  pub opened : (f g : Frame V) → Begins rules f g → Opens rules f g
+  pub opened : (f g : Frame V) → Begins rules overrides f g → Opens rules overrides f g
   opened f g b = record { run = b.run; stops = b.stops; quiet = b.quiet; left = b.left }
 
   -- an event is taken
-  pub comes_one : (e : EventView) (f g : Frame V) → is_over f.state.mode ≡ false → IsFed rules e (resized_frame e f) g → Comes rules (e ∷ []) f g
+  pub comes_one : (e : EventView) (f g : Frame V) → is_over f.state.mode ≡ false → IsFed rules overrides e (resized_frame e f) g → Comes rules overrides (e ∷ []) f g
   comes_one e f g o t = record {
     run = λ xs. sym (run_twice (progress_of f) e xs o) ∙ t.run xs;
     stops = λ c xs m r. at_event o (stop_twice c e xs (progress_of f) m (t.stops c xs m r));
@@ -169,95 +170,95 @@ module _ {V : Type 0} (rules : HostRules V) where
   }
 
   -- an event is taken by an open editor
-  pub comes_fed : (e : EventView) (f h k : Frame V) → is_open f.state.mode ≡ true → h ≡ resized_frame e f → (is_open h.state.mode ≡ true → IsFed rules e h k) → Comes rules (e ∷ []) f k
+  pub comes_fed : (e : EventView) (f h k : Frame V) → is_open f.state.mode ≡ true → h ≡ resized_frame e f → (is_open h.state.mode ≡ true → IsFed rules overrides e h k) → Comes rules overrides (e ∷ []) f k
   comes_fed e f h k o hf t =
-      comes_one e f k (open_goes_on f.state.mode o) (subst (λ (y : Frame V). IsFed rules e y k) hf (t (subst (λ (y : Frame V). is_open y.state.mode ≡ true) (sym hf) o)))
+      comes_one e f k (open_goes_on f.state.mode o) (subst (λ (y : Frame V). IsFed rules overrides e y k) hf (t (subst (λ (y : Frame V). is_open y.state.mode ≡ true) (sym hf) o)))
 
   -- refusals
 
   -- a line is not begun; nothing is left at the terminal
-  pub unopened : (f h : Frame V) (e : Error) → f.terminal.events ≡ [] → FailsToBegin rules None f h e → FailsOver rules [] (start None f) h e
+  pub unopened : (f h : Frame V) (e : Error) → f.terminal.events ≡ [] → FailsToBegin rules None f h e → FailsOver rules overrides [] (start None f) h e
   unopened f h e none r =
       let s : Progress V = progress_of (start None f) in
       let same : run rules [] s ≡ begun_run rules None f = run_none f.terminal.events s none in
-      let starves : (m : Moment V) → WantsToBegin rules None f m → CanStop rules want [] s m = λ m can. elim can [
-        | inl miss ↦ stops_unpainted rules want [] s m (subst (λ (es : List EventView). CanMiss rules want es s m) none miss)
+      let starves : (m : Moment V) → WantsToBegin rules None f m → CanStop rules overrides want [] s m = λ m can. elim can [
+        | inl miss ↦ stops_unpainted rules overrides want [] s m (subst (λ (es : List EventView). CanMiss rules want es s m) none miss)
         | inr given ↦ absurd (false≢true given.0)
       ] in
       fails_later (run rules [] s) (begun_run rules None f) same
       (start None f) f h (record { flushed = refl; failures = refl })
-      (CanStop rules want [] s) (CanStop rules fault [] s) (WantsToBegin rules None f) (FaultsToBegin rules None f) (HaltsRefused (begun_run rules None f) (WantsToBegin rules None f))
+      (CanStop rules overrides want [] s) (CanStop rules overrides fault [] s) (WantsToBegin rules None f) (FaultsToBegin rules None f) (HaltsRefused (begun_run rules None f) (WantsToBegin rules None f))
       starves
-      (λ m can. stops_unpainted rules fault [] s m (subst (λ (es : List EventView). CanMiss rules fault es s m) none can))
-      (halts_refused (run rules [] s) (begun_run rules None f) same (start None f) f h (record { flushed = refl; failures = refl }) (CanStop rules want [] s) (WantsToBegin rules None f) starves)
+      (λ m can. stops_unpainted rules overrides fault [] s m (subst (λ (es : List EventView). CanMiss rules fault es s m) none can))
+      (halts_refused (run rules [] s) (begun_run rules None f) same (start None f) f h (record { flushed = refl; failures = refl }) (CanStop rules overrides want [] s) (WantsToBegin rules None f) starves)
       e r
 
   -- an event is refused
-  pub refused_one : (e : EventView) (f h : Frame V) (x : Error) → is_over f.state.mode ≡ false → f.terminal.events ≡ [] → FailsToFeed rules e (resized_frame e f) h x → FailsFrom rules (e ∷ []) f h x
+  pub refused_one : (e : EventView) (f h : Frame V) (x : Error) → is_over f.state.mode ≡ false → f.terminal.events ≡ [] → FailsToFeed rules overrides e (resized_frame e f) h x → FailsFrom rules overrides (e ∷ []) f h x
   refused_one e f h x o none r =
       let s : Progress V = progress_of f in
       let rest : Ending V = event_run rules e (resized_frame e f) in
       let same : run_on rules (e ∷ []) s ≡ rest = run_one f.terminal.events s e o none in
-      let stops : (c : Cause) (m : Moment V) → CanRefuse rules c e f.terminal.events (after_taking s e) m → CanStopOn rules c (e ∷ []) s m =
-      λ c m can. at_event o (refused (refuse_twice c e [] s m (subst (λ (es : List EventView). CanRefuse rules c e es (after_taking s e) m) none can))) in
+      let stops : (c : Cause) (m : Moment V) → CanRefuse rules overrides c e f.terminal.events (after_taking s e) m → CanStopOn rules overrides c (e ∷ []) s m =
+      λ c m can. at_event o (refused (refuse_twice c e [] s m (subst (λ (es : List EventView). CanRefuse rules overrides c e es (after_taking s e) m) none can))) in
       fails_later (run_on rules (e ∷ []) s) rest same
       f (resized_frame e f) h (record { flushed = refl; failures = refl })
-      (CanStopOn rules want (e ∷ []) s) (CanStopOn rules fault (e ∷ []) s) (WantsToFeed rules e (resized_frame e f)) (FaultsToFeed rules e (resized_frame e f)) (HaltsRefused rest (WantsToFeed rules e (resized_frame e f)))
+      (CanStopOn rules overrides want (e ∷ []) s) (CanStopOn rules overrides fault (e ∷ []) s) (WantsToFeed rules overrides e (resized_frame e f)) (FaultsToFeed rules overrides e (resized_frame e f)) (HaltsRefused rest (WantsToFeed rules overrides e (resized_frame e f)))
       (stops want) (stops fault)
-      (halts_refused (run_on rules (e ∷ []) s) rest same f (resized_frame e f) h (record { flushed = refl; failures = refl }) (CanStopOn rules want (e ∷ []) s) (WantsToFeed rules e (resized_frame e f)) (stops want))
+      (halts_refused (run_on rules (e ∷ []) s) rest same f (resized_frame e f) h (record { flushed = refl; failures = refl }) (CanStopOn rules overrides want (e ∷ []) s) (WantsToFeed rules overrides e (resized_frame e f)) (stops want))
       x r
 
   -- it is refused after others
-  pub refused_on : (xs ys : List EventView) (f g h : Frame V) (x : Error) → Comes rules xs f g → FailsFrom rules ys g h x → FailsFrom rules (xs ++ ys) f h x
+  pub refused_on : (xs ys : List EventView) (f g h : Frame V) (x : Error) → Comes rules overrides xs f g → FailsFrom rules overrides ys g h x → FailsFrom rules overrides (xs ++ ys) f h x
   refused_on xs ys f g h x a r = fails_later (run_on rules (xs ++ ys) (progress_of f)) (run_on rules ys (progress_of g)) (a.run ys) f g h a.quiet
-      (CanStopOn rules want (xs ++ ys) (progress_of f)) (CanStopOn rules fault (xs ++ ys) (progress_of f)) (CanStopOn rules want ys (progress_of g)) (CanStopOn rules fault ys (progress_of g))
-      (HaltsIn (run_on rules ys (progress_of g)) (CanStopOn rules want ys (progress_of g)))
+      (CanStopOn rules overrides want (xs ++ ys) (progress_of f)) (CanStopOn rules overrides fault (xs ++ ys) (progress_of f)) (CanStopOn rules overrides want ys (progress_of g)) (CanStopOn rules overrides fault ys (progress_of g))
+      (HaltsIn (run_on rules ys (progress_of g)) (CanStopOn rules overrides want ys (progress_of g)))
       (a.stops want ys) (a.stops fault ys)
-      (halts_in (run_on rules (xs ++ ys) (progress_of f)) (run_on rules ys (progress_of g)) (a.run ys) f g h a.quiet (CanStopOn rules want (xs ++ ys) (progress_of f)) (CanStopOn rules want ys (progress_of g)) (a.stops want ys))
+      (halts_in (run_on rules (xs ++ ys) (progress_of f)) (run_on rules ys (progress_of g)) (a.run ys) f g h a.quiet (CanStopOn rules overrides want (xs ++ ys) (progress_of f)) (CanStopOn rules overrides want ys (progress_of g)) (a.stops want ys))
       x r
 
   -- an open line is refused
-  pub refused_open : (events : List EventView) (f g h : Frame V) (x : Error) → Opens rules f g → FailsFrom rules events g h x → FailsOver rules events f h x
+  pub refused_open : (events : List EventView) (f g h : Frame V) (x : Error) → Opens rules overrides f g → FailsFrom rules overrides events g h x → FailsOver rules overrides events f h x
   refused_open events f g h x a r = fails_later (run rules events (progress_of f)) (run_on rules events (progress_of g)) (a.run events) f g h a.quiet
-      (CanStop rules want events (progress_of f)) (CanStop rules fault events (progress_of f)) (CanStopOn rules want events (progress_of g)) (CanStopOn rules fault events (progress_of g))
-      (HaltsIn (run_on rules events (progress_of g)) (CanStopOn rules want events (progress_of g)))
+      (CanStop rules overrides want events (progress_of f)) (CanStop rules overrides fault events (progress_of f)) (CanStopOn rules overrides want events (progress_of g)) (CanStopOn rules overrides fault events (progress_of g))
+      (HaltsIn (run_on rules events (progress_of g)) (CanStopOn rules overrides want events (progress_of g)))
       (a.stops want events) (a.stops fault events)
-      (halts_in (run rules events (progress_of f)) (run_on rules events (progress_of g)) (a.run events) f g h a.quiet (CanStop rules want events (progress_of f)) (CanStopOn rules want events (progress_of g)) (a.stops want events))
+      (halts_in (run rules events (progress_of f)) (run_on rules events (progress_of g)) (a.run events) f g h a.quiet (CanStop rules overrides want events (progress_of f)) (CanStopOn rules overrides want events (progress_of g)) (a.stops want events))
       x r
 
   -- the end
 
   -- the run over the events that were taken ends where the line stands
-  ends_here : (events : List EventView) (f g : Frame V) → f.terminal.events ≡ [] → Comes rules events f g → run_on rules events (progress_of f) ≡ ending (answer_at g.state) g
+  ends_here : (events : List EventView) (f g : Frame V) → f.terminal.events ≡ [] → Comes rules overrides events f g → run_on rules events (progress_of f) ≡ ending (answer_at g.state) g
   ends_here events f g none c =
       ap (λ (es : List EventView). run_on rules es (progress_of f)) (sym (append-nil events))
       ∙ c.run []
       ∙ ap (λ (es : List EventView). ends (answer_at g.state) es (progress_of g)) (sym (c.left ∙ none))
 
   -- where its line is not copied
-  uncopied_at : (events : List EventView) (f g : Frame V) → f.terminal.events ≡ [] → Comes rules events f g → (m : Moment V) → Uncopied g m → CanStopOn rules want events (progress_of f) m
+  uncopied_at : (events : List EventView) (f g : Frame V) → f.terminal.events ≡ [] → Comes rules overrides events f g → (m : Moment V) → Uncopied g m → CanStopOn rules overrides want events (progress_of f) m
   uncopied_at events f g none c m (line, here) =
       let at : m ≡ moment None [] (progress_of g) = here ∙ ap (λ (es : List EventView). moment None es (progress_of g)) (c.left ∙ none) in
-      subst (λ (es : List EventView). CanStopOn rules want es (progress_of f) m) (append-nil events)
-      (c.stops want [] m (subst (λ (x : Moment V). CanStopOn rules want [] (progress_of g) x) (sym at) (uncopied (inr refl) line)))
+      subst (λ (es : List EventView). CanStopOn rules overrides want es (progress_of f) m) (append-nil events)
+      (c.stops want [] m (subst (λ (x : Moment V). CanStopOn rules overrides want [] (progress_of g) x) (sym at) (uncopied (inr refl) line)))
 
   -- the end is refused
-  pub refused_end : (events : List EventView) (f g h : Frame V) (x : Error) → f.terminal.events ≡ [] → Comes rules events f g → FailsToFinish g h x → FailsFrom rules events f h x
+  pub refused_end : (events : List EventView) (f g h : Frame V) (x : Error) → f.terminal.events ≡ [] → Comes rules overrides events f g → FailsToFinish g h x → FailsFrom rules overrides events f h x
   refused_end events f g h x none c r =
       let here : Ending V = ending (answer_at g.state) g in
       fails_later (run_on rules events (progress_of f)) here (ends_here events f g none c) f g h c.quiet
-      (CanStopOn rules want events (progress_of f)) (CanStopOn rules fault events (progress_of f)) (Uncopied g) (λ m. ⊥) (HaltsIn here (Uncopied g))
+      (CanStopOn rules overrides want events (progress_of f)) (CanStopOn rules overrides fault events (progress_of f)) (Uncopied g) (λ m. ⊥) (HaltsIn here (Uncopied g))
       (λ m can. uncopied_at events f g none c m can)
       (λ m can. absurd can)
-      (halts_in (run_on rules events (progress_of f)) here (ends_here events f g none c) f g h c.quiet (CanStopOn rules want events (progress_of f)) (Uncopied g) (λ m can. uncopied_at events f g none c m can))
+      (halts_in (run_on rules events (progress_of f)) here (ends_here events f g none c) f g h c.quiet (CanStopOn rules overrides want events (progress_of f)) (Uncopied g) (λ m can. uncopied_at events f g none c m can))
       x r
 
   -- a line is read
-  pub reads_open : (events : List EventView) (f g h k : Frame V) (answer : Outcome) → g.terminal.events ≡ [] → Opens rules f g → Comes rules events g h → Reads (ending (answer_at h.state) h) h k answer → Reads (run_over rules events f) f k answer
+  pub reads_open : (events : List EventView) (f g h k : Frame V) (answer : Outcome) → g.terminal.events ≡ [] → Opens rules overrides f g → Comes rules overrides events g h → Reads (ending (answer_at h.state) h) h k answer → Reads (run_over rules events f) f k answer
   reads_open events f g h k answer none o c r = reads_later (run_over rules events f) (ending (answer_at h.state) h) (o.run events ∙ ends_here events g h none c) f h k (quiet_on f g h o.quiet c.quiet) answer r
 
   -- whether the events ended it
-  pub ended_open : (events : List EventView) (f g h : Frame V) → g.terminal.events ≡ [] → Opens rules f g → Comes rules events g h → is_over (run_over rules events f).state.mode ≡ is_over h.state.mode
+  pub ended_open : (events : List EventView) (f g h : Frame V) → g.terminal.events ≡ [] → Opens rules overrides f g → Comes rules overrides events g h → is_over (run_over rules events f).state.mode ≡ is_over h.state.mode
   ended_open events f g h none o c = ap (λ (x : Ending V). is_over x.state.mode) (o.run events ∙ ends_here events g h none c)
 
   -- a mode that is neither open nor Inactive ended the line
@@ -271,25 +272,25 @@ module _ {V : Type 0} (rules : HostRules V) where
   -- the same, with the frames of an editor's parts
 
   -- an event is refused
-  pub refused_fed : (e : EventView) (f h k : Frame V) (x : Error) → is_open f.state.mode ≡ true → f.terminal.events ≡ [] → h ≡ resized_frame e f → FailsToFeed rules e h k x → FailsFrom rules (e ∷ []) f k x
-  refused_fed e f h k x o none hf r = refused_one e f k x (open_goes_on f.state.mode o) none (subst (λ (y : Frame V). FailsToFeed rules e y k x) hf r)
+  pub refused_fed : (e : EventView) (f h k : Frame V) (x : Error) → is_open f.state.mode ≡ true → f.terminal.events ≡ [] → h ≡ resized_frame e f → FailsToFeed rules overrides e h k x → FailsFrom rules overrides (e ∷ []) f k x
+  refused_fed e f h k x o none hf r = refused_one e f k x (open_goes_on f.state.mode o) none (subst (λ (y : Frame V). FailsToFeed rules overrides e y k x) hf r)
 
   -- a line is not begun
-  pub unopened_at : (f s h g : Frame V) (x : Error) → f.terminal.events ≡ [] → s ≡ start None f → g ≡ h → FailsToBegin rules None f h x → FailsOver rules [] s g x
-  unopened_at f s h g x none sf gh r = subst (λ (y : Frame V). FailsOver rules [] y g x) (sym sf)
-      (subst (λ (y : Frame V). FailsOver rules [] (start None f) y x) (sym gh) (unopened f h x none r))
+  pub unopened_at : (f s h g : Frame V) (x : Error) → f.terminal.events ≡ [] → s ≡ start None f → g ≡ h → FailsToBegin rules None f h x → FailsOver rules overrides [] s g x
+  unopened_at f s h g x none sf gh r = subst (λ (y : Frame V). FailsOver rules overrides [] y g x) (sym sf)
+      (subst (λ (y : Frame V). FailsOver rules overrides [] (start None f) y x) (sym gh) (unopened f h x none r))
 
   -- an editor whose terminal has the size that an event tells
   pub resized_is : (e : EventView) (f : Frame V) (t u : TerminalState) → (let r : TerminalState = record u { size = size_after e u.size } in t ≡ r) → u ≡ f.terminal → (let r : Frame V = record f { terminal = t } in r ≡ resized_frame e f)
   resized_is e f t u tu uf = ap (λ (y : TerminalState). let r : Frame V = record f { terminal = y } in r) (tu ∙ ap (λ (y : TerminalState). let r : TerminalState = record y { size = size_after e y.size } in r) uf)
 
   -- how an event that is fed last is answered
-  pub comes_if : (A : Type 0) (answer : Result A Error) (e : EventView) (f h k : Frame V) → is_open f.state.mode ≡ true → h ≡ resized_frame e f → (is_open h.state.mode ≡ true → OnOk answer (IsFed rules e h k)) → OnOk answer (Comes rules (e ∷ []) f k)
+  pub comes_if : (A : Type 0) (answer : Result A Error) (e : EventView) (f h k : Frame V) → is_open f.state.mode ≡ true → h ≡ resized_frame e f → (is_open h.state.mode ≡ true → OnOk answer (IsFed rules overrides e h k)) → OnOk answer (Comes rules overrides (e ∷ []) f k)
   comes_if A (Ok x) e f h k o hf t = comes_fed e f h k o hf t
   comes_if A (Err x) e f h k o hf t = tt
 
   -- and refused
-  pub refused_if : (A : Type 0) (answer : Result A Error) (e : EventView) (f h k : Frame V) → is_open f.state.mode ≡ true → f.terminal.events ≡ [] → h ≡ resized_frame e f → IfErr answer (FailsToFeed rules e h k) → IfErr answer (FailsFrom rules (e ∷ []) f k)
+  pub refused_if : (A : Type 0) (answer : Result A Error) (e : EventView) (f h k : Frame V) → is_open f.state.mode ≡ true → f.terminal.events ≡ [] → h ≡ resized_frame e f → IfErr answer (FailsToFeed rules overrides e h k) → IfErr answer (FailsFrom rules overrides (e ∷ []) f k)
   refused_if A (Ok x) e f h k o none hf r = tt
   refused_if A (Err x) e f h k o none hf r = refused_fed e f h k x o none hf r
 
@@ -300,28 +301,28 @@ module _ {V : Type 0} (rules : HostRules V) where
   told_one old mid new xs e a b = b ∙ ap (λ (ys : List EventView). ys ++ e ∷ []) a ∙ append_assoc old xs (e ∷ [])
 
   -- one event more, by which feeding fails
-  pub fails_by_one : (old mid new : List EventView) (e : EventView) (f g h : Frame V) (x : Error) → ComesBy rules old mid f g → new ≡ mid ++ e ∷ []
-      → FailsFrom rules (e ∷ []) g h x → FailsBy rules old new f h x
+  pub fails_by_one : (old mid new : List EventView) (e : EventView) (f g h : Frame V) (x : Error) → ComesBy rules overrides old mid f g → new ≡ mid ++ e ∷ []
+      → FailsFrom rules overrides (e ∷ []) g h x → FailsBy rules overrides old new f h x
   fails_by_one old mid new e f g h x (xs, told, a) more r = (xs ++ e ∷ [], told_one old mid new xs e told more, refused_on xs (e ∷ []) f g h x a r)
 
   -- a line that was begun, fed and ended
 
   -- it is read
-  reads_told : (old new : List EventView) (f g h k : Frame V) (answer : Outcome) → g.terminal.events ≡ [] → Opens rules f g → ComesBy rules old new g h
+  reads_told : (old new : List EventView) (f g h k : Frame V) (answer : Outcome) → g.terminal.events ≡ [] → Opens rules overrides f g → ComesBy rules overrides old new g h
       → Reads (ending (answer_at h.state) h) h k answer → ReadsTold rules old new f k answer (is_over h.state.mode)
   reads_told old new f g h k answer none o (xs, told, c) r = (xs, told, sym (ended_open xs f g h none o c), reads_open xs f g h k answer none o c r)
 
   -- it is not begun
-  pub fails_first : (old : List EventView) (f g : Frame V) (x : Error) → FailsOver rules [] f g x → FailsTold rules old old f g x
+  pub fails_first : (old : List EventView) (f g : Frame V) (x : Error) → FailsOver rules overrides [] f g x → FailsTold rules overrides old old f g x
   fails_first old f g x r = ([], sym (append-nil old), r)
 
   -- an event is refused
-  pub fails_then : (old new : List EventView) (f g h : Frame V) (x : Error) → Opens rules f g → FailsBy rules old new g h x → FailsTold rules old new f h x
+  pub fails_then : (old new : List EventView) (f g h : Frame V) (x : Error) → Opens rules overrides f g → FailsBy rules overrides old new g h x → FailsTold rules overrides old new f h x
   fails_then old new f g h x o (xs, told, r) = (xs, told, refused_open xs f g h x o r)
 
   -- its end is refused
-  pub fails_last : (old new : List EventView) (f g h k : Frame V) (x : Error) → g.terminal.events ≡ [] → Opens rules f g → ComesBy rules old new g h
-      → FailsToFinish h k x → FailsTold rules old new f k x
+  pub fails_last : (old new : List EventView) (f g h k : Frame V) (x : Error) → g.terminal.events ≡ [] → Opens rules overrides f g → ComesBy rules overrides old new g h
+      → FailsToFinish h k x → FailsTold rules overrides old new f k x
   fails_last old new f g h k x none o (xs, told, c) r = (xs, told, refused_open xs f g k x o (refused_end xs g h k x none c r))
 
   -- how a line that was fed so is answered
@@ -339,7 +340,7 @@ module _ {V : Type 0} (rules : HostRules V) where
   open_line cut Accepted o at = false≢true o
   open_line cut (Searching style direction matching) o at = false≢true (ap has_line at)
 
-  module _ (old new : List EventView) (state : SourceState) (f g h k : Frame V) (none : g.terminal.events ≡ []) (o : Opens rules f g) (c : ComesBy rules old new g h) (b : h.state.mode ≢ Inactive) where
+  module _ (old new : List EventView) (state : SourceState) (f g h k : Frame V) (none : g.terminal.events ≡ []) (o : Opens rules overrides f g) (c : ComesBy rules overrides old new g h) (b : h.state.mode ≢ Inactive) where
     -- as an event ended it
     read_ended : (answer : Outcome) → is_open h.state.mode ≡ false → Reads (ending (answer_at h.state) h) h k answer → ReadsTold rules old new f k answer true
     read_ended answer at r = subst (λ (x : Bool). ReadsTold rules old new f k answer x) (ended_mode h.state.mode b at) (reads_told old new f g h k answer none o c r)
@@ -348,7 +349,7 @@ module _ {V : Type 0} (rules : HostRules V) where
     read_open : (answer : Outcome) → is_open h.state.mode ≡ true → Reads (ending (answer_at h.state) h) h k answer → ReadsTold rules old new f k answer false
     read_open answer at r = subst (λ (x : Bool). ReadsTold rules old new f k answer x) (open_goes_on h.state.mode at) (reads_told old new f g h k answer none o c r)
 
-  module _ (old new : List EventView) (state : SourceState) (f g h : Frame V) (s : SessionView) (v : V) (t : TerminalState) (none : g.terminal.events ≡ []) (o : Opens rules f g) (c : ComesBy rules old new g h) (b : h.state.mode ≢ Inactive) where
+  module _ (old new : List EventView) (state : SourceState) (f g h : Frame V) (s : SessionView) (v : V) (t : TerminalState) (none : g.terminal.events ≡ []) (o : Opens rules overrides f g) (c : ComesBy rules overrides old new g h) (b : h.state.mode ≢ Inactive) where
     -- the line is closed
     abbrev Closed : Option (String Global) → Type 0
     Closed line = Reads (ending (answer_at h.state) h) h (frame_of s v t) (outcome_of (Ok line))
@@ -363,7 +364,7 @@ module _ {V : Type 0} (rules : HostRules V) where
     read_from (Some line) source_end at r = ((s, read_open old new state f g h (frame_of s v t) none o c b (outcome_of (Ok (Some line))) at.0 r), λ same. at.1)
 
     -- or cut off
-    cut_from : (line : Option (String Global)) (stop : Stop) → IsStopped stop (is_open h.state.mode) state old new → Closed line → IfErr (answer_from line stop) (live.FailsToRead rules old new state f v t)
+    cut_from : (line : Option (String Global)) (stop : Stop) → IsStopped stop (is_open h.state.mode) state old new → Closed line → IfErr (answer_from line stop) (live.FailsToRead rules overrides old new state f v t)
     cut_from line (source_fault why) at r = inr (inl (inl at.1, (s, (outcome_of (Ok line), read_open old new state f g h (frame_of s v t) none o c b (outcome_of (Ok line)) at.0 r))))
     cut_from line Endless at r = inr (inl (inr (refl, at.1), (s, (outcome_of (Ok line), read_open old new state f g h (frame_of s v t) none o c b (outcome_of (Ok line)) at.0 r))))
     cut_from None Ended at r = tt
@@ -376,30 +377,30 @@ module _ {V : Type 0} (rules : HostRules V) where
     read_as line stop answer same at r = subst (λ (x : Result Answer Error). IfOk x (IsRead rules old new state f v t)) (sym same) (read_from line stop at r)
 
     -- the refusal
-    pub cut_as : (line : Option (String Global)) (stop : Stop) (answer : Result Answer Error) → answer ≡ answer_from line stop → IsStopped stop (is_open h.state.mode) state old new → Closed line → IfErr answer (live.FailsToRead rules old new state f v t)
-    cut_as line stop answer same at r = subst (λ (x : Result Answer Error). IfErr x (live.FailsToRead rules old new state f v t)) (sym same) (cut_from line stop at r)
+    pub cut_as : (line : Option (String Global)) (stop : Stop) (answer : Result Answer Error) → answer ≡ answer_from line stop → IsStopped stop (is_open h.state.mode) state old new → Closed line → IfErr answer (live.FailsToRead rules overrides old new state f v t)
+    cut_as line stop answer same at r = subst (λ (x : Result Answer Error). IfErr x (live.FailsToRead rules overrides old new state f v t)) (sym same) (cut_from line stop at r)
 
   -- the same, where the terminal is given back
 
   -- a line is begun by an editor of this prompt
-  pub opened_at : (f s g : Frame V) → s ≡ start None f → Begins rules (start None f) g → Opens rules s g
-  opened_at f s g sf b = subst (λ (y : Frame V). Opens rules y g) (sym sf) (opened (start None f) g b)
+  pub opened_at : (f s g : Frame V) → s ≡ start None f → Begins rules overrides (start None f) g → Opens rules overrides s g
+  opened_at f s g sf b = subst (λ (y : Frame V). Opens rules overrides y g) (sym sf) (opened (start None f) g b)
 
   module _ (old new : List EventView) (state : SourceState) (f : Frame V) (s : SessionView) (v : V) (t : TerminalState) (k : Frame V) (at : frame_of s v t ≡ k) (x : Error) where
     -- what is told of the last frame
-    back : FailsTold rules old new f k x → live.FailsToRead rules old new state f v t x
-    back r = inl (s, subst (λ (y : Frame V). FailsTold rules old new f y x) (sym at) r)
+    back : FailsTold rules overrides old new f k x → live.FailsToRead rules overrides old new state f v t x
+    back r = inl (s, subst (λ (y : Frame V). FailsTold rules overrides old new f y x) (sym at) r)
 
     -- an event was refused
-    pub stopped_at : (g : Frame V) → Opens rules f g → FailsBy rules old new g k x → live.FailsToRead rules old new state f v t x
+    pub stopped_at : (g : Frame V) → Opens rules overrides f g → FailsBy rules overrides old new g k x → live.FailsToRead rules overrides old new state f v t x
     stopped_at g o r = back (fails_then old new f g k x o r)
 
     -- the end was refused
-    pub ended_at : (g h : Frame V) → g.terminal.events ≡ [] → Opens rules f g → ComesBy rules old new g h → FailsToFinish h k x → live.FailsToRead rules old new state f v t x
+    pub ended_at : (g h : Frame V) → g.terminal.events ≡ [] → Opens rules overrides f g → ComesBy rules overrides old new g h → FailsToFinish h k x → live.FailsToRead rules overrides old new state f v t x
     ended_at g h none o c r = back (fails_last old new f g h k x none o c r)
 
   -- the line was not begun
-  pub unbegun_at : (old : List EventView) (state : SourceState) (f : Frame V) (s : SessionView) (v : V) (t : TerminalState) (k : Frame V) → frame_of s v t ≡ k → (x : Error) (i : Frame V) → i.terminal.events ≡ [] → f ≡ start None i → FailsToBegin rules None i k x → live.FailsToRead rules old old state f v t x
+  pub unbegun_at : (old : List EventView) (state : SourceState) (f : Frame V) (s : SessionView) (v : V) (t : TerminalState) (k : Frame V) → frame_of s v t ≡ k → (x : Error) (i : Frame V) → i.terminal.events ≡ [] → f ≡ start None i → FailsToBegin rules None i k x → live.FailsToRead rules overrides old old state f v t x
   unbegun_at old state f s v t k at x i none fi r = back old old state f s v t k at x (fails_first old f k x (unopened_at i f k k x none fi refl r))
 
   -- a line is closed

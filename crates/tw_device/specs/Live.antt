@@ -6,6 +6,7 @@ use Rattle.tw_terminal.specs.TerminalState.{TerminalState, size_after}
 use Rattle.tw_terminal.specs.declared.terminal.TerminalFault.TheVariants.{Device}
 use Rattle.tw_lineedit.specs.Frame.{Frame}
 use Rattle.tw_lineedit.specs.HostRules.{HostRules}
+use Rattle.tw_lineedit.specs.declared.Overrides.{Overrides}
 use Rattle.tw_lineedit.specs.Outcomes.{Outcome, is_over}
 use Rattle.tw_lineedit.specs.Feeding.{run_on, CanStopOn}
 use Rattle.tw_lineedit.specs.Reading.{start, Reads, FailsIn, HaltsIn}
@@ -79,17 +80,29 @@ module _ {V : Type 0} (rules : HostRules V) where
   abbrev pub run_over : List EventView → Frame V → Ending V
   run_over events f = run rules events (progress_of f)
 
+  -- The events that were told, and no other, are those of the run: its answer, its batches with the closing one, all flushed, its size and the host's value are what is there; and whether an event ended it.
+  abbrev pub ReadsTold : List EventView → List EventView → Frame V → Frame V → Outcome → Bool → Type 0
+  ReadsTold old new f g answer ended = (events : List EventView) × (new ≡ old ++ events)
+      × (ended ≡ is_over (run_over events f).state.mode)
+      × Reads (run_over events f) f g answer
+
+  -- A line was read over exactly the events that were told. No event ended it only where the source had no more.
+  abbrev pub IsRead : List EventView → List EventView → SourceState → Frame V → V → TerminalState → Answer → Type 0
+  IsRead old new state f v t answer = Left v t (λ g. ReadsTold old new f g (outcome_in answer) (was_ended answer))
+      × (was_ended answer ≡ false → state ≡ AtEnd)
+
+module _ {V : Type 0} (rules : HostRules V) (overrides : Overrides) where
   -- A line that begins at f is painted at g, where it waits for events.
   pub record Opens (f g : Frame V) : Type 0 where
     pub run : (later : List EventView) → run rules later (progress_of f) ≡ run_on rules later (progress_of g)
-    pub stops : (c : Cause) (later : List EventView) (m : Moment V) → CanStopOn rules c later (progress_of g) m → CanStop rules c later (progress_of f) m
+    pub stops : (c : Cause) (later : List EventView) (m : Moment V) → CanStopOn rules overrides c later (progress_of g) m → CanStop rules overrides c later (progress_of f) m
     pub quiet : Quiet f g
     pub left : g.terminal.events ≡ f.terminal.events
 
   -- An open line at f has taken these events, and waits at g.
   pub record Comes (events : List EventView) (f g : Frame V) : Type 0 where
     pub run : (later : List EventView) → run_on rules (events ++ later) (progress_of f) ≡ run_on rules later (progress_of g)
-    pub stops : (c : Cause) (later : List EventView) (m : Moment V) → CanStopOn rules c later (progress_of g) m → CanStopOn rules c (events ++ later) (progress_of f) m
+    pub stops : (c : Cause) (later : List EventView) (m : Moment V) → CanStopOn rules overrides c later (progress_of g) m → CanStopOn rules overrides c (events ++ later) (progress_of f) m
     pub quiet : Quiet f g
     pub left : g.terminal.events ≡ f.terminal.events
 
@@ -99,35 +112,24 @@ module _ {V : Type 0} (rules : HostRules V) where
 
   -- what a refusal of the run over these events leaves, once it is closed
   abbrev pub FailsOver : List EventView → Frame V → Frame V → Error → Type 0
-  FailsOver events f g e = FailsIn (run_over events f) (CanStop rules want events (progress_of f)) (CanStop rules fault events (progress_of f))
-      (HaltsIn (run_over events f) (CanStop rules want events (progress_of f))) f g e
+  FailsOver events f g e = FailsIn (run_over rules events f) (CanStop rules overrides want events (progress_of f)) (CanStop rules overrides fault events (progress_of f))
+      (HaltsIn (run_over rules events f) (CanStop rules overrides want events (progress_of f))) f g e
 
   -- what a refusal leaves of an open line at f that has taken these events
   abbrev pub FailsFrom : List EventView → Frame V → Frame V → Error → Type 0
-  FailsFrom events f g e = FailsIn (run_on rules events (progress_of f)) (CanStopOn rules want events (progress_of f)) (CanStopOn rules fault events (progress_of f))
-      (HaltsIn (run_on rules events (progress_of f)) (CanStopOn rules want events (progress_of f))) f g e
+  FailsFrom events f g e = FailsIn (run_on rules events (progress_of f)) (CanStopOn rules overrides want events (progress_of f)) (CanStopOn rules overrides fault events (progress_of f))
+      (HaltsIn (run_on rules events (progress_of f)) (CanStopOn rules overrides want events (progress_of f))) f g e
 
   -- these events were told, and an open line at f was refused
   abbrev pub FailsBy : List EventView → List EventView → Frame V → Frame V → Error → Type 0
   FailsBy old new f g e = (events : List EventView) × (new ≡ old ++ events) × FailsFrom events f g e
 
-  -- The events that were told, and no other, are those of the run: its answer, its batches with the closing one, all flushed, its size and the host's value are what is there; and whether an event ended it.
-  abbrev pub ReadsTold : List EventView → List EventView → Frame V → Frame V → Outcome → Bool → Type 0
-  ReadsTold old new f g answer ended = (events : List EventView) × (new ≡ old ++ events)
-      × (ended ≡ is_over (run_over events f).state.mode)
-      × Reads (run_over events f) f g answer
-
   -- what a refusal of the run over the events that were told leaves
   abbrev pub FailsTold : List EventView → List EventView → Frame V → Frame V → Error → Type 0
   FailsTold old new f g e = (events : List EventView) × (new ≡ old ++ events) × FailsOver events f g e
 
-  -- A line was read over exactly the events that were told. No event ended it only where the source had no more.
-  abbrev pub IsRead : List EventView → List EventView → SourceState → Frame V → V → TerminalState → Answer → Type 0
-  IsRead old new state f v t answer = Left v t (λ g. ReadsTold old new f g (outcome_in answer) (was_ended answer))
-      × (was_ended answer ≡ false → state ≡ AtEnd)
-
   -- What a refusal leaves: that of the run over the events that were told; or the source refused, and the line that no event had ended is closed; or the prompt was not copied, and nothing was done.
   abbrev pub FailsToRead : List EventView → List EventView → SourceState → Frame V → V → TerminalState → Error → Type 0
   FailsToRead old new state f v t e = Left v t (λ g. FailsTold old new f g e)
-      ⊎ ((IsCut old new state e × Left v t (λ g. (answer : Outcome) × ReadsTold old new f g answer false))
+      ⊎ ((IsCut old new state e × Left v t (λ g. (answer : Outcome) × ReadsTold rules old new f g answer false))
       ⊎ (IsMemory e × (new ≡ old) × (v ≡ f.value) × (t ≡ f.terminal)))

@@ -65,12 +65,12 @@ fn feed<W: Write, H: LineEditorHost>(
     ensures same_reference { editor.new.terminal.ghost_name ≡ editor.old.terminal.ghost_name }
     ensures ok { let before = frame terminal_state H.value editor.old host.old in
         let after = frame terminal_state H.value editor.new host.new in
-        OnOk result (Comes H.rules (event_view event.now ∷ []) before after) }
+        OnOk result (Comes H.rules H.OVERRIDES (event_view event.now ∷ []) before after) }
     ensures begun { OnOk result (editor.new.session.state.mode ≢ Inactive) }
     ensures status { IfOk result (λ status. status ≡ status_if (is_open editor.new.session.state.mode)) }
     ensures err { let before = frame terminal_state H.value editor.old host.old in
         let after = frame terminal_state H.value editor.new host.new in
-        IfErr result (FailsFrom H.rules (event_view event.now ∷ []) before after) }
+        IfErr result (FailsFrom H.rules H.OVERRIDES (event_view event.now ∷ []) before after) }
 {
     resize(editor.terminal(), event);
     editor.feed(host, event)
@@ -87,13 +87,13 @@ fn take_events<S: EventSource, W: Write, H: LineEditorHost>(
     ensures same_reference { editor.new.terminal.ghost_name ≡ editor.old.terminal.ghost_name }
     ensures ok { let before = frame terminal_state H.value editor.old host.old in
         let after = frame terminal_state H.value editor.new host.new in
-        OnOk result (ComesBy H.rules (S.told source.old) (S.told source.new) before after) }
+        OnOk result (ComesBy H.rules H.OVERRIDES (S.told source.old) (S.told source.new) before after) }
     ensures begun { OnOk result (editor.new.session.state.mode ≢ Inactive) }
     ensures stopped { let is_open_after = is_open editor.new.session.state.mode in
         IfOk result (λ stop. IsStopped stop is_open_after (S.state source.new) (S.told source.old) (S.told source.new)) }
     ensures err { let before = frame terminal_state H.value editor.old host.old in
         let after = frame terminal_state H.value editor.new host.new in
-        IfErr result (FailsBy H.rules (S.told source.old) (S.told source.new) before after) }
+        IfErr result (FailsBy H.rules H.OVERRIDES (S.told source.old) (S.told source.new) before after) }
 {
     for turn in 0..u64::MAX {
         let _told = turn;
@@ -140,7 +140,7 @@ pub fn read_line_from<S: EventSource, W: Write, H: LineEditorHost>(
         IfOk result (IsRead H.rules (S.told source.old) (S.told source.new) (S.state source.new) begun
         (H.value host.new) (terminal_state terminal.new)) }
     ensures err { let begun = fresh_frame prompt.now (H.value host.old) (terminal_state terminal.old) in
-        IfErr result (FailsToRead H.rules (S.told source.old) (S.told source.new) (S.state source.new) begun
+        IfErr result (FailsToRead H.rules H.OVERRIDES (S.told source.old) (S.told source.new) (S.state source.new) begun
         (H.value host.new) (terminal_state terminal.new)) }
 {
     let mut editor = LineEditor::new(alloc, terminal)?;

@@ -1,5 +1,5 @@
 -- The key table: which action an event stands for.
-use Rattle.std.specs.Prelude.{⊤, ℕ, Bool, true, false, ◌&&◌, ◌||◌, ◌==◌, if◌then◌else◌, List, [], ◌∷◌, codes, Option, Some, None}
+use Rattle.std.specs.Prelude.{◌≢◌, ℕ, Bool, true, false, ◌&&◌, ◌||◌, ◌==◌, if◌then◌else◌, List, [], ◌∷◌, codes, Option, Some, None}
 use Rattle.std.specs.Option.{option_or}
 use Rattle.tw_input.specs.declared.key.KeyCode.{KeyCode}
 use Rattle.tw_input.specs.declared.key.KeyCode.TheVariants.{Char, Backspace, Tab, Enter, Escape, Insert, Delete, Home, End, PageUp, PageDown, LeftArrow, RightArrow, UpArrow, DownArrow, ApplicationLeftArrow, ApplicationRightArrow, ApplicationUpArrow, ApplicationDownArrow, Function}
@@ -112,9 +112,9 @@ action_of (Paste text) = Some (InsertText 1 text)
 action_of (Resized cols rows) = None
 action_of Wake = None
 
--- a text was pasted
+-- a text was pasted that is not empty
 abbrev pub IsPaste : EventView → Type 0
-IsPaste (Paste text) = ⊤
+IsPaste (Paste text) = text ≢ []
 IsPaste (Key k) = ⊥
 IsPaste (Resized cols rows) = ⊥
 IsPaste Wake = ⊥

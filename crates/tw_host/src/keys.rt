@@ -1,6 +1,6 @@
 //! The key table: what each key does.
 
-ghost use Rattle.std.specs.Prelude.{◌≡◌, IfOk, OnErr};
+ghost use Rattle.std.specs.Prelude.{◌≡◌, [], IfOk, IsOk, OnErr, string_bytes};
 ghost use Rattle.std.specs.Option.{option_map};
 ghost use Rattle.tw_input.specs.EventView.{event_view};
 ghost use Rattle.tw_input.specs.Modifiers.{none, alt, ctrl};
@@ -15,7 +15,8 @@ use tw_line::Movement;
 #[cfg(test)]
 mod tests;
 
-/// The action that the key table has for an event, if it has one. It takes memory for a `Paste` alone.
+/// The action that the key table has for an event, if it has one. It takes memory for a `Paste` alone, whose text is
+/// not empty.
 pub fn default_action(alloc: Global, event: &InputEvent) -> Result<Option<Action>, AllocError>
     ensures action { IfOk result (λ action.
         option_map action_view action ≡ action_of (event_view event.now)) }
@@ -23,12 +24,19 @@ pub fn default_action(alloc: Global, event: &InputEvent) -> Result<Option<Action
 {
     Ok(match event {
         InputEvent::Key(event) => key_action(*event),
-        InputEvent::Paste(text) => Some(Action::InsertText(
-            1,
-            String::from_str(alloc, text.as_str())?,
-        )),
+        InputEvent::Paste(text) => Some(Action::InsertText(1, copy_of(alloc, text.as_str())?)),
         InputEvent::Resized { .. } | InputEvent::Wake => None,
     })
+}
+
+/// A copy of the text. The empty one takes no memory.
+fn copy_of(alloc: Global, text: &str) -> Result<String, AllocError>
+    ensures ok { IfOk result (λ copy. string_bytes copy ≡ text.now) }
+    ensures empty { text.now ≡ [] → IsOk result }
+{
+    let mut copy = String::new(alloc);
+    copy.push_str(text)?;
+    Ok(copy)
 }
 
 /// The action of a key, whose modifiers must be exactly those of its row.

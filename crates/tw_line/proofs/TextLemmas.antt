@@ -1,13 +1,13 @@
 -- A text's list of the starts of its characters.
-use Rattle.std.proofs.Common.{◌≡◌, ℕ, ◌+◌, ◌^◌, ◌<◌, ◌≤◌, All, length, drop, slice_index, slice_index_or, vec_len, sym, ap, subst, ◌∙◌, arith}
+use Rattle.std.proofs.Common.{◌≡◌, ◌≢◌, ℕ, ◌+◌, ◌^◌, ◌<◌, ◌≤◌, ⊎_elim, All, List, [], length, drop, slice_index, slice_index_or, vec_len, sym, ap, subst, ◌∙◌, arith}
 use Rattle.std.proofs.lemmas.List.{get_or_read}
 use Rattle.std.proofs.lemmas.List.Elements.{All-drop}
 use Rattle.std.proofs.lemmas.Str.{IsUtf8-string_bytes}
 use Rattle.std.specs.List.Sorted.{IsStrictlyIncreasing}
-use Rattle.std.specs.Str.{IsUtf8, IsCharBoundary}
+use Rattle.std.specs.Str.{chars, IsUtf8, IsCharBoundary}
 use Rattle.tw_line.specs.Indices.{offset_of}
 use Rattle.tw_line.specs.Starts.{starts_of}
-use Rattle.tw_line.specs.Text.{bytes_of, chars_of, index_in, room_of, places_of}
+use Rattle.tw_line.specs.Text.{bytes_of, chars_of, index_in, room_of, places_of, LacksRoom}
 use Rattle.tw_line.specs.declared.text.Text.{Text}
 use Rattle.tw_line.proofs.StartsLemmas.{length-starts_from, IsStrictlyIncreasing-starts_from, start_is, starts_of-inside, drop-starts_of, starts_from-above}
 
@@ -53,3 +53,11 @@ room-enough t = omega (arith, t.line.bytes.ok.0, t.line.bytes.ok.1)
 -- and places for the starts of its characters
 pub places-enough : (t : Text) → length (chars_of t) ≤ places_of t
 places-enough t = omega (arith, starts-count t, t.starts.ok.1)
+
+-- room is lacking for a text that is not empty alone
+pub lacks-some : (t : Text) (text : List ℕ) → LacksRoom (length text) (length (chars text)) t → text ≢ []
+unfolding chars
+lacks-some t text lacks empty =
+    let bytes : length text ≡ 0 = ap length empty in
+    let characters : length (chars text) ≡ 0 = ap (λ s. length (chars s)) empty in
+    ⊎_elim (λ full. omega (arith, room-enough t)) (λ full. omega (arith, places-enough t)) lacks

@@ -50,21 +50,23 @@ impl LineEditBuffer {
         }
     }
 
-    /// A line with its cursor at the byte offset `cursor`, a boundary of the line.
+    /// A line with its cursor at the byte offset `cursor`, a boundary of the line. The empty line takes no memory.
     pub fn new(alloc: Global, line: &str, cursor: usize) -> Result<Self, AllocError>
         requires { IsCharBoundary line.now cursor }
-        ensures { IfOk result (λ b. b ≡ cut_at line.now cursor) }
+        ensures ok { IfOk result (λ b. b ≡ cut_at line.now cursor) }
+        ensures empty { line.now ≡ [] → IsOk result }
     {
         let line = Text::from_str(alloc, line)?;
         Ok(LineEditBuffer { line, cursor })
     }
 
     /// Replaces the line, and sets the cursor to the byte offset `cursor`, a boundary of the new
-    /// line. Where it is refused the buffer is as it was.
+    /// line. Where it is refused the buffer is as it was. The empty line takes no memory.
     pub fn set_line_and_cursor(&mut self, line: &str, cursor: usize) -> Result<(), AllocError>
         requires { IsCharBoundary line.now cursor }
         ensures ok { OnOk result (self.new ≡ cut_at line.now cursor) }
         ensures err { OnErr result (self.new ≡ self.old) }
+        ensures empty { line.now ≡ [] → IsOk result }
     {
         self.line.set(line)?;
         self.cursor = cursor;
@@ -117,10 +119,11 @@ impl LineEditBuffer {
     }
 
     /// Inserts the text at the cursor, which goes behind it and so may stand inside a cluster.
-    /// Where it is refused the buffer is as it was.
+    /// Where it is refused the buffer is as it was. The empty text takes no memory.
     pub fn insert_text(&mut self, text: &str) -> Result<(), AllocError>
         ensures ok { OnOk result (self.new ≡ with_text text.now self.old) }
         ensures err { OnErr result (self.new ≡ self.old) }
+        ensures empty { text.now ≡ [] → IsOk result }
     {
         self.line.insert_text(self.cursor, text)?;
         self.cursor += text.len();
@@ -128,7 +131,8 @@ impl LineEditBuffer {
     }
 
     /// Inserts the character `count` times, or not at all: where it is refused the buffer is as it
-    /// was. It is refused before anything is inserted where the line would pass `isize::MAX` bytes.
+    /// was. It is refused before anything is inserted where the line would pass `isize::MAX` bytes. 0 times take
+    /// no memory.
     pub fn insert_char_times(&mut self, count: RepeatCount, c: char) -> Result<(), AllocError>
         ensures ok { OnOk result (self.new ≡ iterate (with_char c) count self.old) }
         ensures err { OnErr result (self.new ≡ self.old) }
@@ -155,7 +159,8 @@ impl LineEditBuffer {
     }
 
     /// Inserts the text `count` times, or not at all: where it is refused the buffer is as it was.
-    /// It is refused before anything is inserted where the line would pass `isize::MAX` bytes.
+    /// It is refused before anything is inserted where the line would pass `isize::MAX` bytes. 0 times, and the
+    /// empty text, take no memory.
     pub fn insert_text_times(&mut self, count: RepeatCount, text: &str) -> Result<(), AllocError>
         ensures ok { OnOk result (self.new ≡ iterate (with_text text.now) count self.old) }
         ensures err { OnErr result (self.new ≡ self.old) }

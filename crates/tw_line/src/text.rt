@@ -1,6 +1,6 @@
 //! The representation of a text: its bytes, and the byte offsets at which its characters start.
 
-ghost use Rattle.std.specs.Prelude.{◌≡◌, ◌+◌, ◌^◌, ◌<◌, ◌≤◌, [], encode_utf8, length, slice_index, OnOk, OnErr, IfOk};
+ghost use Rattle.std.specs.Prelude.{◌≡◌, ◌+◌, ◌^◌, ◌<◌, ◌≤◌, [], encode_utf8, length, slice_index, OnOk, OnErr, IfOk, IsOk};
 ghost use Rattle.std.specs.List.{insert_slice, remove_range};
 ghost use Rattle.std.specs.Str.{chars, IsCharBoundary};
 ghost use Rattle.std.specs.String.{string_bytes};
@@ -34,19 +34,21 @@ impl Text {
         }
     }
 
-    /// A copy of the text.
+    /// A copy of the text. The empty one takes no memory.
     pub fn from_str(alloc: Global, text: &str) -> Result<Self, AllocError>
-        ensures { IfOk result (λ t. bytes_of t ≡ text.now) }
+        ensures ok { IfOk result (λ t. bytes_of t ≡ text.now) }
+        ensures empty { text.now ≡ [] → IsOk result }
     {
         let mut made = Text::new(alloc);
         made.insert_text(0, text)?;
         Ok(made)
     }
 
-    /// Replaces the text.
+    /// Replaces the text. The empty one takes no memory.
     pub fn set(&mut self, text: &str) -> Result<(), AllocError>
         ensures ok { OnOk result (bytes_of self.new ≡ text.now) }
         ensures err { OnErr result (bytes_of self.new ≡ bytes_of self.old) }
+        ensures empty { text.now ≡ [] → IsOk result }
     {
         *self = Text::from_str(self.allocator(), text)?;
         Ok(())
@@ -106,7 +108,8 @@ impl Text {
         self.insert_text(at, c.encode_utf8(&mut [0; 4]))
     }
 
-    /// Inserts the text at the boundary `at`. It can be refused only where there is no room.
+    /// Inserts the text at the boundary `at`. It can be refused only where there is no room, and the empty text
+    /// takes none.
     pub fn insert_text(&mut self, at: usize, text: &str) -> Result<(), AllocError>
         requires { IsCharBoundary (bytes_of self.old) at }
         ensures ok { OnOk result (bytes_of self.new ≡ insert_slice (bytes_of self.old) at text.now) }
@@ -114,6 +117,7 @@ impl Text {
         ensures room { room_of self.old ≤ room_of self.new }
         ensures places { places_of self.old ≤ places_of self.new }
         ensures full { OnErr result (LacksRoom (length text.now) (length (chars text.now)) self.old) }
+        ensures empty { text.now ≡ [] → IsOk result }
     {
         self.reserve(text.len(), text.chars().count())?;
         let index = self.index_of(at);

@@ -7,6 +7,7 @@ use Rattle.tw_surface.specs.Paintings.{Mark, closing}
 use Rattle.tw_surface.specs.PaintingBatches.{closing_if}
 use Rattle.tw_terminal.specs.TerminalState.{TerminalState, count_up, RenderFails}
 use Rattle.tw_host.specs.HostRules.{HostRules}
+use Rattle.tw_host.specs.declared.host.Overrides.{Overrides}
 use Rattle.tw_painter.specs.EditState.{EditState, Inactive}
 use Rattle.tw_painter.specs.Refusal.{Refusal, refusal_of, IsMemory}
 use Rattle.tw_session.specs.Outcomes.{Outcome, answer_at, IsLine, IsRefusal}
@@ -254,17 +255,18 @@ module _ {V : Type 0} (rules : HostRules V) (initial : Option (List ℕ)) (f : F
   pub begun_given_up : (h g : Frame V) (x e : Error) → IsNotBegun rules initial f h x → GivesUp x h g e → FailsToBegin rules initial f g e
   begun_given_up h g x e r c = gives_up_refused (begun_run rules initial f) (WantsToBegin rules initial f) (FaultsToBegin rules initial f) f h g x e r c
 
-  -- a call is answered, and the closing is refused
-  pub answered_unclosed : (h g : Frame V) (answer : Outcome) (e : Error) → IsAnswered rules (start initial f) h answer → FailsToClose h g e → FailsToRead rules initial f g e
-  answered_unclosed h g answer e a c = ended_unclosed (run_of rules (start initial f)) (Starves rules initial f) (Faults rules initial f) (Halts rules initial f) f h g answer e (inl refl) a.run (record { flushed = a.quiet.flushed; failures = a.quiet.failures }) c
-
   -- a call is answered, and closed
   pub answered_closed : (h g : Frame V) (answer : Outcome) → IsAnswered rules (start initial f) h answer → Closes h g → Reads (run_of rules (start initial f)) f g answer
   answered_closed h g answer a c = reads (run_of rules (start initial f)) f h g answer a.run (record { flushed = a.quiet.flushed; failures = a.quiet.failures }) c
 
+module _ {V : Type 0} (rules : HostRules V) (overrides : Overrides) (initial : Option (List ℕ)) (f : Frame V) where
+  -- a call is answered, and the closing is refused
+  pub answered_unclosed : (h g : Frame V) (answer : Outcome) (e : Error) → IsAnswered rules (start initial f) h answer → FailsToClose h g e → FailsToRead rules overrides initial f g e
+  answered_unclosed h g answer e a c = ended_unclosed (run_of rules (start initial f)) (Starves rules overrides initial f) (Faults rules overrides initial f) (Halts rules overrides initial f) f h g answer e (inl refl) a.run (record { flushed = a.quiet.flushed; failures = a.quiet.failures }) c
+
   -- a call is refused, and closed
-  pub call_given_up : (h g : Frame V) (x e : Error) → IsTurnedDown rules initial f h x → GivesUp x h g e → FailsToRead rules initial f g e
-  call_given_up h g x e r c = gives_up (run_of rules (start initial f)) (Starves rules initial f) (Faults rules initial f) (Halts rules initial f) f (λ m can. inr can) (λ is. inl refl) h g x e r c
+  pub call_given_up : (h g : Frame V) (x e : Error) → IsTurnedDown rules overrides initial f h x → GivesUp x h g e → FailsToRead rules overrides initial f g e
+  call_given_up h g x e r c = gives_up (run_of rules (start initial f)) (Starves rules overrides initial f) (Faults rules overrides initial f) (Halts rules overrides initial f) f (λ m can. inr can) (λ is. inl refl) h g x e r c
 
 module _ {V : Type 0} (f : Frame V) where
   -- where a line is answered

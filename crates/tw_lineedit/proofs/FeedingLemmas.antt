@@ -9,13 +9,15 @@ use Rattle.tw_terminal.specs.TerminalState.{TerminalState, size_after}
 use Rattle.tw_terminal.specs.declared.terminal.ScreenSize.{ScreenSize}
 use Rattle.tw_host.specs.ActionView.{Repaint}
 use Rattle.tw_host.specs.HostRules.{HostRules}
+use Rattle.tw_host.specs.declared.host.Overrides.{Overrides}
 use Rattle.tw_painter.specs.EditState.{EditState, ModeView, Inactive, Editing, Searching}
 use Rattle.tw_painter.specs.Refusal.{Refusal, refusal_of}
 use Rattle.tw_painter.specs.Painting.{Rendering}
 use Rattle.tw_painter.specs.declared.error.Error.{Error}
 use Rattle.tw_painter.specs.declared.error.Error.TheVariants.{Memory, Terminal}
 use Rattle.tw_session.specs.Outcomes.{Outcome, is_over, is_open, answer_at}
-use Rattle.tw_session.specs.Steps.{clears_if, TakesMemory}
+use Rattle.tw_session.specs.Memory.{TakesMemory}
+use Rattle.tw_session.specs.Steps.{clears_if}
 use Rattle.tw_lineedit.specs.Frame.{Frame}
 use Rattle.tw_lineedit.specs.Run.{Progress, Ending, Moment, Cause, want, fault, run, run_of, ends, ending, at_end, after_event, chosen_action, resolution_of, after_action, state_after, after_resolution, after_taking, after_painting, painting_at, moment, progress_of, CanStop, StandsAt, Quiet, IsRefusedIn}
 use Rattle.tw_lineedit.specs.Run as stop
@@ -72,12 +74,6 @@ module _ {V : Type 0} (rules : HostRules V) where
   paint_refused f g e (same, h) =
       (ap (paint_end f.terminal.events (progress_of f)) h ∙ ap (ending (Err (refusal_of e))) (sym same), subst (λ (y : Frame V). Quiet f y) (sym same) (quiet_self f))
 
-  -- a moment at which a painting can be refused is one of the run
-  pub stops_unpainted : (c : Cause) (es : List EventView) (s : Progress V) (m : Moment V) → CanMiss rules c es s m → CanStop rules c es s m
-  stops_unpainted c es s m unmeasured = stop.unmeasured
-  stops_unpainted c es s m (unpainted sized) = stop.unpainted sized
-  stops_unpainted c es s m (half_painted h) = stop.half_painted h
-
   -- a refusal of a painting ends the run
   refused_by : (es : List EventView) (s : Progress V) (r : Refusal) (g : Frame V) (p : Result Rendering Refusal) → painting_at rules s ≡ p → paint_end es s p ≡ ending (Err r) g → run rules es s ≡ ending (Err r) g
   refused_by es s r g (Err n) h at = run_unpainted es s n h ∙ at
@@ -93,20 +89,6 @@ module _ {V : Type 0} (rules : HostRules V) where
   run_painted [] s p h = ap (at_end rules s) h
   run_painted (e ∷ es) s p h = ap (stop.at_event rules e es s (run rules es)) h
 
-  -- a moment at which an event can be refused, behind a painting
-  stops_refused : (c : Cause) (e : EventView) (es : List EventView) (s : Progress V) (p : Rendering) (m : Moment V) → painting_at rules s ≡ Ok p → is_over s.state.mode ≡ false → CanRefuse rules c e es (after_painting s p) m → CanStop rules c (e ∷ es) s m
-  stops_refused c e es s p m h o unresolved = stop.unresolved h o
-  stops_refused c e es s p m h o (unapplied t) = stop.unapplied h o t
-  stops_refused c e es s p m h o (half_cleared r) = stop.half_cleared h o r
-  stops_refused c e es s p m h o (missed st r) = stop.later h o st (stops_unpainted c es _ m r)
-
-  -- a moment at which the run can be stopped behind its first painting
-  stops_painted : (c : Cause) (es : List EventView) (s : Progress V) (p : Rendering) (m : Moment V) → painting_at rules s ≡ Ok p → CanStopOn rules c es (after_painting s p) m → CanStop rules c es s m
-  stops_painted c es s p m h (unpolled o) = stop.unpolled h o
-  stops_painted c es s p m h (uncopied o l) = stop.uncopied h o l
-  stops_painted c es s p m h (at_event o (refused r)) = stops_refused c _ _ s p m h o r
-  stops_painted c es s p m h (at_event o (later st r)) = stop.later h o st r
-
   -- how far a painted frame has come
   painted_is : (f g : Frame V) (h : Paints rules f g) → progress_of g ≡ after_painting (progress_of f) h.picture.0
   painted_is f g h = same_progress (progress_of g) (after_painting (progress_of f) h.picture.0) h.state h.value
@@ -116,15 +98,9 @@ module _ {V : Type 0} (rules : HostRules V) where
   quiet_painted : (f g : Frame V) → Paints rules f g → Quiet f g
   quiet_painted f g p = record { flushed = ap (λ (t : TerminalState). t.flushed) p.picture.3; failures = ap (λ (t : TerminalState). t.failures) p.picture.3 }
 
-  -- the first painting
-  pub begins : (f g : Frame V) → Paints rules f g → Begins rules f g
-  begins f g h = record {
-    paints = h;
-    run = λ es. run_painted es (progress_of f) h.picture.0 h.picture.1 ∙ ap (run_on rules es) (sym (painted_is f g h));
-    stops = λ c es m r. stops_painted c es (progress_of f) h.picture.0 m h.picture.1 (subst (λ (s : Progress V). CanStopOn rules c es s m) (painted_is f g h) r);
-    quiet = quiet_painted f g h;
-    left = ap (λ (t : TerminalState). t.events) h.picture.3;
-  }
+  -- the run behind the first painting
+  run_begun : (f g : Frame V) → Paints rules f g → (es : List EventView) → run rules es (progress_of f) ≡ run_on rules es (progress_of g)
+  run_begun f g h es = run_painted es (progress_of f) h.picture.0 h.picture.1 ∙ ap (run_on rules es) (sym (painted_is f g h))
 
   -- an event
 
@@ -171,32 +147,17 @@ module _ {V : Type 0} (rules : HostRules V) where
       run_handled : is_over s.state.mode ≡ false → (es : List EventView) → run_on rules (e ∷ es) s ≡ run rules es (progress_of i)
       run_handled o es = run_taken e es s (Ok i.state) o leads ∙ ap (run rules es) (sym comes)
 
-      -- the run can be stopped where that from i can
-      stops_handled : (c : Cause) (es : List EventView) (m : Moment V) → CanStop rules c es (progress_of i) m → CanStopAt rules c e es s m
-      stops_handled c es m r = later leads (subst (λ (t : Progress V). CanStop rules c es t m) comes r)
-
-      -- the event can be refused where the painting of i can
-      stops_behind : (c : Cause) (es : List EventView) (m : Moment V) → CanMiss rules c es (progress_of i) m → CanRefuse rules c e es s m
-      stops_behind c es m r = missed leads (subst (λ (t : Progress V). CanMiss rules c es t m) comes r)
-
       -- the events left are the same
       left_handled : i.terminal.events ≡ h.terminal.events
       left_handled = ap (λ (t : TerminalState). t.events) a.terminal
 
     -- the run behind an event that is handled and painted
     pub run_advanced : is_over s.state.mode ≡ false → (g : Frame V) → Advances rules e h g → (es : List EventView) → run_on rules (e ∷ es) s ≡ run_on rules es (progress_of g)
-    run_advanced o g (i, a, p) es = run_handled i a o es ∙ (begins i g p).run es
-
-    pub stops_advanced : (g : Frame V) → Advances rules e h g → (c : Cause) (es : List EventView) (m : Moment V) → CanStopOn rules c es (progress_of g) m → CanStopAt rules c e es s m
-    stops_advanced g (i, a, p) c es m r = stops_handled i a c es m ((begins i g p).stops c es m r)
+    run_advanced o g (i, a, p) es = run_handled i a o es ∙ run_begun i g p es
 
     -- the frame h stands where the event is taken
     stands_taken : StandsAt (moment None h.terminal.events (after_taking s e)) h
     stands_taken = subst (λ (t : Progress V). StandsAt (moment None h.terminal.events t) h) at (stands_here h)
-
-    -- what a refusal leaves
-    abbrev Refused : Frame V → Error → Type 0
-    Refused g x = IsRefusedIn (fed_run rules e h.terminal.events s) (CanRefuse rules want e h.terminal.events s) (CanRefuse rules fault e h.terminal.events s) h g x
 
     -- the frame where the host has answered
     abbrev asked : Frame V
@@ -214,66 +175,13 @@ module _ {V : Type 0} (rules : HostRules V) where
     quiet_asked : Quiet h asked
     quiet_asked = record { flushed = refl; failures = refl }
 
-    -- the event is not handled
-    unhandled : (g : Frame V) (x : Error) → FailsToHandle rules e h g x → Refused g x
-    unhandled g (Memory y) r = elim r [
-      | inl same ↦ subst (λ (k : Frame V). Refused k (Memory y)) (sym same) ((moment None h.terminal.events (after_taking s e), unresolved, refl, stands_taken), quiet_self h)
-      | inr apart ↦ subst (λ (k : Frame V). Refused k (Memory y)) (sym apart.0) (
-        (
-          moment None h.terminal.events (after_resolution rules s e),
-          unapplied (subst (λ (t : Progress V). TakesMemory (chosen_action rules t e) t.state.mode) at apart.1),
-          refl,
-          subst (λ (t : Progress V). StandsAt (moment None h.terminal.events t) asked) comes_asked (stands_here asked),
-        ),
-        quiet_asked,
-      )
-    ]
-    unhandled g (Terminal y) r = (
-      (
-        moment (Some clear_batch) h.terminal.events (after_resolution rules s e),
-        half_cleared (subst (λ (t : Progress V). chosen_action rules t e ≡ Some Repaint) at r.0),
-        subst (λ (t : Progress V). StandsAt (moment (Some clear_batch) h.terminal.events t) g) comes_asked (stands_in_part clear_batch asked g r.1 r.2),
-      ),
-      fails_on h asked g quiet_asked (render_failed clear_batch asked g r.2),
-    )
-    unhandled g x r = subst (λ (k : Frame V). Refused k x) (sym r.0) (
-      ap (after_event rules e h.terminal.events s (painted_run rules h.terminal.events)) (subst (λ (t : Progress V). state_after rules t e ≡ Err (refusal_of x)) at r.1)
-          ∙ ap (ends (Err (refusal_of x)) h.terminal.events) (sym comes_asked),
-      quiet_asked,
-    )
-
-    -- what came of the event is not painted
-    refused_behind : (g : Frame V) (x : Error) (i : Frame V) → Handles rules e h i → FailsToPaint rules i g x → Refused g x
-    refused_behind g x i a p =
-        let same : fed_run rules e h.terminal.events s ≡ painted_run rules i.terminal.events (progress_of i) =
-        ap (after_event rules e h.terminal.events s (painted_run rules h.terminal.events)) (leads i a)
-        ∙ ap (painted_run rules h.terminal.events) (sym (comes i a))
-        ∙ ap (λ (es : List EventView). painted_run rules es (progress_of i)) (sym (left_handled i a)) in
-        refused_later
-        (fed_run rules e h.terminal.events s) (painted_run rules i.terminal.events (progress_of i))
-        (CanRefuse rules want e h.terminal.events s) (CanRefuse rules fault e h.terminal.events s)
-        (CanMiss rules want i.terminal.events (progress_of i)) (CanMiss rules fault i.terminal.events (progress_of i))
-        h i g
-        (λ n r. same ∙ r)
-        (λ m r. stops_behind i a want h.terminal.events m (subst (λ (es : List EventView). CanMiss rules want es (progress_of i) m) (left_handled i a) r))
-        (λ m r. stops_behind i a fault h.terminal.events m (subst (λ (es : List EventView). CanMiss rules fault es (progress_of i) m) (left_handled i a) r))
-        (quiet_handled h i e a)
-        x (paint_refused i g x p)
-
-    -- the event is not handled, or what came of it is not painted
-    pub refused_advance : (g : Frame V) (x : Error) → FailsToAdvance rules e h g x → Refused g x
-    refused_advance g x r = elim r [
-      | inl fails ↦ unhandled g x fails
-      | inr there ↦ refused_behind g x there.0 there.1 there.2
-    ]
-
   -- the handling and the painting of an event are quiet
   pub quiet_advanced : (e : EventView) (f g : Frame V) → Advances rules e f g → Quiet f g
   quiet_advanced e f g (i, a, p) = quiet_on f i g (quiet_handled f i e a) (quiet_painted i g p)
 
   -- and take no event
   pub left_advanced : (e : EventView) (f g : Frame V) → Advances rules e f g → g.terminal.events ≡ f.terminal.events
-  left_advanced e f g (i, a, p) = (begins i g p).left ∙ ap (λ (t : TerminalState). t.events) a.terminal
+  left_advanced e f g (i, a, p) = ap (λ (t : TerminalState). t.events) p.picture.3 ∙ ap (λ (t : TerminalState). t.events) a.terminal
 
   -- and don't close the line
   begun_advanced : (e : EventView) (f g : Frame V) → f.state.mode ≢ Inactive → Advances rules e f g → g.state.mode ≢ Inactive
@@ -285,37 +193,6 @@ module _ {V : Type 0} (rules : HostRules V) where
   at_own_size : (f : Frame V) (e : EventView) → size_after e f.terminal.size ≡ f.terminal.size → progress_of f ≡ after_taking (progress_of f) e
   at_own_size f e told = ap (λ (z : ScreenSize). let r : Progress V = record (progress_of f) { size = z } in r) (sym told)
 
-  -- An event that is fed has the size that the terminal has already.
-  pub fed : (e : EventView) (f g : Frame V) → size_after e f.terminal.size ≡ f.terminal.size → is_open f.state.mode ≡ true → Advances rules e f g → IsFed rules e f g
-  fed e f g told o a =
-      let at : progress_of f ≡ after_taking (progress_of f) e = at_own_size f e told in
-      let goes : is_over f.state.mode ≡ false = open_goes_on f.state.mode o in
-      record {
-        advances = a;
-        run = run_advanced (progress_of f) e f at goes g a;
-        stops = stops_advanced (progress_of f) e f at g a;
-        begun = begun_advanced e f g (open_is_begun f.state.mode o) a;
-        quiet = quiet_advanced e f g a;
-        left = left_advanced e f g a;
-      }
-
-  -- an event is refused, and the line is closed
-  pub fed_given_up : (e : EventView) (f h g : Frame V) (x y : Error) → size_after e f.terminal.size ≡ f.terminal.size → FailsToAdvance rules e f h x → GivesUp x h g y → FailsToFeed rules e f g y
-  fed_given_up e f h g x y told r c = gives_up_refused (event_run rules e f) (WantsToFeed rules e f) (FaultsToFeed rules e f) f h g x y
-      (refused_advance (progress_of f) e f (at_own_size f e told) h x r) c
-
-  -- a line whose beginning is refused is turned down
-  pub turned_down : (initial : Option (List ℕ)) (f h : Frame V) (e : Error) → IsNotBegun rules initial f h e → IsTurnedDown rules initial f h e
-  turned_down initial f h e r = refused_later (run_of rules (start initial f)) (begun_run rules initial f)
-      (call.Starves rules initial f) (call.Faults rules initial f) (WantsToBegin rules initial f) (FaultsToBegin rules initial f) f f h
-      (λ n at. refused_painting f.terminal.events (progress_of (start initial f)) n h at)
-      (λ m can. elim can [
-        | inl miss ↦ inl (stops_unpainted want f.terminal.events (progress_of (start initial f)) m miss)
-        | inr given ↦ inr given
-      ])
-      (λ m can. stops_unpainted fault f.terminal.events (progress_of (start initial f)) m can)
-      (quiet_self f) e r
-
   -- the first painting of a line is refused
   unbegun_at_start : (initial : Option (List ℕ)) (f h : Frame V) (e : Error) → FailsToPaint rules (start initial f) h e → IsNotBegun rules initial f h e
   unbegun_at_start initial f h e p = refused_later (begun_run rules initial f) (begun_run rules initial f)
@@ -323,11 +200,6 @@ module _ {V : Type 0} (rules : HostRules V) where
       f (start initial f) h (λ n at. at) (λ m can. inl can) (λ m can. can) (record { flushed = refl; failures = refl }) e (paint_refused (start initial f) h e p)
 
   -- how a part that comes last is answered
-
-  -- the first painting
-  pub begins_if : (A : Type 0) (answer : Result A Error) (f g h : Frame V) → g ≡ f → OnOk answer (Paints rules g h) → OnOk answer (Begins rules f h)
-  begins_if A (Ok x) f g h same p = subst (λ (y : Frame V). Begins rules y h) same (begins g h p)
-  begins_if A (Err e) f g h same p = tt
 
   -- the first painting is refused
   pub not_begun_if : (A : Type 0) (answer : Result A Error) (initial : Option (List ℕ)) (f g h : Frame V) → g ≡ start initial f → IfErr answer (FailsToPaint rules g h) → IfErr answer (IsNotBegun rules initial f h)
@@ -339,7 +211,147 @@ module _ {V : Type 0} (rules : HostRules V) where
   advances_if A (Ok x) e f g h a p = (g, a, p)
   advances_if A (Err y) e f g h a p = tt
 
+module _ {V : Type 0} (rules : HostRules V) (overrides : Overrides) where
+  -- a moment at which a painting can be refused is one of the run
+  pub stops_unpainted : (c : Cause) (es : List EventView) (s : Progress V) (m : Moment V) → CanMiss rules c es s m → CanStop rules overrides c es s m
+  stops_unpainted c es s m unmeasured = stop.unmeasured
+  stops_unpainted c es s m (unpainted sized) = stop.unpainted sized
+  stops_unpainted c es s m (half_painted h) = stop.half_painted h
+
+  -- a moment at which an event can be refused, behind a painting
+  stops_refused : (c : Cause) (e : EventView) (es : List EventView) (s : Progress V) (p : Rendering) (m : Moment V) → painting_at rules s ≡ Ok p → is_over s.state.mode ≡ false → CanRefuse rules overrides c e es (after_painting s p) m → CanStop rules overrides c (e ∷ es) s m
+  stops_refused c e es s p m h o (unresolved own) = stop.unresolved h o own
+  stops_refused c e es s p m h o (unapplied t) = stop.unapplied h o t
+  stops_refused c e es s p m h o (half_cleared r) = stop.half_cleared h o r
+  stops_refused c e es s p m h o (missed st r) = stop.later h o st (stops_unpainted c es _ m r)
+
+  -- a moment at which the run can be stopped behind its first painting
+  stops_painted : (c : Cause) (es : List EventView) (s : Progress V) (p : Rendering) (m : Moment V) → painting_at rules s ≡ Ok p → CanStopOn rules overrides c es (after_painting s p) m → CanStop rules overrides c es s m
+  stops_painted c es s p m h (unpolled o) = stop.unpolled h o
+  stops_painted c es s p m h (uncopied o l) = stop.uncopied h o l
+  stops_painted c es s p m h (at_event o (refused r)) = stops_refused c _ _ s p m h o r
+  stops_painted c es s p m h (at_event o (later st r)) = stop.later h o st r
+
+  -- the first painting
+  pub begins : (f g : Frame V) → Paints rules f g → Begins rules overrides f g
+  begins f g h = record {
+    paints = h;
+    run = run_begun rules f g h;
+    stops = λ c es m r. stops_painted c es (progress_of f) h.picture.0 m h.picture.1 (subst (λ (s : Progress V). CanStopOn rules overrides c es s m) (painted_is rules f g h) r);
+    quiet = quiet_painted rules f g h;
+    left = ap (λ (t : TerminalState). t.events) h.picture.3;
+  }
+
+  -- A run that was painted at s takes the event, and then the frame h handles it.
+  module _ (s : Progress V) (e : EventView) (h : Frame V) (at : progress_of h ≡ after_taking s e) where
+    module _ (i : Frame V) (a : Handles rules e h i) where
+      -- the run can be stopped where that from i can
+      stops_handled : (c : Cause) (es : List EventView) (m : Moment V) → CanStop rules overrides c es (progress_of i) m → CanStopAt rules overrides c e es s m
+      stops_handled c es m r = later (leads rules s e h at i a) (subst (λ (t : Progress V). CanStop rules overrides c es t m) (comes rules s e h at i a) r)
+
+      -- the event can be refused where the painting of i can
+      stops_behind : (c : Cause) (es : List EventView) (m : Moment V) → CanMiss rules c es (progress_of i) m → CanRefuse rules overrides c e es s m
+      stops_behind c es m r = missed (leads rules s e h at i a) (subst (λ (t : Progress V). CanMiss rules c es t m) (comes rules s e h at i a) r)
+
+    pub stops_advanced : (g : Frame V) → Advances rules e h g → (c : Cause) (es : List EventView) (m : Moment V) → CanStopOn rules overrides c es (progress_of g) m → CanStopAt rules overrides c e es s m
+    stops_advanced g (i, a, p) c es m r = stops_handled i a c es m ((begins i g p).stops c es m r)
+
+    -- what a refusal leaves
+    abbrev Refused : Frame V → Error → Type 0
+    Refused g x = IsRefusedIn (fed_run rules e h.terminal.events s) (CanRefuse rules overrides want e h.terminal.events s) (CanRefuse rules overrides fault e h.terminal.events s) h g x
+
+    -- the event is not handled
+    unhandled : (g : Frame V) (x : Error) → FailsToHandle rules overrides e h g x → Refused g x
+    unhandled g (Memory y) r = elim r [
+      | inl own ↦ subst (λ (k : Frame V). Refused k (Memory y)) (sym own.0) ((moment None h.terminal.events (after_taking s e), unresolved own.1, refl, stands_taken rules s e h at), quiet_self h)
+      | inr apart ↦ subst (λ (k : Frame V). Refused k (Memory y)) (sym apart.0) (
+        (
+          moment None h.terminal.events (after_resolution rules s e),
+          unapplied (subst (λ (t : Progress V). TakesMemory rules overrides (after_resolution rules t e).value (chosen_action rules t e) (after_resolution rules t e).state) at apart.1),
+          refl,
+          subst (λ (t : Progress V). StandsAt (moment None h.terminal.events t) (asked rules s e h at)) (comes_asked rules s e h at) (stands_here (asked rules s e h at)),
+        ),
+        quiet_asked rules s e h at,
+      )
+    ]
+    unhandled g (Terminal y) r = (
+      (
+        moment (Some clear_batch) h.terminal.events (after_resolution rules s e),
+        half_cleared (subst (λ (t : Progress V). chosen_action rules t e ≡ Some Repaint) at r.0),
+        subst (λ (t : Progress V). StandsAt (moment (Some clear_batch) h.terminal.events t) g) (comes_asked rules s e h at) (stands_in_part clear_batch (asked rules s e h at) g r.1 r.2),
+      ),
+      fails_on h (asked rules s e h at) g (quiet_asked rules s e h at) (render_failed clear_batch (asked rules s e h at) g r.2),
+    )
+    unhandled g x r = subst (λ (k : Frame V). Refused k x) (sym r.0) (
+      ap (after_event rules e h.terminal.events s (painted_run rules h.terminal.events)) (subst (λ (t : Progress V). state_after rules t e ≡ Err (refusal_of x)) at r.1)
+          ∙ ap (ends (Err (refusal_of x)) h.terminal.events) (sym (comes_asked rules s e h at)),
+      quiet_asked rules s e h at,
+    )
+
+    -- what came of the event is not painted
+    refused_behind : (g : Frame V) (x : Error) (i : Frame V) → Handles rules e h i → FailsToPaint rules i g x → Refused g x
+    refused_behind g x i a p =
+        let same : fed_run rules e h.terminal.events s ≡ painted_run rules i.terminal.events (progress_of i) =
+        ap (after_event rules e h.terminal.events s (painted_run rules h.terminal.events)) (leads rules s e h at i a)
+        ∙ ap (painted_run rules h.terminal.events) (sym (comes rules s e h at i a))
+        ∙ ap (λ (es : List EventView). painted_run rules es (progress_of i)) (sym (left_handled rules s e h at i a)) in
+        refused_later
+        (fed_run rules e h.terminal.events s) (painted_run rules i.terminal.events (progress_of i))
+        (CanRefuse rules overrides want e h.terminal.events s) (CanRefuse rules overrides fault e h.terminal.events s)
+        (CanMiss rules want i.terminal.events (progress_of i)) (CanMiss rules fault i.terminal.events (progress_of i))
+        h i g
+        (λ n r. same ∙ r)
+        (λ m r. stops_behind i a want h.terminal.events m (subst (λ (es : List EventView). CanMiss rules want es (progress_of i) m) (left_handled rules s e h at i a) r))
+        (λ m r. stops_behind i a fault h.terminal.events m (subst (λ (es : List EventView). CanMiss rules fault es (progress_of i) m) (left_handled rules s e h at i a) r))
+        (quiet_handled rules h i e a)
+        x (paint_refused rules i g x p)
+
+    -- the event is not handled, or what came of it is not painted
+    pub refused_advance : (g : Frame V) (x : Error) → FailsToAdvance rules overrides e h g x → Refused g x
+    refused_advance g x r = elim r [
+      | inl fails ↦ unhandled g x fails
+      | inr there ↦ refused_behind g x there.0 there.1 there.2
+    ]
+
+  -- An event that is fed has the size that the terminal has already.
+  pub fed : (e : EventView) (f g : Frame V) → size_after e f.terminal.size ≡ f.terminal.size → is_open f.state.mode ≡ true → Advances rules e f g → IsFed rules overrides e f g
+  fed e f g told o a =
+      let at : progress_of f ≡ after_taking (progress_of f) e = at_own_size rules f e told in
+      let goes : is_over f.state.mode ≡ false = open_goes_on f.state.mode o in
+      record {
+        advances = a;
+        run = run_advanced rules (progress_of f) e f at goes g a;
+        stops = stops_advanced (progress_of f) e f at g a;
+        begun = begun_advanced rules e f g (open_is_begun f.state.mode o) a;
+        quiet = quiet_advanced rules e f g a;
+        left = left_advanced rules e f g a;
+      }
+
+  -- an event is refused, and the line is closed
+  pub fed_given_up : (e : EventView) (f h g : Frame V) (x y : Error) → size_after e f.terminal.size ≡ f.terminal.size → FailsToAdvance rules overrides e f h x → GivesUp x h g y → FailsToFeed rules overrides e f g y
+  fed_given_up e f h g x y told r c = gives_up_refused (event_run rules e f) (WantsToFeed rules overrides e f) (FaultsToFeed rules overrides e f) f h g x y
+      (refused_advance (progress_of f) e f (at_own_size rules f e told) h x r) c
+
+  -- a line whose beginning is refused is turned down
+  pub turned_down : (initial : Option (List ℕ)) (f h : Frame V) (e : Error) → IsNotBegun rules initial f h e → IsTurnedDown rules overrides initial f h e
+  turned_down initial f h e r = refused_later (run_of rules (start initial f)) (begun_run rules initial f)
+      (call.Starves rules overrides initial f) (call.Faults rules overrides initial f) (WantsToBegin rules initial f) (FaultsToBegin rules initial f) f f h
+      (λ n at. refused_painting rules f.terminal.events (progress_of (start initial f)) n h at)
+      (λ m can. elim can [
+        | inl miss ↦ inl (stops_unpainted want f.terminal.events (progress_of (start initial f)) m miss)
+        | inr given ↦ inr given
+      ])
+      (λ m can. stops_unpainted fault f.terminal.events (progress_of (start initial f)) m can)
+      (quiet_self f) e r
+
+  -- how a part that comes last is answered
+
+  -- the first painting
+  pub begins_if : (A : Type 0) (answer : Result A Error) (f g h : Frame V) → g ≡ f → OnOk answer (Paints rules g h) → OnOk answer (Begins rules overrides f h)
+  begins_if A (Ok x) f g h same p = subst (λ (y : Frame V). Begins rules overrides y h) same (begins g h p)
+  begins_if A (Err e) f g h same p = tt
+
   -- it is refused
-  pub stays_if : (A : Type 0) (answer : Result A Error) (e : EventView) (f g h : Frame V) → Handles rules e f g → IfErr answer (FailsToPaint rules g h) → IfErr answer (FailsToAdvance rules e f h)
+  pub stays_if : (A : Type 0) (answer : Result A Error) (e : EventView) (f g h : Frame V) → Handles rules e f g → IfErr answer (FailsToPaint rules g h) → IfErr answer (FailsToAdvance rules overrides e f h)
   stays_if A (Ok x) e f g h a p = tt
   stays_if A (Err y) e f g h a p = inr (g, a, p)

@@ -8,3 +8,4 @@ pub mod PaintLemmas
 pub mod ScreenRunLemmas
 pub mod StoppedLemmas
 pub mod ShownLemmas
+pub mod BeginningLemmas

@@ -7,6 +7,7 @@ use Rattle.tw_surface.specs.Pictures.{Picture}
 use Rattle.tw_surface.specs.PaintingBatches.{closing_if}
 use Rattle.tw_terminal.specs.TerminalState.{TerminalState}
 use Rattle.tw_host.specs.HostRules.{HostRules}
+use Rattle.tw_host.specs.declared.host.Overrides.{Overrides}
 use Rattle.tw_painter.specs.declared.error.Error.{Error}
 use Rattle.tw_painter.specs.declared.error.Error.TheVariants.{Memory, Terminal}
 use Rattle.tw_painter.specs.Refusal.{refusal_of}
@@ -105,26 +106,26 @@ module _ {V : Type 0} (rules : HostRules V) where
       ))
       (λ earlier station later comes none whole. absurd (whole is))
 
-  module _ (initial : Option (List ℕ)) (f : Frame V) where
+  module _ (overrides : Overrides) (initial : Option (List ℕ)) (f : Frame V) where
     abbrev begun : Frame V
     begun = start initial f
 
     holds_stopped : (m : Moment V) → Stopped rules begun.terminal.events false (progress_of begun) begun.terminal.batches m → HoldsUpTo begun m
     holds_stopped m st earlier station later comes far = first_stopped rules comes m st far
 
-    holds_starved : (m : Moment V) → Starves rules initial f m → HoldsUpTo begun m
-    holds_starved m (inl can) = holds_stopped m (stopped rules want begun.terminal.events false (progress_of begun) begun.terminal.batches m (sym (append-nil begun.terminal.batches)) can)
+    holds_starved : (m : Moment V) → Starves rules overrides initial f m → HoldsUpTo begun m
+    holds_starved m (inl can) = holds_stopped m (stopped rules overrides want begun.terminal.events false (progress_of begun) begun.terminal.batches m (sym (append-nil begun.terminal.batches)) can)
     holds_starved m (inr (some, same)) = subst (HoldsUpTo begun) (sym same) (λ earlier station later comes far. absurd (omega (arith, far)))
 
-    holds_faulted : (m : Moment V) → Faults rules initial f m → HoldsUpTo begun m
-    holds_faulted m can = holds_stopped m (stopped rules fault begun.terminal.events false (progress_of begun) begun.terminal.batches m (sym (append-nil begun.terminal.batches)) can)
+    holds_faulted : (m : Moment V) → Faults rules overrides initial f m → HoldsUpTo begun m
+    holds_faulted m can = holds_stopped m (stopped rules overrides fault begun.terminal.events false (progress_of begun) begun.terminal.batches m (sym (append-nil begun.terminal.batches)) can)
 
-    holds_halted : (m : Moment V) → Halts rules initial f m → HoldsUpTo begun m
+    holds_halted : (m : Moment V) → Halts rules overrides initial f m → HoldsUpTo begun m
     holds_halted m (inl same) = holds_final begun m same
     holds_halted m (inr (can, idle)) = holds_starved m can
 
     -- a call that was refused
-    pub shows_refused : {A : Type 0} (g : Frame V) (e : Error) → FailsToRead rules initial f g e → let result : Result A Error = Err e in Shows rules begun g result
+    pub shows_refused : {A : Type 0} (g : Frame V) (e : Error) → FailsToRead rules overrides initial f g e → let result : Result A Error = Err e in Shows rules begun g result
     shows_refused g (Memory x) (m, can, idle, closes, count) = shows_up_to begun g m (Err (Memory x)) tt (holds_starved m can) (ends m (closing_if m.mark) g closes.leaves)
     shows_refused g (Terminal x) (m, inl (can, closes, count)) = shows_up_to begun g m (Err (Terminal x)) tt (holds_faulted m can) (ends m (closing_if m.mark) g closes.leaves)
     shows_refused g (Terminal x) (m, inr (inl (can, closes, count))) = shows_up_to begun g m (Err (Terminal x)) tt (holds_faulted m can) (ends_badly m f g closes)
@@ -133,7 +134,7 @@ module _ {V : Type 0} (rules : HostRules V) where
 
     -- a call with its answer
     pub shows_call : {A : Type 0} (g : Frame V) (outcome : A → Outcome) (result : Result A Error)
-        → IfOk result (λ it. Reads (run_of rules begun) f g (outcome it)) → IfErr result (FailsToRead rules initial f g) → Shows rules begun g result
+        → IfOk result (λ it. Reads (run_of rules begun) f g (outcome it)) → IfErr result (FailsToRead rules overrides initial f g) → Shows rules begun g result
     shows_call g outcome (Ok it) ok err = shows_read begun f g (Ok it) (outcome it) ok
     shows_call g outcome (Err e) ok err = shows_refused g e err
 
@@ -152,13 +153,13 @@ module _ {V : Type 0} (rules : HostRules V) where
       fresh k = record { beginning = (k.beginning.0, ap (λ (t : TerminalState). t.batches) same ∙ k.beginning.1); fresh = k.fresh; above = k.above }
 
   -- a line that is begun
-  pub shows_begun : (f g : Frame V) → Begins rules f g → ShowsFirst rules f g
-  shows_begun f g b w station later before h =
+  pub shows_begun : (overrides : Overrides) (f g : Frame V) → Begins rules overrides f g → ShowsFirst rules f g
+  shows_begun overrides f g b w station later before h =
       let q = fresh_there rules f w [] station later before h in
       subst (λ (n : ℕ). ShowsFresh rules f g w n [] station before)
       (first_row-is rules f w [] station later before h false (first_not_cleared rules f station later h.stations))
       (record { beginning = ([], first_begun rules (comes_plainly rules h) b.paints); fresh = q.0; above = q.1 })
 
-  pub shows_begun_if : {A : Type 0} (f g : Frame V) (result : Result A Error) → OnOk result (Begins rules f g) → OnOk result (ShowsFirst rules f g)
-  shows_begun_if f g (Ok it) b = shows_begun f g b
-  shows_begun_if f g (Err e) b = b
+  pub shows_begun_if : (overrides : Overrides) {A : Type 0} (f g : Frame V) (result : Result A Error) → OnOk result (Begins rules overrides f g) → OnOk result (ShowsFirst rules f g)
+  shows_begun_if overrides f g (Ok it) b = shows_begun overrides f g b
+  shows_begun_if overrides f g (Err e) b = b

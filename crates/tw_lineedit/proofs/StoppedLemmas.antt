@@ -8,6 +8,7 @@ use Rattle.tw_surface.proofs.ShotLemmas.{batches_after-append}
 use Rattle.tw_input.specs.EventView.{EventView}
 use Rattle.tw_terminal.specs.TerminalState.{TerminalState}
 use Rattle.tw_host.specs.HostRules.{HostRules}
+use Rattle.tw_host.specs.declared.host.Overrides.{Overrides}
 use Rattle.tw_painter.specs.EditState.{EditState}
 use Rattle.tw_painter.specs.Painting.{Rendering, rendering_of}
 use Rattle.tw_painter.specs.Refusal.{Refusal}
@@ -130,16 +131,16 @@ module _ {V : Type 0} (rules : HostRules V) where
         enough = omega (arith, rest.enough);
       }
 
-  pub stopped : (c : Cause) (es : List EventView) (cleared : Bool) (s : Progress V) (base : List Batch) (m : Moment V) → s.taken ≡ base ++ clearing cleared → CanStop rules c es s m → Stopped es cleared s base m
-  stopped c es cleared s base m h (unmeasured) = nothing es cleared s base m h refl refl
-  stopped c es cleared s base m h (unpainted sized) = nothing es cleared s base m h refl refl
-  stopped c es cleared s base m h (half_painted k) = nothing es cleared s base m h refl refl
-  stopped c es cleared s base m h (unpolled k over) = one es cleared s base _ m k h refl (omega arith)
-  stopped c es cleared s base m h (uncopied k over line) = one es cleared s base _ m k h refl (omega arith)
-  stopped c es cleared s base m h (unresolved k over) = one es cleared s base _ m k h refl (omega arith)
-  stopped c es cleared s base m h (unapplied k over takes) = one es cleared s base _ m k h refl (omega arith)
-  stopped c es cleared s base m h (half_cleared k over repaint) = one es cleared s base _ m k h refl (omega arith)
-  stopped c (e ∷ es) cleared s base m h (later k over leads n) = more e es cleared s base _ _ m k over leads h (stopped c es _ _ _ m refl n)
+  pub stopped : (overrides : Overrides) (c : Cause) (es : List EventView) (cleared : Bool) (s : Progress V) (base : List Batch) (m : Moment V) → s.taken ≡ base ++ clearing cleared → CanStop rules overrides c es s m → Stopped es cleared s base m
+  stopped overrides c es cleared s base m h (unmeasured) = nothing es cleared s base m h refl refl
+  stopped overrides c es cleared s base m h (unpainted sized) = nothing es cleared s base m h refl refl
+  stopped overrides c es cleared s base m h (half_painted k) = nothing es cleared s base m h refl refl
+  stopped overrides c es cleared s base m h (unpolled k over) = one es cleared s base _ m k h refl (omega arith)
+  stopped overrides c es cleared s base m h (uncopied k over line) = one es cleared s base _ m k h refl (omega arith)
+  stopped overrides c es cleared s base m h (unresolved k over own) = one es cleared s base _ m k h refl (omega arith)
+  stopped overrides c es cleared s base m h (unapplied k over takes) = one es cleared s base _ m k h refl (omega arith)
+  stopped overrides c es cleared s base m h (half_cleared k over repaint) = one es cleared s base _ m k h refl (omega arith)
+  stopped overrides c (e ∷ es) cleared s base m h (later k over leads n) = more e es cleared s base _ _ m k over leads h (stopped overrides c es _ _ _ m refl n)
 
   -- where a station was painted before a run was stopped, its batches are the first that were taken
   pub first_stopped : {f : Frame V} {earlier : List (Station V)} {station : Station V} {behind : List (Station V)} → Comes rules f earlier station behind

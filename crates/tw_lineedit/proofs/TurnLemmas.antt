@@ -10,23 +10,24 @@ use Rattle.tw_lineedit.specs.EditorSteps.{CallFails, TakesEvent, HasNoEvent, Adv
 use Rattle.tw_painter.specs.declared.error.Error.{Error}
 use Rattle.tw_painter.specs.declared.error.Error.TheVariants.{Memory, Terminal}
 use Rattle.tw_host.specs.HostRules.{HostRules}
+use Rattle.tw_host.specs.declared.host.Overrides.{Overrides}
 use Rattle.tw_lineedit.specs.Feeding.{fed_run, run_on, CanRefuse, refused, CanStopOn, at_event, unpolled, uncopied, Begins, IsAnsweredOn, IsRefusedOn, Follows, Continues, IsEnded}
 use Rattle.tw_lineedit.specs.Reading.{start, Starves, Faults, IsTurnedDown}
 use Rattle.tw_lineedit.proofs.StandLemmas.{stands_here, stands_failed, quiet_self, quiet_on, failed, refused_later}
 use Rattle.tw_lineedit.proofs.FeedingLemmas.{refused_event, run_advanced, stops_advanced, refused_advance, quiet_advanced, left_advanced, same_progress}
 
-module _ {V : Type 0} (rules : HostRules V) where
+module _ {V : Type 0} (rules : HostRules V) (overrides : Overrides) where
   -- where the mode ends the run
   run_over : (es : List EventView) (s : Progress V) → is_over s.state.mode ≡ true → run_on rules es s ≡ ends (answer_at s.state) es s
   run_over [] s o = refl
   run_over (e ∷ es) s o = ap (λ (b : Bool). cond b (ends (answer_at s.state) (e ∷ es) s) (after_event rules e es s (run rules es) (state_after rules s e))) o
 
   -- the mode ends the run
-  pub over : (f : Frame V) → is_over f.state.mode ≡ true → IsEnded rules f f
+  pub over : (f : Frame V) → is_over f.state.mode ≡ true → IsEnded rules overrides f f
   over f o = record { run = run_over f.terminal.events (progress_of f) o; stops = λ l. uncopied (inl o) l; quiet = quiet_self f }
 
   -- the terminal refuses to tell an event
-  pub poll_refused : (f g : Frame V) (e : Error) → is_over f.state.mode ≡ false → CallFails f g e → IsRefusedOn rules f.terminal.events f g e
+  pub poll_refused : (f g : Frame V) (e : Error) → is_over f.state.mode ≡ false → CallFails f g e → IsRefusedOn rules overrides f.terminal.events f g e
   poll_refused f g (Terminal x) o (keeps, fails) = (
     (moment None f.terminal.events (progress_of f), unpolled o, stands_failed _ f g keeps fails (stands_here f)),
     failed f g fails,
@@ -34,8 +35,8 @@ module _ {V : Type 0} (rules : HostRules V) where
   poll_refused f g _ o bad = absurd bad
 
   -- no event is left
-  pub done : (f g : Frame V) → HasNoEvent f g → IsEnded rules f g
-  done f g t = subst (λ (y : Frame V). IsEnded rules f y) (sym t.same) (record {
+  pub done : (f g : Frame V) → HasNoEvent f g → IsEnded rules overrides f g
+  done f g t = subst (λ (y : Frame V). IsEnded rules overrides f y) (sym t.same) (record {
     run = subst (λ (es : List EventView). run_on rules es (progress_of f) ≡ ends (answer_at f.state) es (progress_of f)) (sym t.events) refl;
     stops = λ l. uncopied (inr t.events) l;
     quiet = quiet_self f;
@@ -53,20 +54,20 @@ module _ {V : Type 0} (rules : HostRules V) where
   quiet_taken f g e t = record { flushed = ap (λ (x : TerminalState). x.flushed) t.terminal.rest; failures = ap (λ (x : TerminalState). x.failures) t.terminal.rest }
 
   -- the event is refused
-  pub event_refused : (f g k : Frame V) (e : EventView) (x : Error) → is_over f.state.mode ≡ false → TakesEvent e f g → FailsToAdvance rules e g k x → IsRefusedOn rules f.terminal.events f k x
+  pub event_refused : (f g k : Frame V) (e : EventView) (x : Error) → is_over f.state.mode ≡ false → TakesEvent e f g → FailsToAdvance rules overrides e g k x → IsRefusedOn rules overrides f.terminal.events f k x
   event_refused f g k e x o t r =
       let taken : f.terminal.events ≡ e ∷ g.terminal.events = t.terminal.events in
       refused_later (run_on rules f.terminal.events (progress_of f)) (fed_run rules e g.terminal.events (progress_of f))
-      (CanStopOn rules want f.terminal.events (progress_of f)) (CanStopOn rules fault f.terminal.events (progress_of f)) (CanRefuse rules want e g.terminal.events (progress_of f)) (CanRefuse rules fault e g.terminal.events (progress_of f))
+      (CanStopOn rules overrides want f.terminal.events (progress_of f)) (CanStopOn rules overrides fault f.terminal.events (progress_of f)) (CanRefuse rules overrides want e g.terminal.events (progress_of f)) (CanRefuse rules overrides fault e g.terminal.events (progress_of f))
       f g k
       (λ n at. ap (λ (xs : List EventView). run_on rules xs (progress_of f)) taken ∙ refused_event rules e g.terminal.events (progress_of f) n k o at)
-      (λ m h. subst (λ (xs : List EventView). CanStopOn rules want xs (progress_of f) m) (sym taken) (at_event o (refused h)))
-      (λ m h. subst (λ (xs : List EventView). CanStopOn rules fault xs (progress_of f) m) (sym taken) (at_event o (refused h)))
+      (λ m h. subst (λ (xs : List EventView). CanStopOn rules overrides want xs (progress_of f) m) (sym taken) (at_event o (refused h)))
+      (λ m h. subst (λ (xs : List EventView). CanStopOn rules overrides fault xs (progress_of f) m) (sym taken) (at_event o (refused h)))
       (quiet_taken f g e t)
-      x (refused_advance rules (progress_of f) e g (taken_is f g e t) k x r)
+      x (refused_advance rules overrides (progress_of f) e g (taken_is f g e t) k x r)
 
   -- the run goes on
-  pub continues : (f g k : Frame V) (e : EventView) → is_over f.state.mode ≡ false → TakesEvent e f g → Advances rules e g k → Continues rules f k
+  pub continues : (f g k : Frame V) (e : EventView) → is_over f.state.mode ≡ false → TakesEvent e f g → Advances rules e g k → Continues rules overrides f k
   continues f g k e o t a =
       let left : k.terminal.events ≡ g.terminal.events = left_advanced rules e g k a in
       let taken : f.terminal.events ≡ e ∷ k.terminal.events = t.terminal.events ∙ ap (λ (xs : List EventView). e ∷ xs) (sym left) in
@@ -74,8 +75,8 @@ module _ {V : Type 0} (rules : HostRules V) where
         follows = record {
           run = ap (λ (xs : List EventView). run_on rules xs (progress_of f)) taken
               ∙ run_advanced rules (progress_of f) e g (taken_is f g e t) o k a k.terminal.events;
-          stops = λ c m h. subst (λ (xs : List EventView). CanStopOn rules c xs (progress_of f) m) (sym taken)
-              (at_event o (stops_advanced rules (progress_of f) e g (taken_is f g e t) k a c k.terminal.events m h));
+          stops = λ c m h. subst (λ (xs : List EventView). CanStopOn rules overrides c xs (progress_of f) m) (sym taken)
+              (at_event o (stops_advanced rules overrides (progress_of f) e g (taken_is f g e t) k a c k.terminal.events m h));
           quiet = quiet_on f g k (quiet_taken f g e t) (quiet_advanced rules e g k a);
         };
         fewer = rw taken (omega arith);
@@ -84,41 +85,41 @@ module _ {V : Type 0} (rules : HostRules V) where
   -- turns in a row
 
   -- the run ends later
-  pub ended_later : (f g h : Frame V) → Follows rules f g → IsEnded rules g h → IsEnded rules f h
+  pub ended_later : (f g h : Frame V) → Follows rules overrides f g → IsEnded rules overrides g h → IsEnded rules overrides f h
   ended_later f g h a b = record { run = a.run ∙ b.run; stops = λ l. a.stops want _ (b.stops l); quiet = quiet_on f g h a.quiet b.quiet }
 
   -- the run is refused later
-  pub turned_down_later : (f g h : Frame V) (e : Error) → Follows rules f g → IsRefusedOn rules g.terminal.events g h e → IsRefusedOn rules f.terminal.events f h e
+  pub turned_down_later : (f g h : Frame V) (e : Error) → Follows rules overrides f g → IsRefusedOn rules overrides g.terminal.events g h e → IsRefusedOn rules overrides f.terminal.events f h e
   turned_down_later f g h e a r = refused_later _ _ _ _ _ _ f g h (λ n at. a.run ∙ at) (a.stops want) (a.stops fault) a.quiet e r
 
   -- the answer was not copied
-  not_copied : (f g h : Frame V) (e : Error) → IsEnded rules f g → h ≡ g → IsMemory e → IsLine (answer_at g.state) → IsRefusedOn rules f.terminal.events f h e
-  not_copied f g h (Memory x) a same m l = subst (λ (y : Frame V). IsRefusedOn rules f.terminal.events f y (Memory x)) (sym same)
+  not_copied : (f g h : Frame V) (e : Error) → IsEnded rules overrides f g → h ≡ g → IsMemory e → IsLine (answer_at g.state) → IsRefusedOn rules overrides f.terminal.events f h e
+  not_copied f g h (Memory x) a same m l = subst (λ (y : Frame V). IsRefusedOn rules overrides f.terminal.events f y (Memory x)) (sym same)
       ((moment None g.terminal.events (progress_of g), a.stops l, refl, stands_here g), a.quiet)
   not_copied f g h _ a same bad l = absurd bad
 
   -- behind the first painting
 
   -- the run goes on from it
-  run_behind_first : (f g : Frame V) → Begins rules f g → run_of rules f ≡ run_on rules g.terminal.events (progress_of g)
+  run_behind_first : (f g : Frame V) → Begins rules overrides f g → run_of rules f ≡ run_on rules g.terminal.events (progress_of g)
   run_behind_first f g b = b.run f.terminal.events ∙ ap (λ (xs : List EventView). run_on rules xs (progress_of g)) (sym b.left)
 
   -- the run can be stopped behind it
-  stops_behind_first : (f g : Frame V) → Begins rules f g → (c : Cause) (m : Moment V) → CanStopOn rules c g.terminal.events (progress_of g) m → CanStopFrom rules c f m
-  stops_behind_first f g b c m h = b.stops c f.terminal.events m (subst (λ (xs : List EventView). CanStopOn rules c xs (progress_of g) m) b.left h)
+  stops_behind_first : (f g : Frame V) → Begins rules overrides f g → (c : Cause) (m : Moment V) → CanStopOn rules overrides c g.terminal.events (progress_of g) m → CanStopFrom rules overrides c f m
+  stops_behind_first f g b c m h = b.stops c f.terminal.events m (subst (λ (xs : List EventView). CanStopOn rules overrides c xs (progress_of g) m) b.left h)
 
   -- a line that was begun is answered
-  pub answered_begun : (initial : Option (List ℕ)) (f g h : Frame V) (answer : Outcome) → Begins rules (start initial f) g → IsAnsweredOn rules g h answer → IsAnswered rules (start initial f) h answer
+  pub answered_begun : (initial : Option (List ℕ)) (f g h : Frame V) (answer : Outcome) → Begins rules overrides (start initial f) g → IsAnsweredOn rules g h answer → IsAnswered rules (start initial f) h answer
   answered_begun initial f g h answer b a = record { run = run_behind_first (start initial f) g b ∙ a.run; quiet = quiet_on (start initial f) g h b.quiet a.quiet }
 
   -- a line that was begun is refused
-  pub refused_begun : (initial : Option (List ℕ)) (f g h : Frame V) → Begins rules (start initial f) g → (e : Error) → IsRefusedOn rules g.terminal.events g h e → IsTurnedDown rules initial f h e
+  pub refused_begun : (initial : Option (List ℕ)) (f g h : Frame V) → Begins rules overrides (start initial f) g → (e : Error) → IsRefusedOn rules overrides g.terminal.events g h e → IsTurnedDown rules overrides initial f h e
   refused_begun initial f g h b e r = refused_later (run_of rules (start initial f)) (run_on rules g.terminal.events (progress_of g))
-      (Starves rules initial f) (Faults rules initial f) (CanStopOn rules want g.terminal.events (progress_of g)) (CanStopOn rules fault g.terminal.events (progress_of g))
+      (Starves rules overrides initial f) (Faults rules overrides initial f) (CanStopOn rules overrides want g.terminal.events (progress_of g)) (CanStopOn rules overrides fault g.terminal.events (progress_of g))
       f g h (λ n at. run_behind_first (start initial f) g b ∙ at) (λ m can. inl (stops_behind_first (start initial f) g b want m can)) (stops_behind_first (start initial f) g b fault)
       (record { flushed = b.quiet.flushed; failures = b.quiet.failures }) e r
 
   -- how the answer that comes last is refused
-  pub not_copied_if : (A : Type 0) (answer : Result A Error) (f g h : Frame V) → IsEnded rules f g → h ≡ g → IfErr answer IsMemory → OnErr answer (IsLine (answer_at g.state)) → IfErr answer (IsRefusedOn rules f.terminal.events f h)
+  pub not_copied_if : (A : Type 0) (answer : Result A Error) (f g h : Frame V) → IsEnded rules overrides f g → h ≡ g → IfErr answer IsMemory → OnErr answer (IsLine (answer_at g.state)) → IfErr answer (IsRefusedOn rules overrides f.terminal.events f h)
   not_copied_if A (Ok x) f g h a same m l = tt
   not_copied_if A (Err e) f g h a same m l = not_copied f g h e a same m l

@@ -1,5 +1,5 @@
 -- What the parts of an editor do to its frame.
-use Rattle.std.specs.Prelude.{◌≡◌, ◌++◌, [], length, Option, Some, None, Ok, Err, ◌⊎◌}
+use Rattle.std.specs.Prelude.{◌≡◌, true, ◌++◌, [], length, Option, Some, None, Ok, Err, ◌⊎◌}
 use Rattle.tw_surface.specs.ChangeView.{Batch}
 use Rattle.tw_surface.specs.Paintings.{Mark, closing}
 use Rattle.tw_surface.specs.PaintingBatches.{closing_if, clear_batch}
@@ -7,9 +7,11 @@ use Rattle.tw_input.specs.EventView.{EventView}
 use Rattle.tw_terminal.specs.TerminalState.{Fails, Takes, Renders, RenderFails, count_up}
 use Rattle.tw_host.specs.ActionView.{ActionView, Repaint}
 use Rattle.tw_host.specs.HostRules.{HostRules}
+use Rattle.tw_host.specs.declared.host.Overrides.{Overrides}
 use Rattle.tw_painter.specs.EditState.{Inactive}
 use Rattle.tw_painter.specs.Refusal.{refusal_of}
-use Rattle.tw_session.specs.Steps.{apply_if, clears_if, TakesMemory}
+use Rattle.tw_session.specs.Memory.{TakesMemory}
+use Rattle.tw_session.specs.Steps.{apply_if, clears_if}
 use Rattle.tw_painter.specs.Painting.{Rendering}
 use Rattle.tw_lineedit.specs.Frame.{Frame}
 use Rattle.tw_lineedit.specs.Run.{progress_of, painting_at, chosen_action, after_resolution}
@@ -57,12 +59,6 @@ module _ {V : Type 0} (rules : HostRules V) where
     pub mark : g.mark ≡ f.mark
     pub terminal : g.terminal ≡ record f.terminal { batches = f.terminal.batches ++ clears_if a }
 
-  -- what a refused action leaves: all is as before, and only a Repaint has called the terminal
-  abbrev pub FailsToApply : Option ActionView → Frame V → Frame V → Error → Type 0
-  FailsToApply a f g (Memory e) = (g ≡ f) × TakesMemory a f.state.mode
-  FailsToApply a f g (Terminal e) = (a ≡ Some Repaint) × Keeps f g × RenderFails clear_batch f.terminal g.terminal
-  FailsToApply a f g e = (g ≡ f) × (apply_if rules f.value a f.state ≡ Err (refusal_of e))
-
   -- the painting of f was rendered, and its mark is kept
   pub record Paints (f g : Frame V) : Type 0 where
     pub picture : (p : Rendering) × (painting_at rules (progress_of f) ≡ Ok p) × (g.mark ≡ Some p.mark) × Renders p.changes f.terminal g.terminal
@@ -87,19 +83,26 @@ module _ {V : Type 0} (rules : HostRules V) where
   abbrev pub Handles : EventView → Frame V → Frame V → Type 0
   Handles e f g = Applies (chosen_action rules (progress_of f) e) (answered_frame e f) g
 
-  -- the event was not handled: the host refused, or the action
-  abbrev pub FailsToHandle : EventView → Frame V → Frame V → Error → Type 0
-  FailsToHandle e f g (Memory x) = (g ≡ f) ⊎ FailsToApply (chosen_action rules (progress_of f) e) (answered_frame e f) g (Memory x)
-  FailsToHandle e f g (Terminal x) = FailsToApply (chosen_action rules (progress_of f) e) (answered_frame e f) g (Terminal x)
-  FailsToHandle e f g x = FailsToApply (chosen_action rules (progress_of f) e) (answered_frame e f) g x
-
   -- the event was handled, and what came of it is painted
   abbrev pub Advances : EventView → Frame V → Frame V → Type 0
   Advances e f g = (h : Frame V) × Handles e f h × Paints h g
 
+module _ {V : Type 0} (rules : HostRules V) (overrides : Overrides) where
+  -- what a refused action leaves: all is as before, and only a Repaint has called the terminal
+  abbrev pub FailsToApply : Option ActionView → Frame V → Frame V → Error → Type 0
+  FailsToApply a f g (Memory e) = (g ≡ f) × TakesMemory rules overrides f.value a f.state
+  FailsToApply a f g (Terminal e) = (a ≡ Some Repaint) × Keeps f g × RenderFails clear_batch f.terminal g.terminal
+  FailsToApply a f g e = (g ≡ f) × (apply_if rules f.value a f.state ≡ Err (refusal_of e))
+
+  -- the event was not handled: a host that answers events for itself refused, or the action was refused
+  abbrev pub FailsToHandle : EventView → Frame V → Frame V → Error → Type 0
+  FailsToHandle e f g (Memory x) = ((g ≡ f) × (overrides.resolve_action ≡ true)) ⊎ FailsToApply (chosen_action rules (progress_of f) e) (answered_frame rules e f) g (Memory x)
+  FailsToHandle e f g (Terminal x) = FailsToApply (chosen_action rules (progress_of f) e) (answered_frame rules e f) g (Terminal x)
+  FailsToHandle e f g x = FailsToApply (chosen_action rules (progress_of f) e) (answered_frame rules e f) g x
+
   -- the event was not handled, or what came of it is not painted
   abbrev pub FailsToAdvance : EventView → Frame V → Frame V → Error → Type 0
-  FailsToAdvance e f g x = FailsToHandle e f g x ⊎ ((h : Frame V) × Handles e f h × FailsToPaint h g x)
+  FailsToAdvance e f g x = FailsToHandle e f g x ⊎ ((h : Frame V) × Handles rules e f h × FailsToPaint rules h g x)
 
 module _ {V : Type 0} where
   -- the editor is closed: its mode is Inactive, nothing is painted any more, and the closing batch is rendered and flushed

@@ -38,6 +38,7 @@ pub use Rattle.tw_session.specs.Search
 pub use Rattle.tw_session.specs.Completion
 pub use Rattle.tw_session.specs.Steps
 pub use Rattle.tw_session.specs.Edit
+pub use Rattle.tw_session.specs.Memory
 pub use Rattle.tw_session.specs.Outcomes
 pub use Rattle.tw_session.specs.SessionView
 pub use Rattle.tw_session.specs.HistoryLaws

@@ -6,6 +6,7 @@ use Rattle.tw_surface.specs.Paintings.{Mark, closing}
 use Rattle.tw_surface.specs.PaintingBatches.{closing_if}
 use Rattle.tw_terminal.specs.TerminalState.{count_up, IsPart}
 use Rattle.tw_host.specs.HostRules.{HostRules}
+use Rattle.tw_host.specs.declared.host.Overrides.{Overrides}
 use Rattle.tw_painter.specs.EditState.{Inactive}
 use Rattle.tw_session.specs.SessionView.{initial_cut, begun_state}
 use Rattle.tw_painter.specs.Refusal.{refusal_of}
@@ -93,14 +94,14 @@ module _ {V : Type 0} (run : Ending V) (Starves Faults Halts : Moment V → Type
   FailsIn g e = Reads run f g (Err (refusal_of e))
 
 -- A call on f with an initial value.
-module _ {V : Type 0} (rules : HostRules V) (initial : Option (List ℕ)) (f : Frame V) where
+module _ {V : Type 0} (rules : HostRules V) (overrides : Overrides) (initial : Option (List ℕ)) (f : Frame V) where
   -- where memory can be refused
   abbrev pub Starves : Moment V → Type 0
-  Starves m = CanStopFrom rules want (start initial f) m ⊎ (IsSome initial × (m ≡ unbegun f))
+  Starves m = CanStopFrom rules overrides want (start initial f) m ⊎ (IsSome initial × (m ≡ unbegun f))
 
   -- where the terminal can refuse a call before the closing
   abbrev pub Faults : Moment V → Type 0
-  Faults m = CanStopFrom rules fault (start initial f) m
+  Faults m = CanStopFrom rules overrides fault (start initial f) m
 
   -- where no call of the terminal was refused before the closing
   abbrev pub Halts : Moment V → Type 0

@@ -1,6 +1,7 @@
 -- What reading a line and adding it to the host's history leaves.
 use Rattle.std.specs.Prelude.{◌≡◌, ℕ, List, Option, Some, None, Ok, ◌⊎◌}
 use Rattle.tw_host.specs.HostRules.{HostRules}
+use Rattle.tw_host.specs.declared.host.Overrides.{Overrides}
 use Rattle.tw_history.specs.NearestMatch.{last_line}
 use Rattle.tw_lineedit.specs.Frame.{Frame}
 use Rattle.tw_lineedit.specs.Reading.{start, Reads, FailsToRead}
@@ -46,6 +47,7 @@ module _ {H Hist V : Type 0} (rules : HostRules V) (value : H → V) (history_of
       pub fails : FailsToRemember between new
       pub memory : IsMemory e
 
-    -- the reading was refused, or the adding
-    abbrev pub FailsToReadAndRemember : H → Error → Type 0
-    FailsToReadAndRemember new e = FailsToRead rules None f (at new) e ⊎ ReadsUnremembered new e
+module _ {H Hist V : Type 0} (rules : HostRules V) (overrides : Overrides) (value : H → V) (history_of : H → Hist) (with_history : H → Hist → H) (gives : Hist → List ℕ → Hist → Type 0) (f : Frame V) (at : H → Frame V) where
+  -- the reading was refused, or the adding
+  abbrev pub FailsToReadAndRemember : H → Error → Type 0
+  FailsToReadAndRemember new e = FailsToRead rules overrides None f (at new) e ⊎ ReadsUnremembered rules value history_of with_history gives f at new e

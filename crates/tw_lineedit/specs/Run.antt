@@ -8,12 +8,14 @@ use Rattle.tw_terminal.specs.TerminalState.{count_up, size_after, IsPart}
 use Rattle.tw_terminal.specs.declared.terminal.ScreenSize.{ScreenSize}
 use Rattle.tw_host.specs.ActionView.{ActionView}
 use Rattle.tw_host.specs.HostRules.{HostRules, Resolution, or_default}
+use Rattle.tw_host.specs.declared.host.Overrides.{Overrides}
 use Rattle.tw_host.specs.ActionView.{Repaint}
 use Rattle.tw_painter.specs.EditState.{EditState}
 use Rattle.tw_painter.specs.Refusal.{Refusal, refusal_of}
 use Rattle.tw_lineedit.specs.Frame.{Frame}
 use Rattle.tw_session.specs.Outcomes.{Outcome, answer_at, IsLine, is_over}
-use Rattle.tw_session.specs.Steps.{apply_if, clears_if, TakesMemory}
+use Rattle.tw_session.specs.Memory.{TakesMemory}
+use Rattle.tw_session.specs.Steps.{apply_if, clears_if}
 use Rattle.tw_painter.specs.Painting.{Rendering, rendering_of, painted_on, scene_of}
 use Rattle.tw_painter.specs.DrawSteps.{IsSized}
 use Rattle.tw_painter.specs.declared.error.Error.{Error}
@@ -124,6 +126,11 @@ module _ {V : Type 0} (rules : HostRules V) where
   run [] s = at_end s (painting_at s)
   run (e ∷ es) s = at_event e es s (run es) (painting_at s)
 
+  -- the run that begins at a frame
+  abbrev pub run_of : Frame V → Ending V
+  run_of f = run f.terminal.events (progress_of f)
+
+module _ {V : Type 0} (rules : HostRules V) (overrides : Overrides) where
   -- the moments at which a run can be stopped, by the cause
   pub data CanStop : Cause → List EventView → Progress V → Moment V → Type 0 where
     -- the size was not told
@@ -131,27 +138,27 @@ module _ {V : Type 0} (rules : HostRules V) where
     -- the painting found no memory; a size that is refused takes none
     unpainted : {es : List EventView} {s : Progress V} → IsSized s.size → CanStop want es s (moment None es s)
     -- the painting was not rendered
-    half_painted : {es : List EventView} {s : Progress V} {p : Rendering} → painting_at s ≡ Ok p → CanStop fault es s (moment (Some p.changes) es s)
+    half_painted : {es : List EventView} {s : Progress V} {p : Rendering} → painting_at rules s ≡ Ok p → CanStop fault es s (moment (Some p.changes) es s)
     -- no event was told
-    unpolled : {es : List EventView} {s : Progress V} {p : Rendering} → painting_at s ≡ Ok p → is_over s.state.mode ≡ false → CanStop fault es s (moment None es (after_painting s p))
+    unpolled : {es : List EventView} {s : Progress V} {p : Rendering} → painting_at rules s ≡ Ok p → is_over s.state.mode ≡ false → CanStop fault es s (moment None es (after_painting s p))
     -- the run ended with a line, and the line was not copied
-    uncopied : {es : List EventView} {s : Progress V} {p : Rendering} → painting_at s ≡ Ok p → (is_over s.state.mode ≡ true) ⊎ (es ≡ []) → IsLine (answer_at s.state) → CanStop want es s (moment None es (after_painting s p))
-    -- the host refused the event
-    unresolved : {e : EventView} {es : List EventView} {s : Progress V} {p : Rendering} → painting_at s ≡ Ok p → is_over s.state.mode ≡ false → CanStop want (e ∷ es) s (moment None es (after_taking (after_painting s p) e))
+    uncopied : {es : List EventView} {s : Progress V} {p : Rendering} → painting_at rules s ≡ Ok p → (is_over s.state.mode ≡ true) ⊎ (es ≡ []) → IsLine (answer_at s.state) → CanStop want es s (moment None es (after_painting s p))
+    -- a host that answers events for itself refused this one
+    unresolved : {e : EventView} {es : List EventView} {s : Progress V} {p : Rendering} → painting_at rules s ≡ Ok p → is_over s.state.mode ≡ false → overrides.resolve_action ≡ true → CanStop want (e ∷ es) s (moment None es (after_taking (after_painting s p) e))
     -- the action or its making was refused
-    unapplied : {e : EventView} {es : List EventView} {s : Progress V} {p : Rendering} → painting_at s ≡ Ok p → is_over s.state.mode ≡ false → TakesMemory (chosen_action s e) s.state.mode → CanStop want (e ∷ es) s (moment None es (after_resolution (after_painting s p) e))
+    unapplied : {e : EventView} {es : List EventView} {s : Progress V} {p : Rendering} → painting_at rules s ≡ Ok p → is_over s.state.mode ≡ false → TakesMemory rules overrides (after_resolution rules s e).value (chosen_action rules s e) (after_resolution rules s e).state → CanStop want (e ∷ es) s (moment None es (after_resolution rules (after_painting s p) e))
     -- the clearing of the screen was not rendered
-    half_cleared : {e : EventView} {es : List EventView} {s : Progress V} {p : Rendering} → painting_at s ≡ Ok p → is_over s.state.mode ≡ false → chosen_action s e ≡ Some Repaint → CanStop fault (e ∷ es) s (moment (Some clear_batch) es (after_resolution (after_painting s p) e))
+    half_cleared : {e : EventView} {es : List EventView} {s : Progress V} {p : Rendering} → painting_at rules s ≡ Ok p → is_over s.state.mode ≡ false → chosen_action rules s e ≡ Some Repaint → CanStop fault (e ∷ es) s (moment (Some clear_batch) es (after_resolution rules (after_painting s p) e))
     -- after the first painting
-    later : {c : Cause} {e : EventView} {es : List EventView} {s : Progress V} {p : Rendering} {state : EditState} {m : Moment V} → painting_at s ≡ Ok p → is_over s.state.mode ≡ false → state_after s e ≡ Ok state → CanStop c es (after_action (after_painting s p) e state) m → CanStop c (e ∷ es) s m
-
-  -- the run that begins at a frame
-  abbrev pub run_of : Frame V → Ending V
-  run_of f = run f.terminal.events (progress_of f)
+    later : {c : Cause} {e : EventView} {es : List EventView} {s : Progress V} {p : Rendering} {state : EditState} {m : Moment V} → painting_at rules s ≡ Ok p → is_over s.state.mode ≡ false → state_after rules s e ≡ Ok state → CanStop c es (after_action rules (after_painting s p) e state) m → CanStop c (e ∷ es) s m
 
   -- the moments at which that run can be stopped
   abbrev pub CanStopFrom : Cause → Frame V → Moment V → Type 0
   CanStopFrom c f m = CanStop c f.terminal.events (progress_of f) m
+
+  -- what was taken where a run is stopped is a beginning of what the run takes
+  abbrev pub StoppedRunsBegin : Type 0
+  StoppedRunsBegin = (c : Cause) (f : Frame V) (m : Moment V) → CanStopFrom c f m → (rest : List Batch) × ((run_of rules f).taken ≡ m.taken ++ rest)
 
 -- a beginning of what was being rendered, if anything was
 abbrev pub IsPartOf : Option Batch → List Batch → Type 0

@@ -1,6 +1,6 @@
 //! The editor: it reads events from a terminal, and shows the line on it.
 
-ghost use Rattle.std.specs.Prelude.{◌≡◌, ◌≢◌, Some, None, Ok, Err, IfOk, IfErr, IsOk, OnOk, OnErr, MatchOption, MatchBool, IsSome, option_map};
+ghost use Rattle.std.specs.Prelude.{◌≡◌, ◌≢◌, [], Some, None, Ok, Err, IfOk, IfErr, IsOk, OnOk, OnErr, MatchOption, MatchBool, IsSome, option_map, true};
 ghost use Rattle.std.specs.Borrow.{sem};
 ghost use Rattle.std.specs.Str.{IsCharBoundary};
 ghost use Rattle.tw_input.specs.EventView.{event_view};
@@ -89,13 +89,14 @@ impl<'term, T: Terminal> LineEditor<'term, T> {
     }
 
     /// Sets the line, and its cursor at a byte offset that is a boundary of it. Where it is refused nothing
-    /// is changed.
+    /// is changed. The empty line takes no memory.
     pub fn set_line_and_cursor(&mut self, line: &str, cursor: usize) -> Result<(), Error>
         requires { IsCharBoundary line.now cursor }
         ensures same_reference { self.new.terminal.ghost_name ≡ self.old.terminal.ghost_name }
         ensures terminal { self.new.terminal.now ≡ self.old.terminal.now }
         ensures ok { OnOk result (self.new.session ≡ on_state (λ state. record state { cut = cut_at line.now cursor }) self.old.session) }
         ensures err { OnErr result (self.new.session ≡ self.old.session) }
+        ensures empty { line.now ≡ [] → IsOk result }
         ensures memory { IfErr result IsMemory }
     {
         self.session.set_line_and_cursor(line, cursor)?;
@@ -135,7 +136,7 @@ impl<'term, T: Terminal> LineEditor<'term, T> {
             OnOk result (Applies H.rules (Some (action_view action)) before after) }
         ensures err { let before = frame T.state H.value self.old host.old in
             let after = frame T.state H.value self.new host.new in
-            IfErr result (FailsToApply H.rules (Some (action_view action)) before after) }
+            IfErr result (FailsToApply H.rules H.OVERRIDES (Some (action_view action)) before after) }
         ensures failures { FailuresTell result (T.state self.old.terminal.now).failures (T.state self.new.terminal.now).failures }
     {
         self.act(host, action)
@@ -152,7 +153,7 @@ impl<'term, T: Terminal> LineEditor<'term, T> {
             OnOk result (Applies H.rules (Some (action_view action)) before after) }
         ensures err { let before = frame T.state H.value self.old host.old in
             let after = frame T.state H.value self.new host.new in
-            IfErr result (FailsToApply H.rules (Some (action_view action)) before after) }
+            IfErr result (FailsToApply H.rules H.OVERRIDES (Some (action_view action)) before after) }
     {
         match action {
             Action::Repaint => {
@@ -171,7 +172,7 @@ impl<'term, T: Terminal> LineEditor<'term, T> {
             OnOk result (Handles H.rules (event_view event.now) before after) }
         ensures err { let before = frame T.state H.value self.old host.old in
             let after = frame T.state H.value self.new host.new in
-            IfErr result (FailsToHandle H.rules (event_view event.now) before after) }
+            IfErr result (FailsToHandle H.rules H.OVERRIDES (event_view event.now) before after) }
     {
         match self.resolve(host, event)? {
             Some(action) => self.act(host, action),
@@ -192,7 +193,7 @@ impl<'term, T: Terminal> LineEditor<'term, T> {
             OnOk result (Applies H.rules (action_of (event_view event.now)) before after) }
         ensures err { let before = frame T.state H.value self.old host.old in
             let after = frame T.state H.value self.new host.new in
-            IfErr result (FailsToApply H.rules (action_of (event_view event.now)) before after) }
+            IfErr result (FailsToApply H.rules H.OVERRIDES (action_of (event_view event.now)) before after) }
     {
         match default_action(self.session.alloc(), event)? {
             Some(action) => self.act(host, action),
@@ -214,6 +215,7 @@ impl<'term, T: Terminal> LineEditor<'term, T> {
             IfOk result (λ action. option_map action_view action
             ≡ (resolution_of H.rules (progress_of before) (event_view event.now)).action) }
         ensures err { OnErr result (frame T.state H.value self.new host.new ≡ frame T.state H.value self.old host.old) }
+        ensures own { OnErr result (H.OVERRIDES.resolve_action ≡ true) }
     {
         self.session.resolve(host, event)
     }
@@ -227,7 +229,7 @@ impl<'term, T: Terminal> LineEditor<'term, T> {
             OnOk result (Advances H.rules (event_view event.now) before after) }
         ensures err { let before = frame T.state H.value self.old host.old in
             let after = frame T.state H.value self.new host.new in
-            IfErr result (FailsToAdvance H.rules (event_view event.now) before after) }
+            IfErr result (FailsToAdvance H.rules H.OVERRIDES (event_view event.now) before after) }
     {
         self.handle(host, event)?;
         self.paint(host)
@@ -249,11 +251,11 @@ impl<'term, T: Terminal> LineEditor<'term, T> {
     fn turn<H: LineEditorHost>(&mut self, host: &mut H) -> Result<bool, Error>
         ensures same_reference { self.new.terminal.ghost_name ≡ self.old.terminal.ghost_name }
         ensures ok { IfOk result (λ more. MatchBool more
-            (Continues H.rules (frame T.state H.value self.old host.old) (frame T.state H.value self.new host.new))
-            (IsEnded H.rules (frame T.state H.value self.old host.old) (frame T.state H.value self.new host.new))) }
+            (Continues H.rules H.OVERRIDES (frame T.state H.value self.old host.old) (frame T.state H.value self.new host.new))
+            (IsEnded H.rules H.OVERRIDES (frame T.state H.value self.old host.old) (frame T.state H.value self.new host.new))) }
         ensures err { let before = frame T.state H.value self.old host.old in
             let after = frame T.state H.value self.new host.new in
-            IfErr result (IsRefusedOn H.rules (T.state self.old.terminal.now).events before after) }
+            IfErr result (IsRefusedOn H.rules H.OVERRIDES (T.state self.old.terminal.now).events before after) }
     {
         if self.session.is_over() {
             return Ok(false);
@@ -276,7 +278,7 @@ impl<'term, T: Terminal> LineEditor<'term, T> {
             IfOk result (λ it. IsAnsweredOn H.rules before after (outcome_of (Ok it))) }
         ensures err { let before = frame T.state H.value self.old host.old in
             let after = frame T.state H.value self.new host.new in
-            IfErr result (IsRefusedOn H.rules (T.state self.old.terminal.now).events before after) }
+            IfErr result (IsRefusedOn H.rules H.OVERRIDES (T.state self.old.terminal.now).events before after) }
     {
         while self.turn(host)? {}
         self.answer()
@@ -329,7 +331,7 @@ impl<'term, T: Terminal> LineEditor<'term, T> {
         ensures same_reference { self.new.terminal.ghost_name ≡ self.old.terminal.ghost_name }
         ensures ok { let before = frame T.state H.value self.old host.now in
             let after = frame T.state H.value self.new host.now in
-            OnOk result (Begins H.rules (start (initial_text initial.entry) before) after) }
+            OnOk result (Begins H.rules H.OVERRIDES (start (initial_text initial.entry) before) after) }
         ensures err { let before = frame T.state H.value self.old host.now in
             let after = frame T.state H.value self.new host.now in
             IfErr result (IsNotBegun H.rules (initial_text initial.entry) before after) }
@@ -353,7 +355,7 @@ impl<'term, T: Terminal> LineEditor<'term, T> {
             IfOk result (λ it. IsAnswered H.rules (start (initial_text initial.entry) before) after (outcome_of (Ok it))) }
         ensures err { let before = frame T.state H.value self.old host.old in
             let after = frame T.state H.value self.new host.new in
-            IfErr result (IsTurnedDown H.rules (initial_text initial.entry) before after) }
+            IfErr result (IsTurnedDown H.rules H.OVERRIDES (initial_text initial.entry) before after) }
     {
         self.start_line(host, initial)?;
         self.run_to_end(host)
@@ -383,7 +385,7 @@ impl<'term, T: Terminal> LineEditor<'term, T> {
             IfOk result (λ it. Reads (run_of H.rules (start (initial_text initial.entry) before)) before after (outcome_of (Ok it))) }
         ensures err { let before = frame T.state H.value self.old host.old in
             let after = frame T.state H.value self.new host.new in
-            IfErr result (FailsToRead H.rules (initial_text initial.entry) before after) }
+            IfErr result (FailsToRead H.rules H.OVERRIDES (initial_text initial.entry) before after) }
     {
         match self.read_open(host, initial) {
             Ok(line) => {
@@ -418,7 +420,7 @@ impl<'term, T: Terminal> LineEditor<'term, T> {
             before.state.mode ≡ Inactive → IfOk result (λ it. Reads run before after (outcome_of (Ok it))) }
         ensures err { let before = frame T.state H.value self.old host.old in
             let after = frame T.state H.value self.new host.new in
-            before.state.mode ≡ Inactive → IfErr result (FailsToRead H.rules (initial_text initial_value.entry) before after) }
+            before.state.mode ≡ Inactive → IfErr result (FailsToRead H.rules H.OVERRIDES (initial_text initial_value.entry) before after) }
         ensures shows { let before = frame T.state H.value self.old host.old in
             let after = frame T.state H.value self.new host.new in
             before.state.mode ≡ Inactive → Shows H.rules (start (initial_text initial_value.entry) before) after result }
@@ -444,7 +446,7 @@ impl<'term, T: Terminal> LineEditor<'term, T> {
             before.state.mode ≡ Inactive → IfOk result (λ it. Reads run before after (outcome_of (Ok it))) }
         ensures err { let before = frame T.state H.value self.old host.old in
             let after = frame T.state H.value self.new host.new in
-            before.state.mode ≡ Inactive → IfErr result (FailsToRead H.rules None before after) }
+            before.state.mode ≡ Inactive → IfErr result (FailsToRead H.rules H.OVERRIDES None before after) }
         ensures shows { let before = frame T.state H.value self.old host.old in
             let after = frame T.state H.value self.new host.new in
             before.state.mode ≡ Inactive → Shows H.rules (start None before) after result }

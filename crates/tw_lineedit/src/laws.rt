@@ -1,8 +1,11 @@
 //! Laws over the definitions alone: each is the contract of a function that does nothing.
 
+ghost use Rattle.tw_input.specs.Equality.{ComparesValues};
+ghost use Rattle.tw_lineedit.specs.Run.{StoppedRunsBegin};
 ghost use Rattle.tw_lineedit.specs.ScreenRuns.{RunsTellScenes};
 ghost use Rattle.tw_lineedit.specs.Stations.{BatchesByStations};
 
+use crate::editor::LineStatus;
 pub use tw_history::laws::{equality, searches};
 use tw_host::LineEditorHost;
 pub use tw_host::laws::{key_table, overrides};
@@ -19,4 +22,14 @@ pub fn batches<H: LineEditorHost>()
 /// What a run takes, by its scenes: from this, and a law on lists of scenes, follows what any screen shows of a run.
 pub fn tells_scenes<H: LineEditorHost>()
     ensures { RunsTellScenes H.rules }
+{}
+
+/// What was taken where memory or the terminal stops a run is a beginning of what the run takes.
+pub fn stopped_runs<H: LineEditorHost>()
+    ensures { StoppedRunsBegin H.rules H.OVERRIDES }
+{}
+
+/// `==` of `LineStatus` is equality of values.
+pub fn line_status()
+    ensures { ComparesValues ⟦<LineStatus as PartialEq>⟧.eq }
 {}

@@ -34,7 +34,7 @@ impl<'term, T: Terminal> LineEditor<'term, T> {
             before (frame T.state H.value self.new) host.new (option_map string_bytes line)) }
         ensures err { let before = frame T.state H.value self.old host.old in
             before.state.mode ≡ Inactive → IfErr result (
-            FailsToReadAndRemember H.rules H.value H.history_of H.with_history H.Hist.add_gives
+            FailsToReadAndRemember H.rules H.OVERRIDES H.value H.history_of H.with_history H.Hist.add_gives
             before (frame T.state H.value self.new) host.new) }
         ensures shows { let before = frame T.state H.value self.old host.old in
             let after = frame T.state H.value self.new host.new in

@@ -26,6 +26,18 @@ last_index-some : (lines : List (List ℕ)) → 1 ≤ length lines → last_inde
 last_index-some [] some = absurd (omega arith)
 last_index-some (x ∷ lines) some = refl
 
+-- and behind it there is no line
+pub length-last : (lines : List (List ℕ)) (last : ℕ) → last_index lines ≡ Some last → length lines ≡ last + 1
+length-last [] last e = absurd cc
+length-last (x ∷ lines) last e =
+    let same : length (x ∷ lines) - 1 ≡ last = cc in
+    omega arith
+
+-- without one there is none
+pub length-none : (lines : List (List ℕ)) → last_index lines ≡ None → length lines ≡ 0
+length-none [] e = refl
+length-none (x ∷ lines) e = absurd cc
+
 -- the state on a walk: a line of the history stands in place of the typed one, which is kept, and nothing is completed
 abbrev held : EditState → Cut → ℕ → EditState
 held s cut i = record s { cut = cut; history_index = Some i; typed_line = Some s.cut.line; cycle = None }

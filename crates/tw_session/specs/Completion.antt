@@ -1,7 +1,7 @@
 -- Completion: candidates that come in in turn.
-use Rattle.std.specs.Prelude.{◌≡◌, ℕ, ◌+◌, ◌%◌, nat_lt, List, length, Option, Some, None, Result, Ok, Err, if◌then◌else◌, slice_get}
+use Rattle.std.specs.Prelude.{◌≡◌, true, ℕ, ◌+◌, ◌%◌, nat_lt, List, length, Option, Some, None, Result, Ok, Err, if◌then◌else◌, slice_get}
 use Rattle.tw_line.specs.Cut.{Cut}
-use Rattle.tw_host.specs.CandidateView.{CandidateView, completed_by}
+use Rattle.tw_host.specs.CandidateView.{CandidateView, fits, completed_by}
 use Rattle.tw_painter.specs.EditState.{EditState, CycleView}
 use Rattle.tw_painter.specs.Refusal.{Refusal, CandidateDoesNotFit}
 use Rattle.tw_painter.specs.declared.error.Error.{Error}
@@ -35,9 +35,9 @@ completed_from candidates s (Some c) = with_candidate s (Some (record c { index 
 unfoldable pub completion_step : (Cut → List CandidateView) → EditState → Result EditState Refusal
 completion_step candidates s = completed_from (candidates s.cut) s s.cycle
 
--- why a candidate is not put in: memory, or it does not fit
+-- why a candidate is not put in: it fits and finds no memory, or it does not fit
 abbrev pub IsMisfit : CandidateView → Cut → Error → Type 0
-IsMisfit c cut (error.Memory e) = Unit {0}
+IsMisfit c cut (error.Memory e) = fits cut c ≡ true
 IsMisfit c cut error.CandidateDoesNotFit = completed_by c cut ≡ None
 IsMisfit c cut _ = ⊥
 

@@ -3,6 +3,7 @@ pub mod Search
 pub mod Completion
 pub mod Steps
 pub mod Edit
+pub mod Memory
 pub mod Outcomes
 pub mod SessionView
 pub mod HistoryLaws

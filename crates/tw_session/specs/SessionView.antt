@@ -6,7 +6,9 @@ use Rattle.tw_painter.specs.EditState.{EditState, ModeView, Inactive, Editing, C
 use Rattle.tw_painter.specs.EditState as view
 use Rattle.tw_host.specs.ActionView.{ActionView}
 use Rattle.tw_host.specs.HostRules.{HostRules}
-use Rattle.tw_session.specs.Steps.{apply, TakesMemory}
+use Rattle.tw_host.specs.declared.host.Overrides.{Overrides}
+use Rattle.tw_session.specs.Memory.{TakesMemory}
+use Rattle.tw_session.specs.Steps.{apply}
 use Rattle.tw_history.specs.NearestMatch.{MatchView}
 use Rattle.tw_surface.specs.Paintings.{Mark}
 use Rattle.tw_session.specs.declared.session.search.Found.{Found}
@@ -65,8 +67,9 @@ module _ {V : Type 0} (rules : HostRules V) (v : V) where
     pub state : apply rules v action old.state ≡ Ok new.state
     pub mark : new.mark ≡ old.mark
 
+module _ {V : Type 0} (rules : HostRules V) (overrides : Overrides) (v : V) where
   -- why an action is not applied: memory, where it may take some, or its own refusal; nothing is changed
   abbrev pub FailsToActOn : ActionView → SessionView → SessionView → Error → Type 0
-  FailsToActOn a old new (Memory e) = (new ≡ old) × TakesMemory (Some a) old.state.mode
+  FailsToActOn a old new (Memory e) = (new ≡ old) × TakesMemory rules overrides v (Some a) old.state
   FailsToActOn a old new (Terminal e) = ⊥
   FailsToActOn a old new e = (new ≡ old) × (apply rules v a old.state ≡ Err (refusal_of e))

@@ -10,7 +10,7 @@ use Rattle.tw_host.specs.ActionView.{ActionView, AcceptLine, Cancel, EndOfFile, 
 use Rattle.tw_host.specs.HostRules.{HostRules}
 use Rattle.tw_session.specs.Completion.{completion_step}
 use Rattle.tw_session.specs.Walk.{previous_step, next_step}
-use Rattle.tw_session.specs.Search.{IsSearching, search_left, searched_again, search_step}
+use Rattle.tw_session.specs.Search.{search_left, searched_again, search_step}
 use Rattle.tw_painter.specs.Refusal.{Refusal}
 use Rattle.tw_painter.specs.Refusal as refusal
 use Rattle.tw_painter.specs.EditState.{EditState, ModeView, Cancelled, Accepted, Searching}
@@ -57,19 +57,6 @@ module _ {V : Type 0} (rules : HostRules V) (v : V) where
   abbrev pub apply_if : Option ActionView → EditState → Result EditState Refusal
   apply_if None s = Ok s
   apply_if (Some action) s = apply action s
-
--- whether an action may take memory in a mode
-abbrev pub TakesMemory : Option ActionView → ModeView → Type 0
-TakesMemory (Some (InsertChar r x)) mode = Unit {0}
-TakesMemory (Some (InsertText r text)) mode = Unit {0}
-TakesMemory (Some (Kill m)) mode = IsSearching mode
-TakesMemory (Some (KillAndMove k m)) mode = IsSearching mode
-TakesMemory (Some HistoryPrevious) mode = Unit {0}
-TakesMemory (Some HistoryNext) mode = Unit {0}
-TakesMemory (Some Complete) mode = Unit {0}
-TakesMemory (Some HistoryIncSearchBackwards) mode = Unit {0}
-TakesMemory (Some HistoryIncSearchForwards) mode = Unit {0}
-TakesMemory _ mode = ⊥
 
 -- the action that clears the screen
 abbrev pub is_repaint : Option ActionView → Bool

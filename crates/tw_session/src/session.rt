@@ -1,6 +1,6 @@
 //! What an editor holds beside its terminal, and the steps of the abstract editor on it.
 
-ghost use Rattle.std.specs.Prelude.{◌≡◌, Ok, Err, Some, None, IfOk, IfErr, OnOk, OnErr, option_map, IsTrue, ◌↔◌, false};
+ghost use Rattle.std.specs.Prelude.{◌≡◌, Ok, Err, Some, None, IfOk, IfErr, OnOk, OnErr, IsOk, [], option_map, IsTrue, ◌↔◌, true, false};
 ghost use Rattle.std.specs.Str.{IsCharBoundary};
 ghost use Rattle.tw_surface.specs.ChangeView.{batch_view};
 ghost use Rattle.tw_input.specs.EventView.{event_view};
@@ -120,11 +120,12 @@ impl Session {
         (self.line.get_line(), self.line.get_cursor())
     }
 
-    /// Sets the line and its cursor. Where it is refused nothing is changed.
+    /// Sets the line and its cursor. Where it is refused nothing is changed. The empty line takes no memory.
     pub fn set_line_and_cursor(&mut self, line: &str, cursor: usize) -> Result<(), AllocError>
         requires { IsCharBoundary line.now cursor }
         ensures ok { OnOk result (self.new ≡ on_state (λ state. record state { cut = cut_at line.now cursor }) self.old) }
         ensures err { OnErr result (self.new ≡ self.old) }
+        ensures empty { line.now ≡ [] → IsOk result }
     {
         self.line.set_line_and_cursor(line, cursor)
     }
@@ -184,7 +185,7 @@ impl Session {
     pub fn act<H: LineEditorHost>(&mut self, host: &mut H, action: Action) -> Result<(), Error>
         ensures host { host.new ≡ host.old }
         ensures ok { OnOk result (ActsOn H.rules (H.value host.old) (action_view action) self.old self.new) }
-        ensures err { IfErr result (FailsToActOn H.rules (H.value host.old) (action_view action) self.old self.new) }
+        ensures err { IfErr result (FailsToActOn H.rules H.OVERRIDES (H.value host.old) (action_view action) self.old self.new) }
     {
         match action {
             Action::AcceptLine => {
@@ -232,7 +233,8 @@ impl Session {
         }
     }
 
-    /// Asks the host, which may change itself and the line. Where it is refused nothing is changed.
+    /// Asks the host, which may change itself and the line. Where it is refused nothing is changed. A host that leaves
+    /// its events to the key table is not asked, and so does not refuse.
     pub fn resolve<H: LineEditorHost>(
         &mut self,
         host: &mut H,
@@ -245,7 +247,11 @@ impl Session {
         ensures action { let answer = H.rules.resolve (H.value host.old) (event_view event.now) self.old.state.cut in
             IfOk result (λ action. option_map action_view action ≡ answer.action) }
         ensures err { OnErr result ((self.new ≡ self.old) × (H.value host.new ≡ H.value host.old)) }
+        ensures own { OnErr result (H.OVERRIDES.resolve_action ≡ true) }
     {
+        if !H::OVERRIDES.resolve_action {
+            return Ok(None);
+        }
         host.resolve_action(self.alloc, event, &mut self.line)
     }
 

@@ -48,7 +48,7 @@ impl<'term, T: Terminal> LineEditor<'term, T> {
         ensures untouched { self.old.session.state.mode ≢ Inactive → self.new.terminal.now ≡ self.old.terminal.now }
         ensures ok { let before = frame T.state H.value self.old host.now in
             let after = frame T.state H.value self.new host.now in
-            before.state.mode ≡ Inactive → OnOk result (Begins H.rules (start (initial_text initial_value.entry) before) after) }
+            before.state.mode ≡ Inactive → OnOk result (Begins H.rules H.OVERRIDES (start (initial_text initial_value.entry) before) after) }
         ensures open { self.old.session.state.mode ≡ Inactive → OnOk result (is_open self.new.session.state.mode ≡ true) }
         ensures err { let before = frame T.state H.value self.old host.now in
             let after = frame T.state H.value self.new host.now in
@@ -85,11 +85,11 @@ impl<'term, T: Terminal> LineEditor<'term, T> {
             → (self.new.terminal.now ≡ self.old.terminal.now) × (host.new ≡ host.old) }
         ensures ok { let before = frame T.state H.value self.old host.old in
             let after = frame T.state H.value self.new host.new in
-            is_open before.state.mode ≡ true → OnOk result (IsFed H.rules (event_view event.now) before after) }
+            is_open before.state.mode ≡ true → OnOk result (IsFed H.rules H.OVERRIDES (event_view event.now) before after) }
         ensures status { IfOk result (λ status. status ≡ status_if (is_open self.new.session.state.mode)) }
         ensures err { let before = frame T.state H.value self.old host.old in
             let after = frame T.state H.value self.new host.new in
-            IfErr result (FailsToFeed H.rules (event_view event.now) before after) }
+            IfErr result (FailsToFeed H.rules H.OVERRIDES (event_view event.now) before after) }
         ensures failures { FailuresTell result (T.state self.old.terminal.now).failures (T.state self.new.terminal.now).failures }
     {
         if self.session.is_open() {
@@ -168,7 +168,7 @@ impl<'term, T: Terminal> LineEditor<'term, T> {
         ensures same_reference { self.new.terminal.ghost_name ≡ self.old.terminal.ghost_name }
         ensures ok { let before = frame T.state H.value self.old host.now in
             let after = frame T.state H.value self.new host.now in
-            OnOk result (Begins H.rules (start (initial_text initial.entry) before) after) }
+            OnOk result (Begins H.rules H.OVERRIDES (start (initial_text initial.entry) before) after) }
         ensures err { let before = frame T.state H.value self.old host.now in
             let after = frame T.state H.value self.new host.now in
             IfErr result (FailsToBegin H.rules (initial_text initial.entry) before after) }
@@ -187,10 +187,10 @@ impl<'term, T: Terminal> LineEditor<'term, T> {
         ensures same_reference { self.new.terminal.ghost_name ≡ self.old.terminal.ghost_name }
         ensures ok { let before = frame T.state H.value self.old host.old in
             let after = frame T.state H.value self.new host.new in
-            OnOk result (IsFed H.rules (event_view event.now) before after) }
+            OnOk result (IsFed H.rules H.OVERRIDES (event_view event.now) before after) }
         ensures err { let before = frame T.state H.value self.old host.old in
             let after = frame T.state H.value self.new host.new in
-            IfErr result (FailsToFeed H.rules (event_view event.now) before after) }
+            IfErr result (FailsToFeed H.rules H.OVERRIDES (event_view event.now) before after) }
     {
         match self.advance(host, event) {
             Ok(()) => Ok(()),

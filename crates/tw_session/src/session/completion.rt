@@ -113,7 +113,7 @@ impl Session {
     #[tactic(auto, unfolding(crate::specs::Steps::apply, crate::specs::Completion::completion_step))]
     pub(super) fn complete<H: LineEditorHost>(&mut self, host: &H) -> Result<(), Error>
         ensures ok { OnOk result (ActsOn H.rules (H.value host.now) Complete self.old self.new) }
-        ensures err { IfErr result (FailsToActOn H.rules (H.value host.now) Complete self.old self.new) }
+        ensures err { IfErr result (FailsToActOn H.rules H.OVERRIDES (H.value host.now) Complete self.old self.new) }
     {
         match &mut self.cycle {
             Some(cycle) => {
@@ -126,13 +126,18 @@ impl Session {
         }
     }
 
-    /// Puts in the first of the host's candidates, and keeps two or more.
+    /// Puts in the first of the host's candidates, and keeps two or more. A host that leaves completion to the default
+    /// answer has none, and is not asked.
     #[tactic(auto, unfolding(crate::specs::Steps::apply, crate::specs::Completion::completion_step))]
     fn begin_completion<H: LineEditorHost>(&mut self, host: &H) -> Result<(), Error>
         requires { self.old.state.cycle ≡ None }
         ensures ok { OnOk result (ActsOn H.rules (H.value host.now) Complete self.old self.new) }
-        ensures err { IfErr result (FailsToActOn H.rules (H.value host.now) Complete self.old self.new) }
+        ensures err { IfErr result (FailsToActOn H.rules H.OVERRIDES (H.value host.now) Complete self.old self.new) }
     {
+        if !H::OVERRIDES.complete {
+            self.leave_search();
+            return Ok(());
+        }
         let line = self.shown_line();
         let candidates = host.complete(self.alloc, line.get_line(), line.get_cursor())?;
         let Some(first) = candidates.first() else {

@@ -3,11 +3,12 @@
 ghost use Rattle.std.specs.Prelude.{◌≡◌, ◌⊎◌, OnOk, OnErr};
 ghost use Rattle.tw_session.specs.Steps.{edit_step};
 ghost use Rattle.tw_session.specs.Edit.{edit_of, TakesMemoryToEdit};
-ghost use Rattle.tw_session.specs.Search.{IsSearching};
+ghost use Rattle.tw_session.specs.Memory.{SeeksAgain};
 ghost use Rattle.tw_session.specs.SessionView.{on_state};
 
 use super::{Mode, Session};
 use std::alloc::AllocError;
+use tw_history::History;
 use tw_host::LineEditorHost;
 use tw_line::{LineEditBuffer, Movement, RepeatCount};
 
@@ -20,7 +21,7 @@ pub(super) enum Edit<'a> {
 }
 
 impl Edit<'_> {
-    /// Edits a line. Where it is refused the line is as it was; a kill is not refused.
+    /// Edits a line. Where it is refused the line is as it was; where nothing is inserted it is not refused.
     fn apply(self, line: &mut LineEditBuffer) -> Result<(), AllocError>
         ensures ok { OnOk result (line.new ≡ edit_of self.entry line.old) }
         ensures err { OnErr result (line.new ≡ line.old) }
@@ -38,8 +39,8 @@ impl Edit<'_> {
 }
 
 impl Session {
-    /// Edits the line; while searching, the pattern, which is then applied again. Where it is refused nothing
-    /// is changed.
+    /// Edits the line; while searching, the pattern, which is then applied again, where there are lines to seek it in.
+    /// Where it is refused nothing is changed.
     #[tactic(auto, unfolding(crate::specs::Search::searched_again))]
     pub(super) fn edit<H: LineEditorHost>(
         &mut self,
@@ -49,9 +50,15 @@ impl Session {
         ensures host { host.new ≡ host.old }
         ensures ok { OnOk result (self.new ≡ on_state (edit_step (H.rules.lines (H.value host.old)) (edit_of edit.entry)) self.old) }
         ensures err { OnErr result (self.new ≡ self.old) }
-        ensures memory { OnErr result (TakesMemoryToEdit edit.entry ⊎ IsSearching self.old.state.mode) }
+        ensures memory { let lines = H.rules.lines (H.value host.old) in
+            OnErr result (TakesMemoryToEdit edit.entry ⊎ SeeksAgain lines self.old.state.mode) }
     {
         match self.mode {
+            Mode::Searching { .. } if host.history().last().is_none() => {
+                edit.apply(&mut self.line)?;
+                self.history_index = None;
+                Ok(())
+            }
             Mode::Searching { .. } => {
                 let mut pattern = LineEditBuffer::new(
                     self.alloc,

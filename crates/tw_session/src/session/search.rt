@@ -1,6 +1,7 @@
 //! Incremental search of the history.
 
-ghost use Rattle.std.specs.Prelude.{◌≡◌, IfOk, OnOk, OnErr, option_map};
+ghost use Rattle.std.specs.Prelude.{◌≡◌, ◌<◌, length, IfOk, OnOk, OnErr, option_map};
+ghost use Rattle.tw_session.specs.Memory.{HasLine, SearchesOr, SeeksAgain};
 ghost use Rattle.tw_history.specs.NearestMatch.{nearest_match, last_index};
 ghost use Rattle.tw_session.specs.Search.{search_left, searched_again, search_step, nearest_match_from, begun_search};
 ghost use Rattle.tw_session.specs.SessionView.{on_state, found_view};
@@ -19,7 +20,7 @@ pub struct Found {
     idx: HistoryIndex,
 }
 
-/// The nearest line from an index on that contains the pattern.
+/// The nearest line from an index on that contains the pattern. Where no line has the index the history is not asked.
 fn find<H: LineEditorHost>(
     host: &mut H,
     alloc: Global,
@@ -30,12 +31,15 @@ fn find<H: LineEditorHost>(
 ) -> Result<Option<Found>, AllocError>
     ensures found { let lines = H.rules.lines (H.value host.old) in
         IfOk result (λ found. option_map found_view found ≡ nearest_match lines start direction pattern.now) }
+    ensures memory { OnErr result (start < length (H.rules.lines (H.value host.old))) }
     ensures host { host.new ≡ host.old }
 {
-    match host
-        .history()
-        .search(alloc, start, style, direction, pattern)?
-    {
+    let history = host.history();
+    match history.last() {
+        Some(last) if start <= last => {}
+        _ => return Ok(None),
+    }
+    match history.search(alloc, start, style, direction, pattern)? {
         Some(found) => {
             let matching = LineEditBuffer::new(alloc, found.line.as_str(), found.cursor)?;
             Ok(Some(Found {
@@ -58,6 +62,7 @@ fn find_from_last<H: LineEditorHost>(
     ensures found { let lines = H.rules.lines (H.value host.old) in
         IfOk result (λ found. option_map found_view found
         ≡ nearest_match_from lines (last_index lines) direction pattern.now) }
+    ensures memory { let lines = H.rules.lines (H.value host.old) in OnErr result (HasLine lines (last_index lines)) }
     ensures host { host.new ≡ host.old }
 {
     match host.history().last() {
@@ -89,6 +94,7 @@ impl Session {
         ensures ok { let lines = H.rules.lines (H.value host.old) in
             OnOk result (self.new ≡ on_state (λ s. searched_again lines (record s { cut = line })) self.old) }
         ensures err { OnErr result (self.new ≡ self.old) }
+        ensures memory { let lines = H.rules.lines (H.value host.old) in OnErr result (SeeksAgain lines self.old.state.mode) }
     {
         if let Mode::Searching {
             style,
@@ -118,6 +124,8 @@ impl Session {
         ensures host { host.new ≡ host.old }
         ensures ok { OnOk result (self.new ≡ on_state (search_step (H.rules.lines (H.value host.old)) direction) self.old) }
         ensures err { OnErr result (self.new ≡ self.old) }
+        ensures memory { let lines = H.rules.lines (H.value host.old) in let old = self.old.state in
+            OnErr result (SearchesOr (HasLine lines (last_index lines)) lines direction old.history_index old.mode) }
     {
         match &mut self.mode {
             Mode::Searching {
@@ -153,6 +161,7 @@ impl Session {
         ensures host { host.new ≡ host.old }
         ensures ok { OnOk result (self.new ≡ on_state (begun_search (H.rules.lines (H.value host.old)) direction) self.old) }
         ensures err { OnErr result (self.new ≡ self.old) }
+        ensures memory { let lines = H.rules.lines (H.value host.old) in OnErr result (HasLine lines (last_index lines)) }
     {
         let style = SearchStyle::Substring;
         let last = host.history().last();

@@ -9,12 +9,12 @@ pub returns-clause-ok : goal.returns-clause-ok
 returns-clause-ok g c =
     let state = (terminal.ghosts g.row.W g.W.Write g.W.Write-dict).state in
     let f = frame state g.H.LineEditorHost.value c.args.editor.now c.args.host.now in
-    comes_if g.H.LineEditorHost.rules _ c.feed.result (event_view c.args.event.now) f _ _ c.requires
-    (resized_is g.H.LineEditorHost.rules (event_view c.args.event.now) f (state c.resize.new.terminal) (state c.terminal.result.now) c.resize.ensures (ap state c.terminal.ensures.shows)) c.feed.ensures.ok
+    comes_if g.H.LineEditorHost.rules g.H.LineEditorHost.OVERRIDES _ c.feed.result (event_view c.args.event.now) f _ _ c.requires
+    (resized_is g.H.LineEditorHost.rules g.H.LineEditorHost.OVERRIDES (event_view c.args.event.now) f (state c.resize.new.terminal) (state c.terminal.result.now) c.resize.ensures (ap state c.terminal.ensures.shows)) c.feed.ensures.ok
 
 pub returns-clause-err : goal.returns-clause-err
 returns-clause-err g c =
     let state = (terminal.ghosts g.row.W g.W.Write g.W.Write-dict).state in
     let f = frame state g.H.LineEditorHost.value c.args.editor.now c.args.host.now in
-    refused_if g.H.LineEditorHost.rules _ c.feed.result (event_view c.args.event.now) f _ _ c.requires refl
-    (resized_is g.H.LineEditorHost.rules (event_view c.args.event.now) f (state c.resize.new.terminal) (state c.terminal.result.now) c.resize.ensures (ap state c.terminal.ensures.shows)) c.feed.ensures.err
+    refused_if g.H.LineEditorHost.rules g.H.LineEditorHost.OVERRIDES _ c.feed.result (event_view c.args.event.now) f _ _ c.requires refl
+    (resized_is g.H.LineEditorHost.rules g.H.LineEditorHost.OVERRIDES (event_view c.args.event.now) f (state c.resize.new.terminal) (state c.terminal.result.now) c.resize.ensures (ap state c.terminal.ensures.shows)) c.feed.ensures.err

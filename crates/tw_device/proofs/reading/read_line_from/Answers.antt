@@ -15,7 +15,7 @@ returns-in_err-begin_line-clause-err g c =
     let i = frame state value c.set_prompt.new.self c.args.host.now in
     let f = fresh_frame c.args.prompt.now (value c.args.host.now) (state c.args.terminal.now) in
     let painted = frame state value c.begin_line.new.self c.args.host.now in
-    rw (p.1, p.2) (unbegun_at g.H.LineEditorHost.rules (g.S.EventSource.told c.args.source.now) (g.S.EventSource.state c.args.source.now) f c.begin_line.new.self.session _ _ painted (search rules)
+    rw (p.1, p.2) (unbegun_at g.H.LineEditorHost.rules g.H.LineEditorHost.OVERRIDES (g.S.EventSource.told c.args.source.now) (g.S.EventSource.state c.args.source.now) f c.begin_line.new.self.session _ _ painted (search rules)
     c.in_err-begin_line.field-0.0 i refl (search rules) (c.in_err-begin_line.ensures.err (search rules)))
 
 pub returns-in_err-stop-clause-err : goal.returns-in_err-stop-clause-err
@@ -26,9 +26,9 @@ returns-in_err-stop-clause-err g c =
     let i = frame state value c.set_prompt.new.self c.args.host.now in
     let f = fresh_frame c.args.prompt.now (value c.args.host.now) (state c.args.terminal.now) in
     let painted = frame state value c.begin_line.new.self c.args.host.now in
-    rw (p.1, p.2) (stopped_at g.H.LineEditorHost.rules (g.S.EventSource.told c.args.source.now) (g.S.EventSource.told c.take_events.new.source) (g.S.EventSource.state c.take_events.new.source) f c.take_events.new.editor.session _ _
+    rw (p.1, p.2) (stopped_at g.H.LineEditorHost.rules g.H.LineEditorHost.OVERRIDES (g.S.EventSource.told c.args.source.now) (g.S.EventSource.told c.take_events.new.source) (g.S.EventSource.state c.take_events.new.source) f c.take_events.new.editor.session _ _
     (frame state value c.take_events.new.editor c.take_events.new.host) (search rules) c.in_err-stop.field-0.0 painted
-    (opened_at g.H.LineEditorHost.rules i f painted (search rules) (c.in_ok-begin_line.ensures.ok (search rules))) c.in_err-stop.ensures.err)
+    (opened_at g.H.LineEditorHost.rules g.H.LineEditorHost.OVERRIDES i f painted (search rules) (c.in_ok-begin_line.ensures.ok (search rules))) c.in_err-stop.ensures.err)
 
 pub returns-in_err-line-clause-err : goal.returns-in_err-line-clause-err
 returns-in_err-line-clause-err g c =
@@ -38,10 +38,10 @@ returns-in_err-line-clause-err g c =
     let i = frame state value c.set_prompt.new.self c.args.host.now in
     let f = fresh_frame c.args.prompt.now (value c.args.host.now) (state c.args.terminal.now) in
     let painted = frame state value c.begin_line.new.self c.args.host.now in
-    rw (p.1, p.2) (ended_at g.H.LineEditorHost.rules (g.S.EventSource.told c.args.source.now) (g.S.EventSource.told c.take_events.new.source) (g.S.EventSource.state c.take_events.new.source) f c.finish_line.new.self.session _ _
+    rw (p.1, p.2) (ended_at g.H.LineEditorHost.rules g.H.LineEditorHost.OVERRIDES (g.S.EventSource.told c.args.source.now) (g.S.EventSource.told c.take_events.new.source) (g.S.EventSource.state c.take_events.new.source) f c.finish_line.new.self.session _ _
     (frame state value c.finish_line.new.self c.take_events.new.host) (search rules) c.in_err-line.field-0.0 painted
     (frame state value c.take_events.new.editor c.take_events.new.host) refl
-    (opened_at g.H.LineEditorHost.rules i f painted (search rules) (c.in_ok-begin_line.ensures.ok (search rules))) c.in_ok-stop.ensures.ok
+    (opened_at g.H.LineEditorHost.rules g.H.LineEditorHost.OVERRIDES i f painted (search rules) (c.in_ok-begin_line.ensures.ok (search rules))) c.in_ok-stop.ensures.ok
     (fails_to_finish_with (value c.take_events.new.host) (own_frame state c.take_events.new.editor) (own_frame state c.finish_line.new.self) c.in_err-line.field-0.0 c.in_err-line.ensures.err))
 
 pub returns-clause-ok : goal.returns-clause-ok
@@ -52,9 +52,9 @@ returns-clause-ok g c =
     let f = fresh_frame c.args.prompt.now (value c.args.host.now) (state c.args.terminal.now) in
     let painted = frame state value c.begin_line.new.self c.args.host.now in
     let fed = frame state value c.take_events.new.editor c.take_events.new.host in
-    read_as g.H.LineEditorHost.rules (g.S.EventSource.told c.args.source.now) (g.S.EventSource.told c.take_events.new.source) (g.S.EventSource.state c.take_events.new.source) f painted fed c.finish_line.new.self.session _ _ refl
-    (opened_at g.H.LineEditorHost.rules i f painted (search rules) (c.in_ok-begin_line.ensures.ok (search rules))) c.in_ok-stop.ensures.ok c.in_ok-stop.ensures.begun c.in_ok-line.line c.in_ok-stop.stop c.answer_of.result c.answer_of.ensures c.in_ok-stop.ensures.stopped
-    (closed_at g.H.LineEditorHost.rules fed (frame state value c.finish_line.new.self c.take_events.new.host) c.finish_line.new.self.session _ _ _ (search rules)
+    read_as g.H.LineEditorHost.rules g.H.LineEditorHost.OVERRIDES (g.S.EventSource.told c.args.source.now) (g.S.EventSource.told c.take_events.new.source) (g.S.EventSource.state c.take_events.new.source) f painted fed c.finish_line.new.self.session _ _ refl
+    (opened_at g.H.LineEditorHost.rules g.H.LineEditorHost.OVERRIDES i f painted (search rules) (c.in_ok-begin_line.ensures.ok (search rules))) c.in_ok-stop.ensures.ok c.in_ok-stop.ensures.begun c.in_ok-line.line c.in_ok-stop.stop c.answer_of.result c.answer_of.ensures c.in_ok-stop.ensures.stopped
+    (closed_at g.H.LineEditorHost.rules g.H.LineEditorHost.OVERRIDES fed (frame state value c.finish_line.new.self c.take_events.new.host) c.finish_line.new.self.session _ _ _ (search rules)
     (reads_with (value c.take_events.new.host) (own_frame state c.take_events.new.editor) (own_frame state c.finish_line.new.self) _ (c.in_ok-line.ensures.ok c.in_ok-stop.ensures.begun)))
 
 pub returns-clause-err : goal.returns-clause-err
@@ -65,7 +65,7 @@ returns-clause-err g c =
     let f = fresh_frame c.args.prompt.now (value c.args.host.now) (state c.args.terminal.now) in
     let painted = frame state value c.begin_line.new.self c.args.host.now in
     let fed = frame state value c.take_events.new.editor c.take_events.new.host in
-    cut_as g.H.LineEditorHost.rules (g.S.EventSource.told c.args.source.now) (g.S.EventSource.told c.take_events.new.source) (g.S.EventSource.state c.take_events.new.source) f painted fed c.finish_line.new.self.session _ _ refl
-    (opened_at g.H.LineEditorHost.rules i f painted (search rules) (c.in_ok-begin_line.ensures.ok (search rules))) c.in_ok-stop.ensures.ok c.in_ok-stop.ensures.begun c.in_ok-line.line c.in_ok-stop.stop c.answer_of.result c.answer_of.ensures c.in_ok-stop.ensures.stopped
-    (closed_at g.H.LineEditorHost.rules fed (frame state value c.finish_line.new.self c.take_events.new.host) c.finish_line.new.self.session _ _ _ (search rules)
+    cut_as g.H.LineEditorHost.rules g.H.LineEditorHost.OVERRIDES (g.S.EventSource.told c.args.source.now) (g.S.EventSource.told c.take_events.new.source) (g.S.EventSource.state c.take_events.new.source) f painted fed c.finish_line.new.self.session _ _ refl
+    (opened_at g.H.LineEditorHost.rules g.H.LineEditorHost.OVERRIDES i f painted (search rules) (c.in_ok-begin_line.ensures.ok (search rules))) c.in_ok-stop.ensures.ok c.in_ok-stop.ensures.begun c.in_ok-line.line c.in_ok-stop.stop c.answer_of.result c.answer_of.ensures c.in_ok-stop.ensures.stopped
+    (closed_at g.H.LineEditorHost.rules g.H.LineEditorHost.OVERRIDES fed (frame state value c.finish_line.new.self c.take_events.new.host) c.finish_line.new.self.session _ _ _ (search rules)
     (reads_with (value c.take_events.new.host) (own_frame state c.take_events.new.editor) (own_frame state c.finish_line.new.self) _ (c.in_ok-line.ensures.ok c.in_ok-stop.ensures.begun)))

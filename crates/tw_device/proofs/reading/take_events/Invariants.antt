@@ -10,7 +10,7 @@ invariant-loop-turn g l =
     let state = (terminal.ghosts g.row.W g.W.Write g.W.Write-dict).state in
     record {
       same_reference : l.editor.terminal.ghost_name ≡ l.fn.editor.terminal.ghost_name;
-      comes : ComesBy g.H.LineEditorHost.rules (g.S.EventSource.told l.fn.source) (g.S.EventSource.told l.source)
+      comes : ComesBy g.H.LineEditorHost.rules g.H.LineEditorHost.OVERRIDES (g.S.EventSource.told l.fn.source) (g.S.EventSource.told l.source)
           (frame state g.H.LineEditorHost.value l.fn.editor l.fn.host) (frame state g.H.LineEditorHost.value l.editor l.host);
       count : length (g.S.EventSource.told l.source) ≡ length (g.S.EventSource.told l.fn.source) + l.turn;
       still_open : is_open l.editor.session.state.mode ≡ true;

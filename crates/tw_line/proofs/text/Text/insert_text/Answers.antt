@@ -2,9 +2,9 @@ use Rattle.std.proofs.Common.{◌≡◌, length, sym, ap, ◌∙◌, arith, rule
 use Rattle.std.proofs.lemmas.Str.{chars_from_encodes}
 use Rattle.std.specs.Str.{chars}
 use Rattle.tw_line.specs.Starts.{starts_of}
-use Rattle.tw_line.specs.Text.{bytes_of}
+use Rattle.tw_line.specs.Text.{bytes_of, LacksRoom}
 use Rattle.tw_line.proofs.StartsLemmas.{starts_of-insert}
-use Rattle.tw_line.proofs.TextLemmas.{bytes_utf8, starts-count, starts-fit}
+use Rattle.tw_line.proofs.TextLemmas.{bytes_utf8, lacks-some, starts-count, starts-fit}
 use Rattle.tw_line.proofs.text.Text.insert_text.Goals as goal
 
 pub returns-in_err-reserve-clause-full : goal.returns-in_err-reserve-clause-full
@@ -12,6 +12,14 @@ returns-in_err-reserve-clause-full c =
     let count : c.count.result ≡ length (chars c.args.text.now) = search (rules, chars_from_encodes) in
     let full = rw count at c.in_err-reserve.ensures.err in
     search (rules, full)
+
+pub returns-in_err-reserve-clause-empty : goal.returns-in_err-reserve-clause-empty
+returns-in_err-reserve-clause-empty c empty =
+    let text = c.args.text.now in
+    let count : c.count.result ≡ length (chars text) = search (rules, chars_from_encodes) in
+    let full = rw count at c.in_err-reserve.ensures.err in
+    let lacks : LacksRoom (length text) (length (chars text)) c.args.self.now = search (rules, full) in
+    absurd (lacks-some c.args.self.now text lacks empty)
 
 pub insert_starts-requires-clause-inside : goal.insert_starts-requires-clause-inside
 insert_starts-requires-clause-inside c = omega (arith, starts-count c.reserve.new.self, c.index_of-index.ensures.within)

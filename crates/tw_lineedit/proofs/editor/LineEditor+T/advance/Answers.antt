@@ -2,4 +2,4 @@ use Rattle.tw_lineedit.proofs.FeedingLemmas.{stays_if}
 use Rattle.tw_lineedit.proofs.editor.LineEditor+T.advance.Goals as goal
 
 pub returns-clause-err : goal.returns-clause-err
-returns-clause-err g c = stays_if g.H.LineEditorHost.rules _ c.paint.result _ _ _ _ c.in_ok-handle.ensures.ok c.paint.ensures.err
+returns-clause-err g c = stays_if g.H.LineEditorHost.rules g.H.LineEditorHost.OVERRIDES _ c.paint.result _ _ _ _ c.in_ok-handle.ensures.ok c.paint.ensures.err

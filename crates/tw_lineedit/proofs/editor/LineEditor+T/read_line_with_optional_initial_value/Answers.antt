@@ -4,4 +4,4 @@ use Rattle.tw_lineedit.proofs.editor.LineEditor+T.read_line_with_optional_initia
 use Rattle.tw_lineedit.specs.Frame.{frame}
 
 pub returns-clause-shows : goal.returns-clause-shows
-returns-clause-shows g c = λ inactive. shows_call g.H.LineEditorHost.rules (option_map {T = Bor (List ℕ)} {U = List ℕ} (λ s. s.now) c.args.initial_value) (frame g.T.Terminal.state g.H.LineEditorHost.value c.args.self.now c.args.host.now) _ _ c.read.result c.read.ensures.ok c.read.ensures.err
+returns-clause-shows g c = λ inactive. shows_call g.H.LineEditorHost.rules g.H.LineEditorHost.OVERRIDES (option_map {T = Bor (List ℕ)} {U = List ℕ} (λ s. s.now) c.args.initial_value) (frame g.T.Terminal.state g.H.LineEditorHost.value c.args.self.now c.args.host.now) _ _ c.read.result c.read.ensures.ok c.read.ensures.err

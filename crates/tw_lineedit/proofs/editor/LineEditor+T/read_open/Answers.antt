@@ -9,7 +9,7 @@ pub returns-in_err-start_line-clause-err : goal.returns-in_err-start_line-clause
 returns-in_err-start_line-clause-err g c =
     let p = err_from_is_err_and c.from_residual.result c.from_residual.ensures.1 in
     rw (p.1, p.2)
-    (turned_down g.H.LineEditorHost.rules (option_map {T = Bor (List ℕ)} {U = List ℕ} (λ s. s.now) c.args.initial) (frame g.T.Terminal.state g.H.LineEditorHost.value c.args.self.now c.args.host.now) _ c.in_err-start_line.field-0.0 c.in_err-start_line.ensures.err)
+    (turned_down g.H.LineEditorHost.rules g.H.LineEditorHost.OVERRIDES (option_map {T = Bor (List ℕ)} {U = List ℕ} (λ s. s.now) c.args.initial) (frame g.T.Terminal.state g.H.LineEditorHost.value c.args.self.now c.args.host.now) _ c.in_err-start_line.field-0.0 c.in_err-start_line.ensures.err)
 
 pub returns-clause-err : goal.returns-clause-err
-returns-clause-err g c = IfErr-weaker c.run_to_end.result _ _ (refused_begun g.H.LineEditorHost.rules (option_map {T = Bor (List ℕ)} {U = List ℕ} (λ s. s.now) c.args.initial) (frame g.T.Terminal.state g.H.LineEditorHost.value c.args.self.now c.args.host.now) _ _ c.in_ok-start_line.ensures.ok) c.run_to_end.ensures.err
+returns-clause-err g c = IfErr-weaker c.run_to_end.result _ _ (refused_begun g.H.LineEditorHost.rules g.H.LineEditorHost.OVERRIDES (option_map {T = Bor (List ℕ)} {U = List ℕ} (λ s. s.now) c.args.initial) (frame g.T.Terminal.state g.H.LineEditorHost.value c.args.self.now c.args.host.now) _ _ c.in_ok-start_line.ensures.ok) c.run_to_end.ensures.err

@@ -8,8 +8,8 @@ pub returns-in_err-turn-clause-err : goal.returns-in_err-turn-clause-err
 returns-in_err-turn-clause-err g c =
     let p = err_from_is_err_and c.from_residual.result c.from_residual.ensures.1 in
     rw (p.1, p.2)
-    (turned_down_later g.H.LineEditorHost.rules (frame g.T.Terminal.state g.H.LineEditorHost.value c.args.self.now c.args.host.now) (frame g.T.Terminal.state g.H.LineEditorHost.value c.loop.self c.loop.host) (frame g.T.Terminal.state g.H.LineEditorHost.value c.turn.new.self c.turn.new.host)
+    (turned_down_later g.H.LineEditorHost.rules g.H.LineEditorHost.OVERRIDES (frame g.T.Terminal.state g.H.LineEditorHost.value c.args.self.now c.args.host.now) (frame g.T.Terminal.state g.H.LineEditorHost.value c.loop.self c.loop.host) (frame g.T.Terminal.state g.H.LineEditorHost.value c.turn.new.self c.turn.new.host)
     c.in_err-turn.field-0.0 c.loop.invariant.follows c.in_err-turn.ensures.err)
 
 pub returns-clause-err : goal.returns-clause-err
-returns-clause-err g c = not_copied_if g.H.LineEditorHost.rules _ c.answer.result (frame g.T.Terminal.state g.H.LineEditorHost.value c.args.self.now c.args.host.now) _ _ (ended_later g.H.LineEditorHost.rules _ _ _ c.loop.invariant.follows (rw c.if-branch.false at c.in_ok-turn.ensures.ok)) refl c.answer.ensures.err c.answer.ensures.line
+returns-clause-err g c = not_copied_if g.H.LineEditorHost.rules g.H.LineEditorHost.OVERRIDES _ c.answer.result (frame g.T.Terminal.state g.H.LineEditorHost.value c.args.self.now c.args.host.now) _ _ (ended_later g.H.LineEditorHost.rules g.H.LineEditorHost.OVERRIDES _ _ _ c.loop.invariant.follows (rw c.if-branch.false at c.in_ok-turn.ensures.ok)) refl c.answer.ensures.err c.answer.ensures.line

@@ -6,7 +6,7 @@ use Rattle.tw_lineedit.proofs.editor.LineEditor+T.run_to_end.Given as goal
 abbrev pub invariant-loop : goal.invariant-loop
 invariant-loop g l = record {
   same_reference : l.self.terminal.ghost_name ≡ l.fn.self.terminal.ghost_name;
-  follows : Follows g.H.LineEditorHost.rules (frame g.T.Terminal.state g.H.LineEditorHost.value l.fn.self l.fn.host) (frame g.T.Terminal.state g.H.LineEditorHost.value l.self l.host);
+  follows : Follows g.H.LineEditorHost.rules g.H.LineEditorHost.OVERRIDES (frame g.T.Terminal.state g.H.LineEditorHost.value l.fn.self l.fn.host) (frame g.T.Terminal.state g.H.LineEditorHost.value l.self l.host);
 }
 
 abbrev pub decreases-loop : goal.decreases-loop
