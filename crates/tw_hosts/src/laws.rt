@@ -8,7 +8,6 @@ ghost use Rattle.tw_hosts.specs.TableRules.{table_rules};
 use crate::tokens::Styles;
 
 /// `==` is equality of values.
-#[tactic(auto, using(tw_surface::proofs::EqualityLemmas::attributes_equal))]
 pub fn equality()
     ensures { ComparesValues ⟦<Styles as PartialEq>⟧.eq }
 {}
