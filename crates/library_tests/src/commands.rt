@@ -1,18 +1,20 @@
-use super::*;
+//! The worked host.
+
 use host_testing::{last_painting, marked_text, script_events};
 use std::alloc::{AllocError, Global};
+use std::process::Abort;
 use std::test::Fail;
 use tw_lineedit::{History, LineEditor, LineEditorHost};
 use tw_surface::{CellAttributes, Intensity};
 use tw_terminal::{ScreenSize, ScriptTerminal};
+use worked_host::CommandHost;
 
 /// A host that knows three commands.
 fn host_of_three(alloc: Global) -> Result<CommandHost, AllocError> {
-    let known = vec![in alloc;
-        String::from_str(alloc, "copy")?,
-        String::from_str(alloc, "count")?,
-        String::from_str(alloc, "move")?,
-    ]?;
+    let mut known = Vec::new(alloc);
+    for word in ["copy", "count", "move"] {
+        known.push(String::from_str(alloc, word)?)?;
+    }
     Ok(CommandHost::new(alloc, known))
 }
 
@@ -26,6 +28,19 @@ fn terminal_of(alloc: Global, script: &str) -> Result<ScriptTerminal, Fail> {
 fn read(alloc: Global, host: &mut CommandHost, script: &str) -> Result<Option<String>, Fail> {
     let mut terminal = terminal_of(alloc, script)?;
     Ok(LineEditor::new(alloc, &mut terminal)?.read_line_and_remember(host)?)
+}
+
+/// Reads a line from a script, and compares it.
+fn expect_read(
+    rt: &impl Abort,
+    alloc: Global,
+    host: &mut CommandHost,
+    script: &str,
+    answer: Option<&str>,
+) -> Result<(), Fail> {
+    let line = read(alloc, host, script)?;
+    assert!(rt; line.as_deref() == answer, "{script:?}");
+    Ok(())
 }
 
 #[test]
@@ -45,9 +60,7 @@ fn keys_are_answered(rt: HostRuntime) -> Result<(), Fail> {
         ("type move x\nkey C-U\ntype copy\nkey Enter", Some("copy")),
         ("type copy\nkey Escape", None),
     ] {
-        let mut host = host_of_three(alloc)?;
-        let line = read(alloc, &mut host, script)?;
-        assert!(rt; line.as_deref() == answer, "{script:?}");
+        expect_read(&rt, alloc, &mut host_of_three(alloc)?, script, answer)?;
     }
     Ok(())
 }
@@ -56,17 +69,12 @@ fn keys_are_answered(rt: HostRuntime) -> Result<(), Fail> {
 fn read_lines_come_back(rt: HostRuntime) -> Result<(), Fail> {
     let alloc = rt.alloc();
     let mut host = host_of_three(alloc)?;
-    for (script, answer) in [
-        ("type copy a\nkey Enter", Some("copy a")),
-        ("type move b\nkey Enter", Some("move b")),
-        ("type count\nkey Escape", None),
-        ("key Up\nkey Enter", Some("move b")),
-        ("key Up\nkey Up\nkey Enter", Some("copy a")),
-    ] {
-        let line = read(alloc, &mut host, script)?;
-        assert!(rt; line.as_deref() == answer, "{script:?}");
-    }
-    Ok(())
+    let it = &mut host;
+    expect_read(&rt, alloc, it, "type copy a\nkey Enter", Some("copy a"))?;
+    expect_read(&rt, alloc, it, "type move b\nkey Enter", Some("move b"))?;
+    expect_read(&rt, alloc, it, "type count\nkey Escape", None)?;
+    expect_read(&rt, alloc, it, "key Up\nkey Enter", Some("move b"))?;
+    expect_read(&rt, alloc, it, "key Up\nkey Up\nkey Enter", Some("copy a"))
 }
 
 /// A call of the terminal is refused in the midst of the line.

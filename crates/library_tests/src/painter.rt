@@ -1,7 +1,14 @@
-use super::*;
+//! Paintings, change by change.
+
+use std::alloc::{AllocError, Global};
 use std::process::Abort;
 use std::test::Fail;
-use tw_host::NopLineEditorHost;
+use tw_history::SearchDirection;
+use tw_host::{LineEditorHost, NopLineEditorHost};
+use tw_line::LineEditBuffer;
+use tw_painter::{Below, Error, Mark, painting};
+use tw_surface::{CellAttributes, Change, ColorAttribute, Position};
+use tw_terminal::ScreenSize;
 
 /// The line with its cursor at the end, painted behind the prompt `> `.
 fn painted<H: LineEditorHost>(
@@ -47,13 +54,13 @@ fn to_first_column(y: isize) -> Change {
 
 /// The changes that show the prompt and the line.
 fn shown(alloc: Global, line: &str) -> Result<Vec<Change>, AllocError> {
-    Ok(vec![in alloc;
-        Change::ClearToEndOfScreen(ColorAttribute::Default),
-        Change::AllAttributes(CellAttributes::default()),
-        text(alloc, "> ")?,
-        Change::AllAttributes(CellAttributes::default()),
-        text(alloc, line)?,
-    ]?)
+    let mut changes = Vec::new(alloc);
+    changes.push(Change::ClearToEndOfScreen(ColorAttribute::Default))?;
+    for shown in ["> ", line] {
+        changes.push(Change::AllAttributes(CellAttributes::default()))?;
+        changes.push(text(alloc, shown)?)?;
+    }
+    Ok(changes)
 }
 
 /// The changes of a painting of the line, with a space behind it or none, and with the last move.

@@ -1,13 +1,11 @@
-//! What no clause says.
+//! Lines that are read at a device.
 
-use crate::event_log::EventLog;
-use crate::keys::{EventSource, KeyReader, SourceState};
-use crate::reading::{Answer, read_line_from};
-use crate::terminal::AnsiTerminal;
 use std::alloc::Global;
 use std::io;
 use std::io::Read;
-use std::test::Fail;
+use tw_device::{
+    AnsiTerminal, Answer, EventLog, EventSource, KeyReader, SourceState, read_line_from,
+};
 use tw_input::{InputEvent, KeyCode, KeyEvent, Modifiers};
 use tw_lineedit::{Error, NopLineEditorHost};
 use tw_terminal::{ScreenSize, Terminal, TerminalFault};
@@ -107,14 +105,24 @@ fn shown(answer: &Result<Answer, Error>) -> (&str, &str) {
     }
 }
 
+/// Reads a line from a source.
+fn line_from<S: EventSource>(
+    alloc: Global,
+    source: &mut S,
+    terminal: &mut AnsiTerminal<Vec<u8>>,
+    host: &mut NopLineEditorHost,
+) -> Result<Answer, Error> {
+    read_line_from(alloc, source, terminal, host, "> ")
+}
+
 #[test]
 fn the_end_of_the_source_is_not_enter(rt: HostRuntime) {
     let alloc = rt.alloc();
     let mut host = NopLineEditorHost::new(alloc);
     let mut source = Typed::new(b"one\rtwo", 0);
-    let first = read_line_from(alloc, &mut source, &mut terminal(alloc), &mut host, "> ");
+    let first = line_from(alloc, &mut source, &mut terminal(alloc), &mut host);
     assert_eq!(rt; shown(&first), ("line", "one"));
-    let second = read_line_from(alloc, &mut source, &mut terminal(alloc), &mut host, "> ");
+    let second = line_from(alloc, &mut source, &mut terminal(alloc), &mut host);
     assert_eq!(rt; shown(&second), ("end", "two"));
 }
 
@@ -123,9 +131,9 @@ fn what_a_refused_source_has_is_told_later(rt: HostRuntime) {
     let alloc = rt.alloc();
     let mut host = NopLineEditorHost::new(alloc);
     let mut source = Typed::new(b"ab\r", 2);
-    let first = read_line_from(alloc, &mut source, &mut terminal(alloc), &mut host, "> ");
+    let first = line_from(alloc, &mut source, &mut terminal(alloc), &mut host);
     assert_eq!(rt; shown(&first), ("refused", ""));
-    let second = read_line_from(alloc, &mut source, &mut terminal(alloc), &mut host, "> ");
+    let second = line_from(alloc, &mut source, &mut terminal(alloc), &mut host);
     assert_eq!(rt; shown(&second), ("line", "b"));
 }
 
@@ -134,13 +142,8 @@ fn a_resize_sets_the_size(rt: HostRuntime) {
     let alloc = rt.alloc();
     let mut host = NopLineEditorHost::new(alloc);
     let mut screen = terminal(alloc);
-    let answer = read_line_from(
-        alloc,
-        &mut Typed::new(b"a~b\r", 0),
-        &mut screen,
-        &mut host,
-        "> ",
-    );
+    let mut source = Typed::new(b"a~b\r", 0);
+    let answer = line_from(alloc, &mut source, &mut screen, &mut host);
     assert_eq!(rt; shown(&answer), ("line", "ab"));
     let size = screen.get_screen_size();
     assert!(rt; size.is_ok());
@@ -149,36 +152,26 @@ fn a_resize_sets_the_size(rt: HostRuntime) {
     }
 }
 
+/// Reads a line of bytes that come so many at a time.
+fn line_of(alloc: Global, bytes: &'static [u8], step: usize) -> Result<Answer, Error> {
+    let mut host = NopLineEditorHost::new(alloc);
+    let mut keys = KeyReader::new(alloc, Pieces { bytes, step });
+    line_from(alloc, &mut keys, &mut terminal(alloc), &mut host)
+}
+
 #[test]
 fn keys_are_the_same_in_pieces_of_any_size(rt: HostRuntime) {
-    let alloc = rt.alloc();
     for step in [1, 2, 3, 100] {
-        let mut host = NopLineEditorHost::new(alloc);
-        let reader = Pieces {
-            bytes: b"a\xc3\xa9b\x02\x7fc\r",
-            step,
-        };
-        let mut keys = KeyReader::new(alloc, reader);
-        let answer = read_line_from(alloc, &mut keys, &mut terminal(alloc), &mut host, "> ");
+        let answer = line_of(rt.alloc(), b"a\xc3\xa9b\x02\x7fc\r", step);
         assert_eq!(rt; shown(&answer), ("line", "acb"), "pieces of {step}");
     }
 }
 
 #[test]
 fn a_pasted_text_is_the_same_in_pieces_of_any_size(rt: HostRuntime) {
-    let alloc = rt.alloc();
+    let bytes = b"\x1b[0000200;1~one\x1b[201 two\x1b[201~\x1b[201~!\r";
     for step in [2, 3, 5, 100] {
-        let mut host = NopLineEditorHost::new(alloc);
-        let reader = Pieces {
-            bytes: b"\x1b[0000200;1~one\x1b[201 two\x1b[201~\x1b[201~!\r",
-            step,
-        };
-        let mut keys = KeyReader::new(alloc, reader);
-        let answer = read_line_from(alloc, &mut keys, &mut terminal(alloc), &mut host, "> ");
-        assert_eq!(rt;
-            shown(&answer),
-            ("line", "one [201 two!"),
-            "pieces of {step}"
-        );
+        let answer = line_of(rt.alloc(), bytes, step);
+        assert_eq!(rt; shown(&answer), ("line", "one [201 two!"));
     }
 }

@@ -1,4 +1,6 @@
-use super::*;
+//! What tests of hosts are written with.
+
+use host_testing::{last_painting, marked_text, rows, script_events};
 use std::test::Fail;
 use tw_input::{InputEvent, KeyCode, KeyEvent, Modifiers};
 use tw_surface::{
@@ -14,13 +16,16 @@ fn key(key: KeyCode, modifiers: Modifiers) -> InputEvent {
 fn scripts_are_events(rt: HostRuntime) -> Result<(), Fail> {
     let alloc = rt.alloc();
     let events = script_events(alloc, "type ab\nkey C-R\nkey Tab\npaste a b")?;
-    let expected = [
-        key(KeyCode::Char('a'), Modifiers::NONE),
-        key(KeyCode::Char('b'), Modifiers::NONE),
-        key(KeyCode::Char('R'), Modifiers::CTRL),
-        key(KeyCode::Tab, Modifiers::NONE),
-        InputEvent::Paste(String::from_str(alloc, "a b")?),
-    ];
+    let mut expected = Vec::new(alloc);
+    for (code, modifiers) in [
+        (KeyCode::Char('a'), Modifiers::NONE),
+        (KeyCode::Char('b'), Modifiers::NONE),
+        (KeyCode::Char('R'), Modifiers::CTRL),
+        (KeyCode::Tab, Modifiers::NONE),
+    ] {
+        expected.push(key(code, modifiers))?;
+    }
+    expected.push(InputEvent::Paste(String::from_str(alloc, "a b")?))?;
     assert!(rt; events.as_slice() == expected.as_slice());
     Ok(())
 }
@@ -28,18 +33,17 @@ fn scripts_are_events(rt: HostRuntime) -> Result<(), Fail> {
 #[test]
 fn attributes_stand_between_braces(rt: HostRuntime) -> Result<(), Fail> {
     let alloc = rt.alloc();
-    let changes = [
-        Change::CursorPosition {
-            x: Position::Absolute(0),
-            y: Position::Relative(-1),
-        },
-        Change::ClearToEndOfScreen(ColorAttribute::Default),
-        Change::AllAttributes(CellAttributes::default()),
-        Change::Text(String::from_str(alloc, "> ")?),
-        Change::Attribute(AttributeChange::Intensity(Intensity::Bold)),
-        Change::Text(String::from_str(alloc, "ls")?),
-    ];
-    let marked = marked_text(alloc, &changes)?;
+    let mut changes = Vec::new(alloc);
+    let x = Position::Absolute(0);
+    let y = Position::Relative(-1);
+    changes.push(Change::CursorPosition { x, y })?;
+    changes.push(Change::ClearToEndOfScreen(ColorAttribute::Default))?;
+    changes.push(Change::AllAttributes(CellAttributes::default()))?;
+    changes.push(Change::Text(String::from_str(alloc, "> ")?))?;
+    let bold = AttributeChange::Intensity(Intensity::Bold);
+    changes.push(Change::Attribute(bold))?;
+    changes.push(Change::Text(String::from_str(alloc, "ls")?))?;
+    let marked = marked_text(alloc, changes.as_slice())?;
     assert!(rt; marked.as_str() == "{}> {Intensity(Bold)}ls", "{marked}");
     Ok(())
 }

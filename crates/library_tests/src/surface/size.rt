@@ -1,5 +1,7 @@
-use crate::{AddFault, ScreenFault, SizeFault};
+//! The texts of the faults of sizes, sequences and screens.
+
 use std::test::Fail;
+use tw_surface::{AddFault, ScreenFault, SizeFault};
 
 #[test]
 fn texts_of_faults(rt: HostRuntime) -> Result<(), Fail> {

@@ -1,4 +1,8 @@
-use super::*;
+//! The columns of texts, and the attributes of a cell.
+
+use tw_surface::{
+    Blink, CellAttributes, ColorAttribute, Intensity, Underline, unicode_column_width,
+};
 
 #[test]
 fn columns_of_texts(rt: HostRuntime) {

@@ -1,8 +1,13 @@
-use super::*;
+//! The parts of hosts, and the host of tables.
+
 use std::alloc::{AllocError, Global};
 use std::test::Fail;
 use tw_history::BasicHistory;
 use tw_host::{Action, LineEditorHost, OutputElement};
+use tw_hosts::{
+    Binding, Hint, KeyBinding, Styles, TableHost, Tables, first_word, is_known, last_word,
+    split_token,
+};
 use tw_input::{InputEvent, KeyCode, KeyEvent, Modifiers};
 use tw_line::{LineEditBuffer, Movement};
 use tw_surface::{CellAttributes, ColorAttribute, Intensity};
@@ -51,41 +56,42 @@ fn told(alloc: Global, elements: &[OutputElement]) -> Result<String, AllocError>
     Ok(told)
 }
 
+/// Two rows have the same word.
+fn sql_hints(alloc: Global) -> Result<Vec<Hint>, AllocError> {
+    let mut hints = Vec::new(alloc);
+    for (word, text) in [
+        ("", "type a statement"),
+        ("drop", "drops\r\na table"),
+        ("drop", "never shown"),
+    ] {
+        hints.push(Hint {
+            word: String::from_str(alloc, word)?,
+            text: String::from_str(alloc, text)?,
+        })?;
+    }
+    Ok(hints)
+}
+
+/// Two rows have the same key.
+fn sql_keys(alloc: Global) -> Result<Vec<KeyBinding>, AllocError> {
+    let mut keys = Vec::new(alloc);
+    for (key, binding) in [
+        (F1, Binding::Clear),
+        (CTRL_Z, Binding::Cancel),
+        (F1, Binding::Accept),
+    ] {
+        keys.push(KeyBinding { key, binding })?;
+    }
+    Ok(keys)
+}
+
 /// A host that knows some SQL, with a hint for an empty line and one for a line that begins with `drop`.
 fn sql_host(alloc: Global) -> Result<TableHost<BasicHistory>, AllocError> {
-    let hints = vec![in alloc;
-        Hint {
-            word: String::new(alloc),
-            text: String::from_str(alloc, "type a statement")?
-        },
-        Hint {
-            word: String::from_str(alloc, "drop")?,
-            text: String::from_str(alloc, "drops\r\na table")?
-        },
-        Hint {
-            word: String::from_str(alloc, "drop")?,
-            text: String::from_str(alloc, "never shown")?
-        },
-    ]?;
-    let keys = vec![in alloc;
-        KeyBinding {
-            key: F1,
-            binding: Binding::Clear
-        },
-        KeyBinding {
-            key: CTRL_Z,
-            binding: Binding::Cancel
-        },
-        KeyBinding {
-            key: F1,
-            binding: Binding::Accept
-        },
-    ]?;
     let tables = Tables {
         keywords: words_of(alloc, "select from where")?,
         words: words_of(alloc, "users orders order_items")?,
-        hints,
-        keys,
+        hints: sql_hints(alloc)?,
+        keys: sql_keys(alloc)?,
         styles: styles(),
     };
     Ok(TableHost::new(tables, BasicHistory::new(alloc)))

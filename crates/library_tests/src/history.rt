@@ -1,5 +1,9 @@
-use super::*;
+//! Histories, and what is found in their lines.
+
+use std::alloc::AllocError;
+use std::borrow::CowStr;
 use std::test::Fail;
+use tw_history::{BasicHistory, History, SearchDirection, SearchResult, SearchStyle};
 
 /// The history with lines added in turn.
 fn filled<H: History + Drop>(mut history: H, lines: &[&str]) -> Result<H, AllocError> {
@@ -77,11 +81,8 @@ fn results_are_equal_by_their_values(rt: HostRuntime) -> Result<(), Fail> {
         cursor: 4,
     };
     assert_eq!(rt; owned, borrowed("git log", 1, 4));
-    for other in [
-        borrowed("git lo", 1, 4),
-        borrowed("git log", 0, 4),
-        borrowed("git log", 1, 0),
-    ] {
+    for (line, idx, cursor) in [("git lo", 1, 4), ("git log", 0, 4), ("git log", 1, 0)] {
+        let other = borrowed(line, idx, cursor);
         assert!(rt; owned != other, "{other:?}");
     }
     assert_eq!(rt; SearchStyle::Substring, SearchStyle::Substring);

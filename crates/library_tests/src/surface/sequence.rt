@@ -1,8 +1,11 @@
-use super::*;
-use crate::cell::CellAttributes;
-use crate::color::ColorAttribute;
-use std::alloc::AllocError;
+//! Where texts and moves lead, and what is refused.
+
+use std::alloc::{AllocError, Global};
+use std::process::Abort;
 use std::test::Fail;
+use tw_surface::{
+    AddFault, CellAttributes, Change, ChangeSequence, ColorAttribute, Position, SizeFault,
+};
 
 fn text(alloc: Global, s: &str) -> Result<Change, AllocError> {
     Ok(Change::Text(String::from_str(alloc, s)?))
@@ -10,6 +13,22 @@ fn text(alloc: Global, s: &str) -> Result<Change, AllocError> {
 
 fn at(x: Position, y: Position) -> Change {
     Change::CursorPosition { x, y }
+}
+
+/// The place to which two texts lead, one after the other.
+fn expect_place(
+    rt: &impl Abort,
+    alloc: Global,
+    before: &str,
+    s: &str,
+    place: (usize, isize),
+) -> Result<(), Fail> {
+    let mut sequence = ChangeSequence::new(alloc, 24, 5)?;
+    sequence.add(text(alloc, before)?)?;
+    sequence.add(text(alloc, s)?)?;
+    let found = sequence.current_cursor_position();
+    assert_eq!(rt; found, place, "at {before:?}, {s:?}");
+    Ok(())
 }
 
 /// Texts one after the other on five columns, each with the place to which it leads.
@@ -42,14 +61,7 @@ fn texts_lead_to_their_places(rt: HostRuntime) -> Result<(), Fail> {
         ("", "\u{200b}", (0, 0)),
     ];
     for (before, s, place) in cases {
-        let mut sequence = ChangeSequence::new(rt.alloc(), 24, 5)?;
-        sequence.add(text(rt.alloc(), before)?)?;
-        sequence.add(text(rt.alloc(), s)?)?;
-        assert_eq!(rt;
-            sequence.current_cursor_position(),
-            place,
-            "at {before:?}, {s:?}"
-        );
+        expect_place(&rt, rt.alloc(), before, s, place)?;
     }
     Ok(())
 }
@@ -93,36 +105,39 @@ fn moves_are_relative(rt: HostRuntime) -> Result<(), Fail> {
     Ok(())
 }
 
-/// Changes one after the other on five columns, each with the place and the height that follow.
+/// Adds a change. Wanted are the place to which it leads, and the height then.
+fn expect_added(
+    rt: &impl Abort,
+    sequence: &mut ChangeSequence,
+    change: Change,
+    place: (usize, isize),
+    height: usize,
+) -> Result<(), Fail> {
+    sequence.add(change)?;
+    assert_eq!(rt; sequence.current_cursor_position(), place);
+    assert_eq!(rt; sequence.render_height(), height);
+    Ok(())
+}
+
+/// Changes one after the other on five columns.
 #[test]
 fn changes_lead_to_their_places(rt: HostRuntime) -> Result<(), Fail> {
     let mut sequence = ChangeSequence::new(rt.alloc(), 24, 5)?;
+    let it = &mut sequence;
     let default = ColorAttribute::default();
-    for (change, place, height) in [
-        (Change::AllAttributes(CellAttributes::default()), (0, 0), 0),
-        (
-            at(Position::Absolute(9), Position::Relative(-3)),
-            (4, -3),
-            3,
-        ),
-        (
-            at(Position::Relative(-9), Position::Relative(1)),
-            (0, -2),
-            3,
-        ),
-        (Change::ClearToEndOfScreen(default), (0, -2), 3),
-        (at(Position::Relative(2), Position::Absolute(4)), (2, 4), 7),
-        (Change::ClearScreen(default), (0, 0), 7),
-        (
-            at(Position::Absolute(0), Position::Relative(-1)),
-            (0, -1),
-            7,
-        ),
-    ] {
-        sequence.add(change)?;
-        assert_eq!(rt; sequence.current_cursor_position(), place);
-        assert_eq!(rt; sequence.render_height(), height);
-    }
+    let plain = Change::AllAttributes(CellAttributes::default());
+    expect_added(&rt, it, plain, (0, 0), 0)?;
+    let up = at(Position::Absolute(9), Position::Relative(-3));
+    expect_added(&rt, it, up, (4, -3), 3)?;
+    let down = at(Position::Relative(-9), Position::Relative(1));
+    expect_added(&rt, it, down, (0, -2), 3)?;
+    let clear_below = Change::ClearToEndOfScreen(default);
+    expect_added(&rt, it, clear_below, (0, -2), 3)?;
+    let far = at(Position::Relative(2), Position::Absolute(4));
+    expect_added(&rt, it, far, (2, 4), 7)?;
+    expect_added(&rt, it, Change::ClearScreen(default), (0, 0), 7)?;
+    let above = at(Position::Absolute(0), Position::Relative(-1));
+    expect_added(&rt, it, above, (0, -1), 7)?;
     sequence.add(text(rt.alloc(), "abcde")?)?;
     sequence.add(at(Position::Relative(-1), Position::Relative(0)))?;
     assert_eq!(rt;
@@ -133,46 +148,51 @@ fn changes_lead_to_their_places(rt: HostRuntime) -> Result<(), Fail> {
     Ok(())
 }
 
-#[test]
-fn rows_past_the_limit_are_refused(rt: HostRuntime) -> Result<(), Fail> {
-    let last = 2_147_483_647;
-    for (y, row) in [
-        (Position::Absolute(2_147_483_647), Some(last)),
-        (Position::Absolute(2_147_483_648), None),
-        (Position::Absolute(usize::MAX), None),
-        (Position::Relative(2_147_483_647), Some(last)),
-        (Position::Relative(2_147_483_648), None),
-        (Position::Relative(-2_147_483_647), Some(-last)),
-        (Position::Relative(-2_147_483_648), None),
-        (Position::Relative(isize::MIN), None),
-    ] {
-        let mut sequence = ChangeSequence::new(rt.alloc(), 1, 5)?;
-        sequence.add(text(rt.alloc(), "ab")?)?;
-        let added = sequence.add(at(Position::Relative(0), y));
-        match row {
-            Some(row) => {
-                assert_eq!(rt; added, Ok(()));
-                assert_eq!(rt; sequence.current_cursor_position(), (2, row));
-            }
-            None => {
-                assert_eq!(rt; added, Err(AddFault::OutOfRange));
-                assert_eq!(rt; sequence.current_cursor_position(), (2, 0));
-                assert_eq!(rt; sequence.consume().len(), 1);
-            }
+/// A move from row 0, which leads to a row, or is refused and leaves all as it was.
+fn expect_row(rt: &impl Abort, alloc: Global, y: Position, row: Option<isize>) -> Result<(), Fail> {
+    let mut sequence = ChangeSequence::new(alloc, 1, 5)?;
+    sequence.add(text(alloc, "ab")?)?;
+    let added = sequence.add(at(Position::Relative(0), y));
+    let place = sequence.current_cursor_position();
+    match row {
+        Some(row) => {
+            assert_eq!(rt; added, Ok(()));
+            assert_eq!(rt; place, (2, row));
+        }
+        None => {
+            assert_eq!(rt; added, Err(AddFault::OutOfRange));
+            assert_eq!(rt; place, (2, 0));
+            assert_eq!(rt; sequence.consume().len(), 1);
         }
     }
-    let mut sequence = ChangeSequence::new(rt.alloc(), 1, 5)?;
-    sequence.add(at(Position::Absolute(0), Position::Absolute(2_147_483_647)))?;
-    sequence.add(text(rt.alloc(), "abcde")?)?;
+    Ok(())
+}
+
+/// A text is refused behind the last column of the last row, and leaves all as it was.
+fn expect_no_row(rt: &impl Abort, sequence: &mut ChangeSequence, added: Change) {
     let height = sequence.render_height();
+    assert_eq!(rt; sequence.add(added), Err(AddFault::OutOfRange));
+    assert_eq!(rt; sequence.current_cursor_position(), (5, 2_147_483_647));
+    assert_eq!(rt; sequence.render_height(), height);
+}
+
+#[test]
+fn rows_past_the_limit_are_refused(rt: HostRuntime) -> Result<(), Fail> {
+    let alloc = rt.alloc();
+    let last = 2_147_483_647;
+    expect_row(&rt, alloc, Position::Absolute(2_147_483_647), Some(last))?;
+    expect_row(&rt, alloc, Position::Absolute(2_147_483_648), None)?;
+    expect_row(&rt, alloc, Position::Absolute(usize::MAX), None)?;
+    expect_row(&rt, alloc, Position::Relative(2_147_483_647), Some(last))?;
+    expect_row(&rt, alloc, Position::Relative(2_147_483_648), None)?;
+    expect_row(&rt, alloc, Position::Relative(-2_147_483_647), Some(-last))?;
+    expect_row(&rt, alloc, Position::Relative(-2_147_483_648), None)?;
+    expect_row(&rt, alloc, Position::Relative(isize::MIN), None)?;
+    let mut sequence = ChangeSequence::new(alloc, 1, 5)?;
+    sequence.add(at(Position::Absolute(0), Position::Absolute(2_147_483_647)))?;
+    sequence.add(text(alloc, "abcde")?)?;
     for s in ["f", "\n", "x\u{e9}", "\r\n"] {
-        assert_eq!(rt;
-            sequence.add(text(rt.alloc(), s)?),
-            Err(AddFault::OutOfRange),
-            "at {s:?}"
-        );
-        assert_eq!(rt; sequence.current_cursor_position(), (5, 2_147_483_647));
-        assert_eq!(rt; sequence.render_height(), height);
+        expect_no_row(&rt, &mut sequence, text(alloc, s)?);
     }
     Ok(())
 }

@@ -1,12 +1,12 @@
-//! What no clause says: the operators of a set of modifiers, and values from outside.
+//! The operators of a set of modifiers, and values from outside.
 
 ghost use Rattle.std.specs.Prelude.{◌≡◌, ◌↔◌, IfSome, IsSome};
 ghost use Rattle.std.specs.Int.RustNames.{bit_and};
 ghost use Rattle.tw_input.specs.Modifiers.{modifier_bits};
 
-use crate::{InputEvent, KeyCode, KeyEvent, Modifiers, laws};
 use bitflags::Flags;
 use std::test::Fail;
+use tw_input::{InputEvent, KeyCode, KeyEvent, Modifiers, laws};
 
 /// What `from_bits` answers, in the bits of the modifiers.
 fn known_modifiers(bits: u16) -> Option<Modifiers>

@@ -1,10 +1,12 @@
-use super::LineEditBuffer;
-use crate::movements::Movement::{
-    self, BackwardChar, BackwardWord, EndOfLine, ForwardChar, ForwardWord, StartOfLine,
-};
+//! Movements and edits of a line.
+
 use std::alloc::Global;
 use std::process::Abort;
 use std::test::Fail;
+use tw_line::LineEditBuffer;
+use tw_line::Movement::{
+    self, BackwardChar, BackwardWord, EndOfLine, ForwardChar, ForwardWord, StartOfLine,
+};
 
 fn buffer_at(
     rt: &impl Abort,

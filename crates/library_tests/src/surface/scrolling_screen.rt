@@ -1,11 +1,9 @@
-use crate::change::{Change, Position};
-use crate::color::ColorAttribute;
-use crate::screen::ScreenFault;
-use crate::scrolling_screen::ScrollingScreen;
-use crate::size::SizeFault;
+//! What a screen with a last row shows.
+
 use std::alloc::Global;
 use std::process::Abort;
 use std::test::Fail;
+use tw_surface::{Change, ColorAttribute, Position, ScreenFault, ScrollingScreen, SizeFault};
 
 fn text(alloc: Global, text: &str) -> Result<Change, Fail> {
     Ok(Change::Text(String::from_str(alloc, text)?))
@@ -37,40 +35,39 @@ fn sizes(rt: HostRuntime) {
     }
 }
 
+/// Plays a change. Wanted are the cursor then, and the first characters of both rows.
+fn expect_played(
+    rt: &impl Abort,
+    screen: &mut ScrollingScreen,
+    change: Change,
+    cursor: (usize, usize),
+    (first, below): (char, char),
+) {
+    assert_eq!(rt; screen.apply(&change), Ok(()));
+    assert_eq!(rt; screen.cursor(), cursor);
+    assert_eq!(rt; screen.char_at(0, 0), first);
+    assert_eq!(rt; screen.char_at(1, 0), below);
+    assert_eq!(rt; screen.char_at(2, 0), ' ');
+}
+
 #[test]
 fn rows_go_up(rt: HostRuntime) -> Result<(), Fail> {
-    let mut screen = ScrollingScreen::new(rt.alloc(), 2, 3)?;
-    for (change, cursor, first, below) in [
-        (text(rt.alloc(), "abc")?, (0, 3), 'a', ' '),
-        (text(rt.alloc(), "de")?, (1, 2), 'a', 'd'),
-        (text(rt.alloc(), "fg")?, (1, 1), 'd', 'g'),
-        (move_down(1), (1, 0), 'g', ' '),
-        (text(rt.alloc(), "h")?, (1, 1), 'g', 'h'),
-        (move_down(-3), (0, 0), 'g', 'h'),
-        (text(rt.alloc(), "i\n\n\r")?, (1, 0), 'h', ' '),
-        (
-            Change::ClearToEndOfScreen(ColorAttribute::Default),
-            (1, 0),
-            'h',
-            ' ',
-        ),
-        (
-            Change::ClearScreen(ColorAttribute::Default),
-            (0, 0),
-            ' ',
-            ' ',
-        ),
-    ] {
-        assert_eq!(rt; screen.apply(&change), Ok(()));
-        assert_eq!(rt; screen.cursor(), cursor);
-        assert_eq!(rt;
-            (screen.char_at(0, 0), screen.char_at(1, 0)),
-            (first, below)
-        );
-        assert_eq!(rt; screen.char_at(2, 0), ' ');
-    }
+    let alloc = rt.alloc();
+    let mut screen = ScrollingScreen::new(alloc, 2, 3)?;
+    let it = &mut screen;
+    expect_played(&rt, it, text(alloc, "abc")?, (0, 3), ('a', ' '));
+    expect_played(&rt, it, text(alloc, "de")?, (1, 2), ('a', 'd'));
+    expect_played(&rt, it, text(alloc, "fg")?, (1, 1), ('d', 'g'));
+    expect_played(&rt, it, move_down(1), (1, 0), ('g', ' '));
+    expect_played(&rt, it, text(alloc, "h")?, (1, 1), ('g', 'h'));
+    expect_played(&rt, it, move_down(-3), (0, 0), ('g', 'h'));
+    expect_played(&rt, it, text(alloc, "i\n\n\r")?, (1, 0), ('h', ' '));
+    let clear_below = Change::ClearToEndOfScreen(ColorAttribute::Default);
+    expect_played(&rt, it, clear_below, (1, 0), ('h', ' '));
+    let clear = Change::ClearScreen(ColorAttribute::Default);
+    expect_played(&rt, it, clear, (0, 0), (' ', ' '));
     assert_eq!(rt;
-        screen.apply(&text(rt.alloc(), "\u{e9}")?),
+        screen.apply(&text(alloc, "\u{e9}")?),
         Err(ScreenFault::NotPlain)
     );
     Ok(())
