@@ -1,11 +1,11 @@
 //! What edits and steps cost in a line: insertions, kills, steps over characters and steps over words at the front,
 //! in the middle and at the end of lines of four kinds and three lengths, and many characters inserted at once in the
-//! middle. What it found goes to standard output, and the times to standard error.
-#![tactic(auto)]
+//! middle.
 
 mod workload;
 
-use crate::workload::{Kind, Place, Workload, each, split_line};
+use crate::line::workload::{Kind, Place, ROUNDS, Workload, split_line};
+use crate::times::each;
 use std::alloc::Global;
 use std::rt::Clock;
 use std::time::Instant;
@@ -17,13 +17,16 @@ const SIZE: ScreenSize = ScreenSize { rows: 24, cols: 80 };
 /// How many characters are inserted at once.
 const COUNT: usize = 1_000;
 
-fn main(rt: HostRuntime) -> Result<(), anyhow::Error> {
+/// Times the operations at each place of each line.
+pub fn time_lines(
+    rt: &(impl Alloc<A = Global> + Clock + Print + Eprint),
+) -> Result<(), anyhow::Error> {
     for characters in [1_000, 10_000, 100_000] {
         for kind in [Kind::Ascii, Kind::TwoBytes, Kind::Wide, Kind::Flag] {
             for place in [Place::Front, Place::Middle, Place::End] {
-                measure(&rt, kind, characters, place)?;
+                measure(rt, kind, characters, place)?;
             }
-            measure_counted(&rt, kind, characters)?;
+            measure_counted(rt, kind, characters)?;
         }
     }
     Ok(())
@@ -80,10 +83,10 @@ fn measure(
     println!(rt; "{characters} {kind} {place}: at character {index} of {bytes} bytes")?;
     eprintln!(rt;
         "{characters} {kind} {place}: {} ns an insertion, {} ns a kill, {} ns a step, {} ns a word",
-        each(inserted),
-        each(killed),
-        each(moved),
-        each(words)
+        each(inserted, ROUNDS),
+        each(killed, ROUNDS),
+        each(moved, ROUNDS),
+        each(words, ROUNDS)
     )?;
     Ok(())
 }

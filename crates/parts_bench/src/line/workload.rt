@@ -2,11 +2,10 @@
 
 use std::alloc::{AllocError, Global};
 use std::fmt::{self, Display, Formatter, Write};
-use std::time::Duration;
 use tw_lineedit::{Action, LineEditBuffer, Movement};
 
 /// How often each operation is done. It is even, so that each step ahead has its step back.
-const ROUNDS: u32 = 50;
+pub const ROUNDS: u32 = 50;
 
 /// How many characters a word has, with the space behind it.
 const WORD: usize = 8;
@@ -154,9 +153,4 @@ pub fn split_line(alloc: Global, kind: Kind, characters: usize) -> Result<[Actio
         Action::Move(Movement::StartOfLine),
         Action::InsertText(1, front),
     ])
-}
-
-/// The nanoseconds of each round.
-pub fn each(all: Duration) -> u128 {
-    all.as_nanos() / u128::from(ROUNDS)
 }
