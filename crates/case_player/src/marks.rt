@@ -7,3 +7,11 @@ pub fn mark(alloc: Global) -> Result<(), AllocError> {
     let _mark: Vec<u8> = Vec::with_capacity(alloc, 1_000_003)?;
     Ok(())
 }
+
+/// Begins or ends the counting where that is wanted.
+pub fn mark_if(alloc: Global, is_wanted: bool) -> Result<(), AllocError> {
+    if is_wanted {
+        mark(alloc)?;
+    }
+    Ok(())
+}

@@ -1,7 +1,7 @@
 //! What a screen shows of paintings, one over the other.
 
 use crate::histories::expect_both;
-use crate::support::{case_of, readings_of};
+use case_player::{case_of, readings_of};
 use script_player::{play_all, show_screen};
 use std::test::Fail;
 use tw_lineedit::NopLineEditorHost;

@@ -1,6 +1,6 @@
 //! Actions on a line that is set, and several readings with one editor.
 
-use crate::support::{answer_text, batches_text, remember_all, terminal_of};
+use case_player::{answer_text, batches_text, remember_all, terminal_of};
 use std::alloc::Global;
 use std::process::Abort;
 use std::test::Fail;

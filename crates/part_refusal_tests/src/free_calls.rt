@@ -1,7 +1,6 @@
 //! Calls of lines, histories, sequences, screens and terminals that make no request for memory.
 
-use crate::marks::mark;
-use case_player::terminal_of;
+use case_player::{mark, terminal_of};
 use std::alloc::Global;
 use std::borrow::CowStr;
 use std::process::Abort;

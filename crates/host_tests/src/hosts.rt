@@ -1,19 +1,10 @@
 //! Hosts that answer for themselves.
 
-ghost use Rattle.std.specs.Prelude.{ℕ, List, refl};
-ghost use Rattle.editor_tests.specs.ResolvingHost.{resolving_rules, resolve_override, resolving_is_plain};
-
 use crate::actions::expect_action;
-use crate::histories::told_of;
-use crate::support::{case_of, readings_of, terminal_text};
-use case_player::ColumnHost;
-use std::alloc::{AllocError, Global};
+use case_player::{ColumnHost, ResolvingHost, case_of, readings_of, terminal_text, told_of};
+use std::alloc::Global;
 use std::test::Fail;
-use tw_input::{InputEvent, KeyCode, KeyEvent};
-use tw_lineedit::{
-    Action, BasicHistory, LineEditBuffer, LineEditorHost, NopLineEditorHost, OutputElement,
-    Overrides,
-};
+use tw_lineedit::{Action, LineEditorHost, NopLineEditorHost, OutputElement};
 
 /// What is shown of a reading without events, on a terminal of so many columns.
 fn shown_at(alloc: Global, cols: usize, column: usize) -> Result<String, Fail> {
@@ -59,71 +50,6 @@ fn a_cursor_behind_the_line_stands_in_its_cell(rt: HostRuntime) -> Result<(), Fa
     Ok(())
 }
 
-/// A host that has a line of its own for the first function key, and gives up at Escape.
-#[derive(Drop)]
-struct ResolvingHost {
-    history: BasicHistory,
-}
-
-impl LineEditorHost for ResolvingHost {
-    type Hist = BasicHistory;
-
-    ghost Value = { List (List ℕ) };
-
-    ghost value = { λ host. host.history };
-
-    ghost rules = { resolving_rules };
-
-    ghost history_of = { λ host. host.history };
-
-    ghost with_history = { λ host history. record host { history = history } };
-
-    ghost OVERRIDES = { resolve_override };
-
-    const OVERRIDES: Overrides = Overrides {
-        resolve_action: true,
-        ..Overrides::NONE
-    };
-
-    fn history(&mut self) -> &mut BasicHistory {
-        &mut self.history
-    }
-
-    fn resolve_action(
-        &mut self,
-        _alloc: Global,
-        event: &InputEvent,
-        editor: &mut LineEditBuffer,
-    ) -> Result<Option<Action>, AllocError> {
-        match event {
-            InputEvent::Key(
-                KeyEvent {
-                    key: KeyCode::Function(1),
-                    modifiers: _,
-                },
-            ) => {
-                editor.set_line_and_cursor("clear", 5)?;
-                Ok(Some(Action::NoAction))
-            }
-            InputEvent::Key(
-                KeyEvent {
-                    key: KeyCode::Escape,
-                    modifiers: _,
-                },
-            ) => Ok(Some(Action::Cancel)),
-            _ => Ok(None),
-        }
-    }
-
-    ghost plain_answers = { resolving_is_plain };
-
-    ghost history_put_back = { λ host. refl };
-
-    ghost held_put = { λ host history. refl };
-
-    ghost held_lines = { λ host. refl };
-}
-
 #[test]
 fn a_host_answers_before_the_key_table(rt: HostRuntime) -> Result<(), Fail> {
     let alloc = rt.alloc();
@@ -134,8 +60,7 @@ fn a_host_answers_before_the_key_table(rt: HostRuntime) -> Result<(), Fail> {
     ] {
         let mut case = case_of(alloc, "")?;
         case.events = events;
-        let history = BasicHistory::new(alloc);
-        let (answer, _) = readings_of(alloc, &case, &mut ResolvingHost { history })?;
+        let (answer, _) = readings_of(alloc, &case, &mut ResolvingHost::new(alloc))?;
         assert_eq!(rt; answer.as_str(), wanted, "{events}");
     }
     Ok(())

@@ -1,6 +1,6 @@
 //! Edits of a line buffer, with each request refused in turn.
 
-use crate::marks::mark;
+use case_player::mark;
 use std::alloc::{AllocError, Global};
 use std::process::Abort;
 use std::test::Fail;

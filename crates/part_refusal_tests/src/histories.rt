@@ -1,6 +1,6 @@
 //! Lines that are added to a history, with each request refused in turn.
 
-use crate::marks::mark;
+use case_player::mark;
 use script_player::ListHistory;
 use std::alloc::{AllocError, Global};
 use std::borrow::CowStr;

@@ -1,8 +1,8 @@
 //! Candidates and previews.
 
 use crate::actions::{expect_action, expect_step};
-use crate::histories::{expect_both, told_of};
-use crate::support::{case_of, host_of, terminal_of};
+use crate::histories::expect_both;
+use case_player::{case_of, host_of, terminal_of, told_of};
 use std::test::Fail;
 use tw_lineedit::{Action, BasicHistory, LineEditor, Movement};
 

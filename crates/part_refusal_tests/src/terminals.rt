@@ -1,7 +1,6 @@
 //! Batches that are rendered on a scripted terminal, with each request refused in turn.
 
-use crate::marks::mark;
-use case_player::{batches_text, terminal_of};
+use case_player::{batches_text, mark, terminal_of};
 use std::alloc::{AllocError, Global};
 use std::process::Abort;
 use std::test::Fail;

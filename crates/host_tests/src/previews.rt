@@ -1,7 +1,6 @@
 //! Paintings of previews of several rows.
 
-use crate::histories::told_of;
-use crate::support::{case_of, host_of};
+use case_player::{case_of, host_of, told_of};
 use std::test::Fail;
 use tw_lineedit::BasicHistory;
 

@@ -1,6 +1,6 @@
 //! Sequences of changes and screens, with each request refused in turn.
 
-use crate::marks::mark;
+use case_player::mark;
 use std::alloc::{AllocError, Global};
 use std::process::Abort;
 use std::test::Fail;

@@ -1,7 +1,7 @@
 //! A history that forgets its oldest lines, by itself and under an editor.
 
 use crate::histories::expect_histories;
-use crate::support::terminal_of;
+use case_player::terminal_of;
 use script_player::ScriptHost;
 use std::alloc::{AllocError, Global};
 use std::borrow::CowStr;
