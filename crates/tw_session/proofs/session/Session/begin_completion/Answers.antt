@@ -95,6 +95,6 @@ returns-clause-ok g c =
     slice_get-map candidate_view c.in_ok-candidates.candidates.items 0 ∙ ap (option_map candidate_view) items in
     record {
       state = completes _ (search_left s) all (candidate_view c.in-Some.first.now) line c.in_ok-completed.completed (cycle_kept s s.mode ∙ c.requires) shown offers first c.in_ok-completed.ensures.ok
-      ∙ sym (ap (λ (v : SessionView). Ok v.state) new);
+          ∙ sym (ap (λ (v : SessionView). Ok v.state) new);
       mark = ap (λ (v : SessionView). v.mark) new;
     }
