@@ -14,7 +14,7 @@ module _ {H Hist V : Type 0} (rules : HostRules V) (value : H → V) (history_of
   -- the line is the last one of the host's history, and the rest of the host is as it was
   pub record Remembers (line : List ℕ) (old new : H) : Type 0 where
     pub kept : new ≡ with_history old (history_of new)
-    pub mark : last_line (rules.lines (value new)) ≡ Some line
+    pub last : last_line (rules.lines (value new)) ≡ Some line
     pub added : gives (history_of old) line (history_of new)
 
   -- the same where there is a line, and else the host is as it was

@@ -9,7 +9,7 @@ use tw_host::LineEditorHost;
 /// second walk begins at the last line again.
 pub fn walk<H: LineEditorHost>()
     ensures typed { (v : H.Value) → WalksBack H.rules v }
-    ensures search_left { (v : H.Value) → LeavesHistory H.rules v }
+    ensures history_left { (v : H.Value) → LeavesHistory H.rules v }
 {}
 
 /// An insertion into a pattern that some line contains, and backward searches behind it, show the lines that

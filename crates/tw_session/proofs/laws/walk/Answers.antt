@@ -4,5 +4,5 @@ use Rattle.tw_session.proofs.laws.walk.Goals as goal
 pub returns-clause-typed : goal.returns-clause-typed
 returns-clause-typed g c = walks g.H.LineEditorHost.rules
 
-pub returns-clause-search_left : goal.returns-clause-search_left
-returns-clause-search_left g c = leaves g.H.LineEditorHost.rules
+pub returns-clause-history_left : goal.returns-clause-history_left
+returns-clause-history_left g c = leaves g.H.LineEditorHost.rules
