@@ -6,3 +6,4 @@ pub mod EventLemmas
 pub mod KeyNameLemmas
 pub mod LineLemmas
 pub mod PlayingLemmas
+pub mod ReadingLemmas
