@@ -2,8 +2,8 @@
 //! written in them.
 //!
 //! `case` reads a case and plays it; `events` has events by their names; `told` says what came of it, as text, and
-//! `outcome` what comes of a case with its screen. `marks` has marks, between which the gate counts the requests for memory. `column_host` is a host with a column of
-//! its own, and `resolving_host` one that resolves events for itself.
+//! `outcome` what comes of a case with its screen. `marks` has marks, between which the gate counts the requests for
+//! memory. `column_host` is a host with a column of its own, and `resolving_host` one that resolves events for itself.
 #![tactic(auto)]
 
 mod case;
