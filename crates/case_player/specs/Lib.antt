@@ -1,2 +1,1 @@
 pub mod ColumnHost
-pub mod ResolvingHost

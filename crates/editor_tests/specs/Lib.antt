@@ -1,3 +1,4 @@
 pub mod AskedHost
 pub mod PiecesHost
+pub mod ResolvingHost
 pub mod StrayHost

@@ -1,6 +1,9 @@
 //! Cases whose outcome is compared with a text.
 
-use case_player::{case_of, readings_of, remember_all, terminal_text};
+pub use case_player::{
+    Case, answer_text, batches_text, case_of, events_named, host_of, readings_of, remember_all,
+    terminal_of, terminal_text, write_batch,
+};
 use std::alloc::Global;
 use std::process::Abort;
 use std::test::Fail;

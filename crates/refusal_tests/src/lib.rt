@@ -1,24 +1,26 @@
-//! Readings, fed lines, actions and scripts whose requests for memory are refused, each in turn, and actions that make
-//! none. The gate runs these tests with a request refused between their marks; alone they pass too.
+//! Calls whose requests for memory are refused, each in turn, and calls that make none. The gate runs these tests
+//! with a request refused between their marks; alone they pass too.
 #![tactic(auto)]
 
 #[cfg(test)]
 mod actions;
 #[cfg(test)]
-mod fed_lines;
+mod buffers;
 #[cfg(test)]
-mod feeding;
+mod drawings;
+#[cfg(test)]
+mod free_calls;
 #[cfg(test)]
 mod free_steps;
+#[cfg(test)]
+mod histories;
+#[cfg(test)]
+mod marks;
 #[cfg(test)]
 mod read_lines;
 #[cfg(test)]
 mod readings;
 #[cfg(test)]
-mod remembered;
-#[cfg(test)]
-mod resolutions;
-#[cfg(test)]
 mod scripts;
 #[cfg(test)]
-mod watched;
+mod terminals;

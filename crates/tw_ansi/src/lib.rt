@@ -19,3 +19,6 @@ pub use decode::scan;
 pub use encode::Encoder;
 pub use resume::{Progress, scan_on};
 pub use token::{Scanned, Token};
+
+#[cfg(test)]
+mod tests;

@@ -264,3 +264,6 @@ impl History for BasicHistory {
         Ok(nearest_line(self, idx, style, direction, pattern))
     }
 }
+
+#[cfg(test)]
+mod tests;

@@ -10,3 +10,6 @@ pub mod laws;
 
 pub use event::InputEvent;
 pub use key::{KeyCode, KeyEvent, Modifiers};
+
+#[cfg(test)]
+mod tests;

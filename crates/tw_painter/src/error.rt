@@ -111,3 +111,43 @@ impl From<TerminalFault> for Error {
         Error::Terminal(fault)
     }
 }
+
+#[cfg(test)]
+mod tests {
+    use super::*;
+    use std::test::Fail;
+
+    #[test]
+    fn errors_have_texts_and_numbers(rt: HostRuntime) -> Result<(), Fail> {
+        for (error, number, text) in [
+            (Error::EndOfFile, 1, "End Of File"),
+            (Error::Recursive, 2, "recursive call to read_line!"),
+            (Error::ZeroSize, 3, "screen size is zero"),
+            (Error::SizeOutOfRange, 4, "size out of range"),
+            (
+                Error::CandidateDoesNotFit,
+                5,
+                "completion candidate does not fit",
+            ),
+            (Error::from(AllocError), 6, "out of memory"),
+            (Error::from(TerminalFault::Device), 7, "terminal fault"),
+            (Error::from(TerminalFault::Memory), 7, "terminal fault"),
+        ] {
+            assert_eq!(rt; error.number(), number, "{error:?}");
+            let shown = format!(in rt.alloc(); "{error}")?;
+            assert_eq!(rt; shown.as_str(), text);
+        }
+        Ok(())
+    }
+
+    /// Fails as a refused push does.
+    fn refused() -> Result<(), Error> {
+        let failed: Result<(), AllocFailed<u8>> = Err(AllocFailed { value: 1 });
+        Ok(failed?)
+    }
+
+    #[test]
+    fn refused_push_is_memory(rt: HostRuntime) {
+        assert!(rt; matches!(refused(), Err(Error::Memory(AllocError))));
+    }
+}

@@ -168,3 +168,6 @@ fn clusters_width(text: &str) -> usize
     }
     total
 }
+
+#[cfg(test)]
+mod tests;

@@ -71,3 +71,6 @@ impl From<String> for Change {
         Change::Text(text)
     }
 }
+
+#[cfg(test)]
+mod tests;

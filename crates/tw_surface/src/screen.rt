@@ -258,3 +258,6 @@ impl Screen {
         Ok(())
     }
 }
+
+#[cfg(test)]
+mod tests;

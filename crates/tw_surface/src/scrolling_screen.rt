@@ -91,3 +91,6 @@ impl ScrollingScreen {
         Ok(())
     }
 }
+
+#[cfg(test)]
+mod tests;

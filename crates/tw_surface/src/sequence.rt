@@ -206,3 +206,6 @@ fn relative_move(from: Extent, x: usize, y: isize) -> Change
         y: Position::Relative(y - from.y),
     }
 }
+
+#[cfg(test)]
+mod tests;

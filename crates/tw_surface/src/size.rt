@@ -29,3 +29,6 @@ impl fmt::Display for SizeFault {
 }
 
 impl Error for SizeFault {}
+
+#[cfg(test)]
+mod tests;

@@ -5,3 +5,6 @@
 mod host;
 
 pub use host::CommandHost;
+
+#[cfg(test)]
+mod tests;
