@@ -11,7 +11,7 @@ use Rattle.tw_lineedit.specs.Run.{run_of}
 use Rattle.tw_lineedit.specs.declared.Error.{Error}
 use Rattle.tw_lineedit.specs.declared.Error.TheVariants as error
 use Rattle.script_player.specs.Answers.{IsAnswerTo, IsContinuation, answer_text, text_of}
-use Rattle.script_player.specs.NewEditor.{AnswersLine, ReadsLine, RefusesLine, before, after}
+use Rattle.script_player.specs.NewEditor.{AnswersLine, ReadsLine, RefusesLine, before}
 use Rattle.script_player.specs.Playback.{Stage, Tells}
 use Rattle.script_player.specs.ScriptRules.{Scripted, script_overrides, script_rules}
 use Rattle.script_player.specs.declared.answer.Answer.{Answer}

@@ -1,5 +1,5 @@
 -- What was taken where a run is stopped is a beginning of what the run takes.
-use Rattle.std.proofs.Common.{◌≡◌, ℕ, List, [], ◌∷◌, ◌++◌, true, false, Bool, cond, sym, ◌∙◌, subst, append_assoc, Ok, Err, Result}
+use Rattle.std.proofs.Common.{◌≡◌, List, [], ◌∷◌, ◌++◌, true, false, Bool, cond, sym, ◌∙◌, subst, append_assoc, Ok, Err, Result}
 use Rattle.std.proofs.lemmas.List.{append-nil}
 use Rattle.tw_surface.specs.ChangeView.{Batch}
 use Rattle.tw_input.specs.EventView.{EventView}
@@ -11,7 +11,7 @@ use Rattle.tw_painter.specs.Refusal.{Refusal}
 use Rattle.tw_session.specs.Outcomes.{is_over, answer_at}
 use Rattle.tw_session.specs.Steps.{clears_if}
 use Rattle.tw_lineedit.specs.Frame.{Frame}
-use Rattle.tw_lineedit.specs.Run.{Progress, Ending, Moment, Cause, CanStop, StoppedRunsBegin, run, run_of, progress_of, painting_at, after_painting, after_event, at_event, at_end, after_action, chosen_action, state_after, ends, moment}
+use Rattle.tw_lineedit.specs.Run.{Progress, Moment, Cause, CanStop, StoppedRunsBegin, run, progress_of, painting_at, after_painting, after_event, at_event, at_end, after_action, chosen_action, state_after, ends}
 use Rattle.tw_lineedit.specs.Run.CanStop.{unmeasured, unpainted, half_painted, unpolled, uncopied, unresolved, unapplied, half_cleared, later}
 use Rattle.tw_lineedit.specs.Stations.{station_batches, stations_of}
 use Rattle.tw_lineedit.proofs.StationLemmas.{batches_by_stations}
