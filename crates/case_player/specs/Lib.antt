@@ -1,1 +1,2 @@
 pub mod ColumnHost
+pub mod ResolvingHost

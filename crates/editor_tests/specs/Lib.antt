@@ -1,4 +1,3 @@
 pub mod AskedHost
 pub mod PiecesHost
-pub mod ResolvingHost
 pub mod StrayHost

@@ -4,7 +4,7 @@ ghost use Rattle.std.specs.Prelude.{ℕ, List, refl};
 ghost use Rattle.tw_lineedit.specs.HostRules.{plain_rules};
 ghost use Rattle.editor_tests.specs.AskedHost.{asked_is_plain, shown_overrides};
 
-use crate::support::{answer_text, terminal_of};
+use case_player::{answer_text, terminal_of};
 use std::alloc::{AllocError, Global};
 use std::cell::Cell;
 use std::process::Abort;

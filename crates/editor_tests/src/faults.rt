@@ -1,9 +1,8 @@
 //! A terminal that fails at one of its calls.
 
 use crate::calls::Listing;
-use crate::support::{
-    answer_text, batches_text, expect_readings, terminal_of, terminal_text, write_batch,
-};
+use crate::support::expect_readings;
+use case_player::{answer_text, batches_text, terminal_of, terminal_text, write_batch};
 use std::alloc::Global;
 use std::process::Abort;
 use std::test::Fail;

@@ -1,6 +1,6 @@
 //! Events that have no action.
 
-use crate::support::events_named;
+use case_player::events_named;
 use std::alloc::Global;
 use std::process::Abort;
 use std::test::Fail;

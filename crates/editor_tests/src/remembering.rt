@@ -2,7 +2,7 @@
 
 ghost use Rattle.std.specs.Prelude.{[]};
 
-use crate::support::terminal_of;
+use case_player::terminal_of;
 use script_player::ScriptHost;
 use std::alloc::{AllocError, Global};
 use std::borrow::CowStr;

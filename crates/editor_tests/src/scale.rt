@@ -3,8 +3,7 @@
 ghost use Rattle.std.specs.Prelude.{map, string_bytes, refl};
 ghost use Rattle.editor_tests.specs.PiecesHost.{Pieces, pieces_rules, preview_override, pieces_is_plain};
 
-use crate::histories::told_of;
-use crate::support::{case_of, events_named, readings_of};
+use case_player::{case_of, events_named, readings_of, told_of};
 use script_player::ScriptHost;
 use std::alloc::{AllocError, Global};
 use std::process::Abort;

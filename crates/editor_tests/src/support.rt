@@ -1,9 +1,6 @@
 //! Cases whose outcome is compared with a text.
 
-pub use case_player::{
-    Case, answer_text, batches_text, case_of, events_named, host_of, readings_of, remember_all,
-    terminal_of, terminal_text, write_batch,
-};
+use case_player::{case_of, readings_of, remember_all, terminal_text};
 use std::alloc::Global;
 use std::process::Abort;
 use std::test::Fail;

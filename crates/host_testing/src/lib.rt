@@ -6,6 +6,3 @@ mod shown;
 
 pub use events::script_events;
 pub use shown::{last_painting, marked_text, rows};
-
-#[cfg(test)]
-mod tests;

@@ -1,7 +1,6 @@
 //! Actions, prompts and lines of an editor, with each request refused in turn.
 
-use crate::marks::mark;
-use case_player::{batches_text, case_of, events_named, host_of, terminal_of};
+use case_player::{batches_text, case_of, events_named, host_of, mark, terminal_of};
 use std::alloc::Global;
 use std::process::Abort;
 use std::test::Fail;

@@ -1,15 +1,15 @@
 //! Actions of an editor that make no request for memory.
 
-use crate::marks::mark;
-use case_player::{case_of, events_named, host_of, terminal_of};
+use case_player::{case_of, events_named, host_of, mark, terminal_of};
 use std::alloc::{AllocError, Global};
 use std::process::Abort;
 use std::test::Fail;
 use tw_input::{InputEvent, KeyCode, KeyEvent, Modifiers};
 use tw_lineedit::{
-    Action, BasicHistory, Error, LineEditor, Movement, NopLineEditorHost, default_action,
+    Action, BasicHistory, Error, LineEditor, LineStatus, Movement, NopLineEditorHost,
+    default_action,
 };
-use tw_terminal::TerminalFault;
+use tw_terminal::{ScriptTerminal, TerminalFault};
 
 /// The modes in which an editor stands after the actions of these names: editing, in the history, completing,
 /// searching with a match and without one, cancelled and accepted.
@@ -88,6 +88,78 @@ fn editors_are_made_without_memory(rt: HostRuntime) -> Result<(), Fail> {
     editor.apply_action(&mut host, Action::Cancel)?;
     let answer = editor.read_line(&mut host);
     assert_eq!(rt; answer.err().map(|error| error.number()), Some(2));
+    mark(alloc)?;
+    Ok(())
+}
+
+/// An editor over a scripted terminal.
+type Editor<'term> = LineEditor<'term, ScriptTerminal>;
+
+/// The number of the refusal of an action, or 0.
+fn refusal_of(editor: &mut Editor<'_>, host: &mut NopLineEditorHost, action: Action) -> u8 {
+    let answer = editor.apply_action(host, action);
+    answer.err().map_or(0, |error| error.number())
+}
+
+/// The number of the refusal where a line is begun, or 0.
+fn refused_beginning(editor: &mut Editor<'_>, host: &NopLineEditorHost) -> u8 {
+    let begun = editor.begin_line(host, Some("ab"));
+    begun.err().map_or(0, |error| error.number())
+}
+
+/// The number of the refusal where a line is read and remembered, or 0.
+fn refused_reading(editor: &mut Editor<'_>, host: &mut NopLineEditorHost) -> u8 {
+    let answer = editor.read_line_and_remember(host);
+    answer.err().map_or(0, |error| error.number())
+}
+
+/// Whether no line takes an event.
+fn is_closed(editor: &mut Editor<'_>, host: &mut NopLineEditorHost) -> bool {
+    matches!(editor.feed(host, &InputEvent::Wake), Ok(LineStatus::Ended))
+}
+
+/// Whether no line is finished.
+fn finishes_none(editor: &mut Editor<'_>) -> bool {
+    matches!(editor.finish_line(), Ok(None))
+}
+
+/// Calls of a line that is fed its events, where none is open, and readings in a mode that was left.
+#[test]
+fn no_open_line_is_fed_without_memory(rt: HostRuntime) -> Result<(), Fail> {
+    let alloc = rt.alloc();
+    let mut host = NopLineEditorHost::new(alloc);
+    let mut terminal = terminal_of(alloc, 80, "a")?;
+    let mut editor = LineEditor::new(alloc, &mut terminal)?;
+    mark(alloc)?;
+    assert!(rt; is_closed(&mut editor, &mut host));
+    assert!(rt; finishes_none(&mut editor));
+    assert_eq!(rt; refusal_of(&mut editor, &mut host, Action::Cancel), 0);
+    assert_eq!(rt; refused_beginning(&mut editor, &host), 2);
+    assert_eq!(rt; refused_reading(&mut editor, &mut host), 2);
+    mark(alloc)?;
+    Ok(())
+}
+
+/// Steps through an empty history and searches of it, completions without candidates, and insertions of nothing.
+#[test]
+fn actions_with_nothing_to_do_without_memory(rt: HostRuntime) -> Result<(), Fail> {
+    let alloc = rt.alloc();
+    let mut host = NopLineEditorHost::new(alloc);
+    let mut terminal = terminal_of(alloc, 80, "")?;
+    let mut editor = LineEditor::new(alloc, &mut terminal)?;
+    editor.set_line_and_cursor("ab", 1)?;
+    mark(alloc)?;
+    let (it, by) = (&mut editor, &mut host);
+    let empty = Action::InsertText(usize::MAX, String::new(alloc));
+    assert_eq!(rt; refusal_of(it, by, Action::HistoryNext), 0);
+    assert_eq!(rt; refusal_of(it, by, Action::HistoryPrevious), 0);
+    assert_eq!(rt; refusal_of(it, by, Action::Complete), 0);
+    assert_eq!(rt; refusal_of(it, by, Action::InsertChar(0, 'x')), 0);
+    assert_eq!(rt; refusal_of(it, by, empty), 0);
+    assert_eq!(rt; it.get_line_and_cursor(), ("ab", 1));
+    assert_eq!(rt; refusal_of(it, by, Action::HistoryIncSearchBackwards), 0);
+    assert_eq!(rt; refusal_of(it, by, Action::HistoryIncSearchForwards), 0);
+    assert_eq!(rt; it.get_line_and_cursor(), ("", 0));
     mark(alloc)?;
     Ok(())
 }

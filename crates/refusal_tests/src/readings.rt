@@ -1,74 +1,13 @@
 //! Readings of a line with requests for memory refused, beside the same readings with memory.
 
-use crate::marks::mark;
-use case_player::{Case, answer_text, batches_text, events_named};
+use crate::watched::{Seen, Watched};
+use case_player::{Case, answer_text, batches_text, events_named, mark};
 use std::alloc::{AllocError, Global};
-use std::cell::Cell;
 use std::process::Abort;
-use std::rc::Rc;
 use std::test::Fail;
-use tw_input::InputEvent;
 use tw_lineedit::{Error, LineEditor, LineEditorHost};
 use tw_surface::{Change, ColorAttribute};
-use tw_terminal::{ScreenSize, ScriptTerminal, Terminal, TerminalFault};
-
-/// How far a terminal has come: how often it was asked for its size and flushed, how many batches it has taken, and
-/// how many events it has left.
-#[derive(Clone, Copy, Debug, PartialEq, Eq)]
-pub struct Seen {
-    pub sizes: usize,
-    pub flushes: usize,
-    pub taken: usize,
-    pub left: usize,
-}
-
-/// A scripted terminal that tells how far it has come while an editor has it.
-#[derive(Drop)]
-struct Watched {
-    script: ScriptTerminal,
-    seen: Rc<Cell<Seen>>,
-}
-
-impl Watched {
-    /// Tells how far the terminal has come, with so many calls more for its size and to flush.
-    fn tell(&self, sizes: usize, flushes: usize) {
-        let seen = self.seen.get();
-        self.seen.set(Seen {
-            sizes: seen.sizes.saturating_add(sizes),
-            flushes: seen.flushes.saturating_add(flushes),
-            taken: self.script.batches().len(),
-            left: self.script.events_left(),
-        });
-    }
-}
-
-impl Terminal for Watched {
-    ghost state = { λ watched. watched.script.terminal };
-
-    fn get_screen_size(&mut self) -> Result<ScreenSize, TerminalFault> {
-        let size = self.script.get_screen_size();
-        self.tell(1, 0);
-        size
-    }
-
-    fn poll_input(&mut self) -> Result<Option<InputEvent>, TerminalFault> {
-        let event = self.script.poll_input();
-        self.tell(0, 0);
-        event
-    }
-
-    fn render(&mut self, changes: &[Change]) -> Result<(), TerminalFault> {
-        let rendered = self.script.render(changes);
-        self.tell(0, 0);
-        rendered
-    }
-
-    fn flush(&mut self) -> Result<(), TerminalFault> {
-        let flushed = self.script.flush();
-        self.tell(0, 1);
-        flushed
-    }
-}
+use tw_terminal::{ScriptTerminal, TerminalFault};
 
 /// How a case is played: how many of its events come, which call of the terminal fails, and whether marks stand round
 /// its last reading.
@@ -155,7 +94,7 @@ fn end_of<H: LineEditorHost>(
     marked: bool,
     terminal: &mut Watched,
 ) -> Result<End, Fail> {
-    let seen = Rc::clone(&terminal.seen)?;
+    let seen = terminal.seen()?;
     let mut editor = LineEditor::new(alloc, terminal)?;
     editor.set_prompt(case.prompt)?;
     for _ in 1..case.readings {
@@ -190,28 +129,18 @@ pub fn last_reading<H: LineEditorHost>(
 ) -> Result<LastReading, Fail> {
     let mut events = events_named(alloc, case.events)?;
     events.truncate(play.events);
-    let seen = Cell::new(Seen {
-        sizes: 0,
-        flushes: 0,
-        taken: 0,
-        left: events.len(),
-    });
-    let seen = Rc::new(alloc, seen)?;
     let mut script = ScriptTerminal::new(alloc, case.size, events);
     if let Some((call, taken)) = play.fault {
         script.fail_at(call, taken);
     }
-    let mut terminal = Watched { script, seen };
+    let mut terminal = Watched::new(alloc, script)?;
     let end = end_of(alloc, case, host, play.marked, &mut terminal)?;
-    let Watched {
-        script: terminal,
-        seen: _,
-    } = terminal;
+    let terminal = terminal.into_script();
     Ok(LastReading { end, terminal })
 }
 
 /// The batches without a clearing of the screen behind them.
-fn without_clearing(batches: &[Vec<Change>]) -> &[Vec<Change>] {
+pub fn without_clearing(batches: &[Vec<Change>]) -> &[Vec<Change>] {
     match batches {
         [before @ .., last]
             if last.as_slice() == [Change::ClearScreen(ColorAttribute::Default)].as_slice() => {

@@ -1,6 +1,6 @@
 //! Scripts with one reading, with each request refused in turn.
 
-use crate::marks::mark;
+use case_player::mark;
 use script_player::{RunFault, run};
 use std::alloc::Global;
 use std::process::Abort;

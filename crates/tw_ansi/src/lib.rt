@@ -19,6 +19,3 @@ pub use decode::scan;
 pub use encode::Encoder;
 pub use resume::{Progress, scan_on};
 pub use token::{Scanned, Token};
-
-#[cfg(test)]
-mod tests;

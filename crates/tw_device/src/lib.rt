@@ -17,6 +17,3 @@ pub use event_log::EventLog;
 pub use keys::{EventSource, KeyReader, SourceState};
 pub use reading::{Answer, read_line_from};
 pub use terminal::AnsiTerminal;
-
-#[cfg(test)]
-mod tests;

@@ -264,6 +264,3 @@ impl History for BasicHistory {
         Ok(nearest_line(self, idx, style, direction, pattern))
     }
 }
-
-#[cfg(test)]
-mod tests;

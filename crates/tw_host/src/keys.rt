@@ -12,9 +12,6 @@ use std::alloc::{AllocError, Global};
 use tw_input::{InputEvent, KeyCode, KeyEvent, Modifiers};
 use tw_line::Movement;
 
-#[cfg(test)]
-mod tests;
-
 /// The action that the key table has for an event, if it has one. It takes memory for a `Paste` alone, whose text is
 /// not empty.
 pub fn default_action(alloc: Global, event: &InputEvent) -> Result<Option<Action>, AllocError>

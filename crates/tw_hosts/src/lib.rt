@@ -18,6 +18,3 @@ pub use hints::{Hint, show_hint};
 pub use table_host::{TableHost, Tables};
 pub use tokens::{Styles, highlight_tokens, split_token, styled};
 pub use words::{complete_word, first_word, is_known, last_word, split_first_word};
-
-#[cfg(test)]
-mod tests;

@@ -10,6 +10,3 @@ pub mod laws;
 
 pub use event::InputEvent;
 pub use key::{KeyCode, KeyEvent, Modifiers};
-
-#[cfg(test)]
-mod tests;

@@ -9,9 +9,6 @@ use crate::text::Text;
 use std::alloc::{AllocError, Global};
 use std::marker::Model;
 
-#[cfg(test)]
-mod tests;
-
 /// A line of text with a cursor: a byte offset that is always a boundary, where a character starts
 /// or the line ends.
 #[derive(Debug, Drop)]

@@ -297,6 +297,3 @@ pub fn painting<H: LineEditorHost>(
     let batch = from_start(before, drawing.consume())?;
     Ok((batch, mark))
 }
-
-#[cfg(test)]
-mod tests;

@@ -168,6 +168,3 @@ fn clusters_width(text: &str) -> usize
     }
     total
 }
-
-#[cfg(test)]
-mod tests;

@@ -71,6 +71,3 @@ impl From<String> for Change {
         Change::Text(text)
     }
 }
-
-#[cfg(test)]
-mod tests;

@@ -258,6 +258,3 @@ impl Screen {
         Ok(())
     }
 }
-
-#[cfg(test)]
-mod tests;

@@ -91,6 +91,3 @@ impl ScrollingScreen {
         Ok(())
     }
 }
-
-#[cfg(test)]
-mod tests;

@@ -206,6 +206,3 @@ fn relative_move(from: Extent, x: usize, y: isize) -> Change
         y: Position::Relative(y - from.y),
     }
 }
-
-#[cfg(test)]
-mod tests;

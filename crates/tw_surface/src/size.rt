@@ -29,6 +29,3 @@ impl fmt::Display for SizeFault {
 }
 
 impl Error for SizeFault {}
-
-#[cfg(test)]
-mod tests;

@@ -87,6 +87,3 @@ pub trait Terminal {
         ensures ok { OnOk result (Flushes (state self.old) (state self.new)) }
         ensures err { OnErr result (Fails (state self.old) (state self.new)) };
 }
-
-#[cfg(test)]
-mod tests;

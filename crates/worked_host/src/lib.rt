@@ -5,6 +5,3 @@
 mod host;
 
 pub use host::CommandHost;
-
-#[cfg(test)]
-mod tests;

@@ -1,0 +1,46 @@
+//! What a host of its own makes of an event, with each request refused in turn.
+
+use crate::readings::expect_reading;
+use case_player::{ResolvingHost, case_of, events_named, mark};
+use std::test::Fail;
+use tw_lineedit::{Action, LineEditBuffer, LineEditorHost};
+
+/// A refused resolution leaves the line and its cursor, and is then made.
+#[test]
+fn resolutions_refused_in_turn(rt: HostRuntime) -> Result<(), Fail> {
+    let alloc = rt.alloc();
+    let mut host = ResolvingHost::new(alloc);
+    for event in &events_named(alloc, "F1")? {
+        let mut line = LineEditBuffer::new(alloc, "ab", 1)?;
+        mark(alloc)?;
+        let made = host.resolve_action(alloc, event, &mut line);
+        mark(alloc)?;
+        let action = match made {
+            Ok(action) => action,
+            Err(_) => {
+                assert_eq!(rt; line.get_line(), "ab");
+                assert_eq!(rt; line.get_cursor(), 1);
+                host.resolve_action(alloc, event, &mut line)?
+            }
+        };
+        assert!(rt; matches!(action, Some(Action::NoAction)));
+        assert_eq!(rt; line.get_line(), "clear");
+        assert_eq!(rt; line.get_cursor(), 5);
+    }
+    Ok(())
+}
+
+/// A reading whose host is refused while it makes a line of its own.
+#[test]
+fn readings_with_resolutions_refused_in_turn(rt: HostRuntime) -> Result<(), Fail> {
+    let alloc = rt.alloc();
+    for (events, wanted) in [
+        ("events a F1 X Enter\n", "Some(\"clearX\")"),
+        ("events F1 Escape\n", "None"),
+    ] {
+        let case = case_of(alloc, events)?;
+        let mut host = ResolvingHost::new(alloc);
+        expect_reading(&rt, alloc, &case, &mut host, wanted)?;
+    }
+    Ok(())
+}
