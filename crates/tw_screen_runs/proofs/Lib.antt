@@ -5,3 +5,4 @@ pub mod CutRunLemmas
 pub mod SimpleRunLemmas
 mod WorkedRuns
 mod WorkedScrolledRuns
+pub mod DrawnRunLemmas

@@ -3,3 +3,4 @@ pub mod ScrollingRuns
 pub mod HealedRuns
 pub mod CutRuns
 pub mod SimpleRuns
+pub mod DrawnRuns

@@ -7,10 +7,12 @@
 
 ghost use Rattle.std.specs.Prelude.{List, Option, ℕ};
 ghost use Rattle.tw_screen_runs.specs.CutRuns.{CutClosings, CutPaintings};
+ghost use Rattle.tw_screen_runs.specs.DrawnRuns.{DrawnClosings, DrawnHealings, DrawnPaintings};
 ghost use Rattle.tw_screen_runs.specs.HealedRuns.{HealedClosings, HealedPaintings};
 ghost use Rattle.tw_screen_runs.specs.PlainRuns.{CallsStack, ClearedPaintings, Closings, FirstPaintings, LaterPaintings, PaintsNothing, ShownRuns};
 ghost use Rattle.tw_screen_runs.specs.ScrollingRuns.{ScrolledCallsStack, ScrolledClosings, ScrolledPaintings};
 ghost use Rattle.tw_screen_runs.specs.SimpleRuns.{SimpleCallsStack, SimpleClosings, SimpleHealedPaintings, SimplePaintings, SimpleScrolledClosings, SimpleScrolledPaintings};
+ghost use Rattle.tw_screens.specs.Pens.{Pen};
 
 use tw_host::LineEditorHost;
 
@@ -70,4 +72,12 @@ pub fn simple_runs<H: LineEditorHost>()
     ensures scrolled_closing { SimpleScrolledClosings H.rules }
     ensures healed_painting { SimpleHealedPaintings H.rules }
     ensures stacking { SimpleCallsStack H.rules }
+{}
+
+/// After each painting of a run of simple texts a screen of any kind of cells shows the fresh painting of its station:
+/// characters alone, or with their attributes, on some rows or without a bottom, cut to its columns or not.
+pub fn drawn_runs<H: LineEditorHost, A, C>()
+    ensures painting { (pen : Pen A C) → DrawnPaintings H.rules pen }
+    ensures closing { (pen : Pen A C) → DrawnClosings H.rules pen }
+    ensures healing { (pen : Pen A C) → DrawnHealings H.rules pen }
 {}

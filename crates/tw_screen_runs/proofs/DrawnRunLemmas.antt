@@ -1,0 +1,105 @@
+-- After each painting of a run a screen of any kind of cells shows the fresh painting of its station.
+use Rattle.std.proofs.Common.{◌≡◌, ℕ, suc, List, [], ◌∷◌, ◌++◌, ◌∙◌, sym, ap, map, refl, arith, Option, Some, None, Bool, true, false}
+use Rattle.std.specs.List.{All}
+use Rattle.std.proofs.lemmas.List.{map-append, append_assoc}
+use Rattle.tw_strokes.specs.Strokes.{PictureOf, InSight, resized}
+use Rattle.tw_surface.specs.Cutting.{sized_after, sized_batches}
+use Rattle.tw_surface.specs.Paintings.{Mark, painting, mark_of, closing}
+use Rattle.tw_surface.specs.PaintingBatches.{SizedScene, shot_of, batches, mark_after, closing_if, closing_batch}
+use Rattle.tw_surface.specs.Simple.{IsSimpleWide}
+use Rattle.tw_surface.specs.SimpleScreens.{spelled_sized}
+use Rattle.tw_surface.proofs.CutLists.{sized_are, sized_batches_are}
+use Rattle.tw_surface.proofs.HealedLists.{closing_is}
+use Rattle.tw_surface.proofs.ShotLemmas.{batches_after-append}
+use Rattle.tw_surface.specs.ChangeView.{Batch}
+use Rattle.tw_surface.specs.HealingLaws.{begins_cleared, HasTextPrompt}
+use Rattle.tw_strokes.specs.Sheets.{IsFresh}
+use Rattle.tw_screen_runs.proofs.HealedRunLemmas.{text_prompts, played_since, first_since}
+use Rattle.tw_screens.specs.SceneSheets.{painting_of}
+use Rattle.tw_screens.specs.Pens.{Pen}
+use Rattle.tw_screens.specs.Screens.{HasRoom, blank_of, play_sized}
+use Rattle.tw_screens.proofs.DrawnStations.{shows_stations, heals_stations, closes_stations, last_is}
+use Rattle.tw_host.specs.HostRules.{HostRules}
+use Rattle.tw_lineedit.specs.Frame.{Frame}
+use Rattle.tw_lineedit.specs.Run.{run_of}
+use Rattle.tw_lineedit.specs.ScreenRuns.{sized_scene, Comes}
+use Rattle.tw_lineedit.specs.Stations.{Station}
+use Rattle.tw_lineedit.proofs.StationLemmas.{played-is, first_batches, all_taken, closing-is}
+use Rattle.tw_screen_runs.specs.DrawnRuns.{ComesSimply, ComesHealed, DrawnPaintings, DrawnClosings, DrawnHealings}
+
+module _ {V A C : Type 0} (rules : HostRules V) (pen : Pen A C) where
+  comes_simply : {rows : Option ℕ} {f : Frame V} {earlier : List (Station V)} {station : Station V} {later : List (Station V)} {before : PictureOf C}
+      → ComesSimply rules pen rows f earlier station later before → Comes rules f earlier station later
+  comes_simply h = record { nothing_painted = h.nothing_painted; stations = h.stations; painting = h.painting; painted = h.painted }
+
+  pub drawn_paintings : DrawnPaintings rules pen
+  drawn_paintings f rows cuts v a earlier station later before h =
+      let comes = comes_simply h in
+      let scenes = map-append (sized_scene rules) earlier (station ∷ []) in
+      record {
+        batches = sized_batches_are (map (sized_scene rules) (earlier ++ station ∷ [])) ∙ sym (played-is rules comes);
+        beginning = first_batches rules comes;
+        shown = rw scenes (shows_stations pen rows cuts v before.row a (map (sized_scene rules) earlier) (sized_scene rules station) before refl h.at_start h.in_sight (rw scenes at h.simple) (rw scenes at h.low));
+      }
+
+  resized-row : (cuts : Bool) (b : C) (v w : ℕ) (t : PictureOf C) → (resized cuts b v w t).row ≡ t.row
+  resized-row false b v w t = refl
+  resized-row true b v w t = refl
+
+  last-wide : (earlier : List SizedScene) (station : SizedScene) → All IsSimpleWide (earlier ++ station ∷ []) → IsSimpleWide station
+  last-wide [] station a = a 0 station (omega arith)
+  last-wide (first ∷ more) station a = last-wide more station (λ k d h. a (suc k) d (omega arith))
+
+  some-rows : (rows : Option ℕ) (r : ℕ) → InSight rows r → InSight rows 0
+  some-rows None r h = tt
+  some-rows (Some h) r low = omega (arith, low)
+
+  pub drawn_closings : DrawnClosings rules pen
+  drawn_closings f rows cuts v w a earlier station later before h none wide =
+      let comes = comes_simply h in
+      let scenes = map-append (sized_scene rules) earlier (station ∷ []) in
+      let q = drawn_paintings f rows cuts v a earlier station later before h in
+      let shown : PictureOf C = play_sized rows cuts pen v a (spelled_sized (sized_batches (map (sized_scene rules) (earlier ++ station ∷ [])))) before in
+      let one : IsSimpleWide (sized_scene rules station) = last-wide (map (sized_scene rules) earlier) (sized_scene rules station) (rw scenes at h.simple) in
+      let closing : closing_if (run_of rules f).mark ≡ closing (mark_of (painting station.size.cols (sized_scene rules station).scene)) ∷ [] =
+      closing-is rules comes none ∙ ap (λ l. closing_batch (map shot_of l)) scenes ∙ closing_is station.size.cols (map (sized_scene rules) earlier) [] (sized_scene rules station) refl in (
+        all_taken rules comes none,
+        rw closing (closes_stations pen rows w _ a (sized_scene rules station) (resized cuts (blank_of pen) station.size.cols w shown) wide (some-rows rows before.row h.in_sight) one
+            (resized-row cuts (blank_of pen) station.size.cols w shown ∙ q.shown.fresh.row)),
+      )
+
+  -- ---- behind a clearing
+
+  comes_healed : {rows : Option ℕ} {f : Frame V} {earlier since : List (Station V)} {station : Station V} {later : List (Station V)}
+      → ComesHealed rules pen rows f earlier since station later → Comes rules f (earlier ++ since) station later
+  comes_healed {earlier = earlier} {since = since} {station = station} {later = later} h = record {
+    nothing_painted = h.nothing_painted;
+    stations = h.stations ∙ sym (append_assoc earlier since (station ∷ later));
+    painting = h.painting;
+    painted = h.painted;
+  }
+
+  healed : (rows : Option ℕ) (cuts : Bool) (v : ℕ) (a : A) (earlier since : List SizedScene) (station : SizedScene) (before : PictureOf C)
+      → InSight rows 0 → All HasTextPrompt earlier → begins_cleared (since ++ station ∷ []) ≡ true
+      → All IsSimpleWide (since ++ station ∷ []) → All (HasRoom rows pen) (since ++ station ∷ [])
+      → IsFresh station.cols 0 (blank_of pen) (painting_of pen station).sheet (play_sized rows cuts pen v a (spelled_sized (sized_after (mark_after None (map shot_of earlier)) (since ++ station ∷ []))) before)
+  healed rows cuts v a earlier [] station before some texts cleared simple low = heals_stations pen rows cuts v a earlier station [] before some texts cleared simple low
+  healed rows cuts v a earlier (first ∷ more) station before some texts cleared simple low =
+      rw (last_is pen first more station) at (heals_stations pen rows cuts v a earlier first (more ++ station ∷ []) before some texts cleared simple low)
+
+  pub drawn_healings : DrawnHealings rules pen
+  drawn_healings f rows earlier since station later h =
+      let scenes = map-append (sized_scene rules) since (station ∷ []) in
+      let mark : Option Mark = mark_after None (map shot_of (map (sized_scene rules) earlier)) in
+      let played : List Batch = map (λ sized. sized.batch) (sized_after mark (map (sized_scene rules) since ++ sized_scene rules station ∷ [])) in
+      let all : batches (map shot_of (map (sized_scene rules) earlier ++ (map (sized_scene rules) since ++ sized_scene rules station ∷ [])))
+      ≡ batches (map shot_of (map (sized_scene rules) earlier)) ++ played =
+      ap batches (map-append shot_of (map (sized_scene rules) earlier) (map (sized_scene rules) since ++ sized_scene rules station ∷ []))
+      ∙ batches_after-append None (map shot_of (map (sized_scene rules) earlier)) (map shot_of (map (sized_scene rules) since ++ sized_scene rules station ∷ []))
+      ∙ ap (λ l. batches (map shot_of (map (sized_scene rules) earlier)) ++ l) (sym (sized_are mark (map (sized_scene rules) since ++ sized_scene rules station ∷ []))) in
+      record {
+        batches = rw scenes (played_since rules earlier since (comes_healed h) played all);
+        beginning = first_since rules earlier since (comes_healed h);
+        fresh = λ cuts v a before. rw scenes (healed rows cuts v a (map (sized_scene rules) earlier) (map (sized_scene rules) since) (sized_scene rules station) before
+            h.in_sight (text_prompts rules earlier) (rw scenes at h.cleared) (rw scenes at h.simple) (rw scenes at h.low));
+      }

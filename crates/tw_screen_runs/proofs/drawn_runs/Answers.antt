@@ -1,0 +1,11 @@
+use Rattle.tw_screen_runs.proofs.DrawnRunLemmas.{drawn_paintings, drawn_closings, drawn_healings}
+use Rattle.tw_screen_runs.proofs.drawn_runs.Goals as goal
+
+pub returns-clause-painting : goal.returns-clause-painting
+returns-clause-painting g c pen = drawn_paintings g.H.LineEditorHost.rules pen
+
+pub returns-clause-closing : goal.returns-clause-closing
+returns-clause-closing g c pen = drawn_closings g.H.LineEditorHost.rules pen
+
+pub returns-clause-healing : goal.returns-clause-healing
+returns-clause-healing g c pen = drawn_healings g.H.LineEditorHost.rules pen

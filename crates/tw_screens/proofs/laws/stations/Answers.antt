@@ -1,0 +1,11 @@
+use Rattle.tw_screens.proofs.DrawnStations.{shows_stations, heals_stations, closes_stations}
+use Rattle.tw_screens.proofs.laws.stations.Goals as goal
+
+pub returns-clause-shown : goal.returns-clause-shown
+returns-clause-shown g c = shows_stations
+
+pub returns-clause-healed : goal.returns-clause-healed
+returns-clause-healed g c = heals_stations
+
+pub returns-clause-closed : goal.returns-clause-closed
+returns-clause-closed g c = closes_stations

@@ -1,0 +1,5 @@
+pub mod Pens
+pub mod SceneSheets
+pub mod Screens
+pub mod StyledCells
+pub mod CharacterScreens

@@ -1,0 +1,4 @@
+//! What screens show of paintings: characters, and characters under their attributes.
+#![tactic(auto)]
+
+pub mod laws;

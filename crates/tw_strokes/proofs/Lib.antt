@@ -1,0 +1,5 @@
+pub mod LineOfCells
+pub mod DrawnSheets
+pub mod SeenRows
+pub mod PaintedSheets
+pub mod PaintedLists

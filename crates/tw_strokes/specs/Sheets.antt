@@ -1,0 +1,106 @@
+-- What a painting shows, by division alone, with any kind of cells.
+use Rattle.std.specs.Prelude.{ℕ, ◌≡◌, ◌+◌, ◌-◌, ◌/◌, ◌%◌, ◌<◌, ◌≤◌, ◌⊎◌, eqb, min, max, if◌then◌else◌, Option, Some, None, List, [], ◌∷◌, ◌++◌, length, map, slice_index_or}
+use Rattle.std.specs.List.{sum_by}
+use Rattle.tw_strokes.specs.Strokes.{PictureOf, Stroke}
+use Rattle.tw_strokes.specs.Strokes.Stroke.{Put, Return, Feed, ClearBehind}
+
+-- the cells of a text that begins at column 0, the lines under it, and the index of the cell at which the cursor stands
+pub record Sheet (C : Type 0) : Type 0 where
+  pub text : List C
+  pub lower : List (List C)
+  pub at : ℕ
+
+-- ---- what it takes
+
+-- the rows that a line takes
+abbrev pub rows_of : {C : Type 0} → ℕ → List C → ℕ
+rows_of width line = max 1 ((length line + width - 1) / width)
+
+-- the row in which the text ends, the last row, and the row of the cursor, counted from the first row
+abbrev pub line_row : {C : Type 0} → ℕ → Sheet C → ℕ
+line_row width sheet = length sheet.text / width
+
+abbrev pub last_row : {C : Type 0} → ℕ → Sheet C → ℕ
+last_row width sheet = line_row width sheet + sum_by (rows_of width) sheet.lower
+
+abbrev pub cursor_row : {C : Type 0} → ℕ → Sheet C → ℕ
+cursor_row width sheet = sheet.at / width
+
+-- the number of cells of the last of some lines, or n where there is none
+abbrev pub last_length : {C : Type 0} → ℕ → List (List C) → ℕ
+last_length n [] = n
+last_length n (line ∷ more) = last_length (length line) more
+
+-- the column behind n cells from column 0 on, which may be the one behind the last column
+abbrev pub behind : ℕ → ℕ → ℕ
+behind width n = if eqb n 0 then 0 else (n - 1) % width + 1
+
+-- the column in which the last line ends
+abbrev pub end_col : {C : Type 0} → ℕ → Sheet C → ℕ
+end_col width sheet = behind width (last_length (length sheet.text) sheet.lower)
+
+-- ---- a fresh painting
+
+-- cell (r, c) is the cell of index k of a text that starts at column 0 of row from
+abbrev pub IsCellOf : ℕ → ℕ → ℕ → ℕ → ℕ → Type 0
+IsCellOf width from k r c = (r ≡ from + k / width) × (c ≡ k % width)
+
+-- each cell of a text stands in its place, the text from row from on
+abbrev pub IsShown : {C : Type 0} → ℕ → ℕ → C → List C → PictureOf C → Type 0
+IsShown width from b text after = (k : ℕ) → k < length text → after.cell (from + k / width) (k % width) ≡ slice_index_or text k b
+
+-- cell (r, c) is the cell of an index of the text
+abbrev pub IsIn : {C : Type 0} → ℕ → ℕ → List C → ℕ → ℕ → Type 0
+IsIn width from text r c = (k : ℕ) × (k < length text) × IsCellOf width from k r c
+
+-- lines from row from on, each in the row after the rows of the line before
+abbrev pub AreShown : {C : Type 0} → ℕ → ℕ → C → List (List C) → PictureOf C → Type 0
+AreShown width from b [] after = Unit {0}
+AreShown width from b (line ∷ more) after = IsShown width from b line after × AreShown width (from + rows_of width line) b more after
+
+-- cell (r, c) is the cell of an index of one of the lines
+abbrev pub IsInLines : {C : Type 0} → ℕ → ℕ → List (List C) → ℕ → ℕ → Type 0
+IsInLines width from [] r c = ⊥
+IsInLines width from (line ∷ more) r c = IsIn width from line r c ⊎ IsInLines width (from + rows_of width line) more r c
+
+-- a fresh painting of a sheet from row s on: its cells in their places, b in all others, and the cursor at its index
+pub record IsFresh {C : Type 0} (width s : ℕ) (b : C) (sheet : Sheet C) (after : PictureOf C) : Type 0 where
+  pub shown : IsShown width s b sheet.text after
+  pub below : AreShown width (s + line_row width sheet + 1) b sheet.lower after
+  pub rest : (r c : ℕ) → s ≤ r → c < width
+      → (IsIn width s sheet.text r c → ⊥)
+      → (IsInLines width (s + line_row width sheet + 1) sheet.lower r c → ⊥)
+      → after.cell r c ≡ b
+  pub row : after.row ≡ s + cursor_row width sheet
+  pub col : after.col ≡ sheet.at % width
+
+-- ---- its strokes
+
+-- a line is typed
+abbrev pub typed : {C : Type 0} → List C → List (Stroke C)
+typed line = map Put line
+
+-- lines are typed, each in the row under the one before
+abbrev pub broken : {C : Type 0} → List (List C) → List (Stroke C)
+broken [] = []
+broken (line ∷ more) = Return ∷ Feed ∷ (typed line ++ broken more)
+
+-- all is b from the cursor on, and then the sheet is typed
+abbrev pub drawing : {C : Type 0} → C → Sheet C → List (Stroke C)
+drawing b sheet = ClearBehind b ∷ (typed sheet.text ++ broken sheet.lower)
+
+-- ---- on some rows
+
+-- the rows that a painting takes, down to its last one and to that of its cursor
+abbrev pub painted_rows : {C : Type 0} → ℕ → Sheet C → ℕ
+painted_rows width sheet = 1 + max (last_row width sheet) (cursor_row width sheet)
+
+-- it has room on these rows
+abbrev pub IsLow : {C : Type 0} → Option ℕ → ℕ → Sheet C → Type 0
+IsLow None width sheet = Unit {0}
+IsLow (Some h) width sheet = painted_rows width sheet ≤ h
+
+-- the first row of a painting that begins in row s: it goes up as far as its last row needs
+abbrev pub raised_row : {C : Type 0} → Option ℕ → ℕ → ℕ → Sheet C → ℕ
+raised_row None width s sheet = s
+raised_row (Some h) width s sheet = min s (h - painted_rows width sheet)
