@@ -36,7 +36,7 @@ wide-parted : (text : List ℕ) → parted_pieces (map (λ ch. Wide 1) text) ≡
 wide-parted [] = refl
 wide-parted (ch ∷ text) = ap (λ l. Wide 1 ∷ l) (wide-parted text)
 
-wide-plain : (text : List ℕ) → list_any is_break text ≡ false → map plain_piece text ≡ map (λ ch. Wide 1) text
+pub wide-plain : (text : List ℕ) → list_any is_break text ≡ false → map plain_piece text ≡ map (λ ch. Wide 1) text
 wide-plain [] h = refl
 wide-plain (ch ∷ text) h =
     let parts = or_parts (is_break ch) (list_any is_break text) h in

@@ -26,10 +26,9 @@ use Rattle.tw_surface.specs.Positions.{at_least_0}
 use Rattle.tw_surface.specs.Scenes.{Scene, Lower, typed_text}
 use Rattle.tw_surface.specs.Scenes.Lower.{NoLower, Preview, Search}
 use Rattle.tw_surface.specs.Simple.{is_break, spelled_change, spelled_all, spelled_lower, spelled_scene, AreSimple, AreCounted, IsSimpleLower, IsSimple}
-use Rattle.tw_surface.proofs.NamedPaintings.{space_is, crlf_is, crlf_before}
 use Rattle.tw_screens.specs.Pens.{Pen, Letter, kept_after_all, char_stroke, strokes_of, letter_cell, letters_of, led}
 use Rattle.tw_screens.specs.SceneSheets.{plain_letters, edge_letters, text_letters, lower_letters, sheet_of, painting_of}
-use Rattle.tw_screens.proofs.MeasuredHeights.{space_counted, crlf_counted, measured_height}
+use Rattle.tw_screens.proofs.MeasuredHeights.{space_is, crlf_is, crlf_before, space_counted, crlf_counted, measured_height}
 use Rattle.tw_screens.proofs.DrawnChanges.{Tracks, letter_char, text-chars, simple-counted, counted-append, tracks-changes, strokes-append, strokes-letters, chars-typed, letters-typed, letters-broken, kept-append, text-letters}
 
 -- ---- whole numbers
@@ -322,7 +321,7 @@ module _ {A C : Type 0} (pen : Pen A C) (w : ℕ) (scene : Scene) (two : 2 ≤ w
   prompt_place =
       (typed-stands w prompt_cells clear 0 (λ i. b) (omega (arith, two)) (record { at = λ r c h. all-blank r c; place = omega arith; within = omega arith })).place ∙ omega arith
 
-  cursor_y : (cursor_place w scene).y ≡ pos (cursor_row w sheet)
+  pub cursor_y : (cursor_place w scene).y ≡ pos (cursor_row w sheet)
   cursor_y =
       let t : PictureOf C = steps w (typed prompt_cells) clear in
       let e : t.row * w + (t.col + scene.column) ≡ sheet.at = omega (arith, prompt_place, prompt_length) in
@@ -336,7 +335,7 @@ module _ {A C : Type 0} (pen : Pen A C) (w : ℕ) (scene : Scene) (two : 2 ≤ w
       let e : t.row * w + (t.col + scene.column) ≡ sheet.at = omega (arith, prompt_place, prompt_length) in
       ap (λ i. (i + scene.column) % w) (sym tracks-prompt.x) ∙ sym (at_col w t.row (t.col + scene.column)) ∙ ap (λ i. i % w) e
 
-  height_is : height w (shown_part w scene) ≡ last_row w sheet
+  pub height_is : height w (shown_part w scene) ≡ last_row w sheet
   height_is = measured_height w scene (prompt_counted, (line_counted, low_counted scene.lower simple.lower)) (last_row w sheet) end_y
 
   pub is_led : (cleared : Bool) → IsLed (painting_of pen (record { scene = record scene { cleared = cleared }; cols = w }))

@@ -3,8 +3,7 @@ use Rattle.std.proofs.Common.{◌≡◌, ℕ, ℤ, suc, pos, ◌+ℤ◌, neg_ℤ
 use Rattle.std.specs.List.{All}
 use Rattle.std.proofs.lemmas.Int.{ints}
 use Rattle.tw_surface.specs.Positions.{at_least_0}
-use Rattle.tw_surface.proofs.HealedLists.{IsDown, stations-down}
-use Rattle.tw_surface.proofs.PaintedScenes.{none_above}
+use Rattle.tw_screens.proofs.StationMarks.{IsDown, stations-down, none_above}
 use Rattle.tw_strokes.specs.Strokes.{PictureOf, filled, scrolled, steps_on, InSight, resized, narrowest}
 use Rattle.tw_strokes.specs.Strokes.Stroke.{Move}
 use Rattle.tw_strokes.specs.Sheets.{IsFresh}
@@ -12,11 +11,10 @@ use Rattle.tw_strokes.specs.Paintings.{Painting, IsFit, painting_strokes, paint_
 use Rattle.tw_strokes.proofs.PaintedLists.{AreFit, IsBefore, top-le, painted_all}
 use Rattle.tw_strokes.proofs.PaintedSheets.{closed}
 use Rattle.tw_surface.specs.declared.change.Position.TheVariants.{Relative}
-use Rattle.tw_surface.specs.Cutting.{sized_after}
 use Rattle.tw_surface.specs.Paintings.{Mark, painting, mark_of}
 use Rattle.tw_surface.specs.PaintingBatches.{SizedScene, shot_of, mark_after, clearing, start_of}
 use Rattle.tw_surface.specs.Simple.{spelled_all, IsSimpleWide}
-use Rattle.tw_surface.specs.SimpleScreens.{spelled_sized}
+use Rattle.tw_screens.specs.SizedBatches.{sized_at, sized_after, spelled_sized}
 use Rattle.tw_screens.specs.Pens.{Pen, strokes_of, led}
 use Rattle.tw_screens.specs.SceneSheets.{painting_of}
 use Rattle.tw_screens.specs.Screens.{blank_of, play_sized, HasRoom, ShowsStations, HealsStations, ClosesStations}
@@ -60,7 +58,7 @@ module _ {A C : Type 0} (pen : Pen A C) where
       by_cleared : ((a : A) (t : PictureOf C) → play_sized rows cuts pen station.cols a (spelled_sized (sized_after (Some (mark_of (painting station.cols station.scene))) more)) t
           ≡ paint_all rows cuts b station.cols (Some (painting_of pen station).back) (map (painting_of pen) more) t)
           → (cleared : Bool)
-          → play_sized rows cuts pen v a (spelled_sized (map (λ batch. record { cols = station.cols; batch = batch }) (clearing cleared ++ (start_of mark ++ (painting station.cols station.scene).changes) ∷ [])
+          → play_sized rows cuts pen v a (spelled_sized (sized_at station.cols (clearing cleared ++ (start_of mark ++ (painting station.cols station.scene).changes) ∷ [])
           ++ sized_after (Some (mark_of (painting station.cols station.scene))) more)) t
           ≡ paint_all rows cuts b station.cols (Some (painting_of pen station).back) (map (painting_of pen) more)
           (steps_on rows station.cols (painting_strokes b (back_of mark) (painting_of pen station)) (if cleared then resized cuts b station.cols station.cols (filled b) else resized cuts b v station.cols t))
@@ -125,7 +123,7 @@ module _ {A C : Type 0} (pen : Pen A C) where
   last_is first [] station = refl
   last_is first (next ∷ more) station = last_is next more station
 
-  at_first : (cleared : Bool) (e : ℕ) (t : PictureOf C) → t.row ≡ e → t.col ≡ 0 → IsBefore cleared e None t
+  pub at_first : (cleared : Bool) (e : ℕ) (t : PictureOf C) → t.row ≡ e → t.col ≡ 0 → IsBefore cleared e None t
   at_first true e t row col = tt
   at_first false e t row col = (row, col)
 

@@ -52,7 +52,7 @@ module _ (w s : ℕ) (scene : Scene) (two : 2 ≤ w) where
   edge_if b = if b then blank ∷ [] else []
 
   -- the sheet's text is the scene's, and the blank at the edge
-  text_is : (sheet_of characters w scene).text ≡ text_of scene ++ edge_if edged
+  pub text_is : (sheet_of characters w scene).text ≡ text_of scene ++ edge_if edged
   text_is =
       map-append (letter_cell characters) (letters_of characters tt scene.prompt) (letters_of characters tt scene.line ++ edge_letters characters w scene)
       ∙ ap (λ l. map (letter_cell characters) (letters_of characters tt scene.prompt) ++ l) (map-append (letter_cell characters) (letters_of characters tt scene.line) (edge_letters characters w scene))
@@ -65,13 +65,13 @@ module _ (w s : ℕ) (scene : Scene) (two : 2 ≤ w) where
       edge_is true = refl
       edge_is false = refl
 
-  lower_is : (lower : Lower) → map (map (letter_cell characters)) (lower_letters characters lower) ≡ lower_lines lower
+  pub lower_is : (lower : Lower) → map (map (letter_cell characters)) (lower_letters characters lower) ≡ lower_lines lower
   lower_is NoLower = refl
   lower_is (Preview elements) = lines-chars (letters_of characters tt elements) ∙ ap lines_of (chars-typed characters tt elements)
   lower_is (Search text) = ap (λ l. l ∷ []) (text-chars tt text)
 
   -- it ends in the same row
-  row_is : length (text_of scene ++ edge_if edged) / w ≡ n / w
+  pub row_is : length (text_of scene ++ edge_if edged) / w ≡ n / w
   row_is = ap (λ i. i / w) (length-append (text_of scene) (edge_if edged)) ∙ by_edge edged refl
     where
       by_edge : (b : Bool) → edged ≡ b → (n + length (edge_if b)) / w ≡ n / w

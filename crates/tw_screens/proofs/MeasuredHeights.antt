@@ -1,6 +1,9 @@
 -- The height of a painting of counted texts is the row in which it ends.
 use Rattle.std.proofs.Common.{◌≡◌, ℕ, ◌+◌, ℤ, pos, ◌+ℤ◌, ◌-ℤ◌, ◌≤ℤ◌, nat_abs, Bool, true, false, cond, eqb, leb, List, [], ◌∷◌, ◌++◌, refl, sym, ap, subst, ◌∙◌, arith, ◌⊎◌, inl, inr}
+use Rattle.std.specs.Prelude.{chars}
 use Rattle.std.proofs.lemmas.Int.{ints, clamps}
+use Rattle.std.proofs.lemmas.Str.{chars-IsAscii, chars-append, IsUtf8-from_ascii}
+use Rattle.std.proofs.lemmas.Str.Ascii.{IsAscii-cons, IsAscii-nil}
 use Rattle.tw_surface.specs.declared.measure.Piece.{Piece}
 use Rattle.tw_surface.specs.declared.measure.Piece.TheVariants.{Cr, Lf, CrLf, Wide}
 use Rattle.tw_surface.specs.declared.measure.Extent.{Extent}
@@ -15,7 +18,19 @@ use Rattle.tw_surface.specs.Places.{Place, pieces, next_place, places_after, pla
 use Rattle.tw_surface.specs.Scenes.{Scene}
 use Rattle.tw_surface.specs.Simple.{IsCounted, AreCounted}
 use Rattle.tw_surface.proofs.DrawingLemmas.{extent_after_all-append, place_of-extent_after_all, height-extent}
-use Rattle.tw_surface.proofs.NamedPaintings.{space_is, crlf_is}
+
+-- ---- the space and the line end that a painting adds
+
+pub space_is : chars (32 ∷ []) ≡ 32 ∷ []
+space_is = chars-IsAscii (32 ∷ []) (IsAscii-cons 32 [] (omega arith) IsAscii-nil)
+
+pub crlf_is : chars (cr ∷ lf ∷ []) ≡ cr ∷ lf ∷ []
+crlf_is = chars-IsAscii (13 ∷ 10 ∷ []) (IsAscii-cons 13 (10 ∷ []) (omega arith) (IsAscii-cons 10 [] (omega arith) IsAscii-nil))
+
+pub crlf_before : (text : List ℕ) → chars (cr ∷ lf ∷ text) ≡ cr ∷ lf ∷ chars text
+crlf_before text =
+    chars-append (13 ∷ 10 ∷ []) text (IsUtf8-from_ascii (13 ∷ 10 ∷ []) (IsAscii-cons 13 (10 ∷ []) (omega arith) (IsAscii-cons 10 [] (omega arith) IsAscii-nil)))
+    ∙ ap (λ l. l ++ chars text) crlf_is
 
 pub space_counted : IsCounted (32 ∷ [])
 unfolding pieces

@@ -1,16 +1,18 @@
 -- What is played on a screen of characters is what its strokes draw.
-use Rattle.std.proofs.Common.{◌≡◌, ℕ, ◌+◌, ◌-◌, ◌<◌, Some, List, [], ◌∷◌, ◌++◌, map, refl, sym, ap, ◌∙◌, arith, inl, inr}
+use Rattle.std.proofs.Common.{◌≡◌, ℕ, ◌+◌, ◌-◌, ◌<◌, Some, None, false, List, [], ◌∷◌, ◌++◌, map, refl, sym, ap, ◌∙◌, arith, inl, inr}
 use Rattle.std.proofs.lemmas.Bool.{cases_eq, eq-eqb, ne_eqb}
 use Rattle.std.proofs.Math.Path.{fun_ext}
 use Rattle.tw_strokes.specs.Strokes.{PictureOf, Stroke, step, steps, scrolled, steps_on}
-use Rattle.tw_surface.specs.ChangeView.{ChangeView}
+use Rattle.tw_surface.specs.ChangeView.{ChangeView, Batch}
 use Rattle.tw_surface.specs.ChangeView.{Attribute, AllAttributes, Text, ClearScreen, ClearToEndOfScreen, CursorPosition}
 use Rattle.tw_surface.specs.Characters.{cr, lf}
-use Rattle.tw_surface.specs.Pictures.{Picture, play_char, play_text, play}
-use Rattle.tw_surface.specs.Scrolling.{scroll, play_text_on, play_on}
+use Rattle.tw_surface.specs.Pictures.{Picture, play_char, play_text, play, play_all}
+use Rattle.tw_surface.specs.Scrolling.{scroll, play_text_on, play_on, play_all_on}
 use Rattle.tw_screens.specs.Pens.{char_stroke, change_strokes, strokes_of}
 use Rattle.tw_screens.specs.StyledCells.{characters}
-use Rattle.tw_screens.specs.CharacterScreens.{cells_of, PlaysStrokes, PlaysStrokesOn, CutsCells}
+use Rattle.tw_screens.specs.CharacterScreens.{cells_of, PlaysBatches, PlaysBatchesOn}
+use Rattle.tw_screens.specs.Screens.{play_sized}
+use Rattle.tw_screens.specs.SizedBatches.{sized_at}
 
 abbrev kept : Unit {0}
 kept = tt
@@ -43,12 +45,24 @@ played_change w (ClearScreen color) s = refl
 played_change w (ClearToEndOfScreen color) s = refl
 played_change w (CursorPosition x y) s = refl
 
-pub plays_strokes : PlaysStrokes
+-- a batch
+pub plays_strokes : (w : ℕ) (batch : Batch) (s : Picture) → cells_of (play_all w batch s) ≡ steps w (strokes_of characters kept batch) (cells_of s)
 plays_strokes w [] s = refl
 plays_strokes w (change ∷ changes) s =
     plays_strokes w changes (play w change s)
     ∙ ap (steps w (strokes_of characters kept changes)) (played_change w change s)
     ∙ sym (steps-append w (change_strokes characters kept change) (strokes_of characters kept changes) (cells_of s))
+
+-- a screen without a bottom never scrolls
+pub steps_on-none : {C : Type 0} (w : ℕ) (strokes : List (Stroke C)) (s : PictureOf C) → steps_on None w strokes s ≡ steps w strokes s
+steps_on-none w [] s = refl
+steps_on-none w (stroke ∷ more) s = steps_on-none w more (step w stroke s)
+
+pub plays_batches : PlaysBatches
+plays_batches w [] s = refl
+plays_batches w (batch ∷ more) s =
+    plays_batches w more (play_all w batch s)
+    ∙ ap (play_sized None false characters w kept (sized_at w more)) (plays_strokes w batch s ∙ sym (steps_on-none w (strokes_of characters kept batch) (cells_of s)))
 
 -- ---- on some rows
 
@@ -89,12 +103,19 @@ row_change h w (ClearScreen color) s low = omega (arith, low)
 row_change h w (ClearToEndOfScreen color) s low = low
 row_change h w (CursorPosition x y) s low = omega (arith, low)
 
-pub plays_strokes_on : PlaysStrokesOn
+plays_strokes_on : (h w : ℕ) (batch : Batch) (s : Picture) → s.row < h → cells_of (play_all_on h w batch s) ≡ steps_on (Some h) w (strokes_of characters kept batch) (cells_of s)
 plays_strokes_on h w [] s low = refl
 plays_strokes_on h w (change ∷ changes) s low =
     plays_strokes_on h w changes (play_on h w change s) (row_change h w change s low)
     ∙ ap (steps_on (Some h) w (strokes_of characters kept changes)) (played_change_on h w change s low)
     ∙ sym (steps_on-append h w (change_strokes characters kept change) (strokes_of characters kept changes) (cells_of s))
 
-pub cuts_cells : CutsCells
-cuts_cells v w s = refl
+row_batch : (h w : ℕ) (batch : Batch) (s : Picture) → s.row < h → (play_all_on h w batch s).row < h
+row_batch h w [] s low = low
+row_batch h w (change ∷ changes) s low = row_batch h w changes (play_on h w change s) (row_change h w change s low)
+
+pub plays_batches_on : PlaysBatchesOn
+plays_batches_on h w [] s low = refl
+plays_batches_on h w (batch ∷ more) s low =
+    plays_batches_on h w more (play_all_on h w batch s) (row_batch h w batch s low)
+    ∙ ap (play_sized (Some h) false characters w kept (sized_at w more)) (plays_strokes_on h w batch s low)

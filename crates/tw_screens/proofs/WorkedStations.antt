@@ -9,13 +9,12 @@ use Rattle.tw_surface.specs.declared.cell.CellAttributes.{CellAttributes}
 use Rattle.tw_surface.specs.declared.cell.Intensity.TheVariants.{Bold}
 use Rattle.tw_surface.specs.declared.color.ColorAttribute.TheVariants.{PaletteIndex}
 use Rattle.tw_surface.specs.ChangeView.{Attribute, AllAttributes, Text}
-use Rattle.tw_surface.specs.Cutting.{sized_batches}
 use Rattle.tw_surface.specs.Defaults.{default_attributes}
 use Rattle.tw_surface.specs.PaintingBatches.{SizedScene}
 use Rattle.tw_surface.specs.Places.{pieces}
 use Rattle.tw_surface.specs.Scenes.Lower.{NoLower, Preview}
 use Rattle.tw_surface.specs.Simple.{IsSimple, IsSimpleWide, spelled_scene}
-use Rattle.tw_surface.specs.SimpleScreens.{spelled_sized}
+use Rattle.tw_screens.specs.SizedBatches.{sized_batches, spelled_sized}
 use Rattle.tw_screens.specs.SceneSheets.{sheet_of}
 use Rattle.tw_screens.specs.Screens.{blank_of, HasRoom, play_sized}
 use Rattle.tw_screens.specs.StyledCells.{StyledCell, styled}

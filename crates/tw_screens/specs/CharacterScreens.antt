@@ -1,33 +1,30 @@
 -- Screens of characters, without a bottom and on some rows: what is played on one is what its strokes draw.
-use Rattle.std.specs.Prelude.{ℕ, ◌≡◌, ◌<◌, ◌≤◌, Some}
+use Rattle.std.specs.Prelude.{ℕ, ◌≡◌, ◌<◌, ◌≤◌, Some, None, false, List}
 use Rattle.tw_strokes.specs.Sheets as sheets
-use Rattle.tw_strokes.specs.Strokes as drawn
-use Rattle.tw_strokes.specs.Strokes.{PictureOf, steps, steps_on}
+use Rattle.tw_strokes.specs.Strokes.{PictureOf}
 use Rattle.tw_surface.specs.ChangeView.{Batch}
-use Rattle.tw_surface.specs.Cutting.{cut_to}
 use Rattle.tw_surface.specs.Fresh.{IsFresh}
-use Rattle.tw_surface.specs.Pictures.{Picture, blank, play_all}
+use Rattle.tw_surface.specs.Pictures.{Picture, blank}
+use Rattle.tw_surface.specs.PaintingBatches.{play_batches}
 use Rattle.tw_surface.specs.Scenes.{Scene}
-use Rattle.tw_surface.specs.Scrolling.{play_all_on}
-use Rattle.tw_screens.specs.Pens.{strokes_of}
+use Rattle.tw_surface.specs.Scrolling.{play_batches_on}
 use Rattle.tw_screens.specs.SceneSheets.{sheet_of}
+use Rattle.tw_screens.specs.Screens.{play_sized}
+use Rattle.tw_screens.specs.SizedBatches.{sized_at}
 use Rattle.tw_screens.specs.StyledCells.{characters}
 
 -- a picture of characters, as one of any kind of cells
 abbrev pub cells_of : Picture → PictureOf ℕ
 cells_of s = record { cell = s.cell; row = s.row; col = s.col }
 
--- a batch without a bottom
-abbrev pub PlaysStrokes : Type 0
-PlaysStrokes = (w : ℕ) (batch : Batch) (s : Picture) → cells_of (play_all w batch s) ≡ steps w (strokes_of characters tt batch) (cells_of s)
+-- batches without a bottom
+abbrev pub PlaysBatches : Type 0
+PlaysBatches = (w : ℕ) (played : List Batch) (s : Picture) → cells_of (play_batches w played s) ≡ play_sized None false characters w tt (sized_at w played) (cells_of s)
 
 -- on h rows
-abbrev pub PlaysStrokesOn : Type 0
-PlaysStrokesOn = (h w : ℕ) (batch : Batch) (s : Picture) → s.row < h → cells_of (play_all_on h w batch s) ≡ steps_on (Some h) w (strokes_of characters tt batch) (cells_of s)
-
--- a screen that is cut
-abbrev pub CutsCells : Type 0
-CutsCells = (v w : ℕ) (s : Picture) → cells_of (cut_to v w s) ≡ drawn.cut_to blank v w (cells_of s)
+abbrev pub PlaysBatchesOn : Type 0
+PlaysBatchesOn = (h w : ℕ) (played : List Batch) (s : Picture) → s.row < h
+    → cells_of (play_batches_on h w played s) ≡ play_sized (Some h) false characters w tt (sized_at w played) (cells_of s)
 
 -- A painting that is fresh by its sheet of characters is fresh.
 abbrev pub FreshCharacters : Type 0

@@ -1,18 +1,17 @@
 -- What a screen shows of the batches of stations: any kind of cells, without a bottom or on some rows, at one number of columns or at changing ones.
 use Rattle.std.specs.Prelude.{ℕ, ◌≡◌, ◌+◌, ◌≤◌, Bool, true, Option, None, List, [], ◌∷◌, ◌++◌, map}
-use Rattle.std.specs.List.{All}
+use Rattle.std.specs.List.{list_all, All}
 use Rattle.tw_strokes.specs.Strokes.{PictureOf, InSight, steps_on, resized, narrowest}
 use Rattle.tw_strokes.specs.Sheets.{IsFresh, IsLow, last_row, cursor_row}
 use Rattle.tw_strokes.specs.Paintings.{top_row, cols_of, last_painting, AreShownOver, IsClosed}
-use Rattle.tw_surface.specs.Cutting.{SizedBatch, sized_after, sized_batches}
 use Rattle.tw_surface.specs.Defaults.{default_color}
-use Rattle.tw_surface.specs.HealingLaws.{HasTextPrompt}
 use Rattle.tw_surface.specs.Paintings.{painting, mark_of, closing}
 use Rattle.tw_surface.specs.PaintingBatches.{SizedScene, shot_of, mark_after}
 use Rattle.tw_surface.specs.Simple.{spelled_all, spelled_scene, IsSimpleWide}
-use Rattle.tw_surface.specs.SimpleScreens.{spelled_sized}
+use Rattle.tw_surface.specs.Scenes.{is_text}
 use Rattle.tw_screens.specs.Pens.{Pen, kept_after_all, strokes_of}
 use Rattle.tw_screens.specs.SceneSheets.{sheet_of, painting_of}
+use Rattle.tw_screens.specs.SizedBatches.{SizedBatch, sized_after, sized_batches, spelled_sized}
 
 -- an empty cell
 abbrev pub blank_of : {A C : Type 0} → Pen A C → C
@@ -38,6 +37,10 @@ ShowsStations {A} {C} pen = (rows : Option ℕ) (cuts : Bool) (v e : ℕ) (a : A
     let paintings = map (painting_of pen) stations in
     AreShownOver cuts (blank_of pen) (narrowest v (cols_of paintings)) e (top_row rows e paintings) (painting_of pen station) before
     (play_sized rows cuts pen v a (spelled_sized (sized_batches stations)) before)
+
+-- a prompt of attributes and texts, of whatever characters
+abbrev pub HasTextPrompt : SizedScene → Type 0
+HasTextPrompt station = list_all is_text station.scene.prompt ≡ true
 
 -- So it is, whatever was painted and shown before, where the screen is cleared before the first of them: the last one stands from row 0 on.
 abbrev pub HealsStations : {A C : Type 0} → Pen A C → Type 0

@@ -107,11 +107,3 @@ picture_with-stands w ch s p f h t = go (eqb s.col w) refl
 -- after a character the column is not 0
 pub picture_with-col : (w ch : ℕ) (s : Picture) → 0 < (picture_with w ch s).col
 picture_with-col w ch s = elim (eqb s.col w) as (λ b. 0 < (cond {A = Picture} b record { cell = cells_with s.cell (s.row + 1) 0 ch; row = s.row + 1; col = 1 } record { cell = cells_with s.cell s.row s.col ch; row = s.row; col = s.col + 1 }).col) [ true ↦ omega arith | false ↦ omega arith ]
-
-pub cells_cleared_from-stands : (w : ℕ) (s : Picture) (p : ℕ) (f : ℕ → ℕ) → s.col < w → Stands w s p f
-    → Stands w (record s { cell = cells_cleared_from s.cell s.row s.col }) p (blank_from p f)
-cells_cleared_from-stands w s p f h t = record {
-  at = λ r c k. rw (behind w s.row s.col r c h k, t.place, t.at r c k) refl;
-  place = t.place;
-  within = t.within;
-}

@@ -111,37 +111,6 @@ sees-text h w (ch ∷ text) t b u low s =
     subst (λ k. Sees k (play_text_on h w text (scroll h c)) (play_text w text v))
     (seen-step h t c.row v.row (play_text w text v).row (omega arith) one.row (text-row w text v)) rest
 
--- attributes and texts play as one text
-pub changes-text_on : (h w : ℕ) (changes : Batch) (s : Picture) → list_all is_text changes ≡ true → play_all_on h w changes s ≡ play_text_on h w (typed_text changes) s
-changes-text_on h w [] s a = refl
-changes-text_on h w (Attribute x ∷ changes) s a = changes-text_on h w changes s a
-changes-text_on h w (AllAttributes x ∷ changes) s a = changes-text_on h w changes s a
-changes-text_on h w (Text t ∷ changes) s a = changes-text_on h w changes (play_text_on h w t s) a ∙ sym (text_on-append t (typed_text changes) s)
-  where
-    text_on-append : (a b : List ℕ) (s : Picture) → play_text_on h w (a ++ b) s ≡ play_text_on h w b (play_text_on h w a s)
-    text_on-append [] b s = refl
-    text_on-append (ch ∷ a) b s = text_on-append a b (scroll h (play_char w ch s))
-changes-text_on h w (ClearScreen c ∷ changes) s a = absurd (false≢true a)
-changes-text_on h w (ClearToEndOfScreen c ∷ changes) s a = absurd (false≢true a)
-changes-text_on h w (CursorPosition x y ∷ changes) s a = absurd (false≢true a)
-
--- a relative move that does not lead above the first row that is seen
-pub sees-move : (h w t : ℕ) (x : Position) (by : ℤ) (b u : Picture) → 0 < h → Sees t b u → pos 0 ≤ℤ (pos b.row +ℤ by)
-    → Sees (t + (at_least_0 (pos b.row +ℤ by) + 1 - h))
-    (scroll h (record b { row = at_least_0 (pos b.row +ℤ by); col = min (w - 1) (at_least_0 (position_after x (pos b.col))) }))
-    (record u { row = at_least_0 (pos u.row +ℤ by); col = min (w - 1) (at_least_0 (position_after x (pos u.col))) })
-sees-move h w t x by b u some s up =
-    sees-scrolled h t _ _ some (record {
-      row = row_at (pos b.row +ℤ by) (pos u.row +ℤ by) up (omega (arith, ints, s.row));
-      col = ap (λ c. min (w - 1) (at_least_0 (position_after x (pos c)))) s.col;
-      cell = s.cell;
-    })
-  where
-    row_at : (y z : ℤ) → pos 0 ≤ℤ y → z ≡ (y +ℤ pos t) → at_least_0 z ≡ at_least_0 y + t
-    row_at (pos n) (pos m) k e = omega (arith, ints, e)
-    row_at (pos n) (negsuc m) k e = absurd (omega (arith, ints, e))
-    row_at (negsuc n) z k e = absurd (omega (arith, ints, k))
-
 -- ---- a screen of h rows stays one
 
 within-scrolled : (h : ℕ) (s : Picture) → 0 < h → ((r c : ℕ) → (h ≤ r) × (s.row < r) → s.cell r c ≡ blank) → IsWithin h (scroll h s)

@@ -1,4 +1,4 @@
--- What a text of printable characters leaves on a screen, and that the screen's cursor is where the text is measured to end.
+-- What a text of printable characters leaves on a screen.
 use Rattle.std.proofs.Common.{◌≡◌, ℕ, suc, ◌+◌, ◌<◌, ◌≤◌, pos, ◌+ℤ◌, true, cond, leb, List, [], ◌∷◌, map, length, refl, arith, ◌⊎◌, inl, inr, add-zero}
 use Rattle.std.specs.List.{list_all}
 use Rattle.std.proofs.lemmas.Bool.{cases_eq, eq-eqb, ne_eqb, leb-true, and_parts, le-leb, lt-leb}
@@ -23,51 +23,6 @@ play-typed w (ch ∷ t) s p f h a st =
     let e : p + suc (length t) ≡ p + 1 + length t = omega arith in
     rw (e, printable_play w ch s both.0)
     (play-typed w t (picture_with w ch s) (p + 1) (point p ch f) h both.1 (picture_with-stands w ch s p f h st))
-
--- ---- the screen's cursor and the measured place, for a screen entered at row start
-
-pub record Tracks (w start : ℕ) (at : Place) (s : Picture) : Type 0 where
-  pub x : s.col ≡ at.x
-  pub y : pos s.row ≡ pos start +ℤ at.y
-  pub within : s.col ≤ w
-
-tracks-picture_with : (w start ch : ℕ) (at : Place) (s : Picture) → 0 < w → Tracks w start at s
-    → Tracks w start (cond (leb (at.x + 1) w) record { x = at.x + 1; y = at.y } record { x = 1; y = at.y +ℤ pos 1 }) (picture_with w ch s)
-tracks-picture_with w start ch at s h t =
-    elim (cases_eq s.col w) [
-      | inl e ↦ rw (eq-eqb _ _ e, lt-leb (at.x + 1) w (omega (arith, t.x, e))) (record {
-        x = refl;
-        y = omega (arith, ints, t.y);
-        within = omega arith;
-      })
-      | inr n ↦ rw (ne_eqb _ _ n, le-leb (at.x + 1) w (omega (arith, t.x, n, t.within))) (record {
-        x = omega (arith, t.x);
-        y = t.y;
-        within = omega (arith, n, t.within);
-      })
-    ]
-
-tracks-char : (w start ch : ℕ) (at : Place) (s : Picture) → 0 < w → Tracks w start at s
-    → Tracks w start (next_place w (plain_piece ch) at) (play_char w ch s)
-tracks-char w start ch at s h t =
-    elim (cases_eq ch 13) [
-      | inl e ↦ rw (eq-eqb _ _ e) (record { x = refl; y = t.y; within = omega arith })
-      | inr n ↦ elim (cases_eq ch 10) [
-        | inl e ↦ rw (ne_eqb _ _ n, eq-eqb _ _ e) (record { x = t.x; y = omega (arith, ints, t.y); within = t.within })
-        | inr m ↦ rw (ne_eqb _ _ n, ne_eqb _ _ m) (tracks-picture_with w start ch at s h t)
-      ]
-    ]
-
-tracks-chars : (w start : ℕ) (t : List ℕ) (at : Place) (s : Picture) → 0 < w → Tracks w start at s
-    → Tracks w start (end_of_pieces w (map plain_piece t) at) (play_text w t s)
-tracks-chars w start [] at s h k = k
-tracks-chars w start (ch ∷ t) at s h k =
-    tracks-chars w start t (next_place w (plain_piece ch) at) (play_char w ch s) h (tracks-char w start ch at s h k)
-
-pub tracks-text : (w start : ℕ) (t : List ℕ) (at : Place) (s : Picture) → 0 < w → list_all is_plain t ≡ true → Tracks w start at s
-    → Tracks w start (end_of_pieces w (pieces t) at) (play_text w t s)
-unfolding pieces
-tracks-text w start t at s h a k = rw a (tracks-chars w start t at s h k)
 
 -- after a printable character the column is not 0
 pub typed-col : (w : ℕ) (t : List ℕ) (s : Picture) → list_all is_printable t ≡ true → (0 < s.col) ⊎ (0 < length t) → 0 < (play_text w t s).col

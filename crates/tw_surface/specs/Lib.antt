@@ -15,14 +15,9 @@ pub mod Scenes
 pub mod Paintings
 pub mod PaintingBatches
 pub mod Fresh
-pub mod ScreenLaws
 pub mod Scrolling
 pub mod ScrollingLaws
-pub mod HealingLaws
 pub mod Cells
 pub mod ScreenSteps
 pub mod ScrollingScreens
-pub mod Cutting
 pub mod Simple
-pub mod SimpleLaws
-pub mod SimpleScreens

@@ -3,8 +3,6 @@ use Rattle.std.specs.Prelude.{ℕ, ◌≡◌, ◌+◌, ◌-◌, ◌<◌, ◌≤�
 use Rattle.tw_surface.specs.ChangeView.{ChangeView, Batch}
 use Rattle.tw_surface.specs.ChangeView.{Attribute, AllAttributes, Text, ClearScreen, ClearToEndOfScreen, CursorPosition}
 use Rattle.tw_surface.specs.Pictures.{Picture, blank, play_char, play}
-use Rattle.tw_surface.specs.Scenes.{Scene}
-use Rattle.tw_surface.specs.Fresh.{last_row, cursor_row}
 
 -- the picture of a screen of h rows: the cursor stands in one of them, and nothing is below them
 pub record IsWithin (h : ℕ) (s : Picture) : Type 0 where
@@ -42,31 +40,3 @@ play_all_on h width (change ∷ changes) s = play_all_on h width changes (play_o
 abbrev pub play_batches_on : ℕ → ℕ → List Batch → Picture → Picture
 play_batches_on h width [] s = s
 play_batches_on h width (batch ∷ more) s = play_batches_on h width more (play_all_on h width batch s)
-
--- the rows of a painting: from its first one to its last one, or to the cursor's where that is below
-abbrev pub painted_rows : ℕ → Scene → ℕ
-painted_rows width scene = 1 + max (last_row width 0 scene) (cursor_row width scene)
-
--- a painting of at most h rows
-abbrev pub IsLow : ℕ → ℕ → Scene → Type 0
-IsLow h width scene = painted_rows width scene ≤ h
-
--- the first row of a painting that begins in row s: it goes up as far as its last row needs
-abbrev pub raised_row : ℕ → ℕ → ℕ → Scene → ℕ
-raised_row h width s scene = min s (h - painted_rows width scene)
-
--- the first row of the last painting of a list that begins in row s: each painting may raise it, and a clearing puts it to 0
-abbrev pub top_row : ℕ → ℕ → ℕ → List Scene → ℕ
-top_row h width s [] = s
-top_row h width s (scene ∷ more) = top_row h width (raised_row h width (if scene.cleared then 0 else s) scene) more
-
--- the rows above row s are those that stood k rows below
-abbrev pub IsMovedUp : ℕ → ℕ → ℕ → Picture → Picture → Type 0
-IsMovedUp width s k before after = (r c : ℕ) → r < s → c < width → after.cell r c ≡ before.cell (r + k) c
-
--- the cursor at column 0 of the row under the last one, scrolled into sight; all from there on blank, and the rows above as they were, moved up
-pub record IsClosedOn (h width last : ℕ) (before after : Picture) : Type 0 where
-  pub row : after.row ≡ min (last + 1) (h - 1)
-  pub col : after.col ≡ 0
-  pub blank_below : (r c : ℕ) → after.row ≤ r → c < width → after.cell r c ≡ blank
-  pub moved_up : IsMovedUp width after.row (last + 1 - after.row) before after

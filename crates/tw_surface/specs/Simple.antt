@@ -93,10 +93,6 @@ pub record IsSimple (scene : Scene) : Type 0 where
   pub line : AreSimple scene.line
   pub lower : IsSimpleLower scene.lower
 
--- a simple scene that is painted for w columns
-abbrev pub IsSimpleAt : ℕ → SizedScene → Type 0
-IsSimpleAt w station = (station.cols ≡ w) × IsSimple station.scene
-
 -- a simple scene that is painted for two columns or more
 abbrev pub IsSimpleWide : SizedScene → Type 0
 IsSimpleWide station = (2 ≤ station.cols) × IsSimple station.scene

@@ -1,3 +1,4 @@
+use Rattle.tw_screens.proofs.SizedBatchLemmas.{sized_batches_are}
 use Rattle.tw_screens.proofs.DrawnStations.{shows_stations, heals_stations, closes_stations}
 use Rattle.tw_screens.proofs.laws.stations.Goals as goal
 
@@ -9,3 +10,6 @@ returns-clause-healed g c = heals_stations
 
 pub returns-clause-closed : goal.returns-clause-closed
 returns-clause-closed g c = closes_stations
+
+pub returns-clause-batches : goal.returns-clause-batches
+returns-clause-batches g c = sized_batches_are

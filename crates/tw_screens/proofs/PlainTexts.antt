@@ -1,21 +1,23 @@
--- The lines of a lower text, and what its changes type.
-use Rattle.std.proofs.Common.{◌≡◌, ℕ, zero, suc, ◌+◌, ◌-◌, ◌/◌, ◌<◌, ◌≤◌, max, Bool, true, false, ◌&&◌, eqb, cond, List, [], ◌∷◌, ◌++◌, refl, sym, ap, ◌∙◌, arith}
+-- Plain texts, and their lines.
+use Rattle.std.proofs.Common.{◌≡◌, ℕ, zero, suc, ◌+◌, ◌-◌, ◌/◌, ◌<◌, ◌≤◌, max, Bool, true, false, ◌&&◌, ◌||◌, eqb, cond, List, [], ◌∷◌, ◌++◌, refl, sym, ap, ◌∙◌, arith}
 use Rattle.std.specs.List.{list_all}
-use Rattle.std.proofs.lemmas.Bool.{eqb-true, ne_eqb, and_parts, and_from, false≢true, leb-true}
+use Rattle.std.proofs.lemmas.Bool.{eqb-true, ne_eqb, and_parts, and_from, or_right, leb-true}
 use Rattle.std.proofs.lemmas.List.{append-nil}
 use Rattle.std.proofs.lemmas.List.Folds.{list_all-append}
 use Rattle.std.proofs.Math.Nat.{add-div_right, div-eq_of_lt, max-eq_right, zero-div}
-use Rattle.tw_surface.specs.ChangeView.{Attribute, AllAttributes, Text, ClearScreen, ClearToEndOfScreen, CursorPosition}
 use Rattle.tw_surface.specs.Scenes.Lower.{NoLower, Preview, Search}
-use Rattle.tw_surface.proofs.TypedText.{Tracks, tracks-text}
-use Rattle.tw_surface.proofs.TypedChanges.{plain_from_printable}
-use Rattle.tw_surface.specs.ChangeView.{Batch}
-use Rattle.tw_surface.specs.Pictures.{Picture, play_char, play_text, play_all}
 use Rattle.tw_surface.specs.Characters.{is_printable, is_plain}
-use Rattle.tw_surface.specs.Places.{Place, place_after, place_after_all}
-use Rattle.tw_surface.specs.Scenes.{is_typing, typed_text, Lower, lower_lines, IsPlainLower, is_text}
+use Rattle.tw_surface.specs.Scenes.{typed_text, Lower, lower_lines, IsPlainLower}
 use Rattle.tw_surface.specs.Lines.{before_lines, lines_of, text_of_lines}
 use Rattle.tw_surface.specs.Paintings.{lower_changes}
+
+pub plain_from_printable : (t : List ℕ) → list_all is_printable t ≡ true → list_all is_plain t ≡ true
+plain_from_printable [] h = refl
+plain_from_printable (b ∷ t) h =
+    let both = and_parts (is_printable b) (list_all is_printable t) h in
+    and_from (is_plain b) (list_all is_plain t)
+    (or_right (eqb b 13 || eqb b 10) (is_printable b) both.0)
+    (plain_from_printable t both.1)
 
 -- the rows of a line of q characters
 pub rows-is : (w q : ℕ) → 0 < w → max 1 ((q + w - 1) / w) ≡ 1 + (q - 1) / w
@@ -87,49 +89,7 @@ breaks-plain (line ∷ more) a =
     list_all-append is_plain line (breaks more)
     ∙ and_from (list_all is_plain line) (list_all is_plain (breaks more)) (plain_from_printable line both.0) (breaks-plain more both.1)
 
--- ---- attributes and texts
-
-pub play_text-append : (w : ℕ) (a b : List ℕ) (s : Picture) → play_text w (a ++ b) s ≡ play_text w b (play_text w a s)
-play_text-append w [] b s = refl
-play_text-append w (ch ∷ a) b s = play_text-append w a b (play_char w ch s)
-
--- attributes and texts play as one text
-pub changes-text : (w : ℕ) (changes : Batch) (s : Picture) → list_all is_text changes ≡ true → play_all w changes s ≡ play_text w (typed_text changes) s
-changes-text w [] s a = refl
-changes-text w (Attribute x ∷ changes) s a = changes-text w changes s a
-changes-text w (AllAttributes x ∷ changes) s a = changes-text w changes s a
-changes-text w (Text t ∷ changes) s a = changes-text w changes (play_text w t s) a ∙ sym (play_text-append w t (typed_text changes) s)
-changes-text w (ClearScreen c ∷ changes) s a = absurd (false≢true a)
-changes-text w (ClearToEndOfScreen c ∷ changes) s a = absurd (false≢true a)
-changes-text w (CursorPosition x y ∷ changes) s a = absurd (false≢true a)
-
-pub tracks-texts : (w start : ℕ) (changes : Batch) (at : Place) (s : Picture) → 0 < w → list_all is_text changes ≡ true
-    → list_all is_plain (typed_text changes) ≡ true → Tracks w start at s → Tracks w start (place_after_all w changes at) (play_all w changes s)
-tracks-texts w start [] at s h a p k = k
-tracks-texts w start (Attribute x ∷ changes) at s h a p k = tracks-texts w start changes at s h a p k
-tracks-texts w start (AllAttributes x ∷ changes) at s h a p k = tracks-texts w start changes at s h a p k
-tracks-texts w start (Text t ∷ changes) at s h a p k =
-    let both = and_parts (list_all is_plain t) (list_all is_plain (typed_text changes)) (sym (list_all-append is_plain t (typed_text changes)) ∙ p) in
-    tracks-texts w start changes (place_after w (Text t) at) (play_text w t s) h a both.1 (tracks-text w start t at s h both.0 k)
-tracks-texts w start (ClearScreen c ∷ changes) at s h a p k = absurd (false≢true a)
-tracks-texts w start (ClearToEndOfScreen c ∷ changes) at s h a p k = absurd (false≢true a)
-tracks-texts w start (CursorPosition x y ∷ changes) at s h a p k = absurd (false≢true a)
-
-pub typing-is_text : (changes : Batch) → list_all is_typing changes ≡ true → list_all is_text changes ≡ true
-typing-is_text [] a = refl
-typing-is_text (Attribute x ∷ changes) a = typing-is_text changes a
-typing-is_text (AllAttributes x ∷ changes) a = typing-is_text changes a
-typing-is_text (Text t ∷ changes) a = typing-is_text changes (and_parts _ (list_all is_typing changes) a).1
-typing-is_text (ClearScreen c ∷ changes) a = absurd (false≢true a)
-typing-is_text (ClearToEndOfScreen c ∷ changes) a = absurd (false≢true a)
-typing-is_text (CursorPosition x y ∷ changes) a = absurd (false≢true a)
-
 -- ---- the lower text
-
-pub lower-is_text : (lower : Lower) → IsPlainLower lower → list_all is_text (lower_changes lower) ≡ true
-lower-is_text NoLower a = refl
-lower-is_text (Preview elements) a = a.0
-lower-is_text (Search text) a = refl
 
 pub lower-typed_text : (lower : Lower) → typed_text (lower_changes lower) ≡ breaks (lower_lines lower)
 lower-typed_text NoLower = refl

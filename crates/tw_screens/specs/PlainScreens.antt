@@ -8,6 +8,7 @@ use Rattle.tw_surface.specs.Lines.{lines_of, text_of_lines, rows_of}
 use Rattle.tw_surface.specs.Scenes.{Scene, IsPlain}
 use Rattle.tw_surface.specs.Paintings.{painting}
 use Rattle.tw_surface.specs.Fresh.{IsFresh, IsSameAbove, IsClosed, last_row, cursor_row}
+use Rattle.tw_surface.specs.Simple.{IsSimple, spelled_scene}
 use Rattle.tw_surface.specs.PaintingBatches.{Shot, SizedScene, IsPlainAt, shot_of, scenes_of, batches, closing_batch, last_of, shown_batches, closing_of, run_batches, play_batches, start_row}
 
 -- the first painting of a run that enters at column 0 of row e is fresh from row e on, and the rows above are as they were
@@ -98,3 +99,7 @@ LastPainting = (w e : ℕ) (earlier : List SizedScene) (station : SizedScene) (b
     let s = start_row e (scenes_of (earlier ++ station ∷ [])) in
     let after = play_batches w (batches all) before in
     IsClosed w (last_row w s station.scene) after (play_batches w (closing_batch all) after)
+
+-- a plain scene is simple, and its characters are its bytes
+abbrev pub PlainIsSimple : Type 0
+PlainIsSimple = (scene : Scene) → IsPlain scene → IsSimple scene × (spelled_scene scene ≡ scene)

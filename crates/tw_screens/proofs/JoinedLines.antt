@@ -5,7 +5,7 @@ use Rattle.std.proofs.lemmas.Bool.{and_parts, ne_eqb, leb-true}
 use Rattle.std.proofs.lemmas.List.{append-nil}
 use Rattle.tw_surface.specs.Characters.{is_printable, cr, lf}
 use Rattle.tw_surface.specs.Lines.{before_lines, lines_of, text_of_lines}
-use Rattle.tw_surface.proofs.LowerText.{one_line}
+use Rattle.tw_screens.proofs.PlainTexts.{one_line}
 
 not_cr : (b : ℕ) → is_printable b ≡ true → eqb b cr ≡ false
 not_cr b h = let p = and_parts (leb 32 b) (leb b 126) h in ne_eqb b 13 (λ e. absurd (omega (arith, e, leb-true 32 b p.0)))

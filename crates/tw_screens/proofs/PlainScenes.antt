@@ -1,25 +1,28 @@
 -- Plain scenes are simple ones.
-use Rattle.std.proofs.Common.{◌≡◌, ℕ, ◌<◌, ◌≤◌, true, false, ◌||◌, List, [], ◌∷◌, refl, sym, ap, ◌∙◌, arith, eqb, leb, inl, inr}
+use Rattle.std.proofs.Common.{◌≡◌, ℕ, ◌<◌, ◌≤◌, Bool, true, false, ◌||◌, List, [], ◌∷◌, ◌++◌, map, refl, sym, ap, ◌∙◌, arith, eqb, leb, inl, inr, if◌then◌else◌}
 use Rattle.std.specs.Prelude.{chars}
 use Rattle.std.specs.Str.{IsAscii}
 use Rattle.std.specs.List.{list_all, list_any}
 use Rattle.std.proofs.lemmas.Bool.{and_parts, ne_eqb, leb-true, or_cases, eqb-true, false≢true}
+use Rattle.std.proofs.lemmas.List.{map-append}
 use Rattle.std.proofs.lemmas.List.Folds.{list_all-append}
 use Rattle.std.proofs.lemmas.Str.{chars-IsAscii}
 use Rattle.std.proofs.lemmas.Str.Ascii.{IsAscii-cons, IsAscii-nil}
-use Rattle.tw_surface.specs.ChangeView.{Batch}
+use Rattle.tw_surface.specs.ChangeView.{ChangeView, Batch}
 use Rattle.tw_surface.specs.ChangeView.{Attribute, AllAttributes, Text, ClearScreen, ClearToEndOfScreen, CursorPosition}
-use Rattle.tw_surface.specs.Characters.{is_plain, is_printable}
+use Rattle.tw_surface.specs.declared.measure.Piece.TheVariants.{Cr, Lf, Wide}
+use Rattle.tw_surface.specs.Characters.{is_plain, is_printable, cr, lf}
 use Rattle.tw_surface.specs.Lines.{lines_of}
-use Rattle.tw_surface.specs.Paintings.{lower_changes}
-use Rattle.tw_surface.specs.Places.{pieces}
-use Rattle.tw_surface.specs.Scenes.{Lower, IsPlainLower, is_typing, is_text, typed_text, lower_lines}
+use Rattle.tw_surface.specs.Paintings.{lower_changes, before_line, edge_space, shown_part, cursor_place, painting}
+use Rattle.tw_surface.specs.Defaults.{default_attributes, default_color}
+use Rattle.tw_surface.specs.Places.{pieces, plain_piece, place_after_all, origin, move_between}
+use Rattle.tw_surface.specs.Scenes.{Scene, IsPlain, Lower, IsPlainLower, is_typing, is_text, typed_text, lower_lines}
 use Rattle.tw_surface.specs.Scenes.Lower.{NoLower, Preview, Search}
-use Rattle.tw_surface.specs.Simple.{is_break, spelled_all, spelled_lower, AreSimple, AreCounted, IsCounted, IsSimpleText, IsSimpleLower}
-use Rattle.tw_surface.specs.SimpleLaws.{PlainIsSimple}
-use Rattle.tw_surface.proofs.LowerText.{lower-typed_text, lower-printable, breaks-plain}
-use Rattle.tw_surface.proofs.TypedChanges.{plain_from_printable}
-use Rattle.tw_surface.proofs.NamedPaintings.{plain-parted_pieces, wide-plain}
+use Rattle.tw_surface.specs.Simple.{is_break, parted_pieces, spelled_change, spelled_all, spelled_lower, AreSimple, AreCounted, IsCounted, IsSimpleText, IsSimpleLower}
+use Rattle.tw_screens.specs.PlainScreens.{PlainIsSimple}
+use Rattle.tw_screens.proofs.DrawnChanges.{wide-plain}
+use Rattle.tw_screens.proofs.MeasuredHeights.{space_is, crlf_is, crlf_before}
+use Rattle.tw_screens.proofs.PlainTexts.{plain_from_printable, lower-typed_text, lower-printable, breaks-plain}
 
 -- ---- texts
 
@@ -64,9 +67,19 @@ simple_text text h =
       no_breaks = ap (list_any is_break) same ∙ unbroken text h;
     }
 
+plain-parted : (text : List ℕ) → parted_pieces (map plain_piece text) ≡ map plain_piece text
+plain-parted [] = refl
+plain-parted (ch ∷ text) = by_kind (eqb ch cr) (eqb ch lf) (plain-parted text)
+  where
+    by_kind : (e d : Bool) → parted_pieces (map plain_piece text) ≡ map plain_piece text
+        → parted_pieces ((if e then Cr else if d then Lf else Wide 1) ∷ map plain_piece text) ≡ (if e then Cr else if d then Lf else Wide 1) ∷ map plain_piece text
+    by_kind true d rest = ap (λ l. Cr ∷ l) rest
+    by_kind false true rest = ap (λ l. Lf ∷ l) rest
+    by_kind false false rest = ap (λ l. Wide 1 ∷ l) rest
+
 counted_text : (text : List ℕ) → list_all is_plain text ≡ true → IsCounted text
 unfolding pieces
-counted_text text plain = rw (plain, plain_chars text plain) (plain-parted_pieces text)
+counted_text text plain = rw (plain, plain_chars text plain) (plain-parted text)
 
 -- ---- changes
 
@@ -139,3 +152,46 @@ plain_is_simple scene plain =
           ∙ ap (λ l. record { prompt = scene.prompt; line = l; column = scene.column; lower = spelled_lower scene.lower; cleared = scene.cleared }) (spelled_same scene.line plain.line)
           ∙ ap (λ l. record { prompt = scene.prompt; line = scene.line; column = scene.column; lower = l; cleared = scene.cleared }) low.1,
     )
+
+-- ---- a painting
+
+edge_same : (k : Bool) → spelled_all (if k then Text (32 ∷ []) ∷ [] else []) ≡ (if k then Text (32 ∷ []) ∷ [] else [])
+edge_same true = ap (λ l. Text l ∷ []) space_is
+edge_same false = refl
+
+lower_same : (lower : Lower) → IsPlainLower lower → spelled_all (lower_changes lower) ≡ lower_changes lower
+lower_same NoLower a = refl
+lower_same (Preview elements) a =
+    ap (λ l. Text l ∷ AllAttributes default_attributes ∷ spelled_all elements) crlf_is
+    ∙ ap (λ l. Text (13 ∷ 10 ∷ []) ∷ AllAttributes default_attributes ∷ l) (counted_same elements a.0 (lower_plain (Preview elements) a))
+lower_same (Search text) a =
+    ap (λ l. AllAttributes default_attributes ∷ Text l ∷ []) (crlf_before text ∙ ap (λ l. 13 ∷ 10 ∷ l) (plain_chars text (plain_from_printable text a)))
+
+-- the batch of a plain scene has its characters for its bytes
+pub painting_same : (w : ℕ) (scene : Scene) → IsPlain scene → spelled_all (painting w scene).changes ≡ (painting w scene).changes
+painting_same w scene plain =
+    map-append spelled_change (shown_part w scene) (move ∷ [])
+    ∙ ap (λ l. l ++ move ∷ []) (
+      map-append spelled_change head (edge ++ lower_changes scene.lower)
+      ∙ ap (λ l. l ++ spelled_all (edge ++ lower_changes scene.lower)) head_same
+      ∙ ap (λ l. head ++ l) (
+        map-append spelled_change edge (lower_changes scene.lower)
+        ∙ ap (λ l. l ++ spelled_all (lower_changes scene.lower)) (edge_same (eqb (place_after_all w head origin).x w))
+        ∙ ap (λ l. edge ++ l) (lower_same scene.lower plain.lower)))
+  where
+    head : Batch
+    head = before_line scene.prompt ++ scene.line
+
+    edge : Batch
+    edge = edge_space w (place_after_all w head origin)
+
+    move : ChangeView
+    move = move_between (place_after_all w (shown_part w scene) origin) (cursor_place w scene)
+
+    head_same : spelled_all head ≡ head
+    head_same =
+        ap (λ l. ClearToEndOfScreen default_color ∷ AllAttributes default_attributes ∷ l) (
+          map-append spelled_change (scene.prompt ++ AllAttributes default_attributes ∷ []) scene.line
+          ∙ ap (λ l. l ++ spelled_all scene.line) (map-append spelled_change scene.prompt (AllAttributes default_attributes ∷ []))
+          ∙ ap (λ l. (l ++ AllAttributes default_attributes ∷ []) ++ spelled_all scene.line) (spelled_same scene.prompt plain.prompt)
+          ∙ ap (λ l. (scene.prompt ++ AllAttributes default_attributes ∷ []) ++ l) (spelled_same scene.line plain.line))

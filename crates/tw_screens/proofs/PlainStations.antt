@@ -1,9 +1,9 @@
 -- Runs of stations, of which the first ones are for one number of columns.
 use Rattle.std.proofs.Common.{◌≡◌, ℕ, suc, ◌≤◌, List, [], ◌∷◌, ◌++◌, map, refl, ap, ◌∙◌, arith}
 use Rattle.std.specs.List.{All}
-use Rattle.tw_surface.proofs.PaintedScenes.{Painted}
-use Rattle.tw_surface.proofs.PaintingHeights.{closed_painting}
-use Rattle.tw_surface.proofs.ShotLemmas.{ArePlain, painted_run, closing_of-is, beginning}
+use Rattle.tw_surface.proofs.BatchLemmas.{beginning}
+use Rattle.tw_screens.proofs.PlainPaintings.{ArePlain, Painted, painted_run, closed_painting}
+use Rattle.tw_screens.proofs.StationMarks.{closing_is}
 use Rattle.tw_surface.specs.ChangeView.{Batch}
 use Rattle.tw_surface.specs.Pictures.{Picture, play_all}
 use Rattle.tw_surface.specs.Scenes.{Scene, IsPlain}
@@ -16,15 +16,15 @@ abbrev pub ArePlainAt : ℕ → List SizedScene → Type 0
 ArePlainAt w [] = Unit {0}
 ArePlainAt w (x ∷ xs) = IsPlainAt w x × ArePlainAt w xs
 
-pub are_plain_at : (w : ℕ) (xs : List SizedScene) → All (IsPlainAt w) xs → ArePlainAt w xs
+are_plain_at : (w : ℕ) (xs : List SizedScene) → All (IsPlainAt w) xs → ArePlainAt w xs
 are_plain_at w [] a = tt
 are_plain_at w (x ∷ xs) a = (a 0 x (omega arith), are_plain_at w xs (λ k d h. a (suc k) d (omega arith)))
 
-pub plain_scenes : (w : ℕ) (xs : List SizedScene) → ArePlainAt w xs → ArePlain (scenes_of xs)
+plain_scenes : (w : ℕ) (xs : List SizedScene) → ArePlainAt w xs → ArePlain (scenes_of xs)
 plain_scenes w [] a = tt
 plain_scenes w (x ∷ xs) a = (a.0.1, plain_scenes w xs a.1)
 
-pub same_shots : (w : ℕ) (xs : List SizedScene) → ArePlainAt w xs → map shot_of xs ≡ shots w (scenes_of xs)
+same_shots : (w : ℕ) (xs : List SizedScene) → ArePlainAt w xs → map shot_of xs ≡ shots w (scenes_of xs)
 same_shots w [] a = refl
 same_shots w (x ∷ xs) a =
     ap (λ cols. shot cols ∷ map shot_of xs) (a.0.0) ∙ ap (λ l. shot w ∷ l) (same_shots w xs a.1)
@@ -32,7 +32,7 @@ same_shots w (x ∷ xs) a =
     shot : ℕ → Shot
     shot cols = record { painting = painting cols x.scene; cleared = x.scene.cleared }
 
-pub last_of-push : (first : Scene) (more : List Scene) (last : Scene) → last_of first (more ++ last ∷ []) ≡ last
+last_of-push : (first : Scene) (more : List Scene) (last : Scene) → last_of first (more ++ last ∷ []) ≡ last
 last_of-push first [] last = refl
 last_of-push first (next ∷ more) last = last_of-push next more last
 
@@ -42,16 +42,11 @@ run_of w e [] last t two row col plain = painted_run w e last [] t two row col p
 run_of w e (first ∷ more) last t two row col plain =
     rw (last_of-push first more last) at (painted_run w e first (more ++ last ∷ []) t two row col plain)
 
-pub closing_push : (w : ℕ) (scenes : List Scene) (last : Scene) → closing_of w (scenes ++ last ∷ []) ≡ closing (mark_of (painting w last)) ∷ []
-closing_push w [] last = refl
-closing_push w (first ∷ more) last =
-    closing_of-is w first (more ++ last ∷ []) ∙ ap (λ x. closing (mark_of (painting w x)) ∷ []) (last_of-push first more last)
+last_at : (w : ℕ) (earlier : List SizedScene) (station : SizedScene) → ArePlainAt w (earlier ++ station ∷ []) → IsPlainAt w station
+last_at w [] station a = a.0
+last_at w (x ∷ xs) station a = last_at w xs station a.1
 
-last_is_plain : (scenes : List Scene) (last : Scene) → ArePlain (scenes ++ last ∷ []) → IsPlain last
-last_is_plain [] last a = a.0
-last_is_plain (x ∷ xs) last a = last_is_plain xs last a.1
-
-pub scenes-push : (earlier : List SizedScene) (station : SizedScene) → scenes_of (earlier ++ station ∷ []) ≡ scenes_of earlier ++ station.scene ∷ []
+scenes-push : (earlier : List SizedScene) (station : SizedScene) → scenes_of (earlier ++ station ∷ []) ≡ scenes_of earlier ++ station.scene ∷ []
 scenes-push [] station = refl
 scenes-push (x ∷ xs) station = ap (λ l. x.scene ∷ l) (scenes-push xs station)
 
@@ -91,13 +86,12 @@ pub last_painting : (w e : ℕ) (earlier : List SizedScene) (station : SizedScen
 last_painting w e earlier station t two row col a =
     let plain = are_plain_at w (earlier ++ station ∷ []) a in
     let q = painted_station w e earlier station t two row col plain in
-    let d = scenes-push earlier station in
-    let scenes : ArePlain (scenes_of earlier ++ station.scene ∷ []) = rw d at (plain_scenes w (earlier ++ station ∷ []) plain) in
+    let last : IsPlainAt w station = last_at w earlier station plain in
     let c : closing_batch (map shot_of (earlier ++ station ∷ [])) ≡ closing (mark_of (painting w station.scene)) ∷ [] =
-    ap closing_batch (same_shots w (earlier ++ station ∷ []) plain) ∙ ap (closing_of w) d ∙ closing_push w (scenes_of earlier) station.scene in
+    closing_is earlier station ∙ ap (λ n. closing (mark_of (painting n station.scene)) ∷ []) last.0 in
     let after : Picture = play_batches w (batches (map shot_of (earlier ++ station ∷ []))) t in
     closed_at w _ after (closing_batch (map shot_of (earlier ++ station ∷ []))) (closing (mark_of (painting w station.scene))) c
-    (closed_painting w (start_row e (scenes_of (earlier ++ station ∷ []))) station.scene after two (last_is_plain (scenes_of earlier) station.scene scenes) q.fresh.row)
+    (closed_painting w (start_row e (scenes_of (earlier ++ station ∷ []))) station.scene after two last.1 q.fresh.row)
   where
     closed_at : (w last : ℕ) (after : Picture) (bs : List Batch) (batch : Batch) → bs ≡ batch ∷ []
         → IsClosed w last after (play_all w batch after) → IsClosed w last after (play_batches w bs after)

@@ -1,5 +1,5 @@
 -- Simple texts, by computation.
-use Rattle.std.proofs.Common.{◌≡◌, ℕ, false, List, [], ◌∷◌, map, refl, arith}
+use Rattle.std.proofs.Common.{◌≡◌, ℕ, false, None, List, [], ◌∷◌, map, refl, arith}
 use Rattle.std.specs.List.{All}
 use Rattle.std.proofs.lemmas.List.Elements.{All-nil, All-cons}
 use Rattle.unicode_segmentation.proofs.Computing.{unicode_segmentation}
@@ -10,9 +10,15 @@ use Rattle.tw_surface.specs.Places.{pieces}
 use Rattle.tw_surface.specs.Scenes.{Scene}
 use Rattle.tw_surface.specs.Scenes.Lower.{NoLower, Preview, Search}
 use Rattle.tw_surface.specs.PaintingBatches.{shown_batches, play_batches}
-use Rattle.tw_surface.specs.Simple.{IsSimple, IsSimpleText, IsSimpleLower, spelled_batches}
-use Rattle.tw_surface.proofs.SimpleLists.{simple_paintings}
-use Rattle.tw_surface.proofs.WorkedPaintings.{scene_of}
+use Rattle.tw_surface.specs.Simple.{IsSimple, IsSimpleText, IsSimpleLower, IsSimpleWide, spelled_batches}
+use Rattle.tw_strokes.specs.Strokes.{PictureOf}
+use Rattle.tw_screens.specs.CharacterScreens.{cells_of}
+use Rattle.tw_screens.specs.Screens.{HasRoom, play_sized}
+use Rattle.tw_screens.specs.SizedBatches.{sized_batches, spelled_sized}
+use Rattle.tw_screens.specs.StyledCells.{characters}
+use Rattle.tw_screens.proofs.DrawnStations.{shows_stations}
+use Rattle.tw_screens.proofs.PlainPaintings.{station_at}
+use Rattle.tw_screens.proofs.WorkedPaintings.{scene_of}
 
 -- a letter with an accent and a piece of a frame, in two and in three bytes
 abbrev accent : List ℕ
@@ -76,10 +82,12 @@ one_is_simple : IsSimple one
 unfolding pieces unicode_segmentation unicode_width
 one_is_simple = record { prompt = (record { measured = refl; no_breaks = refl }, tt); line = (record { measured = refl; no_breaks = refl }, tt); lower = tt }
 
-by_the_law : (before : Picture) → before.row ≡ 0 → before.col ≡ 0 → let after = play_batches 5 (spelled_batches (shown_batches 5 (six ∷ one ∷ []))) before in
+by_the_law : (before : Picture) → before.row ≡ 0 → before.col ≡ 0
+    → let after = play_sized None false characters 5 tt (spelled_sized (sized_batches (station_at 5 six ∷ station_at 5 one ∷ []))) (cells_of before) in
     (after.cell 0 2 ≡ 233) × (after.row ≡ 0) × (after.col ≡ 3)
 unfolding pieces unicode_segmentation unicode_width
 by_the_law before row col =
-    let all : All IsSimple (six ∷ one ∷ []) = All-cons IsSimple six (one ∷ []) six_is_simple (All-cons IsSimple one [] one_is_simple (All-nil IsSimple)) in
-    let fresh = (simple_paintings 5 0 six (one ∷ []) before (omega arith) row col all).0 in
+    let wide : All IsSimpleWide (station_at 5 six ∷ station_at 5 one ∷ []) =
+    All-cons IsSimpleWide (station_at 5 six) (station_at 5 one ∷ []) (omega arith, six_is_simple) (All-cons IsSimpleWide (station_at 5 one) [] (omega arith, one_is_simple) (All-nil IsSimpleWide)) in
+    let fresh = (shows_stations characters None false 5 0 tt (station_at 5 six ∷ []) (station_at 5 one) (cells_of before) row col tt wide (λ k d h. tt)).fresh in
     (fresh.shown 2 (omega arith), fresh.row, fresh.col)

@@ -3,7 +3,7 @@ use Rattle.std.proofs.Common.{◌≡◌, ℕ, ◌+◌, ◌-◌, ◌*◌, ◌/◌
 use Rattle.std.proofs.lemmas.Bool.{cases_lt}
 use Rattle.std.proofs.lemmas.Nat.{div-mul-add, mod-mul-add, div-add-mod'}
 use Rattle.std.proofs.Math.Nat.{add-mul}
-use Rattle.tw_surface.proofs.PaintedScenes.{at_row, at_col}
+use Rattle.tw_strokes.proofs.LineOfCells.{at_row, at_col}
 use Rattle.tw_surface.specs.Pictures.{Picture}
 use Rattle.tw_surface.specs.Lines.{rows_of}
 use Rattle.tw_surface.specs.Scenes.{Scene, lower_lines}
