@@ -7,7 +7,7 @@ use Rattle.tw_surface.specs.ChangeView.{Batch}
 use Rattle.tw_surface.specs.Paintings.{Painting, painting, Mark, mark_of}
 use Rattle.tw_surface.specs.PaintingBatches.{Shot, shot_of, start_of, clearing, batches_after, batches, mark_after, closing_if, closing_batch}
 use Rattle.tw_surface.specs.Scenes.{Scene}
-use Rattle.tw_surface.proofs.ShotLemmas.{batches_after-append}
+use Rattle.tw_surface.proofs.BatchLemmas.{batches_after-append}
 use Rattle.tw_input.specs.EventView.{EventView}
 use Rattle.tw_terminal.specs.declared.terminal.ScreenSize.{ScreenSize}
 use Rattle.tw_host.specs.HostRules.{HostRules}

@@ -4,7 +4,7 @@ use Rattle.std.proofs.lemmas.List.{append-nil}
 use Rattle.tw_surface.specs.ChangeView.{Batch}
 use Rattle.tw_surface.specs.Paintings.{Painting, Mark, mark_of}
 use Rattle.tw_surface.specs.PaintingBatches.{Shot, start_of, clearing, batches_after, mark_after, batches}
-use Rattle.tw_surface.proofs.ShotLemmas.{batches_after-append}
+use Rattle.tw_surface.proofs.BatchLemmas.{batches_after-append}
 use Rattle.tw_input.specs.EventView.{EventView}
 use Rattle.tw_terminal.specs.TerminalState.{TerminalState}
 use Rattle.tw_host.specs.HostRules.{HostRules}

@@ -1,31 +1,31 @@
 -- After each painting of a run a screen of any kind of cells shows the fresh painting of its station.
-use Rattle.std.proofs.Common.{◌≡◌, ℕ, suc, List, [], ◌∷◌, ◌++◌, ◌∙◌, sym, ap, map, refl, arith, Option, Some, None, Bool, true, false}
+use Rattle.std.proofs.Common.{◌≡◌, ℕ, suc, ◌+◌, ◌-◌, ◌≤◌, List, [], ◌∷◌, ◌++◌, ◌∙◌, sym, ap, map, refl, arith, Option, Some, None, Bool, true, false}
 use Rattle.std.specs.List.{All}
 use Rattle.std.proofs.lemmas.List.{map-append, append_assoc}
-use Rattle.tw_strokes.specs.Strokes.{PictureOf, InSight, resized}
-use Rattle.tw_surface.specs.Cutting.{sized_after, sized_batches}
+use Rattle.tw_strokes.specs.Strokes.{PictureOf, InSight, resized, narrowest}
 use Rattle.tw_surface.specs.Paintings.{Mark, painting, mark_of, closing}
 use Rattle.tw_surface.specs.PaintingBatches.{SizedScene, shot_of, batches, mark_after, closing_if, closing_batch}
 use Rattle.tw_surface.specs.Simple.{IsSimpleWide}
-use Rattle.tw_surface.specs.SimpleScreens.{spelled_sized}
-use Rattle.tw_surface.proofs.CutLists.{sized_are, sized_batches_are}
-use Rattle.tw_surface.proofs.HealedLists.{closing_is}
-use Rattle.tw_surface.proofs.ShotLemmas.{batches_after-append}
+use Rattle.tw_surface.proofs.BatchLemmas.{batches_after-append}
+use Rattle.tw_screens.specs.SizedBatches.{sized_after, sized_batches, spelled_sized}
+use Rattle.tw_screens.proofs.SizedBatchLemmas.{sized_are, sized_batches_are}
+use Rattle.tw_screens.proofs.StationMarks.{closing_is}
 use Rattle.tw_surface.specs.ChangeView.{Batch}
-use Rattle.tw_surface.specs.HealingLaws.{begins_cleared, HasTextPrompt}
-use Rattle.tw_strokes.specs.Sheets.{IsFresh}
-use Rattle.tw_screen_runs.proofs.HealedRunLemmas.{text_prompts, played_since, first_since}
+use Rattle.tw_strokes.specs.Sheets.{IsFresh, last_row, cursor_row}
+use Rattle.tw_strokes.specs.Paintings.{Painting, IsClosed, cols_of, top_row, seen_row}
+use Rattle.tw_strokes.proofs.PaintedLists.{top-le}
+use Rattle.tw_screen_runs.proofs.ClearedRunLemmas.{text_prompts, up_to-is, shown-is, played_since, first_since}
 use Rattle.tw_screens.specs.SceneSheets.{painting_of}
 use Rattle.tw_screens.specs.Pens.{Pen}
-use Rattle.tw_screens.specs.Screens.{HasRoom, blank_of, play_sized}
+use Rattle.tw_screens.specs.Screens.{HasTextPrompt, HasRoom, blank_of, play_sized}
 use Rattle.tw_screens.proofs.DrawnStations.{shows_stations, heals_stations, closes_stations, last_is}
 use Rattle.tw_host.specs.HostRules.{HostRules}
 use Rattle.tw_lineedit.specs.Frame.{Frame}
 use Rattle.tw_lineedit.specs.Run.{run_of}
-use Rattle.tw_lineedit.specs.ScreenRuns.{sized_scene, Comes}
+use Rattle.tw_lineedit.specs.ScreenRuns.{sized_scene, batches_of, Comes}
 use Rattle.tw_lineedit.specs.Stations.{Station}
 use Rattle.tw_lineedit.proofs.StationLemmas.{played-is, first_batches, all_taken, closing-is}
-use Rattle.tw_screen_runs.specs.DrawnRuns.{ComesSimply, ComesHealed, DrawnPaintings, DrawnClosings, DrawnHealings}
+use Rattle.tw_screen_runs.specs.DrawnRuns.{begins_cleared, paintings_at, painted_at, play_stations, closed_by, play_since, ComesSimply, ShowsDrawn, ComesHealed, DrawnPaintings, DrawnClosings, DrawnCallsStack, DrawnHealings, HealedClosings}
 
 module _ {V A C : Type 0} (rules : HostRules V) (pen : Pen A C) where
   comes_simply : {rows : Option ℕ} {f : Frame V} {earlier : List (Station V)} {station : Station V} {later : List (Station V)} {before : PictureOf C}
@@ -54,18 +54,51 @@ module _ {V A C : Type 0} (rules : HostRules V) (pen : Pen A C) where
   some-rows None r h = tt
   some-rows (Some h) r low = omega (arith, low)
 
+  -- the closing batch of a run whose last painting is that of a station, on a screen whose cursor stands where it left it
+  closes : (f : Frame V) (rows : Option ℕ) (cuts : Bool) (w s : ℕ) (kept : A) (station : Station V) (shown : PictureOf C)
+      → closing_if (run_of rules f).mark ≡ closing (mark_of (painting station.size.cols (sized_scene rules station).scene)) ∷ []
+      → 2 ≤ w → InSight rows 0 → IsSimpleWide (sized_scene rules station) → shown.row ≡ s + cursor_row station.size.cols (painted_at rules pen station).sheet
+      → IsClosed rows w (blank_of pen) (s + last_row station.size.cols (painted_at rules pen station).sheet) (resized cuts (blank_of pen) station.size.cols w shown)
+      (closed_by rules pen rows cuts station.size.cols w kept f shown)
+  closes f rows cuts w s kept station shown closing wide some simple row =
+      rw closing (closes_stations pen rows w s kept (sized_scene rules station) (resized cuts (blank_of pen) station.size.cols w shown) wide some simple
+      (resized-row cuts (blank_of pen) station.size.cols w shown ∙ row))
+
   pub drawn_closings : DrawnClosings rules pen
-  drawn_closings f rows cuts v w a earlier station later before h none wide =
+  drawn_closings f rows cuts v w a kept earlier station later before h none wide =
       let comes = comes_simply h in
       let scenes = map-append (sized_scene rules) earlier (station ∷ []) in
       let q = drawn_paintings f rows cuts v a earlier station later before h in
-      let shown : PictureOf C = play_sized rows cuts pen v a (spelled_sized (sized_batches (map (sized_scene rules) (earlier ++ station ∷ [])))) before in
-      let one : IsSimpleWide (sized_scene rules station) = last-wide (map (sized_scene rules) earlier) (sized_scene rules station) (rw scenes at h.simple) in
-      let closing : closing_if (run_of rules f).mark ≡ closing (mark_of (painting station.size.cols (sized_scene rules station).scene)) ∷ [] =
-      closing-is rules comes none ∙ ap (λ l. closing_batch (map shot_of l)) scenes ∙ closing_is station.size.cols (map (sized_scene rules) earlier) [] (sized_scene rules station) refl in (
+      let simple : IsSimpleWide (sized_scene rules station) = last-wide (map (sized_scene rules) earlier) (sized_scene rules station) (rw scenes at h.simple) in
+      let closing = closing-is rules comes none ∙ ap (λ l. closing_batch (map shot_of l)) scenes ∙ closing_is (map (sized_scene rules) earlier) (sized_scene rules station) in (
         all_taken rules comes none,
-        rw closing (closes_stations pen rows w _ a (sized_scene rules station) (resized cuts (blank_of pen) station.size.cols w shown) wide (some-rows rows before.row h.in_sight) one
-            (resized-row cuts (blank_of pen) station.size.cols w shown ∙ q.shown.fresh.row)),
+        closes f rows cuts w (top_row rows before.row (paintings_at rules pen (earlier ++ station ∷ []))) kept station (play_stations rules pen rows cuts v a (earlier ++ station ∷ []) before)
+            closing wide (some-rows rows before.row h.in_sight) simple q.shown.fresh.row,
+      )
+
+  narrowest-le : (v : ℕ) (widths : List ℕ) → narrowest v widths ≤ v
+  narrowest-le v [] = omega arith
+  narrowest-le v (w ∷ more) = omega arith
+
+  seen-le : (rows : Option ℕ) (r : ℕ) → seen_row rows r ≤ r
+  seen-le None r = omega arith
+  seen-le (Some h) r = omega arith
+
+  pub drawn_calls_stack : DrawnCallsStack rules pen
+  drawn_calls_stack f g rows cuts v w a kept again earlier station none others second later before h nothing wide k =
+      let shown : PictureOf C = resized cuts (blank_of pen) station.size.cols w (play_stations rules pen rows cuts v a (earlier ++ station ∷ []) before) in
+      let entered : PictureOf C = closed_by rules pen rows cuts station.size.cols w kept f (play_stations rules pen rows cuts v a (earlier ++ station ∷ []) before) in
+      let last : ℕ = top_row rows before.row (paintings_at rules pen (earlier ++ station ∷ [])) + last_row station.size.cols (painted_at rules pen station).sheet in
+      let paintings : List (Painting C) = paintings_at rules pen (others ++ second ∷ []) in
+      let s : ℕ = top_row rows entered.row paintings in
+      let closed : IsClosed rows w (blank_of pen) last shown entered = (drawn_closings f rows cuts v w a kept earlier station none before h nothing wide).1 in
+      let fresh : ShowsDrawn rules pen rows cuts w again g others second entered = drawn_paintings g rows cuts w again others second later entered k in
+      let up : s ≤ entered.row = top-le rows entered.row paintings in
+      let down : entered.row ≤ last + 1 = omega (arith, closed.row, seen-le rows (last + 1)) in (
+        fresh,
+        λ r c low inside least. fresh.shown.above r c low inside least
+            ∙ closed.moved_up (r + (entered.row - s)) c (omega (arith, up, low)) (omega (arith, least, narrowest-le w (cols_of paintings)))
+            ∙ ap (λ (x : ℕ). shown.cell x c) (omega (arith, up, down)),
       )
 
   -- ---- behind a clearing
@@ -103,3 +136,17 @@ module _ {V A C : Type 0} (rules : HostRules V) (pen : Pen A C) where
         fresh = λ cuts v a before. rw scenes (healed rows cuts v a (map (sized_scene rules) earlier) (map (sized_scene rules) since) (sized_scene rules station) before
             h.in_sight (text_prompts rules earlier) (rw scenes at h.cleared) (rw scenes at h.simple) (rw scenes at h.low));
       }
+
+  pub healed_closings : HealedClosings rules pen
+  healed_closings f rows earlier since station later h none =
+      let comes = comes_healed h in
+      let scenes = map-append (sized_scene rules) since (station ∷ []) in
+      let q = drawn_healings f rows earlier since station later h in
+      let simple : IsSimpleWide (sized_scene rules station) = last-wide (map (sized_scene rules) since) (sized_scene rules station) (rw scenes at h.simple) in
+      let from_0 : 0 + last_row station.size.cols (painted_at rules pen station).sheet ≡ last_row station.size.cols (painted_at rules pen station).sheet = omega arith in
+      let closing = closing-is rules comes none ∙ ap (λ l. closing_batch (map shot_of l)) (map-append (sized_scene rules) (earlier ++ since) (station ∷ []))
+      ∙ closing_is (map (sized_scene rules) (earlier ++ since)) (sized_scene rules station) in (
+        all_taken rules comes none ∙ ap (λ (stations : List (Station V)). f.terminal.batches ++ batches_of rules stations) (up_to-is rules earlier since station),
+        λ cuts v w a kept before wide. rw from_0 at (closes f rows cuts w 0 kept station (play_since rules pen rows cuts v a earlier (since ++ station ∷ []) before)
+            closing wide h.in_sight simple (q.fresh cuts v a before).row),
+      )

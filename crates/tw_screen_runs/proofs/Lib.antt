@@ -1,8 +1,5 @@
 pub mod PlainRunLemmas
-pub mod ScrollingRunLemmas
-pub mod HealedRunLemmas
-pub mod CutRunLemmas
-pub mod SimpleRunLemmas
-mod WorkedRuns
-mod WorkedScrolledRuns
+pub mod ClearedRunLemmas
 pub mod DrawnRunLemmas
+mod WorkedRuns
+mod WorkedDrawnRuns
