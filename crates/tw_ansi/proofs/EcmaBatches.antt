@@ -3,6 +3,7 @@ use Rattle.std.proofs.Common.{◌≡◌, ◌≤◌, ◌<◌, ◌+◌, ◌-◌, �
 use Rattle.std.specs.Bool.{⊤}
 use Rattle.std.specs.List.{flat_map}
 use Rattle.std.proofs.lemmas.Bool.{eq-eqb, ne_eqb, le-leb, lt-leb, le-ltb, lt-ltb, cases_eq, cases_lt}
+use Rattle.tw_surface.specs.Attributes.{with_attribute}
 use Rattle.tw_surface.specs.declared.cell.AttributeChange.{AttributeChange}
 use Rattle.tw_surface.specs.declared.cell.CellAttributes.{CellAttributes}
 use Rattle.tw_surface.specs.declared.color.ColorAttribute.{ColorAttribute}
@@ -10,7 +11,7 @@ use Rattle.tw_surface.specs.ChangeView.{Attribute, AllAttributes, Text, ClearScr
 use Rattle.tw_surface.specs.Pictures.{Picture, blank, cells_cleared_from, cursor_at}
 use Rattle.tw_surface.specs.Scrolling.{IsWithin, play_on, play_all_on}
 use Rattle.tw_ansi.specs.declared.encode.Encoder.{Encoder}
-use Rattle.tw_ansi.specs.Encoding.{Sent, sent_change, sent_clear, sent_batch, at_column, parted_from_wait, with_attribute}
+use Rattle.tw_ansi.specs.Encoding.{Sent, sent_change, sent_clear, sent_batch, at_column, parted_from_wait}
 use Rattle.tw_ansi.specs.Sequences.{sequence, set_attribute, set_attributes, set_unless_off, attributes_of, is_off, to_column, to_first_cell, clear_below, clear_all, clear_with, up_a_row}
 use Rattle.tw_ansi.specs.EcmaScreen.{EcmaScreen, receive_all, feed_line, return_to_start}
 use Rattle.tw_ansi.specs.EcmaScreen as terminal

@@ -1,6 +1,7 @@
 -- Paintings are sendable.
 use Rattle.std.proofs.Common.{◌≡◌, ◌<◌, ◌+◌, ℕ, Bool, true, false, cond, eqb, leb, List, [], ◌∷◌, ◌++◌, Some, None, ap, subst, ◌∙◌, sym, refl, arith}
 use Rattle.std.specs.List.{list_all, AllByRecursion}
+use Rattle.tw_surface.specs.Attributes.{with_attribute}
 use Rattle.tw_surface.specs.declared.cell.AttributeChange.{AttributeChange}
 use Rattle.tw_surface.specs.declared.cell.AttributeChange.TheVariants as attribute
 use Rattle.tw_surface.specs.declared.cell.CellAttributes.{CellAttributes}
@@ -16,7 +17,7 @@ use Rattle.tw_surface.specs.Scenes.Lower.{NoLower, Preview, Search}
 use Rattle.tw_surface.specs.Scrolling.{play_on, play_all_on, play_batches_on}
 use Rattle.tw_surface.specs.PaintingBatches.{clear_batch, clearing, batches_after, shots, closing_of}
 use Rattle.tw_ansi.specs.declared.encode.Encoder.{Encoder}
-use Rattle.tw_ansi.specs.Encoding.{Sent, sent_change, sent_batch, sent_plain, sent_byte, sent_clusters, sent_text, with_attribute}
+use Rattle.tw_ansi.specs.Encoding.{Sent, sent_change, sent_batch, sent_plain, sent_byte, sent_clusters, sent_text}
 use Rattle.tw_ansi.specs.EcmaLaws.{IsColor, IsAttribute}
 use Rattle.tw_ansi.specs.EcmaBatches.{AreSendable}
 use Rattle.tw_ansi.specs.EcmaPaintings.{IsTyped, IsTypedLower, IsTypedScene, IsShowable, AreAllSendable, sent_batches, PaintingIsSendable, RepaintingIsSendable, ClosingIsSendable, PaintingKnowsColor, RunIsSendable, BatchesAreShown}

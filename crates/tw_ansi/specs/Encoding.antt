@@ -12,6 +12,7 @@ use Rattle.tw_surface.specs.declared.color.ColorAttribute.{ColorAttribute}
 use Rattle.tw_surface.specs.ChangeView.{ChangeView, Batch}
 use Rattle.tw_surface.specs.ChangeView.{Attribute, AllAttributes, Text, ClearScreen, ClearToEndOfScreen, CursorPosition}
 use Rattle.tw_surface.specs.Characters.{is_plain, cr, lf}
+use Rattle.tw_surface.specs.Attributes.{with_attribute}
 use Rattle.tw_surface.specs.Defaults.{default_attributes}
 use Rattle.tw_surface.specs.Positions.{position_after, at_least_0}
 use Rattle.tw_surface.specs.Width.{cluster_width}
@@ -103,18 +104,6 @@ sent_clusters (cluster ∷ more) e = sent_then (sent_cluster e cluster) (sent_cl
 -- a plain text is sent by its characters, every other text by its extended grapheme clusters
 abbrev pub sent_text : List ℕ → Encoder → Sent
 sent_text text e = if list_all is_plain text then sent_plain text e else sent_clusters (graphemes true text) e
-
--- the attributes with one more set
-abbrev pub with_attribute : AttributeChange → CellAttributes → CellAttributes
-with_attribute (attribute.Intensity to) a = record a { intensity = to }
-with_attribute (attribute.Underline to) a = record a { underline = to }
-with_attribute (attribute.Italic to) a = record a { italic = to }
-with_attribute (attribute.Blink to) a = record a { blink = to }
-with_attribute (attribute.Reverse to) a = record a { reverse = to }
-with_attribute (attribute.StrikeThrough to) a = record a { strikethrough = to }
-with_attribute (attribute.Invisible to) a = record a { invisible = to }
-with_attribute (attribute.Foreground to) a = record a { foreground = to }
-with_attribute (attribute.Background to) a = record a { background = to }
 
 -- clearing from the cursor on: where the last column is written it is kept, by clearing from the next row on
 abbrev pub sent_clear : ColorAttribute → Encoder → Sent

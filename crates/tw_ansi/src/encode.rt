@@ -6,7 +6,8 @@ ghost use Rattle.std.specs.List.{list_all, list_any};
 ghost use Rattle.unicode_segmentation.specs.Grapheme.{graphemes};
 ghost use Rattle.tw_surface.specs.ChangeView.{change_view};
 ghost use Rattle.tw_surface.specs.Characters.{is_plain};
-ghost use Rattle.tw_ansi.specs.Encoding.{Extends, first_known, at_column, column_of, with_attribute, sent_change, sent_return, sent_feed, sent_return_feed, sent_beginning, sent_byte, shown_as, sent_cluster, sent_plain, sent_clusters, sent_text, sent_clear};
+ghost use Rattle.tw_ansi.specs.Encoding.{Extends, first_known, at_column, column_of, sent_change, sent_return, sent_feed, sent_return_feed, sent_beginning, sent_byte, shown_as, sent_cluster, sent_plain, sent_clusters, sent_text, sent_clear};
+ghost use Rattle.tw_surface.specs.Attributes.{with_attribute};
 ghost use Rattle.tw_ansi.specs.Sequences.{set_attribute, to_row, to_column, to_first_cell, clear_all, clear_with};
 
 use crate::sequence::{clear_with, go_to_column, go_to_row, send_attribute, send_attributes};

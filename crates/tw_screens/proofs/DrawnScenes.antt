@@ -27,7 +27,7 @@ use Rattle.tw_surface.specs.Scenes.{Scene, Lower, typed_text}
 use Rattle.tw_surface.specs.Scenes.Lower.{NoLower, Preview, Search}
 use Rattle.tw_surface.specs.Simple.{is_break, spelled_change, spelled_all, spelled_lower, spelled_scene, AreSimple, AreCounted, IsSimpleLower, IsSimple}
 use Rattle.tw_screens.specs.Pens.{Pen, Letter, kept_after_all, char_stroke, strokes_of, letter_cell, letters_of, led}
-use Rattle.tw_screens.specs.SceneSheets.{plain_letters, edge_letters, text_letters, lower_letters, sheet_of, painting_of}
+use Rattle.tw_screens.specs.SceneSheets.{letters_under, edge_letters, text_letters, lower_letters, sheet_of, painting_of}
 use Rattle.tw_screens.proofs.MeasuredHeights.{space_is, crlf_is, crlf_before, space_counted, crlf_counted, measured_height}
 use Rattle.tw_screens.proofs.DrawnChanges.{Tracks, letter_char, text-chars, simple-counted, counted-append, tracks-changes, strokes-append, strokes-letters, chars-typed, letters-typed, letters-broken, kept-append, text-letters}
 
@@ -216,7 +216,7 @@ module _ {A C : Type 0} (pen : Pen A C) (w : ℕ) (scene : Scene) (two : 2 ≤ w
 
   -- ---- the lower text
 
-  lower_strokes : (a : A) (lower : Lower) → IsSimpleLower lower → strokes_of pen a (spelled_all (lower_changes lower)) ≡ broken (map (map (letter_cell pen)) (lower_letters pen (spelled_lower lower)))
+  lower_strokes : (a : A) (lower : Lower) → IsSimpleLower lower → strokes_of pen a (spelled_all (lower_changes lower)) ≡ broken (map (map (letter_cell pen)) (lower_letters pen start (spelled_lower lower)))
   lower_strokes a NoLower k = refl
   lower_strokes a (Preview elements) k =
       ap (λ l. map (char_stroke pen a) l ++ strokes_of pen start (spelled_all elements)) crlf_is
@@ -225,7 +225,7 @@ module _ {A C : Type 0} (pen : Pen A C) (w : ℕ) (scene : Scene) (two : 2 ≤ w
   lower_strokes a (Search text) k =
       ap (λ l. map (char_stroke pen start) l ++ []) (crlf_before text)
       ∙ ap (λ l. Return ∷ Feed ∷ (l ++ [])) (text-letters pen start (chars text)
-      ∙ letters-typed pen (plain_letters pen (chars text)) (ap (list_any is_break) (text-chars start (chars text)) ∙ k.1))
+      ∙ letters-typed pen (letters_under start (chars text)) (ap (list_any is_break) (text-chars start (chars text)) ∙ k.1))
 
   -- ---- the whole painting
 

@@ -65,7 +65,7 @@ module _ (w s : ℕ) (scene : Scene) (two : 2 ≤ w) where
       edge_is true = refl
       edge_is false = refl
 
-  pub lower_is : (lower : Lower) → map (map (letter_cell characters)) (lower_letters characters lower) ≡ lower_lines lower
+  pub lower_is : (lower : Lower) → map (map (letter_cell characters)) (lower_letters characters tt lower) ≡ lower_lines lower
   lower_is NoLower = refl
   lower_is (Preview elements) = lines-chars (letters_of characters tt elements) ∙ ap lines_of (chars-typed characters tt elements)
   lower_is (Search text) = ap (λ l. l ∷ []) (text-chars tt text)

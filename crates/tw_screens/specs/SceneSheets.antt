@@ -14,9 +14,9 @@ use Rattle.tw_surface.specs.Scenes.Lower.{NoLower, Preview, Search}
 use Rattle.tw_surface.specs.Simple.{spelled_scene}
 use Rattle.tw_screens.specs.Pens.{Pen, Letter, kept_after_all, letters_of, letter_cell, lines_of_letters, led}
 
--- the letters of a text that is typed from default attributes on
-abbrev pub plain_letters : {A C : Type 0} → Pen A C → List ℕ → List (Letter A)
-plain_letters pen text = map (λ ch. record { kept = pen.attributes default_attributes; ch = ch }) text
+-- the letters of a text that is typed with this kept of attributes
+abbrev pub letters_under : {A : Type 0} → A → List ℕ → List (Letter A)
+letters_under a text = map (λ ch. record { kept = a; ch = ch }) text
 
 -- behind a text that fills its last row, a blank under the last attributes of the line
 abbrev pub edge_letters : {A C : Type 0} → Pen A C → ℕ → Scene → List (Letter A)
@@ -31,17 +31,17 @@ text_letters pen width scene =
     let start = pen.attributes default_attributes in
     letters_of pen start scene.prompt ++ (letters_of pen start scene.line ++ edge_letters pen width scene)
 
--- the lines under them, from default attributes on
-abbrev pub lower_letters : {A C : Type 0} → Pen A C → Lower → List (List (Letter A))
-lower_letters pen NoLower = []
-lower_letters pen (Preview elements) = lines_of_letters (letters_of pen (pen.attributes default_attributes) elements)
-lower_letters pen (Search text) = plain_letters pen text ∷ []
+-- the lines under them, with this kept of attributes where they begin
+abbrev pub lower_letters : {A C : Type 0} → Pen A C → A → Lower → List (List (Letter A))
+lower_letters pen start NoLower = []
+lower_letters pen start (Preview elements) = lines_of_letters (letters_of pen start elements)
+lower_letters pen start (Search text) = letters_under start text ∷ []
 
--- what a scene of characters is to show at width columns
+-- what a scene of characters is to show at width columns: what is under the line from default attributes on, too
 abbrev pub sheet_of : {A C : Type 0} → Pen A C → ℕ → Scene → Sheet C
 sheet_of pen width scene = record {
   text = map (letter_cell pen) (text_letters pen width scene);
-  lower = map (map (letter_cell pen)) (lower_letters pen scene.lower);
+  lower = map (map (letter_cell pen)) (lower_letters pen (pen.attributes default_attributes) scene.lower);
   at = length (typed_text scene.prompt) + scene.column;
 }
 

@@ -1,8 +1,7 @@
 -- Two kinds of cells: a character alone, and a character under its attributes.
 use Rattle.std.specs.Prelude.{ℕ}
-use Rattle.tw_surface.specs.declared.cell.AttributeChange.{AttributeChange}
-use Rattle.tw_surface.specs.declared.cell.AttributeChange.TheVariants as attribute
 use Rattle.tw_surface.specs.declared.cell.CellAttributes.{CellAttributes}
+use Rattle.tw_surface.specs.Attributes.{with_attribute}
 use Rattle.tw_surface.specs.Defaults.{default_attributes}
 use Rattle.tw_surface.specs.Pictures.{blank}
 use Rattle.tw_screens.specs.Pens.{Pen}
@@ -10,18 +9,6 @@ use Rattle.tw_screens.specs.Pens.{Pen}
 -- characters alone: nothing is kept of attributes
 abbrev pub characters : Pen (Unit {0}) ℕ
 characters = record { attributes = λ x. tt; attribute = λ x a. tt; ink = λ a ch. ch; paper = λ color. blank }
-
--- attributes after one of them is set
-abbrev pub attributes_with : AttributeChange → CellAttributes → CellAttributes
-attributes_with (attribute.Intensity x) a = record a { intensity = x }
-attributes_with (attribute.Underline x) a = record a { underline = x }
-attributes_with (attribute.Italic x) a = record a { italic = x }
-attributes_with (attribute.Blink x) a = record a { blink = x }
-attributes_with (attribute.Reverse x) a = record a { reverse = x }
-attributes_with (attribute.StrikeThrough x) a = record a { strikethrough = x }
-attributes_with (attribute.Invisible x) a = record a { invisible = x }
-attributes_with (attribute.Foreground x) a = record a { foreground = x }
-attributes_with (attribute.Background x) a = record a { background = x }
 
 -- a character and the attributes under which it is shown
 pub record StyledCell : Type 0 where
@@ -32,7 +19,7 @@ pub record StyledCell : Type 0 where
 abbrev pub styled : Pen CellAttributes StyledCell
 styled = record {
   attributes = λ x. x;
-  attribute = attributes_with;
+  attribute = with_attribute;
   ink = λ a ch. record { ch = ch; attributes = a };
   paper = λ color. record { ch = blank; attributes = record default_attributes { background = color } };
 }

@@ -1,5 +1,6 @@
 pub mod ChangeView
 pub mod Defaults
+pub mod Attributes
 pub mod Characters
 pub mod Positions
 pub mod Pictures
