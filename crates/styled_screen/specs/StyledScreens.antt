@@ -3,6 +3,8 @@ use Rattle.std.specs.Prelude.{ℕ, ◌≡◌, ◌+◌, ◌*◌, ◌<◌, ◌≤�
 use Rattle.tw_strokes.specs.Strokes.{PictureOf, Stroke, steps}
 use Rattle.tw_surface.specs.declared.cell.CellAttributes.{CellAttributes}
 use Rattle.tw_surface.specs.declared.color.ColorAttribute.{ColorAttribute}
+use Rattle.tw_surface.specs.ChangeView.{ChangeView}
+use Rattle.tw_surface.specs.ChangeView.{Attribute, AllAttributes, Text, ClearScreen, ClearToEndOfScreen, CursorPosition}
 use Rattle.tw_surface.specs.Defaults.{default_attributes, default_color}
 use Rattle.tw_surface.specs.Pictures.{blank}
 use Rattle.tw_screens.specs.Pens.{char_stroke}
@@ -62,3 +64,17 @@ pub record WritesBeginning (text : List ℕ) (old new : StyledView) : Type 0 whe
   pub left : List ℕ
   pub parts : chars text ≡ written ++ left
   pub draws : Draws old (map (char_stroke styled old.kept) written) new
+
+-- what a refused change leaves: of a text a beginning is written, and else the screen shows what it showed
+abbrev pub IsRefusedAt : ChangeView → StyledView → StyledView → Type 0
+IsRefusedAt (Text text) old new = WritesBeginning text old new
+IsRefusedAt (ClearToEndOfScreen color) old new = Draws old [] new
+IsRefusedAt (CursorPosition x y) old new = new ≡ old
+IsRefusedAt _ old new = ⊥
+
+-- a change that is played whatever there is
+abbrev pub IsSure : ChangeView → Type 0
+IsSure (Text text) = ⊥
+IsSure (ClearToEndOfScreen color) = ⊥
+IsSure (CursorPosition x y) = ⊥
+IsSure _ = Unit {0}

@@ -1,13 +1,13 @@
 //! The screen.
 
-ghost use Rattle.std.specs.Prelude.{◌≡◌, ℕ, ◌+◌, ◌*◌, ◌<◌, ◌≤◌, ◌↔◌, [], ◌∷◌, chars, map, length, Ok, Err, OnOk, OnErr, slice_index_or, List};
+ghost use Rattle.std.specs.Prelude.{◌≡◌, ℕ, ◌+◌, ◌*◌, ◌<◌, ◌≤◌, ◌↔◌, [], ◌∷◌, chars, map, length, Ok, Err, OnOk, OnErr, slice_index_or, eqb, if◌then◌else◌, List};
 ghost use Rattle.tw_surface.specs.ChangeView.{change_view};
 ghost use Rattle.tw_surface.specs.Simple.{spelled_change};
 ghost use Rattle.tw_surface.specs.Positions.{at_least_0, position_after};
 ghost use Rattle.tw_strokes.specs.Strokes.Stroke.{Clear, ClearBehind, Move, Put};
 ghost use Rattle.tw_screens.specs.Pens.{change_strokes, char_stroke, kept_after, led};
 ghost use Rattle.tw_screens.specs.StyledCells.{styled};
-ghost use Rattle.styled_screen.specs.StyledScreens.{Draws, IsSameBut, WritesBeginning, blank_styled, cell_at, styled_cell};
+ghost use Rattle.styled_screen.specs.StyledScreens.{Draws, IsRefusedAt, IsSameBut, IsSure, WritesBeginning, blank_styled, paper_cell, styled_cell};
 
 use crate::cell::{ScreenCell, with_change};
 use std::alloc::Global;
@@ -68,7 +68,7 @@ impl StyledScreen {
 
     /// What stands at a row and a column of the screen.
     pub fn cell(&self, row: usize, col: usize) -> Option<ScreenCell>
-        ensures inside { (found : ScreenCell) → result ≡ Some found → (col < self.now.width) × (styled_cell found ≡ cell_at self.now (row * self.now.width + col)) }
+        ensures inside { col < self.now.width → result ≡ Some (slice_index_or self.now.cells (row * self.now.width + col) self.now.rest) }
         ensures outside { self.now.width ≤ col → result ≡ None }
     {
         if col >= self.width {
@@ -84,5 +84,166 @@ impl StyledScreen {
         ensures col { result.1 ≡ self.now.col }
     {
         (self.row, self.col)
+    }
+
+    /// Plays a change. What is refused for its row leaves the screen as it was; a text that is refused in its middle is
+    /// there up to the character for which there was no room, and a clearing for which there is none is not played.
+    pub fn apply(&mut self, change: &Change) -> Result<(), ScreenFault>
+        ensures width { self.new.width ≡ self.old.width }
+        ensures played { OnOk result (Draws self.old (change_strokes styled self.old.kept (spelled_change (change_view change.now))) self.new) }
+        ensures kept { OnOk result (self.new.kept ≡ kept_after styled self.old.kept (change_view change.now)) }
+        ensures refused { OnErr result (IsRefusedAt (change_view change.now) self.old self.new) }
+        ensures sure { IsSure (change_view change.now) → result ≡ Ok tt }
+    {
+        match change {
+            Change::Attribute(change) => {
+                self.kept = with_change(self.kept, *change);
+                Ok(())
+            }
+            Change::AllAttributes(attributes) => {
+                self.kept = *attributes;
+                Ok(())
+            }
+            Change::Text(text) => self.write(text.as_str()),
+            Change::ClearScreen(color) => {
+                self.clear(*color);
+                Ok(())
+            }
+            Change::ClearToEndOfScreen(color) => self.clear_to_end(*color),
+            Change::CursorPosition { x, y } => self.move_cursor(*x, *y),
+        }
+    }
+
+    /// The place of the cursor in the line of all rows.
+    fn place(&self) -> usize
+        ensures place { result ≡ self.now.row * self.now.width + self.now.col }
+        ensures most { result < 281474976710656 }
+    {
+        self.row * self.width + self.col
+    }
+
+    /// The row and the column of the cell that is written next.
+    fn next_cell(&self) -> (usize, usize)
+        ensures row { result.0 ≡ (if eqb self.now.col self.now.width then self.now.row + 1 else self.now.row) }
+        ensures col { result.1 ≡ (if eqb self.now.col self.now.width then 0 else self.now.col) }
+    {
+        if self.col == self.width {
+            (self.row + 1, 0)
+        } else {
+            (self.row, self.col)
+        }
+    }
+
+    /// Adds cells up to a place, each as all others behind: nothing else is shown then.
+    fn fill_to(&mut self, place: usize) -> Result<(), ScreenFault>
+        ensures same { IsSameBut self.old self.new }
+        ensures shown { Draws self.old [] self.new }
+        ensures cursor { (self.new.row ≡ self.old.row) × (self.new.col ≡ self.old.col) }
+        ensures len { OnOk result (place ≤ length self.new.cells) }
+        ensures err { OnErr result (result ≡ Err ScreenFault.Memory) }
+    {
+        if self.cells.len() < place && self.cells.resize(place, self.rest).is_err() {
+            return Err(ScreenFault::Memory);
+        }
+        Ok(())
+    }
+
+    /// Puts a character where the cursor stands, from behind the last column to the first column of the next row.
+    fn put(&mut self, character: char) -> Result<(), ScreenFault>
+        ensures same { IsSameBut self.old self.new }
+        ensures shown { OnOk result (Draws self.old (Put (styled_cell record { character = character; attributes = self.old.kept }) ∷ []) self.new) }
+        ensures refused { OnErr result (Draws self.old [] self.new) }
+    {
+        let place = self.place();
+        let (row, col) = self.next_cell();
+        if row > LAST_ROW {
+            return Err(ScreenFault::OutOfRange);
+        }
+        self.fill_to(place + 1)?;
+        self.cells[place] = ScreenCell {
+            character,
+            attributes: self.kept,
+        };
+        self.row = row;
+        self.col = col + 1;
+        Ok(())
+    }
+
+    /// Plays a character: CR and LF move the cursor, and any other one is put.
+    fn play(&mut self, character: char) -> Result<(), ScreenFault>
+        ensures same { IsSameBut self.old self.new }
+        ensures shown { OnOk result (Draws self.old (char_stroke styled self.old.kept character ∷ []) self.new) }
+        ensures refused { OnErr result (Draws self.old [] self.new) }
+    {
+        match character {
+            '\r' => self.col = 0,
+            '\n' => {
+                if self.row == LAST_ROW {
+                    return Err(ScreenFault::OutOfRange);
+                }
+                self.row += 1;
+            }
+            _ => return self.put(character),
+        }
+        Ok(())
+    }
+
+    /// Plays the characters of a text.
+    fn write(&mut self, text: &str) -> Result<(), ScreenFault>
+        ensures same { IsSameBut self.old self.new }
+        ensures shown { OnOk result (Draws self.old (map (char_stroke styled self.old.kept) (chars text.now)) self.new) }
+        ensures refused { OnErr result (WritesBeginning text.now self.old self.new) }
+    {
+        for character in text.chars() {
+            self.play(character)?;
+        }
+        Ok(())
+    }
+
+    fn clear(&mut self, color: ColorAttribute)
+        ensures same { IsSameBut self.old self.new }
+        ensures shown { Draws self.old (Clear (styled_cell (paper_cell color)) ∷ []) self.new }
+    {
+        self.cells.clear();
+        self.rest = ScreenCell::blank(color);
+        self.row = 0;
+        self.col = 0;
+    }
+
+    fn clear_to_end(&mut self, color: ColorAttribute) -> Result<(), ScreenFault>
+        ensures same { IsSameBut self.old self.new }
+        ensures shown { OnOk result (Draws self.old (ClearBehind (styled_cell (paper_cell color)) ∷ []) self.new) }
+        ensures refused { OnErr result (Draws self.old [] self.new) }
+    {
+        let place = self.place();
+        self.fill_to(place)?;
+        self.cells.truncate(place);
+        self.rest = ScreenCell::blank(color);
+        Ok(())
+    }
+
+    fn move_cursor(&mut self, x: Position, y: Position) -> Result<(), ScreenFault>
+        ensures same { IsSameBut self.old self.new }
+        ensures shown { OnOk result (Draws self.old (Move (led y) (led x) ∷ []) self.new) }
+        ensures refused { OnErr result (self.new ≡ self.old) }
+    {
+        let row = led_to(y, self.row);
+        if row > LAST_ROW {
+            return Err(ScreenFault::OutOfRange);
+        }
+        self.col = led_to(x, self.col).min(self.width - 1);
+        self.row = row;
+        Ok(())
+    }
+}
+
+/// Where a position leads a row or a column: to 0 in place of a negative number.
+fn led_to(position: Position, at: usize) -> usize
+    requires { at ≤ 4294967295 }
+    ensures { result ≡ led position at }
+{
+    match position {
+        Position::Absolute(to) => to,
+        Position::Relative(by) => at.saturating_add_signed(by),
     }
 }

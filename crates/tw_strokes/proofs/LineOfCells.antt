@@ -45,7 +45,7 @@ pub next_row : (r w x : ℕ) → (r + 1) * w + x ≡ r * w + w + x
 next_row r w x = omega (arith, add-mul r 1 w, one-mul w)
 
 -- a cell is behind another in its row or below where its place is
-behind_cell : (w r c i j : ℕ) → c < w → j < w → (ltb r i || (eqb r i && leb c j)) ≡ leb (r * w + c) (i * w + j)
+pub behind_cell : (w r c i j : ℕ) → c < w → j < w → (ltb r i || (eqb r i && leb c j)) ≡ leb (r * w + c) (i * w + j)
 behind_cell w r c i j h k =
     elim (cases_lt r i) [
       | inl a ↦ rw (lt-ltb r i a) (sym (le-leb _ _ (omega (arith, below_row w r c i a h))))
