@@ -2,8 +2,8 @@
 //! what they are to show, where the host of this crate marks the cursor in the line.
 //!
 //! `table` is what a screen is to hold, and `painted` what a batch shows, as its texts tell; `shows` is what a model
-//! screen holds, and `stage` has the screens on which batches are played, beside their tables. `host` is the host
-//! that marks the cursor, and `numbers` has numbers from a seed.
+//! screen plays and holds, and `stage` has the screens on which batches are played, beside their tables. `host` is the
+//! host that marks the cursor, and `numbers` has numbers from a seed.
 #![tactic(auto)]
 
 mod host;
@@ -16,6 +16,6 @@ mod table;
 pub use host::MarkedHost;
 pub use numbers::Numbers;
 pub use painted::{Batch, PaintedTexts};
-pub use shows::Shows;
+pub use shows::{Plays, Shows};
 pub use stage::{ScrollingStage, Stage};
 pub use table::{Entry, Table};

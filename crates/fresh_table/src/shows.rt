@@ -1,12 +1,16 @@
-//! What a model screen shows.
+//! What a model screen plays and shows.
 
+use styled_screen::StyledScreen;
 use tw_surface::{Change, Screen, ScreenFault, ScrollingScreen};
 
-/// A screen that plays changes, and shows characters and a cursor.
-pub trait Shows {
+/// A screen that plays changes.
+pub trait Plays {
     /// Plays a change.
     fn apply(&mut self, change: &Change) -> Result<(), ScreenFault>;
+}
 
+/// A screen that shows characters and a cursor.
+pub trait Shows {
     /// The character at a row and a column.
     fn char_at(&self, row: usize, col: usize) -> char;
 
@@ -14,11 +18,25 @@ pub trait Shows {
     fn cursor(&self) -> (usize, usize);
 }
 
-impl Shows for Screen {
+impl Plays for Screen {
     fn apply(&mut self, change: &Change) -> Result<(), ScreenFault> {
         self.apply(change)
     }
+}
 
+impl Plays for ScrollingScreen {
+    fn apply(&mut self, change: &Change) -> Result<(), ScreenFault> {
+        self.apply(change)
+    }
+}
+
+impl Plays for StyledScreen {
+    fn apply(&mut self, change: &Change) -> Result<(), ScreenFault> {
+        self.apply(change)
+    }
+}
+
+impl Shows for Screen {
     fn char_at(&self, row: usize, col: usize) -> char {
         self.char_at(row, col)
     }
@@ -29,10 +47,6 @@ impl Shows for Screen {
 }
 
 impl Shows for ScrollingScreen {
-    fn apply(&mut self, change: &Change) -> Result<(), ScreenFault> {
-        self.apply(change)
-    }
-
     fn char_at(&self, row: usize, col: usize) -> char {
         self.char_at(row, col)
     }

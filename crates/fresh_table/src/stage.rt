@@ -1,25 +1,34 @@
 //! Screens on which batches are played, beside the tables of what they are to hold.
 
 use crate::painted::{Batch, PaintedTexts};
-use crate::shows::Shows;
+use crate::shows::Plays;
 use crate::table::{Entry, FILLING, ROWS, Table};
 use std::alloc::Global;
+use styled_screen::StyledScreen;
 use tw_surface::{Change, Position, Screen, ScrollingScreen};
 
-/// A screen without a bottom, and beside it what it is to hold.
+/// Two screens without a bottom, one of characters and one that shows their attributes, and beside them what they are
+/// to hold.
 #[derive(Drop)]
 pub struct Stage {
     screen: Screen,
+    styled: StyledScreen,
     table: Table,
 }
 
 impl Stage {
-    /// A screen of this width, and the table beside it.
+    /// Screens of this width, and the table beside them.
     pub fn new(alloc: Global, width: usize, entry: Entry) -> Result<Self, anyhow::Error> {
         let mut screen = Screen::new(alloc, width)?;
+        let mut styled = StyledScreen::new(alloc, width)?;
         let table = Table::new(alloc, ROWS, width, entry)?;
         enter(alloc, ROWS, width, entry, &mut screen)?;
-        Ok(Stage { screen, table })
+        enter(alloc, ROWS, width, entry, &mut styled)?;
+        Ok(Stage {
+            screen,
+            styled,
+            table,
+        })
     }
 
     /// Plays a batch, and answers how many cells differ from what they are to hold, where the host gives this
@@ -30,13 +39,15 @@ impl Stage {
         column: Option<usize>,
     ) -> Result<usize, anyhow::Error> {
         play(&mut self.screen, batch)?;
+        play(&mut self.styled, batch)?;
         match Batch::read(batch) {
             Batch::Clears => self.table.clear(),
             Batch::Paints(texts) => self.table.paint(&texts, column),
             Batch::Closes => self.table.close(self.table.next_row()),
             Batch::Unknown => return Ok(1),
         }
-        Ok(self.table.differences(&self.screen))
+        let characters = self.table.differences(&self.screen);
+        Ok(characters.saturating_add(self.table.styled_differences(&self.styled)))
     }
 }
 
@@ -110,7 +121,7 @@ impl ScrollingStage {
     }
 }
 
-fn play(screen: &mut impl Shows, batch: &[Change]) -> Result<(), anyhow::Error> {
+fn play(screen: &mut impl Plays, batch: &[Change]) -> Result<(), anyhow::Error> {
     for change in batch {
         screen.apply(change)?;
     }
@@ -123,7 +134,7 @@ fn enter(
     rows: usize,
     width: usize,
     entry: Entry,
-    screen: &mut impl Shows,
+    screen: &mut impl Plays,
 ) -> Result<(), anyhow::Error> {
     if let Entry::Blank = entry {
         return Ok(());

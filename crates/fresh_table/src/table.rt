@@ -5,6 +5,8 @@ ghost use Rattle.std.specs.Prelude.{◌<◌};
 use crate::painted::PaintedTexts;
 use crate::shows::Shows;
 use std::alloc::{AllocError, Global};
+use styled_screen::{ScreenCell, StyledScreen};
+use tw_surface::CellAttributes;
 
 /// The rows that are compared on a screen without a bottom.
 pub const ROWS: usize = 41;
@@ -34,11 +36,39 @@ impl Entry {
     }
 }
 
-/// The characters of the first rows, and the cursor.
+/// What a cell is to hold: a character, in the mark of the line from its cursor on or in default attributes.
+#[derive(Debug, Clone, Copy)]
+struct TableCell {
+    character: char,
+    is_marked: bool,
+}
+
+impl TableCell {
+    /// A character in default attributes.
+    fn plain(character: char) -> Self {
+        TableCell {
+            character,
+            is_marked: false,
+        }
+    }
+
+    /// The character under its attributes. The mark is that of the host of this crate.
+    fn shown(self) -> ScreenCell {
+        ScreenCell {
+            character: self.character,
+            attributes: CellAttributes {
+                reverse: self.is_marked,
+                ..CellAttributes::default()
+            },
+        }
+    }
+}
+
+/// The cells of the first rows, and the cursor.
 #[derive(Drop)]
 pub struct Table {
     width: usize,
-    cells: Vec<char>,
+    cells: Vec<TableCell>,
     first_row: usize,
     last_row: usize,
     cursor: (usize, usize),
@@ -55,7 +85,7 @@ impl Table {
             Entry::Full => FILLING,
         };
         let first_row = entry.row(rows);
-        let cells = vec![in alloc; filling; width.saturating_mul(rows)]?;
+        let cells = vec![in alloc; TableCell::plain(filling); width.saturating_mul(rows)]?;
         Ok(Table {
             width,
             cells,
@@ -105,24 +135,27 @@ impl Table {
         self.cells.rotate_left(gone);
         let kept = self.cells.len().saturating_sub(gone);
         for cell in self.cells.iter_mut().skip(kept) {
-            *cell = ' ';
+            *cell = TableCell::plain(' ');
         }
         self.first_row = self.first_row.saturating_sub(count);
         self.last_row = self.last_row.saturating_sub(count);
         self.cursor.0 = self.cursor.0.saturating_sub(count);
     }
 
-    /// The texts are painted from the row on where the screen was entered. The column of the cursor is the one
-    /// given, or else the number of characters before the cursor.
+    /// The texts are painted from the row on where the screen was entered, and a blank behind the line where it fills
+    /// its last row. The column of the cursor is the one given, or else the number of characters before the cursor.
     pub fn paint(&mut self, texts: &PaintedTexts<'_>, column: Option<usize>) {
         let row = self.first_row;
         self.clear_from(row);
         let line = texts.prompt.len();
         let cursor = line.saturating_add(texts.front.len());
         let end = cursor.saturating_add(texts.back.len());
-        self.put_text(row, 0, texts.prompt);
-        self.put_text(row, line, texts.front);
-        self.put_text(row, cursor, texts.back);
+        self.put_text(row, 0, texts.prompt, false);
+        self.put_text(row, line, texts.front, false);
+        self.put_text(row, cursor, texts.back, true);
+        if end > 0 && end % self.width == 0 {
+            self.put_text(row, end, " ", true);
+        }
         self.cursor = self.place(
             row,
             line.saturating_add(column.unwrap_or(texts.front.len())),
@@ -148,7 +181,19 @@ impl Table {
             .cells
             .iter()
             .enumerate()
-            .filter(|(at, ch)| screen.char_at(*at / width, *at % width) != **ch)
+            .filter(|(at, cell)| screen.char_at(*at / width, *at % width) != cell.character)
+            .count();
+        cells.saturating_add(usize::from(screen.cursor() != self.cursor))
+    }
+
+    /// The same of a screen that shows attributes: a character in other attributes is another cell.
+    pub fn styled_differences(&self, screen: &StyledScreen) -> usize {
+        let width = self.width;
+        let cells = self
+            .cells
+            .iter()
+            .enumerate()
+            .filter(|(at, cell)| screen.cell(*at / width, *at % width) != Some(cell.shown()))
             .count();
         cells.saturating_add(usize::from(screen.cursor() != self.cursor))
     }
@@ -168,17 +213,20 @@ impl Table {
     fn clear_from(&mut self, row: usize) {
         let start = self.index_of(row, 0);
         for cell in self.cells.iter_mut().skip(start) {
-            *cell = ' ';
+            *cell = TableCell::plain(' ');
         }
     }
 
-    /// Puts a text so many characters after the start of a row.
-    fn put_text(&mut self, row: usize, before: usize, text: &str) {
+    /// Puts a text, marked or not, so many characters after the start of a row.
+    fn put_text(&mut self, row: usize, before: usize, text: &str, is_marked: bool) {
         for (index, byte) in text.bytes().enumerate() {
             let (row, column) = self.place(row, before.saturating_add(index));
             let at = self.index_of(row, column);
             if let Some(cell) = self.cells.get_mut(at) {
-                *cell = char::from(byte);
+                *cell = TableCell {
+                    character: char::from(byte),
+                    is_marked,
+                };
             }
         }
     }
@@ -187,7 +235,7 @@ impl Table {
     fn put_lower(&mut self, lower: &str) {
         for line in lower.split("\r\n") {
             let row = self.next_row();
-            self.put_text(row, 0, line);
+            self.put_text(row, 0, line, false);
             self.last_row = self.last_row.saturating_add(self.line_rows(line));
         }
     }

@@ -3,6 +3,7 @@
 #![tactic(auto)]
 
 mod cell;
+pub mod laws;
 mod screen;
 
 pub use cell::ScreenCell;

@@ -130,7 +130,7 @@ impl StyledScreen {
         if self.col == self.width {
             (self.row + 1, 0)
         } else {
-            (self.row, self.col)
+            self.cursor()
         }
     }
 
