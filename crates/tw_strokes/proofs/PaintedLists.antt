@@ -27,10 +27,6 @@ module _ {C : Type 0} where
   AreFit rows [] = Unit {0}
   AreFit rows (p ∷ more) = IsFit rows p × AreFit rows more
 
-  pub are_fit : (rows : Option ℕ) (paintings : List (Painting C)) → All (IsFit rows) paintings → AreFit rows paintings
-  are_fit rows [] a = tt
-  are_fit rows (p ∷ more) a = (a 0 p (omega arith), are_fit rows more (λ k d h. a (suc k) d (omega arith)))
-
   -- ---- where a painting begins
 
   -- the cursor is at column 0 of row s, or where the move of the painting before leads it back to row s; behind a clearing that move leads to row 0
@@ -130,9 +126,6 @@ module _ {C : Type 0} where
       | inr far ↦ rest.cut is r c h i far
     ];
   }
-
-  AreShownOver-at : (cuts : Bool) (b : C) (least e s : ℕ) (last : Painting C) (t u v : PictureOf C) → u ≡ v → AreShownOver cuts b least e s last t v → AreShownOver cuts b least e s last t u
-  AreShownOver-at cuts b least e s last t u v is h = rw is h
 
   -- where the painting before left the cursor, the next one begins
   left-before : (s : ℕ) (p : Painting C) (cleared : Bool) (t : PictureOf C) → IsLed p → t.row ≡ s + cursor_row p.cols p.sheet → IsBefore cleared s (Some p.back) t
