@@ -1,6 +1,6 @@
 //! Events of scripts.
 
-use script_player::{Directive, parse_line, push_events};
+use script_language::{Directive, parse_line, push_events};
 use std::alloc::Global;
 use std::test::Fail;
 use tw_input::InputEvent;

@@ -1,5 +1,5 @@
 -- What a reading tells.
-use Rattle.std.proofs.Common.{◌≡◌, ◌∙◌, ℕ, List, [], ◌∷◌, ◌++◌, Option, None, Result, Ok, Err, String, ap, refl, subst, inl, inr, arith}
+use Rattle.std.proofs.Common.{◌≡◌, ◌∙◌, ℕ, List, [], ◌∷◌, ◌++◌, Option, None, Result, Ok, Err, String, ap, refl, sym, subst, append_assoc, inl, inr, arith}
 use Rattle.std.specs.Prelude.{IfOk, IfErr, IsOkAnd}
 use Rattle.std.specs.declared.alloc.Global.{Global}
 use Rattle.tw_surface.specs.Paintings.{Mark}
@@ -10,11 +10,20 @@ use Rattle.tw_lineedit.specs.Reading.{Reads, start}
 use Rattle.tw_lineedit.specs.Run.{run_of}
 use Rattle.tw_lineedit.specs.declared.Error.{Error}
 use Rattle.tw_lineedit.specs.declared.Error.TheVariants as error
+use Rattle.script_language.specs.Written.{Contents, ExtendsInPart}
+use Rattle.script_language.specs.declared.directive.Directive.{Directive}
+use Rattle.script_language.specs.declared.directive.Directive.TheVariants.{Read}
+use Rattle.script_language.specs.declared.fault.RunFault.{RunFault}
+use Rattle.script_language.specs.declared.fault.RunFault.TheVariants.{Io}
 use Rattle.script_player.specs.Answers.{IsAnswerTo, IsContinuation, answer_text, text_of}
 use Rattle.script_player.specs.NewEditor.{AnswersLine, ReadsLine, RefusesLine, before}
-use Rattle.script_player.specs.Playback.{Stage, Tells}
+use Rattle.script_player.specs.Playback.{FailsToObey, Stage, Stays, Tells}
 use Rattle.script_player.specs.ScriptRules.{Scripted, script_overrides, script_rules}
 use Rattle.script_player.specs.declared.answer.Answer.{Answer}
+
+-- a text that goes on, and then goes on again
+pub continues_then : (a b c : List ℕ) → IsContinuation a b → IsContinuation b c → IsContinuation a c
+continues_then a b c (xs, p) (ys, q) = (xs ++ ys, q ∙ ap (λ (l : List ℕ). l ++ ys) p ∙ append_assoc a xs ys)
 
 -- no call of the terminal was refused
 once : (m n : ℕ) → m ≡ 0 → n ≡ 0 → ¬ (n ≡ count_up m)
@@ -66,3 +75,11 @@ tells s {prompt = prompt} {w = w} {old = old} new outcome answer reads refuses t
     let held = subst (λ v. ReadsLine script_rules s.prompt s.host v old new (outcome_of outcome)) kept here in
     let begun = subst (λ t. ReadsLine script_rules s.prompt s.host s.host t new (outcome_of outcome)) begins held in
     (outcome_of outcome, more, (new, begun), is ∙ ap (λ l. l ++ more) (line ∙ ap (λ t. t ++ (10 ∷ [])) text))
+
+-- the writing of what a reading tells is refused
+pub read_refused : (directive : Directive) (s t : Stage) (old new : Contents) (told : List ℕ) (fault : RunFault)
+    → directive ≡ Read → fault ≡ Io → t ≡ record s { events = []; screen = t.screen } → Tells s told → ExtendsInPart old new told
+    → FailsToObey directive s t old new fault
+read_refused directive s t old new told fault is io kept tells part =
+    subst (FailsToObey directive s t old new) (sym io)
+    (is, subst (λ d. Stays d s t) (sym is) kept, (told, tells, part))

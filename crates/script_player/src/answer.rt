@@ -2,9 +2,9 @@
 
 ghost use Rattle.std.specs.Prelude.{IfErr, Some};
 ghost use Rattle.script_player.specs.Answers.{IsAnswerTo, text_of};
-ghost use Rattle.script_player.specs.Written.{IsOutside};
+ghost use Rattle.script_language.specs.Written.{IsOutside};
 
-use crate::fault::RunFault;
+use script_language::RunFault;
 use std::fmt;
 use tw_lineedit::Error;
 

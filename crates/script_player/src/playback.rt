@@ -2,18 +2,14 @@
 
 ghost use Rattle.std.specs.Prelude.{◌≡◌, [], IfErr, IfOk, OnErr, OnOk, string_bytes};
 ghost use Rattle.script_player.specs.Answers.{IsContinuation};
-ghost use Rattle.script_player.specs.Written.{Extends, IsOutside};
+ghost use Rattle.script_language.specs.Written.{Extends, IsOutside};
 
 use crate::answer::Answer;
-use crate::directive::Directive;
 use crate::display::show_screen;
-use crate::escapes::unescape;
-use crate::events::push_events;
-use crate::fault::RunFault;
 use crate::new_editor::read_line;
-use crate::output::put;
 use crate::script_host::ScriptHost;
 use crate::shown::{Played, ScreenTerminal};
+use script_language::{Directive, RunFault, push_events, put, unescape};
 use std::alloc::{AllocError, Global};
 use std::io::Write;
 use std::mem;

@@ -1,18 +1,15 @@
 //! Running a script.
 
-ghost use Rattle.std.specs.Prelude.{◌≡◌, ◌<◌, ◌⊎◌, length, string_bytes, IfErr, IfOk, OnOk};
+ghost use Rattle.std.specs.Prelude.{◌≡◌, ◌<◌, ◌⊎◌, IfErr, OnOk};
 ghost use Rattle.std.specs.Io.KnownBytes.{IsAtEnd};
-ghost use Rattle.script_player.specs.Lines.{IsFirstLine, script_lines};
+ghost use Rattle.script_language.specs.Lines.{script_lines};
+ghost use Rattle.script_language.specs.Written.{Extends, NamesBadLine};
 ghost use Rattle.script_player.specs.Playback.{stage_of};
 ghost use Rattle.script_player.specs.Playing.{Ends, FailsToPlay, PlaysLine, Runs};
-ghost use Rattle.script_player.specs.Written.{Extends, NamesBadLine, bad_line};
 
-use crate::directive::parse_line;
-use crate::fault::RunFault;
-use crate::input::read_script;
-use crate::output::put;
 use crate::playback::Playback;
-use std::alloc::{AllocError, Global};
+use script_language::{RunFault, bad_line_text, parse_line, put, read_script, split_line};
+use std::alloc::Global;
 use std::io::{Read, Write};
 
 /// Reads a script, runs it line by line, and writes what it shows. A line that is no directive ends the run
@@ -50,18 +47,6 @@ fn play_script<W: Write>(alloc: Global, script: &[u8], writer: &mut W) -> Result
     Ok(())
 }
 
-/// The first line, without the line feed that ends it, and what follows.
-fn split_line(script: &[u8]) -> (&[u8], &[u8])
-    requires { 0 < length script.now }
-    ensures line { IsFirstLine script.now result.0.now result.1.now }
-    ensures shorter { length result.1.now < length script.now }
-{
-    match script.iter().position(|byte| *byte == b'\n') {
-        Some(end) => (&script[..end], &script[end + 1..]),
-        None => (script, &script[script.len()..]),
-    }
-}
-
 /// Does what a line asks for. Where it is no directive, writes its number.
 fn play_line<W: Write>(
     alloc: Global,
@@ -87,11 +72,4 @@ fn play_line<W: Write>(
         return Err(RunFault::BadLine(number));
     };
     playback.obey(directive, writer)
-}
-
-/// The line that names a bad line.
-fn bad_line_text(alloc: Global, number: u64) -> Result<String, AllocError>
-    ensures { IfOk result (λ text. string_bytes text ≡ bad_line number) }
-{
-    format!(in alloc; "bad line {number}\n")
 }

@@ -1,4 +1,4 @@
-use Rattle.script_player.proofs.Writes.{continues_then}
+use Rattle.script_player.proofs.ReadingLemmas.{continues_then}
 use Rattle.script_player.proofs.display.show_screen.Goals as goal
 
 pub loop-row-preserved : goal.loop-row-preserved

@@ -1,6 +1,6 @@
 use Rattle.std.proofs.Common.{rules}
 use Rattle.script_player.specs.Playback.{FailsToObey, stage_of}
-use Rattle.script_player.proofs.Writes.{read_refused}
+use Rattle.script_player.proofs.ReadingLemmas.{read_refused}
 use Rattle.script_player.proofs.playback.Playback.obey.Goals as goal
 
 pub returns-in_err-put-in-Read-clause-refused : goal.returns-in_err-put-in-Read-clause-refused

@@ -1,0 +1,6 @@
+pub mod Numbers
+pub mod Writes
+pub mod EscapeLemmas
+pub mod EventLemmas
+pub mod KeyNameLemmas
+pub mod LineLemmas

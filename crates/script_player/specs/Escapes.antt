@@ -1,9 +1,0 @@
--- The text that a directive's text stands for.
-use Rattle.std.specs.Prelude.{ℕ, ◌&&◌, eqb, if◌then◌else◌, List, [], ◌∷◌}
-use Rattle.tw_surface.specs.Characters.{cr, lf}
-
--- CR LF in place of each backslash that stands before the letter n, with that letter; all else is itself
-abbrev pub unescaped_text : List ℕ → List ℕ
-unescaped_text [] = []
-unescaped_text (b ∷ []) = b ∷ []
-unescaped_text (b ∷ c ∷ text) = if eqb b 92 && eqb c 110 then cr ∷ lf ∷ unescaped_text text else b ∷ unescaped_text (c ∷ text)
