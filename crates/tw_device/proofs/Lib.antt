@@ -1,2 +1,4 @@
+pub mod CallLemmas
 pub mod LiveLemmas
 pub mod ReadLemmas
+pub mod TypedLemmas

@@ -300,6 +300,20 @@ module _ {V : Type 0} (rules : HostRules V) (overrides : Overrides) where
   told_one : (old mid new xs : List EventView) (e : EventView) → mid ≡ old ++ xs → new ≡ mid ++ e ∷ [] → new ≡ old ++ (xs ++ e ∷ [])
   told_one old mid new xs e a b = b ∙ ap (λ (ys : List EventView). ys ++ e ∷ []) a ∙ append_assoc old xs (e ∷ [])
 
+  -- one event more is fed
+  pub comes_by_one : (old mid new : List EventView) (e : EventView) (f g h : Frame V) → ComesBy rules overrides old mid f g → new ≡ mid ++ e ∷ []
+      → Comes rules overrides (e ∷ []) g h → ComesBy rules overrides old new f h
+  comes_by_one old mid new e f g h (xs, told, a) more b = (
+    xs ++ e ∷ [],
+    told_one old mid new xs e told more,
+    record {
+      run = λ later. ap (λ (es : List EventView). run_on rules es (progress_of f)) (append_assoc xs (e ∷ []) later) ∙ a.run (e ∷ later) ∙ b.run later;
+      stops = λ c later m can. subst (λ (es : List EventView). CanStopOn rules overrides c es (progress_of f) m) (sym (append_assoc xs (e ∷ []) later)) (a.stops c (e ∷ later) m (b.stops c later m can));
+      quiet = record { flushed = b.quiet.flushed ∙ a.quiet.flushed; failures = b.quiet.failures ∙ a.quiet.failures };
+      left = b.left ∙ a.left;
+    },
+  )
+
   -- one event more, by which feeding fails
   pub fails_by_one : (old mid new : List EventView) (e : EventView) (f g h : Frame V) (x : Error) → ComesBy rules overrides old mid f g → new ≡ mid ++ e ∷ []
       → FailsFrom rules overrides (e ∷ []) g h x → FailsBy rules overrides old new f h x

@@ -1,13 +1,20 @@
 //! Events that nobody knows before they come.
 
-ghost use Rattle.std.specs.Prelude.{◌≡◌, ◌≤◌, ◌++◌, ◌∷◌, [], List, length, drop, IfOk, IfErr, OnOk, OnErr, MatchOption, ⊤};
-ghost use Rattle.std.specs.Io.KnownBytes.{IsAtEnd};
+ghost use Rattle.std.specs.Prelude.{◌≡◌, ◌≤◌, ◌==◌, ◌++◌, ◌∷◌, ℕ, [], List, length, drop, false, IfSome, IfOk, IfErr, OnOk, OnErr, MatchOption, ⊤, string_bytes};
+ghost use Rattle.std.specs.Io.KnownBytes.{Consumes, IsAtEnd, Keeps};
 ghost use Rattle.tw_input.specs.EventView.{event_view, EventView};
-ghost use Rattle.tw_device.specs.declared.keys.SourceState.TheVariants.{AtEnd, Refused as HasRefused};
+ghost use Rattle.tw_device.specs.Faults.{fault_of};
+ghost use Rattle.tw_device.specs.Keys.{held_by};
+ghost use Rattle.tw_device.specs.Told.{pasted_text, token_events, events_in_option, answer_events};
+ghost use Rattle.tw_device.specs.Typed.{piece, next_token, IsPasted, Tells, IsHeldUp};
+ghost use Rattle.tw_device.specs.declared.keys.SourceState.TheVariants.{Going, AtEnd, Refused as HasRefused};
+ghost use Rattle.tw_device.specs.declared.refused.Refused.TheVariants.{Memory};
+ghost use Rattle.tw_device.specs.declared.escape.Escape.TheVariants.{AtOnce};
 
+use crate::escape::Escape;
 use crate::event_log::EventLog;
 use crate::refused::Refused;
-use crate::unread::Unread;
+use crate::unread::{PIECE, Unread};
 use std::alloc::{AllocError, Global};
 use std::io::Read;
 use tw_ansi::{Scanned, Token};
@@ -33,13 +40,18 @@ pub trait EventSource {
 
     ghost state: { Self → SourceState };
 
+    // What a call did besides: from such a source to such a one, telling these events.
+    ghost follows: { Self → Self → List EventView → Type 0 } = { λ _ _ _. ⊤ };
+
     /// The next event, or none where there are no more. A refusal tells none.
     fn next_event(&mut self) -> Result<Option<InputEvent>, TerminalFault>
         ensures ok { IfOk result (λ event. MatchOption event
             ((told self.new ≡ told self.old) × (state self.new ≡ AtEnd))
             (λ event. told self.new ≡ told self.old ++ event_view event ∷ [])) }
+        ensures going { IfOk result (λ event. IfSome event (λ _. state self.new ≡ Going)) }
         ensures told { OnErr result (told self.new ≡ told self.old) }
-        ensures refused { IfErr result (λ fault. state self.new ≡ HasRefused fault) };
+        ensures refused { IfErr result (λ fault. state self.new ≡ HasRefused fault) }
+        ensures follows { follows self.old self.new (answer_events result) };
 }
 
 /// A reader of what is typed.
@@ -47,13 +59,17 @@ pub trait EventSource {
 pub struct KeyReader<R> {
     alloc: Global,
     reader: R,
+    escape: Escape,
     unread: Unread,
+    was_full: bool,
     state: SourceState,
     told: EventLog,
 }
 
 /// A pasted text: a space for each control character, and U+FFFD where the bytes are no text.
-fn pasted(alloc: Global, bytes: &[u8]) -> Result<String, AllocError> {
+fn pasted(alloc: Global, bytes: &[u8]) -> Result<String, AllocError>
+    ensures { IfOk result (λ text. string_bytes text ≡ pasted_text bytes.now) }
+{
     let text = String::from_utf8_lossy(alloc, bytes)?;
     let mut shown = String::new(alloc);
     for character in text.as_str().chars() {
@@ -67,14 +83,27 @@ fn pasted(alloc: Global, bytes: &[u8]) -> Result<String, AllocError> {
 }
 
 impl<R: Read> KeyReader<R> {
-    /// A reader that has told no event. It takes no memory.
+    /// A reader that has told no event, for which an ESC alone is the key Escape at once. It takes no memory.
     pub fn new(alloc: Global, reader: R) -> Self
-        ensures { ⟦<KeyReader<R> as EventSource>⟧.told result ≡ [] }
+        ensures told { ⟦<KeyReader<R> as EventSource>⟧.told result ≡ [] }
+        ensures held { held_by R.remaining result
+            ≡ record { escape = AtOnce; unread = []; was_full = false; left = R.remaining reader } }
+    {
+        KeyReader::with_escape(alloc, reader, Escape::AtOnce)
+    }
+
+    /// A reader that has told no event, with this choice for an ESC alone. It takes no memory.
+    pub fn with_escape(alloc: Global, reader: R, escape: Escape) -> Self
+        ensures told { ⟦<KeyReader<R> as EventSource>⟧.told result ≡ [] }
+        ensures held { held_by R.remaining result
+            ≡ record { escape = escape; unread = []; was_full = false; left = R.remaining reader } }
     {
         KeyReader {
             alloc,
             reader,
+            escape,
             unread: Unread::new(alloc),
+            was_full: false,
             state: SourceState::Going,
             told: EventLog::new(),
         }
@@ -84,23 +113,55 @@ impl<R: Read> KeyReader<R> {
     #[tactic(auto, using(crate::proofs::ReadLemmas::none_left))]
     fn find(&mut self) -> Result<Option<InputEvent>, Refused>
         ensures told { self.new.told ≡ self.old.told }
+        ensures tells { Tells (held_by R.remaining self.old) (held_by R.remaining self.new) (answer_events result) }
         ensures at_end { IfOk result (λ event. MatchOption event
             ((self.new.unread ≡ []) × IsAtEnd (R.remaining self.new.reader))
             (λ _. ⊤)) }
+        ensures held_up { IfErr result (λ refused. IsHeldUp (fault_of refused)
+            (held_by R.remaining self.old) (held_by R.remaining self.new)) }
     {
         let mut is_last = false;
-        for _ in 0..u64::MAX {
-            match self.unread.scan(is_last) {
+        for turn in 0..u64::MAX {
+            let _steps = turn;
+            match self.scan(is_last) {
                 Some(found) => {
                     if let Some(event) = self.take(found)? {
                         return Ok(Some(event));
                     }
                 }
                 None if is_last => return Ok(None),
-                None => is_last = !self.unread.read_from(&mut self.reader)?,
+                None => is_last = !self.read()?,
             }
         }
         Err(Refused::Device)
+    }
+
+    /// The token at the front, or none where more bytes are wanted.
+    fn scan(&mut self, is_last: bool) -> Option<Scanned>
+        ensures token { result ≡ next_token is_last (held_by R.remaining self.old) }
+        ensures within { IfSome result (λ s. s.used ≤ length self.old.unread) }
+        ensures held { held_by R.remaining self.new ≡ held_by R.remaining self.old }
+        ensures told { self.new.told ≡ self.old.told }
+    {
+        if self.escape.waits(self.was_full) && self.unread.is_lone_escape() && !is_last {
+            return None;
+        }
+        self.unread.scan(is_last)
+    }
+
+    /// Reads what there is, and waits where there is nothing. It answers false at the end. A refusal loses no byte.
+    fn read(&mut self) -> Result<bool, Refused>
+        ensures ok { OnOk result ((more : List ℕ) × (self.new.unread ≡ self.old.unread ++ more)
+            × (self.new.was_full ≡ (length more == piece)) × Consumes (R.remaining self.old.reader) (R.remaining self.new.reader) more) }
+        ensures end { IfOk result (λ is_more. is_more ≡ false → IsAtEnd (R.remaining self.new.reader)) }
+        ensures err { OnErr result ((self.new.unread ≡ self.old.unread) × (self.new.was_full ≡ self.old.was_full)
+            × Keeps (R.remaining self.old.reader) (R.remaining self.new.reader)) }
+        ensures escape { self.new.escape ≡ self.old.escape }
+        ensures told { self.new.told ≡ self.old.told }
+    {
+        let count = self.unread.read_from(&mut self.reader)?;
+        self.was_full = count == PIECE;
+        Ok(count > 0)
     }
 
     /// Takes a token. Bytes that mean nothing are taken and answer none. A refusal takes none, so that the next call
@@ -108,9 +169,12 @@ impl<R: Read> KeyReader<R> {
     fn take(&mut self, found: Scanned) -> Result<Option<InputEvent>, Refused>
         requires { found.used ≤ length self.old.unread }
         ensures told { self.new.told ≡ self.old.told }
+        ensures event { IfOk result (λ event. events_in_option event ≡ token_events found.token self.old.unread) }
         ensures taken { OnOk result (self.new.unread ≡ drop found.used self.old.unread) }
         ensures kept { OnErr result (self.new.unread ≡ self.old.unread) }
-        ensures same_reader { self.new.reader ≡ self.old.reader }
+        ensures refused { IfErr result (λ refused. (refused ≡ Memory) × IsPasted found.token) }
+        ensures rest { (self.new.reader ≡ self.old.reader) × (self.new.escape ≡ self.old.escape)
+            × (self.new.was_full ≡ self.old.was_full) }
     {
         let Scanned { token, used } = found;
         let event = match token {
@@ -133,16 +197,23 @@ impl<R: Read> EventSource for KeyReader<R> {
 
     ghost state = { λ it. it.state };
 
-    /// It has no more events only where the reader has no more bytes and all are taken.
+    ghost follows = { λ old new events. Tells (held_by R.remaining old) (held_by R.remaining new) events };
+
+    /// It takes bytes at the front alone, and tells what they are: no byte is lost, and none is told twice. It has no
+    /// more events only where the reader has no more bytes and all are taken. Why it refuses is said by `held_up`.
     fn next_event(&mut self) -> Result<Option<InputEvent>, TerminalFault>
         ensures ok { IfOk result (λ event. MatchOption event
             ((self.new.told ≡ self.old.told) × (self.new.state ≡ AtEnd))
             (λ event. self.new.told ≡ self.old.told ++ event_view event ∷ [])) }
+        ensures going { IfOk result (λ event. IfSome event (λ _. self.new.state ≡ Going)) }
         ensures told { OnErr result (self.new.told ≡ self.old.told) }
         ensures refused { IfErr result (λ fault. self.new.state ≡ HasRefused fault) }
+        ensures follows { Tells (held_by R.remaining self.old) (held_by R.remaining self.new) (answer_events result) }
         ensures at_end { IfOk result (λ event. MatchOption event
             ((self.new.unread ≡ []) × IsAtEnd (R.remaining self.new.reader))
             (λ _. ⊤)) }
+        ensures held_up { IfErr result (λ fault. IsHeldUp fault
+            (held_by R.remaining self.old) (held_by R.remaining self.new)) }
     {
         match self.find() {
             Ok(Some(event)) => {

@@ -1,10 +1,19 @@
 //! Laws of the types of this crate, each the contract of a function that does nothing.
 
 ghost use Rattle.tw_input.specs.Equality.{ComparesValues};
+ghost use Rattle.tw_device.specs.Typed.{NoneIsLost};
 
+use crate::escape::Escape;
 use crate::keys::SourceState;
 
 /// `==` is equality of values.
 pub fn equality()
-    ensures { ComparesValues ⟦<SourceState as PartialEq>⟧.eq }
+    ensures states { ComparesValues ⟦<SourceState as PartialEq>⟧.eq }
+    ensures escapes { ComparesValues ⟦<Escape as PartialEq>⟧.eq }
+{}
+
+/// No byte is lost and none is made: those that were not taken, and then those that came, are those that are taken and
+/// then those that are not taken at last; what came is what the reader gave; and what is told is the events of it.
+pub fn typing()
+    ensures { NoneIsLost }
 {}

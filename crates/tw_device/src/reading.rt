@@ -7,6 +7,7 @@ ghost use Rattle.tw_lineedit.specs.Frame.{frame};
 ghost use Rattle.tw_lineedit.specs.EditState.{Inactive};
 ghost use Rattle.tw_lineedit.specs.Feeding.{status_if};
 ghost use Rattle.tw_lineedit.specs.Outcomes.{is_open};
+ghost use Rattle.tw_device.specs.Calls.{IsCalled};
 ghost use Rattle.tw_device.specs.Terminal.{terminal_state};
 ghost use Rattle.tw_device.specs.Live.{fresh_frame, Comes, ComesBy, FailsFrom, FailsBy, IsRead, FailsToRead, IsStopped, answer_from};
 
@@ -94,6 +95,7 @@ fn take_events<S: EventSource, W: Write, H: LineEditorHost>(
     ensures err { let before = frame terminal_state H.value editor.old host.old in
         let after = frame terminal_state H.value editor.new host.new in
         IfErr result (FailsBy H.rules H.OVERRIDES (S.told source.old) (S.told source.new) before after) }
+    ensures called { IsCalled S.told S.follows source.old source.new }
 {
     for turn in 0..u64::MAX {
         let _told = turn;
@@ -124,7 +126,8 @@ fn answer_of(line: Option<String>, stop: Stop) -> Result<Answer, Error>
 
 /// Reads a line with a new editor from the events of a source, up to that which ends the line or the end of the
 /// source. The answer, the batches, the screen's size and the host's value are those of the abstract editor's run
-/// over exactly the events that the source told. A `Resized` sets the terminal's size.
+/// over exactly the events that the source told, by calls of `next_event` and nothing else (`called`). A `Resized` sets
+/// the terminal's size.
 ///
 /// Where the source refuses, the line is closed as at the source's end, and the answer is the source's refusal;
 /// so it is, with `Device`, where one call was told 2^64 - 1 events and none of them ended the line. Every other
@@ -142,6 +145,7 @@ pub fn read_line_from<S: EventSource, W: Write, H: LineEditorHost>(
     ensures err { let begun = fresh_frame prompt.now (H.value host.old) (terminal_state terminal.old) in
         IfErr result (FailsToRead H.rules H.OVERRIDES (S.told source.old) (S.told source.new) (S.state source.new) begun
         (H.value host.new) (terminal_state terminal.new)) }
+    ensures called { IsCalled S.told S.follows source.old source.new }
 {
     let mut editor = LineEditor::new(alloc, terminal)?;
     editor.set_prompt(prompt)?;

@@ -17,17 +17,17 @@ pub(crate) enum Refused {
 }
 
 impl From<AllocError> for Refused {
-    fn from(_refused: AllocError) -> Refused
-        ensures { result ≡ Memory }
-    {
+    ghost from_gives = { λ _ refused. refused ≡ Memory };
+
+    fn from(_refused: AllocError) -> Refused {
         Refused::Memory
     }
 }
 
 impl<T: Drop> From<AllocFailed<T>> for Refused {
-    fn from(_refused: AllocFailed<T>) -> Refused
-        ensures { result ≡ Memory }
-    {
+    ghost from_gives = { λ _ refused. refused ≡ Memory };
+
+    fn from(_refused: AllocFailed<T>) -> Refused {
         Refused::Memory
     }
 }

@@ -1,10 +1,10 @@
 //! A terminal over a writer. Its events are not its own affair: they are fed to the editor.
 
-ghost use Rattle.std.specs.Io.KnownBytes.{Appends};
-ghost use Rattle.std.specs.Prelude.{◌≡◌, ◌++◌, [], IfOk, OnOk, OnErr, string_bytes};
+ghost use Rattle.std.specs.Io.KnownBytes.{Appends, Keeps};
+ghost use Rattle.std.specs.Prelude.{◌≡◌, ◌++◌, [], Ok, None, IfOk, OnOk, OnErr, string_bytes};
 ghost use Rattle.tw_surface.specs.ChangeView.{batch_view};
-ghost use Rattle.tw_terminal.specs.TerminalState.{fresh_terminal, RenderFails, Renders};
-ghost use Rattle.tw_ansi.specs.Encoding.{sent_batch};
+ghost use Rattle.tw_terminal.specs.TerminalState.{fresh_terminal, Fails, Flushes, RenderFails, Renders};
+ghost use Rattle.tw_ansi.specs.Encoding.{first_known, sent_batch};
 ghost use Rattle.tw_device.specs.Terminal.{terminal_state};
 
 use crate::refused::Refused;
@@ -31,7 +31,9 @@ pub struct AnsiTerminal<W> {
 impl<W: Write> AnsiTerminal<W> {
     /// A terminal of this size, whose cursor stands in column 0.
     pub fn new(alloc: Global, writer: W, size: ScreenSize) -> Self
-        ensures { terminal_state result ≡ fresh_terminal size [] }
+        ensures state { terminal_state result ≡ fresh_terminal size [] }
+        ensures known { result.encoder ≡ first_known size.cols }
+        ensures writer { result.writer ≡ writer }
     {
         let batches = BatchLog::new();
         let flushed = Snapshot::of(&batches);
@@ -48,7 +50,9 @@ impl<W: Write> AnsiTerminal<W> {
 
     /// Sets the size, which nothing else changes.
     pub fn set_screen_size(&mut self, size: ScreenSize)
-        ensures { terminal_state self.new ≡ record (terminal_state self.old) { size = size } }
+        ensures state { terminal_state self.new ≡ record (terminal_state self.old) { size = size } }
+        ensures known { self.new.encoder ≡ record self.old.encoder { cols = size.cols } }
+        ensures writer { self.new.writer ≡ self.old.writer }
     {
         self.encoder.set_cols(size.cols);
         self.size = size;
@@ -57,6 +61,7 @@ impl<W: Write> AnsiTerminal<W> {
     /// Sends a text as it is. It has to leave the cursor in column 0.
     pub fn send(&mut self, text: &str) -> Result<(), TerminalFault>
         ensures kept { terminal_state self.new ≡ terminal_state self.old }
+        ensures known { self.new.encoder ≡ self.old.encoder }
         ensures sent { OnOk result (Appends (W.contents self.old.writer) (W.contents self.new.writer) text.now) }
     {
         match self.writer.write_all(text.as_bytes()) {
@@ -85,6 +90,7 @@ impl<W: Write> AnsiTerminal<W> {
         ensures next { OnOk result (self.new.encoder ≡ (sent_batch (batch_view changes.now) self.old.encoder).next) }
         ensures ok { OnOk result (Renders (batch_view changes.now) (terminal_state self.old) (terminal_state self.new)) }
         ensures err { OnErr result (terminal_state self.new ≡ terminal_state self.old) }
+        ensures known { OnErr result (self.new.encoder ≡ self.old.encoder) }
     {
         let mut text = String::new(self.alloc);
         let encoder = self.encode(changes, &mut text)?;
@@ -100,11 +106,19 @@ impl<W: Write> AnsiTerminal<W> {
 impl<W: Write> Terminal for AnsiTerminal<W> {
     ghost state = { terminal_state };
 
-    fn get_screen_size(&mut self) -> Result<ScreenSize, TerminalFault> {
+    /// The size that its owner gave it. It is never refused.
+    fn get_screen_size(&mut self) -> Result<ScreenSize, TerminalFault>
+        ensures size { result ≡ Ok (terminal_state self.old).size }
+        ensures kept { self.new ≡ self.old }
+    {
         Ok(self.size)
     }
 
-    fn poll_input(&mut self) -> Result<Option<InputEvent>, TerminalFault> {
+    /// None, at every call. It is never refused.
+    fn poll_input(&mut self) -> Result<Option<InputEvent>, TerminalFault>
+        ensures none { result ≡ Ok None }
+        ensures kept { self.new ≡ self.old }
+    {
         Ok(None)
     }
 
@@ -115,6 +129,7 @@ impl<W: Write> Terminal for AnsiTerminal<W> {
         ensures sent { let sent = sent_batch (batch_view changes.now) self.old.encoder in
             OnOk result (Appends (W.contents self.old.writer) (W.contents self.new.writer) sent.bytes) }
         ensures next { OnOk result (self.new.encoder ≡ (sent_batch (batch_view changes.now) self.old.encoder).next) }
+        ensures known { OnErr result (self.new.encoder ≡ self.old.encoder) }
     {
         match self.put(changes) {
             Ok(()) => Ok(()),
@@ -125,7 +140,13 @@ impl<W: Write> Terminal for AnsiTerminal<W> {
         }
     }
 
-    fn flush(&mut self) -> Result<(), TerminalFault> {
+    /// Flushes the writer, to which it adds no byte.
+    fn flush(&mut self) -> Result<(), TerminalFault>
+        ensures ok { OnOk result (Flushes (terminal_state self.old) (terminal_state self.new)) }
+        ensures err { OnErr result (Fails (terminal_state self.old) (terminal_state self.new)) }
+        ensures known { self.new.encoder ≡ self.old.encoder }
+        ensures writer { Keeps (W.contents self.old.writer) (W.contents self.new.writer) }
+    {
         if self.writer.flush().is_err() {
             self.failures = self.failures.saturating_add(1);
             return Err(TerminalFault::Device);

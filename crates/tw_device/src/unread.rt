@@ -1,9 +1,10 @@
 //! Bytes that were read and are not yet taken.
 
-ghost use Rattle.std.specs.Prelude.{◌≡◌, ◌≤◌, ◌++◌, ℕ, List, [], length, drop, false, IfSome, IfOk, OnOk, OnErr};
-ghost use Rattle.std.specs.Io.KnownBytes.{Consumes, IsAtEnd};
+ghost use Rattle.std.specs.Prelude.{◌≡◌, ◌≤◌, ◌++◌, ℕ, List, [], length, drop, IfSome, IfOk, OnErr};
+ghost use Rattle.std.specs.Io.KnownBytes.{Consumes, IsAtEnd, Keeps};
 ghost use Rattle.tw_ansi.specs.KeyBytes.{token_at};
 ghost use Rattle.tw_ansi.specs.Resuming.{Fits};
+ghost use Rattle.tw_device.specs.Typed.{is_lone_escape};
 
 use crate::refused::Refused;
 use std::alloc::Global;
@@ -12,7 +13,9 @@ use std::marker::Model;
 use tw_ansi::{Progress, Scanned, scan_on};
 
 /// How many bytes are asked for at once.
-const PIECE: usize = 1024;
+pub(crate) const PIECE: usize = 1024;
+
+const ESC: u8 = 0x1b;
 
 /// Bytes that were read and are not yet taken. Contracts see their list, and not how far they were read for a token.
 #[derive(Drop)]
@@ -51,6 +54,17 @@ impl Unread {
         &self.buffer.as_slice()[self.taken..]
     }
 
+    /// Whether they are an ESC, and nothing behind it.
+    pub(crate) fn is_lone_escape(&self) -> bool
+        ensures { result ≡ is_lone_escape self.now }
+    {
+        match self.bytes() {
+            [] => false,
+            [byte] => *byte == ESC,
+            [_, _, ..] => false,
+        }
+    }
+
     /// The token at the front, or none where more bytes are wanted. What was read of them is not read again.
     pub(crate) fn scan(&mut self, is_last: bool) -> Option<Scanned>
         ensures token { result ≡ token_at is_last self.old }
@@ -87,32 +101,34 @@ impl Unread {
         self.taken = 0;
     }
 
-    /// Reads what there is, and waits where there is nothing. It answers false at the end. It finds room for the
-    /// bytes before it reads, so that none is lost for want of memory.
-    pub(crate) fn read_from<R: Read>(&mut self, reader: &mut R) -> Result<bool, Refused>
-        ensures ok { OnOk result ((more : List ℕ) × (self.new ≡ self.old ++ more)
+    /// Reads what there is, and waits where there is nothing. It answers how many bytes came, none at the end. It finds
+    /// room for the bytes before it reads, so that none is lost for want of memory.
+    pub(crate) fn read_from<R: Read>(&mut self, reader: &mut R) -> Result<usize, Refused>
+        ensures ok { IfOk result (λ count. (more : List ℕ) × (self.new ≡ self.old ++ more) × (length more ≡ count)
             × Consumes (R.remaining reader.old) (R.remaining reader.new) more) }
-        ensures end { IfOk result (λ is_more. is_more ≡ false → IsAtEnd (R.remaining reader.new)) }
+        ensures end { IfOk result (λ count. count ≡ 0 → IsAtEnd (R.remaining reader.new)) }
         ensures err { OnErr result (self.new ≡ self.old) }
+        ensures kept { OnErr result (Keeps (R.remaining reader.old) (R.remaining reader.new)) }
     {
         self.close_up();
         read_more(reader, &mut self.buffer)
     }
 }
 
-/// Reads what there is behind the bytes of a buffer, and answers false at the end. Room is found before bytes are read.
-fn read_more<R: Read>(reader: &mut R, buffer: &mut Vec<u8>) -> Result<bool, Refused>
-    ensures ok { OnOk result ((more : List ℕ) × (buffer.new.items ≡ buffer.old.items ++ more)
+/// Reads what there is behind the bytes of a buffer, and answers how many came. Room is found before bytes are read.
+fn read_more<R: Read>(reader: &mut R, buffer: &mut Vec<u8>) -> Result<usize, Refused>
+    ensures ok { IfOk result (λ count. (more : List ℕ) × (buffer.new.items ≡ buffer.old.items ++ more) × (length more ≡ count)
         × Consumes (R.remaining reader.old) (R.remaining reader.new) more) }
-    ensures end { IfOk result (λ is_more. is_more ≡ false → IsAtEnd (R.remaining reader.new)) }
+    ensures end { IfOk result (λ count. count ≡ 0 → IsAtEnd (R.remaining reader.new)) }
     ensures err { OnErr result (buffer.new.items ≡ buffer.old.items) }
+    ensures kept { OnErr result (Keeps (R.remaining reader.old) (R.remaining reader.new)) }
 {
     let held = buffer.len();
     buffer.resize(held.saturating_add(PIECE), 0)?;
     match reader.read(&mut buffer.as_mut_slice()[held..]) {
         Ok(count) => {
             buffer.truncate(held.saturating_add(count));
-            Ok(count > 0)
+            Ok(count)
         }
         Err(_) => {
             buffer.truncate(held);

@@ -1,8 +1,10 @@
-use Rattle.std.proofs.Common.{arith}
+use Rattle.std.proofs.Common.{arith, rules}
 use Rattle.std.proofs.lemmas.Result.{err_from_is_err_and}
 use Rattle.tw_input.specs.EventView.{event_view}
 use Rattle.tw_device.specs.contracts.terminal.AnsiTerminalTerminal.TheImpl as terminal
-use Rattle.tw_device.proofs.LiveLemmas.{fails_by_one}
+use Rattle.tw_device.specs.Told.{answer_events}
+use Rattle.tw_device.proofs.CallLemmas.{called_more, told_answer}
+use Rattle.tw_device.proofs.LiveLemmas.{fails_by_one, comes_by_one, counted}
 use Rattle.tw_device.proofs.reading.take_events.Goals as goal
 use Rattle.tw_lineedit.specs.Frame.{frame}
 
@@ -17,3 +19,46 @@ returns-in_err-feed-in-Ok-Some-clause-err g c =
 
 pub returns-clause-stopped : goal.returns-clause-stopped
 returns-clause-stopped g c = (c.loop-turn.invariant.still_open, omega (arith, c.loop-turn.invariant.count, c.loop-turn.auto.turn-end, c.loop-turn-test.false))
+
+pub returns-in_err-feed-in-Ok-Some-clause-called : goal.returns-in_err-feed-in-Ok-Some-clause-called
+returns-in_err-feed-in-Ok-Some-clause-called g c =
+    let source = g.S.EventSource in
+    called_more source.told source.follows c.args.source.now c.loop-turn.source c.next_event.new.self (answer_events c.next_event.result) c.loop-turn.invariant.called c.next_event.ensures.follows
+    (told_answer _ c.next_event.result (source.told c.loop-turn.source) (source.told c.next_event.new.self) c.next_event.ensures.ok c.next_event.ensures.told)
+
+pub returns-in-Ended-clause-called : goal.returns-in-Ended-clause-called
+returns-in-Ended-clause-called g c =
+    let source = g.S.EventSource in
+    called_more source.told source.follows c.args.source.now c.loop-turn.source c.next_event.new.self (answer_events c.next_event.result) c.loop-turn.invariant.called c.next_event.ensures.follows
+    (told_answer _ c.next_event.result (source.told c.loop-turn.source) (source.told c.next_event.new.self) c.next_event.ensures.ok c.next_event.ensures.told)
+
+pub returns-in-Ok-None-clause-called : goal.returns-in-Ok-None-clause-called
+returns-in-Ok-None-clause-called g c =
+    let source = g.S.EventSource in
+    called_more source.told source.follows c.args.source.now c.loop-turn.source c.next_event.new.self (answer_events c.next_event.result) c.loop-turn.invariant.called c.next_event.ensures.follows
+    (told_answer _ c.next_event.result (source.told c.loop-turn.source) (source.told c.next_event.new.self) c.next_event.ensures.ok c.next_event.ensures.told)
+
+pub returns-in-Err-clause-called : goal.returns-in-Err-clause-called
+returns-in-Err-clause-called g c =
+    let source = g.S.EventSource in
+    called_more source.told source.follows c.args.source.now c.loop-turn.source c.next_event.new.self (answer_events c.next_event.result) c.loop-turn.invariant.called c.next_event.ensures.follows
+    (told_answer _ c.next_event.result (source.told c.loop-turn.source) (source.told c.next_event.new.self) c.next_event.ensures.ok c.next_event.ensures.told)
+
+pub loop-turn-preserved : goal.loop-turn-preserved
+loop-turn-preserved g c =
+    let source = g.S.EventSource in
+    let state = (terminal.ghosts g.row.W g.W.Write g.W.Write-dict).state in
+    let rules_of = g.H.LineEditorHost.rules in
+    let overrides = g.H.LineEditorHost.OVERRIDES in
+    let told = rw c.in-Ok-Some.field-0-is at c.in-Ok-Some.ensures.ok in
+    record {
+      same_reference = search rules;
+      comes = comes_by_one rules_of overrides (source.told c.args.source.now) (source.told c.loop-turn.source) (source.told c.next_event.new.self) (event_view c.in-Ok-Some.event)
+          (frame state g.H.LineEditorHost.value c.args.editor.now c.args.host.now) (frame state g.H.LineEditorHost.value c.loop-turn.editor c.loop-turn.host) (frame state g.H.LineEditorHost.value c.feed.new.editor c.feed.new.host)
+          c.loop-turn.invariant.comes told c.in_ok-feed-in-Ok-Some.ensures.ok;
+      count = counted rules_of overrides (source.told c.args.source.now) (source.told c.loop-turn.source) (source.told c.next_event.new.self) (event_view c.in-Ok-Some.event) c.loop-turn.turn
+          c.loop-turn.invariant.count told;
+      called = called_more source.told source.follows c.args.source.now c.loop-turn.source c.next_event.new.self (answer_events c.next_event.result) c.loop-turn.invariant.called c.next_event.ensures.follows
+          (told_answer _ c.next_event.result (source.told c.loop-turn.source) (source.told c.next_event.new.self) c.next_event.ensures.ok c.next_event.ensures.told);
+      still_open = search rules;
+    }

@@ -1,6 +1,7 @@
 use Rattle.std.proofs.Common.{◌≡◌, ◌+◌, length, true}
 use Rattle.tw_lineedit.specs.Frame.{frame}
 use Rattle.tw_lineedit.specs.Outcomes.{is_open}
+use Rattle.tw_device.specs.Calls.{IsCalled}
 use Rattle.tw_device.specs.Live.{ComesBy}
 use Rattle.tw_device.specs.contracts.terminal.AnsiTerminalTerminal.TheImpl as terminal
 use Rattle.tw_device.proofs.reading.take_events.Given as goal
@@ -13,5 +14,6 @@ invariant-loop-turn g l =
       comes : ComesBy g.H.LineEditorHost.rules g.H.LineEditorHost.OVERRIDES (g.S.EventSource.told l.fn.source) (g.S.EventSource.told l.source)
           (frame state g.H.LineEditorHost.value l.fn.editor l.fn.host) (frame state g.H.LineEditorHost.value l.editor l.host);
       count : length (g.S.EventSource.told l.source) ≡ length (g.S.EventSource.told l.fn.source) + l.turn;
+      called : IsCalled g.S.EventSource.told g.S.EventSource.follows l.fn.source l.source;
       still_open : is_open l.editor.session.state.mode ≡ true;
     }

@@ -1,9 +1,14 @@
-use Rattle.std.proofs.Common.{◌≡◌, true}
+use Rattle.std.proofs.Common.{◌≡◌, true, []}
 use Rattle.std.specs.Io.KnownBytes.{IsAtEnd}
+use Rattle.tw_device.specs.Keys.{held_by}
+use Rattle.tw_device.specs.Typed.{TellsIn}
 use Rattle.tw_device.proofs.keys.KeyReader.find.Given as goal
 
-abbrev pub invariant-loop : goal.invariant-loop
-invariant-loop g l = record {
-  told : l.self.told ≡ l.fn.self.told;
-  at_end : l.is_last ≡ true → IsAtEnd (g.R.Read.remaining l.self.reader);
-}
+abbrev pub invariant-loop-turn : goal.invariant-loop-turn
+invariant-loop-turn g l =
+    let remaining = g.R.Read.remaining in
+    record {
+      told : l.self.told ≡ l.fn.self.told;
+      tells : TellsIn l.turn (held_by remaining l.fn.self) (held_by remaining l.self) [];
+      at_end : l.is_last ≡ true → IsAtEnd (remaining l.self.reader);
+    }

@@ -1,0 +1,47 @@
+-- One more call of a source, and what the calls of a reader of keys come to.
+use Rattle.std.proofs.Common.{◌≡◌, ◌+◌, List, [], ◌∷◌, ◌++◌, Option, Some, None, Result, Ok, Err, IfOk, OnErr, MatchOption, refl, sym, ap, ◌∙◌, subst, append_assoc, append-nil}
+use Rattle.tw_input.specs.declared.event.InputEvent.{InputEvent}
+use Rattle.tw_input.specs.EventView.{EventView, event_view}
+use Rattle.tw_device.specs.Calls.{all_events, Calls, IsCalled}
+use Rattle.tw_device.specs.Told.{answer_events}
+use Rattle.tw_device.specs.Typed.{Held, Tells}
+use Rattle.tw_device.proofs.TypedLemmas.{tells_nothing, tells_then}
+
+all_and_more : (parts : List (List EventView)) (events : List EventView) → all_events (parts ++ events ∷ []) ≡ all_events parts ++ events
+all_and_more [] events = append-nil events
+all_and_more (part ∷ parts) events = ap (λ es. part ++ es) (all_and_more parts events) ∙ sym (append_assoc part (all_events parts) events)
+
+module _ {S : Type 0} (told : S → List EventView) (Follows : S → S → List EventView → Type 0) where
+  calls_more : (parts : List (List EventView)) (old between new : S) (events : List EventView)
+      → Calls told Follows parts old between → Follows between new events → Calls told Follows (parts ++ events ∷ []) old new
+  calls_more [] old between new events same follows = (new, subst (λ s. Follows s new events) same follows, refl)
+  calls_more (part ∷ parts) old between new events calls follows = (calls.0, calls.1, calls_more parts calls.0 between new events calls.2 follows)
+
+  -- no call
+  pub not_called : (source : S) → IsCalled told Follows source source
+  not_called source = ([], sym (append-nil (told source)), refl)
+
+  -- one more call
+  pub called_more : (old between new : S) (events : List EventView) → IsCalled told Follows old between → Follows between new events
+      → told new ≡ told between ++ events → IsCalled told Follows old new
+  called_more old between new events is follows grown = (
+    is.0 ++ events ∷ [],
+    grown ∙ ap (λ es. es ++ events) is.1 ∙ append_assoc (told old) (all_events is.0) events ∙ ap (λ es. told old ++ es) (sym (all_and_more is.0 events)),
+    calls_more is.0 old between new events is.2 follows,
+  )
+
+-- what each call of a reader tells is told by them all
+pub calls_tell : {S : Type 0} (told : S → List EventView) (held : S → Held) (parts : List (List EventView)) (old new : S)
+    → Calls told (λ a b events. Tells (held a) (held b) events) parts old new → Tells (held old) (held new) (all_events parts)
+calls_tell told held [] old new same = subst (λ s. Tells (held old) (held s) []) (sym same) (0, tells_nothing (held old))
+calls_tell told held (events ∷ parts) old new calls =
+    let later = calls_tell told held parts calls.0 new calls.2 in
+    (calls.1.0 + later.0, tells_then calls.1.0 later.0 (held old) (held calls.0) (held new) events (all_events parts) calls.1.1 later.1)
+
+-- what one call tells
+pub told_answer : {E : Type 0} (P : Type 0) (answer : Result (Option InputEvent) E) (old new : List EventView)
+    → IfOk answer (λ event. MatchOption event ((new ≡ old) × P) (λ event. new ≡ old ++ event_view event ∷ [])) → OnErr answer (new ≡ old)
+    → new ≡ old ++ answer_events answer
+told_answer P (Ok (Some event)) old new ok err = ok
+told_answer P (Ok None) old new ok err = ok.0 ∙ sym (append-nil old)
+told_answer P (Err e) old new ok err = err ∙ sym (append-nil old)

@@ -1,0 +1,36 @@
+//! Reading a line from the bytes that are typed.
+
+ghost use Rattle.std.specs.Prelude.{◌≡◌, ◌++◌, List, IfOk, IfErr};
+ghost use Rattle.tw_input.specs.EventView.{EventView};
+ghost use Rattle.tw_device.specs.Keys.{held_by};
+ghost use Rattle.tw_device.specs.Live.{fresh_frame, IsRead, FailsToRead};
+ghost use Rattle.tw_device.specs.Terminal.{terminal_state};
+ghost use Rattle.tw_device.specs.Typed.{Tells};
+
+use crate::keys::KeyReader;
+use crate::reading::{Answer, read_line_from};
+use crate::terminal::AnsiTerminal;
+use std::alloc::Global;
+use std::io::{Read, Write};
+use tw_lineedit::{Error, LineEditorHost};
+
+/// Reads a line as `read_line_from` does, from the bytes that a reader gives. The events that were told are those of
+/// the bytes that were taken, and no byte is lost (`typed`, by `laws::typing`), whether a line is answered or not.
+pub fn read_typed_line<R: Read, W: Write, H: LineEditorHost>(
+    alloc: Global,
+    keys: &mut KeyReader<R>,
+    terminal: &mut AnsiTerminal<W>,
+    host: &mut H,
+    prompt: &str,
+) -> Result<Answer, Error>
+    ensures ok { let begun = fresh_frame prompt.now (H.value host.old) (terminal_state terminal.old) in
+        IfOk result (IsRead H.rules keys.old.told keys.new.told keys.new.state begun
+        (H.value host.new) (terminal_state terminal.new)) }
+    ensures err { let begun = fresh_frame prompt.now (H.value host.old) (terminal_state terminal.old) in
+        IfErr result (FailsToRead H.rules H.OVERRIDES keys.old.told keys.new.told keys.new.state begun
+        (H.value host.new) (terminal_state terminal.new)) }
+    ensures typed { (events : List EventView) × (keys.new.told ≡ keys.old.told ++ events)
+        × Tells (held_by R.remaining keys.old) (held_by R.remaining keys.new) events }
+{
+    read_line_from(alloc, keys, terminal, host, prompt)
+}
