@@ -7,7 +7,7 @@ use Rattle.tw_ansi.specs.declared.token.Scanned.{Scanned}
 use Rattle.tw_ansi.specs.KeyBytes.{token_at}
 use Rattle.tw_device.specs.Faults.{fault_of}
 use Rattle.tw_device.specs.Told.{token_events}
-use Rattle.tw_device.specs.Typed.{Held, Step, Came, Took, Lead, TellsIn, Tells, next_token, escape_waits, is_lone_escape, held_after_read, held_after_token, given_of, taken_by, told_by, taken_of, events_of, NoneIsLost, IsHeldUp, IsPasted}
+use Rattle.tw_device.specs.Typed.{Held, Step, Came, Took, Lead, TellsIn, Tells, next_token, escape_waits, is_lone_escape, held_after_read, held_after_token, given_bytes, taken_by, told_by, taken_bytes, events_of, NoneIsLost, IsHeldUp, IsPasted}
 use Rattle.tw_device.specs.declared.escape.Escape.{Escape}
 use Rattle.tw_device.specs.declared.refused.Refused.{Refused}
 use Rattle.tw_device.specs.declared.refused.Refused.TheVariants.{Device, Memory}
@@ -143,12 +143,12 @@ none_is_lost [] old new events g =
     (append-nil old.unread ∙ sym (ap (λ (h : Held). h.unread) g.0), kept_consumes_none old.left new.left g.1, g.2)
 none_is_lost (Came more ∷ steps) old new events g =
     let later = none_is_lost steps (held_after_read more g.1.0 old) new events g.1.2 in
-    (sym (append_assoc old.unread more (given_of steps)) ∙ later.0, Consumes-trans old.left g.1.0 new.left more (given_of steps) g.1.1 later.1, later.2)
+    (sym (append_assoc old.unread more (given_bytes steps)) ∙ later.0, Consumes-trans old.left g.1.0 new.left more (given_bytes steps) g.1.1 later.1, later.2)
 none_is_lost (Took is_last ∷ steps) old new events g =
     let s = g.1.0 in
     let found : token_at is_last old.unread ≡ Some s = found_at is_last old s g.1.1 in
     let later = none_is_lost steps (held_after_token s.used old) new g.1.2.0 g.1.2.2 in (
-      took_all (token_at is_last old.unread) s old.unread (given_of steps) new.unread (taken_of steps) found later.0,
+      took_all (token_at is_last old.unread) s old.unread (given_bytes steps) new.unread (taken_bytes steps) found later.0,
       later.1,
       g.1.2.1 ∙ ap (λ es. token_events s.token old.unread ++ es) later.2 ∙ ap (λ o. told_by o old.unread (events_of steps)) (sym found),
     )

@@ -3,6 +3,7 @@ pub mod EventLog
 pub mod Faults
 pub mod Keys
 pub mod Live
+pub mod Pieces
 pub mod Terminal
 pub mod Told
 pub mod Typed

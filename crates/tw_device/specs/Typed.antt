@@ -12,7 +12,8 @@ use Rattle.tw_device.specs.declared.escape.Escape.{Escape}
 use Rattle.tw_device.specs.declared.escape.Escape.TheVariants.{Waits, AtOnce}
 use Rattle.tw_device.specs.Told.{token_events}
 
--- What a reader of keys has: what its owner chose for an ESC alone, the bytes that were read and are not yet taken, whether the last read gave as many as were asked for, and what is left to be read, where that is known.
+-- What a reader of keys has: what its owner chose for an ESC alone, the bytes that were read and are not yet taken,
+-- whether the last read gave as many as were asked for, and what is left to be read, where that is known.
 pub record Held : Type 0 where
   pub escape : Escape
   pub unread : List ℕ
@@ -37,11 +38,13 @@ escape_waits AtOnce was_full = was_full
 -- The token at the front, or none where more bytes are wanted. An ESC that waits is none yet, unless no byte follows.
 abbrev pub next_token : Bool → Held → Option Scanned
 next_token is_last held =
-    if escape_waits held.escape held.was_full && is_lone_escape held.unread && not is_last then None else token_at is_last held.unread
+    if escape_waits held.escape held.was_full && is_lone_escape held.unread && not is_last then None
+    else token_at is_last held.unread
 
 -- once these bytes were read, and so many are left
 abbrev pub held_after_read : List ℕ → Option (List ℕ) → Held → Held
-held_after_read more left held = record held { unread = held.unread ++ more; was_full = length more == piece; left = left }
+held_after_read more left held =
+    record held { unread = held.unread ++ more; was_full = length more == piece; left = left }
 
 -- once so many bytes were taken
 abbrev pub held_after_token : ℕ → Held → Held
@@ -57,10 +60,12 @@ pub data Step : Type 0 where
 abbrev pub Lead : List Step → Held → Held → List EventView → Type 0
 Lead [] old new events = (new ≡ record old { left = new.left }) × Keeps old.left new.left × (events ≡ [])
 Lead (Came more ∷ steps) old new events =
-    (next_token false old ≡ None) × ((left : Option (List ℕ)) × Consumes old.left left more × Lead steps (held_after_read more left old) new events)
+    (next_token false old ≡ None) × ((left : Option (List ℕ)) × Consumes old.left left more
+    × Lead steps (held_after_read more left old) new events)
 Lead (Took is_last ∷ steps) old new events =
     (is_last ≡ true → IsAtEnd old.left) × ((s : Scanned) × (next_token is_last old ≡ Some s)
-    × ((later : List EventView) × (events ≡ token_events s.token old.unread ++ later) × Lead steps (held_after_token s.used old) new later))
+    × ((later : List EventView) × (events ≡ token_events s.token old.unread ++ later)
+    × Lead steps (held_after_token s.used old) new later))
 
 -- so many steps lead from the one to the other, and tell these events
 abbrev pub TellsIn : ℕ → Held → Held → List EventView → Type 0
@@ -82,16 +87,17 @@ HasPaste held = (is_last : Bool) × (s : Scanned) × (next_token is_last held �
 abbrev pub most_steps : ℕ
 most_steps = 18446744073709551615
 
--- Why a call is refused. The device refuses only where more bytes are wanted, or where the steps of the call cannot be counted any more; memory is short only where room is wanted, for more bytes or for a pasted text.
+-- Why a call is refused. The device refuses only where more bytes are wanted, or where the call took as many steps as
+-- it can; memory is short only where room is wanted, for more bytes or for a pasted text.
 abbrev pub IsHeldUp : TerminalFault → Held → Held → Type 0
 IsHeldUp Device old new = (next_token false new ≡ None) ⊎ TellsIn most_steps old new []
 IsHeldUp Memory old new = (next_token false new ≡ None) ⊎ HasPaste new
 
 -- the bytes that came
-abbrev pub given_of : List Step → List ℕ
-given_of [] = []
-given_of (Came more ∷ steps) = more ++ given_of steps
-given_of (Took is_last ∷ steps) = given_of steps
+abbrev pub given_bytes : List Step → List ℕ
+given_bytes [] = []
+given_bytes (Came more ∷ steps) = more ++ given_bytes steps
+given_bytes (Took is_last ∷ steps) = given_bytes steps
 
 -- the bytes of a token at the front of these, and then what is taken of those behind it
 abbrev pub taken_by : Option Scanned → List ℕ → (List ℕ → List ℕ) → List ℕ
@@ -104,10 +110,10 @@ told_by (Some s) bytes told_behind = token_events s.token bytes ++ told_behind (
 told_by None bytes told_behind = []
 
 -- the bytes that are taken, from these on
-abbrev pub taken_of : List Step → List ℕ → List ℕ
-taken_of [] unread = []
-taken_of (Came more ∷ steps) unread = taken_of steps (unread ++ more)
-taken_of (Took is_last ∷ steps) unread = taken_by (token_at is_last unread) unread (taken_of steps)
+abbrev pub taken_bytes : List Step → List ℕ → List ℕ
+taken_bytes [] unread = []
+taken_bytes (Came more ∷ steps) unread = taken_bytes steps (unread ++ more)
+taken_bytes (Took is_last ∷ steps) unread = taken_by (token_at is_last unread) unread (taken_bytes steps)
 
 -- the events of these bytes, by where reading them paused
 abbrev pub events_of : List Step → List ℕ → List EventView
@@ -118,6 +124,6 @@ events_of (Took is_last ∷ steps) unread = told_by (token_at is_last unread) un
 -- Such steps lose no byte and make none, what came is what the reader gave, and what is told is the events of it.
 abbrev pub NoneIsLost : Type 0
 NoneIsLost = (steps : List Step) (old new : Held) (events : List EventView) → Lead steps old new events
-    → (old.unread ++ given_of steps ≡ taken_of steps old.unread ++ new.unread)
-    × Consumes old.left new.left (given_of steps)
+    → (old.unread ++ given_bytes steps ≡ taken_bytes steps old.unread ++ new.unread)
+    × Consumes old.left new.left (given_bytes steps)
     × (events ≡ events_of steps old.unread)

@@ -152,7 +152,8 @@ impl<R: Read> KeyReader<R> {
     /// Reads what there is, and waits where there is nothing. It answers false at the end. A refusal loses no byte.
     fn read(&mut self) -> Result<bool, Refused>
         ensures ok { OnOk result ((more : List ℕ) × (self.new.unread ≡ self.old.unread ++ more)
-            × (self.new.was_full ≡ (length more == piece)) × Consumes (R.remaining self.old.reader) (R.remaining self.new.reader) more) }
+            × (self.new.was_full ≡ (length more == piece))
+            × Consumes (R.remaining self.old.reader) (R.remaining self.new.reader) more) }
         ensures end { IfOk result (λ is_more. is_more ≡ false → IsAtEnd (R.remaining self.new.reader)) }
         ensures err { OnErr result ((self.new.unread ≡ self.old.unread) × (self.new.was_full ≡ self.old.was_full)
             × Keeps (R.remaining self.old.reader) (R.remaining self.new.reader)) }

@@ -1,6 +1,7 @@
 //! Laws of the types of this crate, each the contract of a function that does nothing.
 
 ghost use Rattle.tw_input.specs.Equality.{ComparesValues};
+ghost use Rattle.tw_device.specs.Pieces.{PiecesDoNotMatter};
 ghost use Rattle.tw_device.specs.Typed.{NoneIsLost};
 
 use crate::escape::Escape;
@@ -16,4 +17,10 @@ pub fn equality()
 /// then those that are not taken at last; what came is what the reader gave; and what is told is the events of it.
 pub fn typing()
     ensures { NoneIsLost }
+{}
+
+/// Where an ESC alone waits, how bytes come makes no difference: once all that came are taken, what was told is what
+/// they tell all at once.
+pub fn pieces()
+    ensures { PiecesDoNotMatter }
 {}

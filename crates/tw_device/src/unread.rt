@@ -117,8 +117,8 @@ impl Unread {
 
 /// Reads what there is behind the bytes of a buffer, and answers how many came. Room is found before bytes are read.
 fn read_more<R: Read>(reader: &mut R, buffer: &mut Vec<u8>) -> Result<usize, Refused>
-    ensures ok { IfOk result (λ count. (more : List ℕ) × (buffer.new.items ≡ buffer.old.items ++ more) × (length more ≡ count)
-        × Consumes (R.remaining reader.old) (R.remaining reader.new) more) }
+    ensures ok { IfOk result (λ count. (more : List ℕ) × (buffer.new.items ≡ buffer.old.items ++ more)
+        × (length more ≡ count) × Consumes (R.remaining reader.old) (R.remaining reader.new) more) }
     ensures end { IfOk result (λ count. count ≡ 0 → IsAtEnd (R.remaining reader.new)) }
     ensures err { OnErr result (buffer.new.items ≡ buffer.old.items) }
     ensures kept { OnErr result (Keeps (R.remaining reader.old) (R.remaining reader.new)) }
