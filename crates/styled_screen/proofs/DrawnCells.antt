@@ -1,5 +1,5 @@
 -- What a screen shows once its cells or its cursor have changed.
-use Rattle.std.proofs.Common.{◌≡◌, ℕ, zero, suc, ◌+◌, ◌*◌, ◌<◌, ◌≤◌, Bool, true, false, ◌&&◌, ◌||◌, eqb, ltb, leb, List, [], ◌∷◌, ◌++◌, length, take, set, get_or, map, refl, sym, ap, ◌∙◌, arith, inl, inr, if◌then◌else◌}
+use Rattle.std.proofs.Common.{◌≡◌, ℕ, zero, suc, ◌+◌, ◌*◌, ◌<◌, ◌≤◌, Bool, true, false, ◌&&◌, ◌||◌, eqb, ltb, leb, List, [], ◌∷◌, ◌++◌, length, take, refl, sym, ap, ◌∙◌, arith, inl, inr, if◌then◌else◌}
 use Rattle.std.specs.Prelude.{slice_index_or, slice_set}
 use Rattle.std.proofs.lemmas.Bool.{cases_eq, cases_lt, eq-eqb, ne_eqb, eqb-true, eqb-false, le-leb, lt-leb, lt-ltb, le-ltb, and_right}
 use Rattle.std.proofs.lemmas.List.{get_or-set_same, get_or-set_other, get_or-take}
@@ -9,7 +9,7 @@ use Rattle.tw_strokes.proofs.LineOfCells.{same_cell, next_row, behind_cell, step
 use Rattle.tw_surface.specs.declared.cell.CellAttributes.{CellAttributes}
 use Rattle.tw_screens.specs.StyledCells.{StyledCell}
 use Rattle.styled_screen.specs.declared.cell.ScreenCell.{ScreenCell}
-use Rattle.styled_screen.specs.StyledScreens.{StyledView, Shows, Draws, styled_cell, cell_at}
+use Rattle.styled_screen.specs.StyledScreens.{StyledView, Shows, Draws, styled_cell}
 
 -- ---- lists of cells
 

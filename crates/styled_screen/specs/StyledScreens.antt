@@ -4,7 +4,7 @@ use Rattle.tw_strokes.specs.Strokes.{PictureOf, Stroke, steps}
 use Rattle.tw_surface.specs.declared.cell.CellAttributes.{CellAttributes}
 use Rattle.tw_surface.specs.declared.color.ColorAttribute.{ColorAttribute}
 use Rattle.tw_surface.specs.ChangeView.{ChangeView}
-use Rattle.tw_surface.specs.ChangeView.{Attribute, AllAttributes, Text, ClearScreen, ClearToEndOfScreen, CursorPosition}
+use Rattle.tw_surface.specs.ChangeView.{Text, ClearToEndOfScreen, CursorPosition}
 use Rattle.tw_surface.specs.Defaults.{default_attributes, default_color}
 use Rattle.tw_surface.specs.Pictures.{blank}
 use Rattle.tw_screens.specs.Pens.{char_stroke}

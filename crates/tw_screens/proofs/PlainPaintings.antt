@@ -1,7 +1,7 @@
 -- What plain scenes paint, from what their strokes draw.
-use Rattle.std.proofs.Common.{◌≡◌, ℕ, pos, ◌+◌, ◌-◌, ◌/◌, ◌≤◌, ◌<◌, min, Bool, true, false, ◌||◌, Option, Some, None, List, [], ◌∷◌, ◌++◌, map, length, refl, sym, ap, subst, ◌∙◌, arith, ◌⊎◌, inl, inr, if◌then◌else◌}
-use Rattle.std.specs.List.{list_any, sum_by, All}
-use Rattle.tw_strokes.specs.Strokes.{PictureOf, steps_on, narrowest}
+use Rattle.std.proofs.Common.{◌≡◌, ℕ, pos, ◌+◌, ◌/◌, ◌≤◌, Bool, true, false, ◌||◌, Option, Some, None, List, [], ◌∷◌, ◌++◌, map, length, refl, sym, ap, subst, ◌∙◌, arith, ◌⊎◌, inl, inr, if◌then◌else◌}
+use Rattle.std.specs.List.{list_any, sum_by}
+use Rattle.tw_strokes.specs.Strokes.{steps_on, narrowest}
 use Rattle.tw_strokes.specs.Sheets as sheets
 use Rattle.tw_strokes.specs.Paintings as paintings
 use Rattle.tw_strokes.specs.Paintings.{AreShownOver, cols_of, top_row, last_painting}
@@ -12,10 +12,10 @@ use Rattle.tw_surface.specs.Paintings.{painting, Mark, mark_of, start_move, clos
 use Rattle.tw_surface.specs.PaintingBatches.{SizedScene, clear_batch, clearing, start_of, batches_after, shots, shown_batches, last_of, start_row, play_batches}
 use Rattle.tw_surface.specs.Pictures.{Picture, blank, play_all}
 use Rattle.tw_surface.specs.Scenes.{Scene, IsPlain}
-use Rattle.tw_surface.specs.Simple.{spelled_all, spelled_scene, IsSimpleWide}
+use Rattle.tw_surface.specs.Simple.{spelled_all}
 use Rattle.tw_screens.specs.Pens.{strokes_of}
 use Rattle.tw_screens.specs.SceneSheets.{sheet_of, painting_of}
-use Rattle.tw_screens.specs.Screens.{HasRoom, play_sized}
+use Rattle.tw_screens.specs.Screens.{play_sized}
 use Rattle.tw_screens.specs.SizedBatches.{SizedBatch, sized_at, sized_after, spelled_sized}
 use Rattle.tw_screens.specs.StyledCells.{characters}
 use Rattle.tw_screens.specs.CharacterScreens.{cells_of}

@@ -172,12 +172,12 @@ pub painting_same : (w : ℕ) (scene : Scene) → IsPlain scene → spelled_all 
 painting_same w scene plain =
     map-append spelled_change (shown_part w scene) (move ∷ [])
     ∙ ap (λ l. l ++ move ∷ []) (
-      map-append spelled_change head (edge ++ lower_changes scene.lower)
-      ∙ ap (λ l. l ++ spelled_all (edge ++ lower_changes scene.lower)) head_same
-      ∙ ap (λ l. head ++ l) (
-        map-append spelled_change edge (lower_changes scene.lower)
-        ∙ ap (λ l. l ++ spelled_all (lower_changes scene.lower)) (edge_same (eqb (place_after_all w head origin).x w))
-        ∙ ap (λ l. edge ++ l) (lower_same scene.lower plain.lower)))
+    map-append spelled_change head (edge ++ lower_changes scene.lower)
+    ∙ ap (λ l. l ++ spelled_all (edge ++ lower_changes scene.lower)) head_same
+    ∙ ap (λ l. head ++ l) (
+    map-append spelled_change edge (lower_changes scene.lower)
+    ∙ ap (λ l. l ++ spelled_all (lower_changes scene.lower)) (edge_same (eqb (place_after_all w head origin).x w))
+    ∙ ap (λ l. edge ++ l) (lower_same scene.lower plain.lower)))
   where
     head : Batch
     head = before_line scene.prompt ++ scene.line
@@ -191,7 +191,7 @@ painting_same w scene plain =
     head_same : spelled_all head ≡ head
     head_same =
         ap (λ l. ClearToEndOfScreen default_color ∷ AllAttributes default_attributes ∷ l) (
-          map-append spelled_change (scene.prompt ++ AllAttributes default_attributes ∷ []) scene.line
-          ∙ ap (λ l. l ++ spelled_all scene.line) (map-append spelled_change scene.prompt (AllAttributes default_attributes ∷ []))
-          ∙ ap (λ l. (l ++ AllAttributes default_attributes ∷ []) ++ spelled_all scene.line) (spelled_same scene.prompt plain.prompt)
-          ∙ ap (λ l. (scene.prompt ++ AllAttributes default_attributes ∷ []) ++ l) (spelled_same scene.line plain.line))
+        map-append spelled_change (scene.prompt ++ AllAttributes default_attributes ∷ []) scene.line
+        ∙ ap (λ l. l ++ spelled_all scene.line) (map-append spelled_change scene.prompt (AllAttributes default_attributes ∷ []))
+        ∙ ap (λ l. (l ++ AllAttributes default_attributes ∷ []) ++ spelled_all scene.line) (spelled_same scene.prompt plain.prompt)
+        ∙ ap (λ l. (scene.prompt ++ AllAttributes default_attributes ∷ []) ++ l) (spelled_same scene.line plain.line))

@@ -6,10 +6,10 @@ use Rattle.tw_screens.proofs.PlainPaintings.{ArePlain, Painted, painted_run, clo
 use Rattle.tw_screens.proofs.StationMarks.{closing_is}
 use Rattle.tw_surface.specs.ChangeView.{Batch}
 use Rattle.tw_surface.specs.Pictures.{Picture, play_all}
-use Rattle.tw_surface.specs.Scenes.{Scene, IsPlain}
+use Rattle.tw_surface.specs.Scenes.{Scene}
 use Rattle.tw_surface.specs.Paintings.{painting, mark_of, closing}
 use Rattle.tw_surface.specs.Fresh.{IsFresh, IsSameAbove, IsClosed, last_row}
-use Rattle.tw_surface.specs.PaintingBatches.{Shot, SizedScene, IsPlainAt, shot_of, scenes_of, shots, batches, closing_batch, shown_batches, closing_of, play_batches, last_of, start_row}
+use Rattle.tw_surface.specs.PaintingBatches.{Shot, SizedScene, IsPlainAt, shot_of, scenes_of, shots, batches, closing_batch, shown_batches, play_batches, last_of, start_row}
 
 -- stations that are plain and for w columns
 abbrev pub ArePlainAt : ℕ → List SizedScene → Type 0

@@ -11,9 +11,8 @@ use Rattle.tw_surface.specs.Scenes.{Scene}
 use Rattle.tw_surface.specs.Scenes.Lower.{NoLower, Preview, Search}
 use Rattle.tw_surface.specs.PaintingBatches.{shown_batches, play_batches}
 use Rattle.tw_surface.specs.Simple.{IsSimple, IsSimpleText, IsSimpleLower, IsSimpleWide, spelled_batches}
-use Rattle.tw_strokes.specs.Strokes.{PictureOf}
 use Rattle.tw_screens.specs.CharacterScreens.{cells_of}
-use Rattle.tw_screens.specs.Screens.{HasRoom, play_sized}
+use Rattle.tw_screens.specs.Screens.{play_sized}
 use Rattle.tw_screens.specs.SizedBatches.{sized_batches, spelled_sized}
 use Rattle.tw_screens.specs.StyledCells.{characters}
 use Rattle.tw_screens.proofs.DrawnStations.{shows_stations}

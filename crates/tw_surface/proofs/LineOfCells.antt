@@ -3,7 +3,7 @@ use Rattle.std.proofs.Common.{◌≡◌, ℕ, zero, suc, ◌+◌, ◌*◌, ◌<�
 use Rattle.std.proofs.lemmas.Bool.{cases_eq, cases_lt, eq-eqb, ne_eqb, eqb-true, eqb-false, and_left, and_right, cond-true, cond-false, le-leb, lt-leb, lt-ltb, le-ltb}
 use Rattle.std.proofs.lemmas.Nat.{same_from_place, rows}
 use Rattle.std.proofs.Math.Nat.{add-mul, one-mul}
-use Rattle.tw_surface.specs.Pictures.{Picture, blank, cells_with, cells_cleared_from, picture_with}
+use Rattle.tw_surface.specs.Pictures.{Picture, blank, cells_with, picture_with}
 
 -- ---- one line of cells
 

@@ -1,12 +1,10 @@
 -- What a text of printable characters leaves on a screen.
-use Rattle.std.proofs.Common.{◌≡◌, ℕ, suc, ◌+◌, ◌<◌, ◌≤◌, pos, ◌+ℤ◌, true, cond, leb, List, [], ◌∷◌, map, length, refl, arith, ◌⊎◌, inl, inr, add-zero}
+use Rattle.std.proofs.Common.{◌≡◌, ℕ, suc, ◌+◌, ◌<◌, ◌≤◌, true, List, [], ◌∷◌, length, refl, arith, ◌⊎◌, inl, inr, add-zero}
 use Rattle.std.specs.List.{list_all}
-use Rattle.std.proofs.lemmas.Bool.{cases_eq, eq-eqb, ne_eqb, leb-true, and_parts, le-leb, lt-leb}
-use Rattle.std.proofs.lemmas.Int.{ints}
+use Rattle.std.proofs.lemmas.Bool.{ne_eqb, leb-true, and_parts}
 use Rattle.tw_surface.proofs.LineOfCells.{point, over, Stands, picture_with-stands, picture_with-col}
 use Rattle.tw_surface.specs.Pictures.{Picture, picture_with, play_char, play_text}
-use Rattle.tw_surface.specs.Characters.{is_printable, is_plain}
-use Rattle.tw_surface.specs.Places.{plain_piece, pieces, Place, next_place, end_of_pieces}
+use Rattle.tw_surface.specs.Characters.{is_printable}
 
 -- ---- characters
 

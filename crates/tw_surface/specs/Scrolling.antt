@@ -1,5 +1,5 @@
 -- A screen of some rows, which scrolls where a character or a move leads below its last row.
-use Rattle.std.specs.Prelude.{ℕ, ◌≡◌, ◌+◌, ◌-◌, ◌<◌, ◌≤◌, min, max, if◌then◌else◌, List, [], ◌∷◌}
+use Rattle.std.specs.Prelude.{ℕ, ◌≡◌, ◌+◌, ◌-◌, ◌<◌, ◌≤◌, List, [], ◌∷◌}
 use Rattle.tw_surface.specs.ChangeView.{ChangeView, Batch}
 use Rattle.tw_surface.specs.ChangeView.{Attribute, AllAttributes, Text, ClearScreen, ClearToEndOfScreen, CursorPosition}
 use Rattle.tw_surface.specs.Pictures.{Picture, blank, play_char, play}

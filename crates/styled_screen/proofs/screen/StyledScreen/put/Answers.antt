@@ -1,4 +1,4 @@
-use Rattle.std.proofs.Common.{◌≡◌, ◌+◌, ◌*◌, ◌<◌, length, sym, ap, ◌∙◌, subst, arith}
+use Rattle.std.proofs.Common.{◌≡◌, ◌<◌, length, sym, ap, ◌∙◌, subst, arith}
 use Rattle.styled_screen.specs.StyledScreens.{Shows}
 use Rattle.styled_screen.proofs.DrawnCells.{put_shows}
 use Rattle.styled_screen.proofs.screen.StyledScreen.put.Goals as goal
