@@ -9,7 +9,7 @@ use std::alloc::Global;
 use std::env;
 use std::io::{Read, Write};
 use tables::tables;
-use tw_device::{AnsiTerminal, Answer, KeyReader, read_line_from};
+use tw_device::{AnsiTerminal, Answer, Escape, KeyReader, read_typed_line};
 use tw_hosts::TableHost;
 use tw_lineedit::{BoundedHistory, LineEditorHost};
 use tw_terminal::ScreenSize;
@@ -47,7 +47,7 @@ impl<R: Read, W: Write> Prompt<R, W> {
 
     /// Reads a line and obeys it. It answers false where there is to be no other.
     fn read_and_obey(&mut self) -> Result<bool, anyhow::Error> {
-        let answer = read_line_from(
+        let answer = read_typed_line(
             self.alloc,
             &mut self.keys,
             &mut self.terminal,
@@ -93,7 +93,7 @@ fn main(rt: HostRuntime) -> Result<(), anyhow::Error> {
     let rows = number_or(arguments.next(), 24)?;
     let mut prompt = Prompt {
         alloc,
-        keys: KeyReader::new(alloc, rt.stdin()),
+        keys: KeyReader::with_escape(alloc, rt.stdin(), Escape::Waits),
         terminal: AnsiTerminal::new(alloc, rt.stdout(), ScreenSize { rows, cols }),
         host: TableHost::new(
             tables(alloc)?,
