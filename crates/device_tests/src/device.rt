@@ -1,10 +1,11 @@
 //! Lines that are read at a device.
 
-use std::alloc::Global;
+use std::alloc::{AllocError, Global};
 use std::io;
 use std::io::Read;
 use tw_device::{
-    AnsiTerminal, Answer, EventLog, EventSource, KeyReader, SourceState, read_line_from,
+    AnsiTerminal, Answer, Escape, EventLog, EventSource, KeyReader, SourceState, read_line_from,
+    read_typed_line,
 };
 use tw_input::{InputEvent, KeyCode, KeyEvent, Modifiers};
 use tw_lineedit::{Error, NopLineEditorHost};
@@ -62,6 +63,7 @@ impl EventSource for Typed {
                 let event = event_of(*first);
                 self.characters = rest;
                 self.told = self.told.with_event(&event);
+                self.state = SourceState::Going;
                 Ok(Some(event))
             }
             None => {
@@ -174,4 +176,46 @@ fn a_pasted_text_is_the_same_in_pieces_of_any_size(rt: HostRuntime) {
         let answer = line_of(rt.alloc(), bytes, step);
         assert_eq!(rt; shown(&answer), ("line", "one [201 two!"));
     }
+}
+
+/// 400 arrows to the left, of three bytes each, and then a line.
+fn typed_ahead(alloc: Global) -> Result<Vec<u8>, AllocError> {
+    let mut typed = Vec::new(alloc);
+    for _ in 0..400 {
+        typed.extend_from_slice(b"\x1b[D")?;
+    }
+    typed.extend_from_slice(b"a\x02b\r")?;
+    Ok(typed)
+}
+
+#[test]
+fn an_escape_that_ends_a_full_read_waits(rt: HostRuntime) {
+    let alloc = rt.alloc();
+    let mut host = NopLineEditorHost::new(alloc);
+    let typed = typed_ahead(alloc);
+    assert!(rt; typed.is_ok());
+    if let Ok(typed) = typed {
+        let mut keys = KeyReader::new(alloc, typed.as_slice());
+        let answer = read_typed_line(alloc, &mut keys, &mut terminal(alloc), &mut host, "> ");
+        assert_eq!(rt; shown(&answer), ("line", "ba"));
+    }
+}
+
+/// Reads a line whose bytes come one by one, with this choice for an ESC alone.
+fn line_by_bytes(alloc: Global, escape: Escape) -> Result<Answer, Error> {
+    let mut host = NopLineEditorHost::new(alloc);
+    let reader = Pieces {
+        bytes: b"a b\x1bbc\r",
+        step: 1,
+    };
+    let mut keys = KeyReader::with_escape(alloc, reader, escape);
+    read_typed_line(alloc, &mut keys, &mut terminal(alloc), &mut host, "> ")
+}
+
+#[test]
+fn an_escape_alone_waits_where_its_owner_chose_so(rt: HostRuntime) {
+    let waits = line_by_bytes(rt.alloc(), Escape::Waits);
+    assert_eq!(rt; shown(&waits), ("line", "a cb"));
+    let at_once = line_by_bytes(rt.alloc(), Escape::AtOnce);
+    assert_eq!(rt; shown(&at_once), ("line", "a bbc"));
 }
