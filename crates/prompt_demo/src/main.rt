@@ -1,17 +1,25 @@
-//! A small command prompt at a terminal in raw mode; `prompt.sh` starts it. It keeps the last lines, completes and shows
-//! commands, and has a hint under a line that begins with a question mark. It ends at `quit`, and at the end of what is
-//! typed.
+//! A small command prompt at a terminal in raw mode; `prompt.sh` starts it. It keeps the last lines, completes and
+//! shows commands, and has a hint under a line that begins with a question mark. It ends at `quit`, at Ctrl-D on an
+//! empty line, and at the end of what is typed.
+//!
+//! `tables` has what the prompt knows, `host` the host over these, `typed` the bytes that are typed, and `events` what
+//! they are to the prompt.
 #![tactic(auto)]
 
+mod events;
+mod host;
 mod tables;
+mod typed;
 
+use events::{PromptEvents, usable};
+use host::PromptHost;
 use std::alloc::Global;
 use std::env;
 use std::io::{Read, Write};
+use std::time::Clock;
 use tables::tables;
-use tw_device::{AnsiTerminal, Answer, Escape, KeyReader, read_typed_line};
-use tw_hosts::TableHost;
-use tw_lineedit::{BoundedHistory, LineEditorHost};
+use tw_device::{AnsiTerminal, Answer, read_line_from};
+use tw_lineedit::{BoundedHistory, Error, LineEditorHost};
 use tw_terminal::ScreenSize;
 
 /// How many lines the history keeps.
@@ -25,15 +33,15 @@ const END: &str = "\x1b[?2004lbye\r\n";
 
 /// What is typed, what shows it, and the host between them.
 #[derive(Drop)]
-struct Prompt<R, W> {
+struct Prompt<R, C, W> {
     alloc: Global,
-    keys: KeyReader<R>,
+    events: PromptEvents<R, C>,
     terminal: AnsiTerminal<W>,
-    host: TableHost<BoundedHistory>,
+    host: PromptHost,
 }
 
-impl<R: Read, W: Write> Prompt<R, W> {
-    /// Reads lines up to `quit`, or up to the end of what is typed.
+impl<R: Read, C: Clock, W: Write> Prompt<R, C, W> {
+    /// Reads lines up to `quit`, or up to the end of the input.
     fn run(&mut self) -> Result<(), anyhow::Error> {
         self.terminal.send(BEGIN)?;
         for _ in 0..u64::MAX {
@@ -47,20 +55,21 @@ impl<R: Read, W: Write> Prompt<R, W> {
 
     /// Reads a line and obeys it. It answers false where there is to be no other.
     fn read_and_obey(&mut self) -> Result<bool, anyhow::Error> {
-        let answer = read_typed_line(
+        let answer = read_line_from(
             self.alloc,
-            &mut self.keys,
+            &mut self.events,
             &mut self.terminal,
             &mut self.host,
             "> ",
-        )?;
+        );
         match answer {
-            Answer::Line(line) => self.obey(line.as_str()),
-            Answer::Cancelled => {
+            Ok(Answer::Line(line)) => self.obey(line.as_str()),
+            Ok(Answer::Cancelled) => {
                 self.terminal.send("cancelled\r\n")?;
                 Ok(true)
             }
-            Answer::End(_) => Ok(false),
+            Ok(Answer::End(_)) | Err(Error::EndOfFile) => Ok(false),
+            Err(refused) => Err(refused.into()),
         }
     }
 
@@ -84,18 +93,19 @@ fn number_or(argument: Option<String>, other: usize) -> Result<usize, anyhow::Er
     }
 }
 
-/// The columns and the rows of the screen are the arguments, 80 and 24 where there are none.
+/// The columns and the rows of the screen are the arguments, 80 and 24 where there are none or they are 0.
 fn main(rt: HostRuntime) -> Result<(), anyhow::Error> {
     let alloc = rt.alloc();
     let mut arguments = env::args(&rt)?;
     let _name = arguments.next();
-    let cols = number_or(arguments.next(), 80)?;
-    let rows = number_or(arguments.next(), 24)?;
+    let cols = number_or(arguments.next(), 0)?;
+    let rows = number_or(arguments.next(), 0)?;
+    let size = usable(ScreenSize { rows, cols });
     let mut prompt = Prompt {
         alloc,
-        keys: KeyReader::with_escape(alloc, rt.stdin(), Escape::Waits),
-        terminal: AnsiTerminal::new(alloc, rt.stdout(), ScreenSize { rows, cols }),
-        host: TableHost::new(
+        events: PromptEvents::new(alloc, rt.stdin(), rt),
+        terminal: AnsiTerminal::new(alloc, rt.stdout(), size),
+        host: PromptHost::new(
             tables(alloc)?,
             BoundedHistory::with_limit(alloc, LINES_KEPT),
         ),
