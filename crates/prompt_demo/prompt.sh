@@ -36,10 +36,13 @@ exec 3<> /dev/tty
 # Ends the prompt, and sets the terminal back: its modes, the marks of pasted texts, the colours. Each step is tried
 # also where the one before fails, as all do where the terminal is gone.
 prompt=''
+ended=''
 finish() {
     status=$?
     trap '' HUP INT QUIT USR1 USR2 PIPE ALRM TERM WINCH
-    if [ -n "$prompt" ] && kill "$prompt" 2> /dev/null; then
+    # No other signal will do: one that comes before the program has begun can be lost in the shell's copy.
+    [ -n "$ended" ] || prompt=${!:-}
+    if [ -n "$prompt" ] && kill -KILL "$prompt" 2> /dev/null; then
         wait "$prompt" 2> /dev/null || :
         printf '\r\n' 2> /dev/null >&3 || :
     fi
@@ -79,4 +82,5 @@ done
 wait "$prompt" 2> /dev/null && last=0 || last=$?
 [ "$last" -eq 127 ] || status=$last
 prompt=''
+ended=1
 exit "$status"
