@@ -7,14 +7,14 @@ use Rattle.tw_surface.specs.Paintings.{Mark, painting, mark_of, closing}
 use Rattle.tw_surface.specs.PaintingBatches.{SizedScene, shot_of, batches, mark_after, closing_if, closing_batch}
 use Rattle.tw_surface.specs.Simple.{IsSimpleWide}
 use Rattle.tw_surface.proofs.BatchLemmas.{batches_after-append}
-use Rattle.tw_screens.specs.SizedBatches.{sized_after, sized_batches, spelled_sized}
+use Rattle.tw_screens.specs.SizedBatches.{sized_after, spelled_sized}
 use Rattle.tw_screens.proofs.SizedBatchLemmas.{sized_are, sized_batches_are}
 use Rattle.tw_screens.proofs.StationMarks.{closing_is}
 use Rattle.tw_surface.specs.ChangeView.{Batch}
 use Rattle.tw_strokes.specs.Sheets.{IsFresh, last_row, cursor_row}
 use Rattle.tw_strokes.specs.Paintings.{Painting, IsClosed, cols_of, top_row, seen_row}
 use Rattle.tw_strokes.proofs.PaintedLists.{top-le}
-use Rattle.tw_screen_runs.proofs.ClearedRunLemmas.{text_prompts, up_to-is, shown-is, played_since, first_since}
+use Rattle.tw_screen_runs.proofs.ClearedRunLemmas.{text_prompts, up_to-is, played_since, first_since}
 use Rattle.tw_screens.specs.SceneSheets.{painting_of}
 use Rattle.tw_screens.specs.Pens.{Pen}
 use Rattle.tw_screens.specs.Screens.{HasTextPrompt, HasRoom, blank_of, play_sized}

@@ -1,5 +1,5 @@
 -- Worked runs on a screen of characters that scrolls, on one that is cleared, and on one that is cut, by computation and by the clauses.
-use Rattle.std.proofs.Common.{◌≡◌, ℕ, zero, suc, ◌+◌, ◌≤◌, pos, List, [], ◌∷◌, ◌++◌, length, true, false, refl, sym, subst, None, Some, Option, Ok, Err, Result, eqb, if◌then◌else◌, arith}
+use Rattle.std.proofs.Common.{◌≡◌, ℕ, zero, suc, ◌+◌, ◌≤◌, pos, List, [], ◌∷◌, length, true, false, refl, sym, subst, None, Some, Option, Ok, Err, Result, eqb, if◌then◌else◌, arith}
 use Rattle.std.specs.List.{All}
 use Rattle.std.proofs.lemmas.List.Elements.{All-nil, All-cons}
 use Rattle.unicode_segmentation.proofs.Computing.{unicode_segmentation}
