@@ -30,7 +30,7 @@ fn styles() -> Styles {
     Styles { keyword, quote }
 }
 
-/// Escape cancels, once the next key shows that no other key begins with it, and Ctrl-U kills to the start of the line.
+/// Escape cancels, and Ctrl-U kills to the start of the line.
 fn keys(alloc: Global) -> Result<Vec<KeyBinding>, AllocError> {
     let escape = KeyEvent {
         key: KeyCode::Escape,

@@ -9,7 +9,7 @@ use Rattle.tw_strokes.proofs.LineOfCells.{same_cell, next_row, behind_cell, step
 use Rattle.tw_surface.specs.declared.cell.CellAttributes.{CellAttributes}
 use Rattle.tw_screens.specs.StyledCells.{StyledCell}
 use Rattle.styled_screen.specs.declared.cell.ScreenCell.{ScreenCell}
-use Rattle.styled_screen.specs.StyledScreens.{StyledView, Shows, Draws, styled_cell}
+use Rattle.styled_screen.specs.StyledScreens.{StyledView, ShowsStyled, AreDrawn, styled_cell}
 
 -- ---- lists of cells
 
@@ -42,8 +42,8 @@ take_at k cells i d rest h = elim (cases_lt i k) [
 pub put_shows : (width row col place new_row new_col : ℕ) (kept : CellAttributes) (cells : List ScreenCell) (rest x : ScreenCell) (s : PictureOf StyledCell)
     → 0 < width → col ≤ width → place ≡ row * width + col → place < length cells
     → new_row ≡ (if eqb col width then row + 1 else row) → new_col ≡ (if eqb col width then 0 else col)
-    → Shows (record { width = width; row = row; col = col; kept = kept; cells = cells; rest = rest }) s
-    → Shows (record { width = width; row = new_row; col = new_col + 1; kept = kept; cells = slice_set cells place x; rest = rest }) (put width (styled_cell x) s)
+    → ShowsStyled (record { width = width; row = row; col = col; kept = kept; cells = cells; rest = rest }) s
+    → ShowsStyled (record { width = width; row = new_row; col = new_col + 1; kept = kept; cells = slice_set cells place x; rest = rest }) (put width (styled_cell x) s)
 put_shows width row col place new_row new_col kept cells rest x s some most at inside is_row is_col h = rw (ap (λ i. eqb i width) h.col) (by_wrap (eqb col width) refl is_row is_col)
   where
     written : (i j : ℕ) → j < width → i * width + j ≡ place → (r c : ℕ) → c < width
@@ -57,7 +57,7 @@ put_shows width row col place new_row new_col kept cells rest x s some most at i
         by_place false = refl
 
     by_wrap : (b : Bool) → eqb col width ≡ b → new_row ≡ (if b then row + 1 else row) → new_col ≡ (if b then 0 else col)
-        → Shows (record { width = width; row = new_row; col = new_col + 1; kept = kept; cells = slice_set cells place x; rest = rest })
+        → ShowsStyled (record { width = width; row = new_row; col = new_col + 1; kept = kept; cells = slice_set cells place x; rest = rest })
         (if b then record { cell = put_in s.cell (s.row + 1) 0 (styled_cell x); row = s.row + 1; col = 1 }
         else record { cell = put_in s.cell s.row s.col (styled_cell x); row = s.row; col = s.col + 1 })
     by_wrap true e is_row is_col =
@@ -95,8 +95,8 @@ behind_cursor w r c i j most low = elim (cases_lt c w) [
 -- all is one cell from the cursor on
 pub clear_shows : (width row col place : ℕ) (kept : CellAttributes) (cells : List ScreenCell) (rest paper : ScreenCell) (s : PictureOf StyledCell)
     → col ≤ width → place ≡ row * width + col → place ≤ length cells
-    → Shows (record { width = width; row = row; col = col; kept = kept; cells = cells; rest = rest }) s
-    → Shows (record { width = width; row = row; col = col; kept = kept; cells = take place cells; rest = paper }) (record s { cell = cleared_in s.cell s.row s.col (styled_cell paper) })
+    → ShowsStyled (record { width = width; row = row; col = col; kept = kept; cells = cells; rest = rest }) s
+    → ShowsStyled (record { width = width; row = row; col = col; kept = kept; cells = take place cells; rest = paper }) (record s { cell = cleared_in s.cell s.row s.col (styled_cell paper) })
 clear_shows width row col place kept cells rest paper s most at inside h = record {
   cell = λ r c low. cleared r c low ∙ ap styled_cell (sym (take_at place cells (r * width + c) rest paper inside));
   row = h.row;
@@ -113,6 +113,6 @@ clear_shows width row col place kept cells rest paper s most at inside h = recor
 
 -- ---- strokes one after the other
 
-pub draws_more : (old mid new : StyledView) (a b : List (Stroke StyledCell)) → mid.width ≡ old.width → Draws old a mid → Draws mid b new → Draws old (a ++ b) new
+pub draws_more : (old mid new : StyledView) (a b : List (Stroke StyledCell)) → mid.width ≡ old.width → AreDrawn old a mid → AreDrawn mid b new → AreDrawn old (a ++ b) new
 draws_more old mid new a b same d e s h =
     rw (steps-append old.width a b s) (rw same at (e (steps old.width a s) (d s h)))

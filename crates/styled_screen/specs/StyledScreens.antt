@@ -40,18 +40,18 @@ pub record IsInReach (screen : StyledView) : Type 0 where
   pub col_most : screen.col ≤ screen.width
 
 -- the cell at a place of the line of all rows
-abbrev pub cell_at : StyledView → ℕ → StyledCell
-cell_at screen place = styled_cell (slice_index_or screen.cells place screen.rest)
+abbrev pub styled_at : StyledView → ℕ → StyledCell
+styled_at screen place = styled_cell (slice_index_or screen.cells place screen.rest)
 
 -- the screen shows a picture: its cells in each column that it has, and its cursor
-pub record Shows (screen : StyledView) (s : PictureOf StyledCell) : Type 0 where
-  pub cell : (r c : ℕ) → c < screen.width → s.cell r c ≡ cell_at screen (r * screen.width + c)
+pub record ShowsStyled (screen : StyledView) (s : PictureOf StyledCell) : Type 0 where
+  pub cell : (r c : ℕ) → c < screen.width → s.cell r c ≡ styled_at screen (r * screen.width + c)
   pub row : s.row ≡ screen.row
   pub col : s.col ≡ screen.col
 
 -- strokes lead from one screen to another: whatever picture the first one shows, the other shows what they draw on it
-abbrev pub Draws : StyledView → List (Stroke StyledCell) → StyledView → Type 0
-Draws old strokes new = (s : PictureOf StyledCell) → Shows old s → Shows new (steps old.width strokes s)
+abbrev pub AreDrawn : StyledView → List (Stroke StyledCell) → StyledView → Type 0
+AreDrawn old strokes new = (s : PictureOf StyledCell) → ShowsStyled old s → ShowsStyled new (steps old.width strokes s)
 
 -- of two screens only the cells and the cursor differ
 pub record IsSameBut (old new : StyledView) : Type 0 where
@@ -63,12 +63,12 @@ pub record WritesBeginning (text : List ℕ) (old new : StyledView) : Type 0 whe
   pub written : List ℕ
   pub left : List ℕ
   pub parts : chars text ≡ written ++ left
-  pub draws : Draws old (map (char_stroke styled old.kept) written) new
+  pub draws : AreDrawn old (map (char_stroke styled old.kept) written) new
 
 -- what a refused change leaves: of a text a beginning is written, and else the screen shows what it showed
 abbrev pub IsRefusedAt : ChangeView → StyledView → StyledView → Type 0
 IsRefusedAt (Text text) old new = WritesBeginning text old new
-IsRefusedAt (ClearToEndOfScreen color) old new = Draws old [] new
+IsRefusedAt (ClearToEndOfScreen color) old new = AreDrawn old [] new
 IsRefusedAt (CursorPosition x y) old new = new ≡ old
 IsRefusedAt _ old new = ⊥
 

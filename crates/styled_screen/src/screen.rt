@@ -7,7 +7,7 @@ ghost use Rattle.tw_surface.specs.Positions.{at_least_0, position_after};
 ghost use Rattle.tw_strokes.specs.Strokes.Stroke.{Clear, ClearBehind, Move, Put};
 ghost use Rattle.tw_screens.specs.Pens.{change_strokes, char_stroke, kept_after, led};
 ghost use Rattle.tw_screens.specs.StyledCells.{styled};
-ghost use Rattle.styled_screen.specs.StyledScreens.{Draws, IsRefusedAt, IsSameBut, IsSure, WritesBeginning, blank_styled, paper_cell, styled_cell};
+ghost use Rattle.styled_screen.specs.StyledScreens.{AreDrawn, IsRefusedAt, IsSameBut, IsSure, WritesBeginning, blank_styled, paper_cell, styled_cell};
 
 use crate::cell::{ScreenCell, with_change};
 use std::alloc::Global;
@@ -90,7 +90,7 @@ impl StyledScreen {
     /// there up to the character for which there was no room, and a clearing for which there is none is not played.
     pub fn apply(&mut self, change: &Change) -> Result<(), ScreenFault>
         ensures width { self.new.width ≡ self.old.width }
-        ensures played { OnOk result (Draws self.old (change_strokes styled self.old.kept (spelled_change (change_view change.now))) self.new) }
+        ensures played { OnOk result (AreDrawn self.old (change_strokes styled self.old.kept (spelled_change (change_view change.now))) self.new) }
         ensures kept { OnOk result (self.new.kept ≡ kept_after styled self.old.kept (change_view change.now)) }
         ensures refused { OnErr result (IsRefusedAt (change_view change.now) self.old self.new) }
         ensures sure { IsSure (change_view change.now) → result ≡ Ok tt }
@@ -137,7 +137,7 @@ impl StyledScreen {
     /// Adds cells up to a place, each as all others behind: nothing else is shown then.
     fn fill_to(&mut self, place: usize) -> Result<(), ScreenFault>
         ensures same { IsSameBut self.old self.new }
-        ensures shown { Draws self.old [] self.new }
+        ensures shown { AreDrawn self.old [] self.new }
         ensures cursor { (self.new.row ≡ self.old.row) × (self.new.col ≡ self.old.col) }
         ensures len { OnOk result (place ≤ length self.new.cells) }
         ensures err { OnErr result (result ≡ Err ScreenFault.Memory) }
@@ -151,8 +151,8 @@ impl StyledScreen {
     /// Puts a character where the cursor stands, from behind the last column to the first column of the next row.
     fn put(&mut self, character: char) -> Result<(), ScreenFault>
         ensures same { IsSameBut self.old self.new }
-        ensures shown { OnOk result (Draws self.old (Put (styled_cell record { character = character; attributes = self.old.kept }) ∷ []) self.new) }
-        ensures refused { OnErr result (Draws self.old [] self.new) }
+        ensures shown { OnOk result (AreDrawn self.old (Put (styled_cell record { character = character; attributes = self.old.kept }) ∷ []) self.new) }
+        ensures refused { OnErr result (AreDrawn self.old [] self.new) }
     {
         let place = self.place();
         let (row, col) = self.next_cell();
@@ -172,8 +172,8 @@ impl StyledScreen {
     /// Plays a character: CR and LF move the cursor, and any other one is put.
     fn play(&mut self, character: char) -> Result<(), ScreenFault>
         ensures same { IsSameBut self.old self.new }
-        ensures shown { OnOk result (Draws self.old (char_stroke styled self.old.kept character ∷ []) self.new) }
-        ensures refused { OnErr result (Draws self.old [] self.new) }
+        ensures shown { OnOk result (AreDrawn self.old (char_stroke styled self.old.kept character ∷ []) self.new) }
+        ensures refused { OnErr result (AreDrawn self.old [] self.new) }
     {
         match character {
             '\r' => self.col = 0,
@@ -191,7 +191,7 @@ impl StyledScreen {
     /// Plays the characters of a text.
     fn write(&mut self, text: &str) -> Result<(), ScreenFault>
         ensures same { IsSameBut self.old self.new }
-        ensures shown { OnOk result (Draws self.old (map (char_stroke styled self.old.kept) (chars text.now)) self.new) }
+        ensures shown { OnOk result (AreDrawn self.old (map (char_stroke styled self.old.kept) (chars text.now)) self.new) }
         ensures refused { OnErr result (WritesBeginning text.now self.old self.new) }
     {
         for character in text.chars() {
@@ -202,7 +202,7 @@ impl StyledScreen {
 
     fn clear(&mut self, color: ColorAttribute)
         ensures same { IsSameBut self.old self.new }
-        ensures shown { Draws self.old (Clear (styled_cell (paper_cell color)) ∷ []) self.new }
+        ensures shown { AreDrawn self.old (Clear (styled_cell (paper_cell color)) ∷ []) self.new }
     {
         self.cells.clear();
         self.rest = ScreenCell::blank(color);
@@ -212,8 +212,8 @@ impl StyledScreen {
 
     fn clear_to_end(&mut self, color: ColorAttribute) -> Result<(), ScreenFault>
         ensures same { IsSameBut self.old self.new }
-        ensures shown { OnOk result (Draws self.old (ClearBehind (styled_cell (paper_cell color)) ∷ []) self.new) }
-        ensures refused { OnErr result (Draws self.old [] self.new) }
+        ensures shown { OnOk result (AreDrawn self.old (ClearBehind (styled_cell (paper_cell color)) ∷ []) self.new) }
+        ensures refused { OnErr result (AreDrawn self.old [] self.new) }
     {
         let place = self.place();
         self.fill_to(place)?;
@@ -224,7 +224,7 @@ impl StyledScreen {
 
     fn move_cursor(&mut self, x: Position, y: Position) -> Result<(), ScreenFault>
         ensures same { IsSameBut self.old self.new }
-        ensures shown { OnOk result (Draws self.old (Move (led y) (led x) ∷ []) self.new) }
+        ensures shown { OnOk result (AreDrawn self.old (Move (led y) (led x) ∷ []) self.new) }
         ensures refused { OnErr result (self.new ≡ self.old) }
     {
         let row = led_to(y, self.row);

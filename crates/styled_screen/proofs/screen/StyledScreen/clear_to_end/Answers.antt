@@ -1,5 +1,5 @@
 use Rattle.std.proofs.Common.{◌≡◌, ◌≤◌, length, sym, ap, ◌∙◌, subst, arith}
-use Rattle.styled_screen.specs.StyledScreens.{Shows}
+use Rattle.styled_screen.specs.StyledScreens.{ShowsStyled}
 use Rattle.styled_screen.proofs.DrawnCells.{clear_shows}
 use Rattle.styled_screen.proofs.screen.StyledScreen.clear_to_end.Goals as goal
 
@@ -13,4 +13,4 @@ returns-clause-shown c s h =
     let inside : c.place-place.result ≤ length now.cells.items = omega (arith, filled.len, ap (λ v. length v.cells) c.self.view_is) in
     rw (c.truncate.ensures.items, c.blank-self-inside.ensures) (clear_shows now.width now.row now.col c.place-place.result now.kept now.cells.items now.rest _ s
     c.self.invariant.col_most (rw (row, col, width) at c.place-place.ensures.place) inside
-    (subst (λ v. Shows v s) (sym c.self.view_is) (filled.shown s h)))
+    (subst (λ v. ShowsStyled v s) (sym c.self.view_is) (filled.shown s h)))

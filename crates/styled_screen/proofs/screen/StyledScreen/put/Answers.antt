@@ -1,5 +1,5 @@
 use Rattle.std.proofs.Common.{◌≡◌, ◌<◌, length, sym, ap, ◌∙◌, subst, arith}
-use Rattle.styled_screen.specs.StyledScreens.{Shows}
+use Rattle.styled_screen.specs.StyledScreens.{ShowsStyled}
 use Rattle.styled_screen.proofs.DrawnCells.{put_shows}
 use Rattle.styled_screen.proofs.screen.StyledScreen.put.Goals as goal
 
@@ -15,4 +15,4 @@ returns-clause-shown c s h =
     rw (width, kept) (put_shows now.width now.row now.col c.place-place.result c.next_cell-row.result.0 c.next_cell-row.result.1 now.kept now.cells.items now.rest _ s
     c.self.invariant.width_above c.self.invariant.col_most (rw (row, col, width) at c.place-place.ensures.place) inside
     (rw (row, col, width) at c.next_cell-row.ensures.row) (rw (col, width) at c.next_cell-row.ensures.col)
-    (subst (λ v. Shows v s) (sym c.self.view_is) (filled.shown s h)))
+    (subst (λ v. ShowsStyled v s) (sym c.self.view_is) (filled.shown s h)))

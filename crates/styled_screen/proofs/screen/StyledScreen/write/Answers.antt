@@ -5,7 +5,7 @@ use Rattle.std.specs.Str.{chars}
 use Rattle.std.specs.Str.Iter.{chars_rest}
 use Rattle.tw_screens.specs.Pens.{char_stroke}
 use Rattle.tw_screens.specs.StyledCells.{styled}
-use Rattle.styled_screen.specs.StyledScreens.{Draws}
+use Rattle.styled_screen.specs.StyledScreens.{AreDrawn}
 use Rattle.styled_screen.proofs.DrawnCells.{draws_more}
 use Rattle.styled_screen.proofs.screen.StyledScreen.write.Goals as goal
 
@@ -25,7 +25,7 @@ loop-character-preserved c =
         inv.written.1 ∙ ap (λ l. done ++ l) (chars_past_char _ rest _ inv.utf8 split) ∙ sym (append_assoc done (c.in-Some.character ∷ []) (chars rest)),
         rw (map-append stroke done (c.in-Some.character ∷ []))
             (draws_more c.args.self.now c.loop-character.self c.play.new.self (map stroke done) (stroke c.in-Some.character ∷ []) inv.same.width inv.written.2
-            (subst (λ k. Draws c.loop-character.self (char_stroke styled k c.in-Some.character ∷ []) c.play.new.self) inv.same.kept c.in_ok-play.ensures.shown)),
+            (subst (λ k. AreDrawn c.loop-character.self (char_stroke styled k c.in-Some.character ∷ []) c.play.new.self) inv.same.kept c.in_ok-play.ensures.shown)),
       );
     }
 

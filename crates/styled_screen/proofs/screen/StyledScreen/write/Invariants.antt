@@ -4,7 +4,7 @@ use Rattle.std.specs.Str.{chars, IsUtf8}
 use Rattle.std.specs.Str.Iter.{chars_rest}
 use Rattle.tw_screens.specs.Pens.{char_stroke}
 use Rattle.tw_screens.specs.StyledCells.{styled}
-use Rattle.styled_screen.specs.StyledScreens.{Draws, IsSameBut}
+use Rattle.styled_screen.specs.StyledScreens.{AreDrawn, IsSameBut}
 use Rattle.styled_screen.proofs.screen.StyledScreen.write.Given as goal
 
 abbrev pub invariant-loop-character : goal.invariant-loop-character
@@ -13,5 +13,5 @@ invariant-loop-character l =
     record {
       utf8 : IsUtf8 rest;
       same : IsSameBut l.fn.self l.self;
-      written : (done : List ℕ) × (chars l.text ≡ done ++ chars rest) × Draws l.fn.self (map (char_stroke styled l.fn.self.kept) done) l.self;
+      written : (done : List ℕ) × (chars l.text ≡ done ++ chars rest) × AreDrawn l.fn.self (map (char_stroke styled l.fn.self.kept) done) l.self;
     }
