@@ -33,7 +33,7 @@ esac
 saved=$( (stty -g < /dev/tty) 2> /dev/null) || fail "no terminal: start it at one"
 exec 3<> /dev/tty
 
-# Ends the prompt, and sets the terminal back: its modes, the marks of pasted texts, the colours. Each step is tried
+# Ends the prompt, and sets the terminal back: its modes, the marks of pasted texts, the reports of its size, the colours. Each step is tried
 # also where the one before fails, as all do where the terminal is gone.
 prompt=''
 ended=''
@@ -46,7 +46,7 @@ finish() {
         wait "$prompt" 2> /dev/null || :
         printf '\r\n' 2> /dev/null >&3 || :
     fi
-    printf '\033[0m\033[?2004l' 2> /dev/null >&3 || :
+    printf '\033[0m\033[?2004l\033[?2048l' 2> /dev/null >&3 || :
     stty "$saved" 2> /dev/null <&3 || :
     exit "$status"
 }

@@ -110,6 +110,14 @@ fn other_tokens_are_found(rt: HostRuntime) {
     expect_token(&rt, b"\x1b[24;80R", Token::Size { cols: 80, rows: 24 }, 8);
     expect_token(
         &rt,
+        b"\x1b[48;24;80;384;640t",
+        Token::Size { cols: 80, rows: 24 },
+        19,
+    );
+    expect_token(&rt, b"\x1b[48;0;80t", Token::Unknown, 10);
+    expect_token(&rt, b"\x1b[8;24;80t", Token::Unknown, 10);
+    expect_token(
+        &rt,
         b"\x1b[200~a\x1b[201b\x1b[201~c",
         Token::Paste { from: 6, len: 7 },
         19,
@@ -121,7 +129,7 @@ fn other_tokens_are_found(rt: HostRuntime) {
 
 #[test]
 fn parts_wait_for_more(rt: HostRuntime) {
-    for bytes in [
+    for &bytes in &[
         b"\x1b[".as_slice(),
         b"\x1b[1;",
         b"\x1bO",
@@ -168,7 +176,7 @@ fn changes_are_sent(rt: HostRuntime) -> Result<(), Fail> {
     send(&mut encoder, clear, &mut out)?;
     assert_eq!(rt;
         out.as_str(),
-        "\x1b[22;1mabcd\n\n\r\x1b[3C\x1b[12A\r\x1b[J\x1b[H\x1b[48;5;3m\x1b[2J\x1b[49m"
+        "\x1b[22;1mabcd\n\n\r\x1b[3C\x1b[12A\r\x1b[K\x1b[C\x1b[J\r\x1b[H\x1b[48;5;3m\x1b[2J\x1b[49m"
     );
     Ok(())
 }

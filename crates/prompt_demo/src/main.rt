@@ -25,11 +25,11 @@ use tw_terminal::ScreenSize;
 /// How many lines the history keeps.
 const LINES_KEPT: usize = 100;
 
-/// What a terminal is sent at first: pasted texts are to be marked.
-const BEGIN: &str = "\x1b[?2004h";
+/// What a terminal is sent at first: it is to mark pasted texts, and to tell its size by itself where that changes.
+const BEGIN: &str = "\x1b[?2004h\x1b[?2048h";
 
 /// What a terminal is sent at the end.
-const END: &str = "\x1b[?2004lbye\r\n";
+const END: &str = "\x1b[?2004l\x1b[?2048lbye\r\n";
 
 /// What is typed, what shows it, and the host between them.
 #[derive(Drop)]

@@ -1,5 +1,5 @@
 -- A terminal that is sent a batch shows the picture on which it was played.
-use Rattle.std.proofs.Common.{◌≡◌, ◌≤◌, ◌<◌, ◌+◌, ◌-◌, ◌^◌, ℕ, Bool, true, false, ◌&&◌, ◌||◌, cond, eqb, ltb, leb, List, [], ◌∷◌, ◌++◌, codes, ap, subst, ◌∙◌, sym, refl, inl, inr, ◌⊎◌, arith}
+use Rattle.std.proofs.Common.{◌≡◌, ◌≤◌, ◌<◌, ◌+◌, ◌-◌, ◌^◌, ℕ, Bool, true, false, ◌&&◌, ◌||◌, not, cond, eqb, ltb, leb, min, List, [], ◌∷◌, ◌++◌, codes, ap, subst, ◌∙◌, sym, refl, inl, inr, ◌⊎◌, arith}
 use Rattle.std.specs.Bool.{⊤}
 use Rattle.std.specs.List.{flat_map}
 use Rattle.std.proofs.lemmas.Bool.{eq-eqb, ne_eqb, le-leb, lt-leb, le-ltb, lt-ltb, cases_eq, cases_lt}
@@ -12,13 +12,13 @@ use Rattle.tw_surface.specs.Pictures.{Picture, blank, cells_cleared_from, cursor
 use Rattle.tw_surface.specs.Scrolling.{IsWithin, play_on, play_all_on}
 use Rattle.tw_ansi.specs.declared.encode.Encoder.{Encoder}
 use Rattle.tw_ansi.specs.Encoding.{Sent, sent_change, sent_clear, sent_batch, at_column, parted_from_wait}
-use Rattle.tw_ansi.specs.Sequences.{sequence, set_attribute, set_attributes, set_unless_off, attributes_of, is_off, to_column, to_first_cell, clear_below, clear_all, clear_with, up_a_row}
-use Rattle.tw_ansi.specs.EcmaScreen.{EcmaScreen, receive_all, feed_line, return_to_start}
+use Rattle.tw_ansi.specs.Sequences.{sequence, set_attribute, set_attributes, set_unless_off, attributes_of, is_off, to_column, to_first_cell, clear_below, clear_rows, clear_all, clear_with, up_a_row}
+use Rattle.tw_ansi.specs.EcmaScreen.{EcmaScreen, receive_all, row_cleared, feed_line, return_to_start}
 use Rattle.tw_ansi.specs.EcmaScreen as terminal
-use Rattle.tw_ansi.specs.EcmaLaws.{at_rest, IsColor, IsAttribute}
+use Rattle.tw_ansi.specs.EcmaLaws.{at_rest, IsColor, IsAttribute, rows_cleared}
 use Rattle.tw_ansi.specs.EcmaTexts.{Shows}
 use Rattle.tw_ansi.specs.EcmaBatches.{FirstIsShown, ChangeIsShown, BatchIsShown}
-use Rattle.tw_ansi.proofs.EcmaSequences.{received, columns_are_reached, attribute_shows_nothing, clears_below, clears_all}
+use Rattle.tw_ansi.proofs.EcmaSequences.{received, columns_are_reached, attribute_shows_nothing, clears_below, clears_rows, clears_all}
 use Rattle.tw_ansi.proofs.EcmaTexts.{plain_text_is_shown}
 use Rattle.tw_ansi.proofs.EcmaMoves.{move_shown}
 
@@ -133,6 +133,36 @@ clear_inside h w e t s a inside =
       x = a.x;
     }
 
+-- a row that is cleared from column 0 on is cleared with the rows below it
+start_cleared : (n k j : ℕ) (x y : Bool) → cond (x || (y && leb k j)) blank (cond (y && leb 0 j) blank n) ≡ cond (x || (y && leb 0 j)) blank n
+start_cleared n k j true y = refl
+start_cleared n k j false false = refl
+start_cleared n k j false true = blank_or (leb k j) (cond (leb 0 j) blank n) all ∙ sym all
+  where
+    all : cond (leb 0 j) blank n ≡ blank
+    all = ap (λ x. cond x blank n) (le-leb 0 j (omega arith))
+
+-- clearing by rows clears what clearing from column 0 on does
+clear_at_start : (h w : ℕ) (e : Encoder) (t : EcmaScreen) (s : Picture) → 0 < w → s.col ≡ 0 → Shows h w e t s
+    → Shows h w e (record t { cell = rows_cleared w t; col = 0; waits = false; reading = terminal.Text }) (clear_from s)
+clear_at_start h w e t s some start a =
+    let col : t.col ≡ s.col = omega (arith, a.col, start) in
+    record {
+      within = cleared_within h s a.within;
+      edge = a.edge;
+      cells = λ r c low left.
+          ap (λ x. cells_cleared_from (row_cleared t.cell t.row x) t.row (min (w - 1) (t.col + 1)) r c) (col ∙ start)
+          ∙ start_cleared (t.cell r c) (min (w - 1) (t.col + 1)) c (ltb t.row r) (eqb t.row r)
+          ∙ cleared_same t.row s.row 0 s.col r c t.cell s.cell a.row (sym start) (a.cells r c low left);
+      row = a.row;
+      col = omega (arith, start);
+      waits = ap (λ x. x && not e.parted) (sym (ne_eqb s.col w (λ q. omega (arith, q, start, some))));
+      parted = a.parted;
+      reading = refl;
+      cols = a.cols;
+      x = a.x;
+    }
+
 or_none : (x y : Bool) → (x || (y && false)) ≡ x
 or_none true y = refl
 or_none false true = refl
@@ -194,20 +224,39 @@ edge_shown h w e t s some edge a = record {
     at_edge true = refl
     at_edge false = refl
 
+-- clearing from a column of the screen on, by what is sent there
+clear_within : (h w : ℕ) (color : ColorAttribute) (e : Encoder) (t : EcmaScreen) (s : Picture) → 0 < w → IsColor color → IsColor e.attributes.background
+    → Shows h w e t s → s.col < w → (e.x ≡ 0) ⊎ (e.x ≡ 0 → ⊥)
+    → (let set : ColorAttribute = e.attributes.background in
+    let sent : Sent = cond (eqb e.x 0) (record { bytes = clear_with clear_rows color set; next = e }) (record { bytes = clear_with clear_below color set; next = e }) in
+    Shows h w sent.next (receive_all h w sent.bytes t) (clear_from s))
+clear_within h w color e t s some p q a inside (inl start) =
+    let set : ColorAttribute = e.attributes.background in
+    let does = ap (receive_all h w (clear_with clear_rows color set)) (rested t a.reading) ∙ clears_rows h w color set t p q in
+    let sent : Bool → Sent = λ x. cond x (record { bytes = clear_with clear_rows color set; next = e }) (record { bytes = clear_with clear_below color set; next = e }) in
+    subst (λ x. Shows h w (sent x).next (receive_all h w (sent x).bytes t) (clear_from s)) (sym (eq-eqb e.x 0 start))
+    (subst (λ u. Shows h w e u (clear_from s)) (sym does) (clear_at_start h w e t s some (sym a.x ∙ start) a))
+clear_within h w color e t s some p q a inside (inr later) =
+    let set : ColorAttribute = e.attributes.background in
+    let does = ap (receive_all h w (clear_with clear_below color set)) (rested t a.reading) ∙ clears_below h w color set t p q in
+    let sent : Bool → Sent = λ x. cond x (record { bytes = clear_with clear_rows color set; next = e }) (record { bytes = clear_with clear_below color set; next = e }) in
+    subst (λ x. Shows h w (sent x).next (receive_all h w (sent x).bytes t) (clear_from s)) (sym (ne_eqb e.x 0 later))
+    (subst (λ u. Shows h w e u (clear_from s)) (sym does) (clear_inside h w e t s a inside))
+
 clear_cases : (h w : ℕ) (color : ColorAttribute) (e : Encoder) (t : EcmaScreen) (s : Picture) → 0 < w → w < 2 ^ 64
     → IsColor color → IsColor e.attributes.background → (s.col ≡ w → s.row + 1 < h) → Shows h w e t s → (s.col < w) ⊎ (w ≤ s.col)
     → Shows h w (sent_clear color e).next (receive_all h w (sent_clear color e).bytes t) (clear_from s)
 clear_cases h w color e t s some small p q low a (inl inside) =
-    let clear : List ℕ = clear_with clear_below color e.attributes.background in
-    let here : Sent = record { bytes = clear; next = e } in
-    let below : Sent = record { bytes = (13 ∷ 10 ∷ clear) ++ up_a_row ++ to_column (e.cols - 1); next = parted_from_wait e } in
-    let is : sent_clear color e ≡ here = ap (λ x. cond x below here) (lt-leb e.cols e.x (omega (arith, a.cols, a.x, inside))) in
-    let does = ap (receive_all h w clear) (rested t a.reading) ∙ clears_below h w color e.attributes.background t p q in
-    subst (λ x. Shows h w x.next (receive_all h w x.bytes t) (clear_from s)) (sym is)
-    (subst (λ u. Shows h w e u (clear_from s)) (sym does) (clear_inside h w e t s a inside))
+    let set : ColorAttribute = e.attributes.background in
+    let clear : List ℕ = clear_with clear_below color set in
+    let within : Sent = cond (eqb e.x 0) (record { bytes = clear_with clear_rows color set; next = e }) (record { bytes = clear; next = e }) in
+    let behind : Sent = record { bytes = (13 ∷ 10 ∷ clear) ++ up_a_row ++ to_column (e.cols - 1); next = parted_from_wait e } in
+    let is : sent_clear color e ≡ within = ap (λ x. cond x behind within) (lt-leb e.cols e.x (omega (arith, a.cols, a.x, inside))) in
+    subst (λ x. Shows h w x.next (receive_all h w x.bytes t) (clear_from s)) (sym is) (clear_within h w color e t s some p q a inside (cases_eq e.x 0))
 clear_cases h w color e t s some small p q low a (inr past) =
-    let clear : List ℕ = clear_with clear_below color e.attributes.background in
-    let here : Sent = record { bytes = clear; next = e } in
+    let set : ColorAttribute = e.attributes.background in
+    let clear : List ℕ = clear_with clear_below color set in
+    let here : Sent = cond (eqb e.x 0) (record { bytes = clear_with clear_rows color set; next = e }) (record { bytes = clear; next = e }) in
     let below : Sent = record { bytes = (13 ∷ 10 ∷ clear) ++ up_a_row ++ to_column (e.cols - 1); next = parted_from_wait e } in
     let is : sent_clear color e ≡ below = ap (λ x. cond x below here) (le-leb e.cols e.x (omega (arith, a.cols, a.x, past))) in
     let edge : s.col ≡ w = omega (arith, a.edge, past) in

@@ -10,10 +10,10 @@ use Rattle.tw_surface.specs.declared.cell.Blink.TheVariants as blink
 use Rattle.tw_surface.specs.declared.color.ColorAttribute.{ColorAttribute}
 use Rattle.tw_surface.specs.declared.color.ColorAttribute.TheVariants.{Default, PaletteIndex, TrueColorWithDefaultFallback}
 use Rattle.tw_surface.specs.Pictures.{no_cells, cells_cleared_from}
-use Rattle.tw_ansi.specs.Sequences.{sequence, to_column, set_attribute, clear_below, clear_all, clear_with, is_same_color, most_rows}
+use Rattle.tw_ansi.specs.Sequences.{sequence, to_column, set_attribute, clear_below, clear_rows, clear_all, clear_with, is_same_color, most_rows}
 use Rattle.tw_ansi.specs.EcmaScreen.{EcmaScreen, receive, receive_all, is_digit, is_parameter, steps, act}
 use Rattle.tw_ansi.specs.EcmaScreen as terminal
-use Rattle.tw_ansi.specs.EcmaLaws.{at_rest, IsColor, AttributeShowsNothing, ColumnsAreReached, RowsAboveAreReached, ClearsBelow, ClearsAll}
+use Rattle.tw_ansi.specs.EcmaLaws.{at_rest, IsColor, AttributeShowsNothing, ColumnsAreReached, RowsAboveAreReached, ClearsBelow, ClearsRows, rows_cleared, ClearsAll}
 
 -- bytes that come in two parts
 pub received : (h w : ℕ) (xs ys : List ℕ) (t : EcmaScreen) → receive_all h w (xs ++ ys) t ≡ receive_all h w ys (receive_all h w xs t)
@@ -145,6 +145,10 @@ cleared_with h w clear color set f p q does t =
 
 pub clears_below : ClearsBelow
 clears_below h w color set t p q = cleared_with h w clear_below color set (λ u. record u { cell = cells_cleared_from u.cell u.row u.col }) p q (λ u. refl) t
+
+pub clears_rows : ClearsRows
+clears_rows h w color set t p q =
+    cleared_with h w clear_rows color set (λ u. record u { cell = rows_cleared w u; col = 0; waits = false }) p q (λ u. refl) t
 
 pub clears_all : ClearsAll
 clears_all h w color set t p q =

@@ -6,40 +6,40 @@ use Rattle.std.proofs.lemmas.Bool.{ne_eqb, lt-ltb, le-ltb}
 use Rattle.tw_input.specs.declared.key.KeyCode.{KeyCode}
 use Rattle.tw_input.specs.declared.key.KeyCode.TheVariants.{Char, Escape, Insert, Delete, Home, End, PageUp, PageDown, LeftArrow, RightArrow, UpArrow, DownArrow, Function}
 use Rattle.tw_input.specs.Modifiers.{none, ctrl}
-use Rattle.tw_ansi.specs.KeyBytes.{token_at, escape_at, control_at, character_at, behind_escape, key_or, with_control, typed_at, replacement, wide_character, following_len, application_at, scanned_as, key_token, key_in, control_characters}
+use Rattle.tw_ansi.specs.KeyBytes.{token_at, escape_at, control_at, character_at, behind_escape, key_or, with_control, typed_at, replacement, wide_character, following_len, application_at, scanned_as, key_token, key_in, control_characters, parameters_token}
 use Rattle.tw_ansi.specs.Sequences.{sequence}
 use Rattle.tw_ansi.specs.KeyLaws.{IsTyped, PrintableKeys, EscapeKey, EscapePair, AltKeys, ControlKeys, ControlLetters, ApplicationKeys, LetterKeys, HeldLetterKeys, NumberKeys, HeldNumberKeys, BackTab}
 
 pub escape_key : EscapeKey
-unfolding token_at
+unfolding token_at parameters_token
 escape_key l = refl
 
 pub escape_pair : EscapePair
-unfolding token_at
+unfolding token_at parameters_token
 escape_pair l rest = refl
 
 pub back_tab : BackTab
-unfolding token_at
+unfolding token_at parameters_token
 back_tab l rest = refl
 
 pub control_keys : ControlKeys
-unfolding token_at
+unfolding token_at parameters_token
 control_keys = (λ n l r. refl, (λ n l r. refl, (λ n l r. refl, (λ n l r. refl, (λ n. absurd (n refl), (λ n l r. refl, tt))))))
 
 pub application_keys_typed : ApplicationKeys
-unfolding token_at
+unfolding token_at parameters_token
 application_keys_typed = (λ l r. refl, (λ l r. refl, (λ l r. refl, (λ l r. refl, (λ l r. refl, (λ l r. refl, (λ l r. refl, (λ l r. refl, (λ l r. refl, (λ l r. refl, (λ l r. refl, tt)))))))))))
 
 pub letter_keys_typed : LetterKeys
-unfolding token_at
+unfolding token_at parameters_token
 letter_keys_typed = (λ l r. refl, (λ l r. refl, (λ l r. refl, (λ l r. refl, (λ l r. refl, (λ l r. refl, (λ l r. refl, (λ l r. refl, (λ l r. refl, (λ l r. refl, tt))))))))))
 
 pub number_keys_typed : NumberKeys
-unfolding token_at digits
+unfolding token_at digits parameters_token
 number_keys_typed = (λ l r. refl, (λ l r. refl, (λ l r. refl, (λ l r. refl, (λ l r. refl, (λ l r. refl, (λ l r. refl, (λ l r. refl, (λ l r. refl, (λ l r. refl, (λ l r. refl, (λ l r. refl, (λ l r. refl, (λ l r. refl, (λ l r. refl, (λ l r. refl, (λ l r. refl, (λ l r. refl, (λ l r. refl, (λ l r. refl, tt))))))))))))))))))))
 
 pub alt_keys : AltKeys
-unfolding token_at
+unfolding token_at parameters_token
 alt_keys l b rest e n o =
     ap (λ t. cond t (scanned_as (key_token Escape none) 1) (cond (eqb b 91) (control_at l rest) (cond (eqb b 79) (application_at l rest) (behind_escape (character_at l b rest))))) (ne_eqb b 27 e)
     ∙ ap (λ t. cond t (control_at l rest) (cond (eqb b 79) (application_at l rest) (behind_escape (character_at l b rest)))) (ne_eqb b 91 n)
@@ -55,7 +55,7 @@ no_row b low high =
     none_of control_characters b ((λ e. omega arith), ((λ e. omega arith), ((λ e. omega arith), ((λ e. omega arith), ((λ e. omega arith), ((λ e. omega arith), tt))))))
 
 pub printable_keys : PrintableKeys
-unfolding token_at
+unfolding token_at parameters_token
 printable_keys b low high l rest =
     ap (λ t. cond t (escape_at l rest) (character_at l b rest)) (ne_eqb b 27 (λ e. omega arith))
     ∙ ap (λ o. key_or o (cond (ltb b 32) (with_control b) (typed_at l b rest))) (no_row b low high)
@@ -63,7 +63,7 @@ printable_keys b low high l rest =
     ∙ ap (λ t. cond t (scanned_as (key_token (Char b) none) 1) (cond (ltb b 194 || leb 245 b) replacement (wide_character l b (take (following_len b) rest)))) (lt-ltb b 127 high)
 
 pub control_letters : ControlLetters
-unfolding token_at
+unfolding token_at parameters_token
 control_letters b low high none_in l rest =
     ap (λ t. cond t (escape_at l rest) (character_at l b rest)) (ne_eqb b 27 (λ e. not_escape e))
     ∙ ap (λ o. key_or o (cond (ltb b 32) (with_control b) (typed_at l b rest))) none_in
@@ -102,7 +102,7 @@ abbrev HeldNumber : ℕ → KeyCode → ℕ → Type 0
 HeldNumber number key sum = IsTyped (sequence (decimal number ++ 59 ∷ decimal (sum + 1)) (126 ∷ [])) key (sum * 2)
 
 pub held_letter_keys : HeldLetterKeys
-unfolding token_at digits
+unfolding token_at digits parameters_token
 held_letter_keys = (
   below_16 (HeldLetter 65 UpArrow) (λ l r. refl) (λ l r. refl) (λ l r. refl) (λ l r. refl) (λ l r. refl) (λ l r. refl) (λ l r. refl) (λ l r. refl) (λ l r. refl) (λ l r. refl) (λ l r. refl) (λ l r. refl) (λ l r. refl) (λ l r. refl) (λ l r. refl) (λ l r. refl),
   (
@@ -133,7 +133,7 @@ held_letter_keys = (
 )
 
 pub held_number_keys : HeldNumberKeys
-unfolding token_at digits
+unfolding token_at digits parameters_token
 held_number_keys = (
   below_16 (HeldNumber 1 Home) (λ l r. refl) (λ l r. refl) (λ l r. refl) (λ l r. refl) (λ l r. refl) (λ l r. refl) (λ l r. refl) (λ l r. refl) (λ l r. refl) (λ l r. refl) (λ l r. refl) (λ l r. refl) (λ l r. refl) (λ l r. refl) (λ l r. refl) (λ l r. refl),
   (

@@ -9,7 +9,7 @@ use Rattle.tw_input.specs.declared.key.KeyCode.TheVariants.{Char, Escape}
 use Rattle.tw_input.specs.Modifiers.{none}
 use Rattle.tw_ansi.specs.declared.token.Token.TheVariants.{Unknown}
 use Rattle.tw_ansi.specs.declared.token.Scanned.{Scanned}
-use Rattle.tw_ansi.specs.KeyBytes.{token_at, escape_at, control_at, ended_at, sequence_at, paste_at, paste_of, paste_len, application_at, behind_escape, character_at, control_characters, key_in, key_or, typed_at, wide_character, whole_character, following_len, is_continuation, replacement, scanned_as, key_token, with_control, is_letter, is_parameter, is_numeric, numbers_token, first_number, second_number}
+use Rattle.tw_ansi.specs.KeyBytes.{token_at, escape_at, control_at, ended_at, sequence_at, paste_at, paste_of, paste_len, application_at, behind_escape, character_at, control_characters, key_in, key_or, typed_at, wide_character, whole_character, following_len, is_continuation, replacement, scanned_as, key_token, with_control, is_letter, is_parameter, is_numeric, parameters_token, first_number, second_number}
 use Rattle.tw_ansi.proofs.Pastes.{paste_more}
 
 -- where the first finds a token the second finds the same
@@ -97,7 +97,7 @@ paste_of_more l from left longer None p h = waits _
 sequence_more : (l : Bool) (parameters : List ℕ) (letter : ℕ) (bytes more : List ℕ) → Stays (sequence_at false parameters letter bytes) (sequence_at l parameters letter (bytes ++ more))
 sequence_more l parameters letter bytes more =
     let used : ℕ = 3 + length parameters in
-    let token : Option Scanned = scanned_as (numbers_token (first_number parameters) (second_number parameters) letter) used in
+    let token : Option Scanned = scanned_as (parameters_token parameters letter) used in
     let pasted : Stays (paste_at false used bytes) (paste_at l used (bytes ++ more)) =
     paste_of_more l used (length bytes) (length (bytes ++ more)) (paste_len bytes) (paste_len (bytes ++ more)) (paste_more bytes more) in
     both (not (list_all is_numeric parameters)) (scanned_as Unknown used) _ (scanned_as Unknown used) _ (same _)

@@ -8,8 +8,8 @@ use Rattle.std.proofs.lemmas.Fmt.{decimal_by_steps}
 use Rattle.std.proofs.lemmas.List.Folds.{list_all-append}
 use Rattle.tw_ansi.specs.declared.token.Token.TheVariants.{Size, Paste, Unknown}
 use Rattle.tw_ansi.specs.declared.token.Scanned.{Scanned}
-use Rattle.tw_ansi.specs.KeyBytes.{token_at, control_at, ended_at, paste_of, paste_len, paste_end, numbers_token, first_number, second_number, number_of, value_after, most, is_parameter, is_numeric, is_semicolon, scanned_as}
-use Rattle.tw_ansi.specs.KeyLaws.{CursorReports, PastedTexts}
+use Rattle.tw_ansi.specs.KeyBytes.{token_at, control_at, ended_at, paste_of, paste_len, paste_end, numbers_token, parameters_token, size_token, first_number, second_number, number_of, value_after, most, is_parameter, is_numeric, is_semicolon, scanned_as}
+use Rattle.tw_ansi.specs.KeyLaws.{CursorReports, SizeReports, PastedTexts}
 
 -- the digits of a number
 
@@ -101,11 +101,11 @@ alone_is col small =
     whole_take [] = refl
     whole_take (x ∷ xs) = ap (λ ys. x ∷ ys) (whole_take xs)
 
-second_is : (row col : ℕ) → row < 2 ^ 64 → col < 2 ^ 64 → second_number (decimal row ++ 59 ∷ decimal col) ≡ min col most
-second_is row col small fits =
-    ap (λ n. first_number (drop (n + 1) (decimal row ++ 59 ∷ decimal col))) (semicolon_at row (decimal col) small)
-    ∙ ap first_number (behind (decimal row) (decimal col))
-    ∙ alone_is col fits
+-- and what stands behind it
+second_of : (row : ℕ) (back : List ℕ) → row < 2 ^ 64 → second_number (decimal row ++ 59 ∷ back) ≡ first_number back
+second_of row back small =
+    ap (λ n. first_number (drop (n + 1) (decimal row ++ 59 ∷ back))) (semicolon_at row back small)
+    ∙ ap first_number (behind (decimal row) back)
   where
     later : (n : ℕ) → suc n + 1 ≡ suc (n + 1)
     later n = omega arith
@@ -113,6 +113,9 @@ second_is row col small fits =
     behind : (xs ys : List ℕ) → drop (length xs + 1) (xs ++ 59 ∷ ys) ≡ ys
     behind [] ys = refl
     behind (x ∷ xs) ys = ap (λ n. drop n (x ∷ (xs ++ 59 ∷ ys))) (later (length xs)) ∙ behind xs ys
+
+second_is : (row col : ℕ) → row < 2 ^ 64 → col < 2 ^ 64 → second_number (decimal row ++ 59 ∷ decimal col) ≡ min col most
+second_is row col small fits = second_of row (decimal col) small ∙ alone_is col fits
 
 -- the numbers of a report
 numbers_are : (row col : ℕ) → row < 2 ^ 64 → col < 2 ^ 64 → list_all is_numeric (decimal row ++ 59 ∷ decimal col) ≡ true
@@ -124,7 +127,7 @@ is_size : (row col : ℕ) → 1 < row → 0 < col → numbers_token row col 82 �
 is_size row col more some = ap (λ t. cond t (Size col row) (numbers_token 0 col 82)) (and_from _ _ (lt-ltb 1 row more) (lt-ltb 0 col some))
 
 pub cursor_reports : CursorReports
-unfolding token_at
+unfolding token_at parameters_token
 cursor_reports row col more small some fits l rest =
     let parameters = decimal row ++ 59 ∷ decimal col in
     let numeric = numbers_are row col small fits in
@@ -136,6 +139,33 @@ cursor_reports row col more small some fits l rest =
     ∙ ap (λ n. token (min row most) n) (second_is row col small fits)
     ∙ ap (λ t. scanned_as t (3 + length parameters)) (is_size (min row most) (min col most) (omega arith) (omega arith))
     ∙ ap (λ n. scanned_as (Size (min col most) (min row most)) n) (omega (arith, length-append parameters (82 ∷ [])))
+
+-- sizes
+
+-- the digits of a number, and more behind a semicolon
+numeric_behind : (n : ℕ) (more : List ℕ) → n < 2 ^ 64 → list_all is_numeric more ≡ true → list_all is_numeric (decimal n ++ 59 ∷ more) ≡ true
+numeric_behind n more small all = list_all-append is_numeric (decimal n) (59 ∷ more) ∙ and_from _ _ (passes is_digit is_numeric numeric_if (decimal n) (digits_are n small)) all
+
+is_told : (rows cols : ℕ) → 0 < rows → 0 < cols → size_token rows cols ≡ Size cols rows
+is_told rows cols some wide = ap (λ t. cond t (Size cols rows) Unknown) (and_from _ _ (lt-ltb 0 rows some) (lt-ltb 0 cols wide))
+
+pub size_reports : SizeReports
+unfolding token_at parameters_token
+size_reports rows cols more some small wide fits all l rest =
+    let behind : List ℕ = decimal cols ++ 59 ∷ more in
+    let numbers : List ℕ = decimal rows ++ 59 ∷ behind in
+    let parameters : List ℕ = 52 ∷ 56 ∷ 59 ∷ numbers in
+    let numeric : list_all is_numeric parameters ≡ true = numeric_behind rows behind small (numeric_behind cols more fits all) in
+    let first : first_number parameters ≡ 48 = refl in
+    let told : ℕ → ℕ → Option Scanned = λ second third. scanned_as (size_token second third) (3 + length parameters) in
+    ap (λ xs. control_at l xs) (append_assoc parameters (116 ∷ []) rest)
+    ∙ parameters_end l parameters 116 rest (passes is_numeric is_parameter parameter_if parameters numeric) refl
+    ∙ ap (λ t. cond (not t) (scanned_as Unknown (3 + length parameters)) (scanned_as (parameters_token parameters 116) (3 + length parameters))) numeric
+    ∙ ap (λ n. scanned_as (cond (eqb n 48) (size_token (first_number numbers) (second_number numbers)) (numbers_token n (first_number numbers) 116)) (3 + length parameters)) first
+    ∙ ap (λ n. told n (second_number numbers)) (first_is rows behind small)
+    ∙ ap (λ n. told (min rows most) n) (second_of rows behind small ∙ first_is cols more fits)
+    ∙ ap (λ t. scanned_as t (3 + length parameters)) (is_told (min rows most) (min cols most) (omega arith) (omega arith))
+    ∙ ap (λ n. scanned_as (Size (min cols most) (min rows most)) n) (omega (arith, length-append parameters (116 ∷ [])))
 
 -- pasted texts
 
@@ -170,7 +200,7 @@ first_end (b ∷ text) rest none_in =
     ∙ ap (λ (n : ℕ). Some n) (omega arith)
 
 pub pasted_texts : PastedTexts
-unfolding token_at
+unfolding token_at parameters_token
 pasted_texts text none_in l rest =
     ap (λ o. paste_of l 6 (length (text ++ paste_end ++ rest)) o) (first_end text rest none_in)
     ∙ ap (λ n. scanned_as (Paste 6 (length text)) n) (omega (arith, length-append text paste_end))

@@ -9,7 +9,7 @@ use Rattle.std.proofs.lemmas.List.{drop-drop, drop-append-le, take-append-le, ap
 use Rattle.tw_ansi.specs.declared.token.Scanned.{Scanned}
 use Rattle.tw_ansi.specs.declared.resume.Progress.{Progress}
 use Rattle.tw_ansi.specs.declared.resume.Progress.TheVariants.{Start, Parameters, Paste}
-use Rattle.tw_ansi.specs.KeyBytes.{token_at, ended_at, sequence_at, paste_at, paste_of, paste_len, paste_end, is_parameter, is_letter, is_numeric, first_number, second_number, numbers_token, scanned_as}
+use Rattle.tw_ansi.specs.KeyBytes.{token_at, ended_at, sequence_at, paste_at, paste_of, paste_len, paste_end, is_parameter, is_letter, is_numeric, first_number, second_number, parameters_token, scanned_as}
 use Rattle.tw_ansi.specs.declared.token.Token.TheVariants.{Unknown}
 use Rattle.tw_ansi.specs.Resuming.{Fits, token_resumed, parameters_on, paste_on, searched_to, behind_parameters, sequence_start, behind_start, read_on}
 use Rattle.tw_ansi.proofs.Pastes.{starts_long, starts_more}
@@ -127,7 +127,7 @@ ended_begins l m parameters (b ∷ text) more some none =
     let unended = no_end l used (length text) (paste_len text) marked.1 in
     let xs = text ++ more in
     let count : length text ≡ length (b ∷ text) - 1 = omega arith in
-    let token = numbers_token (first_number parameters) (second_number parameters) b in
+    let token = parameters_token parameters b in
     ap (λ t. cond t (sequence_at m parameters b xs) (scanned_as Unknown (2 + length parameters))) letter.0
     ∙ ap (λ t. cond t (scanned_as Unknown used) (cond (eqb b 126 && eqb (first_number parameters) 200) (paste_at m used xs) (scanned_as token used))) numeric.0
     ∙ ap (λ t. cond t (paste_at m used xs) (scanned_as token used)) marked.0

@@ -8,7 +8,7 @@ use Rattle.tw_input.specs.Modifiers.{none, alt, ctrl}
 use Rattle.tw_ansi.specs.declared.token.Token.{Token}
 use Rattle.tw_ansi.specs.declared.token.Token.TheVariants.{Paste, Unknown}
 use Rattle.tw_ansi.specs.declared.token.Scanned.{Scanned}
-use Rattle.tw_ansi.specs.KeyBytes.{token_at, escape_at, control_at, ended_at, sequence_at, paste_at, paste_of, paste_len, application_at, application_key, application_keys, behind_escape, character_at, control_characters, key_in, key_or, with_control, typed_at, wide_character, whole_character, following_len, replacement, scanned_as, key_token, code_of, first_number, second_number, numbers_token, is_parameter}
+use Rattle.tw_ansi.specs.KeyBytes.{token_at, escape_at, control_at, ended_at, sequence_at, paste_at, paste_of, paste_len, application_at, application_key, application_keys, behind_escape, character_at, control_characters, key_in, key_or, with_control, typed_at, wide_character, whole_character, following_len, replacement, scanned_as, key_token, code_of, first_number, second_number, parameters_token, is_parameter}
 use Rattle.tw_ansi.proofs.Pastes.{paste_within}
 
 -- a token takes at least one byte and at most n
@@ -70,7 +70,7 @@ sequence_within : (n : ℕ) (l : Bool) (parameters : List ℕ) (letter : ℕ) (b
 sequence_within n l parameters letter bytes fits =
     let used : ℕ = 3 + length parameters in
     let pasted : IsWithin n (paste_at l used bytes) = paste_of_within n l used (length bytes) (paste_len bytes) (omega arith) fits (paste_within bytes) in
-    let token = numbers_token (first_number parameters) (second_number parameters) letter in
+    let token = parameters_token parameters letter in
     either n _ _ _ (taken n used Unknown (omega arith) (omega arith)) (either n _ _ _ pasted (taken n used token (omega arith) (omega arith)))
 
 ended_within : (n : ℕ) (l : Bool) (parameters rest : List ℕ) → 2 + (length parameters + length rest) ≤ n → IsWithin n (ended_at l parameters rest)

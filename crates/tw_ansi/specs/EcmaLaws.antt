@@ -1,13 +1,13 @@
 -- What a terminal does that is sent the bytes of changes.
-use Rattle.std.specs.Prelude.{◌≡◌, ◌<◌, ◌+◌, ◌-◌, ◌^◌, ℕ, negsuc, false, ◌++◌, ⊤}
+use Rattle.std.specs.Prelude.{◌≡◌, ◌<◌, ◌+◌, ◌-◌, ◌^◌, ℕ, min, negsuc, false, ◌++◌, ⊤}
 use Rattle.tw_surface.specs.declared.cell.AttributeChange.{AttributeChange}
 use Rattle.tw_surface.specs.declared.cell.AttributeChange.TheVariants.{Foreground, Background}
 use Rattle.tw_surface.specs.declared.change.Position.TheVariants.{Relative}
 use Rattle.tw_surface.specs.declared.color.ColorAttribute.{ColorAttribute}
 use Rattle.tw_surface.specs.declared.color.ColorAttribute.TheVariants.{Default, PaletteIndex, TrueColorWithDefaultFallback}
 use Rattle.tw_surface.specs.Pictures.{no_cells, cells_cleared_from}
-use Rattle.tw_ansi.specs.Sequences.{to_column, to_row, set_attribute, clear_below, clear_all, clear_with, to_first_cell, most_rows}
-use Rattle.tw_ansi.specs.EcmaScreen.{EcmaScreen, receive_all}
+use Rattle.tw_ansi.specs.Sequences.{to_column, to_row, set_attribute, clear_below, clear_rows, clear_all, clear_with, to_first_cell, most_rows}
+use Rattle.tw_ansi.specs.EcmaScreen.{EcmaScreen, receive_all, row_cleared}
 use Rattle.tw_ansi.specs.EcmaScreen as terminal
 
 -- a terminal that has read no part of a sequence
@@ -45,6 +45,16 @@ RowsAboveAreReached = (h w n : ℕ) (t : EcmaScreen) → n < most_rows
 abbrev pub ClearsBelow : Type 0
 ClearsBelow = (h w : ℕ) (color set : ColorAttribute) (t : EcmaScreen) → IsColor color → IsColor set
     → receive_all h w (clear_with clear_below color set) (at_rest t) ≡ record t { cell = cells_cleared_from t.cell t.row t.col; reading = terminal.Text }
+
+-- the cells after clearing the row from a column on, and then all from the next column on, as far as there is one
+abbrev pub rows_cleared : ℕ → EcmaScreen → ℕ → ℕ → ℕ
+rows_cleared w t = cells_cleared_from (row_cleared t.cell t.row t.col) t.row (min (w - 1) (t.col + 1))
+
+-- clearing by rows clears them, and leads to column 0
+abbrev pub ClearsRows : Type 0
+ClearsRows = (h w : ℕ) (color set : ColorAttribute) (t : EcmaScreen) → IsColor color → IsColor set
+    → receive_all h w (clear_with clear_rows color set) (at_rest t)
+    ≡ record t { cell = rows_cleared w t; col = 0; waits = false; reading = terminal.Text }
 
 -- clearing the screen blanks it all, with the cursor in the first cell
 abbrev pub ClearsAll : Type 0

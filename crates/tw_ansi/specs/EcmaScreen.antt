@@ -40,12 +40,16 @@ write_here w b t =
 abbrev pub write : ℕ → ℕ → ℕ → EcmaScreen → EcmaScreen
 write h w b t = if t.waits then write_here w b (return_to_start (feed_line h t)) else write_here w b t
 
+-- the cells of the cursor's row from the cursor on are blank
+abbrev pub row_cleared : (ℕ → ℕ → ℕ) → ℕ → ℕ → ℕ → ℕ → ℕ
+row_cleared cell row col r c = if eqb row r && leb col c then blank else cell r c
+
 -- a number of steps: none written means one
 abbrev pub steps : ℕ → ℕ
 steps n = if eqb n 0 then 1 else n
 
--- what a sequence of one number does: CUU and CUF stop at the edge, VPA and CUP count from 1, ED clears from the cursor on or all, and
--- any other shows nothing
+-- what a sequence of one number does: CUU and CUF stop at the edge, VPA and CUP count from 1, ED clears from the cursor on or all, EL
+-- the row from the cursor on, and any other shows nothing
 abbrev pub act : ℕ → ℕ → ℕ → ℕ → EcmaScreen → EcmaScreen
 act h w n letter t =
     if eqb letter 65 then record t { row = t.row - steps n; waits = false }
@@ -53,6 +57,7 @@ act h w n letter t =
     else if eqb letter 72 then record t { row = min (h - 1) (steps n - 1); col = 0; waits = false }
     else if eqb letter 74 && eqb n 0 then record t { cell = cells_cleared_from t.cell t.row t.col }
     else if eqb letter 74 && eqb n 2 then record t { cell = no_cells }
+    else if eqb letter 75 && eqb n 0 then record t { cell = row_cleared t.cell t.row t.col }
     else if eqb letter 100 then record t { row = min (h - 1) (steps n - 1); waits = false }
     else t
 

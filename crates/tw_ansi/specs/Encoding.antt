@@ -14,7 +14,7 @@ use Rattle.tw_surface.specs.Defaults.{default_attributes}
 use Rattle.tw_surface.specs.Positions.{position_after, at_least_0}
 use Rattle.tw_surface.specs.Width.{cluster_width}
 use Rattle.tw_ansi.specs.declared.encode.Encoder.{Encoder}
-use Rattle.tw_ansi.specs.Sequences.{to_column, to_row, clear_below, clear_all, to_first_cell, set_attribute, set_attributes, clear_with, up_a_row}
+use Rattle.tw_ansi.specs.Sequences.{to_column, to_row, clear_below, clear_rows, clear_all, to_first_cell, set_attribute, set_attributes, clear_with, up_a_row}
 
 -- the old bytes stay, and more follow them
 abbrev pub Extends : List ℕ → List ℕ → Type 0
@@ -102,12 +102,14 @@ sent_clusters (cluster ∷ more) e = sent_then (sent_cluster e cluster) (sent_cl
 abbrev pub sent_text : List ℕ → Encoder → Sent
 sent_text text e = if list_all is_plain text then sent_plain text e else sent_clusters (graphemes true text) e
 
--- clearing from the cursor on: where the last column is written it is kept, by clearing from the next row on
+-- clearing from the cursor on: from column 0 on by rows, and where the last column is written it is kept, by clearing from the next
+-- row on
 abbrev pub sent_clear : ColorAttribute → Encoder → Sent
 sent_clear color e =
     let clear = clear_with clear_below color e.attributes.background in
     if leb e.cols e.x
     then record { bytes = (cr ∷ lf ∷ clear) ++ up_a_row ++ to_column (e.cols - 1); next = parted_from_wait e }
+    else if eqb e.x 0 then sends (clear_with clear_rows color e.attributes.background) e
     else sends clear e
 
 -- the column to which a position leads

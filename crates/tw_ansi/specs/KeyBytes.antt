@@ -169,6 +169,10 @@ first_number parameters = number_of (before_first is_semicolon parameters)
 abbrev pub second_number : List ℕ → ℕ
 second_number parameters = first_number (after_first is_semicolon parameters)
 
+-- the third one
+abbrev pub third_number : List ℕ → ℕ
+third_number parameters = second_number (after_first is_semicolon parameters)
+
 -- the bits of the modifiers that a number tells: one more than a sum of 1 for SHIFT, 2 for ALT, 4 for CTRL, 8 for SUPER
 abbrev pub told_bits : ℕ → ℕ
 told_bits number = (number - 1) % 16 * 2
@@ -187,6 +191,16 @@ numbers_token first second letter =
     if eqb letter 82 && (ltb 1 first && ltb 0 second) then Size second first
     else if eqb letter 90 then key_token Tab shift
     else key_or_unknown (sequence_key first letter) (told_bits second)
+
+-- a size that the terminal tells by itself
+abbrev pub size_token : ℕ → ℕ → Token
+size_token rows cols = if ltb 0 rows && ltb 0 cols then Size cols rows else Unknown
+
+-- what some parameters and a letter say: a size behind 48 and before t, as terminals tell it in mode 2048
+unfoldable pub parameters_token : List ℕ → ℕ → Token
+parameters_token parameters letter =
+    if eqb letter 116 && eqb (first_number parameters) 48 then size_token (second_number parameters) (third_number parameters)
+    else numbers_token (first_number parameters) (second_number parameters) letter
 
 -- what ends a pasted text
 abbrev pub paste_end : List ℕ
@@ -210,7 +224,7 @@ abbrev pub sequence_at : Bool → List ℕ → ℕ → List ℕ → Option Scann
 sequence_at is_last parameters letter bytes =
     if not (list_all is_numeric parameters) then scanned_as Unknown (3 + length parameters)
     else if eqb letter 126 && eqb (first_number parameters) 200 then paste_at is_last (3 + length parameters) bytes
-    else scanned_as (numbers_token (first_number parameters) (second_number parameters) letter) (3 + length parameters)
+    else scanned_as (parameters_token parameters letter) (3 + length parameters)
 
 -- parameters, and the byte behind them: where it ends no sequence it is not taken
 abbrev pub ended_at : Bool → List ℕ → List ℕ → Option Scanned

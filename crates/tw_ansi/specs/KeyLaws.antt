@@ -1,5 +1,5 @@
 -- Laws of the tokens.
-use Rattle.std.specs.Prelude.{◌≡◌, ◌≢◌, ◌≤◌, ◌<◌, ◌+◌, ◌*◌, ◌^◌, min, ℕ, Bool, true, false, List, [], ◌∷◌, ◌++◌, Some, None, IfSome, IsSome, ◌⊎◌, take, length, encode_utf8}
+use Rattle.std.specs.Prelude.{◌≡◌, ◌≢◌, ◌≤◌, ◌<◌, ◌+◌, ◌*◌, ◌^◌, min, ℕ, Bool, true, false, List, [], ◌∷◌, ◌++◌, Some, None, IfSome, IsSome, ◌⊎◌, take, length, encode_utf8, codes}
 use Rattle.std.specs.Char.{IsScalar}
 use Rattle.std.specs.Fmt.{decimal}
 use Rattle.std.specs.List.{AllByRecursion, list_all}
@@ -9,7 +9,7 @@ use Rattle.tw_input.specs.Modifiers.{none, shift, alt, ctrl}
 use Rattle.tw_ansi.specs.declared.token.Token.{Token}
 use Rattle.tw_ansi.specs.declared.token.Token.TheVariants.{Size, Paste, Unknown}
 use Rattle.tw_ansi.specs.declared.token.Scanned.{Scanned}
-use Rattle.tw_ansi.specs.KeyBytes.{token_at, scanned_as, key_token, behind_escape, key_in, control_characters, application_keys, letter_keys, number_keys, most, paste_end, replacement, following_len, is_continuation, is_parameter, is_letter}
+use Rattle.tw_ansi.specs.KeyBytes.{token_at, scanned_as, key_token, behind_escape, key_in, control_characters, application_keys, letter_keys, number_keys, most, paste_end, replacement, following_len, is_continuation, is_parameter, is_numeric, is_letter}
 use Rattle.tw_ansi.specs.Sequences.{sequence}
 
 -- an ESC alone is Escape, and may begin another key where bytes follow
@@ -99,6 +99,11 @@ BackTab = IsTyped (27 ∷ 91 ∷ 90 ∷ []) Tab shift
 abbrev pub CursorReports : Type 0
 CursorReports = (row col : ℕ) → 1 < row → row < 2 ^ 64 → 0 < col → col < 2 ^ 64
     → IsTaken (sequence (decimal row ++ 59 ∷ decimal col) (82 ∷ [])) (Size (min col most) (min row most))
+
+-- a size that a terminal tells by itself: ESC [ 48, its rows and its columns behind a semicolon each, and more numbers before t
+abbrev pub SizeReports : Type 0
+SizeReports = (rows cols : ℕ) (more : List ℕ) → 0 < rows → rows < 2 ^ 64 → 0 < cols → cols < 2 ^ 64 → list_all is_numeric more ≡ true
+    → IsTaken (sequence (codes "48;" ++ decimal rows ++ 59 ∷ (decimal cols ++ 59 ∷ more)) (116 ∷ [])) (Size (min cols most) (min rows most))
 
 -- what begins a pasted text: ESC [ 200 ~
 abbrev pub paste_start : List ℕ

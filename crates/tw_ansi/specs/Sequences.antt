@@ -44,6 +44,11 @@ up_a_row = sequence [] (codes "A")
 abbrev pub clear_below : List ℕ
 clear_below = sequence [] (codes "J")
 
+-- from column 0 on all is cleared: the row first, then what stands from the next column on, and back. From the first cell on, a
+-- terminal that keeps what scrolls off may take the clearing of its rows for the clearing of its screen, and keep them all.
+abbrev pub clear_rows : List ℕ
+clear_rows = sequence [] (codes "K") ++ sequence [] (codes "C") ++ clear_below ++ cr ∷ []
+
 -- the whole screen is cleared
 abbrev pub clear_all : List ℕ
 clear_all = sequence (codes "2") (codes "J")

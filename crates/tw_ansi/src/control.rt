@@ -3,7 +3,7 @@
 ghost use Rattle.std.specs.Prelude.{◌≡◌, ◌+◌, ◌<◌, ◌≤◌, ◌^◌, length, [], IfSome};
 ghost use Rattle.std.specs.List.{list_all, prefix_len, position_or_len};
 ghost use Rattle.tw_input.specs.Modifiers.{modifier_bits};
-ghost use Rattle.tw_ansi.specs.KeyBytes.{is_parameter, is_numeric, is_semicolon, number_of, first_number, second_number, told_bits, numbers_token, paste_len, paste_of, sequence_at, ended_at, control_at, number_keys, letter_keys, key_in};
+ghost use Rattle.tw_ansi.specs.KeyBytes.{is_parameter, is_numeric, is_semicolon, number_of, first_number, second_number, third_number, told_bits, numbers_token, size_token, parameters_token, paste_len, paste_of, sequence_at, ended_at, control_at, number_keys, letter_keys, key_in};
 
 use crate::token::{Scanned, Token, key};
 use bitflags::Flags;
@@ -64,6 +64,18 @@ fn second_number(parameters: &[u8]) -> u32
     let end = semicolon_at(parameters);
     if end < parameters.len() {
         first_number(&parameters[end + 1..])
+    } else {
+        0
+    }
+}
+
+/// The third number of some parameters.
+fn third_number(parameters: &[u8]) -> u32
+    ensures { result ≡ third_number parameters.now }
+{
+    let end = semicolon_at(parameters);
+    if end < parameters.len() {
+        second_number(&parameters[end + 1..])
     } else {
         0
     }
@@ -153,6 +165,32 @@ fn numbers_token(first: u32, second: u32, letter: u8) -> Token
     }
 }
 
+/// A size that the terminal tells by itself.
+fn size_token(rows: u32, cols: u32) -> Token
+    ensures { result ≡ size_token rows cols }
+{
+    if rows > 0 && cols > 0 {
+        return Token::Size {
+            cols: cols as usize,
+            rows: rows as usize,
+        };
+    }
+    Token::Unknown
+}
+
+/// What some parameters and a letter say: a size behind 48 and before `t`, as terminals tell it in mode 2048.
+#[tactic(auto, unfolding(crate::specs::KeyBytes::parameters_token))]
+fn parameters_token(parameters: &[u8], letter: u8) -> Token
+    ensures { result ≡ parameters_token parameters.now letter }
+{
+    let first = first_number(parameters);
+    let second = second_number(parameters);
+    if letter == b't' && first == 48 {
+        return size_token(second, third_number(parameters));
+    }
+    numbers_token(first, second, letter)
+}
+
 /// How many bytes stand before the first end of a pasted text.
 pub fn paste_len(bytes: &[u8]) -> Option<usize>
     ensures value { result ≡ paste_len bytes.now }
@@ -211,7 +249,7 @@ fn sequence_at(parameters: &[u8], letter: u8, bytes: &[u8], is_last: bool) -> Op
         return paste_of(used, bytes.len(), paste_len(bytes), is_last);
     }
     Some(Scanned {
-        token: numbers_token(first, second_number(parameters), letter),
+        token: parameters_token(parameters, letter),
         used,
     })
 }

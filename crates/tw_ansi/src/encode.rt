@@ -18,6 +18,10 @@ use tw_surface::{
 use unicode_segmentation::UnicodeSegmentation;
 use unicode_width::UnicodeWidthStr;
 
+/// Clears from column 0 on: the row, then what stands from the next column on, and back. tmux moves all rows of a
+/// screen into its history where they are cleared at once from the first cell on.
+const CLEAR_ROWS: &str = "\x1b[K\x1b[C\x1b[J\r";
+
 /// What is known of a terminal's cursor and attributes while changes are sent.
 #[derive(Debug, Clone, Copy, PartialEq, Eq)]
 pub struct Encoder {
@@ -258,8 +262,8 @@ impl Encoder {
         clear_with("\x1b[2J", color, self.attributes.background, out)
     }
 
-    /// Clears from the cursor on. Where the last column is written and the cursor stands behind it, that column is
-    /// kept.
+    /// Clears from the cursor on: from column 0 on by rows. Where the last column is written and the cursor stands
+    /// behind it, that column is kept.
     fn clear_to_end(&mut self, color: ColorAttribute, out: &mut String) -> Result<(), AllocError>
         ensures bytes { OnOk result (string_bytes out.new ≡ string_bytes out.old ++ (sent_clear color self.old).bytes) }
         ensures next { OnOk result (self.new ≡ (sent_clear color self.old).next) }
@@ -267,7 +271,10 @@ impl Encoder {
     {
         let set = self.attributes.background;
         if self.x < self.cols {
-            return clear_with("\x1b[J", color, set, out);
+            return match self.x {
+                0 => clear_with(CLEAR_ROWS, color, set, out),
+                _ => clear_with("\x1b[J", color, set, out),
+            };
         }
         self.parted = true;
         out.push_str("\r\n")?;

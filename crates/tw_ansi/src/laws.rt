@@ -2,11 +2,11 @@
 
 ghost use Rattle.tw_input.specs.Equality.{ComparesValues};
 ghost use Rattle.tw_ansi.specs.Renditions.{AttributesByNumber};
-ghost use Rattle.tw_ansi.specs.EcmaLaws.{AttributeShowsNothing, ColumnsAreReached, RowsAboveAreReached, ClearsBelow, ClearsAll};
+ghost use Rattle.tw_ansi.specs.EcmaLaws.{AttributeShowsNothing, ColumnsAreReached, RowsAboveAreReached, ClearsBelow, ClearsRows, ClearsAll};
 ghost use Rattle.tw_ansi.specs.EcmaTexts.{PlainTextIsShown};
 ghost use Rattle.tw_ansi.specs.EcmaBatches.{FirstIsShown, ChangeIsShown, BatchIsShown};
 ghost use Rattle.tw_ansi.specs.EcmaPaintings.{PaintingIsSendable, RepaintingIsSendable, ClosingIsSendable, PaintingKnowsColor, RunIsSendable, BatchesAreShown};
-ghost use Rattle.tw_ansi.specs.KeyLaws.{StaysFound, TakesBytes, EndsWithToken, PrintableKeys, CharacterKeys, AltCharacterKeys, EscapeKey, EscapePair, AltKeys, ControlKeys, ControlLetters, ApplicationKeys, LetterKeys, HeldLetterKeys, NumberKeys, HeldNumberKeys, BackTab, CursorReports, PastedTexts, UnknownSequences, LostBytes, LoneBytes, CutCharacters, WaitsForCharacter};
+ghost use Rattle.tw_ansi.specs.KeyLaws.{StaysFound, TakesBytes, EndsWithToken, PrintableKeys, CharacterKeys, AltCharacterKeys, EscapeKey, EscapePair, AltKeys, ControlKeys, ControlLetters, ApplicationKeys, LetterKeys, HeldLetterKeys, NumberKeys, HeldNumberKeys, BackTab, CursorReports, SizeReports, PastedTexts, UnknownSequences, LostBytes, LoneBytes, CutCharacters, WaitsForCharacter};
 
 use crate::encode::Encoder;
 use crate::resume::Progress;
@@ -54,10 +54,12 @@ pub fn keys()
     ensures held_numbers { HeldNumberKeys }
 {}
 
-/// A report of the cursor's place is a size, and a text between the marks of a paste is that text, whatever bytes follow.
-#[tactic(auto, using(crate::proofs::Reports::cursor_reports, crate::proofs::Reports::pasted_texts))]
+/// A report of the cursor's place is a size, and so is one that the terminal makes by itself in mode 2048. A text between
+/// the marks of a paste is that text. So it is whatever bytes follow.
+#[tactic(auto, using(crate::proofs::Reports::cursor_reports, crate::proofs::Reports::size_reports, crate::proofs::Reports::pasted_texts))]
 pub fn reports()
     ensures cursor { CursorReports }
+    ensures sizes { SizeReports }
     ensures pastes { PastedTexts }
 {}
 
@@ -74,12 +76,13 @@ pub fn malformed()
 {}
 
 /// What a terminal after ECMA-48 does at the sequences that are sent, byte by byte.
-#[tactic(auto, using(crate::proofs::EcmaSequences::columns_are_reached, crate::proofs::EcmaSequences::rows_above_are_reached, crate::proofs::EcmaSequences::attribute_shows_nothing, crate::proofs::EcmaSequences::clears_below, crate::proofs::EcmaSequences::clears_all))]
+#[tactic(auto, using(crate::proofs::EcmaSequences::columns_are_reached, crate::proofs::EcmaSequences::rows_above_are_reached, crate::proofs::EcmaSequences::attribute_shows_nothing, crate::proofs::EcmaSequences::clears_below, crate::proofs::EcmaSequences::clears_rows, crate::proofs::EcmaSequences::clears_all))]
 pub fn sequences()
     ensures columns { ColumnsAreReached }
     ensures rows_above { RowsAboveAreReached }
     ensures attributes { AttributeShowsNothing }
     ensures below { ClearsBelow }
+    ensures rows { ClearsRows }
     ensures all { ClearsAll }
 {}
 

@@ -11,7 +11,7 @@ use Rattle.tw_input.specs.declared.key.KeyCode.TheVariants.{Char, Escape, Tab}
 use Rattle.tw_ansi.specs.declared.token.Token.{Token}
 use Rattle.tw_ansi.specs.declared.token.Token.TheVariants.{Key, Size, Paste, Unknown}
 use Rattle.tw_ansi.specs.declared.token.Scanned.{Scanned}
-use Rattle.tw_ansi.specs.KeyBytes.{token_at, escape_at, control_at, ended_at, sequence_at, paste_of, paste_len, application_at, application_key, application_keys, behind_escape, with_alt, character_at, control_characters, key_in, key_or, key_or_unknown, with_control, typed_at, wide_character, whole_character, following_len, replacement, scanned_as, key_token, code_of, first_number, second_number, numbers_token, sequence_key, is_parameter, is_numeric, is_letter, is_continuation, told_bits}
+use Rattle.tw_ansi.specs.KeyBytes.{token_at, escape_at, control_at, ended_at, sequence_at, paste_of, paste_len, application_at, application_key, application_keys, behind_escape, with_alt, character_at, control_characters, key_in, key_or, key_or_unknown, with_control, typed_at, wide_character, whole_character, following_len, replacement, scanned_as, key_token, code_of, first_number, second_number, third_number, numbers_token, size_token, parameters_token, sequence_key, is_parameter, is_numeric, is_letter, is_continuation, told_bits}
 use Rattle.tw_ansi.proofs.Pieces.{stays_found}
 use Rattle.tw_ansi.proofs.Tokens.{takes_bytes}
 use Rattle.tw_device.specs.Told.{token_events, pasted_text}
@@ -88,13 +88,20 @@ known_inside : (o : Option KeyCode) (bits used : ℕ) → text_end (key_or_unkno
 known_inside (Some key) bits used = omega arith
 known_inside None bits used = omega arith
 
-numbers_inside : (first second letter used : ℕ) → IsInside (scanned_as (numbers_token first second letter) used)
-numbers_inside first second letter used =
+numbers_end : (first second letter used : ℕ) → text_end (numbers_token first second letter) ≤ used
+numbers_end first second letter used =
     let known = known_inside (sequence_key first letter) (told_bits second) used in
     let tab : text_end (key_token Tab shift) ≤ used = omega arith in
     let place : text_end (Size second first) ≤ used = omega arith in
-    token_inside (numbers_token first second letter) used
-    (one_inside (eqb letter 82 && (ltb 1 first && ltb 0 second)) _ _ used place (one_inside (eqb letter 90) _ _ used tab known))
+    one_inside (eqb letter 82 && (ltb 1 first && ltb 0 second)) _ _ used place (one_inside (eqb letter 90) _ _ used tab known)
+
+parameters_inside : (parameters : List ℕ) (letter used : ℕ) → IsInside (scanned_as (parameters_token parameters letter) used)
+unfolding parameters_token
+parameters_inside parameters letter used =
+    let size : text_end (size_token (second_number parameters) (third_number parameters)) ≤ used =
+    one_inside (ltb 0 (second_number parameters) && ltb 0 (third_number parameters)) _ _ used (omega arith) (omega arith) in
+    token_inside (parameters_token parameters letter) used
+    (one_inside (eqb letter 116 && eqb (first_number parameters) 48) _ _ used size (numbers_end (first_number parameters) (second_number parameters) letter used))
 
 paste_inside : (l : Bool) (from left : ℕ) (o : Option ℕ) → IsInside (paste_of l from left o)
 paste_inside l from left (Some len) = token_inside (Paste from len) (from + len + 6) (omega arith)
@@ -108,7 +115,7 @@ sequence_inside l parameters letter bytes =
     let used = 3 + length parameters in
     either (not (list_all is_numeric parameters)) _ _ (unknown_inside used)
     (either (eqb letter 126 && eqb (first_number parameters) 200) _ _ (paste_inside l used (length bytes) (paste_len bytes))
-    (numbers_inside (first_number parameters) (second_number parameters) letter used))
+    (parameters_inside parameters letter used))
 
 ended_inside : (l : Bool) (parameters rest : List ℕ) → IsInside (ended_at l parameters rest)
 ended_inside l parameters [] = either l (scanned_as (key_token (Char 91) alt) 2) None (key_inside (Char 91) alt 2) nothing
