@@ -12,7 +12,7 @@ use worked_host::CommandHost;
 /// A host that knows three commands.
 fn host_of_three(alloc: Global) -> Result<CommandHost, AllocError> {
     let mut known = Vec::new(alloc);
-    for word in ["copy", "count", "move"] {
+    for &word in &["copy", "count", "move"] {
         known.push(String::from_str(alloc, word)?)?;
     }
     Ok(CommandHost::new(alloc, known))
@@ -46,7 +46,7 @@ fn expect_read(
 #[test]
 fn keys_are_answered(rt: HostRuntime) -> Result<(), Fail> {
     let alloc = rt.alloc();
-    for (script, answer) in [
+    for &(script, answer) in &[
         ("type copy a\nkey Enter", Some("copy a")),
         ("type co\nkey Tab\nkey Enter", Some("copy")),
         ("type co\nkey Tab\nkey Tab\nkey Enter", Some("count")),
@@ -96,7 +96,7 @@ fn commands_are_bold(rt: HostRuntime) -> Result<(), Fail> {
     let mut attributes = CellAttributes::default();
     attributes.intensity = Intensity::Bold;
     let bold = format!(in alloc; "{{}}> {{}}{{{attributes:?}}}copy{{}} copy")?;
-    for (script, shown) in [
+    for &(script, shown) in &[
         ("type copy copy\nkey Enter", bold.as_str()),
         ("type cop copy\nkey Enter", "{}> {}cop copy"),
     ] {

@@ -163,7 +163,7 @@ fn line_of(alloc: Global, bytes: &'static [u8], step: usize) -> Result<Answer, E
 
 #[test]
 fn keys_are_the_same_in_pieces_of_any_size(rt: HostRuntime) {
-    for step in [1, 2, 3, 100] {
+    for &step in &[1, 2, 3, 100] {
         let answer = line_of(rt.alloc(), b"a\xc3\xa9b\x02\x7fc\r", step);
         assert_eq!(rt; shown(&answer), ("line", "acb"), "pieces of {step}");
     }
@@ -172,7 +172,7 @@ fn keys_are_the_same_in_pieces_of_any_size(rt: HostRuntime) {
 #[test]
 fn a_pasted_text_is_the_same_in_pieces_of_any_size(rt: HostRuntime) {
     let bytes = b"\x1b[0000200;1~one\x1b[201 two\x1b[201~\x1b[201~!\r";
-    for step in [2, 3, 5, 100] {
+    for &step in &[2, 3, 5, 100] {
         let answer = line_of(rt.alloc(), bytes, step);
         assert_eq!(rt; shown(&answer), ("line", "one [201 two!"));
     }

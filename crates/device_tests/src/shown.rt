@@ -17,7 +17,7 @@ fn scripts_are_events(rt: HostRuntime) -> Result<(), Fail> {
     let alloc = rt.alloc();
     let events = script_events(alloc, "type ab\nkey C-R\nkey Tab\npaste a b")?;
     let mut expected = Vec::new(alloc);
-    for (code, modifiers) in [
+    for &(code, modifiers) in &[
         (KeyCode::Char('a'), Modifiers::NONE),
         (KeyCode::Char('b'), Modifiers::NONE),
         (KeyCode::Char('R'), Modifiers::CTRL),
@@ -56,7 +56,7 @@ fn rows_end_in_no_space(rt: HostRuntime) -> Result<(), Fail> {
     screen.apply(&Change::Text(String::from_str(alloc, "ab\r\n\r\n c de")?))?;
     let shown = rows(alloc, &screen, 4)?;
     assert_eq!(rt; shown.len(), 4);
-    for (row, text) in [(0, "ab"), (1, ""), (2, " c d"), (3, "e")] {
+    for &(row, text) in &[(0, "ab"), (1, ""), (2, " c d"), (3, "e")] {
         assert!(rt; shown[row].as_str() == text, "{row}");
     }
     Ok(())
@@ -71,7 +71,7 @@ fn the_last_painting_stands_before_the_closing(rt: HostRuntime) -> Result<(), Fa
         Vec::new(alloc),
     );
     assert!(rt; last_painting(&terminal).is_none());
-    for text in ["first", "last", "closing"] {
+    for &text in &["first", "last", "closing"] {
         terminal.render(&[Change::Text(String::from_str(alloc, text)?)])?;
     }
     let painting = last_painting(&terminal).ok_or("no painting")?;

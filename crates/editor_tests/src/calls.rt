@@ -210,7 +210,7 @@ impl LineEditorHost for AskedHost {
 #[test]
 fn the_host_is_asked_once_for_a_painting(rt: HostRuntime) -> Result<(), Fail> {
     let alloc = rt.alloc();
-    for (events, paintings, edited) in [
+    for &(events, paintings, edited) in &[
         ("", 1, 1),
         ("Enter", 2, 1),
         ("a b Left C-L Enter", 6, 5),

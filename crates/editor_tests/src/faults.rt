@@ -218,7 +218,7 @@ fn expect_fault<A: Drop>(
 #[test]
 fn the_answer_is_the_very_fault(rt: HostRuntime) -> Result<(), Fail> {
     let alloc = rt.alloc();
-    for fault in [TerminalFault::Device, TerminalFault::Memory] {
+    for &fault in &[TerminalFault::Device, TerminalFault::Memory] {
         for call in 0..14 {
             let mut terminal = faulty_at(alloc, "a C-L Enter", (call, 0), fault)?;
             {
@@ -236,7 +236,7 @@ fn the_answer_is_the_very_fault(rt: HostRuntime) -> Result<(), Fail> {
 #[test]
 fn a_refused_repaint_is_the_very_fault(rt: HostRuntime) -> Result<(), Fail> {
     let alloc = rt.alloc();
-    for fault in [TerminalFault::Device, TerminalFault::Memory] {
+    for &fault in &[TerminalFault::Device, TerminalFault::Memory] {
         let mut terminal = faulty_at(alloc, "", (0, 0), fault)?;
         let mut host = NopLineEditorHost::new(alloc);
         let mut editor = LineEditor::new(alloc, &mut terminal)?;
@@ -247,7 +247,7 @@ fn a_refused_repaint_is_the_very_fault(rt: HostRuntime) -> Result<(), Fail> {
 }
 
 /// The call that fails, the events that are left then, and the calls of the reading.
-const CALLS: [(usize, usize, &str); 10] = [
+const CALLS: &[(usize, usize, &str)] = &[
     (0, 2, "size flush "),
     (1, 2, "size render flush "),
     (2, 2, "size render poll render flush "),
@@ -277,8 +277,8 @@ const CALLS: [(usize, usize, &str); 10] = [
 #[test]
 fn a_fault_ends_the_calls(rt: HostRuntime) -> Result<(), Fail> {
     let alloc = rt.alloc();
-    for fault in [TerminalFault::Device, TerminalFault::Memory] {
-        for (call, left, calls) in CALLS {
+    for &fault in &[TerminalFault::Device, TerminalFault::Memory] {
+        for &(call, left, calls) in CALLS {
             let mut terminal = faulty_at(alloc, "a Enter", (call, 0), fault)?;
             {
                 let mut host = NopLineEditorHost::new(alloc);
@@ -334,7 +334,7 @@ fn a_refused_batch_is_taken_up_to_its_fault(rt: HostRuntime) -> Result<(), Fail>
                 wanted.push('\n')?;
             }
             wanted.push_str(behind)?;
-            for kind in [TerminalFault::Device, TerminalFault::Memory] {
+            for &kind in &[TerminalFault::Device, TerminalFault::Memory] {
                 let terminal = batches_of(alloc, Some((*call, taken)), kind)?;
                 let shown = batches_text(alloc, terminal.batches())?;
                 assert_eq!(rt; shown.as_str(), wanted.as_str(), "{taken} at {call}");

@@ -10,7 +10,7 @@ use tw_terminal::{ScreenSize, ScriptTerminal};
 
 const SIZE: ScreenSize = ScreenSize { rows: 24, cols: 80 };
 
-const KEYS: [KeyCode; 34] = [
+const KEYS: &[KeyCode] = &[
     KeyCode::Backspace,
     KeyCode::Tab,
     KeyCode::Enter,
@@ -110,10 +110,10 @@ fn an_event_without_an_action_is_painted_once(rt: HostRuntime) -> Result<(), Fai
 fn a_key_without_an_action_is_painted_once(rt: HostRuntime) -> Result<(), Fail> {
     let alloc = rt.alloc();
     let mut count = 0usize;
-    for shift in [Modifiers::NONE, Modifiers::SHIFT] {
-        for alt in [Modifiers::NONE, Modifiers::ALT] {
-            for ctrl in [Modifiers::NONE, Modifiers::CTRL] {
-                for super_key in [Modifiers::NONE, Modifiers::SUPER] {
+    for &shift in &[Modifiers::NONE, Modifiers::SHIFT] {
+        for &alt in &[Modifiers::NONE, Modifiers::ALT] {
+            for &ctrl in &[Modifiers::NONE, Modifiers::CTRL] {
+                for &super_key in &[Modifiers::NONE, Modifiers::SUPER] {
                     let modifiers = shift | alt | ctrl | super_key;
                     count = count.saturating_add(expect_idle_keys(&rt, alloc, modifiers)?);
                 }
@@ -127,7 +127,7 @@ fn a_key_without_an_action_is_painted_once(rt: HostRuntime) -> Result<(), Fail> 
 /// Lets each key without an action come with these modifiers, and says how many these are.
 fn expect_idle_keys(rt: &impl Abort, alloc: Global, modifiers: Modifiers) -> Result<usize, Fail> {
     let mut count = 0usize;
-    for key in KEYS {
+    for &key in KEYS {
         let event = KeyEvent { key, modifiers };
         if !has_action(event) {
             expect_idle(rt, alloc, InputEvent::Key(event))?;

@@ -258,7 +258,7 @@ CP(A(0), R(1)), ClearToEndOfScreen
 fn a_size_beyond_the_limits_is_refused(rt: HostRuntime) -> Result<(), Fail> {
     let alloc = rt.alloc();
     let most = usize::MAX;
-    for (cols, rows, number) in [
+    for &(cols, rows, number) in &[
         (0, 24, 3),
         (80, 0, 3),
         (0, 0, 3),

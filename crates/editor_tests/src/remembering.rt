@@ -18,7 +18,7 @@ fn an_accepted_line_is_added_and_a_cancelled_one_is_not(rt: HostRuntime) -> Resu
     let mut host = ScriptHost::new(alloc, BasicHistory::new(alloc));
     let mut terminal = terminal_of(alloc, 80, "a b Enter c C-C d Enter Up Up Enter")?;
     let mut editor = LineEditor::new(alloc, &mut terminal)?;
-    for wanted in [Some("ab"), None, Some("d"), Some("ab")] {
+    for &wanted in &[Some("ab"), None, Some("d"), Some("ab")] {
         let line = editor.read_line_and_remember(&mut host)?;
         assert_eq!(rt; line.as_deref(), wanted);
     }

@@ -34,7 +34,7 @@ fn expect_line<'a, H: LineEditorHost>(
 }
 
 /// Texts of characters of many kinds, and how often each is repeated.
-const KINDS: [(&str, usize); 9] = [
+const KINDS: &[(&str, usize)] = &[
     ("a", 100_000),
     ("\u{e9}", 2_000),
     ("\u{6f22}", 2_000),
@@ -51,7 +51,7 @@ const KINDS: [(&str, usize); 9] = [
 fn long_lines_of_one_word_are_moved_through_and_killed(rt: HostRuntime) -> Result<(), Fail> {
     let alloc = rt.alloc();
     let mut host = NopLineEditorHost::new(alloc);
-    for (piece, count) in KINDS {
+    for &(piece, count) in KINDS {
         let line = piece.repeat(alloc, count)?;
         let line = line.as_str();
         let around = "Home Right Right Left End Left A-b A-f Enter";
@@ -87,7 +87,7 @@ fn long_texts_are_pasted(rt: HostRuntime) -> Result<(), Fail> {
     let alloc = rt.alloc();
     let text = "xy".repeat(alloc, 50_000)?;
     let mut events = Vec::new(alloc);
-    for names in ["", "Home", "Right Enter"] {
+    for &names in &["", "Home", "Right Enter"] {
         events.extend(events_named(alloc, names)?)?;
         events.push(InputEvent::Paste(text.clone()?))?;
     }

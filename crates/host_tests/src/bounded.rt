@@ -71,7 +71,7 @@ fn the_oldest_lines_are_forgotten(rt: HostRuntime) -> Result<(), Fail> {
 fn a_forgotten_line_is_not_found(rt: HostRuntime) -> Result<(), Fail> {
     let alloc = rt.alloc();
     let mut history = two_kept(alloc);
-    for line in ["git log", "ls", "git push"] {
+    for &line in &["git log", "ls", "git push"] {
         history.add(line)?;
     }
     let (style, backwards) = (SearchStyle::Substring, SearchDirection::Backwards);

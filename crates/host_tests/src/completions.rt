@@ -8,7 +8,7 @@ use tw_lineedit::{Action, BasicHistory, LineEditor, Movement};
 
 /// Each case is a line and its cursor, a candidate, and the refusal's number, or 0, with the line and cursor
 /// then.
-const FITTING: [(&str, usize, &str, (u8, &str, usize)); 10] = [
+const FITTING: &[(&str, usize, &str, (u8, &str, usize))] = &[
     ("why he", 6, "cand 4 6 hello", (0, "why hello", 9)),
     ("ab", 0, "cand 0 2 ", (5, "ab", 0)),
     ("ab", 0, "cand 2 1 x", (5, "ab", 0)),
@@ -23,7 +23,7 @@ const FITTING: [(&str, usize, &str, (u8, &str, usize)); 10] = [
 
 /// Each case is a line and its cursor, and a candidate that misfits: its range ends behind the line, is reversed or
 /// cuts a character, or the cursor would come before the line or into a character.
-const MISFITS: [(&str, usize, &str); 14] = [
+const MISFITS: &[(&str, usize, &str)] = &[
     ("ab", 1, "cand 3 3 x"),
     ("ab", 1, "cand 1 3 x"),
     ("ab", 1, "cand 0 18446744073709551615 x"),
@@ -43,7 +43,7 @@ const MISFITS: [(&str, usize, &str); 14] = [
 #[test]
 fn a_candidate_is_put_in_where_it_fits(rt: HostRuntime) -> Result<(), Fail> {
     let alloc = rt.alloc();
-    for (line, cursor, candidate, wanted) in FITTING {
+    for &(line, cursor, candidate, wanted) in FITTING {
         let case = case_of(alloc, candidate)?;
         let mut host = host_of(alloc, BasicHistory::new(alloc), &case)?;
         expect_action(
@@ -62,7 +62,7 @@ fn a_candidate_is_put_in_where_it_fits(rt: HostRuntime) -> Result<(), Fail> {
 #[test]
 fn a_candidate_that_misfits_leaves_the_line(rt: HostRuntime) -> Result<(), Fail> {
     let alloc = rt.alloc();
-    for (line, cursor, candidate) in MISFITS {
+    for &(line, cursor, candidate) in MISFITS {
         let case = case_of(alloc, candidate)?;
         let mut host = host_of(alloc, BasicHistory::new(alloc), &case)?;
         let complete = Action::Complete;
@@ -81,7 +81,7 @@ fn a_refused_candidate_leaves_the_one_before_it(rt: HostRuntime) -> Result<(), F
     let mut terminal = terminal_of(alloc, 80, "")?;
     let mut editor = LineEditor::new(alloc, &mut terminal)?;
     editor.set_line_and_cursor("f", 1)?;
-    for wanted in [(0, "foo", 3), (5, "foo", 3), (5, "foo", 3)] {
+    for &wanted in &[(0, "foo", 3), (5, "foo", 3), (5, "foo", 3)] {
         expect_step(&rt, &mut editor, &mut host, Action::Complete, wanted);
     }
     let stay = Action::Move(Movement::None);

@@ -53,7 +53,7 @@ fn a_cursor_behind_the_line_stands_in_its_cell(rt: HostRuntime) -> Result<(), Fa
 #[test]
 fn a_host_answers_before_the_key_table(rt: HostRuntime) -> Result<(), Fail> {
     let alloc = rt.alloc();
-    for (events, wanted) in [
+    for &(events, wanted) in &[
         ("a F1 Enter", "Some(\"clear\")"),
         ("a F2 Enter", "Some(\"a\")"),
         ("a Escape", "None"),
@@ -72,7 +72,7 @@ fn a_host_answers_before_the_key_table(rt: HostRuntime) -> Result<(), Fail> {
 fn the_default_answers_know_the_cursor(rt: HostRuntime) -> Result<(), Fail> {
     let alloc = rt.alloc();
     let mut host = NopLineEditorHost::new(alloc);
-    for (line, cursor, column) in [
+    for &(line, cursor, column) in &[
         ("abc", 0, 0),
         ("abc", 1, 1),
         ("abc", 3, 3),

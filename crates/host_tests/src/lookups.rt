@@ -32,7 +32,7 @@ fn expect_added<L: History>(
 ) -> Result<(), AllocError> {
     assert_eq!(rt; history.last(), None);
     assert_eq!(rt; history.get(alloc, 0)?, None);
-    for (line, last) in [("a", 0), ("a", 0), ("b", 1), ("c", 2), ("a", 3), ("", 4)] {
+    for &(line, last) in &[("a", 0), ("a", 0), ("b", 1), ("c", 2), ("a", 3), ("", 4)] {
         add_all(history, &[line, line])?;
         assert_eq!(rt; history.last(), Some(last), "at {line:?}");
         let shown = history.get(alloc, last)?;
@@ -96,7 +96,7 @@ fn expect_searches<L: History + Drop, F: Fn(Global) -> L + Drop>(
     let none: &[&str] = &[];
     let backwards = SearchDirection::Backwards;
     let forwards = SearchDirection::Forwards;
-    let cases = [
+    let cases = &[
         (commands, (1, backwards), "git", Some((0, 0, "git log"))),
         (commands, (2, backwards), "git", Some((2, 0, "git push"))),
         (commands, (2, backwards), "push", Some((2, 4, "git push"))),
@@ -126,7 +126,7 @@ fn expect_searches<L: History + Drop, F: Fn(Global) -> L + Drop>(
         (none, (0, backwards), "", None),
         (none, (0, forwards), "", None),
     ];
-    for (lines, (idx, direction), pattern, wanted) in cases {
+    for &(lines, (idx, direction), pattern, wanted) in cases {
         let mut history = empty(alloc);
         add_all(&mut history, lines)?;
         let found = history.search(alloc, idx, SearchStyle::Substring, direction, pattern)?;

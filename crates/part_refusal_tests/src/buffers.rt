@@ -81,7 +81,7 @@ fn edits_refused_in_turn(rt: HostRuntime) -> Result<(), Fail> {
     let next = Movement::ForwardChar(1);
     let end = Movement::EndOfLine;
     let word = Movement::BackwardWord(1);
-    for (line, cursor, call, left, target) in [
+    for &(line, cursor, call, left, target) in &[
         ("a b", 3, Call::Move(word), "a b", 2),
         ("a\u{e9}b", 0, Call::Kill(next, next), "\u{e9}b", 0),
         ("\u{301}", 0, Call::InsertChar('e'), "e\u{301}", 3),

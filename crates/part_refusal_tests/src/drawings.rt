@@ -28,7 +28,7 @@ impl Drawn<'_> {
 }
 
 /// Changes for a screen of 5 columns, each with the column and the row to which it leads and the height then.
-const DRAWN: [(Drawn<'static>, (usize, isize), usize); 6] = [
+const DRAWN: &[(Drawn<'static>, (usize, isize), usize)] = &[
     (Drawn::Clear, (0, 0), 0),
     (Drawn::Text("abcde"), (5, 0), 0),
     (Drawn::Text("f"), (1, 1), 1),
@@ -44,7 +44,7 @@ fn added_changes_refused_in_turn(rt: HostRuntime) -> Result<(), Fail> {
     let mut drawing = ChangeSequence::new(alloc, 24, 5)?;
     let mut wanted = Vec::new(alloc);
     let mut before = ((0, 0), 0);
-    for (drawn, place, height) in DRAWN {
+    for &(drawn, place, height) in DRAWN {
         wanted.push(drawn.change(alloc)?)?;
         let change = drawn.change(alloc)?;
         mark(alloc)?;
@@ -70,7 +70,7 @@ fn moves_refused_in_turn(rt: HostRuntime) -> Result<(), Fail> {
     let alloc = rt.alloc();
     let mut drawing = ChangeSequence::new(alloc, 24, 5)?;
     let mut wanted = Vec::new(alloc);
-    for (to, x, y) in [
+    for &(to, x, y) in &[
         ((3, 1), 3, 1),
         ((0, 0), -3, -1),
         ((4, -2), 4, -2),
@@ -135,7 +135,7 @@ fn expect_played(
 fn screens_refused_in_turn(rt: HostRuntime) -> Result<(), Fail> {
     let alloc = rt.alloc();
     let mut screen = Screen::new(alloc, 5)?;
-    for (drawn, wanted) in [
+    for &(drawn, wanted) in &[
         (Drawn::Text("ab"), "ab   | 0 2"),
         (Drawn::Text("cdefg"), "abcde|fg   | 1 2"),
         (Drawn::Move(-1, 0), "abcde|fg   | 1 1"),
@@ -154,7 +154,7 @@ fn screens_refused_in_turn(rt: HostRuntime) -> Result<(), Fail> {
 #[test]
 fn copied_changes_refused_in_turn(rt: HostRuntime) -> Result<(), Fail> {
     let alloc = rt.alloc();
-    for drawn in [Drawn::Text("a"), Drawn::Move(1, 2), Drawn::Clear] {
+    for &drawn in &[Drawn::Text("a"), Drawn::Move(1, 2), Drawn::Clear] {
         let change = drawn.change(alloc)?;
         mark(alloc)?;
         let made = change.try_clone(alloc);

@@ -17,11 +17,11 @@ use tw_terminal::{ScreenSize, ScriptTerminal, Terminal, TerminalFault};
 
 const LINE: &str = "foo  a\u{301}b \u{1f1e9}\u{1f1ea} \u{4e00}\u{e9}x";
 
-const COUNTS: [usize; 4] = [0, 1, 3, usize::MAX];
+const COUNTS: &[usize] = &[0, 1, 3, usize::MAX];
 
 /// Each movement of a count, from a cursor in the middle of a line, and kills by it.
 fn expect_moves(rt: &impl Abort, alloc: Global, count: usize) -> Result<(), Fail> {
-    for movement in [
+    for &movement in &[
         Movement::BackwardChar(count),
         Movement::BackwardWord(count),
         Movement::ForwardChar(count),
@@ -50,7 +50,7 @@ fn expect_moves(rt: &impl Abort, alloc: Global, count: usize) -> Result<(), Fail
 
 #[test]
 fn lines_move_and_shrink_without_memory(rt: HostRuntime) -> Result<(), Fail> {
-    for count in COUNTS {
+    for &count in COUNTS {
         expect_moves(&rt, rt.alloc(), count)?;
     }
     Ok(())
@@ -69,7 +69,7 @@ fn empty_values_are_made_without_memory(rt: HostRuntime) -> Result<(), Fail> {
     let size = ScreenSize { rows: 24, cols: 80 };
     let terminal = ScriptTerminal::new(alloc, size, Vec::new(alloc));
     assert_eq!(rt; terminal.events_left(), 0);
-    for (rows, cols, fault) in [
+    for &(rows, cols, fault) in &[
         (24, 80, None),
         (0, 80, Some(SizeFault::ZeroSize)),
         (24, 65_536, Some(SizeFault::OutOfRange)),
@@ -77,7 +77,7 @@ fn empty_values_are_made_without_memory(rt: HostRuntime) -> Result<(), Fail> {
         let made = ChangeSequence::new(alloc, rows, cols);
         assert_eq!(rt; made.err(), fault, "{cols}");
     }
-    for (cols, fault) in [(80, None), (0, Some(SizeFault::ZeroSize))] {
+    for &(cols, fault) in &[(80, None), (0, Some(SizeFault::ZeroSize))] {
         assert_eq!(rt; Screen::new(alloc, cols).err(), fault, "{cols}");
     }
     mark(alloc)?;
@@ -88,7 +88,7 @@ fn empty_values_are_made_without_memory(rt: HostRuntime) -> Result<(), Fail> {
 fn histories_are_asked_without_memory(rt: HostRuntime) -> Result<(), Fail> {
     let alloc = rt.alloc();
     let mut history = BasicHistory::new(alloc);
-    for line in ["git log", "", "ls", "git push"] {
+    for &line in &["git log", "", "ls", "git push"] {
         history.add(line)?;
     }
     mark(alloc)?;
@@ -97,9 +97,9 @@ fn histories_are_asked_without_memory(rt: HostRuntime) -> Result<(), Fail> {
     assert_eq!(rt; history.get(alloc, 2)?, Some(CowStr::Borrowed("ls")));
     assert_eq!(rt; history.get(alloc, 4)?, None);
     assert_eq!(rt; history.joined().0, "git loglsgit push");
-    for direction in [SearchDirection::Backwards, SearchDirection::Forwards] {
-        for pattern in ["git", "", "zz", "push"] {
-            for idx in [0, 1, 3, 4, usize::MAX] {
+    for &direction in &[SearchDirection::Backwards, SearchDirection::Forwards] {
+        for &pattern in &["git", "", "zz", "push"] {
+            for &idx in &[0, 1, 3, 4, usize::MAX] {
                 let found = history.search(alloc, idx, SearchStyle::Substring, direction, pattern);
                 assert!(rt; found.is_ok());
                 assert!(rt; direction.next(idx) != Some(idx));
@@ -129,7 +129,7 @@ fn sequences_are_asked_without_memory(rt: HostRuntime) -> Result<(), Fail> {
 fn texts_are_measured_without_memory(rt: HostRuntime) -> Result<(), Fail> {
     let alloc = rt.alloc();
     mark(alloc)?;
-    for (text, width) in [
+    for &(text, width) in &[
         ("", 0),
         ("abc", 3),
         ("\u{4e00}\u{e9}", 3),

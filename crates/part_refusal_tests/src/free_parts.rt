@@ -23,7 +23,7 @@ fn bounded_histories_are_asked_without_memory(rt: HostRuntime) -> Result<(), Fai
     assert_eq!(rt; history.limit(), 2);
     assert_eq!(rt; history.last(), None);
     mark(alloc)?;
-    for line in ["git log", "ls", "git push"] {
+    for &line in &["git log", "ls", "git push"] {
         history.add(line)?;
     }
     mark(alloc)?;
@@ -31,8 +31,8 @@ fn bounded_histories_are_asked_without_memory(rt: HostRuntime) -> Result<(), Fai
     assert_eq!(rt; history.last(), Some(1));
     assert_eq!(rt; history.get(alloc, 0)?, Some(CowStr::Borrowed("ls")));
     assert_eq!(rt; history.get(alloc, 2)?, None);
-    for direction in [SearchDirection::Backwards, SearchDirection::Forwards] {
-        for pattern in ["git", "", "zz"] {
+    for &direction in &[SearchDirection::Backwards, SearchDirection::Forwards] {
+        for &pattern in &["git", "", "zz"] {
             let found = history.search(alloc, 1, SearchStyle::Substring, direction, pattern);
             assert!(rt; found.is_ok(), "{pattern:?}");
         }
@@ -123,7 +123,7 @@ fn bytes_are_scanned_without_memory(rt: HostRuntime) -> Result<(), Fail> {
     let alloc = rt.alloc();
     mark(alloc)?;
     let _encoder = Encoder::new(80);
-    for bytes in [
+    for &bytes in &[
         b"a".as_slice(),
         b"\x1b[1;3D",
         b"\xc3\xa9",
@@ -131,7 +131,7 @@ fn bytes_are_scanned_without_memory(rt: HostRuntime) -> Result<(), Fail> {
     ] {
         assert!(rt; scan(bytes, false).is_some(), "{bytes:?}");
     }
-    for bytes in [b"\x1b[1;".as_slice(), b"\xf0\x9f", b"\x1b[200~abc"] {
+    for &bytes in &[b"\x1b[1;".as_slice(), b"\xf0\x9f", b"\x1b[200~abc"] {
         assert!(rt; scan(bytes, false).is_none(), "{bytes:?}");
         assert!(rt; scan(bytes, true).is_some(), "{bytes:?}");
     }

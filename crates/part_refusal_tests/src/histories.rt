@@ -103,7 +103,7 @@ fn searched_lines_refused_in_turn(rt: HostRuntime) -> Result<(), Fail> {
     let mut history = BasicHistory::new(alloc);
     expect_added(&rt, alloc, &mut history, &ADDITIONS[..4])?;
     let (style, backwards) = (SearchStyle::Substring, SearchDirection::Backwards);
-    for (idx, pattern, wanted) in [
+    for &(idx, pattern, wanted) in &[
         (1, "git", Some((0, 0, "git log"))),
         (3, "git", None),
         (2, "push", Some((2, 4, "git push"))),

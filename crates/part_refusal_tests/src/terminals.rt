@@ -44,7 +44,7 @@ fn batches_refused_in_turn(rt: HostRuntime) -> Result<(), Fail> {
     let alloc = rt.alloc();
     let mut terminal = terminal_of(alloc, 80, "a b")?;
     let mut wanted = String::new(alloc);
-    for text in ["a", "bc", "", "d", "e"] {
+    for &text in &["a", "bc", "", "d", "e"] {
         let batch = batch_of(alloc, text)?;
         let rendered = render(&rt, alloc, &mut terminal, batch.as_slice())?;
         assert_eq!(rt; rendered, Ok(()));
@@ -61,7 +61,7 @@ fn batches_refused_in_turn(rt: HostRuntime) -> Result<(), Fail> {
 #[test]
 fn a_part_of_a_batch_refused_in_turn(rt: HostRuntime) -> Result<(), Fail> {
     let alloc = rt.alloc();
-    for (taken, wanted) in [
+    for &(taken, wanted) in &[
         (0, ""),
         (1, "ClearScreen\n"),
         (2, "ClearScreen, Text(\"a\")\n"),

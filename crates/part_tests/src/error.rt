@@ -36,7 +36,7 @@ fn errors_have_texts_and_numbers(rt: HostRuntime) -> Result<(), Fail> {
     let misfit = "completion candidate does not fit";
     expect_error(&rt, alloc, Error::CandidateDoesNotFit, 5, misfit)?;
     expect_error(&rt, alloc, Error::from(AllocError), 6, "out of memory")?;
-    for fault in [TerminalFault::Device, TerminalFault::Memory] {
+    for &fault in &[TerminalFault::Device, TerminalFault::Memory] {
         expect_error(&rt, alloc, Error::from(fault), 7, "terminal fault")?;
     }
     Ok(())

@@ -34,20 +34,20 @@ fn lines_are_joined(rt: HostRuntime) -> Result<(), Fail> {
 
 #[test]
 fn next_stops_at_the_ends(rt: HostRuntime) {
-    let cases = [
+    let cases = &[
         (SearchDirection::Backwards, 0, None),
         (SearchDirection::Backwards, 5, Some(4)),
         (SearchDirection::Forwards, 5, Some(6)),
         (SearchDirection::Forwards, usize::MAX, None),
     ];
-    for (direction, idx, expected) in cases {
+    for &(direction, idx, expected) in cases {
         assert_eq!(rt; direction.next(idx), expected, "at {direction:?}, {idx}");
     }
 }
 
 #[test]
 fn patterns_are_found_at_their_first_byte_offset(rt: HostRuntime) {
-    let cases = [
+    let cases = &[
         ("", "", Some(0)),
         ("", "ls", Some(0)),
         ("s", "ls", Some(1)),
@@ -58,7 +58,7 @@ fn patterns_are_found_at_their_first_byte_offset(rt: HostRuntime) {
         ("\u{e9}", "\u{4e00}\u{e9}\u{e9}", Some(3)),
         ("b", "\u{1f600}b", Some(4)),
     ];
-    for (pattern, line, expected) in cases {
+    for &(pattern, line, expected) in cases {
         assert_eq!(rt;
             SearchStyle::Substring.match_against(pattern, line),
             expected,
@@ -81,7 +81,7 @@ fn results_are_equal_by_their_values(rt: HostRuntime) -> Result<(), Fail> {
         cursor: 4,
     };
     assert_eq!(rt; owned, borrowed("git log", 1, 4));
-    for (line, idx, cursor) in [("git lo", 1, 4), ("git log", 0, 4), ("git log", 1, 0)] {
+    for &(line, idx, cursor) in &[("git lo", 1, 4), ("git log", 0, 4), ("git log", 1, 0)] {
         let other = borrowed(line, idx, cursor);
         assert!(rt; owned != other, "{other:?}");
     }

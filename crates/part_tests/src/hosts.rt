@@ -59,7 +59,7 @@ fn told(alloc: Global, elements: &[OutputElement]) -> Result<String, AllocError>
 /// Two rows have the same word.
 fn sql_hints(alloc: Global) -> Result<Vec<Hint>, AllocError> {
     let mut hints = Vec::new(alloc);
-    for (word, text) in [
+    for &(word, text) in &[
         ("", "type a statement"),
         ("drop", "drops\r\na table"),
         ("drop", "never shown"),
@@ -75,7 +75,7 @@ fn sql_hints(alloc: Global) -> Result<Vec<Hint>, AllocError> {
 /// Two rows have the same key.
 fn sql_keys(alloc: Global) -> Result<Vec<KeyBinding>, AllocError> {
     let mut keys = Vec::new(alloc);
-    for (key, binding) in [
+    for &(key, binding) in &[
         (F1, Binding::Clear),
         (CTRL_Z, Binding::Cancel),
         (F1, Binding::Accept),
@@ -109,7 +109,7 @@ const CTRL_Z: KeyEvent = KeyEvent {
 
 #[test]
 fn lines_are_cut_into_tokens(rt: HostRuntime) -> Result<(), Fail> {
-    for (line, token, rest) in [
+    for &(line, token, rest) in &[
         ("select x", "select", " x"),
         (" x", " ", "x"),
         ("  x", " ", " x"),
@@ -133,7 +133,7 @@ fn lines_are_cut_into_tokens(rt: HostRuntime) -> Result<(), Fail> {
 fn keywords_and_quotes_have_styles(rt: HostRuntime) -> Result<(), Fail> {
     let alloc = rt.alloc();
     let host = sql_host(alloc)?;
-    for (line, shown) in [
+    for &(line, shown) in &[
         ("", ""),
         ("select", "Bselect|"),
         ("selects", ".selects|"),
@@ -156,7 +156,7 @@ fn keywords_and_quotes_have_styles(rt: HostRuntime) -> Result<(), Fail> {
 fn the_word_before_the_cursor_is_completed(rt: HostRuntime) -> Result<(), Fail> {
     let alloc = rt.alloc();
     let host = sql_host(alloc)?;
-    for (line, cursor, start, found) in [
+    for &(line, cursor, start, found) in &[
         ("or", 2, 0, "orders,order_items,"),
         ("from orders", 7, 5, "orders,order_items,"),
         ("from us", 7, 5, "users,"),
@@ -179,7 +179,7 @@ fn the_word_before_the_cursor_is_completed(rt: HostRuntime) -> Result<(), Fail> 
 fn the_first_hint_for_the_first_word_is_shown(rt: HostRuntime) -> Result<(), Fail> {
     let alloc = rt.alloc();
     let host = sql_host(alloc)?;
-    for (line, hint) in [
+    for &(line, hint) in &[
         ("", ".type a statement|"),
         ("drop", ".drops\r\na table|"),
         ("drop users", ".drops\r\na table|"),
@@ -208,9 +208,9 @@ fn keys_have_the_action_of_their_first_row(rt: HostRuntime) -> Result<(), Fail> 
         key: KeyCode::Char('Z'),
         modifiers: Modifiers::NONE,
     };
-    for event in [InputEvent::Key(plain), InputEvent::Wake] {
+    for event in &[InputEvent::Key(plain), InputEvent::Wake] {
         assert!(rt;
-            host.resolve_action(alloc, &event, &mut line)?.is_none(),
+            host.resolve_action(alloc, event, &mut line)?.is_none(),
             "{event:?}"
         );
     }
@@ -221,7 +221,7 @@ fn keys_have_the_action_of_their_first_row(rt: HostRuntime) -> Result<(), Fail> 
 fn words_are_found(rt: HostRuntime) -> Result<(), Fail> {
     let alloc = rt.alloc();
     let words = words_of(alloc, "copy move")?;
-    for (text, first, last) in [
+    for &(text, first, last) in &[
         ("", "", ""),
         ("copy", "copy", "copy"),
         ("copy a b", "copy", "b"),

@@ -20,7 +20,7 @@ fn known_modifiers(bits: u16) -> Option<Modifiers>
 #[test]
 fn bits_make_modifiers(rt: HostRuntime) {
     laws::equality();
-    for (bits, known) in [
+    for &(bits, known) in &[
         (0, true),
         (1, false),
         (2, true),
@@ -40,14 +40,14 @@ fn bits_make_modifiers(rt: HostRuntime) {
 
 #[test]
 fn modifiers_have_names(rt: HostRuntime) {
-    for (name, bits) in [("SHIFT", 2), ("ALT", 4), ("CTRL", 8), ("SUPER", 16)] {
+    for &(name, bits) in &[("SHIFT", 2), ("ALT", 4), ("CTRL", 8), ("SUPER", 16)] {
         assert_eq!(rt;
             Modifiers::from_name(name).map(|found| found.bits()),
             Some(bits),
             "at {name}"
         );
     }
-    for name in ["NONE", "ctrl", "CTRL ", ""] {
+    for &name in &["NONE", "ctrl", "CTRL ", ""] {
         assert_eq!(rt; Modifiers::from_name(name), None, "at {name}");
     }
 }
@@ -82,7 +82,7 @@ fn held_name(modifiers: Modifiers) -> &'static str {
 
 #[test]
 fn modifiers_are_patterns(rt: HostRuntime) {
-    for (modifiers, name) in [
+    for &(modifiers, name) in &[
         (Modifiers::NONE, "none"),
         (Modifiers::SHIFT, "shift"),
         (Modifiers::ALT, "alt"),

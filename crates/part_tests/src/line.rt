@@ -46,7 +46,7 @@ fn assert_cut(rt: &impl Abort, buffer: &LineEditBuffer, line: &str, cursor: usiz
 
 #[test]
 fn word_steps_go_by_whitespace(rt: HostRuntime) -> Result<(), Fail> {
-    let rows = [
+    let rows = &[
         ("a b", 3, BackwardWord(0), 3),
         ("a b", 3, BackwardWord(1), 2),
         ("a b", 3, BackwardWord(2), 0),
@@ -65,7 +65,7 @@ fn word_steps_go_by_whitespace(rt: HostRuntime) -> Result<(), Fail> {
         ("", 0, BackwardWord(1), 0),
         ("", 0, ForwardWord(1), 0),
     ];
-    for (line, cursor, movement, want) in rows {
+    for &(line, cursor, movement, want) in rows {
         let cursor = moved(&rt, rt.alloc(), line, cursor, movement)?;
         assert_eq!(rt; cursor, want, "{line:?} {movement:?}");
     }
@@ -76,7 +76,7 @@ fn word_steps_go_by_whitespace(rt: HostRuntime) -> Result<(), Fail> {
 // legacy grapheme clusters, which know no spacing marks, no prepended characters and no conjuncts.
 #[test]
 fn character_steps_go_by_legacy_clusters(rt: HostRuntime) -> Result<(), Fail> {
-    let rows = [
+    let rows = &[
         // a combining mark
         ("a\u{301}b", 0, 3, 0),
         ("a\u{301}b", 1, 3, 0),
@@ -105,7 +105,7 @@ fn character_steps_go_by_legacy_clusters(rt: HostRuntime) -> Result<(), Fail> {
         ("\u{600}a", 0, 2, 0),
         ("\u{915}\u{94d}\u{937}", 6, 9, 0),
     ];
-    for (line, cursor, ahead, back) in rows {
+    for &(line, cursor, ahead, back) in rows {
         let forward = moved(&rt, rt.alloc(), line, cursor, ForwardChar(1))?;
         assert_eq!(rt; forward, ahead, "ahead in {line:?} at {cursor}");
         let backward = moved(&rt, rt.alloc(), line, cursor, BackwardChar(1))?;
@@ -116,7 +116,7 @@ fn character_steps_go_by_legacy_clusters(rt: HostRuntime) -> Result<(), Fail> {
 
 #[test]
 fn every_count_returns(rt: HostRuntime) -> Result<(), Fail> {
-    let rows = [
+    let rows = &[
         (ForwardChar(usize::MAX), 7),
         (BackwardChar(usize::MAX), 0),
         (ForwardWord(usize::MAX), 7),
@@ -126,7 +126,7 @@ fn every_count_returns(rt: HostRuntime) -> Result<(), Fail> {
         (ForwardWord(0), 3),
         (BackwardWord(0), 3),
     ];
-    for (movement, want) in rows {
+    for &(movement, want) in rows {
         let cursor = moved(&rt, rt.alloc(), "abc def", 3, movement)?;
         assert_eq!(rt; cursor, want, "{movement:?}");
     }
@@ -135,12 +135,12 @@ fn every_count_returns(rt: HostRuntime) -> Result<(), Fail> {
 
 #[test]
 fn ends_of_the_line_are_byte_offsets(rt: HostRuntime) -> Result<(), Fail> {
-    let rows = [
+    let rows = &[
         ("\u{e9}", 0, EndOfLine, 2),
         ("a\u{e9}", 3, StartOfLine, 0),
         ("a\u{e9}b", 1, Movement::None, 1),
     ];
-    for (line, cursor, movement, want) in rows {
+    for &(line, cursor, movement, want) in rows {
         let cursor = moved(&rt, rt.alloc(), line, cursor, movement)?;
         assert_eq!(rt; cursor, want, "{line:?} {movement:?}");
     }
@@ -151,7 +151,7 @@ fn ends_of_the_line_are_byte_offsets(rt: HostRuntime) -> Result<(), Fail> {
 fn kills_clamp_the_cursor_to_a_boundary(rt: HostRuntime) -> Result<(), Fail> {
     let next = ForwardChar(1);
     let word = BackwardWord(1);
-    let rows = [
+    let rows = &[
         ("a\u{e9}b", 0, next, next, "\u{e9}b", 0),
         ("abc", 0, next, next, "bc", 1),
         ("abc", 1, next, Movement::None, "ac", 1),
@@ -168,7 +168,7 @@ fn kills_clamp_the_cursor_to_a_boundary(rt: HostRuntime) -> Result<(), Fail> {
             1,
         ),
     ];
-    for (line, cursor, kill, movement, left, want) in rows {
+    for &(line, cursor, kill, movement, left, want) in rows {
         let mut buffer = buffer_at(&rt, rt.alloc(), line, cursor)?;
         buffer.kill_text(kill, movement);
         assert_cut(&rt, &buffer, left, want);
@@ -178,13 +178,13 @@ fn kills_clamp_the_cursor_to_a_boundary(rt: HostRuntime) -> Result<(), Fail> {
 
 #[test]
 fn a_character_is_inserted_into_its_cluster(rt: HostRuntime) -> Result<(), Fail> {
-    let rows = [
+    let rows = &[
         ("\u{301}", 0, 'e', "e\u{301}", 3),
         ("ab", 1, '\u{301}', "a\u{301}b", 3),
         ("\u{1f1ea}", 0, '\u{1f1e9}', "\u{1f1e9}\u{1f1ea}", 8),
         ("\n", 0, '\r', "\r\n", 2),
     ];
-    for (line, cursor, c, want, target) in rows {
+    for &(line, cursor, c, want, target) in rows {
         let mut buffer = buffer_at(&rt, rt.alloc(), line, cursor)?;
         buffer.insert_char(c)?;
         assert_cut(&rt, &buffer, want, target);
@@ -215,7 +215,7 @@ fn counted_insertions_repeat_the_insertion(rt: HostRuntime) -> Result<(), Fail> 
 // round before made with what stood there.
 #[test]
 fn counted_flags_pair_up(rt: HostRuntime) -> Result<(), Fail> {
-    let rows = [
+    let rows = &[
         (
             8,
             3,
@@ -235,7 +235,7 @@ fn counted_flags_pair_up(rt: HostRuntime) -> Result<(), Fail> {
             24,
         ),
     ];
-    for (cursor, count, want, target) in rows {
+    for &(cursor, count, want, target) in rows {
         let line = "\u{1f1e9}\u{1f1ea}\u{1f1eb}\u{1f1f7}";
         let mut buffer = buffer_at(&rt, rt.alloc(), line, cursor)?;
         buffer.insert_char_times(count, '\u{1f1e6}')?;
@@ -312,7 +312,7 @@ fn assert_found(
 
 #[test]
 fn the_cursor_is_found_at_each_boundary(rt: HostRuntime) -> Result<(), Fail> {
-    for count in [0, 1, 2, 3, 1023, 1024, 1025] {
+    for &count in &[0, 1, 2, 3, 1023, 1024, 1025] {
         let line = line_of(rt.alloc(), count)?;
         for (index, (at, _)) in line.char_indices().enumerate() {
             assert_found(&rt, rt.alloc(), &line, at, index)?;
@@ -324,13 +324,13 @@ fn the_cursor_is_found_at_each_boundary(rt: HostRuntime) -> Result<(), Fail> {
 
 #[test]
 fn the_cursor_is_found_in_short_lines(rt: HostRuntime) -> Result<(), Fail> {
-    let rows = [
+    let rows = &[
         ("", 0, 0),
         ("a\u{e9}", 1, 1),
         ("a\u{e9}", 3, 2),
         ("e\u{301}b", 1, 1),
     ];
-    for (line, cursor, index) in rows {
+    for &(line, cursor, index) in rows {
         assert_found(&rt, rt.alloc(), line, cursor, index)?;
     }
     Ok(())

@@ -56,7 +56,7 @@ fn to_first_column(y: isize) -> Change {
 fn shown(alloc: Global, line: &str) -> Result<Vec<Change>, AllocError> {
     let mut changes = Vec::new(alloc);
     changes.push(Change::ClearToEndOfScreen(ColorAttribute::Default))?;
-    for shown in ["> ", line] {
+    for &shown in &["> ", line] {
         changes.push(Change::AllAttributes(CellAttributes::default()))?;
         changes.push(text(alloc, shown)?)?;
     }
@@ -106,7 +106,7 @@ fn assert_painting(
 
 #[test]
 fn lines_are_painted(rt: HostRuntime) -> Result<(), Fail> {
-    let rows = [
+    let rows = &[
         // columns, line, whether a space stands behind it, the last move, the closing move
         (80, "hi", false, (0, 0), 1),
         (10, "abcdefgh", true, (-1, 0), 1),
@@ -114,7 +114,7 @@ fn lines_are_painted(rt: HostRuntime) -> Result<(), Fail> {
     ];
     let alloc = rt.alloc();
     let host = NopLineEditorHost::new(alloc);
-    for (cols, line, edge_space, (x, y), closing_move) in rows {
+    for &(cols, line, edge_space, (x, y), closing_move) in rows {
         let painting = painted(&host, alloc, (24, cols), line, None)?;
         let wanted = batch(alloc, line, edge_space, move_by(x, y))?;
         assert_painting(&rt, &painting, wanted.as_slice(), closing_move);
@@ -157,7 +157,7 @@ fn search_stands_under_the_line(rt: HostRuntime) -> Result<(), Fail> {
 
 #[test]
 fn sizes_have_limits(rt: HostRuntime) -> Result<(), Fail> {
-    let rows = [
+    let rows = &[
         (24, 0, Some(3)),
         (0, 65_536, Some(3)),
         (24, 65_536, Some(4)),
@@ -166,7 +166,7 @@ fn sizes_have_limits(rt: HostRuntime) -> Result<(), Fail> {
     ];
     let alloc = rt.alloc();
     let host = NopLineEditorHost::new(alloc);
-    for (screen_rows, cols, number) in rows {
+    for &(screen_rows, cols, number) in rows {
         let answer = painted(&host, alloc, (screen_rows, cols), "hi", None);
         assert_eq!(rt; answer.err().map(|e| e.number()), number);
     }

@@ -169,7 +169,7 @@ fn a_refused_render_takes_nothing(rt: HostRuntime) -> Result<(), Fail> {
 
 #[test]
 fn texts_of_faults(rt: HostRuntime) -> Result<(), Fail> {
-    for (fault, text) in [
+    for &(fault, text) in &[
         (TerminalFault::Device, "device failed"),
         (TerminalFault::Memory, "out of memory"),
     ] {

@@ -71,7 +71,7 @@ fn expect_action<H: LineEditorHost>(
 fn insertions_refused_in_turn(rt: HostRuntime) -> Result<(), Fail> {
     let alloc = rt.alloc();
     let host = &mut NopLineEditorHost::new(alloc);
-    for (count, text, wanted) in [
+    for &(count, text, wanted) in &[
         (usize::MAX, "", (0, "ab", 1)),
         (usize::MAX, "xy", (6, "ab", 1)),
         (3, "xy", (0, "axyxyxyb", 7)),
@@ -81,7 +81,7 @@ fn insertions_refused_in_turn(rt: HostRuntime) -> Result<(), Fail> {
         let again = Action::InsertText(count, String::from_str(alloc, text)?);
         expect_action(&rt, alloc, host, ("ab", 1), (action, again), wanted)?;
     }
-    for (count, wanted) in [(9, (0, "a!!!!!!!!!b", 10)), (usize::MAX, (6, "ab", 1))] {
+    for &(count, wanted) in &[(9, (0, "a!!!!!!!!!b", 10)), (usize::MAX, (6, "ab", 1))] {
         let action = Action::InsertChar(count, '!');
         let again = Action::InsertChar(count, '!');
         expect_action(&rt, alloc, host, ("ab", 1), (action, again), wanted)?;
@@ -93,7 +93,7 @@ fn insertions_refused_in_turn(rt: HostRuntime) -> Result<(), Fail> {
 #[test]
 fn completions_refused_in_turn(rt: HostRuntime) -> Result<(), Fail> {
     let alloc = rt.alloc();
-    for (start, candidates, wanted) in [
+    for &(start, candidates, wanted) in &[
         (("why he", 6), "cand 4 6 hello", (0, "why hello", 9)),
         (("ab", 0), "cand 0 2 ", (5, "ab", 0)),
         (("f", 1), "cand 0 1 foo\ncand 0 1 far", (0, "foo", 3)),

@@ -111,7 +111,7 @@ fn finished_lines_refused_in_turn(rt: HostRuntime) -> Result<(), Fail> {
 #[test]
 fn resolved_events_refused_in_turn(rt: HostRuntime) -> Result<(), Fail> {
     let alloc = rt.alloc();
-    for (events, wanted) in [
+    for &(events, wanted) in &[
         ("events a F1 X Enter\n", "Some(\"clearX\")"),
         ("events F1 Escape\n", "None"),
     ] {

@@ -13,7 +13,7 @@ use tw_terminal::{ScriptTerminal, TerminalFault};
 
 /// The modes in which an editor stands after the actions of these names: editing, in the history, completing,
 /// searching with a match and without one, cancelled and accepted.
-const MODES: [&str; 7] = ["a", "a Up", "f Tab Tab", "C-R g", "C-S z", "C-C", "a Enter"];
+const MODES: &[&str] = &["a", "a Up", "f Tab Tab", "C-R g", "C-S z", "C-C", "a Enter"];
 
 /// Puts the editor into a mode, and applies one action that takes no memory there.
 fn expect_free(
@@ -45,12 +45,12 @@ fn expect_free(
 #[test]
 fn movements_and_ends_without_memory(rt: HostRuntime) -> Result<(), Fail> {
     let alloc = rt.alloc();
-    for mode in MODES {
+    for &mode in MODES {
         expect_free(&rt, alloc, mode, Action::NoAction, 0)?;
         expect_free(&rt, alloc, mode, Action::EndOfFile, 1)?;
         expect_free(&rt, alloc, mode, Action::Cancel, 0)?;
         expect_free(&rt, alloc, mode, Action::AcceptLine, 0)?;
-        for movement in [
+        for &movement in &[
             Movement::BackwardChar(1),
             Movement::ForwardWord(2),
             Movement::EndOfLine,
@@ -66,8 +66,8 @@ fn movements_and_ends_without_memory(rt: HostRuntime) -> Result<(), Fail> {
 #[test]
 fn kills_without_memory(rt: HostRuntime) -> Result<(), Fail> {
     let alloc = rt.alloc();
-    for mode in ["a", "a Up", "f Tab Tab", "C-C", "a Enter"] {
-        for kill in [Movement::BackwardWord(1), Movement::StartOfLine] {
+    for &mode in &["a", "a Up", "f Tab Tab", "C-C", "a Enter"] {
+        for &kill in &[Movement::BackwardWord(1), Movement::StartOfLine] {
             expect_free(&rt, alloc, mode, Action::Kill(kill), 0)?;
             let action = Action::KillAndMove(kill, Movement::None);
             expect_free(&rt, alloc, mode, action, 0)?;
@@ -168,7 +168,7 @@ fn actions_with_nothing_to_do_without_memory(rt: HostRuntime) -> Result<(), Fail
 fn refusals_are_numbered_without_memory(rt: HostRuntime) -> Result<(), Fail> {
     let alloc = rt.alloc();
     mark(alloc)?;
-    for (error, number) in [
+    for (error, number) in &[
         (Error::EndOfFile, 1),
         (Error::Recursive, 2),
         (Error::ZeroSize, 3),
@@ -177,13 +177,13 @@ fn refusals_are_numbered_without_memory(rt: HostRuntime) -> Result<(), Fail> {
         (Error::Memory(AllocError), 6),
         (Error::Terminal(TerminalFault::Device), 7),
     ] {
-        assert_eq!(rt; error.number(), number);
+        assert_eq!(rt; error.number(), *number);
     }
     mark(alloc)?;
     Ok(())
 }
 
-const KEYS: [KeyCode; 24] = [
+const KEYS: &[KeyCode] = &[
     KeyCode::Backspace,
     KeyCode::Tab,
     KeyCode::Enter,
@@ -214,14 +214,14 @@ const KEYS: [KeyCode; 24] = [
 fn keys_have_actions_without_memory(rt: HostRuntime) -> Result<(), Fail> {
     let alloc = rt.alloc();
     mark(alloc)?;
-    for modifiers in [
+    for &modifiers in &[
         Modifiers::NONE,
         Modifiers::SHIFT,
         Modifiers::ALT,
         Modifiers::CTRL,
         Modifiers::SUPER,
     ] {
-        for key in KEYS {
+        for &key in KEYS {
             let event = InputEvent::Key(KeyEvent { key, modifiers });
             assert!(rt; default_action(alloc, &event).is_ok());
         }

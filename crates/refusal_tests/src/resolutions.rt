@@ -34,7 +34,7 @@ fn resolutions_refused_in_turn(rt: HostRuntime) -> Result<(), Fail> {
 #[test]
 fn readings_with_resolutions_refused_in_turn(rt: HostRuntime) -> Result<(), Fail> {
     let alloc = rt.alloc();
-    for (events, wanted) in [
+    for &(events, wanted) in &[
         ("events a F1 X Enter\n", "Some(\"clearX\")"),
         ("events F1 Escape\n", "None"),
     ] {

@@ -478,7 +478,7 @@ fn a_line_that_is_no_directive_ends_the_run(rt: HostRuntime) -> Result<(), Fail>
 
 #[test]
 fn a_line_that_is_no_text_is_bad(rt: HostRuntime) {
-    for script in [
+    for &script in &[
         b"\n\xff\nread".as_slice(),
         b"\ntype \xc3\n".as_slice(),
         b"\nprompt \xed\xa0\x80".as_slice(),

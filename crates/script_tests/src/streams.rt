@@ -94,7 +94,7 @@ impl Write for Writer {
 
 #[test]
 fn short_reads_give_the_whole_script(rt: HostRuntime) {
-    for most in [1, 2, 3, 7, 4096, 9999] {
+    for &most in &[1, 2, 3, 7, 4096, 9999] {
         let mut reader = Reader {
             rest: SCRIPT.as_bytes(),
             most,
@@ -109,7 +109,7 @@ fn short_reads_give_the_whole_script(rt: HostRuntime) {
 
 #[test]
 fn a_read_that_fails_ends_the_run_with_nothing_written(rt: HostRuntime) {
-    for reads in [0, 1, 6] {
+    for &reads in &[0, 1, 6] {
         let mut reader = Reader {
             rest: SCRIPT.as_bytes(),
             most: 8,
@@ -139,7 +139,7 @@ fn a_script_without_end_is_given_up(rt: HostRuntime) {
 /// Each case is how many bytes a write takes, how many writes go well, and how much is then written.
 #[test]
 fn a_write_that_fails_ends_the_run(rt: HostRuntime) {
-    for (room, writes, taken) in [(99, 0, 0), (0, 99, 0), (3, 1, 3), (1, 40, 40)] {
+    for &(room, writes, taken) in &[(99, 0, 0), (0, 99, 0), (3, 1, 3), (1, 40, 40)] {
         let mut writer = Writer {
             writes,
             room,
@@ -159,7 +159,7 @@ fn a_write_that_fails_ends_the_run(rt: HostRuntime) {
 
 #[test]
 fn a_flush_that_fails_ends_the_run_after_the_whole_output(rt: HostRuntime) {
-    for flushes in [true, false] {
+    for &flushes in &[true, false] {
         let mut writer = Writer {
             writes: 99,
             room: 99,
@@ -175,7 +175,7 @@ fn a_flush_that_fails_ends_the_run_after_the_whole_output(rt: HostRuntime) {
 
 #[test]
 fn short_writes_give_the_whole_output(rt: HostRuntime) {
-    for room in [1, 2, 5] {
+    for &room in &[1, 2, 5] {
         let mut writer = Writer {
             writes: 99,
             room,

@@ -6,7 +6,7 @@ use tw_surface::{
 
 #[test]
 fn columns_of_texts(rt: HostRuntime) {
-    for (s, columns) in [
+    for &(s, columns) in &[
         ("", 0),
         ("abc", 3),
         (" ~", 2),

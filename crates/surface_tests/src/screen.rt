@@ -82,7 +82,7 @@ fn new_screen(alloc: Global, width: usize) -> Result<Screen, Fail> {
 
 #[test]
 fn sizes(rt: HostRuntime) {
-    for (width, fault) in [
+    for &(width, fault) in &[
         (0, Some(SizeFault::ZeroSize)),
         (1, None),
         (65_535, None),
@@ -210,7 +210,7 @@ fn an_empty_text_changes_nothing(rt: HostRuntime) -> Result<(), Fail> {
 fn beyond_the_width(rt: HostRuntime) -> Result<(), Fail> {
     let mut screen = new_screen(rt.alloc(), 5)?;
     expect_played(&rt, rt.alloc(), &mut screen, "text abcdef|Ok(())#")?;
-    for (row, col, ch) in [
+    for &(row, col, ch) in &[
         (0, 4, 'e'),
         (0, 5, ' '),
         (1, 0, 'f'),
@@ -251,7 +251,7 @@ fn near_and_far_rows(rt: HostRuntime) -> Result<(), Fail> {
     let mut screen = new_screen(rt.alloc(), 5)?;
     assert_row(&rt, rt.alloc(), &screen, 0, "|       ")?;
     expect_played(&rt, rt.alloc(), &mut screen, NEAR_AND_FAR)?;
-    for (row, shown) in [
+    for &(row, shown) in &[
         (0, "|abcde  "),
         (1, "|fGHIJ  "),
         (2, "|KL     "),
@@ -286,7 +286,7 @@ fn far_cells_become_near(rt: HostRuntime) -> Result<(), Fail> {
     let near = "to 100 0|Ok(())#text abcdefghij|Ok(())|*|*|Some(900)#";
     expect_played(&rt, rt.alloc(), &mut screen, near)?;
     assert_eq!(rt; kept(rt.alloc(), &screen)?, (4_504, 0));
-    for (row, shown) in [
+    for &(row, shown) in &[
         (100, "|abcde  "),
         (101, "|fghij  "),
         (899, "|       "),

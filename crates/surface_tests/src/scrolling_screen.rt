@@ -18,7 +18,7 @@ fn move_down(rows: isize) -> Change {
 
 #[test]
 fn sizes(rt: HostRuntime) {
-    for (rows, width, fault) in [
+    for &(rows, width, fault) in &[
         (0, 1, Some(SizeFault::ZeroSize)),
         (1, 0, Some(SizeFault::ZeroSize)),
         (65_536, 0, Some(SizeFault::ZeroSize)),
@@ -81,7 +81,7 @@ fn of_many_rows_the_last_ones_stay(rt: HostRuntime) -> Result<(), Fail> {
         screen.apply(&Change::Text(line))?;
     }
     assert_eq!(rt; screen.cursor(), (23, 0));
-    for (row, digits) in [(0, "9977"), (22, "9999"), (23, "    ")] {
+    for &(row, digits) in &[(0, "9977"), (22, "9999"), (23, "    ")] {
         for (col, digit) in digits.chars().enumerate() {
             assert_eq!(rt; screen.char_at(row, col), digit, "at {row} and {col}");
         }
@@ -115,7 +115,7 @@ fn far_cells_go_up(rt: HostRuntime) -> Result<(), Fail> {
     screen.apply(&move_down(999))?;
     screen.apply(&text(rt.alloc(), "c\r\n\n")?)?;
     assert_eq!(rt; screen.cursor(), (59_999, 0));
-    for (row, col, ch) in [
+    for &(row, col, ch) in &[
         (58_998, 0, 'a'),
         (58_998, 1, 'b'),
         (59_000, 0, ' '),

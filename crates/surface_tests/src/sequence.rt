@@ -191,7 +191,7 @@ fn rows_past_the_limit_are_refused(rt: HostRuntime) -> Result<(), Fail> {
     let mut sequence = ChangeSequence::new(alloc, 1, 5)?;
     sequence.add(at(Position::Absolute(0), Position::Absolute(2_147_483_647)))?;
     sequence.add(text(alloc, "abcde")?)?;
-    for s in ["f", "\n", "x\u{e9}", "\r\n"] {
+    for &s in &["f", "\n", "x\u{e9}", "\r\n"] {
         expect_no_row(&rt, &mut sequence, text(alloc, s)?);
     }
     Ok(())
@@ -199,7 +199,7 @@ fn rows_past_the_limit_are_refused(rt: HostRuntime) -> Result<(), Fail> {
 
 #[test]
 fn sizes_out_of_range_are_refused(rt: HostRuntime) {
-    for (rows, cols, fault) in [
+    for &(rows, cols, fault) in &[
         (0, 5, Some(SizeFault::ZeroSize)),
         (5, 0, Some(SizeFault::ZeroSize)),
         (0, 65_536, Some(SizeFault::ZeroSize)),
