@@ -41,6 +41,10 @@ at_column x e = record e { x = x; parted = false }
 abbrev pub parted_from_wait : Encoder → Encoder
 parted_from_wait e = record e { parted = true }
 
+-- no attribute is set
+abbrev pub without_attributes : Encoder → Encoder
+without_attributes e = record e { attributes = default_attributes }
+
 -- the cursor stands in column 0, and no attribute is set
 abbrev pub first_known : ℕ → Encoder
 first_known cols = record { cols = cols; x = 0; parted = false; attributes = default_attributes }

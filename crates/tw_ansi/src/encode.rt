@@ -6,9 +6,10 @@ ghost use Rattle.std.specs.List.{list_all, list_any};
 ghost use Rattle.unicode_segmentation.specs.Grapheme.{graphemes};
 ghost use Rattle.tw_surface.specs.ChangeView.{change_view};
 ghost use Rattle.tw_surface.specs.Characters.{is_plain};
-ghost use Rattle.tw_ansi.specs.Encoding.{Extends, first_known, at_column, column_of, sent_change, sent_return, sent_feed, sent_return_feed, sent_beginning, sent_byte, shown_as, sent_cluster, sent_plain, sent_clusters, sent_text, sent_clear};
+ghost use Rattle.tw_ansi.specs.Encoding.{Extends, first_known, without_attributes, at_column, column_of, sent_change, sent_return, sent_feed, sent_return_feed, sent_beginning, sent_byte, shown_as, sent_cluster, sent_plain, sent_clusters, sent_text, sent_clear};
 ghost use Rattle.tw_surface.specs.Attributes.{with_attribute};
-ghost use Rattle.tw_ansi.specs.Sequences.{set_attribute, to_row, to_column, to_first_cell, clear_all, clear_with};
+ghost use Rattle.tw_surface.specs.Defaults.{default_attributes};
+ghost use Rattle.tw_ansi.specs.Sequences.{set_attribute, set_attributes, to_row, to_column, to_first_cell, clear_all, clear_with};
 
 use crate::sequence::{clear_with, go_to_column, go_to_row, send_attribute, send_attributes};
 use std::alloc::AllocError;
@@ -61,6 +62,15 @@ impl Encoder {
         ensures { self.new ≡ record self.old { cols = cols } }
     {
         self.cols = cols;
+    }
+
+    /// What resets all attributes: none is set from then on.
+    pub fn reset(&mut self) -> &'static str
+        ensures text { result.now ≡ set_attributes default_attributes }
+        ensures next { self.new ≡ without_attributes self.old }
+    {
+        self.attributes = Encoder::new(self.cols).attributes;
+        "\x1b[0m"
     }
 
     /// Adds what the change is sent as. A refusal leaves the text and what is known as they were.

@@ -3,8 +3,10 @@
 ghost use Rattle.std.specs.Io.KnownBytes.{Appends, Keeps};
 ghost use Rattle.std.specs.Prelude.{◌≡◌, ◌++◌, [], Ok, None, IfOk, OnOk, OnErr, string_bytes};
 ghost use Rattle.tw_surface.specs.ChangeView.{batch_view};
+ghost use Rattle.tw_surface.specs.Defaults.{default_attributes};
 ghost use Rattle.tw_terminal.specs.TerminalState.{fresh_terminal, Fails, Flushes, RenderFails, Renders};
-ghost use Rattle.tw_ansi.specs.Encoding.{first_known, sent_batch};
+ghost use Rattle.tw_ansi.specs.Encoding.{first_known, without_attributes, sent_batch};
+ghost use Rattle.tw_ansi.specs.Sequences.{set_attributes};
 ghost use Rattle.tw_device.specs.Terminal.{terminal_state};
 
 use crate::refused::Refused;
@@ -58,8 +60,24 @@ impl<W: Write> AnsiTerminal<W> {
         self.size = size;
     }
 
-    /// Sends a text as it is. It has to leave the cursor in column 0.
+    /// Sends a text of its owner's as it is, behind a reset of all attributes: a line may have ended in some. The text
+    /// has to leave the cursor in column 0, and no attribute set. A refusal may have sent a beginning.
     pub fn send(&mut self, text: &str) -> Result<(), TerminalFault>
+        ensures kept { terminal_state self.new ≡ terminal_state self.old }
+        ensures sent { let bytes = set_attributes default_attributes ++ text.now in
+            OnOk result (Appends (W.contents self.old.writer) (W.contents self.new.writer) bytes) }
+        ensures next { OnOk result (self.new.encoder ≡ without_attributes self.old.encoder) }
+        ensures known { OnErr result (self.new.encoder ≡ self.old.encoder) }
+    {
+        let mut encoder = self.encoder;
+        self.write(encoder.reset())?;
+        self.write(text)?;
+        self.encoder = encoder;
+        Ok(())
+    }
+
+    /// Writes a text as it is.
+    fn write(&mut self, text: &str) -> Result<(), TerminalFault>
         ensures kept { terminal_state self.new ≡ terminal_state self.old }
         ensures known { self.new.encoder ≡ self.old.encoder }
         ensures sent { OnOk result (Appends (W.contents self.old.writer) (W.contents self.new.writer) text.now) }
