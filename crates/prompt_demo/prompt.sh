@@ -73,6 +73,9 @@ stty raw -echo min 0 time 1 <&3
 "$program" "${size#* }" "${size% *}" <&3 3>&- &
 prompt=$!
 
+# From here on no status ends this script by itself: a new size can leave its signal's number at any command.
+set +e
+
 # A new size ends the waiting, and the prompt goes on. What the last waiting answers may be such an end: the shell is
 # then asked once more, which answers 127 where it has forgotten the prompt.
 status=0
