@@ -6,9 +6,8 @@ use std::alloc::{AllocError, Global};
 use std::borrow::CowStr;
 use std::process::Abort;
 use std::test::Fail;
-use tw_lineedit::{
-    BasicHistory, BoundedHistory, History, SearchDirection, SearchResult, SearchStyle,
-};
+use tw_lineedit::SearchDirection::{self, Backwards, Forwards};
+use tw_lineedit::{BasicHistory, BoundedHistory, History, SearchResult, SearchStyle};
 
 /// A history of as many lines as the cases have at most, which forgets none of them.
 fn five_kept(alloc: Global) -> BoundedHistory {
@@ -23,6 +22,32 @@ fn add_all<L: History>(history: &mut L, lines: &[&str]) -> Result<(), AllocError
     Ok(())
 }
 
+/// The line at an index, or none.
+fn expect_line<L: History>(
+    rt: &impl Abort,
+    alloc: Global,
+    history: &L,
+    at: usize,
+    wanted: Option<&str>,
+) -> Result<(), AllocError> {
+    let wanted = wanted.map(|line| CowStr::Borrowed(line));
+    assert_eq!(rt; history.get(alloc, at)?, wanted, "at {at}");
+    Ok(())
+}
+
+/// The lines from index 0 on.
+fn expect_lines<L: History>(
+    rt: &impl Abort,
+    alloc: Global,
+    history: &L,
+    lines: &[&str],
+) -> Result<(), AllocError> {
+    for (at, line) in lines.iter().enumerate() {
+        expect_line(rt, alloc, history, at, Some(line))?;
+    }
+    Ok(())
+}
+
 /// Adds lines one after another, each with the index of the last line then. A line is left out where it is
 /// the last one already, and only there.
 fn expect_added<L: History>(
@@ -31,23 +56,15 @@ fn expect_added<L: History>(
     history: &mut L,
 ) -> Result<(), AllocError> {
     assert_eq!(rt; history.last(), None);
-    assert_eq!(rt; history.get(alloc, 0)?, None);
+    expect_line(rt, alloc, history, 0, None)?;
     for &(line, last) in &[("a", 0), ("a", 0), ("b", 1), ("c", 2), ("a", 3), ("", 4)] {
         add_all(history, &[line, line])?;
         assert_eq!(rt; history.last(), Some(last), "at {line:?}");
-        let shown = history.get(alloc, last)?;
-        assert_eq!(rt; shown, Some(CowStr::Borrowed(line)), "at {line:?}");
+        expect_line(rt, alloc, history, last, Some(line))?;
     }
-    for (at, line) in ["a", "b", "c", "a", ""].iter().enumerate() {
-        assert_eq!(rt;
-            history.get(alloc, at)?,
-            Some(CowStr::Borrowed(line)),
-            "at {at}"
-        );
-    }
-    assert_eq!(rt; history.get(alloc, 5)?, None);
-    assert_eq!(rt; history.get(alloc, usize::MAX)?, None);
-    Ok(())
+    expect_lines(rt, alloc, history, &["a", "b", "c", "a", ""])?;
+    expect_line(rt, alloc, history, 5, None)?;
+    expect_line(rt, alloc, history, usize::MAX, None)
 }
 
 /// Adds empty lines before and behind another one.
@@ -58,14 +75,7 @@ fn expect_empty_lines<L: History>(
 ) -> Result<(), AllocError> {
     add_all(history, &["", "", "a", ""])?;
     assert_eq!(rt; history.last(), Some(2));
-    for (at, line) in ["", "a", ""].iter().enumerate() {
-        assert_eq!(rt;
-            history.get(alloc, at)?,
-            Some(CowStr::Borrowed(line)),
-            "at {at}"
-        );
-    }
-    Ok(())
+    expect_lines(rt, alloc, history, &["", "a", ""])
 }
 
 #[test]
@@ -80,6 +90,58 @@ fn added_lines_are_the_last(rt: HostRuntime) -> Result<(), Fail> {
     Ok(())
 }
 
+const COMMANDS: &[&str] = &["git log", "ls", "git push"];
+
+const LETTERS: &[&str] = &["ab", "b", "ab"];
+
+const PAIRS: &[&str] = &["ab", "cd"];
+
+const GAPS: &[&str] = &["", "", "a", ""];
+
+const WIDE: &[&str] = &["\u{e9}", "\u{4e00}\u{e9}", "e\u{301}"];
+
+const NO_LINES: &[&str] = &[];
+
+/// The lines of a history, an index and a direction, a pattern, and the index, the offset and the text of the line that
+/// is found.
+type Case = (
+    &'static [&'static str],
+    (usize, SearchDirection),
+    &'static str,
+    Option<(usize, usize, &'static str)>,
+);
+
+const SEARCHES: &[Case] = &[
+    (COMMANDS, (1, Backwards), "git", Some((0, 0, "git log"))),
+    (COMMANDS, (2, Backwards), "git", Some((2, 0, "git push"))),
+    (COMMANDS, (2, Backwards), "push", Some((2, 4, "git push"))),
+    (COMMANDS, (2, Backwards), "log", Some((0, 4, "git log"))),
+    (COMMANDS, (1, Backwards), "", Some((1, 0, "ls"))),
+    (COMMANDS, (1, Backwards), "push", None),
+    (COMMANDS, (3, Backwards), "git", None),
+    (COMMANDS, (0, Forwards), "ls", Some((1, 0, "ls"))),
+    (COMMANDS, (1, Forwards), "git", Some((2, 0, "git push"))),
+    (COMMANDS, (1, Forwards), "log", None),
+    (COMMANDS, (3, Forwards), "git", None),
+    (COMMANDS, (usize::MAX, Forwards), "git", None),
+    (LETTERS, (0, Forwards), "b", Some((0, 1, "ab"))),
+    (LETTERS, (1, Backwards), "b", Some((1, 0, "b"))),
+    (LETTERS, (1, Forwards), "a", Some((2, 0, "ab"))),
+    (PAIRS, (1, Backwards), "bc", None),
+    (PAIRS, (0, Forwards), "bc", None),
+    (PAIRS, (0, Forwards), "d", Some((1, 1, "cd"))),
+    (GAPS, (2, Backwards), "a", Some((1, 0, "a"))),
+    (GAPS, (0, Forwards), "", Some((0, 0, ""))),
+    (
+        WIDE,
+        (2, Backwards),
+        "\u{e9}",
+        Some((1, 3, "\u{4e00}\u{e9}")),
+    ),
+    (NO_LINES, (0, Backwards), "", None),
+    (NO_LINES, (0, Forwards), "", None),
+];
+
 /// Searches from an index in a direction, each with the index, the offset and the text of its line.
 fn expect_searches<L: History + Drop, F: Fn(Global) -> L + Drop>(
     rt: &impl Abort,
@@ -88,45 +150,7 @@ fn expect_searches<L: History + Drop, F: Fn(Global) -> L + Drop>(
 ) -> Result<(), AllocError>
     requires { F.IsAlwaysCallable empty }
 {
-    let commands: &[&str] = &["git log", "ls", "git push"];
-    let letters: &[&str] = &["ab", "b", "ab"];
-    let pairs: &[&str] = &["ab", "cd"];
-    let gaps: &[&str] = &["", "", "a", ""];
-    let wide: &[&str] = &["\u{e9}", "\u{4e00}\u{e9}", "e\u{301}"];
-    let none: &[&str] = &[];
-    let backwards = SearchDirection::Backwards;
-    let forwards = SearchDirection::Forwards;
-    let cases = &[
-        (commands, (1, backwards), "git", Some((0, 0, "git log"))),
-        (commands, (2, backwards), "git", Some((2, 0, "git push"))),
-        (commands, (2, backwards), "push", Some((2, 4, "git push"))),
-        (commands, (2, backwards), "log", Some((0, 4, "git log"))),
-        (commands, (1, backwards), "", Some((1, 0, "ls"))),
-        (commands, (1, backwards), "push", None),
-        (commands, (3, backwards), "git", None),
-        (commands, (0, forwards), "ls", Some((1, 0, "ls"))),
-        (commands, (1, forwards), "git", Some((2, 0, "git push"))),
-        (commands, (1, forwards), "log", None),
-        (commands, (3, forwards), "git", None),
-        (commands, (usize::MAX, forwards), "git", None),
-        (letters, (0, forwards), "b", Some((0, 1, "ab"))),
-        (letters, (1, backwards), "b", Some((1, 0, "b"))),
-        (letters, (1, forwards), "a", Some((2, 0, "ab"))),
-        (pairs, (1, backwards), "bc", None),
-        (pairs, (0, forwards), "bc", None),
-        (pairs, (0, forwards), "d", Some((1, 1, "cd"))),
-        (gaps, (2, backwards), "a", Some((1, 0, "a"))),
-        (gaps, (0, forwards), "", Some((0, 0, ""))),
-        (
-            wide,
-            (2, backwards),
-            "\u{e9}",
-            Some((1, 3, "\u{4e00}\u{e9}")),
-        ),
-        (none, (0, backwards), "", None),
-        (none, (0, forwards), "", None),
-    ];
-    for &(lines, (idx, direction), pattern, wanted) in cases {
+    for &(lines, (idx, direction), pattern, wanted) in SEARCHES {
         let mut history = empty(alloc);
         add_all(&mut history, lines)?;
         let found = history.search(alloc, idx, SearchStyle::Substring, direction, pattern)?;
