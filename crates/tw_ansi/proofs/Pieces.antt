@@ -9,7 +9,7 @@ use Rattle.tw_input.specs.declared.key.KeyCode.TheVariants.{Char, Escape}
 use Rattle.tw_input.specs.Modifiers.{none}
 use Rattle.tw_ansi.specs.declared.token.Token.TheVariants.{Unknown}
 use Rattle.tw_ansi.specs.declared.token.Scanned.{Scanned}
-use Rattle.tw_ansi.specs.KeyBytes.{token_at, escape_at, control_at, ended_at, sequence_at, paste_at, paste_of, paste_len, application_at, behind_escape, character_at, control_characters, key_in, key_or, typed_at, wide_character, whole_character, following_len, is_continuation, replacement, scanned_as, key_token, with_control, is_letter, is_parameter, is_numeric, parameters_token, first_number, second_number}
+use Rattle.tw_ansi.specs.KeyBytes.{token_at, escape_at, control_at, ended_at, sequence_at, paste_at, paste_of, paste_len, application_at, behind_escape, character_at, control_characters, key_in, key_or, typed_at, wide_character, whole_character, following_len, is_continuation, replacement, scanned_as, key_token, with_control, is_letter, is_parameter, is_numeric, parameters_token, first_number}
 use Rattle.tw_ansi.proofs.Pastes.{paste_more}
 
 -- where the first finds a token the second finds the same

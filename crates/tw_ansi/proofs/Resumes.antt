@@ -9,7 +9,7 @@ use Rattle.std.proofs.lemmas.List.{drop-drop, drop-append-le, take-append-le, ap
 use Rattle.tw_ansi.specs.declared.token.Scanned.{Scanned}
 use Rattle.tw_ansi.specs.declared.resume.Progress.{Progress}
 use Rattle.tw_ansi.specs.declared.resume.Progress.TheVariants.{Start, Parameters, Paste}
-use Rattle.tw_ansi.specs.KeyBytes.{token_at, ended_at, sequence_at, paste_at, paste_of, paste_len, paste_end, is_parameter, is_letter, is_numeric, first_number, second_number, parameters_token, scanned_as}
+use Rattle.tw_ansi.specs.KeyBytes.{token_at, ended_at, sequence_at, paste_at, paste_of, paste_len, paste_end, is_parameter, is_letter, is_numeric, first_number, parameters_token, scanned_as}
 use Rattle.tw_ansi.specs.declared.token.Token.TheVariants.{Unknown}
 use Rattle.tw_ansi.specs.Resuming.{Fits, token_resumed, parameters_on, paste_on, searched_to, behind_parameters, sequence_start, behind_start, read_on}
 use Rattle.tw_ansi.proofs.Pastes.{starts_long, starts_more}

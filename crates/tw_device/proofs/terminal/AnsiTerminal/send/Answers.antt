@@ -1,4 +1,4 @@
-use Rattle.std.proofs.Common.{◌≡◌, ◌++◌, ◌∙◌, ap, subst, append_assoc, ℕ, List, Option, Some, None}
+use Rattle.std.proofs.Common.{◌++◌, ◌∙◌, ap, subst, append_assoc, ℕ, List, Option, Some, None}
 use Rattle.std.specs.Io.KnownBytes.{Appends}
 use Rattle.tw_device.proofs.terminal.AnsiTerminal.send.Goals as goal
 
