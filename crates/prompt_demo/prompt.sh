@@ -33,8 +33,8 @@ esac
 saved=$( (stty -g < /dev/tty) 2> /dev/null) || fail "no terminal: start it at one"
 exec 3<> /dev/tty
 
-# Ends the prompt, and sets the terminal back: its modes, the marks of pasted texts, the reports of its size, the colours. Each step is tried
-# also where the one before fails, as all do where the terminal is gone.
+# Ends the prompt, and sets the terminal back: its modes, the marks of pasted texts, the reports of its size, the
+# colours. Each step is tried also where the one before fails, as all do where the terminal is gone.
 prompt=''
 ended=''
 finish() {
