@@ -1,162 +1,173 @@
 -- A character on a terminal, and on the picture that it shows.
-use Rattle.std.proofs.Common.{◌≡◌, ◌≤◌, ◌<◌, ◌+◌, ◌-◌, ℕ, true, false, not, ◌&&◌, cond, eqb, min, ap, subst, ◌∙◌, sym, refl, inl, inr, ◌⊎◌, arith}
+use Rattle.std.proofs.Common.{Some, ◌≡◌, ◌≤◌, ◌<◌, ◌+◌, ◌-◌, ℕ, true, false, not, ◌&&◌, cond, eqb, min, ap, subst, ◌∙◌, sym, refl, inl, inr, ◌⊎◌, arith}
 use Rattle.std.proofs.lemmas.Bool.{eq-eqb, ne_eqb, cases_eq, and_parts, leb-true}
 use Rattle.tw_surface.specs.Characters.{is_printable}
-use Rattle.tw_surface.specs.Pictures.{Picture, cells_with}
-use Rattle.tw_surface.specs.Scrolling.{IsWithin, scroll}
+use Rattle.tw_strokes.specs.Strokes.{PictureOf, put_in, scrolled}
+use Rattle.tw_screens.specs.Pens.{Pen}
+use Rattle.tw_screens.specs.Screens.{blank_of}
 use Rattle.tw_ansi.specs.declared.encode.Encoder.{Encoder}
 use Rattle.tw_ansi.specs.Encoding.{at_column}
 use Rattle.tw_ansi.specs.EcmaScreen.{EcmaScreen, receive, receive_by, return_to_start, feed_line, write, write_here}
 use Rattle.tw_ansi.specs.EcmaScreen as terminal
-use Rattle.tw_ansi.specs.EcmaTexts.{Shows}
+use Rattle.tw_ansi.specs.EcmaTexts.{IsWithin, Shows}
 use Rattle.tw_ansi.proofs.EcmaScrolls.{Fed}
 
--- a printable character outside a sequence is written
-pub text_write : (h w b : ℕ) (t : EcmaScreen) → t.reading ≡ terminal.Text → is_printable b ≡ true → receive h w b t ≡ write h w b t
-text_write h w b t text printable =
-    let low : 32 ≤ b = leb-true 32 b (and_parts _ _ printable).0 in
-    let fed : EcmaScreen = feed_line h t in
-    let last : EcmaScreen = cond (is_printable b) (write h w b t) t in
-    ap (λ r. receive_by h w r b t) text
-    ∙ ap (λ x. cond x (record t { reading = terminal.Escaped }) (cond (eqb b 13) (return_to_start t) (cond (eqb b 10) fed last))) (ne_eqb b 27 (λ e. omega arith))
-    ∙ ap (λ x. cond x (return_to_start t) (cond (eqb b 10) fed last)) (ne_eqb b 13 (λ e. omega arith))
-    ∙ ap (λ x. cond x fed last) (ne_eqb b 10 (λ e. omega arith))
-    ∙ ap (λ x. cond x (write h w b t) t) printable
+module _ {A C : Type 0} (pen : Pen A C) where
+  -- a printable character outside a sequence is written
+  pub text_write : (h w b : ℕ) (t : EcmaScreen C) → t.reading ≡ terminal.Text → is_printable b ≡ true
+      → receive pen h w b t ≡ write (blank_of pen) h w (pen.ink (pen.attributes t.rendition) b) t
+  text_write h w b t text printable =
+      let low : 32 ≤ b = leb-true 32 b (and_parts _ _ printable).0 in
+      let fed : EcmaScreen C = feed_line (blank_of pen) h t in
+      let written : EcmaScreen C = write (blank_of pen) h w (pen.ink (pen.attributes t.rendition) b) t in
+      let last : EcmaScreen C = cond (is_printable b) written t in
+      ap (λ r. receive_by pen h w r b t) text
+      ∙ ap (λ x. cond x (record t { reading = terminal.Escaped }) (cond (eqb b 13) (return_to_start t) (cond (eqb b 10) fed last))) (ne_eqb b 27 (λ e. omega arith))
+      ∙ ap (λ x. cond x (return_to_start t) (cond (eqb b 10) fed last)) (ne_eqb b 13 (λ e. omega arith))
+      ∙ ap (λ x. cond x fed last) (ne_eqb b 10 (λ e. omega arith))
+      ∙ ap (λ x. cond x written t) printable
 
-written_same : (r0 r1 c0 c1 ch i j : ℕ) (f g : ℕ → ℕ → ℕ) → r0 ≡ r1 → c0 ≡ c1 → f i j ≡ g i j → cells_with f r0 c0 ch i j ≡ cells_with g r1 c1 ch i j
-written_same r0 r1 c0 c1 ch i j f g rows cols same =
-    ap (λ x. cells_with f x c0 ch i j) rows ∙ ap (λ x. cells_with f r1 x ch i j) cols ∙ ap (λ v. cond (eqb i r1 && eqb j c1) ch v) same
+  written_same : (r0 r1 c0 c1 i j : ℕ) (x : C) (f g : ℕ → ℕ → C) → r0 ≡ r1 → c0 ≡ c1 → f i j ≡ g i j → put_in f r0 c0 x i j ≡ put_in g r1 c1 x i j
+  written_same r0 r1 c0 c1 i j x f g rows cols same =
+      ap (λ n. put_in f n c0 x i j) rows ∙ ap (λ n. put_in f r1 n x i j) cols ∙ ap (λ v. cond (eqb i r1 && eqb j c1) x v) same
 
--- the picture with a character at its cursor
-abbrev pub put_here : ℕ → Picture → Picture
-put_here b s = record { cell = cells_with s.cell s.row s.col b; row = s.row; col = s.col + 1 }
+  -- the picture with a character at its cursor
+  abbrev pub put_here : C → PictureOf C → PictureOf C
+  put_here b s = record { cell = put_in s.cell s.row s.col b; row = s.row; col = s.col + 1 }
 
-inside_within : (h b : ℕ) (s : Picture) → IsWithin h s → IsWithin h (put_here b s)
-inside_within h b s within = record {
-  row = within.row;
-  below = λ r c low. ap (λ x. cond (x && eqb c s.col) b (s.cell r c)) (ne_eqb r s.row (λ e. omega (arith, within.row))) ∙ within.below r c low;
-}
+  inside_within : (h : ℕ) (b : C) (s : PictureOf C) → IsWithin (blank_of pen) h s → IsWithin (blank_of pen) h (put_here b s)
+  inside_within h b s within = record {
+    row = within.row;
+    below = λ r c low. ap (λ x. cond (x && eqb c s.col) b (s.cell r c)) (ne_eqb r s.row (λ e. omega (arith, within.row))) ∙ within.below r c low;
+  }
 
-inside_cases : (h w b : ℕ) (e : Encoder) (t : EcmaScreen) (s : Picture) → Shows h w e t s → s.col < w → t.waits ≡ false → t.col ≡ s.col
-    → (t.col + 1 ≡ w) ⊎ (t.col + 1 ≡ w → ⊥) → Shows h w (at_column (e.x + 1) e) (write_here w b t) (put_here b s)
-inside_cases h w b e t s a inside idle col (inl last) =
-    let ends : EcmaScreen = record t { cell = cells_with t.cell t.row t.col b; waits = true } in
-    let goes : EcmaScreen = record t { cell = cells_with t.cell t.row t.col b; col = t.col + 1 } in
-    let is : write_here w b t ≡ ends = ap (λ x. cond x ends goes) (eq-eqb (t.col + 1) w last) in
-    let shown : Shows h w (at_column (e.x + 1) e) ends (put_here b s) = record {
-      within = inside_within h b s a.within;
-      edge = omega arith;
-      cells = λ r c low left. written_same t.row s.row t.col s.col b r c t.cell s.cell a.row col (a.cells r c low left);
-      row = a.row;
-      col = omega (arith, col, last);
-      waits = ap (λ x. x && true) (sym (eq-eqb (s.col + 1) w (omega (arith, col, last))));
-      parted = λ x. absurd (cc x);
-      reading = a.reading;
-      cols = a.cols;
-      x = ap (λ n. n + 1) a.x;
-    } in
-    subst (λ u. Shows h w (at_column (e.x + 1) e) u (put_here b s)) (sym is) shown
-inside_cases h w b e t s a inside idle col (inr more) =
-    let ends : EcmaScreen = record t { cell = cells_with t.cell t.row t.col b; waits = true } in
-    let goes : EcmaScreen = record t { cell = cells_with t.cell t.row t.col b; col = t.col + 1 } in
-    let is : write_here w b t ≡ goes = ap (λ x. cond x ends goes) (ne_eqb (t.col + 1) w more) in
-    let not_last : s.col + 1 ≡ w → ⊥ = λ e. more (omega (arith, col, e)) in
-    let room : s.col + 1 < w = below_from w (s.col + 1) (omega arith) not_last in
-    let shown : Shows h w (at_column (e.x + 1) e) goes (put_here b s) = record {
-      within = inside_within h b s a.within;
-      edge = omega arith;
-      cells = λ r c low left. written_same t.row s.row t.col s.col b r c t.cell s.cell a.row col (a.cells r c low left);
-      row = a.row;
-      col = omega (arith, col, room);
-      waits = idle ∙ ap (λ x. x && true) (sym (ne_eqb (s.col + 1) w not_last));
-      parted = λ x. absurd (cc x);
-      reading = a.reading;
-      cols = a.cols;
-      x = ap (λ n. n + 1) a.x;
-    } in
-    subst (λ u. Shows h w (at_column (e.x + 1) e) u (put_here b s)) (sym is) shown
-  where
-    below_from : (w n : ℕ) → n ≤ w → (n ≡ w → ⊥) → n < w
-    below_from w n up other = elim (cases_eq n w) [ inl e ↦ absurd (other e) | inr ne ↦ omega (arith, ne) ]
+  inside_cases : (h w : ℕ) (b : C) (e : Encoder) (t : EcmaScreen C) (s : PictureOf C) → Shows pen h w e t s → s.col < w → t.waits ≡ false → t.col ≡ s.col
+      → (t.col + 1 ≡ w) ⊎ (t.col + 1 ≡ w → ⊥) → Shows pen h w (at_column (e.x + 1) e) (write_here w b t) (put_here b s)
+  inside_cases h w b e t s a inside idle col (inl last) =
+      let ends : EcmaScreen C = record t { cell = put_in t.cell t.row t.col b; waits = true } in
+      let goes : EcmaScreen C = record t { cell = put_in t.cell t.row t.col b; col = t.col + 1 } in
+      let is : write_here w b t ≡ ends = ap (λ x. cond x ends goes) (eq-eqb (t.col + 1) w last) in
+      let shown : Shows pen h w (at_column (e.x + 1) e) ends (put_here b s) = record {
+        within = inside_within h b s a.within;
+        edge = omega arith;
+        cells = λ r c low left. written_same t.row s.row t.col s.col r c b t.cell s.cell a.row col (a.cells r c low left);
+        row = a.row;
+        col = omega (arith, col, last);
+        waits = ap (λ x. x && true) (sym (eq-eqb (s.col + 1) w (omega (arith, col, last))));
+        parted = λ x. absurd (cc x);
+        reading = a.reading;
+        rendition = a.rendition;
+        cols = a.cols;
+        x = ap (λ n. n + 1) a.x;
+      } in
+      subst (λ u. Shows pen h w (at_column (e.x + 1) e) u (put_here b s)) (sym is) shown
+  inside_cases h w b e t s a inside idle col (inr more) =
+      let ends : EcmaScreen C = record t { cell = put_in t.cell t.row t.col b; waits = true } in
+      let goes : EcmaScreen C = record t { cell = put_in t.cell t.row t.col b; col = t.col + 1 } in
+      let is : write_here w b t ≡ goes = ap (λ x. cond x ends goes) (ne_eqb (t.col + 1) w more) in
+      let not_last : s.col + 1 ≡ w → ⊥ = λ e. more (omega (arith, col, e)) in
+      let room : s.col + 1 < w = below_from w (s.col + 1) (omega arith) not_last in
+      let shown : Shows pen h w (at_column (e.x + 1) e) goes (put_here b s) = record {
+        within = inside_within h b s a.within;
+        edge = omega arith;
+        cells = λ r c low left. written_same t.row s.row t.col s.col r c b t.cell s.cell a.row col (a.cells r c low left);
+        row = a.row;
+        col = omega (arith, col, room);
+        waits = idle ∙ ap (λ x. x && true) (sym (ne_eqb (s.col + 1) w not_last));
+        parted = λ x. absurd (cc x);
+        reading = a.reading;
+        rendition = a.rendition;
+        cols = a.cols;
+        x = ap (λ n. n + 1) a.x;
+      } in
+      subst (λ u. Shows pen h w (at_column (e.x + 1) e) u (put_here b s)) (sym is) shown
+    where
+      below_from : (w n : ℕ) → n ≤ w → (n ≡ w → ⊥) → n < w
+      below_from w n up other = elim (cases_eq n w) [ inl e ↦ absurd (other e) | inr ne ↦ omega (arith, ne) ]
 
--- a character in the row
-pub written_inside : (h w b : ℕ) (e : Encoder) (t : EcmaScreen) (s : Picture) → Shows h w e t s → s.col < w → is_printable b ≡ true
-    → Shows h w (at_column (e.x + 1) e) (receive h w b t) (put_here b s)
-written_inside h w b e t s a inside printable =
-    let idle : t.waits ≡ false = a.waits ∙ ap (λ x. x && not e.parted) (ne_eqb s.col w (λ q. omega (arith, q))) in
-    let col : t.col ≡ s.col = omega (arith, a.col) in
-    let is : receive h w b t ≡ write_here w b t =
-    text_write h w b t a.reading printable ∙ ap (λ x. cond x (write_here w b (return_to_start (feed_line h t))) (write_here w b t)) idle in
-    subst (λ u. Shows h w (at_column (e.x + 1) e) u (put_here b s)) (sym is) (inside_cases h w b e t s a inside idle col (cases_eq (t.col + 1) w))
+  -- a character in the row
+  pub written_inside : (h w b : ℕ) (e : Encoder) (t : EcmaScreen C) (s : PictureOf C) → Shows pen h w e t s → s.col < w → is_printable b ≡ true
+      → Shows pen h w (at_column (e.x + 1) e) (receive pen h w b t) (put_here (pen.ink (pen.attributes t.rendition) b) s)
+  written_inside h w b e t s a inside printable =
+      let x : C = pen.ink (pen.attributes t.rendition) b in
+      let idle : t.waits ≡ false = a.waits ∙ ap (λ x. x && not e.parted) (ne_eqb s.col w (λ q. omega (arith, q))) in
+      let col : t.col ≡ s.col = omega (arith, a.col) in
+      let is : receive pen h w b t ≡ write_here w x t =
+      text_write h w b t a.reading printable
+      ∙ ap (λ v. cond v (write_here w x (return_to_start (feed_line (blank_of pen) h t))) (write_here w x t)) idle in
+      subst (λ u. Shows pen h w (at_column (e.x + 1) e) u (put_here x s)) (sym is) (inside_cases h w x e t s a inside idle col (cases_eq (t.col + 1) w))
 
--- the picture with a character in the first cell of the next row
-abbrev pub put_below : ℕ → Picture → Picture
-put_below b s = record { cell = cells_with s.cell (s.row + 1) 0 b; row = s.row + 1; col = 1 }
+  -- the picture with a character in the first cell of the next row
+  abbrev pub put_below : C → PictureOf C → PictureOf C
+  put_below b s = record { cell = put_in s.cell (s.row + 1) 0 b; row = s.row + 1; col = 1 }
 
-row_test : (r n k : ℕ) → k ≤ n → (r ≡ n - k) ⊎ (r ≡ n - k → ⊥) → eqb r (n - k) ≡ eqb (r + k) n
-row_test r n k low (inl e) = eq-eqb r (n - k) e ∙ sym (eq-eqb (r + k) n (omega arith))
-row_test r n k low (inr d) = ne_eqb r (n - k) d ∙ sym (ne_eqb (r + k) n (λ e. d (omega arith)))
+  row_test : (r n k : ℕ) → k ≤ n → (r ≡ n - k) ⊎ (r ≡ n - k → ⊥) → eqb r (n - k) ≡ eqb (r + k) n
+  row_test r n k low (inl e) = eq-eqb r (n - k) e ∙ sym (eq-eqb (r + k) n (omega arith))
+  row_test r n k low (inr d) = ne_eqb r (n - k) d ∙ sym (ne_eqb (r + k) n (λ e. d (omega arith)))
 
-below_within : (h b : ℕ) (s : Picture) → IsWithin h s → IsWithin h (scroll h (put_below b s))
-below_within h b s within =
-    let k : ℕ = s.row + 1 + 1 - h in
-    record {
-      row = omega (arith, within.row);
-      below = λ r c low.
-          ap (λ x. cond (x && eqb c 0) b (s.cell (r + (s.row + 1 + 1 - h)) c)) (ne_eqb (r + (s.row + 1 + 1 - h)) (s.row + 1) (λ e. omega (arith, within.row)))
-          ∙ within.below (r + (s.row + 1 + 1 - h)) c (omega arith);
-    }
+  below_within : (h : ℕ) (b : C) (s : PictureOf C) → IsWithin (blank_of pen) h s → IsWithin (blank_of pen) h (scrolled (Some h) (put_below b s))
+  below_within h b s within =
+      let k : ℕ = s.row + 1 + 1 - h in
+      record {
+        row = omega (arith, within.row);
+        below = λ r c low.
+            ap (λ x. cond (x && eqb c 0) b (s.cell (r + (s.row + 1 + 1 - h)) c)) (ne_eqb (r + (s.row + 1 + 1 - h)) (s.row + 1) (λ e. omega (arith, within.row)))
+            ∙ within.below (r + (s.row + 1 + 1 - h)) c (omega arith);
+      }
 
-below_cells : (h w b : ℕ) (u : EcmaScreen) (t : EcmaScreen) (s : Picture) → Fed h w t u s → s.row < h → (r c : ℕ) → r < h → c < w
-    → cells_with u.cell u.row 0 b r c ≡ cells_with s.cell (s.row + 1) 0 b (r + (s.row + 1 + 1 - h)) c
-below_cells h w b u t s fed inside r c low left =
-    let k : ℕ = s.row + 1 + 1 - h in
-    ap (λ x. cells_with u.cell x 0 b r c) fed.row
-    ∙ ap (λ x. cond (x && eqb c 0) b (u.cell r c)) (row_test r (s.row + 1) (s.row + 1 + 1 - h) (omega (arith, inside)) (cases_eq _ _))
-    ∙ ap (λ v. cond (eqb (r + (s.row + 1 + 1 - h)) (s.row + 1) && eqb c 0) b v) (fed.cells r c low left)
+  below_cells : (h w : ℕ) (b : C) (u : EcmaScreen C) (t : EcmaScreen C) (s : PictureOf C) → Fed h w t u s → s.row < h → (r c : ℕ) → r < h → c < w
+      → put_in u.cell u.row 0 b r c ≡ put_in s.cell (s.row + 1) 0 b (r + (s.row + 1 + 1 - h)) c
+  below_cells h w b u t s fed inside r c low left =
+      let k : ℕ = s.row + 1 + 1 - h in
+      ap (λ x. put_in u.cell x 0 b r c) fed.row
+      ∙ ap (λ x. cond (x && eqb c 0) b (u.cell r c)) (row_test r (s.row + 1) (s.row + 1 + 1 - h) (omega (arith, inside)) (cases_eq _ _))
+      ∙ ap (λ v. cond (eqb (r + (s.row + 1 + 1 - h)) (s.row + 1) && eqb c 0) b v) (fed.cells r c low left)
 
-wrapped_cases : (h w b : ℕ) (e : Encoder) (t u : EcmaScreen) (s : Picture) → IsWithin h s → 0 < w → e.cols ≡ w → Fed h w t u s → u.col ≡ 0 → u.reading ≡ terminal.Text
-    → (u.col + 1 ≡ w) ⊎ (u.col + 1 ≡ w → ⊥) → Shows h w (at_column 1 e) (write_here w b u) (scroll h (put_below b s))
-wrapped_cases h w b e t u s within some cols fed col reading (inl last) =
-    let ends : EcmaScreen = record u { cell = cells_with u.cell u.row u.col b; waits = true } in
-    let goes : EcmaScreen = record u { cell = cells_with u.cell u.row u.col b; col = u.col + 1 } in
-    let is : write_here w b u ≡ ends = ap (λ x. cond x ends goes) (eq-eqb (u.col + 1) w last) in
-    let shown : Shows h w (at_column 1 e) ends (scroll h (put_below b s)) = record {
-      within = below_within h b s within;
-      edge = omega arith;
-      cells = λ r c low left. ap (λ x. cells_with u.cell u.row x b r c) col ∙ below_cells h w b u t s fed within.row r c low left;
-      row = fed.row;
-      col = omega (arith, col, last);
-      waits = ap (λ x. x && true) (sym (eq-eqb 1 w (omega (arith, col, last))));
-      parted = λ x. absurd (cc x);
-      reading = reading;
-      cols = cols;
-      x = refl;
-    } in
-    subst (λ v. Shows h w (at_column 1 e) v (scroll h (put_below b s))) (sym is) shown
-wrapped_cases h w b e t u s within some cols fed col reading (inr more) =
-    let ends : EcmaScreen = record u { cell = cells_with u.cell u.row u.col b; waits = true } in
-    let goes : EcmaScreen = record u { cell = cells_with u.cell u.row u.col b; col = u.col + 1 } in
-    let is : write_here w b u ≡ goes = ap (λ x. cond x ends goes) (ne_eqb (u.col + 1) w more) in
-    let not_one : 1 ≡ w → ⊥ = λ e. more (omega (arith, col, e)) in
-    let shown : Shows h w (at_column 1 e) goes (scroll h (put_below b s)) = record {
-      within = below_within h b s within;
-      edge = omega arith;
-      cells = λ r c low left. ap (λ x. cells_with u.cell u.row x b r c) col ∙ below_cells h w b u t s fed within.row r c low left;
-      row = fed.row;
-      col = wide w (u.col) col some not_one;
-      waits = fed.waits ∙ ap (λ x. x && true) (sym (ne_eqb 1 w not_one));
-      parted = λ x. absurd (cc x);
-      reading = reading;
-      cols = cols;
-      x = refl;
-    } in
-    subst (λ v. Shows h w (at_column 1 e) v (scroll h (put_below b s))) (sym is) shown
-  where
-    wide : (w c : ℕ) → c ≡ 0 → 0 < w → (1 ≡ w → ⊥) → c + 1 ≡ min 1 (w - 1)
-    wide w c e some other = elim (cases_eq 1 w) [ inl q ↦ absurd (other q) | inr q ↦ omega (arith, e, some, q) ]
+  wrapped_cases : (h w : ℕ) (b : C) (e : Encoder) (t u : EcmaScreen C) (s : PictureOf C) → IsWithin (blank_of pen) h s → 0 < w → e.cols ≡ w → Fed h w t u s → u.col ≡ 0 → u.reading ≡ terminal.Text → u.rendition ≡ e.attributes
+      → (u.col + 1 ≡ w) ⊎ (u.col + 1 ≡ w → ⊥) → Shows pen h w (at_column 1 e) (write_here w b u) (scrolled (Some h) (put_below b s))
+  wrapped_cases h w b e t u s within some cols fed col reading rendition (inl last) =
+      let ends : EcmaScreen C = record u { cell = put_in u.cell u.row u.col b; waits = true } in
+      let goes : EcmaScreen C = record u { cell = put_in u.cell u.row u.col b; col = u.col + 1 } in
+      let is : write_here w b u ≡ ends = ap (λ x. cond x ends goes) (eq-eqb (u.col + 1) w last) in
+      let shown : Shows pen h w (at_column 1 e) ends (scrolled (Some h) (put_below b s)) = record {
+        within = below_within h b s within;
+        edge = omega arith;
+        cells = λ r c low left. ap (λ x. put_in u.cell u.row x b r c) col ∙ below_cells h w b u t s fed within.row r c low left;
+        row = fed.row;
+        col = omega (arith, col, last);
+        waits = ap (λ x. x && true) (sym (eq-eqb 1 w (omega (arith, col, last))));
+        parted = λ x. absurd (cc x);
+        reading = reading;
+        rendition = rendition;
+        cols = cols;
+        x = refl;
+      } in
+      subst (λ v. Shows pen h w (at_column 1 e) v (scrolled (Some h) (put_below b s))) (sym is) shown
+  wrapped_cases h w b e t u s within some cols fed col reading rendition (inr more) =
+      let ends : EcmaScreen C = record u { cell = put_in u.cell u.row u.col b; waits = true } in
+      let goes : EcmaScreen C = record u { cell = put_in u.cell u.row u.col b; col = u.col + 1 } in
+      let is : write_here w b u ≡ goes = ap (λ x. cond x ends goes) (ne_eqb (u.col + 1) w more) in
+      let not_one : 1 ≡ w → ⊥ = λ e. more (omega (arith, col, e)) in
+      let shown : Shows pen h w (at_column 1 e) goes (scrolled (Some h) (put_below b s)) = record {
+        within = below_within h b s within;
+        edge = omega arith;
+        cells = λ r c low left. ap (λ x. put_in u.cell u.row x b r c) col ∙ below_cells h w b u t s fed within.row r c low left;
+        row = fed.row;
+        col = wide w (u.col) col some not_one;
+        waits = fed.waits ∙ ap (λ x. x && true) (sym (ne_eqb 1 w not_one));
+        parted = λ x. absurd (cc x);
+        reading = reading;
+        rendition = rendition;
+        cols = cols;
+        x = refl;
+      } in
+      subst (λ v. Shows pen h w (at_column 1 e) v (scrolled (Some h) (put_below b s))) (sym is) shown
+    where
+      wide : (w c : ℕ) → c ≡ 0 → 0 < w → (1 ≡ w → ⊥) → c + 1 ≡ min 1 (w - 1)
+      wide w c e some other = elim (cases_eq 1 w) [ inl q ↦ absurd (other q) | inr q ↦ omega (arith, e, some, q) ]
 
--- a character in the first cell of the next row
-pub wrapped : (h w b : ℕ) (e : Encoder) (t u : EcmaScreen) (s : Picture) → IsWithin h s → 0 < w → e.cols ≡ w → Fed h w t u s → u.col ≡ 0 → u.reading ≡ terminal.Text
-    → Shows h w (at_column 1 e) (write_here w b u) (scroll h (put_below b s))
-wrapped h w b e t u s within some cols fed col reading = wrapped_cases h w b e t u s within some cols fed col reading (cases_eq (u.col + 1) w)
+  -- a character in the first cell of the next row
+  pub wrapped : (h w : ℕ) (b : C) (e : Encoder) (t u : EcmaScreen C) (s : PictureOf C) → IsWithin (blank_of pen) h s → 0 < w → e.cols ≡ w → Fed h w t u s → u.col ≡ 0 → u.reading ≡ terminal.Text → u.rendition ≡ e.attributes
+      → Shows pen h w (at_column 1 e) (write_here w b u) (scrolled (Some h) (put_below b s))
+  wrapped h w b e t u s within some cols fed col reading rendition =
+      wrapped_cases h w b e t u s within some cols fed col reading rendition (cases_eq (u.col + 1) w)

@@ -11,6 +11,8 @@ pub mod Reports
 pub mod LostBytes
 pub mod Unknowns
 pub mod EcmaSequences
+pub mod EcmaRenditions
+pub mod EcmaClearings
 pub mod EcmaScrolls
 pub mod EcmaWrites
 pub mod EcmaTexts

@@ -1,21 +1,23 @@
 -- Paintings whose bytes do what they do.
-use Rattle.std.specs.Prelude.{◌≡◌, ◌<◌, ◌+◌, ◌^◌, ◌-ℤ◌, neg_ℤ, ℕ, pos, true, List, [], ◌∷◌, ⊤}
+use Rattle.std.specs.Prelude.{◌≡◌, ◌<◌, ◌+◌, ◌^◌, ◌-ℤ◌, neg_ℤ, ℕ, pos, true, false, Some, List, [], ◌∷◌, ⊤}
 use Rattle.std.specs.List.{list_all, AllByRecursion}
+use Rattle.tw_strokes.specs.Strokes.{PictureOf, steps_on}
 use Rattle.tw_surface.specs.declared.change.Position.TheVariants.{Relative}
 use Rattle.tw_surface.specs.ChangeView.{ChangeView, Batch}
 use Rattle.tw_surface.specs.ChangeView.{Attribute, AllAttributes, Text, ClearScreen, ClearToEndOfScreen, CursorPosition}
 use Rattle.tw_surface.specs.Characters.{is_plain}
 use Rattle.tw_surface.specs.Paintings.{painting, shown_part, cursor_place, Mark, start_move, closing}
-use Rattle.tw_surface.specs.Pictures.{Picture}
 use Rattle.tw_surface.specs.Places.{place_after_all, origin}
 use Rattle.tw_surface.specs.Scenes.{Scene, Lower}
-use Rattle.tw_surface.specs.Scrolling.{play_all_on, play_batches_on}
 use Rattle.tw_surface.specs.PaintingBatches.{run_batches}
 use Rattle.tw_surface.specs.Scenes.Lower.{NoLower, Preview, Search}
+use Rattle.tw_screens.specs.Pens.{Pen, strokes_of}
+use Rattle.tw_screens.specs.Screens.{play_sized}
+use Rattle.tw_screens.specs.SizedBatches.{sized_at}
 use Rattle.tw_ansi.specs.declared.encode.Encoder.{Encoder}
 use Rattle.tw_ansi.specs.Encoding.{Sent, sends, sent_then, sent_batch}
 use Rattle.tw_ansi.specs.EcmaLaws.{IsColor, IsAttribute}
-use Rattle.tw_ansi.specs.EcmaBatches.{IsReached, AreSendable}
+use Rattle.tw_ansi.specs.EcmaBatches.{Follows, IsReached, AreSendable}
 use Rattle.tw_ansi.specs.EcmaScreen.{EcmaScreen, receive_all}
 use Rattle.tw_ansi.specs.EcmaTexts.{Shows}
 
@@ -45,22 +47,22 @@ abbrev pub IsNear : ℕ → ℕ → Scene → Type 0
 IsNear h w scene = IsReached h (Relative ((cursor_place w scene).y -ℤ (place_after_all w (shown_part w scene) origin).y))
 
 -- such a painting is sendable where the cursor does not stand behind the last column and the known colour is by bytes
-abbrev pub PaintingIsSendable : Type 0
-PaintingIsSendable = (h w : ℕ) (scene : Scene) (e : Encoder) (s : Picture)
+abbrev pub PaintingIsSendable : {A C : Type 0} → Pen A C → Type 0
+PaintingIsSendable {A} {C} pen = (h w : ℕ) (scene : Scene) (e : Encoder) (s : PictureOf C)
     → IsTypedScene scene → IsNear h w scene → IsColor e.attributes.background → s.col < w
-    → AreSendable h w e (painting w scene).changes s
+    → AreSendable pen h w e (painting w scene).changes s
 
 -- and behind the move to the first row of the painting before, wherever the cursor stands
-abbrev pub RepaintingIsSendable : Type 0
-RepaintingIsSendable = (h w : ℕ) (before : Mark) (scene : Scene) (e : Encoder) (s : Picture)
+abbrev pub RepaintingIsSendable : {A C : Type 0} → Pen A C → Type 0
+RepaintingIsSendable {A} {C} pen = (h w : ℕ) (before : Mark) (scene : Scene) (e : Encoder) (s : PictureOf C)
     → 0 < w → IsTypedScene scene → IsNear h w scene → IsReached h (Relative (neg_ℤ before.row)) → IsColor e.attributes.background
-    → AreSendable h w e (start_move before ∷ (painting w scene).changes) s
+    → AreSendable pen h w e (start_move before ∷ (painting w scene).changes) s
 
 -- so is the closing batch
-abbrev pub ClosingIsSendable : Type 0
-ClosingIsSendable = (h w : ℕ) (m : Mark) (e : Encoder) (s : Picture)
+abbrev pub ClosingIsSendable : {A C : Type 0} → Pen A C → Type 0
+ClosingIsSendable {A} {C} pen = (h w : ℕ) (m : Mark) (e : Encoder) (s : PictureOf C)
     → 0 < w → IsReached h (Relative (pos (1 + m.height) -ℤ m.row)) → IsColor e.attributes.background
-    → AreSendable h w e (closing m) s
+    → AreSendable pen h w e (closing m) s
 
 -- the colour that is known behind such a painting is by bytes
 abbrev pub PaintingKnowsColor : Type 0
@@ -73,9 +75,11 @@ sent_batches [] e = sends [] e
 sent_batches (batch ∷ more) e = sent_then (sent_batch batch e) (sent_batches more)
 
 -- each batch is sendable where it comes, after those before it
-abbrev pub AreAllSendable : ℕ → ℕ → Encoder → List Batch → Picture → Type 0
-AreAllSendable h w e [] s = ⊤
-AreAllSendable h w e (batch ∷ more) s = AreSendable h w e batch s × AreAllSendable h w (sent_batch batch e).next more (play_all_on h w batch s)
+abbrev pub AreAllSendable : {A C : Type 0} → Pen A C → ℕ → ℕ → Encoder → List Batch → PictureOf C → Type 0
+AreAllSendable pen h w e [] s = ⊤
+AreAllSendable pen h w e (batch ∷ more) s =
+    AreSendable pen h w e batch s
+    × AreAllSendable pen h w (sent_batch batch e).next more (steps_on (Some h) w (strokes_of pen (pen.attributes e.attributes) batch) s)
 
 -- a scene whose painting is sendable, and the moves from it back to its first row and to the row under it too
 pub record IsShowable (h w : ℕ) (scene : Scene) : Type 0 where
@@ -85,13 +89,14 @@ pub record IsShowable (h w : ℕ) (scene : Scene) : Type 0 where
   pub under : IsReached h (Relative (pos (1 + (painting w scene).height) -ℤ (painting w scene).row))
 
 -- all batches of a run that paints such scenes are sendable, where the cursor does not stand behind the last column at first
-abbrev pub RunIsSendable : Type 0
-RunIsSendable = (h w : ℕ) (scenes : List Scene) (e : Encoder) (s : Picture)
+abbrev pub RunIsSendable : {A C : Type 0} → Pen A C → Type 0
+RunIsSendable {A} {C} pen = (h w : ℕ) (scenes : List Scene) (e : Encoder) (s : PictureOf C)
     → 0 < w → AllByRecursion (IsShowable h w) scenes → IsColor e.attributes.background → s.col < w
-    → AreAllSendable h w e (run_batches w scenes) s
+    → AreAllSendable pen h w e (run_batches w scenes) s
 
--- a terminal that shows a picture, and is sent the bytes of sendable batches, shows the picture on which they were played
-abbrev pub BatchesAreShown : Type 0
-BatchesAreShown = (h w : ℕ) (batches : List Batch) (e : Encoder) (t : EcmaScreen) (s : Picture)
-    → 0 < w → w < 2 ^ 64 → AreAllSendable h w e batches s → Shows h w e t s
-    → Shows h w (sent_batches batches e).next (receive_all h w (sent_batches batches e).bytes t) (play_batches_on h w batches s)
+-- a terminal that shows a picture, and is sent the bytes of sendable batches, shows the picture on which they were drawn
+abbrev pub BatchesAreShown : {A C : Type 0} → Pen A C → Type 0
+BatchesAreShown {A} {C} pen = (h w : ℕ) (batches : List Batch) (e : Encoder) (t : EcmaScreen C) (s : PictureOf C)
+    → Follows pen → 0 < w → w < 2 ^ 64 → AreAllSendable pen h w e batches s → Shows pen h w e t s
+    → Shows pen h w (sent_batches batches e).next (receive_all pen h w (sent_batches batches e).bytes t)
+    (play_sized (Some h) false pen w (pen.attributes e.attributes) (sized_at w batches) s)

@@ -1,5 +1,6 @@
 pub mod Sequences
 pub mod Renditions
+pub mod Selections
 pub mod Encoding
 pub mod KeyBytes
 pub mod KeyLaws

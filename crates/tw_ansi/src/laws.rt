@@ -2,9 +2,11 @@
 
 ghost use Rattle.tw_input.specs.Equality.{ComparesValues};
 ghost use Rattle.tw_ansi.specs.Renditions.{AttributesByNumber};
-ghost use Rattle.tw_ansi.specs.EcmaLaws.{AttributeShowsNothing, ColumnsAreReached, RowsAboveAreReached, ClearsBelow, ClearsRows, ClearsAll};
+ghost use Rattle.tw_screens.specs.Pens.{Pen};
+ghost use Rattle.tw_screens.specs.StyledCells.{characters, styled};
+ghost use Rattle.tw_ansi.specs.EcmaLaws.{AttributeIsSelected, AttributesAreSelected, ColumnsAreReached, RowsAboveAreReached, ClearsBelow, ClearsRows, ClearsAll};
 ghost use Rattle.tw_ansi.specs.EcmaTexts.{PlainTextIsShown};
-ghost use Rattle.tw_ansi.specs.EcmaBatches.{FirstIsShown, ChangeIsShown, BatchIsShown};
+ghost use Rattle.tw_ansi.specs.EcmaBatches.{Follows, FirstIsShown, ChangeIsShown, BatchIsShown};
 ghost use Rattle.tw_ansi.specs.EcmaPaintings.{PaintingIsSendable, RepaintingIsSendable, ClosingIsSendable, PaintingKnowsColor, RunIsSendable, BatchesAreShown};
 ghost use Rattle.tw_ansi.specs.KeyLaws.{StaysFound, TakesBytes, EndsWithToken, PrintableKeys, CharacterKeys, AltCharacterKeys, EscapeKey, EscapePair, AltKeys, ControlKeys, ControlLetters, ApplicationKeys, LetterKeys, HeldLetterKeys, NumberKeys, HeldNumberKeys, BackTab, CursorReports, SizeReports, PastedTexts, UnknownSequences, LostBytes, LoneBytes, CutCharacters, WaitsForCharacter};
 
@@ -75,43 +77,51 @@ pub fn malformed()
     ensures waits { WaitsForCharacter }
 {}
 
-/// What a terminal after ECMA-48 does at the sequences that are sent, byte by byte.
-#[tactic(auto, using(crate::proofs::EcmaSequences::columns_are_reached, crate::proofs::EcmaSequences::rows_above_are_reached, crate::proofs::EcmaSequences::attribute_shows_nothing, crate::proofs::EcmaSequences::clears_below, crate::proofs::EcmaSequences::clears_rows, crate::proofs::EcmaSequences::clears_all))]
-pub fn sequences()
-    ensures columns { ColumnsAreReached }
-    ensures rows_above { RowsAboveAreReached }
-    ensures attributes { AttributeShowsNothing }
-    ensures below { ClearsBelow }
-    ensures rows { ClearsRows }
-    ensures all { ClearsAll }
+/// What a terminal after ECMA-48 does at the sequences that are sent, byte by byte, with any kind of cells.
+#[tactic(auto, using(crate::proofs::EcmaSequences::columns_are_reached, crate::proofs::EcmaSequences::rows_above_are_reached, crate::proofs::EcmaRenditions::attribute_is_selected, crate::proofs::EcmaRenditions::attributes_are_selected, crate::proofs::EcmaClearings::clears_below, crate::proofs::EcmaClearings::clears_rows, crate::proofs::EcmaClearings::clears_all))]
+pub fn sequences<A, C>()
+    ensures columns { (pen : Pen A C) → ColumnsAreReached pen }
+    ensures rows_above { (pen : Pen A C) → RowsAboveAreReached pen }
+    ensures attribute { (pen : Pen A C) → AttributeIsSelected pen }
+    ensures attributes { (pen : Pen A C) → AttributesAreSelected pen }
+    ensures below { (pen : Pen A C) → ClearsBelow pen }
+    ensures rows { (pen : Pen A C) → ClearsRows pen }
+    ensures all { (pen : Pen A C) → ClearsAll pen }
 {}
 
 /// A terminal after ECMA-48 that shows a picture of h rows, and is sent the bytes of a plain text, shows the picture on
-/// which that text was played, scrolled as it needs.
+/// which that text was drawn under the attributes that are set, scrolled as it needs.
 #[tactic(auto, using(crate::proofs::EcmaTexts::plain_text_is_shown))]
-pub fn texts()
-    ensures { PlainTextIsShown }
+pub fn texts<A, C>()
+    ensures { (pen : Pen A C) → PlainTextIsShown pen }
 {}
 
-/// A terminal after ECMA-48 whose cursor stands in column 0 shows its own cells to a new encoder. One that shows a
-/// picture of h rows, and is sent the bytes of a change or of a batch, shows the picture on which it was played,
-/// scrolled as it needs, where each change is one whose bytes do what it does.
+/// A terminal after ECMA-48 with default attributes whose cursor stands in column 0 shows its own cells to a new
+/// encoder. One that shows a picture of h rows, and is sent the bytes of a change or of a batch, shows the picture on
+/// which it was drawn, scrolled as it needs, where each change is one whose bytes do what it does.
 #[tactic(auto, using(crate::proofs::EcmaBatches::first_is_shown, crate::proofs::EcmaBatches::change_is_shown, crate::proofs::EcmaBatches::batch_is_shown))]
-pub fn batches()
-    ensures first { FirstIsShown }
-    ensures change { ChangeIsShown }
-    ensures batch { BatchIsShown }
+pub fn batches<A, C>()
+    ensures first { (pen : Pen A C) → FirstIsShown pen }
+    ensures change { (pen : Pen A C) → ChangeIsShown pen }
+    ensures batch { (pen : Pen A C) → BatchIsShown pen }
+{}
+
+/// What is kept of attributes follows their changes, where characters alone are shown and where they are shown under
+/// their attributes.
+pub fn pens()
+    ensures characters { Follows characters }
+    ensures styled { Follows styled }
 {}
 
 /// A painting of plain texts and of colours by bytes is one whose bytes do what it does, alone where the cursor does not
 /// stand behind the last column, and else behind the move to its first row; so is the closing batch. So are all batches
 /// of a run that paints such scenes, and a terminal that is sent their bytes shows what they leave on the model screen.
 #[tactic(auto, using(crate::proofs::EcmaPaintings::painting_is_sendable, crate::proofs::EcmaPaintings::repainting_is_sendable, crate::proofs::EcmaPaintings::closing_is_sendable, crate::proofs::EcmaPaintings::painting_knows_color, crate::proofs::EcmaPaintings::run_is_sendable, crate::proofs::EcmaPaintings::batches_are_shown))]
-pub fn paintings()
-    ensures first { PaintingIsSendable }
-    ensures later { RepaintingIsSendable }
-    ensures closing { ClosingIsSendable }
+pub fn paintings<A, C>()
+    ensures first { (pen : Pen A C) → PaintingIsSendable pen }
+    ensures later { (pen : Pen A C) → RepaintingIsSendable pen }
+    ensures closing { (pen : Pen A C) → ClosingIsSendable pen }
     ensures color { PaintingKnowsColor }
-    ensures run { RunIsSendable }
-    ensures shown { BatchesAreShown }
+    ensures run { (pen : Pen A C) → RunIsSendable pen }
+    ensures shown { (pen : Pen A C) → BatchesAreShown pen }
 {}

@@ -2,4 +2,4 @@ use Rattle.tw_ansi.proofs.EcmaPaintings.{painting_is_sendable}
 use Rattle.tw_ansi.proofs.laws.paintings.Goals as goal
 
 pub returns-clause-first : goal.returns-clause-first
-returns-clause-first c = painting_is_sendable
+returns-clause-first g c pen = painting_is_sendable pen
