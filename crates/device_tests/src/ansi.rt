@@ -52,6 +52,9 @@ fn keys_are_found_as_terminals_send_them(rt: HostRuntime) {
         3,
     );
     expect_key(&rt, b"\x1bOx", KeyCode::Char('O'), Modifiers::ALT, 2);
+    expect_key(&rt, b"\x1b]x", KeyCode::Char(']'), Modifiers::ALT, 2);
+    expect_key(&rt, b"\x1bP;", KeyCode::Char('P'), Modifiers::ALT, 2);
+    expect_key(&rt, b"\x1b_G", KeyCode::Char('_'), Modifiers::ALT, 2);
     expect_key(
         &rt,
         b"\x1b[24;2~",
@@ -125,6 +128,11 @@ fn other_tokens_are_found(rt: HostRuntime) {
     expect_token(&rt, b"\x1b[?1;2c", Token::Unknown, 7);
     expect_token(&rt, b"\x1b[1\x01", Token::Unknown, 3);
     expect_token(&rt, b"\x1b[99~", Token::Unknown, 5);
+    expect_token(&rt, b"\x1b]11;rgb:0/0/0\x07a", Token::Unknown, 15);
+    expect_token(&rt, b"\x1b]11;rgb:0/0/0\x1b\\a", Token::Unknown, 16);
+    expect_token(&rt, b"\x1bP1$r0m\x1b\\a", Token::Unknown, 9);
+    expect_token(&rt, b"\x1bP>|tmux 3.4\x1b[A", Token::Unknown, 12);
+    expect_token(&rt, b"\x1bP!|0\x7f", Token::Unknown, 5);
 }
 
 #[test]
@@ -136,6 +144,10 @@ fn parts_wait_for_more(rt: HostRuntime) {
         b"\xc3",
         b"\xf0\x9f\x98",
         b"\x1b[200~abc",
+        b"\x1b]",
+        b"\x1bP",
+        b"\x1b]11;rgb:0",
+        b"\x1bP>|tmux\x1b",
     ] {
         assert!(rt; scan(bytes, false).is_none(), "{bytes:?}");
         assert!(rt; scan(bytes, true).is_some(), "{bytes:?}");

@@ -201,6 +201,41 @@ fn an_escape_that_ends_a_full_read_waits(rt: HostRuntime) {
     }
 }
 
+/// Reads a line of bytes that come so many at a time, where an ESC alone waits.
+fn waiting_line_of(alloc: Global, bytes: &'static [u8], step: usize) -> Result<Answer, Error> {
+    let mut host = NopLineEditorHost::new(alloc);
+    let mut keys = KeyReader::with_escape(alloc, Pieces { bytes, step }, Escape::Waits);
+    read_typed_line(alloc, &mut keys, &mut terminal(alloc), &mut host, "> ")
+}
+
+#[test]
+fn what_a_terminal_answers_is_not_typed(rt: HostRuntime) {
+    let color = b"a\x1b]11;rgb:1e1e/1e1e/1e1e\x1b\\b\x1b]11;rgb:ffff/ffff/ffff\x07c\r";
+    let name = b"a\x1bP>|XTerm(390)\x1b\\b\x1bP!|00000000\x1b\\c\r";
+    for step in 1..32 {
+        let answer = waiting_line_of(rt.alloc(), color, step);
+        assert_eq!(rt; shown(&answer), ("line", "abc"), "a colour in pieces of {step}");
+        let answer = waiting_line_of(rt.alloc(), name, step);
+        assert_eq!(rt; shown(&answer), ("line", "abc"), "a name in pieces of {step}");
+    }
+}
+
+#[test]
+fn a_string_without_an_end_swallows_no_enter(rt: HostRuntime) {
+    for step in 1..16 {
+        let answer = waiting_line_of(rt.alloc(), b"a\x1b]11;rgb:1e1e\rb\r", step);
+        assert_eq!(rt; shown(&answer), ("line", "a"), "pieces of {step}");
+    }
+}
+
+#[test]
+fn alt_with_what_begins_a_string_is_a_key(rt: HostRuntime) {
+    for step in 1..12 {
+        let answer = waiting_line_of(rt.alloc(), b"a\x1b]b\x1bPc\x1b_Gd\r", step);
+        assert_eq!(rt; shown(&answer), ("line", "abcGd"), "pieces of {step}");
+    }
+}
+
 /// Reads a line whose bytes come one by one, with this choice for an ESC alone.
 fn line_by_bytes(alloc: Global, escape: Escape) -> Result<Answer, Error> {
     let mut host = NopLineEditorHost::new(alloc);

@@ -2,11 +2,11 @@
 use Rattle.std.proofs.Common.{◌≡◌, ◌≤◌, ◌<◌, ◌+◌, ◌*◌, ℕ, zero, suc, ◌||◌, cond, eqb, ltb, leb, List, [], ◌∷◌, ◌++◌, Some, None, take, arith, ap, ◌∙◌, sym, refl}
 use Rattle.std.specs.Fmt.{decimal, digits}
 use Rattle.std.specs.List.{AllByRecursion}
-use Rattle.std.proofs.lemmas.Bool.{ne_eqb, lt-ltb, le-ltb}
+use Rattle.std.proofs.lemmas.Bool.{ne_eqb, lt-ltb, le-ltb, or_from}
 use Rattle.tw_input.specs.declared.key.KeyCode.{KeyCode}
 use Rattle.tw_input.specs.declared.key.KeyCode.TheVariants.{Char, Escape, Insert, Delete, Home, End, PageUp, PageDown, LeftArrow, RightArrow, UpArrow, DownArrow, Function}
 use Rattle.tw_input.specs.Modifiers.{none, ctrl}
-use Rattle.tw_ansi.specs.KeyBytes.{token_at, escape_at, control_at, character_at, behind_escape, key_or, with_control, typed_at, replacement, wide_character, following_len, application_at, scanned_as, key_token, key_in, control_characters, parameters_token}
+use Rattle.tw_ansi.specs.KeyBytes.{token_at, escape_at, string_at, opens_string, control_at, character_at, behind_escape, key_or, with_control, typed_at, replacement, wide_character, following_len, application_at, scanned_as, key_token, key_in, control_characters, parameters_token}
 use Rattle.tw_ansi.specs.Sequences.{sequence}
 use Rattle.tw_ansi.specs.KeyLaws.{IsTyped, PrintableKeys, EscapeKey, EscapePair, AltKeys, ControlKeys, ControlLetters, ApplicationKeys, LetterKeys, HeldLetterKeys, NumberKeys, HeldNumberKeys, BackTab}
 
@@ -40,10 +40,13 @@ number_keys_typed = (λ l r. refl, (λ l r. refl, (λ l r. refl, (λ l r. refl, 
 
 pub alt_keys : AltKeys
 unfolding token_at parameters_token
-alt_keys l b rest e n o =
-    ap (λ t. cond t (scanned_as (key_token Escape none) 1) (cond (eqb b 91) (control_at l rest) (cond (eqb b 79) (application_at l rest) (behind_escape (character_at l b rest))))) (ne_eqb b 27 e)
-    ∙ ap (λ t. cond t (control_at l rest) (cond (eqb b 79) (application_at l rest) (behind_escape (character_at l b rest)))) (ne_eqb b 91 n)
-    ∙ ap (λ t. cond t (application_at l rest) (behind_escape (character_at l b rest))) (ne_eqb b 79 o)
+alt_keys l b rest e n o s p =
+    let typed = behind_escape (character_at l b rest) in
+    let string = cond (opens_string b) (string_at l b rest) typed in
+    ap (λ t. cond t (scanned_as (key_token Escape none) 1) (cond (eqb b 91) (control_at l rest) (cond (eqb b 79) (application_at l rest) string))) (ne_eqb b 27 e)
+    ∙ ap (λ t. cond t (control_at l rest) (cond (eqb b 79) (application_at l rest) string)) (ne_eqb b 91 n)
+    ∙ ap (λ t. cond t (application_at l rest) string) (ne_eqb b 79 o)
+    ∙ ap (λ t. cond t (string_at l b rest) typed) (or_from (eqb b 93) (eqb b 80) (ne_eqb b 93 s) (ne_eqb b 80 p))
     ∙ ap (λ t. behind_escape (cond t (escape_at l rest) (character_at l b rest))) (sym (ne_eqb b 27 e))
 
 pub none_of : (rows : List (ℕ × KeyCode)) (b : ℕ) → AllByRecursion (λ (row : ℕ × KeyCode). b ≡ row.0 → ⊥) rows → key_in rows b ≡ None

@@ -8,6 +8,7 @@ pub mod Resumes
 pub mod Keys
 pub mod WideCharacters
 pub mod Reports
+pub mod StringLemmas
 pub mod LostBytes
 pub mod Unknowns
 pub mod EcmaSequences

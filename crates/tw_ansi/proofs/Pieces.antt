@@ -6,10 +6,10 @@ use Rattle.std.proofs.lemmas.List.{take-append-le, drop-append-le, take_all}
 use Rattle.std.proofs.lemmas.List.Folds.{prefix_len-append}
 use Rattle.tw_input.specs.declared.key.KeyCode.{KeyCode}
 use Rattle.tw_input.specs.declared.key.KeyCode.TheVariants.{Char, Escape}
-use Rattle.tw_input.specs.Modifiers.{none}
+use Rattle.tw_input.specs.Modifiers.{none, alt}
 use Rattle.tw_ansi.specs.declared.token.Token.TheVariants.{Unknown}
 use Rattle.tw_ansi.specs.declared.token.Scanned.{Scanned}
-use Rattle.tw_ansi.specs.KeyBytes.{token_at, escape_at, control_at, ended_at, sequence_at, paste_at, paste_of, paste_len, application_at, behind_escape, character_at, control_characters, key_in, key_or, typed_at, wide_character, whole_character, following_len, is_continuation, replacement, scanned_as, key_token, with_control, is_letter, is_parameter, is_numeric, parameters_token, first_number}
+use Rattle.tw_ansi.specs.KeyBytes.{token_at, escape_at, string_at, string_of, string_before_escape, whole_string, opens_string, begins_answer, is_string_byte, control_at, ended_at, sequence_at, paste_at, paste_of, paste_len, application_at, behind_escape, character_at, control_characters, key_in, key_or, typed_at, wide_character, whole_character, following_len, is_continuation, replacement, scanned_as, key_token, with_control, is_letter, is_parameter, is_numeric, parameters_token, first_number}
 use Rattle.tw_ansi.proofs.Pastes.{paste_more}
 
 -- where the first finds a token the second finds the same
@@ -109,6 +109,12 @@ ended_more l parameters (b ∷ bytes) more =
     let unknown : Option Scanned = scanned_as Unknown (2 + length parameters) in
     both (is_letter b) (sequence_at false parameters b bytes) unknown (sequence_at l parameters b (bytes ++ more)) unknown (sequence_more l parameters b bytes more) (same unknown)
 
+nothing_left : (n : ℕ) (xs : List ℕ) → length xs ≤ n → drop n xs ≡ []
+nothing_left zero [] h = refl
+nothing_left (suc n) [] h = refl
+nothing_left zero (x ∷ xs) h = absurd (omega arith)
+nothing_left (suc n) (x ∷ xs) h = nothing_left n xs (omega arith)
+
 control_cases : (l : Bool) (bytes more : List ℕ) → (prefix_len is_parameter bytes < length bytes) ⊎ (length bytes ≤ prefix_len is_parameter bytes)
     → Stays (control_at false bytes) (control_at l (bytes ++ more))
 control_cases l bytes more (inl inside) =
@@ -123,18 +129,43 @@ control_cases l bytes more (inl inside) =
 control_cases l bytes more (inr all) =
     let n = prefix_len is_parameter bytes in
     from_none _ _ (ap (λ xs. ended_at false (take n bytes) xs) (nothing_left n bytes all))
-  where
-    nothing_left : (n : ℕ) (xs : List ℕ) → length xs ≤ n → drop n xs ≡ []
-    nothing_left zero [] h = refl
-    nothing_left (suc n) [] h = refl
-    nothing_left zero (x ∷ xs) h = absurd (omega arith)
-    nothing_left (suc n) (x ∷ xs) h = nothing_left n xs (omega arith)
+
+before_escape_more : (l : Bool) (used : ℕ) (bytes more : List ℕ) → Stays (string_before_escape false used bytes) (string_before_escape l used (bytes ++ more))
+before_escape_more l used [] more = waits _
+before_escape_more l used (b ∷ bytes) more = same _
+
+string_of_more : (l : Bool) (used : ℕ) (bytes more : List ℕ) → Stays (string_of false used bytes) (string_of l used (bytes ++ more))
+string_of_more l used [] more = waits _
+string_of_more l used (b ∷ bytes) more =
+    let ended : Option Scanned = cond (eqb b 7) (scanned_as Unknown (used + 1)) (scanned_as Unknown used) in
+    both (eqb b 27) (string_before_escape false used bytes) ended (string_before_escape l used (bytes ++ more)) ended (before_escape_more l used bytes more) (same ended)
+
+string_cases : (l : Bool) (bytes more : List ℕ) → (prefix_len is_string_byte bytes < length bytes) ⊎ (length bytes ≤ prefix_len is_string_byte bytes)
+    → Stays (whole_string false bytes) (whole_string l (bytes ++ more))
+string_cases l bytes more (inl inside) =
+    let n = prefix_len is_string_byte bytes in
+    let stays : prefix_len is_string_byte (bytes ++ more) ≡ n =
+    prefix_len-append is_string_byte bytes more ∙ ap (λ t. cond t (length bytes + prefix_len is_string_byte more) n) (ne_eqb n (length bytes) (λ e. omega arith)) in
+    let parts : whole_string l (bytes ++ more) ≡ string_of l (2 + n) (drop n bytes ++ more) =
+    ap (λ k. string_of l (2 + k) (drop k (bytes ++ more))) stays
+    ∙ ap (λ xs. string_of l (2 + n) xs) (drop-append-le n bytes more (omega arith)) in
+    along _ _ _ parts (string_of_more l (2 + n) (drop n bytes) more)
+string_cases l bytes more (inr all) =
+    let n = prefix_len is_string_byte bytes in
+    from_none _ _ (ap (λ xs. string_of false (2 + n) xs) (nothing_left n bytes all))
+
+string_more : (l : Bool) (opening : ℕ) (bytes more : List ℕ) → Stays (string_at false opening bytes) (string_at l opening (bytes ++ more))
+string_more l opening [] more = waits _
+string_more l opening (b ∷ bytes) more =
+    let typed : Option Scanned = scanned_as (key_token (Char opening) alt) 2 in
+    both (begins_answer b) (whole_string false (b ∷ bytes)) typed (whole_string l (b ∷ (bytes ++ more))) typed (string_cases l (b ∷ bytes) more (cases_lt _ _)) (same typed)
 
 escape_more : (l : Bool) (b : ℕ) (bytes more : List ℕ) → Stays (escape_at false (b ∷ bytes)) (escape_at l (b ∷ (bytes ++ more)))
 escape_more l b bytes more =
     let alone : Option Scanned = scanned_as (key_token Escape none) 1 in
     let typed : Stays (behind_escape (character_at false b bytes)) (behind_escape (character_at l b (bytes ++ more))) = behind_more _ _ (character_more l b bytes more) in
-    let applied : Stays _ _ = both (eqb b 79) (application_at false bytes) (behind_escape (character_at false b bytes)) (application_at l (bytes ++ more)) (behind_escape (character_at l b (bytes ++ more))) (application_more l bytes more) typed in
+    let opened : Stays _ _ = both (opens_string b) (string_at false b bytes) (behind_escape (character_at false b bytes)) (string_at l b (bytes ++ more)) (behind_escape (character_at l b (bytes ++ more))) (string_more l b bytes more) typed in
+    let applied : Stays _ _ = both (eqb b 79) (application_at false bytes) _ (application_at l (bytes ++ more)) _ (application_more l bytes more) opened in
     both (eqb b 27) alone _ alone _ (same alone) (both (eqb b 91) (control_at false bytes) _ (control_at l (bytes ++ more)) _ (control_cases l bytes more (cases_lt _ _)) applied)
 
 first_cases : (l : Bool) (b : ℕ) (more : List ℕ) → (b ∷ [] ≢ 27 ∷ []) → (b ≡ 27) ⊎ (b ≡ 27 → ⊥) → Stays (token_at false (b ∷ [])) (token_at l (b ∷ more))

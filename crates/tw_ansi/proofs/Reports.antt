@@ -53,7 +53,7 @@ no_semicolon : (b : ℕ) → is_digit b ≡ true → not (is_semicolon b) ≡ tr
 no_semicolon b h = grind arith
 
 -- the front of a list all of which passes
-prefix_all : (p : ℕ → Bool) (xs ys : List ℕ) → list_all p xs ≡ true → prefix_len p (xs ++ ys) ≡ length xs + prefix_len p ys
+pub prefix_all : (p : ℕ → Bool) (xs ys : List ℕ) → list_all p xs ≡ true → prefix_len p (xs ++ ys) ≡ length xs + prefix_len p ys
 prefix_all p [] ys h = omega arith
 prefix_all p (x ∷ xs) ys h =
     let parts = and_parts (p x) (list_all p xs) h in

@@ -8,12 +8,15 @@ use Rattle.std.proofs.lemmas.List.Sums.{prefix_len-le-length}
 use Rattle.std.proofs.lemmas.List.{drop-drop, drop-append-le, take-append-le, append-nil, take_rest}
 use Rattle.tw_ansi.specs.declared.token.Scanned.{Scanned}
 use Rattle.tw_ansi.specs.declared.resume.Progress.{Progress}
-use Rattle.tw_ansi.specs.declared.resume.Progress.TheVariants.{Start, Parameters, Paste}
-use Rattle.tw_ansi.specs.KeyBytes.{token_at, ended_at, sequence_at, paste_at, paste_of, paste_len, paste_end, is_parameter, is_letter, is_numeric, first_number, parameters_token, scanned_as}
+use Rattle.tw_ansi.specs.declared.resume.Progress.TheVariants.{Start, Parameters, ControlString, Paste}
+use Rattle.tw_ansi.specs.KeyBytes.{token_at, string_of, whole_string, opens_string, begins_answer, is_string_byte, key_token, ended_at, sequence_at, paste_at, paste_of, paste_len, paste_end, is_parameter, is_letter, is_numeric, first_number, parameters_token, scanned_as}
 use Rattle.tw_ansi.specs.declared.token.Token.TheVariants.{Unknown}
-use Rattle.tw_ansi.specs.Resuming.{Fits, token_resumed, parameters_on, paste_on, searched_to, behind_parameters, sequence_start, behind_start, read_on}
+use Rattle.tw_input.specs.declared.key.KeyCode.TheVariants.{Char}
+use Rattle.tw_input.specs.Modifiers.{alt}
+use Rattle.tw_ansi.specs.Resuming.{Fits, token_resumed, parameters_on, string_on, paste_on, searched_to, behind_parameters, behind_string, begins_string, sequence_start, behind_start, read_on}
 use Rattle.tw_ansi.proofs.Pastes.{starts_long, starts_more}
 use Rattle.tw_ansi.proofs.Tokens.{takes_bytes}
+use Rattle.tw_ansi.proofs.StringLemmas.{opened}
 
 -- nothing is known of any bytes
 pub fits_start : (bytes : List ℕ) → Fits Start bytes
@@ -65,20 +68,20 @@ paste_further l from s n text more inside none fits =
     ap (λ o. paste_of l from (length all) o)
     (sym (ap (λ o. option_map (λ (k : ℕ). k + s) o) skips ∙ twice s n _ ∙ ap (λ m. option_map (λ (k : ℕ). k + m) (paste_len (drop (s + n) all))) sum))
 
--- parameters go on behind those that are there
-prefix_on : (n : ℕ) (xs : List ℕ) → n ≤ prefix_len is_parameter xs → n + prefix_len is_parameter (drop n xs) ≡ prefix_len is_parameter xs
-prefix_on zero xs fits = omega arith
-prefix_on (suc n) [] fits = absurd (omega arith)
-prefix_on (suc n) (x ∷ xs) fits = next (is_parameter x) (prefix_len is_parameter xs) (prefix_len is_parameter (drop n xs)) fits (prefix_on n xs)
+-- bytes that pass go on behind those that are there
+prefix_on : (p : ℕ → Bool) (n : ℕ) (xs : List ℕ) → n ≤ prefix_len p xs → n + prefix_len p (drop n xs) ≡ prefix_len p xs
+prefix_on p zero xs fits = omega arith
+prefix_on p (suc n) [] fits = absurd (omega arith)
+prefix_on p (suc n) (x ∷ xs) fits = next (p x) (prefix_len p xs) (prefix_len p (drop n xs)) fits (prefix_on p n xs)
   where
     next : (t : Bool) (all rest : ℕ) → suc n ≤ cond t (1 + all) 0 → (n ≤ all → n + rest ≡ all) → suc n + rest ≡ cond t (1 + all) 0
     next true all rest fits h = omega (arith, h (omega arith))
     next false all rest fits h = absurd (omega arith)
 
 -- and what follows takes none away
-prefix_grows : (xs ys : List ℕ) → prefix_len is_parameter xs ≤ prefix_len is_parameter (xs ++ ys)
-prefix_grows [] ys = omega arith
-prefix_grows (x ∷ xs) ys = next (is_parameter x) (prefix_len is_parameter xs) (prefix_len is_parameter (xs ++ ys)) (prefix_grows xs ys)
+prefix_grows : (p : ℕ → Bool) (xs ys : List ℕ) → prefix_len p xs ≤ prefix_len p (xs ++ ys)
+prefix_grows p [] ys = omega arith
+prefix_grows p (x ∷ xs) ys = next (p x) (prefix_len p xs) (prefix_len p (xs ++ ys)) (prefix_grows p xs ys)
   where
     next : (t : Bool) (few all : ℕ) → few ≤ all → cond t (1 + few) 0 ≤ cond t (1 + all) 0
     next true few all h = omega (arith, h)
@@ -90,18 +93,27 @@ prefix_stops xs ys inside =
     let n = prefix_len is_parameter xs in
     prefix_len-append is_parameter xs ys ∙ ap (λ t. cond t (length xs + prefix_len is_parameter ys) n) (ne_eqb n (length xs) (λ e. omega (arith, e, inside)))
 
--- so parameters that were read are passed
+-- so those that were read are passed
+prefix_further : (p : ℕ → Bool) (len : ℕ) (rest more : List ℕ) → len ≤ length rest
+    → (len + prefix_len p (drop len rest)) + prefix_len p (drop (len + prefix_len p (drop len rest)) (rest ++ more)) ≡ len + prefix_len p (drop len (rest ++ more))
+prefix_further p len rest more inside =
+    let k = prefix_len p (drop len rest) in
+    let xs = rest ++ more in
+    let front : drop len xs ≡ drop len rest ++ more = drop-append-le len rest more inside in
+    let here : k ≤ prefix_len p (drop len xs) = subst (λ ys. k ≤ prefix_len p ys) (sym front) (prefix_grows p (drop len rest) more) in
+    let on : k + prefix_len p (drop k (drop len xs)) ≡ prefix_len p (drop len xs) = prefix_on p k (drop len xs) here in
+    let behind : prefix_len p (drop k (drop len xs)) ≡ prefix_len p (drop (len + k) xs) = ap (λ ys. prefix_len p ys) (drop-drop k len xs) in
+    omega (arith, on, behind)
+
 parameters_further : (l : Bool) (len : ℕ) (rest more : List ℕ) → len ≤ length rest
     → parameters_on l (len + prefix_len is_parameter (drop len rest)) (rest ++ more) ≡ parameters_on l len (rest ++ more)
 parameters_further l len rest more inside =
-    let k = prefix_len is_parameter (drop len rest) in
-    let xs = rest ++ more in
-    let front : drop len xs ≡ drop len rest ++ more = drop-append-le len rest more inside in
-    let here : k ≤ prefix_len is_parameter (drop len xs) = subst (λ ys. k ≤ prefix_len is_parameter ys) (sym front) (prefix_grows (drop len rest) more) in
-    let on : k + prefix_len is_parameter (drop k (drop len xs)) ≡ prefix_len is_parameter (drop len xs) = prefix_on k (drop len xs) here in
-    let behind : prefix_len is_parameter (drop k (drop len xs)) ≡ prefix_len is_parameter (drop (len + k) xs) = ap (λ ys. prefix_len is_parameter ys) (drop-drop k len xs) in
-    let all : (len + k) + prefix_len is_parameter (drop (len + k) xs) ≡ len + prefix_len is_parameter (drop len xs) = omega (arith, on, behind) in
-    ap (λ n. ended_at l (take n xs) (drop n xs)) all
+    ap (λ n. ended_at l (take n (rest ++ more)) (drop n (rest ++ more))) (prefix_further is_parameter len rest more inside)
+
+string_further : (l : Bool) (len : ℕ) (rest more : List ℕ) → len ≤ length rest
+    → string_on l (len + prefix_len is_string_byte (drop len rest)) (rest ++ more) ≡ string_on l len (rest ++ more)
+string_further l len rest more inside =
+    ap (λ n. string_of l (2 + n) (drop n (rest ++ more))) (prefix_further is_string_byte len rest more inside)
 
 none_else : (t : Bool) (s : Scanned) (o : Option Scanned) → cond t (Some s) o ≡ None → (t ≡ false) × (o ≡ None)
 none_else true s o h = absurd cc
@@ -216,6 +228,22 @@ behind_fits l len bytes inside all is goes none = next (cases_lt all (length res
               ∙ goes m more;
         })
 
+-- the bytes of a string behind ESC ] or ESC P were read so far
+string_fits : (len : ℕ) (bytes : List ℕ) → 2 + len ≤ length bytes
+    → ((l : Bool) (more : List ℕ) → string_on l len (drop 2 bytes ++ more) ≡ token_at l (bytes ++ more))
+    → Fits (behind_string len (drop 2 bytes)) bytes
+string_fits len bytes inside goes =
+    let rest = drop 2 bytes in
+    let k = prefix_len is_string_byte (drop len rest) in
+    let many : length rest ≡ length bytes - 2 = length-drop 2 bytes in
+    record {
+      within = omega (arith, inside, many, length-drop len rest, prefix_len-le-length is_string_byte (drop len rest));
+      goes_on = λ l more.
+          ap (λ xs. string_on l (len + k) xs) (drop-append-le 2 bytes more (omega (arith, inside)))
+          ∙ string_further l len rest more (omega (arith, inside, many))
+          ∙ goes l more;
+    }
+
 none_mapped : (n : ℕ) (o : Option ℕ) → option_map (λ k. k + n) o ≡ None → o ≡ None
 none_mapped n (Some k) h = absurd cc
 none_mapped n None h = refl
@@ -230,19 +258,57 @@ begins l (b ∷ c ∷ rest) at =
     let second : 91 ≡ c = eqb-true 91 c (and_parts _ _ parts.1).0 in
     begins_sequence l rest ∙ ap (λ x. token_at l (x ∷ 91 ∷ rest)) first ∙ ap (λ x. token_at l (b ∷ x ∷ rest)) second
 
+-- bytes that begin with ESC ] or ESC P and an answer
+string_begins : (l : Bool) (bytes : List ℕ) → begins_string bytes ≡ true → string_on l 0 (drop 2 bytes) ≡ token_at l bytes
+string_begins l [] at = absurd (false≢true at)
+string_begins l (a ∷ []) at = absurd (false≢true at)
+string_begins l (a ∷ b ∷ []) at = absurd (false≢true at)
+string_begins l (a ∷ b ∷ c ∷ rest) at =
+    let parts = and_parts (eqb a 27) (opens_string b && begins_answer c) at in
+    let more = and_parts (opens_string b) (begins_answer c) parts.1 in
+    let all : 0 + prefix_len is_string_byte (c ∷ rest) ≡ prefix_len is_string_byte (c ∷ rest) = omega arith in
+    ap (λ n. string_of l (2 + n) (drop n (c ∷ rest))) all
+    ∙ sym (ap (λ x. token_at l (x ∷ b ∷ c ∷ rest)) (eqb-true a 27 parts.0)
+    ∙ opened l b (c ∷ rest) more.0
+    ∙ ap (λ t. cond t (whole_string l (c ∷ rest)) (scanned_as (key_token (Char b) alt) 2)) more.1)
+
+still_begins : (bytes more : List ℕ) → begins_string bytes ≡ true → begins_string (bytes ++ more) ≡ true
+still_begins [] more at = absurd (false≢true at)
+still_begins (a ∷ []) more at = absurd (false≢true at)
+still_begins (a ∷ b ∷ []) more at = absurd (false≢true at)
+still_begins (a ∷ b ∷ c ∷ rest) more at = at
+
+two_begin : (bytes : List ℕ) → begins_string bytes ≡ true → 2 ≤ length bytes
+two_begin [] at = absurd (false≢true at)
+two_begin (a ∷ []) at = absurd (false≢true at)
+two_begin (a ∷ b ∷ rest) at = omega arith
+
 -- how they are read
+pub begun_string : (l : Bool) (bytes : List ℕ) (result : Result Scanned Progress) → starts_with eqb bytes sequence_start ≡ false → begins_string bytes ≡ true
+    → (let rest = take (length bytes - 2) (drop 2 bytes) in result ≡ ok_or (string_on l 0 rest) (behind_string 0 rest))
+    → result ≡ ok_or (token_at l bytes) (behind_start bytes)
+begun_string l bytes result no_sequence at is =
+    is ∙ ap (λ xs. ok_or (string_on l 0 xs) (behind_string 0 xs)) (take_rest bytes 2)
+    ∙ ap (λ o. ok_or o (behind_string 0 (drop 2 bytes))) (string_begins l bytes at)
+    ∙ ap (λ t. ok_or (token_at l bytes) (cond t (behind_string 0 (drop 2 bytes)) Start)) (sym at)
+    ∙ ap (λ t. ok_or (token_at l bytes) (cond t (behind_parameters 0 (drop 2 bytes)) (cond (begins_string bytes) (behind_string 0 (drop 2 bytes)) Start))) (sym no_sequence)
+
 pub begun : (l : Bool) (bytes : List ℕ) (result : Result Scanned Progress) → starts_with eqb bytes sequence_start ≡ true
     → (let rest = take (length bytes - 2) (drop 2 bytes) in result ≡ ok_or (parameters_on l 0 rest) (behind_parameters 0 rest))
     → result ≡ ok_or (token_at l bytes) (behind_start bytes)
 begun l bytes result at is =
     is ∙ ap (λ xs. ok_or (parameters_on l 0 xs) (behind_parameters 0 xs)) (take_rest bytes 2)
     ∙ ap (λ o. ok_or o (behind_parameters 0 (drop 2 bytes))) (begins l bytes at)
-    ∙ ap (λ t. ok_or (token_at l bytes) (cond t (behind_parameters 0 (drop 2 bytes)) Start)) (sym at)
+    ∙ ap (λ t. ok_or (token_at l bytes) (cond t (behind_parameters 0 (drop 2 bytes)) (cond (begins_string bytes) (behind_string 0 (drop 2 bytes)) Start))) (sym at)
 
-start_fits : (l : Bool) (bytes : List ℕ) (t : Bool) → starts_with eqb bytes sequence_start ≡ t → token_at l bytes ≡ None
-    → Fits (cond t (behind_parameters 0 (drop 2 bytes)) Start) bytes
-start_fits l bytes false e none = fits_start bytes
-start_fits l bytes true e none =
+start_fits : (l : Bool) (bytes : List ℕ) (t u : Bool) → starts_with eqb bytes sequence_start ≡ t → begins_string bytes ≡ u → token_at l bytes ≡ None
+    → Fits (cond t (behind_parameters 0 (drop 2 bytes)) (cond u (behind_string 0 (drop 2 bytes)) Start)) bytes
+start_fits l bytes false false e other none = fits_start bytes
+start_fits l bytes false true e at none =
+    let two = two_begin bytes at in
+    string_fits 0 bytes (omega (arith, two))
+    (λ m more. ap (λ xs. string_on m 0 xs) (sym (drop-append-le 2 bytes more two)) ∙ string_begins m (bytes ++ more) (still_begins bytes more at))
+start_fits l bytes true u e at none =
     behind_fits l 0 bytes (omega (arith, starts_long sequence_start bytes e)) _ refl
     (λ m more. ap (λ xs. parameters_on m 0 xs) (sym (drop-append-le 2 bytes more (omega (arith, starts_long sequence_start bytes e))))
     ∙ begins m (bytes ++ more) (starts_more sequence_start bytes more (starts_long sequence_start bytes e) ∙ e))
@@ -250,10 +316,13 @@ start_fits l bytes true e none =
 
 -- what was read of bytes that are no token yet
 read_fits : (p : Progress) (l : Bool) (bytes : List ℕ) → Fits p bytes → token_resumed p l bytes ≡ None → Fits (read_on p bytes) bytes
-read_fits Start l bytes f none = start_fits l bytes _ refl none
+read_fits Start l bytes f none = start_fits l bytes _ _ refl refl none
 read_fits (Parameters len) l bytes f none =
     behind_fits l len bytes f.within _ refl
     (λ m more. ap (λ xs. parameters_on m len xs) (sym (drop-append-le 2 bytes more (omega (arith, f.within)))) ∙ f.goes_on m more) none
+read_fits (ControlString len) l bytes f none =
+    string_fits len bytes f.within
+    (λ m more. ap (λ xs. string_on m len xs) (sym (drop-append-le 2 bytes more (omega (arith, f.within)))) ∙ f.goes_on m more)
 read_fits (Paste from s) l bytes f none =
     let text = drop from bytes in
     let many : length text ≡ length bytes - from = length-drop from bytes in

@@ -1,14 +1,15 @@
 -- What each token takes.
-use Rattle.std.proofs.Common.{◌≡◌, ◌≤◌, ◌<◌, ◌+◌, ℕ, Bool, true, false, cond, ltb, leb, ◌||◌, List, [], ◌∷◌, Option, Some, None, IfSome, IsSome, take, drop, length, arith, ap, subst, ◌∙◌, sym, refl, length-take}
+use Rattle.std.proofs.Common.{◌≡◌, ◌≤◌, ◌<◌, ◌+◌, ◌-◌, ℕ, Bool, true, false, cond, ltb, leb, ◌||◌, List, [], ◌∷◌, Option, Some, None, IfSome, IsSome, take, drop, length, arith, ap, subst, ◌∙◌, sym, refl, length-take, length-drop}
 use Rattle.std.specs.List.{prefix_len}
 use Rattle.std.proofs.lemmas.List.{take-append-drop, length-append}
+use Rattle.std.proofs.lemmas.List.Sums.{prefix_len-le-length}
 use Rattle.tw_input.specs.declared.key.KeyCode.{KeyCode}
 use Rattle.tw_input.specs.declared.key.KeyCode.TheVariants.{Char, Escape}
 use Rattle.tw_input.specs.Modifiers.{none, alt, ctrl}
 use Rattle.tw_ansi.specs.declared.token.Token.{Token}
 use Rattle.tw_ansi.specs.declared.token.Token.TheVariants.{Paste, Unknown}
 use Rattle.tw_ansi.specs.declared.token.Scanned.{Scanned}
-use Rattle.tw_ansi.specs.KeyBytes.{token_at, escape_at, control_at, ended_at, sequence_at, paste_at, paste_of, paste_len, application_at, application_key, application_keys, behind_escape, character_at, control_characters, key_in, key_or, with_control, typed_at, wide_character, whole_character, following_len, replacement, scanned_as, key_token, code_of, parameters_token, is_parameter}
+use Rattle.tw_ansi.specs.KeyBytes.{token_at, escape_at, string_at, string_of, string_before_escape, whole_string, begins_answer, is_string_byte, control_at, ended_at, sequence_at, paste_at, paste_of, paste_len, application_at, application_key, application_keys, behind_escape, character_at, control_characters, key_in, key_or, with_control, typed_at, wide_character, whole_character, following_len, replacement, scanned_as, key_token, code_of, parameters_token, is_parameter}
 use Rattle.tw_ansi.proofs.Pastes.{paste_within}
 
 -- a token takes at least one byte and at most n
@@ -89,13 +90,34 @@ control_within n l bytes fits =
     let k = prefix_len is_parameter bytes in
     ended_within n l (take k bytes) (drop k bytes) (omega (arith, parameters_split bytes))
 
+before_escape_within : (n : ℕ) (l : Bool) (used : ℕ) (bytes : List ℕ) → 0 < used → used + (1 + length bytes) ≤ n → IsWithin n (string_before_escape l used bytes)
+before_escape_within n l used [] some fits = either n l _ _ (taken n used Unknown some (omega arith)) (nothing n)
+before_escape_within n l used (b ∷ bytes) some fits = either n _ _ _ (taken n (used + 2) Unknown (omega arith) (omega arith)) (taken n used Unknown some (omega arith))
+
+string_of_within : (n : ℕ) (l : Bool) (used : ℕ) (bytes : List ℕ) → 0 < used → used + length bytes ≤ n → IsWithin n (string_of l used bytes)
+string_of_within n l used [] some fits = either n l _ _ (taken n used Unknown some (omega arith)) (nothing n)
+string_of_within n l used (b ∷ bytes) some fits =
+    either n _ _ _ (before_escape_within n l used bytes some (omega arith))
+    (either n _ _ _ (taken n (used + 1) Unknown (omega arith) (omega arith)) (taken n used Unknown some (omega arith)))
+
+whole_string_within : (n : ℕ) (l : Bool) (bytes : List ℕ) → 2 + length bytes ≤ n → IsWithin n (whole_string l bytes)
+whole_string_within n l bytes fits =
+    let len = prefix_len is_string_byte bytes in
+    string_of_within n l (2 + len) (drop len bytes) (omega arith) (omega (arith, length-drop len bytes, prefix_len-le-length is_string_byte bytes))
+
+string_within : (n : ℕ) (l : Bool) (opening : ℕ) (bytes : List ℕ) → 2 + length bytes ≤ n → IsWithin n (string_at l opening bytes)
+string_within n l opening [] fits = either n l _ _ (taken n 2 (key_token (Char opening) alt) (omega arith) (omega arith)) (nothing n)
+string_within n l opening (b ∷ bytes) fits =
+    either n _ _ _ (whole_string_within n l (b ∷ bytes) fits) (taken n 2 (key_token (Char opening) alt) (omega arith) (omega arith))
+
 escape_within : (n : ℕ) (l : Bool) (bytes : List ℕ) → 1 + length bytes ≤ n → IsWithin n (escape_at l bytes)
 escape_within n l [] fits = one n Escape none (omega arith)
 escape_within n l (b ∷ bytes) fits =
     let alone : IsWithin n (scanned_as (key_token Escape none) 1) = one n Escape none (omega arith) in
     let typed : IsWithin n (behind_escape (character_at l b bytes)) =
     behind_within (1 + length bytes) n _ (omega arith) (character_within _ l b bytes (omega arith)) in
-    either n _ _ _ alone (either n _ _ _ (control_within n l bytes (omega arith)) (either n _ _ _ (application_within n l bytes (omega arith)) typed))
+    either n _ _ _ alone (either n _ _ _ (control_within n l bytes (omega arith)) (either n _ _ _ (application_within n l bytes (omega arith))
+    (either n _ _ _ (string_within n l b bytes (omega arith)) typed)))
 
 -- a token takes at least one byte, and none that is not there
 pub token_within : (l : Bool) (bytes : List ℕ) → IsWithin (length bytes) (token_at l bytes)
@@ -150,11 +172,25 @@ ended_ends parameters (b ∷ bytes) =
     ends_if _ _ _ yes (ends_if _ _ _ (paste_ends (3 + length parameters) (length bytes) (paste_len bytes)) yes) in
     ends_if _ _ _ numbers yes
 
+before_escape_ends : (used : ℕ) (bytes : List ℕ) → Answers (string_before_escape true used bytes)
+before_escape_ends used [] = yes
+before_escape_ends used (b ∷ bytes) = ends_if _ _ _ yes yes
+
+string_of_ends : (used : ℕ) (bytes : List ℕ) → Answers (string_of true used bytes)
+string_of_ends used [] = yes
+string_of_ends used (b ∷ bytes) = ends_if _ _ _ (before_escape_ends used bytes) (ends_if _ _ _ yes yes)
+
+string_ends : (opening : ℕ) (bytes : List ℕ) → Answers (string_at true opening bytes)
+string_ends opening [] = yes
+string_ends opening (b ∷ bytes) =
+    let len = prefix_len is_string_byte (b ∷ bytes) in
+    ends_if _ _ _ (string_of_ends (2 + len) (drop len (b ∷ bytes))) yes
+
 escape_ends : (bytes : List ℕ) → Answers (escape_at true bytes)
 escape_ends [] = yes
 escape_ends (b ∷ bytes) =
     ends_if _ _ _ yes (ends_if _ _ _ (ended_ends (take (prefix_len is_parameter bytes) bytes) (drop (prefix_len is_parameter bytes) bytes))
-    (ends_if _ _ _ (application_ends bytes) (behind_ends _ (character_ends b bytes))))
+    (ends_if _ _ _ (application_ends bytes) (ends_if _ _ _ (string_ends b bytes) (behind_ends _ (character_ends b bytes)))))
 
 -- where the bytes are the last ones there is a token
 answers : (bytes : List ℕ) → 0 < length bytes → Answers (token_at true bytes)

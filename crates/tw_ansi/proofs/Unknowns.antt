@@ -1,13 +1,14 @@
 -- What is taken where nothing is known.
-use Rattle.std.proofs.Common.{◌≡◌, ◌≢◌, ◌+◌, ℕ, suc, Bool, true, false, not, cond, ltb, eqb, ◌&&◌, List, [], ◌∷◌, ◌++◌, Option, Some, None, IfSome, take, drop, length, append_assoc, append-nil, length-append, take-append-drop, take_at, arith, ap, subst, ◌∙◌, sym, refl}
+use Rattle.std.proofs.Common.{◌≡◌, ◌≢◌, ◌+◌, ℕ, suc, Bool, true, false, not, cond, ltb, eqb, ◌&&◌, List, [], ◌∷◌, ◌++◌, Option, Some, None, IfSome, ◌⊎◌, inl, inr, take, drop, length, length-take, append_assoc, append-nil, length-append, take-append-drop, take_at, arith, ap, subst, ◌∙◌, sym, refl}
 use Rattle.std.specs.List.{prefix_len, list_all}
 use Rattle.std.proofs.lemmas.Bool.{and_from, eqb-true}
+use Rattle.std.proofs.lemmas.List.Sums.{prefix_len-le-length}
 use Rattle.tw_input.specs.declared.key.KeyCode.{KeyCode}
 use Rattle.tw_ansi.specs.declared.token.Token.{Token}
 use Rattle.tw_ansi.specs.declared.token.Token.TheVariants.{Key, Size, Paste, Unknown}
 use Rattle.tw_ansi.specs.declared.token.Scanned.{Scanned}
-use Rattle.tw_ansi.specs.KeyBytes.{token_at, escape_at, control_at, ended_at, sequence_at, paste_at, paste_of, paste_len, application_at, application_key, application_keys, behind_escape, with_alt, character_at, control_characters, key_in, key_or, with_control, typed_at, wide_character, whole_character, following_len, replacement, scanned_as, key_token, first_number, parameters_token, is_numeric, is_parameter, is_letter}
-use Rattle.tw_ansi.specs.KeyLaws.{IsControlSequence, UnknownSequences}
+use Rattle.tw_ansi.specs.KeyBytes.{token_at, escape_at, string_at, string_of, string_before_escape, whole_string, opens_string, begins_answer, is_string_byte, control_at, ended_at, sequence_at, paste_at, paste_of, paste_len, application_at, application_key, application_keys, behind_escape, with_alt, character_at, control_characters, key_in, key_or, with_control, typed_at, wide_character, whole_character, following_len, replacement, scanned_as, key_token, first_number, parameters_token, is_numeric, is_parameter, is_letter}
+use Rattle.tw_ansi.specs.KeyLaws.{IsControlSequence, IsControlString, UnknownSequences}
 
 -- a token that is known
 record Known (o : Option Scanned) : Type 0 where
@@ -60,23 +61,26 @@ paste_known : (l : Bool) (from left : ℕ) (o : Option ℕ) → Known (paste_of 
 paste_known l from left (Some len) = record { kept = no_paste from len }
 paste_known l from left None = known_if l _ _ (record { kept = no_paste from left }) waits
 
--- what is not known is a sequence at the front of some bytes
-record OnlySequence (bytes : List ℕ) (o : Option Scanned) : Type 0 where
-  pub kept : (used : ℕ) → o ≡ scanned_as Unknown used → IsControlSequence (take used bytes)
+-- what is not known is a sequence or a string at the front of some bytes
+record OnlyUnknown (bytes : List ℕ) (o : Option Scanned) : Type 0 where
+  pub kept : (used : ℕ) → o ≡ scanned_as Unknown used → IsControlSequence (take used bytes) ⊎ IsControlString (take used bytes)
 
-only_if : (bytes : List ℕ) (b : Bool) (x y : Option Scanned) → (b ≡ true → OnlySequence bytes x) → (b ≡ false → OnlySequence bytes y) → OnlySequence bytes (cond b x y)
+only_if : (bytes : List ℕ) (b : Bool) (x y : Option Scanned) → (b ≡ true → OnlyUnknown bytes x) → (b ≡ false → OnlyUnknown bytes y) → OnlyUnknown bytes (cond b x y)
 only_if bytes true x y p q = p refl
 only_if bytes false x y p q = q refl
 
-known : (bytes : List ℕ) (o : Option Scanned) → Known o → OnlySequence bytes o
+known : (bytes : List ℕ) (o : Option Scanned) → Known o → OnlyUnknown bytes o
 known bytes o h = record { kept = λ used e. absurd ((subst Known e h).kept refl) }
 
 abbrev used_of : Option Scanned → ℕ
 used_of (Some s) = s.used
 used_of None = 0
 
-taken : (bytes : List ℕ) (t : Token) (used : ℕ) → IsControlSequence (take used bytes) → OnlySequence bytes (scanned_as t used)
-taken bytes t used h = record { kept = λ n e. subst (λ k. IsControlSequence (take k bytes)) (ap used_of e) h }
+taken : (bytes : List ℕ) (t : Token) (used : ℕ) → IsControlSequence (take used bytes) → OnlyUnknown bytes (scanned_as t used)
+taken bytes t used h = record { kept = λ n e. inl (subst (λ k. IsControlSequence (take k bytes)) (ap used_of e) h) }
+
+taken_string : (bytes : List ℕ) (t : Token) (used : ℕ) → IsControlString (take used bytes) → OnlyUnknown bytes (scanned_as t used)
+taken_string bytes t used h = record { kept = λ n e. inr (subst (λ k. IsControlString (take k bytes)) (ap used_of e) h) }
 
 -- ESC [ and parameters
 front : (parameters rest : List ℕ) → list_all is_parameter parameters ≡ true → IsControlSequence (take (2 + length parameters) (27 ∷ 91 ∷ (parameters ++ rest)))
@@ -103,7 +107,7 @@ whole parameters letter rest all ends = record {
 }
 
 sequence_only : (l : Bool) (parameters : List ℕ) (letter : ℕ) (rest : List ℕ) → list_all is_parameter parameters ≡ true → is_letter letter ≡ true
-    → OnlySequence (27 ∷ 91 ∷ (parameters ++ letter ∷ rest)) (sequence_at l parameters letter rest)
+    → OnlyUnknown (27 ∷ 91 ∷ (parameters ++ letter ∷ rest)) (sequence_at l parameters letter rest)
 sequence_only l parameters letter rest all ends =
     let bytes = 27 ∷ 91 ∷ (parameters ++ letter ∷ rest) in
     let used : ℕ = 3 + length parameters in
@@ -114,7 +118,7 @@ sequence_only l parameters letter rest all ends =
     (λ yes. only_if bytes (eqb letter 126 && eqb (first_number parameters) 200) (paste_at l used rest) (scanned_as token used)
     (λ pasted. known bytes _ (paste_known l used (length rest) (paste_len rest))) (λ other. taken bytes token used is))
 
-ended_only : (l : Bool) (parameters rest : List ℕ) → list_all is_parameter parameters ≡ true → OnlySequence (27 ∷ 91 ∷ (parameters ++ rest)) (ended_at l parameters rest)
+ended_only : (l : Bool) (parameters rest : List ℕ) → list_all is_parameter parameters ≡ true → OnlyUnknown (27 ∷ 91 ∷ (parameters ++ rest)) (ended_at l parameters rest)
 ended_only l parameters [] all = known _ _ (known_if l _ _ key waits)
 ended_only l parameters (b ∷ rest) all =
     let bytes = 27 ∷ 91 ∷ (parameters ++ b ∷ rest) in
@@ -129,25 +133,76 @@ front_all : (p : ℕ → Bool) (xs : List ℕ) → list_all p (take (prefix_len 
 front_all p [] = refl
 front_all p (x ∷ xs) = front_if p (p x) (prefix_len p xs) x xs refl (front_all p xs)
 
-control_only : (l : Bool) (bytes : List ℕ) → OnlySequence (27 ∷ 91 ∷ bytes) (control_at l bytes)
+control_only : (l : Bool) (bytes : List ℕ) → OnlyUnknown (27 ∷ 91 ∷ bytes) (control_at l bytes)
 control_only l bytes =
     let k = prefix_len is_parameter bytes in
-    subst (λ xs. OnlySequence (27 ∷ 91 ∷ xs) (control_at l bytes)) (take-append-drop k bytes)
+    subst (λ xs. OnlyUnknown (27 ∷ 91 ∷ xs) (control_at l bytes)) (take-append-drop k bytes)
     (ended_only l (take k bytes) (drop k bytes) (front_all is_parameter bytes))
 
-escape_only : (l : Bool) (b : ℕ) (bytes : List ℕ) → OnlySequence (27 ∷ b ∷ bytes) (escape_at l (b ∷ bytes))
+-- strings, behind ESC and a byte that opens them
+module _ (opening : ℕ) (opens : opens_string opening ≡ true) where
+  -- a string with what ends it, or without an end
+  string_is : (text final rest : List ℕ) (used : ℕ) → list_all is_string_byte text ≡ true → (final ≡ []) ⊎ ((final ≡ 7 ∷ []) ⊎ (final ≡ 27 ∷ 92 ∷ []))
+      → used ≡ 2 + length text + length final → IsControlString (take used (27 ∷ opening ∷ (text ++ (final ++ rest))))
+  string_is text final rest used all ends count = record {
+    opening = opening;
+    text = text;
+    final = final;
+    parts = ap (λ xs. take used (27 ∷ opening ∷ xs)) (sym (append_assoc text final rest))
+        ∙ take_at (27 ∷ opening ∷ (text ++ final)) rest used (omega (arith, count, length-append text final));
+    opens = opens;
+    between = all;
+    ends = ends;
+  }
+
+  before_escape_only : (l : Bool) (text rest : List ℕ) → list_all is_string_byte text ≡ true
+      → OnlyUnknown (27 ∷ opening ∷ (text ++ 27 ∷ rest)) (string_before_escape l (2 + length text) rest)
+  before_escape_only l text [] all =
+      let cut = taken_string _ Unknown (2 + length text) (string_is text [] (27 ∷ []) _ all (inl refl) (omega arith)) in
+      only_if _ l _ _ (λ last. cut) (λ more. known _ _ waits)
+  before_escape_only l text (b ∷ rest) all =
+      only_if _ (eqb b 92) _ _
+      (λ yes. subst (λ x. OnlyUnknown (27 ∷ opening ∷ (text ++ 27 ∷ x ∷ rest)) (scanned_as Unknown (2 + length text + 2))) (sym (eqb-true b 92 yes))
+      (taken_string _ Unknown _ (string_is text (27 ∷ 92 ∷ []) rest _ all (inr (inr refl)) (omega arith))))
+      (λ no. taken_string _ Unknown _ (string_is text [] (27 ∷ b ∷ rest) _ all (inl refl) (omega arith)))
+
+  string_of_only : (l : Bool) (text rest : List ℕ) → list_all is_string_byte text ≡ true
+      → OnlyUnknown (27 ∷ opening ∷ (text ++ rest)) (string_of l (2 + length text) rest)
+  string_of_only l text [] all =
+      let cut = taken_string _ Unknown (2 + length text) (string_is text [] [] _ all (inl refl) (omega arith)) in
+      only_if _ l _ _ (λ last. cut) (λ more. known _ _ waits)
+  string_of_only l text (b ∷ rest) all =
+      only_if _ (eqb b 27) _ _
+      (λ yes. subst (λ x. OnlyUnknown (27 ∷ opening ∷ (text ++ x ∷ rest)) (string_before_escape l (2 + length text) rest)) (sym (eqb-true b 27 yes)) (before_escape_only l text rest all))
+      (λ no. only_if _ (eqb b 7) _ _
+      (λ yes. subst (λ x. OnlyUnknown (27 ∷ opening ∷ (text ++ x ∷ rest)) (scanned_as Unknown (2 + length text + 1))) (sym (eqb-true b 7 yes))
+      (taken_string _ Unknown _ (string_is text (7 ∷ []) rest _ all (inr (inl refl)) (omega arith))))
+      (λ no. taken_string _ Unknown _ (string_is text [] (b ∷ rest) _ all (inl refl) (omega arith))))
+
+  string_only : (l : Bool) (bytes : List ℕ) → OnlyUnknown (27 ∷ opening ∷ bytes) (string_at l opening bytes)
+  string_only l [] = known _ _ (known_if l _ _ key waits)
+  string_only l (b ∷ rest) =
+      let bytes = b ∷ rest in
+      let k = prefix_len is_string_byte bytes in
+      let count : length (take k bytes) ≡ k = length-take k bytes ∙ omega (arith, prefix_len-le-length is_string_byte bytes) in
+      let split = subst (λ xs. OnlyUnknown (27 ∷ opening ∷ xs) (string_of l (2 + length (take k bytes)) (drop k bytes))) (take-append-drop k bytes)
+      (string_of_only l (take k bytes) (drop k bytes) (front_all is_string_byte bytes)) in
+      only_if _ (begins_answer b) _ _ (λ yes. subst (λ n. OnlyUnknown (27 ∷ opening ∷ bytes) (string_of l (2 + n) (drop k bytes))) count split) (λ no. known _ _ key)
+
+escape_only : (l : Bool) (b : ℕ) (bytes : List ℕ) → OnlyUnknown (27 ∷ b ∷ bytes) (escape_at l (b ∷ bytes))
 escape_only l b bytes =
     let typed : Known (behind_escape (character_at l b bytes)) = behind_known _ (character_known l b bytes) in
     only_if _ (eqb b 27) _ _ (λ yes. known _ _ key)
-    (λ no. only_if _ (eqb b 91) _ _ (λ yes. subst (λ x. OnlySequence (27 ∷ x ∷ bytes) (control_at l bytes)) (sym (eqb-true b 91 yes)) (control_only l bytes))
-    (λ no. known _ _ (known_if _ _ _ (application_known l bytes) typed)))
+    (λ no. only_if _ (eqb b 91) _ _ (λ yes. subst (λ x. OnlyUnknown (27 ∷ x ∷ bytes) (control_at l bytes)) (sym (eqb-true b 91 yes)) (control_only l bytes))
+    (λ no. only_if _ (eqb b 79) _ _ (λ yes. known _ _ (application_known l bytes))
+    (λ no. only_if _ (opens_string b) _ _ (λ yes. string_only b yes l bytes) (λ no. known _ _ typed))))
 
-only : (l : Bool) (bytes : List ℕ) → OnlySequence bytes (token_at l bytes)
+only : (l : Bool) (bytes : List ℕ) → OnlyUnknown bytes (token_at l bytes)
 unfolding token_at
 only l [] = known _ _ waits
 only l (b ∷ []) = known _ _ (known_if _ _ _ key (character_known l b []))
 only l (b ∷ c ∷ bytes) =
-    only_if _ (eqb b 27) _ _ (λ yes. subst (λ x. OnlySequence (x ∷ c ∷ bytes) (escape_at l (c ∷ bytes))) (sym (eqb-true b 27 yes)) (escape_only l c bytes))
+    only_if _ (eqb b 27) _ _ (λ yes. subst (λ x. OnlyUnknown (x ∷ c ∷ bytes) (escape_at l (c ∷ bytes))) (sym (eqb-true b 27 yes)) (escape_only l c bytes))
     (λ no. known _ _ (character_known l b (c ∷ bytes)))
 
 pub unknown_sequences : UnknownSequences

@@ -140,7 +140,7 @@ character_keys c low scalar = character_cases c low scalar (cases_lt c 2048) (ca
 behind : (xs : List ℕ) (b c : ℕ) (more : List ℕ) → xs ≡ b ∷ more → 128 ≤ b → IsTyped xs (Char c) none → IsTyped (27 ∷ xs) (Char c) alt
 behind xs b c more e high h l rest =
     ap (λ ys. token_at l (27 ∷ (ys ++ rest))) e
-    ∙ alt_keys l b (more ++ rest) (λ q. omega arith) (λ q. omega arith) (λ q. omega arith)
+    ∙ alt_keys l b (more ++ rest) (λ q. omega arith) (λ q. omega arith) (λ q. omega arith) (λ q. omega arith) (λ q. omega arith)
     ∙ ap (λ ys. behind_escape (token_at l (ys ++ rest))) (sym e)
     ∙ ap behind_escape (h l rest)
     ∙ ap (λ n. scanned_as (key_token (Char c) alt) n) (omega arith)

@@ -237,13 +237,51 @@ abbrev pub control_at : Bool → List ℕ → Option Scanned
 control_at is_last bytes =
     ended_at is_last (take (prefix_len is_parameter bytes) bytes) (drop (prefix_len is_parameter bytes) bytes)
 
--- behind ESC: nothing or another ESC, a sequence, or a key with ALT
+-- whether a byte begins a control string behind ESC: ] or P
+abbrev pub opens_string : ℕ → Bool
+opens_string b = eqb b 93 || eqb b 80
+
+-- whether a byte stands first in a string that a terminal answers: a digit, ! or >
+abbrev pub begins_answer : ℕ → Bool
+begins_answer b = leb 48 b && ltb b 58 || (eqb b 33 || eqb b 62)
+
+-- whether a byte can stand in a string: each but a control character
+abbrev pub is_string_byte : ℕ → Bool
+is_string_byte b = leb 32 b && not (eqb b 127)
+
+-- a string of so many bytes before an ESC, by what stands behind that: with \ it ends the string, else it is not taken
+abbrev pub string_before_escape : Bool → ℕ → List ℕ → Option Scanned
+string_before_escape is_last used [] = unless_last is_last (scanned_as Unknown used)
+string_before_escape is_last used (b ∷ bytes) =
+    if eqb b 92 then scanned_as Unknown (used + 2) else scanned_as Unknown used
+
+-- a string of so many bytes, by what stands behind them: BEL ends it, and so does ESC \, and no other byte is taken
+abbrev pub string_of : Bool → ℕ → List ℕ → Option Scanned
+string_of is_last used [] = unless_last is_last (scanned_as Unknown used)
+string_of is_last used (b ∷ bytes) =
+    if eqb b 27 then string_before_escape is_last used bytes
+    else if eqb b 7 then scanned_as Unknown (used + 1)
+    else scanned_as Unknown used
+
+-- behind ESC ] or ESC P: all up to the first control character, and what ends the string
+abbrev pub whole_string : Bool → List ℕ → Option Scanned
+whole_string is_last bytes =
+    let len = prefix_len is_string_byte bytes in string_of is_last (2 + len) (drop len bytes)
+
+-- behind ESC ] or ESC P: a string, where a byte stands there that begins an answer, or else that character with ALT
+abbrev pub string_at : Bool → ℕ → List ℕ → Option Scanned
+string_at is_last opening [] = unless_last is_last (scanned_as (key_token (Char opening) alt) 2)
+string_at is_last opening (b ∷ bytes) =
+    if begins_answer b then whole_string is_last (b ∷ bytes) else scanned_as (key_token (Char opening) alt) 2
+
+-- behind ESC: nothing or another ESC, a sequence, a string, or a key with ALT
 abbrev pub escape_at : Bool → List ℕ → Option Scanned
 escape_at is_last [] = scanned_as (key_token Escape none) 1
 escape_at is_last (b ∷ bytes) =
     if eqb b 27 then scanned_as (key_token Escape none) 1
     else if eqb b 91 then control_at is_last bytes
     else if eqb b 79 then application_at is_last bytes
+    else if opens_string b then string_at is_last b bytes
     else behind_escape (character_at is_last b bytes)
 
 -- the token at the front of some bytes, or none where more are wanted

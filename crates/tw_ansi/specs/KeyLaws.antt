@@ -9,7 +9,7 @@ use Rattle.tw_input.specs.Modifiers.{none, shift, alt, ctrl}
 use Rattle.tw_ansi.specs.declared.token.Token.{Token}
 use Rattle.tw_ansi.specs.declared.token.Token.TheVariants.{Size, Paste, Unknown}
 use Rattle.tw_ansi.specs.declared.token.Scanned.{Scanned}
-use Rattle.tw_ansi.specs.KeyBytes.{token_at, scanned_as, key_token, behind_escape, key_in, control_characters, application_keys, letter_keys, number_keys, most, paste_end, replacement, following_len, is_continuation, is_parameter, is_numeric, is_letter}
+use Rattle.tw_ansi.specs.KeyBytes.{token_at, scanned_as, key_token, behind_escape, key_in, control_characters, application_keys, letter_keys, number_keys, most, paste_end, replacement, following_len, is_continuation, is_parameter, is_numeric, is_letter, opens_string, begins_answer, is_string_byte, unless_last}
 use Rattle.tw_ansi.specs.Sequences.{sequence}
 
 -- an ESC alone is Escape, and may begin another key where bytes follow
@@ -51,8 +51,14 @@ EscapePair = (is_last : Bool) (rest : List ℕ) → token_at is_last (27 ∷ 27 
 
 -- ESC before a key's bytes that begin no sequence with it is ALT
 abbrev pub AltKeys : Type 0
-AltKeys = (is_last : Bool) (b : ℕ) (rest : List ℕ) → b ≢ 27 → b ≢ 91 → b ≢ 79
+AltKeys = (is_last : Bool) (b : ℕ) (rest : List ℕ) → b ≢ 27 → b ≢ 91 → b ≢ 79 → b ≢ 93 → b ≢ 80
     → token_at is_last (27 ∷ b ∷ rest) ≡ behind_escape (token_at is_last (b ∷ rest))
+
+-- and so it is before ] or P, where no byte follows, or one that begins no answer
+abbrev pub AltOpenings : Type 0
+AltOpenings = (opening : ℕ) → opens_string opening ≡ true
+    → (token_at true (27 ∷ opening ∷ []) ≡ scanned_as (key_token (Char opening) alt) 2)
+    × ((is_last : Bool) (b : ℕ) (rest : List ℕ) → begins_answer b ≡ false → token_at is_last (27 ∷ opening ∷ b ∷ rest) ≡ scanned_as (key_token (Char opening) alt) 2)
 
 -- a character of several bytes in UTF-8 is the key of that character
 abbrev pub CharacterKeys : Type 0
@@ -123,9 +129,45 @@ pub record IsControlSequence (bytes : List ℕ) : Type 0 where
   pub ends : list_all is_letter final ≡ true
   pub at_most_one : length final ≤ 1
 
--- what is not known is a control sequence, and no byte behind it
+-- ESC ] or ESC P, bytes that are no control characters, and BEL, ESC \ or nothing
+pub record IsControlString (bytes : List ℕ) : Type 0 where
+  pub opening : ℕ
+  pub text : List ℕ
+  pub final : List ℕ
+  pub parts : bytes ≡ 27 ∷ opening ∷ (text ++ final)
+  pub opens : opens_string opening ≡ true
+  pub between : list_all is_string_byte text ≡ true
+  pub ends : (final ≡ []) ⊎ ((final ≡ 7 ∷ []) ⊎ (final ≡ 27 ∷ 92 ∷ []))
+
+-- what is not known is a control sequence or a control string, and no byte behind it
 abbrev pub UnknownSequences : Type 0
-UnknownSequences = (is_last : Bool) (bytes : List ℕ) (used : ℕ) → token_at is_last bytes ≡ scanned_as Unknown used → IsControlSequence (take used bytes)
+UnknownSequences = (is_last : Bool) (bytes : List ℕ) (used : ℕ) → token_at is_last bytes ≡ scanned_as Unknown used
+    → IsControlSequence (take used bytes) ⊎ IsControlString (take used bytes)
+
+-- ESC ] or ESC P, a byte that begins an answer, and bytes that are no control characters
+pub record IsStringFront (bytes : List ℕ) : Type 0 where
+  pub opening : ℕ
+  pub first : ℕ
+  pub text : List ℕ
+  pub parts : bytes ≡ 27 ∷ opening ∷ first ∷ text
+  pub opens : opens_string opening ≡ true
+  pub answers : begins_answer first ≡ true
+  pub between : list_all is_string_byte text ≡ true
+
+-- such bytes are taken whole with BEL or ESC \ behind them, whatever follows
+abbrev pub EndedStrings : Type 0
+EndedStrings = (front : List ℕ) → IsStringFront front → IsTaken (front ++ 7 ∷ []) Unknown × IsTaken (front ++ 27 ∷ 92 ∷ []) Unknown
+
+-- and without another control character that stands behind them: so a string without an end swallows no key
+abbrev pub CutStrings : Type 0
+CutStrings = (front : List ℕ) → IsStringFront front → (is_last : Bool) (b : ℕ) (rest : List ℕ)
+    → (is_string_byte b ≡ false → b ≢ 7 → b ≢ 27 → token_at is_last (front ++ b ∷ rest) ≡ scanned_as Unknown (length front))
+    × (b ≢ 92 → token_at is_last (front ++ 27 ∷ b ∷ rest) ≡ scanned_as Unknown (length front))
+
+-- where nothing stands behind them more bytes are wanted, unless these are the last ones
+abbrev pub OpenStrings : Type 0
+OpenStrings = (front : List ℕ) → IsStringFront front → (is_last : Bool)
+    → token_at is_last front ≡ unless_last is_last (scanned_as Unknown (length front))
 
 -- a byte of 128 or above where no character's bytes stand is U+FFFD, and takes no other byte
 abbrev pub LostBytes : Type 0

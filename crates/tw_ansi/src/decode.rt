@@ -5,6 +5,7 @@ ghost use Rattle.tw_ansi.specs.KeyBytes.{token_at, escape_at, application_at, ap
 
 use crate::characters::character_at;
 use crate::control::control_at;
+use crate::strings::string_at;
 use crate::token::{Scanned, key, with_alt};
 use tw_input::{KeyCode, Modifiers};
 
@@ -41,6 +42,7 @@ fn escape_at(bytes: &[u8], is_last: bool) -> Option<Scanned>
         [] | [ESC, ..] => key(KeyCode::Escape, Modifiers::NONE, 1),
         [b'[', rest @ ..] => control_at(rest, is_last),
         [b'O', rest @ ..] => application_at(rest, is_last),
+        [opening @ (b']' | b'P'), rest @ ..] => string_at(*opening, rest, is_last),
         [first, rest @ ..] => {
             let Scanned { token, used } = character_at(*first, rest, is_last)?;
             Some(Scanned {

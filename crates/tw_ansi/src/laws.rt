@@ -8,7 +8,7 @@ ghost use Rattle.tw_ansi.specs.EcmaLaws.{AttributeIsSelected, AttributesAreSelec
 ghost use Rattle.tw_ansi.specs.EcmaTexts.{PlainTextIsShown};
 ghost use Rattle.tw_ansi.specs.EcmaBatches.{Follows, FirstIsShown, ChangeIsShown, BatchIsShown};
 ghost use Rattle.tw_ansi.specs.EcmaPaintings.{PaintingIsSendable, RepaintingIsSendable, ClosingIsSendable, PaintingKnowsColor, RunIsSendable, BatchesAreShown};
-ghost use Rattle.tw_ansi.specs.KeyLaws.{StaysFound, TakesBytes, EndsWithToken, PrintableKeys, CharacterKeys, AltCharacterKeys, EscapeKey, EscapePair, AltKeys, ControlKeys, ControlLetters, ApplicationKeys, LetterKeys, HeldLetterKeys, NumberKeys, HeldNumberKeys, BackTab, CursorReports, SizeReports, PastedTexts, UnknownSequences, LostBytes, LoneBytes, CutCharacters, WaitsForCharacter};
+ghost use Rattle.tw_ansi.specs.KeyLaws.{StaysFound, TakesBytes, EndsWithToken, PrintableKeys, CharacterKeys, AltCharacterKeys, EscapeKey, EscapePair, AltKeys, AltOpenings, ControlKeys, ControlLetters, ApplicationKeys, LetterKeys, HeldLetterKeys, NumberKeys, HeldNumberKeys, BackTab, CursorReports, SizeReports, PastedTexts, UnknownSequences, EndedStrings, CutStrings, OpenStrings, LostBytes, LoneBytes, CutCharacters, WaitsForCharacter};
 
 use crate::encode::Encoder;
 use crate::resume::Progress;
@@ -44,6 +44,7 @@ pub fn keys()
     ensures two_escapes { EscapePair }
     ensures back_tab { BackTab }
     ensures alt { AltKeys }
+    ensures alt_openings { AltOpenings }
     ensures printable { PrintableKeys }
     ensures characters { CharacterKeys }
     ensures alt_characters { AltCharacterKeys }
@@ -65,9 +66,17 @@ pub fn reports()
     ensures pastes { PastedTexts }
 {}
 
-/// Bytes that say nothing swallow no key: what is not known is one control sequence, and a byte that is no part of a
-/// character is U+FFFD and takes no byte but itself. More bytes are wanted for a character only where those that are
-/// there can follow its first one.
+/// A control string that a terminal answers is taken whole with its end, and is cut off before any other control
+/// character, so that one without an end swallows no key.
+pub fn strings()
+    ensures ended { EndedStrings }
+    ensures cut { CutStrings }
+    ensures open { OpenStrings }
+{}
+
+/// Bytes that say nothing swallow no key: what is not known is one control sequence or one control string, and a byte
+/// that is no part of a character is U+FFFD and takes no byte but itself. More bytes are wanted for a character only
+/// where those that are there can follow its first one.
 #[tactic(auto, using(crate::proofs::Unknowns::unknown_sequences, crate::proofs::LostBytes::lost_bytes, crate::proofs::LostBytes::lone_bytes, crate::proofs::LostBytes::cut_characters))]
 pub fn malformed()
     ensures sequences { UnknownSequences }

@@ -2,8 +2,8 @@
 //!
 //! `encode` has what a terminal is sent for changes, with `sequence`, the bytes of control sequences. `decode`
 //! reads what stands at the front of the bytes from a terminal, a `token`: `characters` has the characters and
-//! control keys, and `control` the control sequences. `resume` reads on where a token's bytes come in many pieces.
-//! `laws` has what follows from the definitions.
+//! control keys, `control` the control sequences, and `strings` the control strings. `resume` reads on where a
+//! token's bytes come in many pieces. `laws` has what follows from the definitions.
 #![tactic(auto)]
 
 mod characters;
@@ -13,6 +13,7 @@ mod encode;
 pub mod laws;
 mod resume;
 mod sequence;
+mod strings;
 mod token;
 
 pub use decode::scan;

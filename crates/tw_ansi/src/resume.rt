@@ -3,11 +3,12 @@
 ghost use Rattle.std.specs.Prelude.{◌≡◌, ◌+◌, ◌<◌, ◌≤◌, ◌^◌, length, Some, None, IfOk, IfErr, OnErr};
 ghost use Rattle.std.specs.Option.{ok_or};
 ghost use Rattle.tw_ansi.specs.KeyBytes.{token_at};
-ghost use Rattle.tw_ansi.specs.Resuming.{Fits, token_resumed, read_on, behind_start, passed_len, parameters_on, paste_on, behind_parameters, searched_to};
+ghost use Rattle.tw_ansi.specs.Resuming.{Fits, token_resumed, read_on, behind_start, passed_len, parameters_on, string_on, paste_on, behind_parameters, behind_string, searched_to};
 ghost use Rattle.tw_ansi.specs.declared.resume.Progress.TheVariants.{Paste};
 
 use crate::control::{PASTE_END, ended_at, parameters_len, paste_len, paste_of};
 use crate::decode::{ESC, token_at};
+use crate::strings::{begins_string, string_len, string_of};
 use crate::token::Scanned;
 
 /// What begins a control sequence.
@@ -20,6 +21,8 @@ pub enum Progress {
     Start,
     /// ESC [ and so many bytes of parameters.
     Parameters { len: usize },
+    /// ESC ] or ESC P and so many bytes of a control string.
+    ControlString { len: usize },
     /// So many bytes, and then a pasted text whose end does not begin in its first `searched` bytes.
     Paste { from: usize, searched: usize },
 }
@@ -46,6 +49,7 @@ fn go_on(progress: Progress, bytes: &[u8], is_last: bool) -> Result<Scanned, Pro
     match progress {
         Progress::Start => begin(bytes, is_last),
         Progress::Parameters { len } => parameters_on(len, &bytes[2..], is_last),
+        Progress::ControlString { len } => string_on(len, &bytes[2..], is_last),
         Progress::Paste { from, searched } => paste_on(from, searched, &bytes[from..], is_last),
     }
 }
@@ -56,6 +60,8 @@ fn begin(bytes: &[u8], is_last: bool) -> Result<Scanned, Progress>
 {
     if bytes.starts_with(&SEQUENCE) {
         parameters_on(0, &bytes[SEQUENCE.len()..], is_last)
+    } else if begins_string(bytes) {
+        string_on(0, &bytes[2..], is_last)
     } else {
         token_at(bytes, is_last).ok_or(Progress::Start)
     }
@@ -77,6 +83,16 @@ fn parameters_on(len: usize, bytes: &[u8], is_last: bool) -> Result<Scanned, Pro
         }
     };
     ended_at(&bytes[..all], &bytes[all..], is_last).ok_or(progress)
+}
+
+/// Goes on behind ESC ] or ESC P and so many bytes of a control string.
+fn string_on(len: usize, bytes: &[u8], is_last: bool) -> Result<Scanned, Progress>
+    requires within { len ≤ length bytes.now }
+    requires room { length bytes.now + 4 < 2 ^ 64 }
+    ensures { result ≡ ok_or (string_on is_last len bytes.now) (behind_string len bytes.now) }
+{
+    let all = len + string_len(&bytes[len..]);
+    string_of(2 + all, &bytes[all..], is_last).ok_or(Progress::ControlString { len: all })
 }
 
 /// How many bytes of a pasted text are passed, in all of which no end was found: it may begin in the last five.

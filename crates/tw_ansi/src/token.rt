@@ -17,7 +17,7 @@ pub enum Token {
     Size { cols: usize, rows: usize },
     /// A pasted text: so many bytes that are no part of it, and so many bytes of text. Its end takes six more.
     Paste { from: usize, len: usize },
-    /// A control sequence that means nothing here.
+    /// A control sequence or a control string that means nothing here.
     Unknown,
 }
 

@@ -11,7 +11,7 @@ use Rattle.tw_input.specs.declared.key.KeyCode.TheVariants.{Char, Escape, Tab}
 use Rattle.tw_ansi.specs.declared.token.Token.{Token}
 use Rattle.tw_ansi.specs.declared.token.Token.TheVariants.{Key, Size, Paste, Unknown}
 use Rattle.tw_ansi.specs.declared.token.Scanned.{Scanned}
-use Rattle.tw_ansi.specs.KeyBytes.{token_at, escape_at, control_at, ended_at, sequence_at, paste_of, paste_len, application_at, application_key, application_keys, behind_escape, with_alt, character_at, control_characters, key_in, key_or, key_or_unknown, with_control, typed_at, wide_character, whole_character, following_len, replacement, scanned_as, key_token, code_of, first_number, second_number, third_number, numbers_token, size_token, parameters_token, sequence_key, is_parameter, is_numeric, is_letter, is_continuation, told_bits}
+use Rattle.tw_ansi.specs.KeyBytes.{token_at, escape_at, string_at, string_of, string_before_escape, opens_string, begins_answer, is_string_byte, control_at, ended_at, sequence_at, paste_of, paste_len, application_at, application_key, application_keys, behind_escape, with_alt, character_at, control_characters, key_in, key_or, key_or_unknown, with_control, typed_at, wide_character, whole_character, following_len, replacement, scanned_as, key_token, code_of, first_number, second_number, third_number, numbers_token, size_token, parameters_token, sequence_key, is_parameter, is_numeric, is_letter, is_continuation, told_bits}
 use Rattle.tw_ansi.proofs.Pieces.{stays_found}
 use Rattle.tw_ansi.proofs.Tokens.{takes_bytes}
 use Rattle.tw_device.specs.Told.{token_events, pasted_text}
@@ -121,12 +121,27 @@ ended_inside : (l : Bool) (parameters rest : List ℕ) → IsInside (ended_at l 
 ended_inside l parameters [] = either l (scanned_as (key_token (Char 91) alt) 2) None (key_inside (Char 91) alt 2) nothing
 ended_inside l parameters (b ∷ bytes) = either (is_letter b) _ _ (sequence_inside l parameters b bytes) (unknown_inside (2 + length parameters))
 
+before_escape_inside : (l : Bool) (used : ℕ) (bytes : List ℕ) → IsInside (string_before_escape l used bytes)
+before_escape_inside l used [] = either l (scanned_as Unknown used) None (unknown_inside used) nothing
+before_escape_inside l used (b ∷ bytes) = either (eqb b 92) _ _ (unknown_inside (used + 2)) (unknown_inside used)
+
+string_of_inside : (l : Bool) (used : ℕ) (bytes : List ℕ) → IsInside (string_of l used bytes)
+string_of_inside l used [] = either l (scanned_as Unknown used) None (unknown_inside used) nothing
+string_of_inside l used (b ∷ bytes) =
+    either (eqb b 27) _ _ (before_escape_inside l used bytes) (either (eqb b 7) _ _ (unknown_inside (used + 1)) (unknown_inside used))
+
+string_inside : (l : Bool) (opening : ℕ) (bytes : List ℕ) → IsInside (string_at l opening bytes)
+string_inside l opening [] = either l (scanned_as (key_token (Char opening) alt) 2) None (key_inside (Char opening) alt 2) nothing
+string_inside l opening (b ∷ bytes) =
+    let len = prefix_len is_string_byte (b ∷ bytes) in
+    either (begins_answer b) _ _ (string_of_inside l (2 + len) (drop len (b ∷ bytes))) (key_inside (Char opening) alt 2)
+
 escape_inside : (l : Bool) (bytes : List ℕ) → IsInside (escape_at l bytes)
 escape_inside l [] = key_inside Escape none 1
 escape_inside l (b ∷ bytes) =
     let control : IsInside (control_at l bytes) = ended_inside l (take (prefix_len is_parameter bytes) bytes) (drop (prefix_len is_parameter bytes) bytes) in
     let typed : IsInside (behind_escape (character_at l b bytes)) = behind_inside (character_at l b bytes) (character_inside l b bytes) in
-    either (eqb b 27) _ _ (key_inside Escape none 1) (either (eqb b 91) _ _ control (either (eqb b 79) _ _ (application_inside l bytes) typed))
+    either (eqb b 27) _ _ (key_inside Escape none 1) (either (eqb b 91) _ _ control (either (eqb b 79) _ _ (application_inside l bytes) (either (opens_string b) _ _ (string_inside l b bytes) typed)))
 
 token_at_inside : (l : Bool) (bytes : List ℕ) → IsInside (token_at l bytes)
 unfolding token_at
