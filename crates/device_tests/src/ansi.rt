@@ -133,6 +133,9 @@ fn other_tokens_are_found(rt: HostRuntime) {
     expect_token(&rt, b"\x1bP1$r0m\x1b\\a", Token::Unknown, 9);
     expect_token(&rt, b"\x1bP>|tmux 3.4\x1b[A", Token::Unknown, 12);
     expect_token(&rt, b"\x1bP!|0\x7f", Token::Unknown, 5);
+    expect_token(&rt, b"\x1b[M !!a", Token::Unknown, 6);
+    expect_token(&rt, b"\x1b[M#\xff\xffa", Token::Unknown, 6);
+    expect_token(&rt, b"\x1b[1Mabc", Token::Unknown, 4);
 }
 
 #[test]
@@ -148,6 +151,8 @@ fn parts_wait_for_more(rt: HostRuntime) {
         b"\x1bP",
         b"\x1b]11;rgb:0",
         b"\x1bP>|tmux\x1b",
+        b"\x1b[M",
+        b"\x1b[M !",
     ] {
         assert!(rt; scan(bytes, false).is_none(), "{bytes:?}");
         assert!(rt; scan(bytes, true).is_some(), "{bytes:?}");

@@ -221,6 +221,14 @@ fn what_a_terminal_answers_is_not_typed(rt: HostRuntime) {
 }
 
 #[test]
+fn a_mouse_in_three_bytes_is_not_typed(rt: HostRuntime) {
+    for step in 1..16 {
+        let answer = waiting_line_of(rt.alloc(), b"a\x1b[M !!b\x1b[M#!!c\r", step);
+        assert_eq!(rt; shown(&answer), ("line", "abc"), "pieces of {step}");
+    }
+}
+
+#[test]
 fn a_string_without_an_end_swallows_no_enter(rt: HostRuntime) {
     for step in 1..16 {
         let answer = waiting_line_of(rt.alloc(), b"a\x1b]11;rgb:1e1e\rb\r", step);

@@ -1,7 +1,7 @@
 -- What is found stays found, whatever bytes follow.
-use Rattle.std.proofs.Common.{◌≡◌, ◌≢◌, ◌≤◌, ◌<◌, ◌+◌, ℕ, zero, suc, Bool, true, false, not, ◌&&◌, cond, eqb, ltb, leb, ◌||◌, List, [], ◌∷◌, ◌++◌, Option, Some, None, IfSome, take, drop, length, arith, ap, subst, ◌∙◌, sym, refl, inl, inr, ◌⊎◌}
+use Rattle.std.proofs.Common.{◌≡◌, ◌≢◌, ◌≤◌, ◌<◌, ◌+◌, ℕ, zero, suc, Bool, true, false, not, ◌&&◌, cond, eqb, ltb, leb, ◌||◌, List, [], ◌∷◌, ◌++◌, Option, Some, None, IfSome, take, drop, length, length-append, arith, ap, subst, ◌∙◌, sym, refl, inl, inr, ◌⊎◌}
 use Rattle.std.specs.List.{prefix_len, list_all}
-use Rattle.std.proofs.lemmas.Bool.{cases_lt, cases_Bool, cases_eq, and_cases, and_left, and_right, lt-ltb, ne_eqb}
+use Rattle.std.proofs.lemmas.Bool.{cases_lt, cases_Bool, cases_eq, and_cases, and_left, and_right, lt-ltb, le-ltb, ne_eqb}
 use Rattle.std.proofs.lemmas.List.{take-append-le, drop-append-le, take_all}
 use Rattle.std.proofs.lemmas.List.Folds.{prefix_len-append}
 use Rattle.tw_input.specs.declared.key.KeyCode.{KeyCode}
@@ -9,7 +9,7 @@ use Rattle.tw_input.specs.declared.key.KeyCode.TheVariants.{Char, Escape}
 use Rattle.tw_input.specs.Modifiers.{none, alt}
 use Rattle.tw_ansi.specs.declared.token.Token.TheVariants.{Unknown}
 use Rattle.tw_ansi.specs.declared.token.Scanned.{Scanned}
-use Rattle.tw_ansi.specs.KeyBytes.{token_at, escape_at, string_at, string_of, string_before_escape, whole_string, opens_string, begins_answer, is_string_byte, control_at, ended_at, sequence_at, paste_at, paste_of, paste_len, application_at, behind_escape, character_at, control_characters, key_in, key_or, typed_at, wide_character, whole_character, following_len, is_continuation, replacement, scanned_as, key_token, with_control, is_letter, is_parameter, is_numeric, parameters_token, first_number}
+use Rattle.tw_ansi.specs.KeyBytes.{token_at, escape_at, string_at, string_of, string_before_escape, whole_string, opens_string, begins_answer, is_string_byte, control_at, ended_at, sequence_at, mouse_report, paste_at, paste_of, paste_len, application_at, behind_escape, character_at, control_characters, key_in, key_or, typed_at, wide_character, whole_character, following_len, is_continuation, replacement, scanned_as, key_token, with_control, is_letter, is_parameter, is_numeric, parameters_token, first_number}
 use Rattle.tw_ansi.proofs.Pastes.{paste_more}
 
 -- where the first finds a token the second finds the same
@@ -94,14 +94,28 @@ paste_of_more : (l : Bool) (from left longer : ℕ) (o p : Option ℕ) → IfSom
 paste_of_more l from left longer (Some k) p h = record { kept = ap (paste_of l from longer) h }
 paste_of_more l from left longer None p h = waits _
 
+mouse_more : (l : Bool) (left longer : ℕ) → left ≤ longer → Stays (mouse_report false left) (mouse_report l longer)
+mouse_more l left longer fits = by_room (cases_lt left 3)
+  where
+    of : Bool → ℕ → Bool → Option Scanned
+    of last n few = cond few (cond last (scanned_as Unknown (3 + n)) None) (scanned_as Unknown 6)
+
+    by_room : (left < 3) ⊎ (3 ≤ left) → Stays (mouse_report false left) (mouse_report l longer)
+    by_room (inl few) = from_none _ _ (ap (of false left) (lt-ltb left 3 few))
+    by_room (inr all) =
+        subst (λ o. Stays o (mouse_report l longer)) (sym (ap (of false left) (le-ltb left 3 all)))
+        (along _ _ _ (ap (of l longer) (le-ltb longer 3 (omega arith))) (same (scanned_as Unknown 6)))
+
 sequence_more : (l : Bool) (parameters : List ℕ) (letter : ℕ) (bytes more : List ℕ) → Stays (sequence_at false parameters letter bytes) (sequence_at l parameters letter (bytes ++ more))
 sequence_more l parameters letter bytes more =
     let used : ℕ = 3 + length parameters in
     let token : Option Scanned = scanned_as (parameters_token parameters letter) used in
     let pasted : Stays (paste_at false used bytes) (paste_at l used (bytes ++ more)) =
     paste_of_more l used (length bytes) (length (bytes ++ more)) (paste_len bytes) (paste_len (bytes ++ more)) (paste_more bytes more) in
+    let longer : length bytes ≤ length (bytes ++ more) = omega (arith, length-append bytes more) in
+    let told : Stays _ _ = both (eqb letter 77 && eqb (length parameters) 0) (mouse_report false (length bytes)) token (mouse_report l (length (bytes ++ more))) token (mouse_more l (length bytes) (length (bytes ++ more)) longer) (same token) in
     both (not (list_all is_numeric parameters)) (scanned_as Unknown used) _ (scanned_as Unknown used) _ (same _)
-    (both (eqb letter 126 && eqb (first_number parameters) 200) (paste_at false used bytes) token (paste_at l used (bytes ++ more)) token pasted (same token))
+    (both (eqb letter 126 && eqb (first_number parameters) 200) (paste_at false used bytes) _ (paste_at l used (bytes ++ more)) _ pasted told)
 
 ended_more : (l : Bool) (parameters rest more : List ℕ) → Stays (ended_at false parameters rest) (ended_at l parameters (rest ++ more))
 ended_more l parameters [] more = waits _

@@ -1,15 +1,15 @@
 -- Reports of the cursor's place, and pasted texts.
-use Rattle.std.proofs.Common.{◌≡◌, ◌≢◌, ◌<◌, ◌+◌, ◌*◌, ◌-◌, ◌%◌, ◌^◌, min, ℕ, suc, Bool, true, false, not, ◌&&◌, cond, eqb, ltb, leb, List, [], ◌∷◌, ◌++◌, Option, Some, option_map, take, drop, length, append_assoc, length-append, take_at, drop_at, arith, ap, ◌∙◌, sym, refl}
+use Rattle.std.proofs.Common.{◌≡◌, ◌≢◌, ◌<◌, ◌+◌, ◌*◌, ◌-◌, ◌%◌, ◌^◌, min, ℕ, suc, Bool, true, false, not, ◌&&◌, cond, eqb, ltb, leb, List, [], ◌∷◌, ◌++◌, Option, Some, None, option_map, take, drop, length, append_assoc, length-append, take_at, drop_at, arith, ap, ◌∙◌, sym, refl}
 use Rattle.std.specs.Fmt.{decimal}
 use lib.Pointwise.{bytes_decides}
 use Rattle.std.specs.List.{list_all, prefix_len, starts_with}
-use Rattle.std.proofs.lemmas.Bool.{lt-ltb, le-leb, and_from, and_parts, or_left, false_from_ne_true}
+use Rattle.std.proofs.lemmas.Bool.{lt-ltb, le-ltb, le-leb, and_from, and_parts, or_left, false_from_ne_true}
 use Rattle.std.proofs.lemmas.Fmt.{decimal_by_steps}
 use Rattle.std.proofs.lemmas.List.Folds.{list_all-append}
 use Rattle.tw_ansi.specs.declared.token.Token.TheVariants.{Size, Paste, Unknown}
 use Rattle.tw_ansi.specs.declared.token.Scanned.{Scanned}
 use Rattle.tw_ansi.specs.KeyBytes.{token_at, control_at, ended_at, paste_of, paste_len, paste_end, numbers_token, parameters_token, size_token, first_number, second_number, number_of, value_after, most, is_parameter, is_numeric, is_semicolon, scanned_as}
-use Rattle.tw_ansi.specs.KeyLaws.{CursorReports, SizeReports, PastedTexts}
+use Rattle.tw_ansi.specs.KeyLaws.{CursorReports, SizeReports, PastedTexts, MouseReports, OpenMouseReports}
 
 -- the digits of a number
 
@@ -204,3 +204,17 @@ unfolding token_at parameters_token
 pasted_texts text none_in l rest =
     ap (λ o. paste_of l 6 (length (text ++ paste_end ++ rest)) o) (first_end text rest none_in)
     ∙ ap (λ n. scanned_as (Paste 6 (length text)) n) (omega (arith, length-append text paste_end))
+
+-- mouse's reports
+
+pub mouse_reports : MouseReports
+unfolding token_at
+mouse_reports a b c l rest =
+    let left = length (a ∷ b ∷ c ∷ rest) in
+    ap (λ t. cond t (cond l (scanned_as Unknown (3 + left)) None) (scanned_as Unknown 6)) (le-ltb left 3 (omega arith))
+
+pub open_mouse_reports : OpenMouseReports
+unfolding token_at
+open_mouse_reports l told few =
+    let left = length told in
+    ap (λ t. cond t (cond l (scanned_as Unknown (3 + left)) None) (scanned_as Unknown 6)) (lt-ltb left 3 few)

@@ -1,15 +1,15 @@
 -- What was read of some bytes need not be read again.
-use Rattle.std.proofs.Common.{◌≡◌, ◌≤◌, ◌<◌, ◌+◌, ◌-◌, ℕ, zero, suc, Bool, true, false, not, ◌&&◌, cond, eqb, List, [], ◌∷◌, ◌++◌, Option, Some, None, IfSome, Result, Ok, Err, IfOk, OnErr, IfErr, take, drop, length, arith, ap, subst, ◌∙◌, sym, refl, inl, inr, ◌⊎◌, length-drop, length-take}
+use Rattle.std.proofs.Common.{◌≡◌, ◌≢◌, ◌≤◌, ◌<◌, ◌+◌, ◌-◌, ℕ, zero, suc, Bool, true, false, not, ◌&&◌, ◌||◌, cond, eqb, ltb, List, [], ◌∷◌, ◌++◌, Option, Some, None, IfSome, Result, Ok, Err, IfOk, OnErr, IfErr, take, drop, length, arith, ap, subst, ◌∙◌, sym, refl, inl, inr, ◌⊎◌, length-drop, length-take}
 use Rattle.std.specs.List.{prefix_len, list_all, starts_with}
 use Rattle.std.specs.Option.{option_map, ok_or}
-use Rattle.std.proofs.lemmas.Bool.{cases_lt, and_parts, ne_eqb, eq-eqb, eqb-true, false≢true}
+use Rattle.std.proofs.lemmas.Bool.{cases_lt, cases_Bool, and_parts, or_parts, ne_eqb, eq-eqb, eqb-true, le-ltb, ltb-false, false≢true}
 use Rattle.std.proofs.lemmas.List.Folds.{prefix_len-append}
 use Rattle.std.proofs.lemmas.List.Sums.{prefix_len-le-length}
 use Rattle.std.proofs.lemmas.List.{drop-drop, drop-append-le, take-append-le, append-nil, take_rest}
 use Rattle.tw_ansi.specs.declared.token.Scanned.{Scanned}
 use Rattle.tw_ansi.specs.declared.resume.Progress.{Progress}
 use Rattle.tw_ansi.specs.declared.resume.Progress.TheVariants.{Start, Parameters, ControlString, Paste}
-use Rattle.tw_ansi.specs.KeyBytes.{token_at, string_of, whole_string, opens_string, begins_answer, is_string_byte, key_token, ended_at, sequence_at, paste_at, paste_of, paste_len, paste_end, is_parameter, is_letter, is_numeric, first_number, parameters_token, scanned_as}
+use Rattle.tw_ansi.specs.KeyBytes.{token_at, string_of, whole_string, opens_string, begins_answer, is_string_byte, key_token, ended_at, sequence_at, mouse_report, paste_at, paste_of, paste_len, paste_end, is_parameter, is_letter, is_numeric, first_number, parameters_token, scanned_as}
 use Rattle.tw_ansi.specs.declared.token.Token.TheVariants.{Unknown}
 use Rattle.tw_input.specs.declared.key.KeyCode.TheVariants.{Char}
 use Rattle.tw_input.specs.Modifiers.{alt}
@@ -127,32 +127,48 @@ no_end : (l : Bool) (from left : ℕ) (o : Option ℕ) → paste_of l from left 
 no_end l from left (Some n) h = absurd cc
 no_end l from left None h = refl
 
--- behind parameters and a letter more is wanted of a pasted text alone
-ended_begins : (l m : Bool) (parameters ys more : List ℕ) → 0 < length ys → ended_at l parameters ys ≡ None
+none_unless : (t : Bool) (o p : Option Scanned) → cond t o p ≡ None → (p ≡ None → ⊥) → (t ≡ true) × (o ≡ None)
+none_unless true o p h there = (refl, h)
+none_unless false o p h there = absurd (there h)
+
+-- no more is wanted of a mouse's report where four bytes stand behind ESC [
+mouse_there : (l : Bool) (letter left : ℕ) (parameters : List ℕ) (s : Scanned) → 4 ≤ length parameters + (1 + left)
+    → cond (eqb letter 77 && eqb (length parameters) 0) (mouse_report l left) (Some s) ≡ None → ⊥
+mouse_there l letter left parameters s long none =
+    let mouse = none_then (eqb letter 77 && eqb (length parameters) 0) (mouse_report l left) s none in
+    let alone : length parameters ≡ 0 = eqb-true (length parameters) 0 (and_parts (eqb letter 77) _ mouse.0).1 in
+    let told = ap (λ t. cond t (cond l (scanned_as Unknown (3 + left)) None) (scanned_as Unknown 6)) (le-ltb left 3 (omega (arith, alone, long))) in
+    let both : scanned_as Unknown 6 ≡ None = sym told ∙ mouse.1 in
+    absurd (cc both)
+
+-- behind parameters and a letter, and four bytes in all, more is wanted of a pasted text alone
+ended_begins : (l m : Bool) (parameters ys more : List ℕ) → 0 < length ys → 4 ≤ length parameters + length ys → ended_at l parameters ys ≡ None
     → ended_at m parameters (ys ++ more) ≡ paste_on m (3 + length parameters) (searched_to 0 (length ys - 1)) (drop 1 (ys ++ more))
-ended_begins l m parameters [] more some none = absurd (omega arith)
-ended_begins l m parameters (b ∷ text) more some none =
+ended_begins l m parameters [] more some long none = absurd (omega arith)
+ended_begins l m parameters (b ∷ text) more some long none =
     let used : ℕ = 3 + length parameters in
     let letter = none_then (is_letter b) (sequence_at l parameters b text) _ none in
     let numeric = none_else (not (list_all is_numeric parameters)) _ _ letter.1 in
-    let marked = none_then (eqb b 126 && eqb (first_number parameters) 200) (paste_at l used text) _ numeric.1 in
+    let marked = none_unless (eqb b 126 && eqb (first_number parameters) 200) (paste_at l used text) _ numeric.1
+    (mouse_there l b (length text) parameters _ (omega (arith, long))) in
     let unended = no_end l used (length text) (paste_len text) marked.1 in
     let xs = text ++ more in
     let count : length text ≡ length (b ∷ text) - 1 = omega arith in
-    let token = parameters_token parameters b in
+    let token = scanned_as (parameters_token parameters b) used in
+    let told = cond (eqb b 77 && eqb (length parameters) 0) (mouse_report m (length xs)) token in
     ap (λ t. cond t (sequence_at m parameters b xs) (scanned_as Unknown (2 + length parameters))) letter.0
-    ∙ ap (λ t. cond t (scanned_as Unknown used) (cond (eqb b 126 && eqb (first_number parameters) 200) (paste_at m used xs) (scanned_as token used))) numeric.0
-    ∙ ap (λ t. cond t (paste_at m used xs) (scanned_as token used)) marked.0
+    ∙ ap (λ t. cond t (scanned_as Unknown used) (cond (eqb b 126 && eqb (first_number parameters) 200) (paste_at m used xs) told)) numeric.0
+    ∙ ap (λ t. cond t (paste_at m used xs) told) marked.0
     ∙ ap (λ o. paste_of m used (length xs) o) (sym (at_none (paste_len xs)))
     ∙ sym (paste_further m used 0 (length text - 0 - 5) text more (omega arith) unended (omega arith))
     ∙ ap (λ n. paste_on m used (searched_to 0 n) xs) count
 
 -- so a pasted text that was searched need not be searched again
-paste_begins : (l m : Bool) (len : ℕ) (rest more : List ℕ) → len ≤ length rest → len + prefix_len is_parameter (drop len rest) < length rest
+paste_begins : (l m : Bool) (len : ℕ) (rest more : List ℕ) → len ≤ length rest → len + prefix_len is_parameter (drop len rest) < length rest → 4 ≤ length rest
     → parameters_on l len rest ≡ None
     → paste_on m (3 + (len + prefix_len is_parameter (drop len rest))) (searched_to 0 (length rest - (len + prefix_len is_parameter (drop len rest)) - 1)) (drop (len + prefix_len is_parameter (drop len rest) + 1) (rest ++ more))
     ≡ parameters_on m len (rest ++ more)
-paste_begins l m len rest more inside short none =
+paste_begins l m len rest more inside short long none =
     let k = prefix_len is_parameter (drop len rest) in
     let all = len + k in
     let xs = rest ++ more in
@@ -167,7 +183,7 @@ paste_begins l m len rest more inside short none =
     sym (ap (λ n. ended_at m (take (len + n) xs) (drop (len + n) xs)) stops
     ∙ ap (λ ys. ended_at m ys (drop all xs)) parameters
     ∙ ap (λ ys. ended_at m (take all rest) ys) behind
-    ∙ ended_begins l m (take all rest) left more (omega (arith, some, short)) none
+    ∙ ended_begins l m (take all rest) left more (omega (arith, some, short)) (omega (arith, some, many, short, long)) none
     ∙ ap (λ n. paste_on m (3 + n) (searched_to 0 (length left - 1)) (drop 1 (left ++ more))) many
     ∙ ap (λ n. paste_on m (3 + all) (searched_to 0 (n - 1)) (drop 1 (left ++ more))) some
     ∙ ap (λ ys. paste_on m (3 + all) (searched_to 0 (length rest - all - 1)) ys) text)
@@ -184,7 +200,7 @@ behind_fits : (l : Bool) (len : ℕ) (bytes : List ℕ) → 2 + len ≤ length b
     → ((m : Bool) (more : List ℕ) → parameters_on m len (drop 2 bytes ++ more) ≡ token_at m (bytes ++ more))
     → parameters_on l len (drop 2 bytes) ≡ None
     → Fits (behind_parameters len (drop 2 bytes)) bytes
-behind_fits l len bytes inside all is goes none = next (cases_lt all (length rest))
+behind_fits l len bytes inside all is goes none = next (cases_Bool (eqb all (length rest) || ltb (length rest) 4))
   where
     rest : List ℕ
     rest = drop 2 bytes
@@ -198,29 +214,40 @@ behind_fits l len bytes inside all is goes none = next (cases_lt all (length res
     at_most : all ≤ length rest
     at_most = omega (arith, is, many, length-drop len rest, prefix_len-le-length is_parameter (drop len rest))
 
-    next : (all < length rest) ⊎ (length rest ≤ all) → Fits (behind_parameters len rest) bytes
-    next (inl short) =
+    text : Progress
+    text = Paste (3 + all) (searched_to 0 (length rest - all - 1))
+
+    progress : ℕ → Progress
+    progress n = cond (eqb n (length rest) || ltb (length rest) 4) (Parameters n) (Paste (3 + n) (searched_to 0 (length rest - n - 1)))
+
+    le_apart : all ≤ length rest → all ≢ length rest → all < length rest
+    le_apart le apart = less (cases_lt all (length rest))
+      where
+        less : (all < length rest) ⊎ (length rest ≤ all) → all < length rest
+        less (inl l) = l
+        less (inr g) = absurd (apart (omega (arith, le, g)))
+
+    next : ((eqb all (length rest) || ltb (length rest) 4) ≡ true) ⊎ ((eqb all (length rest) || ltb (length rest) 4) ≡ false) → Fits (behind_parameters len rest) bytes
+    next (inr other) =
+        let parts = or_parts (eqb all (length rest)) (ltb (length rest) 4) other in
+        let apart : all ≢ length rest = λ e. absurd (false≢true (sym parts.0 ∙ eq-eqb all (length rest) e)) in
+        let short : all < length rest = le_apart at_most apart in
         let behind : 3 + all ≡ 2 + (all + 1) = omega arith in
-        let text : Progress = Paste (3 + all) (searched_to 0 (length rest - all - 1)) in
-        let scanned_as : behind_parameters len rest ≡ text =
-        ap (λ n. cond (eqb n (length rest)) (Parameters n) (Paste (3 + n) (searched_to 0 (length rest - n - 1)))) (sym is)
-        ∙ ap (λ t. cond t (Parameters all) text) (ne_eqb all (length rest) (λ e. omega (arith, e, short))) in
-        subst (λ p. Fits p bytes) (sym scanned_as) (record {
+        let long : 4 ≤ length rest = ltb-false (length rest) 4 parts.1 in
+        let scanned : behind_parameters len rest ≡ text = ap progress (sym is) ∙ ap (λ t. cond t (Parameters all) text) other in
+        subst (λ p. Fits p bytes) (sym scanned) (record {
           within = omega (arith, short, many);
           goes_on = λ m more.
               ap (λ xs. paste_on m (3 + all) (searched_to 0 (length rest - all - 1)) xs)
               (ap (λ n. drop n (bytes ++ more)) behind ∙ sym (drop-drop (all + 1) 2 (bytes ++ more)) ∙ ap (λ xs. drop (all + 1) xs) (split more))
               ∙ subst (λ n. paste_on m (3 + n) (searched_to 0 (length rest - n - 1)) (drop (n + 1) (rest ++ more)) ≡ parameters_on m len (rest ++ more)) (sym is)
-              (paste_begins l m len rest more (omega (arith, inside, many)) (omega (arith, is, short)) none)
+              (paste_begins l m len rest more (omega (arith, inside, many)) (omega (arith, is, short)) long none)
               ∙ goes m more;
         })
-    next (inr full) =
-        let same : all ≡ length rest = omega (arith, full, at_most) in
-        let scanned_as : behind_parameters len rest ≡ Parameters all =
-        ap (λ n. cond (eqb n (length rest)) (Parameters n) (Paste (3 + n) (searched_to 0 (length rest - n - 1)))) (sym is)
-        ∙ ap (λ t. cond t (Parameters all) (Paste (3 + all) (searched_to 0 (length rest - all - 1)))) (eq-eqb all (length rest) same) in
-        subst (λ p. Fits p bytes) (sym scanned_as) (record {
-          within = omega (arith, same, many, inside);
+    next (inl full) =
+        let scanned : behind_parameters len rest ≡ Parameters all = ap progress (sym is) ∙ ap (λ t. cond t (Parameters all) text) full in
+        subst (λ p. Fits p bytes) (sym scanned) (record {
+          within = omega (arith, at_most, many, inside);
           goes_on = λ m more.
               ap (λ xs. parameters_on m all xs) (split more)
               ∙ subst (λ n. parameters_on m n (rest ++ more) ≡ parameters_on m len (rest ++ more)) (sym is)

@@ -1,6 +1,7 @@
 -- What each token takes.
-use Rattle.std.proofs.Common.{◌≡◌, ◌≤◌, ◌<◌, ◌+◌, ◌-◌, ℕ, Bool, true, false, cond, ltb, leb, ◌||◌, List, [], ◌∷◌, Option, Some, None, IfSome, IsSome, take, drop, length, arith, ap, subst, ◌∙◌, sym, refl, length-take, length-drop}
+use Rattle.std.proofs.Common.{◌≡◌, ◌≤◌, ◌<◌, ◌+◌, ◌-◌, ℕ, Bool, true, false, cond, ltb, leb, ◌||◌, List, [], ◌∷◌, Option, Some, None, IfSome, IsSome, take, drop, length, arith, ap, subst, ◌∙◌, sym, refl, inl, inr, ◌⊎◌, length-take, length-drop}
 use Rattle.std.specs.List.{prefix_len}
+use Rattle.std.proofs.lemmas.Bool.{cases_lt, lt-ltb, le-ltb}
 use Rattle.std.proofs.lemmas.List.{take-append-drop, length-append}
 use Rattle.std.proofs.lemmas.List.Sums.{prefix_len-le-length}
 use Rattle.tw_input.specs.declared.key.KeyCode.{KeyCode}
@@ -9,7 +10,7 @@ use Rattle.tw_input.specs.Modifiers.{none, alt, ctrl}
 use Rattle.tw_ansi.specs.declared.token.Token.{Token}
 use Rattle.tw_ansi.specs.declared.token.Token.TheVariants.{Paste, Unknown}
 use Rattle.tw_ansi.specs.declared.token.Scanned.{Scanned}
-use Rattle.tw_ansi.specs.KeyBytes.{token_at, escape_at, string_at, string_of, string_before_escape, whole_string, begins_answer, is_string_byte, control_at, ended_at, sequence_at, paste_at, paste_of, paste_len, application_at, application_key, application_keys, behind_escape, character_at, control_characters, key_in, key_or, with_control, typed_at, wide_character, whole_character, following_len, replacement, scanned_as, key_token, code_of, parameters_token, is_parameter}
+use Rattle.tw_ansi.specs.KeyBytes.{token_at, escape_at, string_at, string_of, string_before_escape, whole_string, begins_answer, is_string_byte, control_at, ended_at, sequence_at, mouse_report, paste_at, paste_of, paste_len, application_at, application_key, application_keys, behind_escape, character_at, control_characters, key_in, key_or, with_control, typed_at, wide_character, whole_character, following_len, replacement, scanned_as, key_token, code_of, parameters_token, is_parameter}
 use Rattle.tw_ansi.proofs.Pastes.{paste_within}
 
 -- a token takes at least one byte and at most n
@@ -67,12 +68,24 @@ paste_of_within : (n : ℕ) (l : Bool) (from left : ℕ) (o : Option ℕ) → 0 
 paste_of_within n l from left (Some k) some fits h = taken n (from + k + 6) (Paste from k) (omega arith) (omega arith)
 paste_of_within n l from left None some fits h = either n l _ _ (taken n (from + left) (Paste from left) (omega arith) (omega arith)) (nothing n)
 
+mouse_within : (n : ℕ) (l : Bool) (left : ℕ) → 3 + left ≤ n → IsWithin n (mouse_report l left)
+mouse_within n l left fits = record { bounds = by_room (cases_lt left 3) }
+  where
+    by_room : (left < 3) ⊎ (3 ≤ left) → IfSome (mouse_report l left) (λ s. (0 < s.used) × (s.used ≤ n))
+    by_room (inl few) =
+        subst (λ t. IfSome (cond t (cond l (scanned_as Unknown (3 + left)) None) (scanned_as Unknown 6)) (λ s. (0 < s.used) × (s.used ≤ n))) (sym (lt-ltb left 3 few))
+        (either n l _ _ (taken n (3 + left) Unknown (omega arith) fits) (nothing n)).bounds
+    by_room (inr all) =
+        subst (λ t. IfSome (cond t (cond l (scanned_as Unknown (3 + left)) None) (scanned_as Unknown 6)) (λ s. (0 < s.used) × (s.used ≤ n))) (sym (le-ltb left 3 all))
+        (omega arith, omega arith)
+
 sequence_within : (n : ℕ) (l : Bool) (parameters : List ℕ) (letter : ℕ) (bytes : List ℕ) → 3 + length parameters + length bytes ≤ n → IsWithin n (sequence_at l parameters letter bytes)
 sequence_within n l parameters letter bytes fits =
     let used : ℕ = 3 + length parameters in
     let pasted : IsWithin n (paste_at l used bytes) = paste_of_within n l used (length bytes) (paste_len bytes) (omega arith) fits (paste_within bytes) in
     let token = parameters_token parameters letter in
-    either n _ _ _ (taken n used Unknown (omega arith) (omega arith)) (either n _ _ _ pasted (taken n used token (omega arith) (omega arith)))
+    let told : IsWithin n _ = either n _ _ _ (mouse_within n l (length bytes) (omega arith)) (taken n used token (omega arith) (omega arith)) in
+    either n _ _ _ (taken n used Unknown (omega arith) (omega arith)) (either n _ _ _ pasted told)
 
 ended_within : (n : ℕ) (l : Bool) (parameters rest : List ℕ) → 2 + (length parameters + length rest) ≤ n → IsWithin n (ended_at l parameters rest)
 ended_within n l parameters [] fits = either n l _ _ (taken n 2 (key_token (Char 91) alt) (omega arith) (omega arith)) (nothing n)
@@ -165,11 +178,14 @@ paste_ends : (from left : ℕ) (o : Option ℕ) → Answers (paste_of true from 
 paste_ends from left (Some k) = yes
 paste_ends from left None = yes
 
+mouse_ends : (left : ℕ) → Answers (mouse_report true left)
+mouse_ends left = ends_if (ltb left 3) _ _ yes yes
+
 ended_ends : (parameters rest : List ℕ) → Answers (ended_at true parameters rest)
 ended_ends parameters [] = yes
 ended_ends parameters (b ∷ bytes) =
     let numbers : Answers (sequence_at true parameters b bytes) =
-    ends_if _ _ _ yes (ends_if _ _ _ (paste_ends (3 + length parameters) (length bytes) (paste_len bytes)) yes) in
+    ends_if _ _ _ yes (ends_if _ _ _ (paste_ends (3 + length parameters) (length bytes) (paste_len bytes)) (ends_if _ _ _ (mouse_ends (length bytes)) yes)) in
     ends_if _ _ _ numbers yes
 
 before_escape_ends : (used : ℕ) (bytes : List ℕ) → Answers (string_before_escape true used bytes)

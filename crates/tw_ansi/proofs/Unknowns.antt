@@ -1,14 +1,15 @@
 -- What is taken where nothing is known.
-use Rattle.std.proofs.Common.{◌≡◌, ◌≢◌, ◌+◌, ℕ, suc, Bool, true, false, not, cond, ltb, eqb, ◌&&◌, List, [], ◌∷◌, ◌++◌, Option, Some, None, IfSome, ◌⊎◌, inl, inr, take, drop, length, length-take, append_assoc, append-nil, length-append, take-append-drop, take_at, arith, ap, subst, ◌∙◌, sym, refl}
+use Rattle.std.proofs.Common.{◌≡◌, ◌≢◌, ◌≤◌, ◌+◌, ℕ, suc, Bool, true, false, not, cond, ltb, eqb, ◌&&◌, List, [], ◌∷◌, ◌++◌, Option, Some, None, IfSome, ◌⊎◌, inl, inr, take, drop, length, length-take, append_assoc, append-nil, length-append, take-append-drop, take_at, arith, ap, subst, ◌∙◌, sym, refl}
 use Rattle.std.specs.List.{prefix_len, list_all}
-use Rattle.std.proofs.lemmas.Bool.{and_from, eqb-true}
+use Rattle.std.proofs.lemmas.Bool.{and_from, and_parts, eqb-true, ltb-true}
+use Rattle.std.proofs.lemmas.List.{nil_from_length}
 use Rattle.std.proofs.lemmas.List.Sums.{prefix_len-le-length}
 use Rattle.tw_input.specs.declared.key.KeyCode.{KeyCode}
 use Rattle.tw_ansi.specs.declared.token.Token.{Token}
 use Rattle.tw_ansi.specs.declared.token.Token.TheVariants.{Key, Size, Paste, Unknown}
 use Rattle.tw_ansi.specs.declared.token.Scanned.{Scanned}
-use Rattle.tw_ansi.specs.KeyBytes.{token_at, escape_at, string_at, string_of, string_before_escape, whole_string, opens_string, begins_answer, is_string_byte, control_at, ended_at, sequence_at, paste_at, paste_of, paste_len, application_at, application_key, application_keys, behind_escape, with_alt, character_at, control_characters, key_in, key_or, with_control, typed_at, wide_character, whole_character, following_len, replacement, scanned_as, key_token, first_number, parameters_token, is_numeric, is_parameter, is_letter}
-use Rattle.tw_ansi.specs.KeyLaws.{IsControlSequence, IsControlString, UnknownSequences}
+use Rattle.tw_ansi.specs.KeyBytes.{token_at, escape_at, string_at, string_of, string_before_escape, whole_string, opens_string, begins_answer, is_string_byte, control_at, ended_at, sequence_at, mouse_report, paste_at, paste_of, paste_len, application_at, application_key, application_keys, behind_escape, with_alt, character_at, control_characters, key_in, key_or, with_control, typed_at, wide_character, whole_character, following_len, replacement, scanned_as, key_token, first_number, parameters_token, is_numeric, is_parameter, is_letter}
+use Rattle.tw_ansi.specs.KeyLaws.{IsControlSequence, IsControlString, IsMouseReport, UnknownSequences}
 
 -- a token that is known
 record Known (o : Option Scanned) : Type 0 where
@@ -61,9 +62,13 @@ paste_known : (l : Bool) (from left : ℕ) (o : Option ℕ) → Known (paste_of 
 paste_known l from left (Some len) = record { kept = no_paste from len }
 paste_known l from left None = known_if l _ _ (record { kept = no_paste from left }) waits
 
--- what is not known is a sequence or a string at the front of some bytes
+-- a sequence, a string or a mouse's report
+abbrev IsUnknown : List ℕ → Type 0
+IsUnknown bytes = IsControlSequence bytes ⊎ (IsControlString bytes ⊎ IsMouseReport bytes)
+
+-- what is not known is one of them at the front of some bytes
 record OnlyUnknown (bytes : List ℕ) (o : Option Scanned) : Type 0 where
-  pub kept : (used : ℕ) → o ≡ scanned_as Unknown used → IsControlSequence (take used bytes) ⊎ IsControlString (take used bytes)
+  pub kept : (used : ℕ) → o ≡ scanned_as Unknown used → IsUnknown (take used bytes)
 
 only_if : (bytes : List ℕ) (b : Bool) (x y : Option Scanned) → (b ≡ true → OnlyUnknown bytes x) → (b ≡ false → OnlyUnknown bytes y) → OnlyUnknown bytes (cond b x y)
 only_if bytes true x y p q = p refl
@@ -76,11 +81,31 @@ abbrev used_of : Option Scanned → ℕ
 used_of (Some s) = s.used
 used_of None = 0
 
+taken_as : (bytes : List ℕ) (t : Token) (used : ℕ) → IsUnknown (take used bytes) → OnlyUnknown bytes (scanned_as t used)
+taken_as bytes t used h = record { kept = λ n e. subst (λ k. IsUnknown (take k bytes)) (ap used_of e) h }
+
 taken : (bytes : List ℕ) (t : Token) (used : ℕ) → IsControlSequence (take used bytes) → OnlyUnknown bytes (scanned_as t used)
-taken bytes t used h = record { kept = λ n e. inl (subst (λ k. IsControlSequence (take k bytes)) (ap used_of e) h) }
+taken bytes t used h = taken_as bytes t used (inl h)
 
 taken_string : (bytes : List ℕ) (t : Token) (used : ℕ) → IsControlString (take used bytes) → OnlyUnknown bytes (scanned_as t used)
-taken_string bytes t used h = record { kept = λ n e. inr (subst (λ k. IsControlString (take k bytes)) (ap used_of e) h) }
+taken_string bytes t used h = taken_as bytes t used (inr (inl h))
+
+-- a mouse's report
+mouse_only : (l : Bool) (told : List ℕ) → OnlyUnknown (27 ∷ 91 ∷ 77 ∷ told) (mouse_report l (length told))
+mouse_only l told =
+    only_if _ (ltb (length told) 3) _ _
+    (λ few. only_if _ l _ _ (λ last. taken_as _ Unknown _ (inr (inr (report (length told) (omega (arith, ltb-true _ _ few)))))) (λ more. known _ _ waits))
+    (λ all. taken_as _ Unknown 6 (inr (inr (report 3 (omega arith)))))
+  where
+    report : (used : ℕ) → used ≤ 3 → IsMouseReport (take (3 + used) (27 ∷ 91 ∷ 77 ∷ told))
+    report used few = record {
+      told = take used told;
+      parts = ap (λ n. take n (27 ∷ 91 ∷ 77 ∷ told)) count;
+      at_most_three = omega (arith, length-take used told);
+    }
+      where
+        count : 3 + used ≡ suc (suc (suc used))
+        count = omega arith
 
 -- ESC [ and parameters
 front : (parameters rest : List ℕ) → list_all is_parameter parameters ≡ true → IsControlSequence (take (2 + length parameters) (27 ∷ 91 ∷ (parameters ++ rest)))
@@ -113,10 +138,18 @@ sequence_only l parameters letter rest all ends =
     let used : ℕ = 3 + length parameters in
     let token = parameters_token parameters letter in
     let is = whole parameters letter rest all ends in
-    let told = cond (eqb letter 126 && eqb (first_number parameters) 200) (paste_at l used rest) (scanned_as token used) in
-    only_if bytes (not (list_all is_numeric parameters)) (scanned_as Unknown used) told (λ no. taken bytes Unknown used is)
-    (λ yes. only_if bytes (eqb letter 126 && eqb (first_number parameters) 200) (paste_at l used rest) (scanned_as token used)
-    (λ pasted. known bytes _ (paste_known l used (length rest) (paste_len rest))) (λ other. taken bytes token used is))
+    only_if bytes (not (list_all is_numeric parameters)) (scanned_as Unknown used) _ (λ no. taken bytes Unknown used is)
+    (λ yes. only_if bytes (eqb letter 126 && eqb (first_number parameters) 200) (paste_at l used rest) _
+    (λ pasted. known bytes _ (paste_known l used (length rest) (paste_len rest)))
+    (λ other. only_if bytes (eqb letter 77 && eqb (length parameters) 0) (mouse_report l (length rest)) (scanned_as token used)
+    (λ mouse. mouse_at l parameters letter rest (and_parts _ _ mouse)) (λ other. taken bytes token used is)))
+  where
+    mouse_at : (l : Bool) (parameters : List ℕ) (letter : ℕ) (rest : List ℕ) → (eqb letter 77 ≡ true) × (eqb (length parameters) 0 ≡ true)
+        → OnlyUnknown (27 ∷ 91 ∷ (parameters ++ letter ∷ rest)) (mouse_report l (length rest))
+    mouse_at l parameters letter rest (is_m, alone) =
+        let none : parameters ≡ [] = nil_from_length parameters (eqb-true (length parameters) 0 alone) in
+        subst (λ xs. OnlyUnknown (27 ∷ 91 ∷ (xs ++ letter ∷ rest)) (mouse_report l (length rest))) (sym none)
+        (subst (λ b. OnlyUnknown (27 ∷ 91 ∷ b ∷ rest) (mouse_report l (length rest))) (sym (eqb-true letter 77 is_m)) (mouse_only l rest))
 
 ended_only : (l : Bool) (parameters rest : List ℕ) → list_all is_parameter parameters ≡ true → OnlyUnknown (27 ∷ 91 ∷ (parameters ++ rest)) (ended_at l parameters rest)
 ended_only l parameters [] all = known _ _ (known_if l _ _ key waits)

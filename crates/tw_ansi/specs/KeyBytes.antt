@@ -219,11 +219,17 @@ paste_of is_last from left None = unless_last is_last (scanned_as (Paste from le
 abbrev pub paste_at : Bool → ℕ → List ℕ → Option Scanned
 paste_at is_last from bytes = paste_of is_last from (length bytes) (paste_len bytes)
 
+-- a mouse's report behind ESC [ M: three bytes, of which so many are there
+abbrev pub mouse_report : Bool → ℕ → Option Scanned
+mouse_report is_last left =
+    if ltb left 3 then unless_last is_last (scanned_as Unknown (3 + left)) else scanned_as Unknown 6
+
 -- a sequence with these parameters and this letter, and what stands behind it
 abbrev pub sequence_at : Bool → List ℕ → ℕ → List ℕ → Option Scanned
 sequence_at is_last parameters letter bytes =
     if not (list_all is_numeric parameters) then scanned_as Unknown (3 + length parameters)
     else if eqb letter 126 && eqb (first_number parameters) 200 then paste_at is_last (3 + length parameters) bytes
+    else if eqb letter 77 && eqb (length parameters) 0 then mouse_report is_last (length bytes)
     else scanned_as (parameters_token parameters letter) (3 + length parameters)
 
 -- parameters, and the byte behind them: where it ends no sequence it is not taken

@@ -139,10 +139,25 @@ pub record IsControlString (bytes : List ℕ) : Type 0 where
   pub between : list_all is_string_byte text ≡ true
   pub ends : (final ≡ []) ⊎ ((final ≡ 7 ∷ []) ⊎ (final ≡ 27 ∷ 92 ∷ []))
 
--- what is not known is a control sequence or a control string, and no byte behind it
+-- ESC [ M and at most three bytes
+pub record IsMouseReport (bytes : List ℕ) : Type 0 where
+  pub told : List ℕ
+  pub parts : bytes ≡ 27 ∷ 91 ∷ 77 ∷ told
+  pub at_most_three : length told ≤ 3
+
+-- what is not known is a control sequence, a control string or a mouse's report, and no byte behind it
 abbrev pub UnknownSequences : Type 0
 UnknownSequences = (is_last : Bool) (bytes : List ℕ) (used : ℕ) → token_at is_last bytes ≡ scanned_as Unknown used
-    → IsControlSequence (take used bytes) ⊎ IsControlString (take used bytes)
+    → IsControlSequence (take used bytes) ⊎ (IsControlString (take used bytes) ⊎ IsMouseReport (take used bytes))
+
+-- ESC [ M and three bytes, as a mouse is told of
+abbrev pub MouseReports : Type 0
+MouseReports = (a b c : ℕ) → IsTaken (27 ∷ 91 ∷ 77 ∷ a ∷ b ∷ c ∷ []) Unknown
+
+-- where fewer than three bytes stand behind ESC [ M more are wanted, unless these are the last ones
+abbrev pub OpenMouseReports : Type 0
+OpenMouseReports = (is_last : Bool) (told : List ℕ) → length told < 3
+    → token_at is_last (27 ∷ 91 ∷ 77 ∷ told) ≡ unless_last is_last (scanned_as Unknown (3 + length told))
 
 -- ESC ] or ESC P, a byte that begins an answer, and bytes that are no control characters
 pub record IsStringFront (bytes : List ℕ) : Type 0 where

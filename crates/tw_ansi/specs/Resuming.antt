@@ -1,5 +1,5 @@
 -- Reading bytes from where it stopped for want of more.
-use Rattle.std.specs.Prelude.{◌≡◌, ◌≤◌, ◌+◌, ◌-◌, ◌&&◌, eqb, if◌then◌else◌, ℕ, Bool, false, List, [], ◌∷◌, ◌++◌, Option, length, take, drop}
+use Rattle.std.specs.Prelude.{◌≡◌, ◌≤◌, ◌+◌, ◌-◌, ◌&&◌, ◌||◌, eqb, ltb, if◌then◌else◌, ℕ, Bool, false, List, [], ◌∷◌, ◌++◌, Option, length, take, drop}
 use Rattle.std.specs.List.{prefix_len, starts_with}
 use Rattle.std.specs.Option.{option_map}
 use Rattle.tw_ansi.specs.declared.token.Scanned.{Scanned}
@@ -47,11 +47,12 @@ pub record Fits (p : Progress) (bytes : List ℕ) : Type 0 where
 abbrev pub searched_to : ℕ → ℕ → ℕ
 searched_to searched len = searched + (len - searched - 5)
 
--- how far the bytes behind ESC [ were read, where they are no token yet
+-- how far the bytes behind ESC [ were read, where they are no token yet: fewer than four do not hold 200 ~
 abbrev pub behind_parameters : ℕ → List ℕ → Progress
 behind_parameters len bytes =
     let all = len + prefix_len is_parameter (drop len bytes) in
-    if eqb all (length bytes) then Parameters all else Paste (3 + all) (searched_to 0 (length bytes - all - 1))
+    if eqb all (length bytes) || ltb (length bytes) 4 then Parameters all
+    else Paste (3 + all) (searched_to 0 (length bytes - all - 1))
 
 -- how far the bytes behind ESC ] or ESC P were read, where they are a string without an end yet
 abbrev pub behind_string : ℕ → List ℕ → Progress

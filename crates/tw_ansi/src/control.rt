@@ -3,7 +3,7 @@
 ghost use Rattle.std.specs.Prelude.{◌≡◌, ◌+◌, ◌<◌, ◌≤◌, ◌^◌, length, [], IfSome};
 ghost use Rattle.std.specs.List.{list_all, prefix_len, position_or_len};
 ghost use Rattle.tw_input.specs.Modifiers.{modifier_bits};
-ghost use Rattle.tw_ansi.specs.KeyBytes.{is_parameter, is_numeric, is_semicolon, number_of, first_number, second_number, third_number, told_bits, numbers_token, size_token, parameters_token, paste_len, paste_of, sequence_at, ended_at, control_at, number_keys, letter_keys, key_in};
+ghost use Rattle.tw_ansi.specs.KeyBytes.{is_parameter, is_numeric, is_semicolon, number_of, first_number, second_number, third_number, told_bits, numbers_token, size_token, parameters_token, paste_len, paste_of, mouse_report, sequence_at, ended_at, control_at, number_keys, letter_keys, key_in};
 
 use crate::token::{Scanned, Token, key};
 use bitflags::Flags;
@@ -223,6 +223,19 @@ pub fn paste_of(from: usize, left: usize, len: Option<usize>, is_last: bool) -> 
     }
 }
 
+/// A mouse's report behind ESC [ M: three bytes, of which so many are there.
+fn mouse_report(left: usize, is_last: bool) -> Option<Scanned>
+    ensures { result ≡ mouse_report is_last left }
+{
+    if left < 3 && !is_last {
+        return None;
+    }
+    Some(Scanned {
+        token: Token::Unknown,
+        used: 3 + left.min(3),
+    })
+}
+
 /// Whether only digits and semicolons stand there.
 fn all_numeric(bytes: &[u8]) -> bool
     ensures { result ≡ list_all is_numeric bytes.now }
@@ -247,6 +260,9 @@ fn sequence_at(parameters: &[u8], letter: u8, bytes: &[u8], is_last: bool) -> Op
     let first = first_number(parameters);
     if letter == b'~' && first == 200 {
         return paste_of(used, bytes.len(), paste_len(bytes), is_last);
+    }
+    if letter == b'M' && parameters.is_empty() {
+        return mouse_report(bytes.len(), is_last);
     }
     Some(Scanned {
         token: parameters_token(parameters, letter),

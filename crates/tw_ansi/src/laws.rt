@@ -8,7 +8,7 @@ ghost use Rattle.tw_ansi.specs.EcmaLaws.{AttributeIsSelected, AttributesAreSelec
 ghost use Rattle.tw_ansi.specs.EcmaTexts.{PlainTextIsShown};
 ghost use Rattle.tw_ansi.specs.EcmaBatches.{Follows, FirstIsShown, ChangeIsShown, BatchIsShown};
 ghost use Rattle.tw_ansi.specs.EcmaPaintings.{PaintingIsSendable, RepaintingIsSendable, ClosingIsSendable, PaintingKnowsColor, RunIsSendable, BatchesAreShown};
-ghost use Rattle.tw_ansi.specs.KeyLaws.{StaysFound, TakesBytes, EndsWithToken, PrintableKeys, CharacterKeys, AltCharacterKeys, EscapeKey, EscapePair, AltKeys, AltOpenings, ControlKeys, ControlLetters, ApplicationKeys, LetterKeys, HeldLetterKeys, NumberKeys, HeldNumberKeys, BackTab, CursorReports, SizeReports, PastedTexts, UnknownSequences, EndedStrings, CutStrings, OpenStrings, LostBytes, LoneBytes, CutCharacters, WaitsForCharacter};
+ghost use Rattle.tw_ansi.specs.KeyLaws.{StaysFound, TakesBytes, EndsWithToken, PrintableKeys, CharacterKeys, AltCharacterKeys, EscapeKey, EscapePair, AltKeys, AltOpenings, ControlKeys, ControlLetters, ApplicationKeys, LetterKeys, HeldLetterKeys, NumberKeys, HeldNumberKeys, BackTab, CursorReports, SizeReports, PastedTexts, UnknownSequences, MouseReports, OpenMouseReports, EndedStrings, CutStrings, OpenStrings, LostBytes, LoneBytes, CutCharacters, WaitsForCharacter};
 
 use crate::encode::Encoder;
 use crate::resume::Progress;
@@ -58,12 +58,14 @@ pub fn keys()
 {}
 
 /// A report of the cursor's place is a size, and so is one that the terminal makes by itself in mode 2048. A text between
-/// the marks of a paste is that text. So it is whatever bytes follow.
+/// the marks of a paste is that text. A mouse's report in three bytes is taken whole. So it is whatever bytes follow.
 #[tactic(auto, using(crate::proofs::Reports::cursor_reports, crate::proofs::Reports::size_reports, crate::proofs::Reports::pasted_texts))]
 pub fn reports()
     ensures cursor { CursorReports }
     ensures sizes { SizeReports }
     ensures pastes { PastedTexts }
+    ensures mouse { MouseReports }
+    ensures open_mouse { OpenMouseReports }
 {}
 
 /// A control string that a terminal answers is taken whole with its end, and is cut off before any other control
@@ -74,9 +76,9 @@ pub fn strings()
     ensures open { OpenStrings }
 {}
 
-/// Bytes that say nothing swallow no key: what is not known is one control sequence or one control string, and a byte
-/// that is no part of a character is U+FFFD and takes no byte but itself. More bytes are wanted for a character only
-/// where those that are there can follow its first one.
+/// Bytes that say nothing swallow no key: what is not known is one control sequence, one control string or one mouse's
+/// report, and a byte that is no part of a character is U+FFFD and takes no byte but itself. More bytes are wanted for a
+/// character only where those that are there can follow its first one.
 #[tactic(auto, using(crate::proofs::Unknowns::unknown_sequences, crate::proofs::LostBytes::lost_bytes, crate::proofs::LostBytes::lone_bytes, crate::proofs::LostBytes::cut_characters))]
 pub fn malformed()
     ensures sequences { UnknownSequences }

@@ -14,6 +14,9 @@ use crate::token::Scanned;
 /// What begins a control sequence.
 const SEQUENCE: [u8; 2] = [ESC, b'['];
 
+/// How many bytes stand at least behind ESC [ where a pasted text begins.
+const PASTE_MARK_LEN: usize = 4;
+
 /// How far the bytes at the front were read, where they are no token yet.
 #[derive(Debug, Clone, Copy, PartialEq, Eq)]
 pub enum Progress {
@@ -74,7 +77,7 @@ fn parameters_on(len: usize, bytes: &[u8], is_last: bool) -> Result<Scanned, Pro
     ensures { result ≡ ok_or (parameters_on is_last len bytes.now) (behind_parameters len bytes.now) }
 {
     let all = len + parameters_len(&bytes[len..]);
-    let progress = if all == bytes.len() {
+    let progress = if all == bytes.len() || bytes.len() < PASTE_MARK_LEN {
         Progress::Parameters { len: all }
     } else {
         Progress::Paste {

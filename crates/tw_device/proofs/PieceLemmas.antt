@@ -11,7 +11,7 @@ use Rattle.tw_input.specs.declared.key.KeyCode.TheVariants.{Char, Escape, Tab}
 use Rattle.tw_ansi.specs.declared.token.Token.{Token}
 use Rattle.tw_ansi.specs.declared.token.Token.TheVariants.{Key, Size, Paste, Unknown}
 use Rattle.tw_ansi.specs.declared.token.Scanned.{Scanned}
-use Rattle.tw_ansi.specs.KeyBytes.{token_at, escape_at, string_at, string_of, string_before_escape, opens_string, begins_answer, is_string_byte, control_at, ended_at, sequence_at, paste_of, paste_len, application_at, application_key, application_keys, behind_escape, with_alt, character_at, control_characters, key_in, key_or, key_or_unknown, with_control, typed_at, wide_character, whole_character, following_len, replacement, scanned_as, key_token, code_of, first_number, second_number, third_number, numbers_token, size_token, parameters_token, sequence_key, is_parameter, is_numeric, is_letter, is_continuation, told_bits}
+use Rattle.tw_ansi.specs.KeyBytes.{token_at, escape_at, string_at, string_of, string_before_escape, opens_string, begins_answer, is_string_byte, control_at, ended_at, sequence_at, mouse_report, paste_of, paste_len, application_at, application_key, application_keys, behind_escape, with_alt, character_at, control_characters, key_in, key_or, key_or_unknown, with_control, typed_at, wide_character, whole_character, following_len, replacement, scanned_as, key_token, code_of, first_number, second_number, third_number, numbers_token, size_token, parameters_token, sequence_key, is_parameter, is_numeric, is_letter, is_continuation, told_bits}
 use Rattle.tw_ansi.proofs.Pieces.{stays_found}
 use Rattle.tw_ansi.proofs.Tokens.{takes_bytes}
 use Rattle.tw_device.specs.Told.{token_events, pasted_text}
@@ -110,12 +110,15 @@ paste_inside l from left None = either l (scanned_as (Paste from left) (from + l
 unknown_inside : (used : ℕ) → IsInside (scanned_as Unknown used)
 unknown_inside used = token_inside Unknown used (omega arith)
 
+mouse_inside : (l : Bool) (left : ℕ) → IsInside (mouse_report l left)
+mouse_inside l left = either (ltb left 3) _ _ (either l (scanned_as Unknown (3 + left)) None (unknown_inside (3 + left)) nothing) (unknown_inside 6)
+
 sequence_inside : (l : Bool) (parameters : List ℕ) (letter : ℕ) (bytes : List ℕ) → IsInside (sequence_at l parameters letter bytes)
 sequence_inside l parameters letter bytes =
     let used = 3 + length parameters in
     either (not (list_all is_numeric parameters)) _ _ (unknown_inside used)
     (either (eqb letter 126 && eqb (first_number parameters) 200) _ _ (paste_inside l used (length bytes) (paste_len bytes))
-    (parameters_inside parameters letter used))
+    (either (eqb letter 77 && eqb (length parameters) 0) _ _ (mouse_inside l (length bytes)) (parameters_inside parameters letter used)))
 
 ended_inside : (l : Bool) (parameters rest : List ℕ) → IsInside (ended_at l parameters rest)
 ended_inside l parameters [] = either l (scanned_as (key_token (Char 91) alt) 2) None (key_inside (Char 91) alt 2) nothing
