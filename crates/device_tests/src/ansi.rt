@@ -41,6 +41,17 @@ fn keys_are_found_as_terminals_send_them(rt: HostRuntime) {
     expect_key(&rt, b"\x1b[D", KeyCode::LeftArrow, Modifiers::NONE, 3);
     expect_key(&rt, b"\x1b[1;3D", KeyCode::LeftArrow, Modifiers::ALT, 6);
     expect_key(&rt, b"\x1b[1;4A", KeyCode::UpArrow, alt_shift, 6);
+    expect_key(&rt, b"\x1b\x1b[D", KeyCode::LeftArrow, Modifiers::ALT, 4);
+    expect_key(
+        &rt,
+        b"\x1b\x1bOA",
+        KeyCode::ApplicationUpArrow,
+        Modifiers::ALT,
+        4,
+    );
+    expect_key(&rt, b"\x1b\x1b[3~", KeyCode::Escape, Modifiers::NONE, 1);
+    expect_key(&rt, b"\x1b\x1bOx", KeyCode::Escape, Modifiers::NONE, 1);
+    expect_key(&rt, b"\x1b\x1bb", KeyCode::Escape, Modifiers::NONE, 1);
     expect_key(&rt, b"\x1b[1;5R", KeyCode::Function(3), Modifiers::CTRL, 6);
     expect_key(&rt, b"\x1b[3~x", KeyCode::Delete, Modifiers::NONE, 4);
     expect_key(&rt, b"\x1b[Z", KeyCode::Tab, Modifiers::SHIFT, 3);
@@ -153,6 +164,9 @@ fn parts_wait_for_more(rt: HostRuntime) {
         b"\x1bP>|tmux\x1b",
         b"\x1b[M",
         b"\x1b[M !",
+        b"\x1b\x1b",
+        b"\x1b\x1b[",
+        b"\x1b\x1bO",
     ] {
         assert!(rt; scan(bytes, false).is_none(), "{bytes:?}");
         assert!(rt; scan(bytes, true).is_some(), "{bytes:?}");

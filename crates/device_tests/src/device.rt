@@ -229,6 +229,16 @@ fn a_mouse_in_three_bytes_is_not_typed(rt: HostRuntime) {
 }
 
 #[test]
+fn an_arrow_behind_an_escape_has_alt(rt: HostRuntime) {
+    for step in 1..12 {
+        let answer = waiting_line_of(rt.alloc(), b"ab cd\x1b\x1b[Dx\r", step);
+        assert_eq!(rt; shown(&answer), ("line", "ab xcd"), "pieces of {step}");
+        let answer = waiting_line_of(rt.alloc(), b"ab cd\x1b\x1bODx\r", step);
+        assert_eq!(rt; shown(&answer), ("line", "ab xcd"), "pieces of {step}");
+    }
+}
+
+#[test]
 fn a_string_without_an_end_swallows_no_enter(rt: HostRuntime) {
     for step in 1..16 {
         let answer = waiting_line_of(rt.alloc(), b"a\x1b]11;rgb:1e1e\rb\r", step);

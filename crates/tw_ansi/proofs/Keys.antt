@@ -6,17 +6,35 @@ use Rattle.std.proofs.lemmas.Bool.{ne_eqb, lt-ltb, le-ltb, or_from}
 use Rattle.tw_input.specs.declared.key.KeyCode.{KeyCode}
 use Rattle.tw_input.specs.declared.key.KeyCode.TheVariants.{Char, Escape, Insert, Delete, Home, End, PageUp, PageDown, LeftArrow, RightArrow, UpArrow, DownArrow, Function}
 use Rattle.tw_input.specs.Modifiers.{none, ctrl}
-use Rattle.tw_ansi.specs.KeyBytes.{token_at, escape_at, string_at, opens_string, control_at, character_at, behind_escape, key_or, with_control, typed_at, replacement, wide_character, following_len, application_at, scanned_as, key_token, key_in, control_characters, parameters_token}
+use Rattle.tw_ansi.specs.KeyBytes.{token_at, escape_at, escape_alone, alt_key, alt_key_at, second_escape_at, application_keys, letter_keys, string_at, opens_string, control_at, character_at, behind_escape, key_or, with_control, typed_at, replacement, wide_character, following_len, application_at, scanned_as, key_token, key_in, control_characters, parameters_token}
 use Rattle.tw_ansi.specs.Sequences.{sequence}
-use Rattle.tw_ansi.specs.KeyLaws.{IsTyped, PrintableKeys, EscapeKey, EscapePair, AltKeys, ControlKeys, ControlLetters, ApplicationKeys, LetterKeys, HeldLetterKeys, NumberKeys, HeldNumberKeys, BackTab}
+use Rattle.tw_ansi.specs.KeyLaws.{IsTyped, PrintableKeys, EscapeKey, EscapePair, EscapesAtTheEnd, AltLetterKeys, AltKeys, ControlKeys, ControlLetters, ApplicationKeys, LetterKeys, HeldLetterKeys, NumberKeys, HeldNumberKeys, BackTab}
 
 pub escape_key : EscapeKey
 unfolding token_at parameters_token
 escape_key l = refl
 
 pub escape_pair : EscapePair
-unfolding token_at parameters_token
-escape_pair l rest = refl
+unfolding token_at
+escape_pair = (
+  (λ b no_sequence no_application l rest.
+      let application = cond (eqb b 79) (alt_key_at l application_keys rest) escape_alone in
+      ap (λ t. cond t (alt_key_at l letter_keys rest) application) (ne_eqb b 91 no_sequence)
+      ∙ ap (λ t. cond t (alt_key_at l application_keys rest) escape_alone) (ne_eqb b 79 no_application)),
+  (λ b none l rest. ap alt_key none),
+  (λ b none l rest. ap alt_key none),
+)
+
+pub escapes_at_the_end : EscapesAtTheEnd
+unfolding token_at
+escapes_at_the_end = (refl, refl, refl)
+
+pub alt_letter_keys : AltLetterKeys
+unfolding token_at
+alt_letter_keys = (
+  (λ l r. refl, (λ l r. refl, (λ l r. refl, (λ l r. refl, (λ l r. refl, (λ l r. refl, (λ l r. refl, (λ l r. refl, (λ l r. refl, (λ l r. refl, tt)))))))))),
+  (λ l r. refl, (λ l r. refl, (λ l r. refl, (λ l r. refl, (λ l r. refl, (λ l r. refl, (λ l r. refl, (λ l r. refl, (λ l r. refl, (λ l r. refl, (λ l r. refl, tt))))))))))),
+)
 
 pub back_tab : BackTab
 unfolding token_at parameters_token
@@ -43,7 +61,7 @@ unfolding token_at parameters_token
 alt_keys l b rest e n o s p =
     let typed = behind_escape (character_at l b rest) in
     let string = cond (opens_string b) (string_at l b rest) typed in
-    ap (λ t. cond t (scanned_as (key_token Escape none) 1) (cond (eqb b 91) (control_at l rest) (cond (eqb b 79) (application_at l rest) string))) (ne_eqb b 27 e)
+    ap (λ t. cond t (second_escape_at l rest) (cond (eqb b 91) (control_at l rest) (cond (eqb b 79) (application_at l rest) string))) (ne_eqb b 27 e)
     ∙ ap (λ t. cond t (control_at l rest) (cond (eqb b 79) (application_at l rest) string)) (ne_eqb b 91 n)
     ∙ ap (λ t. cond t (application_at l rest) string) (ne_eqb b 79 o)
     ∙ ap (λ t. cond t (string_at l b rest) typed) (or_from (eqb b 93) (eqb b 80) (ne_eqb b 93 s) (ne_eqb b 80 p))

@@ -9,7 +9,7 @@ use Rattle.tw_input.specs.declared.key.KeyCode.TheVariants.{Char, Escape}
 use Rattle.tw_input.specs.Modifiers.{none, alt}
 use Rattle.tw_ansi.specs.declared.token.Token.TheVariants.{Unknown}
 use Rattle.tw_ansi.specs.declared.token.Scanned.{Scanned}
-use Rattle.tw_ansi.specs.KeyBytes.{token_at, escape_at, string_at, string_of, string_before_escape, whole_string, opens_string, begins_answer, is_string_byte, control_at, ended_at, sequence_at, mouse_report, paste_at, paste_of, paste_len, application_at, behind_escape, character_at, control_characters, key_in, key_or, typed_at, wide_character, whole_character, following_len, is_continuation, replacement, scanned_as, key_token, with_control, is_letter, is_parameter, is_numeric, parameters_token, first_number}
+use Rattle.tw_ansi.specs.KeyBytes.{token_at, escape_at, escape_alone, alt_key_at, second_escape_at, letter_keys, application_keys, string_at, string_of, string_before_escape, whole_string, opens_string, begins_answer, is_string_byte, control_at, ended_at, sequence_at, mouse_report, paste_at, paste_of, paste_len, application_at, behind_escape, character_at, control_characters, key_in, key_or, typed_at, wide_character, whole_character, following_len, is_continuation, replacement, scanned_as, key_token, with_control, is_letter, is_parameter, is_numeric, parameters_token, first_number}
 use Rattle.tw_ansi.proofs.Pastes.{paste_more}
 
 -- where the first finds a token the second finds the same
@@ -174,13 +174,22 @@ string_more l opening (b ∷ bytes) more =
     let typed : Option Scanned = scanned_as (key_token (Char opening) alt) 2 in
     both (begins_answer b) (whole_string false (b ∷ bytes)) typed (whole_string l (b ∷ (bytes ++ more))) typed (string_cases l (b ∷ bytes) more (cases_lt _ _)) (same typed)
 
+alt_key_more : (l : Bool) (rows : List (ℕ × KeyCode)) (bytes more : List ℕ) → Stays (alt_key_at false rows bytes) (alt_key_at l rows (bytes ++ more))
+alt_key_more l rows [] more = waits _
+alt_key_more l rows (b ∷ bytes) more = same _
+
+second_escape_more : (l : Bool) (bytes more : List ℕ) → Stays (second_escape_at false bytes) (second_escape_at l (bytes ++ more))
+second_escape_more l [] more = waits _
+second_escape_more l (b ∷ bytes) more =
+    both (eqb b 91) (alt_key_at false letter_keys bytes) _ (alt_key_at l letter_keys (bytes ++ more)) _ (alt_key_more l letter_keys bytes more)
+    (both (eqb b 79) (alt_key_at false application_keys bytes) escape_alone (alt_key_at l application_keys (bytes ++ more)) escape_alone (alt_key_more l application_keys bytes more) (same escape_alone))
+
 escape_more : (l : Bool) (b : ℕ) (bytes more : List ℕ) → Stays (escape_at false (b ∷ bytes)) (escape_at l (b ∷ (bytes ++ more)))
 escape_more l b bytes more =
-    let alone : Option Scanned = scanned_as (key_token Escape none) 1 in
     let typed : Stays (behind_escape (character_at false b bytes)) (behind_escape (character_at l b (bytes ++ more))) = behind_more _ _ (character_more l b bytes more) in
     let opened : Stays _ _ = both (opens_string b) (string_at false b bytes) (behind_escape (character_at false b bytes)) (string_at l b (bytes ++ more)) (behind_escape (character_at l b (bytes ++ more))) (string_more l b bytes more) typed in
     let applied : Stays _ _ = both (eqb b 79) (application_at false bytes) _ (application_at l (bytes ++ more)) _ (application_more l bytes more) opened in
-    both (eqb b 27) alone _ alone _ (same alone) (both (eqb b 91) (control_at false bytes) _ (control_at l (bytes ++ more)) _ (control_cases l bytes more (cases_lt _ _)) applied)
+    both (eqb b 27) (second_escape_at false bytes) _ (second_escape_at l (bytes ++ more)) _ (second_escape_more l bytes more) (both (eqb b 91) (control_at false bytes) _ (control_at l (bytes ++ more)) _ (control_cases l bytes more (cases_lt _ _)) applied)
 
 first_cases : (l : Bool) (b : ℕ) (more : List ℕ) → (b ∷ [] ≢ 27 ∷ []) → (b ≡ 27) ⊎ (b ≡ 27 → ⊥) → Stays (token_at false (b ∷ [])) (token_at l (b ∷ more))
 unfolding token_at

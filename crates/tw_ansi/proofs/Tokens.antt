@@ -10,7 +10,7 @@ use Rattle.tw_input.specs.Modifiers.{none, alt, ctrl}
 use Rattle.tw_ansi.specs.declared.token.Token.{Token}
 use Rattle.tw_ansi.specs.declared.token.Token.TheVariants.{Paste, Unknown}
 use Rattle.tw_ansi.specs.declared.token.Scanned.{Scanned}
-use Rattle.tw_ansi.specs.KeyBytes.{token_at, escape_at, string_at, string_of, string_before_escape, whole_string, begins_answer, is_string_byte, control_at, ended_at, sequence_at, mouse_report, paste_at, paste_of, paste_len, application_at, application_key, application_keys, behind_escape, character_at, control_characters, key_in, key_or, with_control, typed_at, wide_character, whole_character, following_len, replacement, scanned_as, key_token, code_of, parameters_token, is_parameter}
+use Rattle.tw_ansi.specs.KeyBytes.{token_at, escape_at, escape_alone, alt_key, alt_key_at, second_escape_at, letter_keys, string_at, string_of, string_before_escape, whole_string, begins_answer, is_string_byte, control_at, ended_at, sequence_at, mouse_report, paste_at, paste_of, paste_len, application_at, application_key, application_keys, behind_escape, character_at, control_characters, key_in, key_or, with_control, typed_at, wide_character, whole_character, following_len, replacement, scanned_as, key_token, code_of, parameters_token, is_parameter}
 use Rattle.tw_ansi.proofs.Pastes.{paste_within}
 
 -- a token takes at least one byte and at most n
@@ -123,13 +123,26 @@ string_within n l opening [] fits = either n l _ _ (taken n 2 (key_token (Char o
 string_within n l opening (b ∷ bytes) fits =
     either n _ _ _ (whole_string_within n l (b ∷ bytes) fits) (taken n 2 (key_token (Char opening) alt) (omega arith) (omega arith))
 
+alt_key_within : (n : ℕ) (l : Bool) (rows : List (ℕ × KeyCode)) (bytes : List ℕ) → 3 + length bytes ≤ n → IsWithin n (alt_key_at l rows bytes)
+alt_key_within n l rows [] fits = either n l escape_alone None (one n Escape none (omega arith)) (nothing n)
+alt_key_within n l rows (b ∷ bytes) fits = by_key (key_in rows b)
+  where
+    by_key : (o : Option KeyCode) → IsWithin n (alt_key o)
+    by_key (Some key) = taken n 4 (key_token key alt) (omega arith) (omega arith)
+    by_key None = one n Escape none (omega arith)
+
+second_escape_within : (n : ℕ) (l : Bool) (bytes : List ℕ) → 2 + length bytes ≤ n → IsWithin n (second_escape_at l bytes)
+second_escape_within n l [] fits = either n l escape_alone None (one n Escape none (omega arith)) (nothing n)
+second_escape_within n l (b ∷ bytes) fits =
+    either n _ _ _ (alt_key_within n l letter_keys bytes (omega arith))
+    (either n _ _ _ (alt_key_within n l application_keys bytes (omega arith)) (one n Escape none (omega arith)))
+
 escape_within : (n : ℕ) (l : Bool) (bytes : List ℕ) → 1 + length bytes ≤ n → IsWithin n (escape_at l bytes)
 escape_within n l [] fits = one n Escape none (omega arith)
 escape_within n l (b ∷ bytes) fits =
-    let alone : IsWithin n (scanned_as (key_token Escape none) 1) = one n Escape none (omega arith) in
     let typed : IsWithin n (behind_escape (character_at l b bytes)) =
     behind_within (1 + length bytes) n _ (omega arith) (character_within _ l b bytes (omega arith)) in
-    either n _ _ _ alone (either n _ _ _ (control_within n l bytes (omega arith)) (either n _ _ _ (application_within n l bytes (omega arith))
+    either n _ _ _ (second_escape_within n l bytes (omega arith)) (either n _ _ _ (control_within n l bytes (omega arith)) (either n _ _ _ (application_within n l bytes (omega arith))
     (either n _ _ _ (string_within n l b bytes (omega arith)) typed)))
 
 -- a token takes at least one byte, and none that is not there
@@ -202,10 +215,18 @@ string_ends opening (b ∷ bytes) =
     let len = prefix_len is_string_byte (b ∷ bytes) in
     ends_if _ _ _ (string_of_ends (2 + len) (drop len (b ∷ bytes))) yes
 
+alt_key_ends : (rows : List (ℕ × KeyCode)) (bytes : List ℕ) → Answers (alt_key_at true rows bytes)
+alt_key_ends rows [] = yes
+alt_key_ends rows (b ∷ bytes) = elim (key_in rows b) as (λ o. Answers (alt_key o)) [ Some key ↦ yes | None ↦ yes ]
+
+second_escape_ends : (bytes : List ℕ) → Answers (second_escape_at true bytes)
+second_escape_ends [] = yes
+second_escape_ends (b ∷ bytes) = ends_if _ _ _ (alt_key_ends letter_keys bytes) (ends_if _ _ _ (alt_key_ends application_keys bytes) yes)
+
 escape_ends : (bytes : List ℕ) → Answers (escape_at true bytes)
 escape_ends [] = yes
 escape_ends (b ∷ bytes) =
-    ends_if _ _ _ yes (ends_if _ _ _ (ended_ends (take (prefix_len is_parameter bytes) bytes) (drop (prefix_len is_parameter bytes) bytes))
+    ends_if _ _ _ (second_escape_ends bytes) (ends_if _ _ _ (ended_ends (take (prefix_len is_parameter bytes) bytes) (drop (prefix_len is_parameter bytes) bytes))
     (ends_if _ _ _ (application_ends bytes) (ends_if _ _ _ (string_ends b bytes) (behind_ends _ (character_ends b bytes)))))
 
 -- where the bytes are the last ones there is a token

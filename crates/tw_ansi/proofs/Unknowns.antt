@@ -8,7 +8,7 @@ use Rattle.tw_input.specs.declared.key.KeyCode.{KeyCode}
 use Rattle.tw_ansi.specs.declared.token.Token.{Token}
 use Rattle.tw_ansi.specs.declared.token.Token.TheVariants.{Key, Size, Paste, Unknown}
 use Rattle.tw_ansi.specs.declared.token.Scanned.{Scanned}
-use Rattle.tw_ansi.specs.KeyBytes.{token_at, escape_at, string_at, string_of, string_before_escape, whole_string, opens_string, begins_answer, is_string_byte, control_at, ended_at, sequence_at, mouse_report, paste_at, paste_of, paste_len, application_at, application_key, application_keys, behind_escape, with_alt, character_at, control_characters, key_in, key_or, with_control, typed_at, wide_character, whole_character, following_len, replacement, scanned_as, key_token, first_number, parameters_token, is_numeric, is_parameter, is_letter}
+use Rattle.tw_ansi.specs.KeyBytes.{token_at, escape_at, alt_key, alt_key_at, second_escape_at, letter_keys, string_at, string_of, string_before_escape, whole_string, opens_string, begins_answer, is_string_byte, control_at, ended_at, sequence_at, mouse_report, paste_at, paste_of, paste_len, application_at, application_key, application_keys, behind_escape, with_alt, character_at, control_characters, key_in, key_or, with_control, typed_at, wide_character, whole_character, following_len, replacement, scanned_as, key_token, first_number, parameters_token, is_numeric, is_parameter, is_letter}
 use Rattle.tw_ansi.specs.KeyLaws.{IsControlSequence, IsControlString, IsMouseReport, UnknownSequences}
 
 -- a token that is known
@@ -222,10 +222,19 @@ module _ (opening : ℕ) (opens : opens_string opening ≡ true) where
       (string_of_only l (take k bytes) (drop k bytes) (front_all is_string_byte bytes)) in
       only_if _ (begins_answer b) _ _ (λ yes. subst (λ n. OnlyUnknown (27 ∷ opening ∷ bytes) (string_of l (2 + n) (drop k bytes))) count split) (λ no. known _ _ key)
 
+alt_key_known : (l : Bool) (rows : List (ℕ × KeyCode)) (bytes : List ℕ) → Known (alt_key_at l rows bytes)
+alt_key_known l rows [] = known_if l _ _ key waits
+alt_key_known l rows (b ∷ bytes) = elim (key_in rows b) as (λ o. Known (alt_key o)) [ Some code ↦ key | None ↦ key ]
+
+second_escape_known : (l : Bool) (bytes : List ℕ) → Known (second_escape_at l bytes)
+second_escape_known l [] = known_if l _ _ key waits
+second_escape_known l (b ∷ bytes) =
+    known_if _ _ _ (alt_key_known l letter_keys bytes) (known_if _ _ _ (alt_key_known l application_keys bytes) key)
+
 escape_only : (l : Bool) (b : ℕ) (bytes : List ℕ) → OnlyUnknown (27 ∷ b ∷ bytes) (escape_at l (b ∷ bytes))
 escape_only l b bytes =
     let typed : Known (behind_escape (character_at l b bytes)) = behind_known _ (character_known l b bytes) in
-    only_if _ (eqb b 27) _ _ (λ yes. known _ _ key)
+    only_if _ (eqb b 27) _ _ (λ yes. known _ _ (second_escape_known l bytes))
     (λ no. only_if _ (eqb b 91) _ _ (λ yes. subst (λ x. OnlyUnknown (27 ∷ x ∷ bytes) (control_at l bytes)) (sym (eqb-true b 91 yes)) (control_only l bytes))
     (λ no. only_if _ (eqb b 79) _ _ (λ yes. known _ _ (application_known l bytes))
     (λ no. only_if _ (opens_string b) _ _ (λ yes. string_only b yes l bytes) (λ no. known _ _ typed))))

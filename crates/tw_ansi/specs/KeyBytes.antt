@@ -280,11 +280,32 @@ string_at is_last opening [] = unless_last is_last (scanned_as (key_token (Char 
 string_at is_last opening (b ∷ bytes) =
     if begins_answer b then whole_string is_last (b ∷ bytes) else scanned_as (key_token (Char opening) alt) 2
 
+-- an ESC that stands for itself
+abbrev pub escape_alone : Option Scanned
+escape_alone = scanned_as (key_token Escape none) 1
+
+-- the key of a letter behind ESC ESC [ or ESC ESC O, with ALT, or an ESC that stands for itself
+abbrev pub alt_key : Option KeyCode → Option Scanned
+alt_key (Some key) = scanned_as (key_token key alt) 4
+alt_key None = escape_alone
+
+abbrev pub alt_key_at : Bool → KeyRows → List ℕ → Option Scanned
+alt_key_at is_last rows [] = unless_last is_last escape_alone
+alt_key_at is_last rows (letter ∷ bytes) = alt_key (key_in rows letter)
+
+-- behind ESC ESC: the bytes of an arrow or of another key with a letter, whose ALT some terminals tell so
+abbrev pub second_escape_at : Bool → List ℕ → Option Scanned
+second_escape_at is_last [] = unless_last is_last escape_alone
+second_escape_at is_last (b ∷ bytes) =
+    if eqb b 91 then alt_key_at is_last letter_keys bytes
+    else if eqb b 79 then alt_key_at is_last application_keys bytes
+    else escape_alone
+
 -- behind ESC: nothing or another ESC, a sequence, a string, or a key with ALT
 abbrev pub escape_at : Bool → List ℕ → Option Scanned
-escape_at is_last [] = scanned_as (key_token Escape none) 1
+escape_at is_last [] = escape_alone
 escape_at is_last (b ∷ bytes) =
-    if eqb b 27 then scanned_as (key_token Escape none) 1
+    if eqb b 27 then second_escape_at is_last bytes
     else if eqb b 91 then control_at is_last bytes
     else if eqb b 79 then application_at is_last bytes
     else if opens_string b then string_at is_last b bytes

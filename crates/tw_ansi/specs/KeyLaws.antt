@@ -9,7 +9,7 @@ use Rattle.tw_input.specs.Modifiers.{none, shift, alt, ctrl}
 use Rattle.tw_ansi.specs.declared.token.Token.{Token}
 use Rattle.tw_ansi.specs.declared.token.Token.TheVariants.{Size, Paste, Unknown}
 use Rattle.tw_ansi.specs.declared.token.Scanned.{Scanned}
-use Rattle.tw_ansi.specs.KeyBytes.{token_at, scanned_as, key_token, behind_escape, key_in, control_characters, application_keys, letter_keys, number_keys, most, paste_end, replacement, following_len, is_continuation, is_parameter, is_numeric, is_letter, opens_string, begins_answer, is_string_byte, unless_last}
+use Rattle.tw_ansi.specs.KeyBytes.{token_at, escape_alone, scanned_as, key_token, behind_escape, key_in, control_characters, application_keys, letter_keys, number_keys, most, paste_end, replacement, following_len, is_continuation, is_parameter, is_numeric, is_letter, opens_string, begins_answer, is_string_byte, unless_last}
 use Rattle.tw_ansi.specs.Sequences.{sequence}
 
 -- an ESC alone is Escape, and may begin another key where bytes follow
@@ -45,9 +45,26 @@ PrintableKeys = (b : ℕ) → 32 ≤ b → b < 127 → IsTyped (b ∷ []) (Char 
 abbrev pub EscapeKey : Type 0
 EscapeKey = (is_last : Bool) → token_at is_last lone_escape ≡ scanned_as (key_token Escape none) 1
 
--- ESC before another ESC
+-- these bytes begin with an ESC that stands for itself, whatever follows
+abbrev pub IsEscape : List ℕ → Type 0
+IsEscape bytes = (is_last : Bool) (rest : List ℕ) → token_at is_last (bytes ++ rest) ≡ escape_alone
+
+-- ESC before another ESC, but for the bytes of a key that has a letter
 abbrev pub EscapePair : Type 0
-EscapePair = (is_last : Bool) (rest : List ℕ) → token_at is_last (27 ∷ 27 ∷ rest) ≡ scanned_as (key_token Escape none) 1
+EscapePair = ((b : ℕ) → b ≢ 91 → b ≢ 79 → IsEscape (27 ∷ 27 ∷ b ∷ []))
+    × ((b : ℕ) → key_in letter_keys b ≡ None → IsEscape (27 ∷ 27 ∷ 91 ∷ b ∷ []))
+    × ((b : ℕ) → key_in application_keys b ≡ None → IsEscape (27 ∷ 27 ∷ 79 ∷ b ∷ []))
+
+-- and where nothing follows
+abbrev pub EscapesAtTheEnd : Type 0
+EscapesAtTheEnd = (token_at true (27 ∷ 27 ∷ []) ≡ escape_alone)
+    × (token_at true (27 ∷ 27 ∷ 91 ∷ []) ≡ escape_alone)
+    × (token_at true (27 ∷ 27 ∷ 79 ∷ []) ≡ escape_alone)
+
+-- ESC before the bytes of a key that has a letter is ALT with it
+abbrev pub AltLetterKeys : Type 0
+AltLetterKeys = AllByRecursion (λ row. IsTyped (27 ∷ 27 ∷ 91 ∷ row.0 ∷ []) row.1 alt) letter_keys
+    × AllByRecursion (λ row. IsTyped (27 ∷ 27 ∷ 79 ∷ row.0 ∷ []) row.1 alt) application_keys
 
 -- ESC before a key's bytes that begin no sequence with it is ALT
 abbrev pub AltKeys : Type 0

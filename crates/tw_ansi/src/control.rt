@@ -90,7 +90,7 @@ fn told_modifiers(number: u32) -> Modifiers
 }
 
 /// The key of a sequence that ends in a letter.
-fn letter_key(letter: u8) -> Option<KeyCode>
+pub fn letter_key(letter: u8) -> Option<KeyCode>
     ensures { result ≡ key_in letter_keys letter }
 {
     Some(match letter {

@@ -1,10 +1,10 @@
 //! What the bytes from a terminal say.
 
 ghost use Rattle.std.specs.Prelude.{◌≡◌, ◌+◌, ◌<◌, ◌≤◌, length, true, IfSome, IsSome};
-ghost use Rattle.tw_ansi.specs.KeyBytes.{token_at, escape_at, application_at, application_keys, key_in};
+ghost use Rattle.tw_ansi.specs.KeyBytes.{token_at, escape_alone, second_escape_at, escape_at, application_at, application_keys, key_in};
 
 use crate::characters::character_at;
-use crate::control::control_at;
+use crate::control::{control_at, letter_key};
 use crate::strings::string_at;
 use crate::token::{Scanned, key, with_alt};
 use tw_input::{KeyCode, Modifiers};
@@ -34,12 +34,36 @@ pub fn token_at(bytes: &[u8], is_last: bool) -> Option<Scanned>
     }
 }
 
+/// An ESC that stands for itself.
+fn escape_alone() -> Option<Scanned>
+    ensures { result ≡ escape_alone }
+{
+    key(KeyCode::Escape, Modifiers::NONE, 1)
+}
+
+/// What stands behind ESC ESC: the bytes of a key that has a letter, which is told with ALT so.
+fn second_escape_at(bytes: &[u8], is_last: bool) -> Option<Scanned>
+    ensures { result ≡ second_escape_at is_last bytes.now }
+{
+    let code = match bytes {
+        [] | [b'['] | [b'O'] if !is_last => return None,
+        [b'[', letter, ..] => letter_key(*letter),
+        [b'O', letter, ..] => application_key(*letter),
+        _ => None,
+    };
+    match code {
+        Some(code) => key(code, Modifiers::ALT, 4),
+        None => escape_alone(),
+    }
+}
+
 /// What stands behind an ESC.
 fn escape_at(bytes: &[u8], is_last: bool) -> Option<Scanned>
     ensures { result ≡ escape_at is_last bytes.now }
 {
     match bytes {
-        [] | [ESC, ..] => key(KeyCode::Escape, Modifiers::NONE, 1),
+        [] => escape_alone(),
+        [ESC, rest @ ..] => second_escape_at(rest, is_last),
         [b'[', rest @ ..] => control_at(rest, is_last),
         [b'O', rest @ ..] => application_at(rest, is_last),
         [opening @ (b']' | b'P'), rest @ ..] => string_at(*opening, rest, is_last),

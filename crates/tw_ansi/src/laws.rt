@@ -8,7 +8,7 @@ ghost use Rattle.tw_ansi.specs.EcmaLaws.{AttributeIsSelected, AttributesAreSelec
 ghost use Rattle.tw_ansi.specs.EcmaTexts.{PlainTextIsShown};
 ghost use Rattle.tw_ansi.specs.EcmaBatches.{Follows, FirstIsShown, ChangeIsShown, BatchIsShown};
 ghost use Rattle.tw_ansi.specs.EcmaPaintings.{PaintingIsSendable, RepaintingIsSendable, ClosingIsSendable, PaintingKnowsColor, RunIsSendable, BatchesAreShown};
-ghost use Rattle.tw_ansi.specs.KeyLaws.{StaysFound, TakesBytes, EndsWithToken, PrintableKeys, CharacterKeys, AltCharacterKeys, EscapeKey, EscapePair, AltKeys, AltOpenings, ControlKeys, ControlLetters, ApplicationKeys, LetterKeys, HeldLetterKeys, NumberKeys, HeldNumberKeys, BackTab, CursorReports, SizeReports, PastedTexts, UnknownSequences, MouseReports, OpenMouseReports, EndedStrings, CutStrings, OpenStrings, LostBytes, LoneBytes, CutCharacters, WaitsForCharacter};
+ghost use Rattle.tw_ansi.specs.KeyLaws.{StaysFound, TakesBytes, EndsWithToken, PrintableKeys, CharacterKeys, AltCharacterKeys, EscapeKey, EscapePair, EscapesAtTheEnd, AltLetterKeys, AltKeys, AltOpenings, ControlKeys, ControlLetters, ApplicationKeys, LetterKeys, HeldLetterKeys, NumberKeys, HeldNumberKeys, BackTab, CursorReports, SizeReports, PastedTexts, UnknownSequences, MouseReports, OpenMouseReports, EndedStrings, CutStrings, OpenStrings, LostBytes, LoneBytes, CutCharacters, WaitsForCharacter};
 
 use crate::encode::Encoder;
 use crate::resume::Progress;
@@ -38,10 +38,12 @@ pub fn pieces()
 {}
 
 /// A key's bytes give that key, and are taken whole, whatever bytes follow.
-#[tactic(auto, using(crate::proofs::Keys::escape_key, crate::proofs::Keys::escape_pair, crate::proofs::Keys::back_tab, crate::proofs::Keys::control_keys, crate::proofs::Keys::application_keys_typed, crate::proofs::Keys::letter_keys_typed, crate::proofs::Keys::number_keys_typed, crate::proofs::Keys::alt_keys, crate::proofs::Keys::printable_keys, crate::proofs::WideCharacters::character_keys, crate::proofs::WideCharacters::alt_character_keys, crate::proofs::Keys::control_letters, crate::proofs::Keys::held_letter_keys, crate::proofs::Keys::held_number_keys))]
+#[tactic(auto, using(crate::proofs::Keys::escape_key, crate::proofs::Keys::escape_pair, crate::proofs::Keys::escapes_at_the_end, crate::proofs::Keys::alt_letter_keys, crate::proofs::Keys::back_tab, crate::proofs::Keys::control_keys, crate::proofs::Keys::application_keys_typed, crate::proofs::Keys::letter_keys_typed, crate::proofs::Keys::number_keys_typed, crate::proofs::Keys::alt_keys, crate::proofs::Keys::printable_keys, crate::proofs::WideCharacters::character_keys, crate::proofs::WideCharacters::alt_character_keys, crate::proofs::Keys::control_letters, crate::proofs::Keys::held_letter_keys, crate::proofs::Keys::held_number_keys))]
 pub fn keys()
     ensures escape { EscapeKey }
     ensures two_escapes { EscapePair }
+    ensures last_escapes { EscapesAtTheEnd }
+    ensures alt_letters { AltLetterKeys }
     ensures back_tab { BackTab }
     ensures alt { AltKeys }
     ensures alt_openings { AltOpenings }

@@ -11,7 +11,7 @@ use Rattle.tw_input.specs.declared.key.KeyCode.TheVariants.{Char, Escape, Tab}
 use Rattle.tw_ansi.specs.declared.token.Token.{Token}
 use Rattle.tw_ansi.specs.declared.token.Token.TheVariants.{Key, Size, Paste, Unknown}
 use Rattle.tw_ansi.specs.declared.token.Scanned.{Scanned}
-use Rattle.tw_ansi.specs.KeyBytes.{token_at, escape_at, string_at, string_of, string_before_escape, opens_string, begins_answer, is_string_byte, control_at, ended_at, sequence_at, mouse_report, paste_of, paste_len, application_at, application_key, application_keys, behind_escape, with_alt, character_at, control_characters, key_in, key_or, key_or_unknown, with_control, typed_at, wide_character, whole_character, following_len, replacement, scanned_as, key_token, code_of, first_number, second_number, third_number, numbers_token, size_token, parameters_token, sequence_key, is_parameter, is_numeric, is_letter, is_continuation, told_bits}
+use Rattle.tw_ansi.specs.KeyBytes.{token_at, escape_at, escape_alone, alt_key, alt_key_at, second_escape_at, letter_keys, string_at, string_of, string_before_escape, opens_string, begins_answer, is_string_byte, control_at, ended_at, sequence_at, mouse_report, paste_of, paste_len, application_at, application_key, application_keys, behind_escape, with_alt, character_at, control_characters, key_in, key_or, key_or_unknown, with_control, typed_at, wide_character, whole_character, following_len, replacement, scanned_as, key_token, code_of, first_number, second_number, third_number, numbers_token, size_token, parameters_token, sequence_key, is_parameter, is_numeric, is_letter, is_continuation, told_bits}
 use Rattle.tw_ansi.proofs.Pieces.{stays_found}
 use Rattle.tw_ansi.proofs.Tokens.{takes_bytes}
 use Rattle.tw_device.specs.Told.{token_events, pasted_text}
@@ -139,12 +139,26 @@ string_inside l opening (b ∷ bytes) =
     let len = prefix_len is_string_byte (b ∷ bytes) in
     either (begins_answer b) _ _ (string_of_inside l (2 + len) (drop len (b ∷ bytes))) (key_inside (Char opening) alt 2)
 
+alt_key_inside : (l : Bool) (rows : List (ℕ × KeyCode)) (bytes : List ℕ) → IsInside (alt_key_at l rows bytes)
+alt_key_inside l rows [] = either l escape_alone None (key_inside Escape none 1) nothing
+alt_key_inside l rows (b ∷ bytes) = by_key (key_in rows b)
+  where
+    by_key : (o : Option KeyCode) → IsInside (alt_key o)
+    by_key (Some key) = key_inside key alt 4
+    by_key None = key_inside Escape none 1
+
+second_escape_inside : (l : Bool) (bytes : List ℕ) → IsInside (second_escape_at l bytes)
+second_escape_inside l [] = either l escape_alone None (key_inside Escape none 1) nothing
+second_escape_inside l (b ∷ bytes) =
+    either (eqb b 91) _ _ (alt_key_inside l letter_keys bytes)
+    (either (eqb b 79) _ _ (alt_key_inside l application_keys bytes) (key_inside Escape none 1))
+
 escape_inside : (l : Bool) (bytes : List ℕ) → IsInside (escape_at l bytes)
 escape_inside l [] = key_inside Escape none 1
 escape_inside l (b ∷ bytes) =
     let control : IsInside (control_at l bytes) = ended_inside l (take (prefix_len is_parameter bytes) bytes) (drop (prefix_len is_parameter bytes) bytes) in
     let typed : IsInside (behind_escape (character_at l b bytes)) = behind_inside (character_at l b bytes) (character_inside l b bytes) in
-    either (eqb b 27) _ _ (key_inside Escape none 1) (either (eqb b 91) _ _ control (either (eqb b 79) _ _ (application_inside l bytes) (either (opens_string b) _ _ (string_inside l b bytes) typed)))
+    either (eqb b 27) _ _ (second_escape_inside l bytes) (either (eqb b 91) _ _ control (either (eqb b 79) _ _ (application_inside l bytes) (either (opens_string b) _ _ (string_inside l b bytes) typed)))
 
 token_at_inside : (l : Bool) (bytes : List ℕ) → IsInside (token_at l bytes)
 unfolding token_at
