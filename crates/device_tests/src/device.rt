@@ -214,9 +214,17 @@ fn what_a_terminal_answers_is_not_typed(rt: HostRuntime) {
     let name = b"a\x1bP>|XTerm(390)\x1b\\b\x1bP!|00000000\x1b\\c\r";
     for step in 1..32 {
         let answer = waiting_line_of(rt.alloc(), color, step);
-        assert_eq!(rt; shown(&answer), ("line", "abc"), "a colour in pieces of {step}");
+        assert_eq!(rt;
+            shown(&answer),
+            ("line", "abc"),
+            "a colour in pieces of {step}"
+        );
         let answer = waiting_line_of(rt.alloc(), name, step);
-        assert_eq!(rt; shown(&answer), ("line", "abc"), "a name in pieces of {step}");
+        assert_eq!(rt;
+            shown(&answer),
+            ("line", "abc"),
+            "a name in pieces of {step}"
+        );
     }
 }
 
