@@ -5,7 +5,7 @@ use Rattle.std.proofs.lemmas.Bool.{cases_lt, cases_Bool, cases_eq, and_cases, an
 use Rattle.std.proofs.lemmas.List.{take-append-le, drop-append-le, take_all}
 use Rattle.std.proofs.lemmas.List.Folds.{prefix_len-append}
 use Rattle.tw_input.specs.declared.key.KeyCode.{KeyCode}
-use Rattle.tw_input.specs.declared.key.KeyCode.TheVariants.{Char, Escape}
+use Rattle.tw_input.specs.declared.key.KeyCode.TheVariants.{Char}
 use Rattle.tw_input.specs.Modifiers.{none, alt}
 use Rattle.tw_ansi.specs.declared.token.Token.TheVariants.{Unknown}
 use Rattle.tw_ansi.specs.declared.token.Scanned.{Scanned}

@@ -1,13 +1,12 @@
 -- Control strings: ESC ] or ESC P, what a terminal answers there, and its end.
-use Rattle.std.proofs.Common.{◌≡◌, ◌≢◌, ◌≤◌, ◌<◌, ◌+◌, ℕ, Bool, true, false, ◌||◌, ◌&&◌, not, cond, eqb, ltb, leb, List, [], ◌∷◌, ◌++◌, Option, Some, None, take, drop, length, length-append, drop_at, append_assoc, append-nil, arith, ap, subst, ◌∙◌, sym, refl, inl, inr, ◌⊎◌}
+use Rattle.std.proofs.Common.{◌≡◌, ◌+◌, ℕ, Bool, true, cond, eqb, List, [], ◌∷◌, ◌++◌, drop, length, length-append, drop_at, append_assoc, append-nil, arith, ap, subst, ◌∙◌, sym, refl, inl, inr, ◌⊎◌}
 use Rattle.std.specs.List.{prefix_len, list_all}
 use Rattle.std.proofs.lemmas.Bool.{and_from, eqb-true, ne_eqb, or_cases}
 use Rattle.tw_input.specs.declared.key.KeyCode.TheVariants.{Char}
 use Rattle.tw_input.specs.Modifiers.{alt}
 use Rattle.tw_ansi.specs.declared.token.Token.TheVariants.{Unknown}
-use Rattle.tw_ansi.specs.declared.token.Scanned.{Scanned}
-use Rattle.tw_ansi.specs.KeyBytes.{token_at, string_at, string_of, string_before_escape, whole_string, opens_string, begins_answer, is_string_byte, scanned_as, key_token, unless_last}
-use Rattle.tw_ansi.specs.KeyLaws.{IsTaken, AltOpenings, IsStringFront, EndedStrings, CutStrings, OpenStrings}
+use Rattle.tw_ansi.specs.KeyBytes.{token_at, string_at, string_of, string_before_escape, whole_string, opens_string, begins_answer, is_string_byte, scanned_as, key_token}
+use Rattle.tw_ansi.specs.KeyLaws.{AltOpenings, IsStringFront, EndedStrings, CutStrings, OpenStrings}
 use Rattle.tw_ansi.proofs.Reports.{prefix_all}
 
 -- what stands behind ESC ] and ESC P

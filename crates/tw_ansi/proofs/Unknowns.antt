@@ -8,7 +8,7 @@ use Rattle.tw_input.specs.declared.key.KeyCode.{KeyCode}
 use Rattle.tw_ansi.specs.declared.token.Token.{Token}
 use Rattle.tw_ansi.specs.declared.token.Token.TheVariants.{Key, Size, Paste, Unknown}
 use Rattle.tw_ansi.specs.declared.token.Scanned.{Scanned}
-use Rattle.tw_ansi.specs.KeyBytes.{token_at, escape_at, alt_key, alt_key_at, second_escape_at, letter_keys, string_at, string_of, string_before_escape, whole_string, opens_string, begins_answer, is_string_byte, control_at, ended_at, sequence_at, mouse_report, paste_at, paste_of, paste_len, application_at, application_key, application_keys, behind_escape, with_alt, character_at, control_characters, key_in, key_or, with_control, typed_at, wide_character, whole_character, following_len, replacement, scanned_as, key_token, first_number, parameters_token, is_numeric, is_parameter, is_letter}
+use Rattle.tw_ansi.specs.KeyBytes.{token_at, escape_at, alt_key, alt_key_at, second_escape_at, letter_keys, string_at, string_of, string_before_escape, opens_string, begins_answer, is_string_byte, control_at, ended_at, sequence_at, mouse_report, paste_at, paste_of, paste_len, application_at, application_key, application_keys, behind_escape, with_alt, character_at, control_characters, key_in, key_or, with_control, typed_at, wide_character, whole_character, following_len, replacement, scanned_as, key_token, first_number, parameters_token, is_numeric, is_parameter, is_letter}
 use Rattle.tw_ansi.specs.KeyLaws.{IsControlSequence, IsControlString, IsMouseReport, UnknownSequences}
 
 -- a token that is known
