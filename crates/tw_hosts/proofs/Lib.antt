@@ -2,3 +2,5 @@ pub mod WordLemmas
 pub mod CompletionLemmas
 pub mod TokenLemmas
 pub mod FaithfulLemmas
+pub mod SettlingLemmas
+pub mod SettlingPieces

@@ -5,3 +5,6 @@ pub mod Bindings
 pub mod Hints
 pub mod TableRules
 pub mod FaithfulParts
+pub mod Settling
+pub mod SettlingLaws
+pub mod SettledRules

@@ -3,9 +3,12 @@
 ghost use Rattle.tw_input.specs.Equality.{ComparesValues};
 ghost use Rattle.tw_host.specs.Faithful.{IsFaithful};
 ghost use Rattle.tw_hosts.specs.FaithfulParts.{StyledIsText, TokensAreLine};
+ghost use Rattle.tw_hosts.specs.SettledRules.{PrintableIsUnchanged};
+ghost use Rattle.tw_hosts.specs.SettlingLaws.{ColumnLeadsThere, CursorIsSettled, NoOtherColumn, PrintableIsPlain, SomeColumn, WholeIsMeasured};
 ghost use Rattle.tw_hosts.specs.TableRules.{table_rules};
 
 use crate::tokens::Styles;
+use tw_host::LineEditorHost;
 
 /// `==` is equality of values.
 pub fn equality()
@@ -17,4 +20,21 @@ pub fn faithful()
     ensures styled { StyledIsText }
     ensures tokens { TokensAreLine }
     ensures tables { IsFaithful table_rules }
+{}
+
+/// The settled column leads to the cell in which the text behind the cursor begins, and no other one does. There is one
+/// behind a text without a carriage return, no piece of which is wider than the screen. In a printable line it is the
+/// plain one. Where no cluster is parted, the text before the cursor leads where the editor measures it.
+pub fn settling()
+    ensures column { ColumnLeadsThere }
+    ensures cursor { CursorIsSettled }
+    ensures only { NoOtherColumn }
+    ensures some { SomeColumn }
+    ensures printable { PrintableIsPlain }
+    ensures whole { WholeIsMeasured }
+{}
+
+/// Over a faithful host a printable line is answered as by that host, whatever the screen is said to be.
+pub fn settled_host<H: LineEditorHost>()
+    ensures { PrintableIsUnchanged H.rules }
 {}

@@ -15,7 +15,7 @@ use Rattle.tw_surface.specs.Extents.{place_of, reach, reach_all, extent_after, e
 use Rattle.tw_surface.proofs.ExtentLemmas.{sound-reach_all}
 
 -- the last place of a list of pieces
-place_of-pieces : (cols : ℕ) (ps : List Piece) (t : Extent) → place_of (reach_all t (places_after cols ps (place_of t))) ≡ end_of_pieces cols ps (place_of t)
+pub place_of-pieces : (cols : ℕ) (ps : List Piece) (t : Extent) → place_of (reach_all t (places_after cols ps (place_of t))) ≡ end_of_pieces cols ps (place_of t)
 place_of-pieces cols [] t = refl
 place_of-pieces cols (piece ∷ more) t = place_of-pieces cols more (reach t (next_place cols piece (place_of t)))
 
@@ -35,7 +35,7 @@ place_of-extent_after_all cols (change ∷ changes) t =
     place_of-extent_after_all cols changes (extent_after cols change t) ∙ ap (place_after_all cols changes) (place_of-extent_after cols change t)
 
 -- lists of places are reached one after the other
-reach_all-append : (ps qs : List Place) (t : Extent) → reach_all t (ps ++ qs) ≡ reach_all (reach_all t ps) qs
+pub reach_all-append : (ps qs : List Place) (t : Extent) → reach_all t (ps ++ qs) ≡ reach_all (reach_all t ps) qs
 reach_all-append [] qs t = refl
 reach_all-append (p ∷ ps) qs t = reach_all-append ps qs (reach t p)
 

@@ -21,10 +21,14 @@ mod sequence;
 mod size;
 
 pub use cell::{
-    AttributeChange, Blink, CellAttributes, Intensity, Underline, unicode_column_width,
+    AttributeChange, Blink, CellAttributes, Intensity, Underline, cluster_width,
+    unicode_column_width,
 };
 pub use change::{Change, Position};
+pub use characters::is_plain_text;
+pub use clusters::split_cluster;
 pub use color::ColorAttribute;
+pub use measure::{Extent, Piece, measure_text};
 pub use screen::{Screen, ScreenFault};
 pub use scrolling_screen::ScrollingScreen;
 pub use sequence::{AddFault, ChangeSequence};

@@ -31,7 +31,9 @@ pub struct Extent {
     pub x: usize,
     /// The row, counted from the row in which the sequence begins.
     pub y: isize,
+    /// The least row so far.
     pub least: isize,
+    /// The greatest row so far.
     pub greatest: isize,
 }
 
@@ -63,8 +65,8 @@ impl Extent {
         })
     }
 
-    /// The extent after a piece.
-    fn advance(self, cols: usize, piece: Piece) -> Option<Extent>
+    /// The extent after a piece, or `None` where its place is out of range.
+    pub fn advance(self, cols: usize, piece: Piece) -> Option<Extent>
         requires cols { cols ≤ 65535 }
         requires range { is_in_range (place_of self) ≡ true }
         ensures { Measures self (next_place cols piece (place_of self) ∷ []) result }
@@ -98,7 +100,7 @@ impl Piece {
     }
 
     /// A grapheme cluster of any other text.
-    fn of_cluster(cluster: &str) -> Piece
+    pub fn of_cluster(cluster: &str) -> Piece
         ensures { result ≡ cluster_piece cluster.now }
     {
         match cluster.as_bytes() {

@@ -1,0 +1,278 @@
+//! The column of the cursor on a screen whose edge wide characters do not meet.
+//!
+//! A wide character that does not fit into the last column leaves it empty and begins the next row. The editor finds
+//! the cursor's cell by division, which knows nothing of such a hole. Who knows the screen's columns and the prompt
+//! counts the holes in.
+
+ghost use Rattle.std.specs.Prelude.{◌≡◌, ◌≤◌, ◌-ℤ◌, [], ◌∷◌, chars, MatchOption, IsCharBoundary, nat_abs, true, false};
+ghost use Rattle.std.specs.List.{list_all};
+ghost use Rattle.tw_surface.specs.Extents.{place_of, Measures};
+ghost use Rattle.tw_surface.specs.Places.{is_in_range, origin, pieces, places_after};
+ghost use Rattle.tw_surface.specs.Positions.{at_least_0};
+ghost use Rattle.tw_input.specs.EventView.{event_view};
+ghost use Rattle.tw_line.specs.Cut.{cut_at};
+ghost use Rattle.tw_hosts.specs.Settling.{char_columns, character_pieces, is_parted, cell_pieces, settled_pieces, needed, needed_by_text, begins_at, columns_between, is_ahead, is_measured, is_settled, line_start, place_after_text, settled_column, settled_place};
+ghost use Rattle.tw_hosts.specs.SettledRules.{column_on, screen_after, screen_view};
+
+use tw_input::InputEvent;
+use tw_surface::{
+    Extent, Piece, cluster_width, is_plain_text, measure_text, split_cluster, unicode_column_width,
+};
+use unicode_width::UnicodeWidthChar;
+
+/// What is known of a screen: its columns, and the prompt before the line. Where either is not what is shown, the
+/// cursor of a line with wide characters may stand too far left or right; that of a printable line never does.
+#[derive(Debug, Drop)]
+pub struct PromptScreen {
+    /// The columns, as the terminal tells them.
+    pub cols: usize,
+    /// The prompt, as it is shown.
+    pub prompt: String,
+}
+
+impl PromptScreen {
+    /// The column to answer for the cursor, which is a boundary of the line: see `settled_column`. It takes no memory.
+    pub fn column(&self, line: &str, cursor: usize) -> usize
+        requires { IsCharBoundary line.now cursor }
+        ensures { result ≡ column_on (screen_view self.now) (cut_at line.now cursor) }
+    {
+        settled_column(self.cols, self.prompt.as_str(), line, cursor)
+    }
+
+    /// Takes the columns that an event tells. It is for a host's `resolve_action`.
+    pub fn resize(&mut self, event: &InputEvent)
+        ensures { screen_view self.new ≡ screen_after (event_view event.now) (screen_view self.old) }
+    {
+        if let InputEvent::Resized { cols, .. } = event {
+            self.cols = *cols;
+        }
+    }
+}
+
+/// The columns of a character by itself: none for a control character.
+fn char_columns(c: char) -> usize
+    ensures value { result ≡ char_columns c }
+{
+    c.width().unwrap_or(0)
+}
+
+/// Whether several characters of a cluster take columns, and together as many as it.
+fn is_parted(cluster: &str) -> bool
+    ensures { result ≡ is_parted cluster.now }
+{
+    let width = cluster_width(cluster);
+    let mut left = width;
+    for c in cluster.chars() {
+        let own = char_columns(c);
+        if own == width || own > left {
+            return false;
+        }
+        left -= own;
+    }
+    left == 0
+}
+
+/// The extent after the characters of a text that take columns, each by itself.
+fn after_characters(cols: usize, start: Extent, text: &str) -> Option<Extent>
+    requires cols { cols ≤ 65535 }
+    requires range { is_in_range (place_of start) ≡ true }
+    ensures { Measures start (places_after cols (character_pieces (chars text.now)) (place_of start)) result }
+{
+    let mut extent = start;
+    for c in text.chars() {
+        let width = char_columns(c);
+        if width > 0 {
+            extent = extent.advance(cols, Piece::Wide(width))?;
+        }
+    }
+    Some(extent)
+}
+
+/// The extent after a cluster.
+fn after_cluster(cols: usize, start: Extent, cluster: &str) -> Option<Extent>
+    requires cols { cols ≤ 65535 }
+    requires range { is_in_range (place_of start) ≡ true }
+    ensures { Measures start (places_after cols (cell_pieces cluster.now) (place_of start)) result }
+{
+    if is_parted(cluster) {
+        after_characters(cols, start, cluster)
+    } else {
+        start.advance(cols, Piece::of_cluster(cluster))
+    }
+}
+
+/// The extent after a text, or `None` where a place on the way is out of range.
+#[tactic(auto, unfolding(crate::specs::Settling::settled_pieces, tw_surface::specs::Places::pieces))]
+fn after_pieces(cols: usize, start: Extent, text: &str) -> Option<Extent>
+    requires cols { cols ≤ 65535 }
+    requires range { is_in_range (place_of start) ≡ true }
+    ensures { Measures start (places_after cols (settled_pieces text.now) (place_of start)) result }
+{
+    if is_plain_text(text.as_bytes()) {
+        return measure_text(cols, start, text);
+    }
+    let mut extent = start;
+    let mut rest = text;
+    while let Some((cluster, more)) = split_cluster(rest) {
+        extent = after_cluster(cols, extent, cluster)?;
+        rest = more;
+    }
+    Some(extent)
+}
+
+/// The columns that the first character needs which takes some, and 1 where none does.
+fn needed_by_characters(text: &str) -> usize
+    ensures { result ≡ needed (character_pieces (chars text.now)) }
+{
+    for c in text.chars() {
+        let width = char_columns(c);
+        if width > 0 {
+            return width;
+        }
+    }
+    1
+}
+
+/// The columns that the first piece of a cluster needs: one at least, for the cursor itself.
+fn needed_by_cluster(cluster: &str) -> usize
+    ensures { result ≡ needed (cell_pieces cluster.now) }
+{
+    if is_parted(cluster) {
+        return needed_by_characters(cluster);
+    }
+    match Piece::of_cluster(cluster) {
+        Piece::Wide(width) => width.max(1),
+        Piece::Cr | Piece::Lf | Piece::CrLf => 1,
+    }
+}
+
+/// The columns that the beginning of a text needs.
+#[tactic(auto, unfolding(crate::specs::Settling::needed_by_text))]
+fn needed_by_text(text: &str) -> usize
+    ensures { result ≡ needed_by_text text.now }
+{
+    if is_plain_text(text.as_bytes()) {
+        return 1;
+    }
+    match split_cluster(text) {
+        Some((cluster, _)) => needed_by_cluster(cluster),
+        None => 1,
+    }
+}
+
+/// The cell in which something of so many columns begins behind a place.
+fn begins_at(cols: usize, width: usize, end: Extent) -> (usize, isize)
+    requires cols { cols ≤ 65535 }
+    requires range { is_in_range (place_of end) ≡ true }
+    ensures { record { x = result.0; y = result.1 } ≡ begins_at cols width (place_of end) }
+{
+    if end.x.saturating_add(width) <= cols {
+        (end.x, end.y)
+    } else {
+        (0, end.y + 1)
+    }
+}
+
+/// How many rows a row is below another one.
+#[tactic(auto, using(crate::proofs::SettlingLemmas::no_row, crate::proofs::SettlingLemmas::some_rows))]
+fn rows_down(from: isize, to: isize) -> usize
+    requires from { nat_abs from ≤ 2147483647 }
+    requires to { nat_abs to ≤ 2147483648 }
+    ensures value { result ≡ at_least_0 (to -ℤ from) }
+    ensures bound { result ≤ 4294967295 }
+{
+    if to < from { 0 } else { (to - from) as usize }
+}
+
+/// The columns from a place to a cell by division, or `None` where the cell is before it.
+fn columns_between(cols: usize, start: Extent, cell: (usize, isize)) -> Option<usize>
+    requires cols { cols ≤ 65535 }
+    requires range { is_in_range (place_of start) ≡ true }
+    requires col { cell.0 ≤ 65535 }
+    requires row { nat_abs cell.1 ≤ 2147483648 }
+    ensures { MatchOption result
+        (is_ahead cols (place_of start) (record { x = cell.0; y = cell.1 }) ≡ false)
+        (λ columns. (is_ahead cols (place_of start) (record { x = cell.0; y = cell.1 }) ≡ true)
+        × (columns ≡ columns_between cols (place_of start) (record { x = cell.0; y = cell.1 }))) }
+{
+    let reach = rows_down(start.y, cell.1) * cols + cell.0;
+    if start.x <= reach {
+        Some(reach - start.x)
+    } else {
+        None
+    }
+}
+
+/// Where the prompt ends, or `None` where a place on the way is out of range.
+#[tactic(auto, using(crate::proofs::SettlingLemmas::prompt_end))]
+fn after_prompt(cols: usize, prompt: &str) -> Option<Extent>
+    requires cols { cols ≤ 65535 }
+    ensures { MatchOption result
+        (list_all is_in_range (places_after cols (pieces prompt.now) origin) ≡ false)
+        (λ end. (list_all is_in_range (places_after cols (pieces prompt.now) origin) ≡ true)
+        × (place_of end ≡ line_start cols prompt.now)
+        × (is_in_range (place_of end) ≡ true)) }
+{
+    measure_text(cols, Extent::start(), prompt)
+}
+
+/// Where the text before the cursor ends, or `None` where a place on the way is out of range.
+#[tactic(auto, using(crate::proofs::SettlingLemmas::text_end))]
+fn after_text(cols: usize, start: Extent, text: &str) -> Option<Extent>
+    requires cols { cols ≤ 65535 }
+    requires range { is_in_range (place_of start) ≡ true }
+    ensures { MatchOption result
+        (list_all is_in_range (places_after cols (settled_pieces text.now) (place_of start)) ≡ false)
+        (λ end. (list_all is_in_range (places_after cols (settled_pieces text.now) (place_of start)) ≡ true)
+        × (place_of end ≡ place_after_text cols text.now (place_of start))
+        × (is_in_range (place_of end) ≡ true)) }
+{
+    after_pieces(cols, start, text)
+}
+
+/// Where the line begins and where the text before its cursor ends, or `None` where a place on the way is out of range
+/// or no screen has such columns.
+fn measured(cols: usize, prompt: &str, before: &str) -> Option<(Extent, Extent)>
+    ensures { MatchOption result
+        (is_measured cols prompt.now before.now ≡ false)
+        (λ ends. (is_measured cols prompt.now before.now ≡ true)
+        × (place_of ends.0 ≡ line_start cols prompt.now)
+        × (place_of ends.1 ≡ place_after_text cols before.now (line_start cols prompt.now))
+        × (is_in_range (place_of ends.0) ≡ true) × (is_in_range (place_of ends.1) ≡ true)) }
+{
+    if cols == 0 || cols > 65_535 {
+        return None;
+    }
+    let start = after_prompt(cols, prompt)?;
+    let end = after_text(cols, start, before)?;
+    Some((start, end))
+}
+
+/// The column that leads to the cell of the cursor, or `None` where none does.
+fn settled(cols: usize, prompt: &str, line: &str, cursor: usize) -> Option<usize>
+    requires { IsCharBoundary line.now cursor }
+    ensures { MatchOption result
+        (is_settled cols prompt.now (cut_at line.now cursor) ≡ false)
+        (λ column. (is_settled cols prompt.now (cut_at line.now cursor) ≡ true)
+        × (column ≡ columns_between cols (line_start cols prompt.now) (settled_place cols prompt.now (cut_at line.now cursor)))) }
+{
+    let (before, rest) = line.split_at(cursor);
+    let (start, end) = measured(cols, prompt, before)?;
+    if start.x > cols {
+        return None;
+    }
+    columns_between(cols, start, begins_at(cols, needed_by_text(rest), end))
+}
+
+/// The column to answer for the cursor, which is a boundary of the line, behind this prompt on a screen of so many
+/// columns: the one by which the editor finds the cell in which the text behind the cursor begins. Where no column
+/// leads there, as behind a carriage return, it is the plain one. It takes no memory.
+pub fn settled_column(cols: usize, prompt: &str, line: &str, cursor: usize) -> usize
+    requires { IsCharBoundary line.now cursor }
+    ensures { result ≡ settled_column cols prompt.now (cut_at line.now cursor) }
+{
+    match settled(cols, prompt, line, cursor) {
+        Some(column) => column,
+        None => unicode_column_width(&line[..cursor]),
+    }
+}
