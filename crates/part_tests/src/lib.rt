@@ -14,4 +14,6 @@ mod line;
 #[cfg(test)]
 mod painter;
 #[cfg(test)]
+mod settling;
+#[cfg(test)]
 mod terminal;

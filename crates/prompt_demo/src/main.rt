@@ -19,11 +19,15 @@ use std::io::{Read, Write};
 use std::time::Clock;
 use tables::tables;
 use tw_device::{AnsiTerminal, Answer, read_line_from};
+use tw_hosts::{PromptScreen, SettledHost};
 use tw_lineedit::{BoundedHistory, Error, LineEditorHost};
 use tw_terminal::ScreenSize;
 
 /// How many lines the history keeps.
 const LINES_KEPT: usize = 100;
+
+/// What stands before the line.
+const PROMPT: &str = "> ";
 
 /// What a terminal is sent at first: it is to mark pasted texts, and to tell its size by itself where that changes.
 const BEGIN: &str = "\x1b[?2004h\x1b[?2048h";
@@ -37,7 +41,7 @@ struct Prompt<R, C, W> {
     alloc: Global,
     events: PromptEvents<R, C>,
     terminal: AnsiTerminal<W>,
-    host: PromptHost,
+    host: SettledHost<PromptHost>,
 }
 
 impl<R: Read, C: Clock, W: Write> Prompt<R, C, W> {
@@ -60,7 +64,7 @@ impl<R: Read, C: Clock, W: Write> Prompt<R, C, W> {
             &mut self.events,
             &mut self.terminal,
             &mut self.host,
-            "> ",
+            PROMPT,
         );
         match answer {
             Ok(Answer::Line(line)) => self.obey(line.as_str()),
@@ -105,10 +109,16 @@ fn main(rt: HostRuntime) -> Result<(), anyhow::Error> {
         alloc,
         events: PromptEvents::new(alloc, rt.stdin(), rt),
         terminal: AnsiTerminal::new(alloc, rt.stdout(), size),
-        host: PromptHost::new(
-            tables(alloc)?,
-            BoundedHistory::with_limit(alloc, LINES_KEPT),
-        ),
+        host: SettledHost {
+            host: PromptHost::new(
+                tables(alloc)?,
+                BoundedHistory::with_limit(alloc, LINES_KEPT),
+            ),
+            screen: PromptScreen {
+                cols: size.cols,
+                prompt: String::from_str(alloc, PROMPT)?,
+            },
+        },
     };
     prompt.run()
 }
