@@ -1,4 +1,4 @@
-//! Control strings: ESC ] or ESC P, and what a terminal answers there, up to BEL or ESC \\.
+//! Control strings: ESC ] or ESC P, and what a terminal answers there, up to BEL or ESC and a backslash.
 
 ghost use Rattle.std.specs.Prelude.{◌≡◌, ◌+◌, ◌<◌, ◌≤◌, ◌^◌, length};
 ghost use Rattle.std.specs.List.{prefix_len};
@@ -59,7 +59,8 @@ fn string(used: usize) -> Option<Scanned>
     })
 }
 
-/// A string of so many bytes, by what stands behind them: BEL ends it, and so does ESC \, and no other byte is taken.
+/// A string of so many bytes, by what stands behind them: BEL ends it, and so do ESC and a backslash. No other byte is
+/// taken.
 pub fn string_of(used: usize, bytes: &[u8], is_last: bool) -> Option<Scanned>
     requires { used + 2 < 2 ^ 64 }
     ensures { result ≡ string_of is_last used bytes.now }
