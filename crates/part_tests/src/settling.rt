@@ -29,7 +29,10 @@ fn cells_that_wide_characters_leave_empty_are_counted(rt: HostRuntime) -> Result
         (4, "e\u{301}\u{65e5}", 3, 2),
         (4, "e\u{301}\u{65e5}", 6, 4),
     ] {
-        assert!(rt; is_column(cols, line, cursor, column), "{cols} {line:?} {cursor}");
+        assert!(rt;
+            is_column(cols, line, cursor, column),
+            "{cols} {line:?} {cursor}"
+        );
     }
     Ok(())
 }
@@ -60,7 +63,10 @@ fn without_an_edge_the_column_is_the_plain_one(rt: HostRuntime) -> Result<(), Fa
         // Behind the carriage return the cell stands before the line.
         (4, "a\r\u{e9}", 4, 3),
     ] {
-        assert!(rt; is_column(cols, line, cursor, column), "{cols} {line:?} {cursor}");
+        assert!(rt;
+            is_column(cols, line, cursor, column),
+            "{cols} {line:?} {cursor}"
+        );
     }
     Ok(())
 }
@@ -76,10 +82,16 @@ fn a_settled_host_hears_a_new_size(rt: HostRuntime) -> Result<(), Fail> {
         host: NopLineEditorHost::new(alloc),
         screen,
     };
-    assert_eq!(rt; host.highlight_line(alloc, "\u{65e5}\u{672c}\u{8a9e}", 9)?.1, 6);
+    assert_eq!(rt;
+        host.highlight_line(alloc, "\u{65e5}\u{672c}\u{8a9e}", 9)?.1,
+        6
+    );
     let mut line = LineEditBuffer::new(alloc, "\u{65e5}", 0)?;
     let event = InputEvent::Resized { cols: 7, rows: 9 };
     assert!(rt; host.resolve_action(alloc, &event, &mut line)?.is_none());
-    assert_eq!(rt; host.highlight_line(alloc, "\u{65e5}\u{672c}\u{8a9e}", 9)?.1, 7);
+    assert_eq!(rt;
+        host.highlight_line(alloc, "\u{65e5}\u{672c}\u{8a9e}", 9)?.1,
+        7
+    );
     Ok(())
 }

@@ -1,5 +1,5 @@
 -- Where texts lead, and the column that leads to a cell by division.
-use Rattle.std.proofs.Common.{◌≡◌, ℕ, zero, suc, ℤ, pos, negsuc, ◌+ℤ◌, ◌-ℤ◌, ◌≤ℤ◌, ◌<ℤ◌, ◌+◌, ◌*◌, ◌/◌, ◌%◌, ◌<◌, ◌≤◌, Bool, true, false, ◌&&◌, ◌==◌, leb, nat_abs, if◌then◌else◌, List, [], ◌∷◌, length, map, replicate, take, drop, refl, ap, sym, ◌∙◌, arith}
+use Rattle.std.proofs.Common.{◌≡◌, ℕ, zero, suc, ℤ, pos, negsuc, ◌+ℤ◌, ◌-ℤ◌, ◌≤ℤ◌, ◌<ℤ◌, ◌+◌, ◌*◌, ◌/◌, ◌%◌, ◌<◌, ◌≤◌, Bool, true, false, ◌&&◌, leb, nat_abs, if◌then◌else◌, List, [], ◌∷◌, length, replicate, take, drop, refl, ap, sym, ◌∙◌, arith}
 use Rattle.std.specs.List.{list_all}
 use Rattle.std.proofs.lemmas.Bool.{and_parts, leb-true, leb-false, le-leb, ne_eqb, true≢false}
 use Rattle.std.proofs.lemmas.Bool.{and_from}
@@ -16,7 +16,7 @@ use Rattle.tw_surface.specs.Positions.{at_least_0}
 use Rattle.tw_surface.proofs.DrawingLemmas.{place_of-pieces}
 use Rattle.tw_surface.proofs.RowLemmas.{printable_pieces}
 use Rattle.tw_surface.specs.Width.{column_width}
-use Rattle.tw_hosts.specs.Settling.{char_columns, character_pieces, cell_pieces, settled_pieces, place_after_text, needed, needed_by_first, needed_by_text, begins_at, rows_between, columns_between, line_start, settled_place, settled_column, is_settled, is_measured}
+use Rattle.tw_hosts.specs.Settling.{cell_pieces, settled_pieces, place_after_text, needed, needed_by_first, needed_by_text, begins_at, rows_between, columns_between, line_start, settled_place, settled_column, is_settled, is_measured}
 use Rattle.tw_hosts.specs.SettlingLaws.{goes_on, ColumnLeadsThere, CursorIsSettled, PrintableIsPlain, NoOtherColumn, SomeColumn, WholeIsMeasured}
 use Rattle.tw_host.specs.HostRules.{HostRules}
 use Rattle.tw_hosts.specs.SettledRules.{PrintableIsUnchanged}

@@ -1,5 +1,5 @@
 -- The pieces of a text that no terminal parts, and a measure on its way over them.
-use Rattle.std.proofs.Common.{◌≡◌, ℕ, zero, suc, ◌+◌, ◌-◌, ◌<◌, ◌≤◌, Bool, true, false, not, ◌&&◌, eqb, List, [], ◌∷◌, ◌++◌, map, length, replicate, flat_map, refl, ap, sym, ◌∙◌, arith}
+use Rattle.std.proofs.Common.{◌≡◌, ℕ, zero, suc, ◌-◌, ◌<◌, ◌≤◌, Bool, true, false, not, ◌&&◌, eqb, List, [], ◌∷◌, ◌++◌, map, flat_map, refl, ap, sym, ◌∙◌, arith}
 use Rattle.std.specs.List.{list_all, sum_by}
 use Rattle.std.proofs.lemmas.Bool.{and_parts, eq-eqb, ne_eqb, eqb-true, eqb-false, true≢false}
 use Rattle.std.proofs.lemmas.List.Folds.{list_all-append}
@@ -10,7 +10,7 @@ use Rattle.tw_surface.specs.declared.measure.Piece.{Piece}
 use Rattle.tw_surface.specs.Characters.{is_plain}
 use Rattle.tw_surface.specs.Clusters.{IsSplit}
 use Rattle.tw_surface.specs.Extents.{place_of, reach_all}
-use Rattle.tw_surface.specs.Places.{Place, pieces, plain_piece, cluster_piece, next_place, end_of_pieces, places_after, is_in_range}
+use Rattle.tw_surface.specs.Places.{Place, pieces, cluster_piece, next_place, end_of_pieces, places_after, is_in_range}
 use Rattle.tw_surface.proofs.DrawingLemmas.{place_of-pieces, reach_all-append}
 use Rattle.tw_surface.proofs.ExtentLemmas.{IsUnderWay}
 use Rattle.tw_surface.specs.declared.measure.Piece.TheVariants.{Wide}

@@ -1,10 +1,10 @@
 -- The column that a host answers so that the editor's division finds the cell in which the text goes on.
-use Rattle.std.specs.Prelude.{ℕ, zero, suc, pos, ◌-ℤ◌, ◌+ℤ◌, ◌+◌, ◌-◌, ◌*◌, ◌==◌, ◌≡◌, Bool, true, false, not, ◌&&◌, leb, max, if◌then◌else◌, unwrap_or, List, [], ◌∷◌, chars, flat_map, map, take, drop}
+use Rattle.std.specs.Prelude.{ℕ, zero, suc, pos, ◌-ℤ◌, ◌+ℤ◌, ◌+◌, ◌-◌, ◌*◌, ◌==◌, Bool, true, false, not, ◌&&◌, leb, max, if◌then◌else◌, unwrap_or, List, [], ◌∷◌, chars, flat_map, map, take, drop}
 use Rattle.std.specs.List.{list_all, sum_by}
 use Rattle.unicode_segmentation.specs.Grapheme.{graphemes}
 use Rattle.unicode_width.specs.Width.{char_width}
 use Rattle.tw_surface.specs.declared.measure.Piece.{Piece}
-use Rattle.tw_surface.specs.declared.measure.Piece.TheVariants.{Cr, Lf, CrLf, Wide}
+use Rattle.tw_surface.specs.declared.measure.Piece.TheVariants.{Wide}
 use Rattle.tw_surface.specs.Characters.{is_plain}
 use Rattle.tw_surface.specs.Places.{Place, origin, pieces, plain_piece, cluster_piece, end_of_pieces, places_after, is_in_range}
 use Rattle.tw_surface.specs.Positions.{at_least_0}

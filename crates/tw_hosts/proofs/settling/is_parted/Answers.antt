@@ -1,9 +1,8 @@
-use Rattle.std.proofs.Common.{◌≡◌, ◌∙◌, ◌-◌, sym, ap, arith}
+use Rattle.std.proofs.Common.{◌∙◌, ◌-◌, sym, ap, arith}
 use Rattle.std.specs.Str.{chars}
 use Rattle.std.specs.Str.Iter.{chars_rest}
 use Rattle.std.proofs.lemmas.List.{nil_from_length}
 use Rattle.std.proofs.lemmas.Str.{IsUtf8-past_char, chars_past_char, chars-nil}
-use Rattle.tw_hosts.specs.Settling.{char_columns}
 use Rattle.tw_hosts.proofs.SettlingPieces.{are_parts, parts_step, parts_whole, parts_over, parts_end}
 use Rattle.tw_hosts.proofs.settling.is_parted.Goals.{then-own-width-via-then-own-width, then-own-width-via-else-own-width+then-own-left}
 use Rattle.tw_hosts.proofs.settling.is_parted.Goals as goal

@@ -1,4 +1,4 @@
-use Rattle.std.proofs.Common.{sym, ap, ◌∙◌, ◌≡◌, false, [], ◌∷◌}
+use Rattle.std.proofs.Common.{sym, ◌∙◌, ◌≡◌, false}
 use Rattle.std.specs.List.{list_all}
 use Rattle.tw_surface.specs.Characters.{is_plain}
 use Rattle.tw_hosts.proofs.SettlingPieces.{plain_needs, cluster_needs, nothing_needs}
