@@ -9,3 +9,4 @@ pub mod ScreenRunLemmas
 pub mod StoppedLemmas
 pub mod ShownLemmas
 pub mod BeginningLemmas
+pub mod UseLemmas

@@ -5,6 +5,7 @@ ghost use Rattle.std.specs.Borrow.{sem};
 ghost use Rattle.std.specs.Str.{IsCharBoundary};
 ghost use Rattle.tw_input.specs.EventView.{event_view};
 ghost use Rattle.tw_terminal.specs.TerminalState.{Fails, IsAtEnd, Takes};
+ghost use Rattle.tw_terminal.specs.Uses.{IsUsed};
 ghost use Rattle.tw_host.specs.ActionView.{action_view, Repaint};
 ghost use Rattle.tw_line.specs.Cut.{cut_at};
 ghost use Rattle.tw_host.specs.KeyTable.{action_of};
@@ -106,6 +107,7 @@ impl<'term, T: Terminal> LineEditor<'term, T> {
     /// Paints the session over its painting before.
     fn paint<H: LineEditorHost>(&mut self, host: &H) -> Result<(), Error>
         ensures same_reference { self.new.terminal.ghost_name ≡ self.old.terminal.ghost_name }
+        ensures used { IsUsed T.follows self.old.terminal.now self.new.terminal.now }
         ensures ok { let before = frame T.state H.value self.old host.now in
             let after = frame T.state H.value self.new host.now in
             OnOk result (Paints H.rules before after) }
@@ -129,6 +131,7 @@ impl<'term, T: Terminal> LineEditor<'term, T> {
         action: Action,
     ) -> Result<(), Error>
         ensures same_reference { self.new.terminal.ghost_name ≡ self.old.terminal.ghost_name }
+        ensures used { IsUsed T.follows self.old.terminal.now self.new.terminal.now }
         ensures host { host.new ≡ host.old }
         ensures uncalled { action_view action ≢ Repaint → self.new.terminal.now ≡ self.old.terminal.now }
         ensures ok { let before = frame T.state H.value self.old host.old in
@@ -146,6 +149,7 @@ impl<'term, T: Terminal> LineEditor<'term, T> {
     #[tactic(auto, unfolding(tw_session::specs::Steps::apply))]
     fn act<H: LineEditorHost>(&mut self, host: &mut H, action: Action) -> Result<(), Error>
         ensures same_reference { self.new.terminal.ghost_name ≡ self.old.terminal.ghost_name }
+        ensures used { IsUsed T.follows self.old.terminal.now self.new.terminal.now }
         ensures host { host.new ≡ host.old }
         ensures uncalled { action_view action ≢ Repaint → self.new.terminal.now ≡ self.old.terminal.now }
         ensures ok { let before = frame T.state H.value self.old host.old in
@@ -167,6 +171,7 @@ impl<'term, T: Terminal> LineEditor<'term, T> {
     /// Applies what the host makes of the event, or else what the key table does.
     fn handle<H: LineEditorHost>(&mut self, host: &mut H, event: &InputEvent) -> Result<(), Error>
         ensures same_reference { self.new.terminal.ghost_name ≡ self.old.terminal.ghost_name }
+        ensures used { IsUsed T.follows self.old.terminal.now self.new.terminal.now }
         ensures ok { let before = frame T.state H.value self.old host.old in
             let after = frame T.state H.value self.new host.new in
             OnOk result (Handles H.rules (event_view event.now) before after) }
@@ -187,6 +192,7 @@ impl<'term, T: Terminal> LineEditor<'term, T> {
         event: &InputEvent,
     ) -> Result<(), Error>
         ensures same_reference { self.new.terminal.ghost_name ≡ self.old.terminal.ghost_name }
+        ensures used { IsUsed T.follows self.old.terminal.now self.new.terminal.now }
         ensures host { host.new ≡ host.old }
         ensures ok { let before = frame T.state H.value self.old host.old in
             let after = frame T.state H.value self.new host.new in
@@ -208,6 +214,7 @@ impl<'term, T: Terminal> LineEditor<'term, T> {
         event: &InputEvent,
     ) -> Result<Option<Action>, AllocError>
         ensures same_reference { self.new.terminal.ghost_name ≡ self.old.terminal.ghost_name }
+        ensures terminal { self.new.terminal.now ≡ self.old.terminal.now }
         ensures ok { let before = frame T.state H.value self.old host.old in
             let after = frame T.state H.value self.new host.new in
             OnOk result (after ≡ answered_frame H.rules (event_view event.now) before) }
@@ -224,6 +231,7 @@ impl<'term, T: Terminal> LineEditor<'term, T> {
     #[tactic(auto, using(crate::proofs::FeedingLemmas::advances_if, crate::proofs::FeedingLemmas::stays_if))]
     fn advance<H: LineEditorHost>(&mut self, host: &mut H, event: &InputEvent) -> Result<(), Error>
         ensures same_reference { self.new.terminal.ghost_name ≡ self.old.terminal.ghost_name }
+        ensures used { IsUsed T.follows self.old.terminal.now self.new.terminal.now }
         ensures ok { let before = frame T.state H.value self.old host.old in
             let after = frame T.state H.value self.new host.new in
             OnOk result (Advances H.rules (event_view event.now) before after) }
@@ -238,6 +246,7 @@ impl<'term, T: Terminal> LineEditor<'term, T> {
     /// The next event, if one is left.
     fn poll(&mut self) -> Result<Option<InputEvent>, TerminalFault>
         ensures same_reference { self.new.terminal.ghost_name ≡ self.old.terminal.ghost_name }
+        ensures used { IsUsed T.follows self.old.terminal.now self.new.terminal.now }
         ensures session { self.new.session ≡ self.old.session }
         ensures ok { IfOk result (λ event. MatchOption event
             (IsAtEnd (T.state self.old.terminal.now) (T.state self.new.terminal.now))
@@ -250,6 +259,7 @@ impl<'term, T: Terminal> LineEditor<'term, T> {
     /// Takes an event, handles it, and paints. It answers false where the run ends.
     fn turn<H: LineEditorHost>(&mut self, host: &mut H) -> Result<bool, Error>
         ensures same_reference { self.new.terminal.ghost_name ≡ self.old.terminal.ghost_name }
+        ensures used { IsUsed T.follows self.old.terminal.now self.new.terminal.now }
         ensures ok { IfOk result (λ more. MatchBool more
             (Continues H.rules H.OVERRIDES (frame T.state H.value self.old host.old) (frame T.state H.value self.new host.new))
             (IsEnded H.rules H.OVERRIDES (frame T.state H.value self.old host.old) (frame T.state H.value self.new host.new))) }
@@ -273,6 +283,7 @@ impl<'term, T: Terminal> LineEditor<'term, T> {
     #[tactic(auto, using(crate::proofs::TurnLemmas::ended_later, crate::proofs::TurnLemmas::not_copied_if))]
     fn run_to_end<H: LineEditorHost>(&mut self, host: &mut H) -> Result<Option<String>, Error>
         ensures same_reference { self.new.terminal.ghost_name ≡ self.old.terminal.ghost_name }
+        ensures used { IsUsed T.follows self.old.terminal.now self.new.terminal.now }
         ensures ok { let before = frame T.state H.value self.old host.old in
             let after = frame T.state H.value self.new host.new in
             IfOk result (λ it. IsAnsweredOn H.rules before after (outcome_of (Ok it))) }
@@ -296,6 +307,7 @@ impl<'term, T: Terminal> LineEditor<'term, T> {
     /// Ends the run: the mode is Inactive, nothing counts as painted, and the closing batch is rendered and flushed.
     fn close(&mut self) -> Result<(), Error>
         ensures same_reference { self.new.terminal.ghost_name ≡ self.old.terminal.ghost_name }
+        ensures used { IsUsed T.follows self.old.terminal.now self.new.terminal.now }
         ensures ok { OnOk result (Closes (own_frame T.state self.old) (own_frame T.state self.new)) }
         ensures err { IfErr result (FailsToClose (own_frame T.state self.old) (own_frame T.state self.new)) }
     {
@@ -309,6 +321,7 @@ impl<'term, T: Terminal> LineEditor<'term, T> {
     /// Empties the line, or fills it with the initial value.
     fn begin(&mut self, initial: Option<&str>) -> Result<(), AllocError>
         ensures same_reference { self.new.terminal.ghost_name ≡ self.old.terminal.ghost_name }
+        ensures terminal { self.new.terminal.now ≡ self.old.terminal.now }
         ensures ok { let before = own_frame T.state self.old in
             OnOk result (own_frame T.state self.new ≡ start (initial_text initial.entry) before) }
         ensures err { OnErr result (own_frame T.state self.new ≡ start None (own_frame T.state self.old)) }
@@ -329,6 +342,7 @@ impl<'term, T: Terminal> LineEditor<'term, T> {
         initial: Option<&str>,
     ) -> Result<(), Error>
         ensures same_reference { self.new.terminal.ghost_name ≡ self.old.terminal.ghost_name }
+        ensures used { IsUsed T.follows self.old.terminal.now self.new.terminal.now }
         ensures ok { let before = frame T.state H.value self.old host.now in
             let after = frame T.state H.value self.new host.now in
             OnOk result (Begins H.rules H.OVERRIDES (start (initial_text initial.entry) before) after) }
@@ -350,6 +364,7 @@ impl<'term, T: Terminal> LineEditor<'term, T> {
         initial: Option<&str>,
     ) -> Result<Option<String>, Error>
         ensures same_reference { self.new.terminal.ghost_name ≡ self.old.terminal.ghost_name }
+        ensures used { IsUsed T.follows self.old.terminal.now self.new.terminal.now }
         ensures ok { let before = frame T.state H.value self.old host.old in
             let after = frame T.state H.value self.new host.new in
             IfOk result (λ it. IsAnswered H.rules (start (initial_text initial.entry) before) after (outcome_of (Ok it))) }
@@ -364,6 +379,7 @@ impl<'term, T: Terminal> LineEditor<'term, T> {
     /// Closes after a refusal, and answers it, or else why the closing is refused.
     fn give_up(&mut self, refusal: Error) -> Error
         ensures same_reference { self.new.terminal.ghost_name ≡ self.old.terminal.ghost_name }
+        ensures used { IsUsed T.follows self.old.terminal.now self.new.terminal.now }
         ensures gives_up { GivesUp refusal (own_frame T.state self.old) (own_frame T.state self.new) result }
     {
         match self.close() {
@@ -380,6 +396,7 @@ impl<'term, T: Terminal> LineEditor<'term, T> {
         initial: Option<&str>,
     ) -> Result<Option<String>, Error>
         ensures same_reference { self.new.terminal.ghost_name ≡ self.old.terminal.ghost_name }
+        ensures used { IsUsed T.follows self.old.terminal.now self.new.terminal.now }
         ensures ok { let before = frame T.state H.value self.old host.old in
             let after = frame T.state H.value self.new host.new in
             IfOk result (λ it. Reads (run_of H.rules (start (initial_text initial.entry) before)) before after (outcome_of (Ok it))) }
@@ -409,6 +426,7 @@ impl<'term, T: Terminal> LineEditor<'term, T> {
         initial_value: Option<&str>,
     ) -> Result<Option<String>, Error>
         ensures same_reference { self.new.terminal.ghost_name ≡ self.old.terminal.ghost_name }
+        ensures used { IsUsed T.follows self.old.terminal.now self.new.terminal.now }
         ensures recursive { let before = frame T.state H.value self.old host.old in
             let after = frame T.state H.value self.new host.new in
             before.state.mode ≢ Inactive → (result ≡ Err Error.Recursive) × (after ≡ before) }
@@ -435,6 +453,7 @@ impl<'term, T: Terminal> LineEditor<'term, T> {
     /// Reads a line that begins empty, as `read_line_with_optional_initial_value` does.
     pub fn read_line<H: LineEditorHost>(&mut self, host: &mut H) -> Result<Option<String>, Error>
         ensures same_reference { self.new.terminal.ghost_name ≡ self.old.terminal.ghost_name }
+        ensures used { IsUsed T.follows self.old.terminal.now self.new.terminal.now }
         ensures recursive { let before = frame T.state H.value self.old host.old in
             let after = frame T.state H.value self.new host.new in
             before.state.mode ≢ Inactive → (result ≡ Err Error.Recursive) × (after ≡ before) }

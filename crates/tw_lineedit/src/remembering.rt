@@ -1,6 +1,7 @@
 //! Reading a line that the host then has in its history.
 
 ghost use Rattle.std.specs.Prelude.{◌≡◌, ◌≢◌, Err, IfErr, IfOk, None, option_map, string_bytes};
+ghost use Rattle.tw_terminal.specs.Uses.{IsUsed};
 ghost use Rattle.tw_painter.specs.EditState.{Inactive};
 ghost use Rattle.tw_lineedit.specs.Frame.{frame};
 ghost use Rattle.tw_lineedit.specs.Reading.{FailuresTell, start};
@@ -23,6 +24,7 @@ impl<'term, T: Terminal> LineEditor<'term, T> {
         host: &mut H,
     ) -> Result<Option<String>, Error>
         ensures same_reference { self.new.terminal.ghost_name ≡ self.old.terminal.ghost_name }
+        ensures used { IsUsed T.follows self.old.terminal.now self.new.terminal.now }
         ensures recursive { let before = frame T.state H.value self.old host.old in
             let after = frame T.state H.value self.new host.new in
             before.state.mode ≢ Inactive → (result ≡ Err Error.Recursive) × (after ≡ before) }

@@ -1,3 +1,4 @@
 pub mod BatchLog
 pub mod Script
 pub mod TerminalState
+pub mod Uses

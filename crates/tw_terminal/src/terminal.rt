@@ -1,9 +1,10 @@
 //! What a line editor asks of a terminal.
 
-ghost use Rattle.std.specs.Prelude.{◌≡◌, IfOk, OnOk, OnErr, MatchOption};
+ghost use Rattle.std.specs.Prelude.{◌≡◌, IfOk, OnOk, OnErr, MatchOption, ⊤};
 ghost use Rattle.tw_surface.specs.ChangeView.{batch_view};
 ghost use Rattle.tw_input.specs.EventView.{event_view};
 ghost use Rattle.tw_terminal.specs.TerminalState.{TerminalState, Fails, size_after, Takes, IsAtEnd, Renders, RenderFails, Flushes};
+ghost use Rattle.tw_terminal.specs.Uses.{Call, Other, Refused, Took};
 
 use std::error::Error;
 use std::fmt;
@@ -56,13 +57,19 @@ impl Error for TerminalFault {}
 /// these are flushed, and a count of failures. A refused call adds one to the count, or leaves it at
 /// `usize::MAX`. Nothing changes but what a call says.
 pub trait Terminal {
+    ghost use Rattle.tw_terminal.specs.Uses.{Call};
+
     ghost state: { Self → TerminalState };
+
+    // What a call did besides: from such a terminal to such a one, as this call.
+    ghost follows: { Self → Self → Call → Type 0 } = { λ _ _ _. ⊤ };
 
     /// The size of the screen, in rows and columns of cells. It changes where a `Resized` event is taken.
     fn get_screen_size(&mut self) -> Result<ScreenSize, TerminalFault>
         ensures size { IfOk result (λ size. size ≡ (state self.old).size) }
         ensures ok { OnOk result (state self.new ≡ state self.old) }
-        ensures err { OnErr result (Fails (state self.old) (state self.new)) };
+        ensures err { OnErr result (Fails (state self.old) (state self.new)) }
+        ensures follows { follows self.old self.new Other };
 
     /// Takes the first event left, and answers none exactly where none is left. A `Resized` sets the size. A
     /// refused call takes no event.
@@ -72,7 +79,8 @@ pub trait Terminal {
             IfOk result (λ event. MatchOption event
             (IsAtEnd before after)
             (λ event. Takes (event_view event) before after)) }
-        ensures err { OnErr result (Fails (state self.old) (state self.new)) };
+        ensures err { OnErr result (Fails (state self.old) (state self.new)) }
+        ensures follows { follows self.old self.new Other };
 
     /// Takes the changes as the last batch. A refused call has taken a beginning of them as one batch, or
     /// nothing.
@@ -80,10 +88,13 @@ pub trait Terminal {
         ensures ok { OnOk result
             (Renders (batch_view changes.now) (state self.old) (state self.new)) }
         ensures err { OnErr result
-            (RenderFails (batch_view changes.now) (state self.old) (state self.new)) };
+            (RenderFails (batch_view changes.now) (state self.old) (state self.new)) }
+        ensures took { OnOk result (follows self.old self.new (Took (batch_view changes.now))) }
+        ensures refused { OnErr result (follows self.old self.new Refused) };
 
     /// Flushes all batches taken. A refused call leaves the number of those that are flushed.
     fn flush(&mut self) -> Result<(), TerminalFault>
         ensures ok { OnOk result (Flushes (state self.old) (state self.new)) }
-        ensures err { OnErr result (Fails (state self.old) (state self.new)) };
+        ensures err { OnErr result (Fails (state self.old) (state self.new)) }
+        ensures follows { follows self.old self.new Other };
 }

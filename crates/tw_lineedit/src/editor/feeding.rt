@@ -6,6 +6,7 @@ ghost use Rattle.tw_lineedit.specs.Frame.{frame, own_frame};
 ghost use Rattle.tw_lineedit.specs.Lent.{LendsTerminal};
 ghost use Rattle.tw_input.specs.EventView.{event_view};
 ghost use Rattle.tw_terminal.specs.TerminalState.{size_after};
+ghost use Rattle.tw_terminal.specs.Uses.{IsUsed};
 ghost use Rattle.tw_painter.specs.EditState.{Inactive};
 ghost use Rattle.tw_session.specs.Outcomes.{outcome_of, answer_at, is_open};
 ghost use Rattle.tw_lineedit.specs.Run.{ending};
@@ -42,6 +43,7 @@ impl<'term, T: Terminal> LineEditor<'term, T> {
         initial_value: Option<&str>,
     ) -> Result<(), Error>
         ensures same_reference { self.new.terminal.ghost_name ≡ self.old.terminal.ghost_name }
+        ensures used { IsUsed T.follows self.old.terminal.now self.new.terminal.now }
         ensures recursive { let before = frame T.state H.value self.old host.now in
             let after = frame T.state H.value self.new host.now in
             before.state.mode ≢ Inactive → (result ≡ Err Error.Recursive) × (after ≡ before) }
@@ -78,6 +80,7 @@ impl<'term, T: Terminal> LineEditor<'term, T> {
     ) -> Result<LineStatus, Error>
         requires { size_after (event_view event.now) (T.state self.old.terminal.now).size ≡ (T.state self.old.terminal.now).size }
         ensures same_reference { self.new.terminal.ghost_name ≡ self.old.terminal.ghost_name }
+        ensures used { IsUsed T.follows self.old.terminal.now self.new.terminal.now }
         ensures ended { let before = frame T.state H.value self.old host.old in
             let after = frame T.state H.value self.new host.new in
             is_open before.state.mode ≡ false → (result ≡ Ok LineStatus.Ended) × (after ≡ before) }
@@ -103,6 +106,7 @@ impl<'term, T: Terminal> LineEditor<'term, T> {
     /// whether it is refused or not. Where no line was begun nothing is done, and the answer is none.
     pub fn finish_line(&mut self) -> Result<Option<String>, Error>
         ensures same_reference { self.new.terminal.ghost_name ≡ self.old.terminal.ghost_name }
+        ensures used { IsUsed T.follows self.old.terminal.now self.new.terminal.now }
         ensures inactive { let before = own_frame T.state self.old in
             let after = own_frame T.state self.new in
             before.state.mode ≡ Inactive → (result ≡ Ok None) × (after ≡ before) }
@@ -126,6 +130,7 @@ impl<'term, T: Terminal> LineEditor<'term, T> {
     #[tactic(auto, using(crate::proofs::ClosingLemmas::finish_closed, crate::proofs::ClosingLemmas::finish_given_up))]
     fn end_line(&mut self) -> Result<Option<String>, Error>
         ensures same_reference { self.new.terminal.ghost_name ≡ self.old.terminal.ghost_name }
+        ensures used { IsUsed T.follows self.old.terminal.now self.new.terminal.now }
         ensures ok { let before = own_frame T.state self.old in
             let after = own_frame T.state self.new in
             IfOk result (λ it. Reads (ending (answer_at self.old.session.state) before) before after (outcome_of (Ok it))) }
@@ -166,6 +171,7 @@ impl<'term, T: Terminal> LineEditor<'term, T> {
     #[tactic(auto, using(crate::proofs::ClosingLemmas::begun_given_up))]
     fn open<H: LineEditorHost>(&mut self, host: &H, initial: Option<&str>) -> Result<(), Error>
         ensures same_reference { self.new.terminal.ghost_name ≡ self.old.terminal.ghost_name }
+        ensures used { IsUsed T.follows self.old.terminal.now self.new.terminal.now }
         ensures ok { let before = frame T.state H.value self.old host.now in
             let after = frame T.state H.value self.new host.now in
             OnOk result (Begins H.rules H.OVERRIDES (start (initial_text initial.entry) before) after) }
@@ -185,6 +191,7 @@ impl<'term, T: Terminal> LineEditor<'term, T> {
         requires told { size_after (event_view event.now) (T.state self.old.terminal.now).size ≡ (T.state self.old.terminal.now).size }
         requires open { is_open self.old.session.state.mode ≡ true }
         ensures same_reference { self.new.terminal.ghost_name ≡ self.old.terminal.ghost_name }
+        ensures used { IsUsed T.follows self.old.terminal.now self.new.terminal.now }
         ensures ok { let before = frame T.state H.value self.old host.old in
             let after = frame T.state H.value self.new host.new in
             OnOk result (IsFed H.rules H.OVERRIDES (event_view event.now) before after) }

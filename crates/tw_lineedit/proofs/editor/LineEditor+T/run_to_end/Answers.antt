@@ -1,6 +1,7 @@
-use Rattle.std.proofs.Common.{refl}
+use Rattle.std.proofs.Common.{refl, rules}
 use Rattle.std.proofs.lemmas.Result.{err_from_is_err_and}
 use Rattle.tw_lineedit.proofs.TurnLemmas.{turned_down_later, not_copied_if, ended_later}
+use Rattle.tw_lineedit.proofs.UseLemmas.{used_then}
 use Rattle.tw_lineedit.proofs.editor.LineEditor+T.run_to_end.Goals as goal
 use Rattle.tw_lineedit.specs.Frame.{frame}
 
@@ -13,3 +14,16 @@ returns-in_err-turn-clause-err g c =
 
 pub returns-clause-err : goal.returns-clause-err
 returns-clause-err g c = not_copied_if g.H.LineEditorHost.rules g.H.LineEditorHost.OVERRIDES _ c.answer.result (frame g.T.Terminal.state g.H.LineEditorHost.value c.args.self.now c.args.host.now) _ _ (ended_later g.H.LineEditorHost.rules g.H.LineEditorHost.OVERRIDES _ _ _ c.loop.invariant.follows (rw c.if-branch.false at c.in_ok-turn.ensures.ok)) refl c.answer.ensures.err c.answer.ensures.line
+
+pub loop-preserved : goal.loop-preserved
+loop-preserved g c = record {
+  same_reference = search rules;
+  follows = search rules;
+  used = used_then g.T.Terminal.follows _ _ _ c.loop.invariant.used c.turn.ensures.used;
+}
+
+pub returns-in_err-turn-clause-used : goal.returns-in_err-turn-clause-used
+returns-in_err-turn-clause-used g c = used_then g.T.Terminal.follows _ _ _ c.loop.invariant.used c.in_err-turn.ensures.used
+
+pub returns-clause-used : goal.returns-clause-used
+returns-clause-used g c = used_then g.T.Terminal.follows _ _ _ c.loop.invariant.used c.in_ok-turn.ensures.used

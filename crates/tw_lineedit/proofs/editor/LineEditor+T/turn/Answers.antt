@@ -3,6 +3,7 @@ use Rattle.std.proofs.lemmas.Result.{err_from_is_err_and}
 use Rattle.tw_painter.specs.declared.error.Error.TheVariants.{Terminal}
 use Rattle.tw_lineedit.proofs.PaintLemmas.{same_frame}
 use Rattle.tw_lineedit.proofs.TurnLemmas.{over, done, poll_refused, event_refused, continues}
+use Rattle.tw_lineedit.proofs.UseLemmas.{used_then}
 use Rattle.tw_lineedit.proofs.editor.LineEditor+T.turn.Goals as goal
 
 pub returns-then-is_over-clause-ok : goal.returns-then-is_over-clause-ok
@@ -25,3 +26,9 @@ pub returns-in-None-clause-ok : goal.returns-in-None-clause-ok
 returns-in-None-clause-ok g c =
     let at_end = rw c.in-None.is at c.in_ok-event.ensures.ok in
     done g.H.LineEditorHost.rules g.H.LineEditorHost.OVERRIDES _ _ (record { same = same_frame g.H.LineEditorHost.rules _ _ (ap (λ s. s.state) c.in_ok-event.ensures.session) refl (ap (λ s. s.mark) c.in_ok-event.ensures.session) at_end.rest; events = at_end.events })
+
+pub returns-in_err-advance-in-Some-clause-used : goal.returns-in_err-advance-in-Some-clause-used
+returns-in_err-advance-in-Some-clause-used g c = used_then g.T.Terminal.follows _ _ _ c.in_ok-event.ensures.used c.in_err-advance-in-Some.ensures.used
+
+pub returns-in_ok-advance-in-Some-clause-used : goal.returns-in_ok-advance-in-Some-clause-used
+returns-in_ok-advance-in-Some-clause-used g c = used_then g.T.Terminal.follows _ _ _ c.in_ok-event.ensures.used c.in_ok-advance-in-Some.ensures.used
