@@ -1,6 +1,7 @@
 -- Deeds, one after the other, and what they send.
-use Rattle.std.proofs.Common.{◌≡◌, ◌≢◌, ◌≤◌, ◌+◌, ◌&&◌, ℕ, Bool, true, false, List, [], ◌∷◌, ◌++◌, Option, Some, None, map, refl, sym, ap, ◌∙◌, subst, append_assoc, append-nil, absurd, arith}
-use Rattle.std.specs.Io.KnownBytes.{Appends}
+use Rattle.std.proofs.Common.{◌≡◌, ◌≢◌, ◌≤◌, ◌+◌, ◌&&◌, ℕ, Bool, true, false, List, [], ◌∷◌, ◌++◌, Option, Some, None, map, refl, sym, ap, ◌∙◌, subst, append_assoc, append-nil, inl, inr, arith}
+use Rattle.std.proofs.lemmas.Bool.{false≢true}
+use Rattle.std.specs.Io.KnownBytes.{Appends, Keeps}
 use Rattle.std.specs.List.{list_all}
 use Rattle.tw_surface.specs.ChangeView.{Batch}
 use Rattle.tw_input.specs.EventView.{EventView, Key, Resized, Paste, Wake}
@@ -10,7 +11,8 @@ use Rattle.tw_ansi.specs.declared.encode.Encoder.{Encoder}
 use Rattle.tw_device.specs.Terminal.{terminal_state}
 use Rattle.tw_device.specs.declared.terminal.AnsiTerminal.{AnsiTerminal}
 use Rattle.tw_device.specs.Deeds.{Deed, Called, Sized, Said, sent_deed, sent_by, batches_by, sizes_by, sizes_in, is_whole, none_refused, Sends, Does, IsLedBy, IsLedAsTold, DeedsAreSent, FailuresAreCounted}
-use Rattle.tw_lineedit.proofs.UseLemmas.{both_uses, used_then}
+use Rattle.tw_lineedit.proofs.FailureLemmas.{le_count, rose_once}
+use Rattle.tw_lineedit.proofs.UseLemmas.{both_uses}
 
 -- ---- known bytes
 
@@ -25,6 +27,12 @@ appends_then None b c xs ys first then = tt
 appends_then (Some old) None c xs ys first then = absurd first
 appends_then (Some old) (Some between) None xs ys first then = absurd then
 appends_then (Some old) (Some between) (Some new) xs ys first then = then ∙ ap (λ v. v ++ ys) first ∙ append_assoc old xs ys
+
+-- known bytes that stay
+kept-nothing : (a b : Option (List ℕ)) → Keeps a b → Appends a b []
+kept-nothing None b keeps = tt
+kept-nothing (Some old) None keeps = absurd keeps
+kept-nothing (Some old) (Some new) keeps = keeps ∙ sym (append-nil old)
 
 -- ---- what deeds are
 
@@ -53,6 +61,52 @@ no-sizes [] = refl
 no-sizes (call ∷ calls) = no-sizes calls
 
 module _ {W : Type 0} (contents : W → Option (List ℕ)) where
+  -- ---- failures
+
+  -- no deed lowers the count of failures
+  does-counts : (deed : Deed) (old new : AnsiTerminal W) → Does contents old new deed → old.failures ≤ new.failures
+  does-counts (Called (Took batch)) old new does = does.failures
+  does-counts (Called Refused) old new does = rw does.failures (le_count old.failures)
+  does-counts (Called Other) old new does = does.failures
+  does-counts (Sized size) old new does = does.failures
+  does-counts (Said text) old new does = does.failures
+
+  use-counts : (deeds : List Deed) (old new : AnsiTerminal W) → Uses (Does contents) deeds old new → old.failures ≤ new.failures
+  use-counts [] old new same = rw same (omega arith)
+  use-counts (deed ∷ deeds) old new (between, does, uses) =
+      let first : old.failures ≤ between.failures = does-counts deed old between does in
+      let later : between.failures ≤ new.failures = use-counts deeds between new uses in
+      omega arith
+
+  -- none of some deeds is refused, where the count of failures stays after the first one
+  whole-later : (deeds : List Deed) (old between new : AnsiTerminal W) → old.failures ≤ between.failures
+      → Uses (Does contents) deeds between new → new.failures ≡ old.failures
+      → (new.failures ≡ between.failures) × (between.failures ≡ old.failures)
+  whole-later deeds old between new first uses same =
+      let later : between.failures ≤ new.failures = use-counts deeds between new uses in
+      (omega arith, omega arith)
+
+  pub failures_are_counted : FailuresAreCounted contents
+  failures_are_counted [] old new same kept below = refl
+  failures_are_counted (Called (Took batch) ∷ deeds) old new (between, does, uses) kept below =
+      let same = whole-later deeds old between new does.failures uses kept in
+      failures_are_counted deeds between new uses same.0 (λ full. below (sym same.1 ∙ full))
+  failures_are_counted (Called Refused ∷ deeds) old new (between, does, uses) kept below =
+      let same = whole-later deeds old between new (does-counts (Called Refused) old between does) uses kept in
+      elim (rose_once old.failures between.failures does.failures) [
+      | inl rises ↦ absurd (let stays : between.failures ≡ old.failures = same.1 in omega arith)
+      | inr full ↦ absurd (below full)
+      ]
+  failures_are_counted (Called Other ∷ deeds) old new (between, does, uses) kept below =
+      let same = whole-later deeds old between new does.failures uses kept in
+      failures_are_counted deeds between new uses same.0 (λ full. below (sym same.1 ∙ full))
+  failures_are_counted (Sized size ∷ deeds) old new (between, does, uses) kept below =
+      let same = whole-later deeds old between new does.failures uses kept in
+      failures_are_counted deeds between new uses same.0 (λ full. below (sym same.1 ∙ full))
+  failures_are_counted (Said text ∷ deeds) old new (between, does, uses) kept below =
+      let same = whole-later deeds old between new does.failures uses kept in
+      failures_are_counted deeds between new uses same.0 (λ full. below (sym same.1 ∙ full))
+
   -- ---- what deeds send
 
   -- the first of some deeds is sent, and then the others
@@ -75,12 +129,101 @@ module _ {W : Type 0} (contents : W → Option (List ℕ)) where
 
   pub deeds_are_sent : DeedsAreSent contents
   deeds_are_sent [] old new same whole = rw same (appends_nothing (contents old.writer), refl, sym (append-nil (terminal_state old).batches))
-  deeds_are_sent (Called (Took batch) ∷ deeds) old new (between, (does, uses)) whole =
+  deeds_are_sent (Called (Took batch) ∷ deeds) old new (between, does, uses) whole =
       sent_first (Called (Took batch)) deeds old between new does (deeds_are_sent deeds between new uses whole)
-  deeds_are_sent (Called Refused ∷ deeds) old new uses whole = absurd (no_is_yes whole)
-  deeds_are_sent (Called Other ∷ deeds) old new (between, (does, uses)) whole =
+  deeds_are_sent (Called Refused ∷ deeds) old new uses whole = absurd (false≢true whole)
+  deeds_are_sent (Called Other ∷ deeds) old new (between, does, uses) whole =
       sent_first (Called Other) deeds old between new does (deeds_are_sent deeds between new uses whole)
-  deeds_are_sent (Sized size ∷ deeds) old new (between, (does, uses)) whole =
+  deeds_are_sent (Sized size ∷ deeds) old new (between, does, uses) whole =
       sent_first (Sized size) deeds old between new does (deeds_are_sent deeds between new uses whole)
-  deeds_are_sent (Said text ∷ deeds) old new (between, (does, uses)) whole =
+  deeds_are_sent (Said text ∷ deeds) old new (between, does, uses) whole =
       sent_first (Said text) deeds old between new does (deeds_are_sent deeds between new uses whole)
+
+  -- a call that writes nothing
+  pub writes_nothing : (old new : AnsiTerminal W) → Keeps (contents old.writer) (contents new.writer) → new.encoder ≡ old.encoder
+      → (terminal_state new).batches ≡ (terminal_state old).batches → old.failures ≤ new.failures → Sends contents (Called Other) old new
+  writes_nothing old new keeps known batches failures = record {
+    bytes = kept-nothing (contents old.writer) (contents new.writer) keeps;
+    known = known;
+    batches = batches ∙ sym (append-nil (terminal_state old).batches);
+    failures = failures;
+  }
+
+  -- a call that leaves all as it was
+  pub does_nothing : (it : AnsiTerminal W) → Sends contents (Called Other) it it
+  does_nothing it = record {
+    bytes = appends_nothing (contents it.writer);
+    known = refl;
+    batches = sym (append-nil (terminal_state it).batches);
+    failures = omega arith;
+  }
+
+  -- ---- what leads a terminal
+
+  pub led_by_nothing : (it : AnsiTerminal W) → IsLedBy contents [] it it
+  led_by_nothing it = ([], refl, refl)
+
+  -- calls alone
+  uses-of-calls : (calls : List Call) (old new : AnsiTerminal W) → Uses (λ a b call. Does contents a b (Called call)) calls old new
+      → Uses (Does contents) (map Called calls) old new
+  uses-of-calls [] old new same = same
+  uses-of-calls (call ∷ calls) old new (between, does, uses) = (between, does, uses-of-calls calls between new uses)
+
+  pub led_by_calls : (old new : AnsiTerminal W) → IsUsed (λ a b call. Does contents a b (Called call)) old new → IsLedBy contents [] old new
+  led_by_calls old new (calls, uses) = (map Called calls, uses-of-calls calls old new uses, no-sizes calls)
+
+  -- some events, and then others
+  pub led_then : (first then : List EventView) (old between new : AnsiTerminal W) → IsLedBy contents first old between
+      → IsLedBy contents then between new → IsLedBy contents (first ++ then) old new
+  led_then first then old between new (first-deeds, first-uses, first-sizes) (then-deeds, then-uses, then-sizes) = (
+    first-deeds ++ then-deeds,
+    both_uses (Does contents) first-deeds then-deeds old between new first-uses then-uses,
+    sizes_by-both first-deeds then-deeds ∙ ap (λ sizes. sizes ++ sizes_by then-deeds) first-sizes
+        ∙ ap (λ sizes. sizes_in first ++ sizes) then-sizes ∙ sym (sizes_in-both first then),
+  )
+
+  -- ---- what leads a terminal while events are told
+
+  -- nothing is told, and the terminal is the same
+  pub led_unmoved : (told : List EventView) (old new : AnsiTerminal W) → new ≡ old → IsLedAsTold contents told told old new
+  led_unmoved told old new same = ([], sym (append-nil told), ([], same, refl))
+
+  -- the same terminals
+  pub led_between : (before after : List EventView) (old old-is new new-is : AnsiTerminal W) → old-is ≡ old → new ≡ new-is
+      → IsLedAsTold contents before after old-is new-is → IsLedAsTold contents before after old new
+  led_between before after old old-is new new-is same-old same-new led =
+      subst (λ it. IsLedAsTold contents before after old it) (sym same-new) (subst (λ it. IsLedAsTold contents before after it new-is) same-old led)
+
+  -- calls alone
+  pub led_told_nothing : (told : List EventView) (old new : AnsiTerminal W) → IsUsed (λ a b call. Does contents a b (Called call)) old new
+      → IsLedAsTold contents told told old new
+  led_told_nothing told old new used = ([], sym (append-nil told), led_by_calls old new used)
+
+  -- calls, and then what is told
+  pub led_from_calls : (before after : List EventView) (old between new : AnsiTerminal W) → IsUsed (λ a b call. Does contents a b (Called call)) old between
+      → IsLedAsTold contents before after between new → IsLedAsTold contents before after old new
+  led_from_calls before after old between new used (events, told, led) =
+      (events, told, led_then [] events old between new (led_by_calls old between used) led)
+
+  -- what is told, and then calls
+  pub led_to_calls : (before after : List EventView) (old between new : AnsiTerminal W) → IsLedAsTold contents before after old between
+      → IsUsed (λ a b call. Does contents a b (Called call)) between new → IsLedAsTold contents before after old new
+  led_to_calls before after old between new (events, told, led) used = (
+    events,
+    told,
+    subst (λ all. IsLedBy contents all old new) (append-nil events) (led_then events [] old between new led (led_by_calls between new used)),
+  )
+
+  -- more is told
+  pub led_on : (before between after events : List EventView) (old middle new : AnsiTerminal W) → IsLedAsTold contents before between old middle
+      → after ≡ between ++ events → IsLedBy contents events middle new → IsLedAsTold contents before after old new
+  led_on before between after events old middle new (first, told, led) more later = (
+    first ++ events,
+    more ∙ ap (λ all. all ++ events) told ∙ append_assoc before first events,
+    led_then first events old middle new led later,
+  )
+
+  -- nothing more is told
+  pub led_still : (before between after : List EventView) (old new : AnsiTerminal W) → IsLedAsTold contents before between old new
+      → after ≡ between → IsLedAsTold contents before after old new
+  led_still before between after old new led same = subst (λ told. IsLedAsTold contents before told old new) (sym same) led

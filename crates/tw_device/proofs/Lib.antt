@@ -1,4 +1,5 @@
 pub mod CallLemmas
+pub mod DeedLemmas
 pub mod LiveLemmas
 pub mod PieceLemmas
 pub mod ReadLemmas

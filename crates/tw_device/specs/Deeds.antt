@@ -94,6 +94,10 @@ module _ {W : Type 0} (contents : W → Option (List ℕ)) where
   abbrev pub IsLedBy : List EventView → AnsiTerminal W → AnsiTerminal W → Type 0
   IsLedBy events old new = (deeds : List Deed) × Uses Does deeds old new × (sizes_by deeds ≡ sizes_in events)
 
+  -- These events were told since, and it was led by them.
+  abbrev pub IsLedAsTold : List EventView → List EventView → AnsiTerminal W → AnsiTerminal W → Type 0
+  IsLedAsTold told_before told_after old new = (events : List EventView) × (told_after ≡ told_before ++ events) × IsLedBy events old new
+
   -- Where no batch was refused, what was written is what was there, and then the bytes of the deeds; what is known is what
   -- is known after them; and the batches are those that were there, and then those that the deeds took.
   abbrev pub DeedsAreSent : Type 0

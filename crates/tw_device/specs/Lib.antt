@@ -1,4 +1,5 @@
 pub mod Calls
+pub mod Deeds
 pub mod EventLog
 pub mod Faults
 pub mod Keys

@@ -1,11 +1,13 @@
 //! Laws of the types of this crate, each the contract of a function that does nothing.
 
 ghost use Rattle.tw_input.specs.Equality.{ComparesValues};
+ghost use Rattle.tw_device.specs.Deeds.{DeedsAreSent, FailuresAreCounted};
 ghost use Rattle.tw_device.specs.Pieces.{PiecesDoNotMatter};
 ghost use Rattle.tw_device.specs.Typed.{NoneIsLost};
 
 use crate::escape::Escape;
 use crate::keys::SourceState;
+use std::io::Write;
 
 /// `==` is equality of values.
 pub fn equality()
@@ -23,4 +25,11 @@ pub fn typing()
 /// they tell all at once.
 pub fn pieces()
     ensures { PiecesDoNotMatter }
+{}
+
+/// What is written is what was written before, and then the bytes of the deeds one after the other, where no batch was
+/// refused; none was where no failure was counted.
+pub fn deeds<W: Write>()
+    ensures sent { DeedsAreSent W.contents }
+    ensures counted { FailuresAreCounted W.contents }
 {}

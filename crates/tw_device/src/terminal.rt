@@ -7,6 +7,8 @@ ghost use Rattle.tw_surface.specs.Defaults.{default_attributes};
 ghost use Rattle.tw_terminal.specs.TerminalState.{fresh_terminal, Fails, Flushes, RenderFails, Renders};
 ghost use Rattle.tw_ansi.specs.Encoding.{first_known, without_attributes, sent_batch};
 ghost use Rattle.tw_ansi.specs.Sequences.{set_attributes};
+ghost use Rattle.tw_terminal.specs.Uses.{Other, Refused as BatchRefused, Took};
+ghost use Rattle.tw_device.specs.Deeds.{Called, Does, Said, Sized};
 ghost use Rattle.tw_device.specs.Terminal.{terminal_state};
 
 use crate::refused::Refused;
@@ -55,6 +57,7 @@ impl<W: Write> AnsiTerminal<W> {
         ensures state { terminal_state self.new ≡ record (terminal_state self.old) { size = size } }
         ensures known { self.new.encoder ≡ record self.old.encoder { cols = size.cols } }
         ensures writer { self.new.writer ≡ self.old.writer }
+        ensures sized { Does W.contents self.old self.new (Sized size) }
     {
         self.encoder.set_cols(size.cols);
         self.size = size;
@@ -68,6 +71,7 @@ impl<W: Write> AnsiTerminal<W> {
             OnOk result (Appends (W.contents self.old.writer) (W.contents self.new.writer) bytes) }
         ensures next { OnOk result (self.new.encoder ≡ without_attributes self.old.encoder) }
         ensures known { OnErr result (self.new.encoder ≡ self.old.encoder) }
+        ensures said { OnOk result (Does W.contents self.old self.new (Said text.now)) }
     {
         let mut encoder = self.encoder;
         self.write(encoder.reset())?;
@@ -124,10 +128,13 @@ impl<W: Write> AnsiTerminal<W> {
 impl<W: Write> Terminal for AnsiTerminal<W> {
     ghost state = { terminal_state };
 
+    ghost follows = { λ old new call. Does W.contents old new (Called call) };
+
     /// The size that its owner gave it. It is never refused.
     fn get_screen_size(&mut self) -> Result<ScreenSize, TerminalFault>
         ensures size { result ≡ Ok (terminal_state self.old).size }
         ensures kept { self.new ≡ self.old }
+        ensures follows { Does W.contents self.old self.new (Called Other) }
     {
         Ok(self.size)
     }
@@ -136,6 +143,7 @@ impl<W: Write> Terminal for AnsiTerminal<W> {
     fn poll_input(&mut self) -> Result<Option<InputEvent>, TerminalFault>
         ensures none { result ≡ Ok None }
         ensures kept { self.new ≡ self.old }
+        ensures follows { Does W.contents self.old self.new (Called Other) }
     {
         Ok(None)
     }
@@ -148,6 +156,8 @@ impl<W: Write> Terminal for AnsiTerminal<W> {
             OnOk result (Appends (W.contents self.old.writer) (W.contents self.new.writer) sent.bytes) }
         ensures next { OnOk result (self.new.encoder ≡ (sent_batch (batch_view changes.now) self.old.encoder).next) }
         ensures known { OnErr result (self.new.encoder ≡ self.old.encoder) }
+        ensures took { OnOk result (Does W.contents self.old self.new (Called (Took (batch_view changes.now)))) }
+        ensures refused { OnErr result (Does W.contents self.old self.new (Called BatchRefused)) }
     {
         match self.put(changes) {
             Ok(()) => Ok(()),
@@ -164,6 +174,7 @@ impl<W: Write> Terminal for AnsiTerminal<W> {
         ensures err { OnErr result (Fails (terminal_state self.old) (terminal_state self.new)) }
         ensures known { self.new.encoder ≡ self.old.encoder }
         ensures writer { Keeps (W.contents self.old.writer) (W.contents self.new.writer) }
+        ensures follows { Does W.contents self.old self.new (Called Other) }
     {
         if self.writer.flush().is_err() {
             self.failures = self.failures.saturating_add(1);

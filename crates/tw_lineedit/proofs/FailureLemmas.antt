@@ -18,7 +18,7 @@ le_count_by true n = omega arith
 le_count_by false n = omega arith
 
 -- a failure never lowers the count
-le_count : (n : ℕ) → n ≤ count_up n
+pub le_count : (n : ℕ) → n ≤ count_up n
 le_count n = le_count_by (n == 18446744073709551615) n
 
 -- the count by whether it could rise

@@ -2,6 +2,7 @@ use Rattle.std.proofs.Common.{rules, refl}
 use Rattle.std.proofs.lemmas.Result.{err_from_is_err_and}
 use Rattle.tw_device.specs.Live.{fresh_frame}
 use Rattle.tw_device.specs.contracts.terminal.AnsiTerminalTerminal.TheImpl as terminal
+use Rattle.tw_device.proofs.DeedLemmas.{led_between, led_from_calls, led_to_calls, led_told_nothing, led_unmoved}
 use Rattle.tw_device.proofs.LiveLemmas.{opened_at, unbegun_at, stopped_at, ended_at, closed_at, read_as, cut_as}
 use Rattle.tw_device.proofs.reading.read_line_from.Goals as goal
 use Rattle.tw_lineedit.proofs.ClosingLemmas.{reads_with, fails_to_finish_with}
@@ -69,3 +70,50 @@ returns-clause-err g c =
     (opened_at g.H.LineEditorHost.rules g.H.LineEditorHost.OVERRIDES i f painted (search rules) (c.in_ok-begin_line.ensures.ok (search rules))) c.in_ok-stop.ensures.ok c.in_ok-stop.ensures.begun c.in_ok-line.line c.in_ok-stop.stop c.answer_of.result c.answer_of.ensures c.in_ok-stop.ensures.stopped
     (closed_at g.H.LineEditorHost.rules g.H.LineEditorHost.OVERRIDES fed (frame state value c.finish_line.new.self c.take_events.new.host) c.finish_line.new.self.session _ _ _ (search rules)
     (reads_with (value c.take_events.new.host) (own_frame state c.take_events.new.editor) (own_frame state c.finish_line.new.self) _ (c.in_ok-line.ensures.ok c.in_ok-stop.ensures.begun)))
+
+pub returns-in_err-set_prompt-clause-led : goal.returns-in_err-set_prompt-clause-led
+returns-in_err-set_prompt-clause-led g c = led_unmoved g.W.Write.contents (g.S.EventSource.told c.args.source.now) _ _ (search rules)
+
+pub returns-in_err-begin_line-clause-led : goal.returns-in_err-begin_line-clause-led
+returns-in_err-begin_line-clause-led g c =
+    let contents = g.W.Write.contents in
+    let told = g.S.EventSource.told c.args.source.now in
+    let set = c.set_prompt.new.self.terminal.now in
+    let begun = c.begin_line.new.self.terminal.now in
+    led_between contents told told c.args.terminal.now set _ begun (search rules) (search rules)
+    (led_told_nothing contents told set begun c.begin_line.ensures.used)
+
+pub returns-in_err-stop-clause-led : goal.returns-in_err-stop-clause-led
+returns-in_err-stop-clause-led g c =
+    let contents = g.W.Write.contents in
+    let before = g.S.EventSource.told c.args.source.now in
+    let after = g.S.EventSource.told c.take_events.new.source in
+    let set = c.set_prompt.new.self.terminal.now in
+    let begun = c.begin_line.new.self.terminal.now in
+    let fed = c.take_events.new.editor.terminal.now in
+    led_between contents before after c.args.terminal.now set _ fed (search rules) (search rules)
+    (led_from_calls contents before after set begun fed c.begin_line.ensures.used c.take_events.ensures.led)
+
+pub returns-in_err-line-clause-led : goal.returns-in_err-line-clause-led
+returns-in_err-line-clause-led g c =
+    let contents = g.W.Write.contents in
+    let before = g.S.EventSource.told c.args.source.now in
+    let after = g.S.EventSource.told c.take_events.new.source in
+    let set = c.set_prompt.new.self.terminal.now in
+    let begun = c.begin_line.new.self.terminal.now in
+    let fed = c.take_events.new.editor.terminal.now in
+    let finished = c.finish_line.new.self.terminal.now in
+    led_between contents before after c.args.terminal.now set _ finished (search rules) (search rules)
+    (led_to_calls contents before after set fed finished (led_from_calls contents before after set begun fed c.begin_line.ensures.used c.take_events.ensures.led) c.finish_line.ensures.used)
+
+pub returns-clause-led : goal.returns-clause-led
+returns-clause-led g c =
+    let contents = g.W.Write.contents in
+    let before = g.S.EventSource.told c.args.source.now in
+    let after = g.S.EventSource.told c.take_events.new.source in
+    let set = c.set_prompt.new.self.terminal.now in
+    let begun = c.begin_line.new.self.terminal.now in
+    let fed = c.take_events.new.editor.terminal.now in
+    let finished = c.finish_line.new.self.terminal.now in
+    led_between contents before after c.args.terminal.now set _ finished (search rules) (search rules)
+    (led_to_calls contents before after set fed finished (led_from_calls contents before after set begun fed c.begin_line.ensures.used c.take_events.ensures.led) c.finish_line.ensures.used)

@@ -1,9 +1,10 @@
-use Rattle.std.proofs.Common.{arith, rules}
+use Rattle.std.proofs.Common.{[], ◌∷◌, arith, rules}
 use Rattle.std.proofs.lemmas.Result.{err_from_is_err_and}
 use Rattle.tw_input.specs.EventView.{event_view}
 use Rattle.tw_device.specs.contracts.terminal.AnsiTerminalTerminal.TheImpl as terminal
 use Rattle.tw_device.specs.Told.{answer_events}
 use Rattle.tw_device.proofs.CallLemmas.{called_more, told_answer}
+use Rattle.tw_device.proofs.DeedLemmas.{led_on, led_still}
 use Rattle.tw_device.proofs.LiveLemmas.{fails_by_one, comes_by_one, counted}
 use Rattle.tw_device.proofs.reading.take_events.Goals as goal
 use Rattle.tw_lineedit.specs.Frame.{frame}
@@ -44,6 +45,43 @@ returns-in-Err-clause-called g c =
     called_more source.told source.follows c.args.source.now c.loop-turn.source c.next_event.new.self (answer_events c.next_event.result) c.loop-turn.invariant.called c.next_event.ensures.follows
     (told_answer _ c.next_event.result (source.told c.loop-turn.source) (source.told c.next_event.new.self) c.next_event.ensures.ok c.next_event.ensures.told)
 
+pub returns-in-Ended-clause-ok : goal.returns-in-Ended-clause-ok
+returns-in-Ended-clause-ok g c =
+    let source = g.S.EventSource in
+    let state = (terminal.ghosts g.row.W g.W.Write g.W.Write-dict).state in
+    comes_by_one g.H.LineEditorHost.rules g.H.LineEditorHost.OVERRIDES (source.told c.args.source.now) (source.told c.loop-turn.source) (source.told c.next_event.new.self) (event_view c.in-Ok-Some.event)
+    (frame state g.H.LineEditorHost.value c.args.editor.now c.args.host.now) (frame state g.H.LineEditorHost.value c.loop-turn.editor c.loop-turn.host) (frame state g.H.LineEditorHost.value c.feed.new.editor c.feed.new.host)
+    c.loop-turn.invariant.comes (rw c.in-Ok-Some.field-0-is at c.in-Ok-Some.ensures.ok) c.in_ok-feed-in-Ok-Some.ensures.ok
+
+pub returns-in_err-feed-in-Ok-Some-clause-led : goal.returns-in_err-feed-in-Ok-Some-clause-led
+returns-in_err-feed-in-Ok-Some-clause-led g c =
+    let source = g.S.EventSource in
+    led_on g.W.Write.contents (source.told c.args.source.now) (source.told c.loop-turn.source) (source.told c.next_event.new.self) (event_view c.in-Ok-Some.event ∷ [])
+    c.args.editor.now.terminal.now c.loop-turn.editor.terminal.now c.feed.new.editor.terminal.now c.loop-turn.invariant.led
+    (rw c.in-Ok-Some.field-0-is at c.in-Ok-Some.ensures.ok) c.in_err-feed-in-Ok-Some.ensures.led
+
+pub returns-in-Ended-clause-led : goal.returns-in-Ended-clause-led
+returns-in-Ended-clause-led g c =
+    let source = g.S.EventSource in
+    led_on g.W.Write.contents (source.told c.args.source.now) (source.told c.loop-turn.source) (source.told c.next_event.new.self) (event_view c.in-Ok-Some.event ∷ [])
+    c.args.editor.now.terminal.now c.loop-turn.editor.terminal.now c.feed.new.editor.terminal.now c.loop-turn.invariant.led
+    (rw c.in-Ok-Some.field-0-is at c.in-Ok-Some.ensures.ok) c.in_ok-feed-in-Ok-Some.ensures.led
+
+pub returns-in-Ok-None-clause-led : goal.returns-in-Ok-None-clause-led
+returns-in-Ok-None-clause-led g c =
+    let source = g.S.EventSource in
+    led_still g.W.Write.contents (source.told c.args.source.now) (source.told c.loop-turn.source) (source.told c.next_event.new.self)
+    c.args.editor.now.terminal.now c.loop-turn.editor.terminal.now c.loop-turn.invariant.led (rw c.in-Ok-None.field-0-is at c.in-Ok-None.ensures.ok).0
+
+pub returns-in-Err-clause-led : goal.returns-in-Err-clause-led
+returns-in-Err-clause-led g c =
+    let source = g.S.EventSource in
+    led_still g.W.Write.contents (source.told c.args.source.now) (source.told c.loop-turn.source) (source.told c.next_event.new.self)
+    c.args.editor.now.terminal.now c.loop-turn.editor.terminal.now c.loop-turn.invariant.led c.in-Err.ensures.told
+
+pub returns-clause-led : goal.returns-clause-led
+returns-clause-led g c = c.loop-turn.invariant.led
+
 pub loop-turn-preserved : goal.loop-turn-preserved
 loop-turn-preserved g c =
     let source = g.S.EventSource in
@@ -60,5 +98,8 @@ loop-turn-preserved g c =
           c.loop-turn.invariant.count told;
       called = called_more source.told source.follows c.args.source.now c.loop-turn.source c.next_event.new.self (answer_events c.next_event.result) c.loop-turn.invariant.called c.next_event.ensures.follows
           (told_answer _ c.next_event.result (source.told c.loop-turn.source) (source.told c.next_event.new.self) c.next_event.ensures.ok c.next_event.ensures.told);
+      led = led_on g.W.Write.contents (source.told c.args.source.now) (source.told c.loop-turn.source) (source.told c.next_event.new.self) (event_view c.in-Ok-Some.event ∷ [])
+          c.args.editor.now.terminal.now c.loop-turn.editor.terminal.now c.feed.new.editor.terminal.now c.loop-turn.invariant.led
+          (rw c.in-Ok-Some.field-0-is at c.in-Ok-Some.ensures.ok) c.in_ok-feed-in-Ok-Some.ensures.led;
       still_open = search rules;
     }

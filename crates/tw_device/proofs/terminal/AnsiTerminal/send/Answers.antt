@@ -1,13 +1,7 @@
-use Rattle.std.proofs.Common.{◌++◌, ◌∙◌, ap, subst, append_assoc, ℕ, List, Option, Some, None}
+use Rattle.std.proofs.Common.{◌++◌, subst, ℕ, List}
 use Rattle.std.specs.Io.KnownBytes.{Appends}
+use Rattle.tw_device.proofs.DeedLemmas.{appends_then}
 use Rattle.tw_device.proofs.terminal.AnsiTerminal.send.Goals as goal
-
--- bytes behind bytes
-appends_then : (a b c : Option (List ℕ)) (xs ys : List ℕ) → Appends a b xs → Appends b c ys → Appends a c (xs ++ ys)
-appends_then None b c xs ys first then = tt
-appends_then (Some old) None c xs ys first then = absurd first
-appends_then (Some old) (Some between) None xs ys first then = absurd then
-appends_then (Some old) (Some between) (Some new) xs ys first then = then ∙ ap (λ v. v ++ ys) first ∙ append_assoc old xs ys
 
 pub returns-clause-sent : goal.returns-clause-sent
 returns-clause-sent c d =
