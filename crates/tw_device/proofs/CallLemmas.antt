@@ -2,7 +2,9 @@
 use Rattle.std.proofs.Common.{◌≡◌, ◌+◌, List, [], ◌∷◌, ◌++◌, Option, Some, None, Result, Ok, Err, IfOk, OnErr, MatchOption, refl, sym, ap, ◌∙◌, subst, append_assoc, append-nil}
 use Rattle.tw_input.specs.declared.event.InputEvent.{InputEvent}
 use Rattle.tw_input.specs.EventView.{EventView, event_view}
-use Rattle.tw_device.specs.Calls.{all_events, Calls, IsCalled}
+use Rattle.tw_terminal.specs.Uses.{Uses}
+use Rattle.tw_lineedit.proofs.UseLemmas.{both_uses}
+use Rattle.tw_device.specs.Calls.{all_events, IsCalled}
 use Rattle.tw_device.specs.Told.{answer_events}
 use Rattle.tw_device.specs.Typed.{Held, Tells}
 use Rattle.tw_device.proofs.TypedLemmas.{tells_nothing, tells_then}
@@ -12,11 +14,6 @@ all_and_more [] events = append-nil events
 all_and_more (part ∷ parts) events = ap (λ es. part ++ es) (all_and_more parts events) ∙ sym (append_assoc part (all_events parts) events)
 
 module _ {S : Type 0} (told : S → List EventView) (Follows : S → S → List EventView → Type 0) where
-  calls_more : (parts : List (List EventView)) (old between new : S) (events : List EventView)
-      → Calls told Follows parts old between → Follows between new events → Calls told Follows (parts ++ events ∷ []) old new
-  calls_more [] old between new events same follows = (new, subst (λ s. Follows s new events) same follows, refl)
-  calls_more (part ∷ parts) old between new events calls follows = (calls.0, calls.1, calls_more parts calls.0 between new events calls.2 follows)
-
   -- no call
   pub not_called : (source : S) → IsCalled told Follows source source
   not_called source = ([], sym (append-nil (told source)), refl)
@@ -27,12 +24,12 @@ module _ {S : Type 0} (told : S → List EventView) (Follows : S → S → List 
   called_more old between new events is follows grown = (
     is.0 ++ events ∷ [],
     grown ∙ ap (λ es. es ++ events) is.1 ∙ append_assoc (told old) (all_events is.0) events ∙ ap (λ es. told old ++ es) (sym (all_and_more is.0 events)),
-    calls_more is.0 old between new events is.2 follows,
+    both_uses Follows is.0 (events ∷ []) old between new is.2 (new, follows, refl),
   )
 
 -- what each call of a reader tells is told by them all
 pub calls_tell : {S : Type 0} (told : S → List EventView) (held : S → Held) (parts : List (List EventView)) (old new : S)
-    → Calls told (λ a b events. Tells (held a) (held b) events) parts old new → Tells (held old) (held new) (all_events parts)
+    → Uses (λ a b events. Tells (held a) (held b) events) parts old new → Tells (held old) (held new) (all_events parts)
 calls_tell told held [] old new same = subst (λ s. Tells (held old) (held s) []) (sym same) (0, tells_nothing (held old))
 calls_tell told held (events ∷ parts) old new calls =
     let later = calls_tell told held parts calls.0 new calls.2 in

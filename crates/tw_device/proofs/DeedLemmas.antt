@@ -10,7 +10,7 @@ use Rattle.tw_terminal.specs.Uses.{Call, Took, Refused, Other, Uses, IsUsed, wit
 use Rattle.tw_ansi.specs.declared.encode.Encoder.{Encoder}
 use Rattle.tw_device.specs.Terminal.{terminal_state}
 use Rattle.tw_device.specs.declared.terminal.AnsiTerminal.{AnsiTerminal}
-use Rattle.tw_device.specs.Deeds.{Deed, Called, Sized, Said, sent_deed, sent_by, batches_by, sizes_by, sizes_in, is_whole, none_refused, Sends, Does, IsLedBy, IsLedAsTold, DeedsAreSent, FailuresAreCounted}
+use Rattle.tw_device.specs.Deeds.{Deed, Called, Sized, Said, sent_deed, sent_by, batches_by, sizes_by, sizes_in, texts_by, is_whole, none_refused, Sends, Does, IsLedBy, IsLedAsTold, DeedsAreSent, FailuresAreCounted}
 use Rattle.tw_lineedit.proofs.FailureLemmas.{le_count, rose_once}
 use Rattle.tw_lineedit.proofs.UseLemmas.{both_uses}
 
@@ -49,12 +49,22 @@ sizes_by-both (Called call ∷ first) then = sizes_by-both first then
 sizes_by-both (Sized size ∷ first) then = ap (λ sizes. size ∷ sizes) (sizes_by-both first then)
 sizes_by-both (Said text ∷ first) then = sizes_by-both first then
 
+texts_by-both : (first then : List Deed) → texts_by (first ++ then) ≡ texts_by first ++ texts_by then
+texts_by-both [] then = refl
+texts_by-both (Called call ∷ first) then = texts_by-both first then
+texts_by-both (Sized size ∷ first) then = texts_by-both first then
+texts_by-both (Said text ∷ first) then = ap (λ texts. text ∷ texts) (texts_by-both first then)
+
 sizes_in-both : (first then : List EventView) → sizes_in (first ++ then) ≡ sizes_in first ++ sizes_in then
 sizes_in-both [] then = refl
 sizes_in-both (Key key ∷ first) then = sizes_in-both first then
 sizes_in-both (Resized cols rows ∷ first) then = ap (λ sizes. record { rows = rows; cols = cols } ∷ sizes) (sizes_in-both first then)
 sizes_in-both (Paste text ∷ first) then = sizes_in-both first then
 sizes_in-both (Wake ∷ first) then = sizes_in-both first then
+
+no-texts : (calls : List Call) → texts_by (map Called calls) ≡ []
+no-texts [] = refl
+no-texts (call ∷ calls) = no-texts calls
 
 no-sizes : (calls : List Call) → sizes_by (map Called calls) ≡ []
 no-sizes [] = refl
@@ -161,7 +171,7 @@ module _ {W : Type 0} (contents : W → Option (List ℕ)) where
   -- ---- what leads a terminal
 
   pub led_by_nothing : (it : AnsiTerminal W) → IsLedBy contents [] it it
-  led_by_nothing it = ([], refl, refl)
+  led_by_nothing it = ([], refl, refl, refl)
 
   -- calls alone
   uses-of-calls : (calls : List Call) (old new : AnsiTerminal W) → Uses (λ a b call. Does contents a b (Called call)) calls old new
@@ -170,23 +180,24 @@ module _ {W : Type 0} (contents : W → Option (List ℕ)) where
   uses-of-calls (call ∷ calls) old new (between, does, uses) = (between, does, uses-of-calls calls between new uses)
 
   pub led_by_calls : (old new : AnsiTerminal W) → IsUsed (λ a b call. Does contents a b (Called call)) old new → IsLedBy contents [] old new
-  led_by_calls old new (calls, uses) = (map Called calls, uses-of-calls calls old new uses, no-sizes calls)
+  led_by_calls old new (calls, uses) = (map Called calls, uses-of-calls calls old new uses, no-sizes calls, no-texts calls)
 
   -- some events, and then others
   pub led_then : (first then : List EventView) (old between new : AnsiTerminal W) → IsLedBy contents first old between
       → IsLedBy contents then between new → IsLedBy contents (first ++ then) old new
-  led_then first then old between new (first-deeds, first-uses, first-sizes) (then-deeds, then-uses, then-sizes) = (
+  led_then first then old between new (first-deeds, first-uses, first-sizes, first-texts) (then-deeds, then-uses, then-sizes, then-texts) = (
     first-deeds ++ then-deeds,
     both_uses (Does contents) first-deeds then-deeds old between new first-uses then-uses,
     sizes_by-both first-deeds then-deeds ∙ ap (λ sizes. sizes ++ sizes_by then-deeds) first-sizes
         ∙ ap (λ sizes. sizes_in first ++ sizes) then-sizes ∙ sym (sizes_in-both first then),
+    texts_by-both first-deeds then-deeds ∙ ap (λ texts. texts ++ texts_by then-deeds) first-texts ∙ then-texts,
   )
 
   -- ---- what leads a terminal while events are told
 
   -- nothing is told, and the terminal is the same
   pub led_unmoved : (told : List EventView) (old new : AnsiTerminal W) → new ≡ old → IsLedAsTold contents told told old new
-  led_unmoved told old new same = ([], sym (append-nil told), ([], same, refl))
+  led_unmoved told old new same = ([], sym (append-nil told), ([], same, refl, refl))
 
   -- the same terminals
   pub led_between : (before after : List EventView) (old old-is new new-is : AnsiTerminal W) → old-is ≡ old → new ≡ new-is

@@ -1,6 +1,7 @@
 -- What a source did over many calls.
 use Rattle.std.specs.Prelude.{◌≡◌, List, [], ◌∷◌, ◌++◌}
 use Rattle.tw_input.specs.EventView.{EventView}
+use Rattle.tw_terminal.specs.Uses.{Uses}
 
 -- all events of some calls
 abbrev pub all_events : List (List EventView) → List EventView
@@ -8,11 +9,6 @@ all_events [] = []
 all_events (events ∷ more) = events ++ all_events more
 
 module _ {S : Type 0} (told : S → List EventView) (Follows : S → S → List EventView → Type 0) where
-  -- one call after the other, each with the events that it told
-  abbrev pub Calls : List (List EventView) → S → S → Type 0
-  Calls [] old new = new ≡ old
-  Calls (events ∷ more) old new = (between : S) × Follows old between events × Calls more between new
-
   -- calls alone led from the one to the other, and the events that they told, and no other, were told
   abbrev pub IsCalled : S → S → Type 0
-  IsCalled old new = (parts : List (List EventView)) × (told new ≡ told old ++ all_events parts) × Calls parts old new
+  IsCalled old new = (parts : List (List EventView)) × (told new ≡ told old ++ all_events parts) × Uses Follows parts old new

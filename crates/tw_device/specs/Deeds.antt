@@ -51,6 +51,13 @@ sizes_by (Called call ∷ deeds) = sizes_by deeds
 sizes_by (Sized size ∷ deeds) = size ∷ sizes_by deeds
 sizes_by (Said text ∷ deeds) = sizes_by deeds
 
+-- the texts that the owner sent
+abbrev pub texts_by : List Deed → List (List ℕ)
+texts_by [] = []
+texts_by (Called call ∷ deeds) = texts_by deeds
+texts_by (Sized size ∷ deeds) = texts_by deeds
+texts_by (Said text ∷ deeds) = text ∷ texts_by deeds
+
 -- the sizes that events tell
 abbrev pub sizes_in : List EventView → List ScreenSize
 sizes_in [] = []
@@ -92,7 +99,7 @@ module _ {W : Type 0} (contents : W → Option (List ℕ)) where
 
   -- Calls, and the sizes that these events tell, and nothing else, lead from the one to the other.
   abbrev pub IsLedBy : List EventView → AnsiTerminal W → AnsiTerminal W → Type 0
-  IsLedBy events old new = (deeds : List Deed) × Uses Does deeds old new × (sizes_by deeds ≡ sizes_in events)
+  IsLedBy events old new = (deeds : List Deed) × Uses Does deeds old new × (sizes_by deeds ≡ sizes_in events) × (texts_by deeds ≡ [])
 
   -- These events were told since, and it was led by them.
   abbrev pub IsLedAsTold : List EventView → List EventView → AnsiTerminal W → AnsiTerminal W → Type 0
