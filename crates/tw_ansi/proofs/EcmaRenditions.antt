@@ -2,7 +2,8 @@
 use Rattle.std.proofs.Common.{◌≡◌, ◌<◌, ℕ, Bool, true, false, cond, eqb, leb, ltb, List, [], ◌∷◌, ◌++◌, length, codes, arith, ap, ◌∙◌, sym, refl}
 use Rattle.std.specs.Fmt.{decimal}
 use Rattle.std.specs.List.{list_all, flat_map}
-use Rattle.std.proofs.lemmas.Bool.{ne_eqb, and_parts, ltb-true}
+use Rattle.std.proofs.lemmas.Bool.{ne_eqb, and_from, and_parts, ltb-true}
+use Rattle.std.proofs.lemmas.List.Folds.{list_all-append}
 use Rattle.tw_surface.specs.declared.cell.AttributeChange.{AttributeChange}
 use Rattle.tw_surface.specs.declared.cell.AttributeChange.TheVariants.{Intensity, Underline, Italic, Blink, Reverse, StrikeThrough, Invisible, Foreground, Background}
 use Rattle.tw_surface.specs.declared.cell.CellAttributes.{CellAttributes}
@@ -14,13 +15,14 @@ use Rattle.tw_surface.specs.declared.color.ColorAttribute.TheVariants.{Default, 
 use Rattle.tw_surface.specs.Attributes.{with_attribute}
 use Rattle.tw_surface.specs.Defaults.{default_attributes}
 use Rattle.tw_screens.specs.Pens.{Pen}
-use Rattle.tw_ansi.specs.KeyBytes.{is_parameter, value_after}
-use Rattle.tw_ansi.specs.Sequences.{sequence, attribute_parameters, set_attribute, set_unless_off, attributes_of, is_off}
+use Rattle.tw_ansi.specs.KeyBytes.{is_digit, is_parameter, value_after}
+use Rattle.tw_ansi.specs.Sequences.{sequence, color_parameters, attribute_parameters, set_attribute, set_unless_off, attributes_of, is_off}
 use Rattle.tw_ansi.specs.Selections.{fields, onto_first, selected, selected_by, selects}
-use Rattle.tw_ansi.specs.EcmaScreen.{EcmaScreen, receive_all, is_digit}
+use Rattle.tw_ansi.specs.EcmaScreen.{EcmaScreen, receive_all}
 use Rattle.tw_ansi.specs.EcmaScreen as terminal
 use Rattle.tw_ansi.specs.EcmaLaws.{at_rest, IsColor, IsAttribute, AttributeIsSelected, AttributesAreSelected}
-use Rattle.tw_ansi.proofs.EcmaSequences.{all_of_both, decimal_digits, decimal_parameters, decimal_value, received, acted}
+use Rattle.tw_ansi.proofs.Numbers.{decimal_value, decimal_digits, decimal_parameters}
+use Rattle.tw_ansi.proofs.EcmaSequences.{received, acted}
 
 -- ---- the parameters of colours
 
@@ -69,49 +71,38 @@ three_more xs r g b p q s =
 byte_value : (n : ℕ) → n < 256 → value_after 0 (decimal n) ≡ n
 byte_value n small = decimal_value n (omega (arith, small))
 
-foreground_selected : (color : ColorAttribute) (a : CellAttributes) → IsColor color
-    → selected (attribute_parameters (Foreground color)) a ≡ with_attribute (Foreground color) a
-foreground_selected Default a fits = refl
-foreground_selected (PaletteIndex index) a fits =
-    ap (λ fs. (selected_by fs (selects a)).attributes) (one_more (codes "38;5") index fits)
-    ∙ ap (λ n. with_attribute (Foreground (PaletteIndex n)) a) (byte_value index fits)
-foreground_selected (TrueColorWithDefaultFallback r g b) a fits =
-    ap (λ fs. (selected_by fs (selects a)).attributes) (three_more (codes "38;2") r g b fits.0 fits.1 fits.2)
-    ∙ ap (λ n. with_attribute (Foreground (TrueColorWithDefaultFallback n (value_after 0 (decimal g)) (value_after 0 (decimal b)))) a) (byte_value r fits.0)
-    ∙ ap (λ n. with_attribute (Foreground (TrueColorWithDefaultFallback r n (value_after 0 (decimal b)))) a) (byte_value g fits.1)
-    ∙ ap (λ n. with_attribute (Foreground (TrueColorWithDefaultFallback r g n)) a) (byte_value b fits.2)
+-- a colour of a kind is selected by its parameters, where the digit before them and what stands behind it lead to that kind
+color_selected : (kind : ColorAttribute → AttributeChange) (digit : ℕ) (a : CellAttributes)
+    → selected (digit ∷ codes "9") a ≡ with_attribute (kind Default) a
+    → ((index : List ℕ) → (selected_by (fields (digit ∷ codes "8;5") ++ index ∷ []) (selects a)).attributes ≡ with_attribute (kind (PaletteIndex (value_after 0 index))) a)
+    → ((r g b : List ℕ) → (selected_by (fields (digit ∷ codes "8;2") ++ r ∷ [] ++ g ∷ [] ++ b ∷ []) (selects a)).attributes
+    ≡ with_attribute (kind (TrueColorWithDefaultFallback (value_after 0 r) (value_after 0 g) (value_after 0 b))) a)
+    → (color : ColorAttribute) → IsColor color → selected (color_parameters (digit ∷ []) color) a ≡ with_attribute (kind color) a
+color_selected kind digit a default indexed mixed Default fits = default
+color_selected kind digit a default indexed mixed (PaletteIndex index) fits =
+    ap (λ fs. (selected_by fs (selects a)).attributes) (one_more (digit ∷ codes "8;5") index fits)
+    ∙ indexed (decimal index)
+    ∙ ap (λ n. with_attribute (kind (PaletteIndex n)) a) (byte_value index fits)
+color_selected kind digit a default indexed mixed (TrueColorWithDefaultFallback r g b) fits =
+    ap (λ fs. (selected_by fs (selects a)).attributes) (three_more (digit ∷ codes "8;2") r g b fits.0 fits.1 fits.2)
+    ∙ mixed (decimal r) (decimal g) (decimal b)
+    ∙ ap (λ n. with_attribute (kind (TrueColorWithDefaultFallback n (value_after 0 (decimal g)) (value_after 0 (decimal b)))) a) (byte_value r fits.0)
+    ∙ ap (λ n. with_attribute (kind (TrueColorWithDefaultFallback r n (value_after 0 (decimal b)))) a) (byte_value g fits.1)
+    ∙ ap (λ n. with_attribute (kind (TrueColorWithDefaultFallback r g n)) a) (byte_value b fits.2)
 
-background_selected : (color : ColorAttribute) (a : CellAttributes) → IsColor color
-    → selected (attribute_parameters (Background color)) a ≡ with_attribute (Background color) a
-background_selected Default a fits = refl
-background_selected (PaletteIndex index) a fits =
-    ap (λ fs. (selected_by fs (selects a)).attributes) (one_more (codes "48;5") index fits)
-    ∙ ap (λ n. with_attribute (Background (PaletteIndex n)) a) (byte_value index fits)
-background_selected (TrueColorWithDefaultFallback r g b) a fits =
-    ap (λ fs. (selected_by fs (selects a)).attributes) (three_more (codes "48;2") r g b fits.0 fits.1 fits.2)
-    ∙ ap (λ n. with_attribute (Background (TrueColorWithDefaultFallback n (value_after 0 (decimal g)) (value_after 0 (decimal b)))) a) (byte_value r fits.0)
-    ∙ ap (λ n. with_attribute (Background (TrueColorWithDefaultFallback r n (value_after 0 (decimal b)))) a) (byte_value g fits.1)
-    ∙ ap (λ n. with_attribute (Background (TrueColorWithDefaultFallback r g n)) a) (byte_value b fits.2)
+-- the number of a byte, behind other parameters
+byte_parameters : (xs ys : List ℕ) (n : ℕ) → n < 256 → list_all is_parameter xs ≡ true → list_all is_parameter ys ≡ true → list_all is_parameter (xs ++ ys ++ decimal n) ≡ true
+byte_parameters xs ys n small a b =
+    list_all-append is_parameter (xs ++ ys) (decimal n)
+    ∙ and_from _ _ (list_all-append is_parameter xs ys ∙ and_from _ _ a b) (decimal_parameters n (omega (arith, small)))
 
-byte_parameters : (xs : List ℕ) (n : ℕ) → n < 256 → list_all is_parameter xs ≡ true → list_all is_parameter (xs ++ decimal n) ≡ true
-byte_parameters xs n small a = all_of_both is_parameter xs (decimal n) a (decimal_parameters n (omega (arith, small)))
-
-color_parameters : (xs : List ℕ) (r g b : ℕ) → r < 256 → g < 256 → b < 256 → list_all is_parameter xs ≡ true
-    → list_all is_parameter (xs ++ decimal r ++ 59 ∷ [] ++ decimal g ++ 59 ∷ [] ++ decimal b) ≡ true
-color_parameters xs r g b p q s a =
-    byte_parameters (xs ++ decimal r ++ 59 ∷ [] ++ decimal g ++ 59 ∷ []) b s
-    (all_of_both is_parameter (xs ++ decimal r ++ 59 ∷ [] ++ decimal g) (59 ∷ [])
-    (byte_parameters (xs ++ decimal r ++ 59 ∷ []) g q (all_of_both is_parameter (xs ++ decimal r) (59 ∷ []) (byte_parameters xs r p a) refl)) refl)
-
-foreground_parameters : (color : ColorAttribute) → IsColor color → list_all is_parameter (attribute_parameters (Foreground color)) ≡ true
-foreground_parameters Default fits = refl
-foreground_parameters (PaletteIndex index) fits = byte_parameters (codes "38;5;") index fits refl
-foreground_parameters (TrueColorWithDefaultFallback r g b) fits = color_parameters (codes "38;2;") r g b fits.0 fits.1 fits.2 refl
-
-background_parameters : (color : ColorAttribute) → IsColor color → list_all is_parameter (attribute_parameters (Background color)) ≡ true
-background_parameters Default fits = refl
-background_parameters (PaletteIndex index) fits = byte_parameters (codes "48;5;") index fits refl
-background_parameters (TrueColorWithDefaultFallback r g b) fits = color_parameters (codes "48;2;") r g b fits.0 fits.1 fits.2 refl
+color_is_parameters : (kind : List ℕ) (color : ColorAttribute) → list_all is_parameter kind ≡ true → IsColor color → list_all is_parameter (color_parameters kind color) ≡ true
+color_is_parameters kind Default a fits = list_all-append is_parameter kind (codes "9") ∙ and_from _ _ a refl
+color_is_parameters kind (PaletteIndex index) a fits = byte_parameters kind (codes "8;5;") index fits a refl
+color_is_parameters kind (TrueColorWithDefaultFallback r g b) a fits =
+    let red = byte_parameters kind (codes "8;2;") r fits.0 a refl in
+    let green = byte_parameters (kind ++ codes "8;2;" ++ decimal r) (codes ";") g fits.1 red refl in
+    byte_parameters (kind ++ codes "8;2;" ++ decimal r ++ codes ";" ++ decimal g) (codes ";") b fits.2 green refl
 
 -- ---- attributes that are off
 
@@ -140,15 +131,13 @@ switch_off : (kind : Bool → AttributeChange) (to : Bool) (a : CellAttributes) 
 switch_off kind false a first on off = first
 switch_off kind true a first on off = absurd (cc (sym on ∙ off))
 
-foreground_off : (to : ColorAttribute) (a : CellAttributes) → a.foreground ≡ Default → is_off (Foreground to) ≡ true → a ≡ with_attribute (Foreground to) a
-foreground_off Default a first off = ap (λ x. record a { foreground = x }) first
-foreground_off (PaletteIndex index) a first off = absurd (cc off)
-foreground_off (TrueColorWithDefaultFallback r g b) a first off = absurd (cc off)
-
-background_off : (to : ColorAttribute) (a : CellAttributes) → a.background ≡ Default → is_off (Background to) ≡ true → a ≡ with_attribute (Background to) a
-background_off Default a first off = ap (λ x. record a { background = x }) first
-background_off (PaletteIndex index) a first off = absurd (cc off)
-background_off (TrueColorWithDefaultFallback r g b) a first off = absurd (cc off)
+-- a colour
+color_off : (kind : ColorAttribute → AttributeChange) (to : ColorAttribute) (a : CellAttributes) → a ≡ with_attribute (kind Default) a
+    → ((index : ℕ) → is_off (kind (PaletteIndex index)) ≡ false) → ((r g b : ℕ) → is_off (kind (TrueColorWithDefaultFallback r g b)) ≡ false)
+    → is_off (kind to) ≡ true → a ≡ with_attribute (kind to) a
+color_off kind Default a first indexed mixed off = first
+color_off kind (PaletteIndex index) a first indexed mixed off = absurd (cc (sym (indexed index) ∙ off))
+color_off kind (TrueColorWithDefaultFallback r g b) a first indexed mixed off = absurd (cc (sym (mixed r g b) ∙ off))
 
 module _ {A C : Type 0} (pen : Pen A C) where
   -- a terminal at rest with these attributes
@@ -183,9 +172,11 @@ module _ {A C : Type 0} (pen : Pen A C) where
   attribute_is_selected h w (Invisible false) t fits = chosen h w (Invisible false) t refl refl
   attribute_is_selected h w (Invisible true) t fits = chosen h w (Invisible true) t refl refl
   attribute_is_selected h w (Foreground color) t fits =
-      chosen h w (Foreground color) t (foreground_parameters color fits) (foreground_selected color t.rendition fits)
+      chosen h w (Foreground color) t (color_is_parameters (codes "3") color refl fits)
+      (color_selected Foreground 51 t.rendition refl (λ index. refl) (λ r g b. refl) color fits)
   attribute_is_selected h w (Background color) t fits =
-      chosen h w (Background color) t (background_parameters color fits) (background_selected color t.rendition fits)
+      chosen h w (Background color) t (color_is_parameters (codes "4") color refl fits)
+      (color_selected Background 52 t.rendition refl (λ index. refl) (λ r g b. refl) color fits)
 
   -- an attribute that is not sent where it is off
   unless_off : (h w : ℕ) (change : AttributeChange) (t : EcmaScreen C) → IsAttribute change
@@ -234,5 +225,5 @@ module _ {A C : Type 0} (pen : Pen A C) where
       (then_more h w (Reverse to.reverse) struck e to t tt (switch_off Reverse to.reverse e refl refl)
       (then_more h w (StrikeThrough to.strikethrough) hidden f to t tt (switch_off StrikeThrough to.strikethrough f refl refl)
       (then_more h w (Invisible to.invisible) colors g to t tt (switch_off Invisible to.invisible g refl refl)
-      (then_more h w (Foreground to.foreground) last i to t p (foreground_off to.foreground i refl)
-      (then_more h w (Background to.background) [] j to t q (background_off to.background j refl) refl))))))))
+      (then_more h w (Foreground to.foreground) last i to t p (color_off Foreground to.foreground i refl (λ index. refl) (λ r g b. refl))
+      (then_more h w (Background to.background) [] j to t q (color_off Background to.background j refl (λ index. refl) (λ r g b. refl)) refl))))))))

@@ -1,51 +1,16 @@
 -- What a terminal does at each move that is sent.
-use Rattle.std.proofs.Common.{◌≡◌, ◌≤◌, ◌<◌, ◌+◌, ◌-◌, ◌*◌, ◌%◌, ◌^◌, ℕ, eqb, true, false, cond, min, List, [], ◌∷◌, ◌++◌, codes, arith, ap, ◌∙◌, sym, refl, inl, inr, ◌⊎◌, append_assoc, append-nil}
+use Rattle.std.proofs.Common.{◌≡◌, ◌<◌, ◌+◌, ◌-◌, ◌^◌, ℕ, eqb, true, false, cond, min, List, [], ◌∷◌, ◌++◌, codes, arith, ap, ◌∙◌, sym, refl, inl, inr, ◌⊎◌, append_assoc, append-nil}
 use Rattle.std.specs.Fmt.{decimal}
 use Rattle.std.specs.List.{list_all}
-use Rattle.std.proofs.lemmas.Fmt.{decimal_by_steps}
-use Rattle.std.proofs.lemmas.Bool.{eq-eqb, ne_eqb, lt-ltb, le-leb, cases_eq, and_from, and_parts, leb-true, ltb-true}
+use Rattle.std.proofs.lemmas.Bool.{eq-eqb, ne_eqb, cases_eq, and_parts}
 use Rattle.tw_screens.specs.Pens.{Pen}
-use Rattle.tw_ansi.specs.KeyBytes.{is_parameter, value_after}
+use Rattle.tw_ansi.specs.KeyBytes.{is_digit, is_parameter, value_after}
 use Rattle.tw_ansi.specs.Sequences.{sequence, to_column, most_rows}
-use Rattle.tw_ansi.specs.EcmaScreen.{EcmaScreen, receive, receive_all, is_digit, steps, act, act_by}
+use Rattle.tw_ansi.specs.EcmaScreen.{EcmaScreen, receive, receive_all, steps, act, act_by}
 use Rattle.tw_ansi.specs.EcmaScreen as terminal
 use Rattle.tw_ansi.specs.Selections.{selected}
 use Rattle.tw_ansi.specs.EcmaLaws.{at_rest, ColumnsAreReached, RowsAboveAreReached}
-
--- ---- the digits of a number
-
-pub all_of_both : (p : ℕ → _) (xs ys : List ℕ) → list_all p xs ≡ true → list_all p ys ≡ true → list_all p (xs ++ ys) ≡ true
-all_of_both p [] ys a b = b
-all_of_both p (x ∷ xs) ys a b = let parts = and_parts _ _ a in and_from _ _ parts.0 (all_of_both p xs ys parts.1 b)
-
-one_digit : (d : ℕ) → d < 10 → list_all is_digit ((48 + d) ∷ []) ≡ true
-one_digit d small = and_from _ _ (and_from _ _ (le-leb 48 (48 + d) (omega arith)) (lt-ltb (48 + d) 58 (omega arith))) refl
-
-pub decimal_digits : (n : ℕ) → n < 2 ^ 64 → list_all is_digit (decimal n) ≡ true
-decimal_digits =
-    decimal_by_steps (λ n ds. list_all is_digit ds ≡ true) (λ n small. one_digit n small)
-    (λ n ds large front. all_of_both is_digit ds ((48 + n % 10) ∷ []) front (one_digit (n % 10) (omega arith)))
-
-pub digits_parameters : (ds : List ℕ) → list_all is_digit ds ≡ true → list_all is_parameter ds ≡ true
-digits_parameters [] a = refl
-digits_parameters (d ∷ ds) a =
-    let parts = and_parts _ _ a in
-    let bounds = and_parts _ _ parts.0 in
-    let low : 48 ≤ d = leb-true 48 d bounds.0 in
-    let high : d < 58 = ltb-true d 58 bounds.1 in
-    and_from _ _ (and_from _ _ (le-leb 32 d (omega arith)) (lt-ltb d 64 (omega arith))) (digits_parameters ds parts.1)
-
-pub decimal_parameters : (n : ℕ) → n < 2 ^ 64 → list_all is_parameter (decimal n) ≡ true
-decimal_parameters n small = digits_parameters (decimal n) (decimal_digits n small)
-
-value_of_both : (n : ℕ) (xs ys : List ℕ) → value_after n (xs ++ ys) ≡ value_after (value_after n xs) ys
-value_of_both n [] ys = refl
-value_of_both n (x ∷ xs) ys = value_of_both (n * 10 + (x - 48)) xs ys
-
-pub decimal_value : (n : ℕ) → n < 2 ^ 64 → value_after 0 (decimal n) ≡ n
-decimal_value =
-    decimal_by_steps (λ n ds. value_after 0 ds ≡ n) (λ n small. omega arith)
-    (λ n ds large front. value_of_both 0 ds ((48 + n % 10) ∷ []) ∙ ap (λ k. k * 10 + ((48 + n % 10) - 48)) front ∙ omega arith)
+use Rattle.tw_ansi.proofs.Numbers.{decimal_value, decimal_digits, decimal_parameters}
 
 -- a number of steps that is not 0
 pub steps_taken : (n : ℕ) → 0 < n → steps n ≡ n

@@ -1,54 +1,17 @@
 -- Reports of the cursor's place, and pasted texts.
-use Rattle.std.proofs.Common.{◌≡◌, ◌≢◌, ◌<◌, ◌+◌, ◌*◌, ◌-◌, ◌%◌, ◌^◌, min, ℕ, suc, Bool, true, false, not, ◌&&◌, cond, eqb, ltb, leb, List, [], ◌∷◌, ◌++◌, Option, Some, None, option_map, take, drop, length, append_assoc, length-append, take_at, drop_at, arith, ap, ◌∙◌, sym, refl}
+use Rattle.std.proofs.Common.{◌≡◌, ◌≢◌, ◌<◌, ◌+◌, ◌^◌, min, ℕ, suc, Bool, true, false, not, ◌&&◌, cond, eqb, List, [], ◌∷◌, ◌++◌, Option, Some, None, option_map, take, drop, length, append_assoc, length-append, take_at, drop_at, arith, ap, ◌∙◌, sym, refl}
 use Rattle.std.specs.Fmt.{decimal}
 use lib.Pointwise.{bytes_decides}
 use Rattle.std.specs.List.{list_all, prefix_len, starts_with}
-use Rattle.std.proofs.lemmas.Bool.{lt-ltb, le-ltb, le-leb, and_from, and_parts, or_left, false_from_ne_true}
-use Rattle.std.proofs.lemmas.Fmt.{decimal_by_steps}
+use Rattle.std.proofs.lemmas.Bool.{lt-ltb, le-ltb, and_from, and_parts, false_from_ne_true}
 use Rattle.std.proofs.lemmas.List.Folds.{list_all-append}
 use Rattle.tw_ansi.specs.declared.token.Token.TheVariants.{Size, Paste, Unknown}
 use Rattle.tw_ansi.specs.declared.token.Scanned.{Scanned}
-use Rattle.tw_ansi.specs.KeyBytes.{token_at, control_at, ended_at, paste_of, paste_len, paste_end, numbers_token, parameters_token, size_token, first_number, second_number, number_of, value_after, most, is_parameter, is_numeric, is_semicolon, scanned_as}
+use Rattle.tw_ansi.specs.KeyBytes.{token_at, control_at, ended_at, paste_of, paste_len, paste_end, numbers_token, parameters_token, size_token, first_number, second_number, number_of, most, is_digit, is_parameter, is_numeric, is_semicolon, scanned_as}
 use Rattle.tw_ansi.specs.KeyLaws.{CursorReports, SizeReports, PastedTexts, MouseReports, OpenMouseReports}
+use Rattle.tw_ansi.proofs.Numbers.{decimal_value, decimal_digits, passes, numeric_if, parameter_if}
 
--- the digits of a number
-
-value_append : (n : ℕ) (xs ys : List ℕ) → value_after n (xs ++ ys) ≡ value_after (value_after n xs) ys
-value_append n [] ys = refl
-value_append n (x ∷ xs) ys = value_append (n * 10 + (x - 48)) xs ys
-
--- the digits of n write n
-value_is : (n : ℕ) → n < 2 ^ 64 → value_after 0 (decimal n) ≡ n
-value_is =
-    decimal_by_steps (λ n ds. value_after 0 ds ≡ n) (λ n small. one n)
-    (λ n ds large front. value_append 0 ds ((48 + n % 10) ∷ []) ∙ ap (λ m. m * 10 + (48 + n % 10 - 48)) front ∙ omega arith)
-  where
-    one : (n : ℕ) → 0 * 10 + (48 + n - 48) ≡ n
-    one n = omega arith
-
--- bytes that are digits
-abbrev is_digit : ℕ → Bool
-is_digit b = leb 48 b && ltb b 58
-
-digit : (d : ℕ) → d < 10 → is_digit (48 + d) ≡ true
-digit d small = and_from _ _ (le-leb 48 (48 + d) (omega arith)) (lt-ltb (48 + d) 58 (omega arith))
-
-digits_are : (n : ℕ) → n < 2 ^ 64 → list_all is_digit (decimal n) ≡ true
-digits_are =
-    decimal_by_steps (λ n ds. list_all is_digit ds ≡ true) (λ n small. and_from _ _ (digit n small) refl)
-    (λ n ds large front. list_all-append is_digit ds ((48 + n % 10) ∷ []) ∙ and_from _ _ front (and_from _ _ (digit (n % 10) (omega arith)) refl))
-
--- a test that passes where another does
-passes : (p q : ℕ → Bool) → ((b : ℕ) → p b ≡ true → q b ≡ true) → (xs : List ℕ) → list_all p xs ≡ true → list_all q xs ≡ true
-passes p q more [] h = refl
-passes p q more (x ∷ xs) h = let parts = and_parts (p x) (list_all p xs) h in and_from _ _ (more x parts.0) (passes p q more xs parts.1)
-
-numeric_if : (b : ℕ) → is_digit b ≡ true → is_numeric b ≡ true
-numeric_if b h = or_left _ (eqb b 59) h
-
-parameter_if : (b : ℕ) → is_numeric b ≡ true → is_parameter b ≡ true
-parameter_if b h = grind arith
-
+-- a digit is no semicolon
 no_semicolon : (b : ℕ) → is_digit b ≡ true → not (is_semicolon b) ≡ true
 no_semicolon b h = grind arith
 
@@ -75,21 +38,21 @@ parameters_end l parameters letter rest all ends =
 -- where the first semicolon stands
 semicolon_at : (row : ℕ) (back : List ℕ) → row < 2 ^ 64 → prefix_len (λ b. not (is_semicolon b)) (decimal row ++ 59 ∷ back) ≡ length (decimal row)
 semicolon_at row back small =
-    prefix_all (λ b. not (is_semicolon b)) (decimal row) (59 ∷ back) (passes is_digit (λ b. not (is_semicolon b)) no_semicolon (decimal row) (digits_are row small)) ∙ omega arith
+    prefix_all (λ b. not (is_semicolon b)) (decimal row) (59 ∷ back) (passes is_digit (λ b. not (is_semicolon b)) no_semicolon (decimal row) (decimal_digits row small)) ∙ omega arith
 
 first_is : (row : ℕ) (back : List ℕ) → row < 2 ^ 64 → first_number (decimal row ++ 59 ∷ back) ≡ min row most
 first_is row back small =
     ap (λ n. number_of (take n (decimal row ++ 59 ∷ back))) (semicolon_at row back small)
     ∙ ap number_of (take_at (decimal row) (59 ∷ back) (length (decimal row)) refl)
-    ∙ ap (λ n. min n most) (value_is row small)
+    ∙ ap (λ n. min n most) (decimal_value row small)
 
 alone_is : (col : ℕ) → col < 2 ^ 64 → first_number (decimal col) ≡ min col most
 alone_is col small =
-    let all = passes is_digit (λ b. not (is_semicolon b)) no_semicolon (decimal col) (digits_are col small) in
+    let all = passes is_digit (λ b. not (is_semicolon b)) no_semicolon (decimal col) (decimal_digits col small) in
     let len : prefix_len (λ b. not (is_semicolon b)) (decimal col) ≡ length (decimal col) = whole_len (decimal col) all in
     ap (λ n. number_of (take n (decimal col))) len
     ∙ ap number_of (whole_take (decimal col))
-    ∙ ap (λ n. min n most) (value_is col small)
+    ∙ ap (λ n. min n most) (decimal_value col small)
   where
     whole_len : (xs : List ℕ) → list_all (λ b. not (is_semicolon b)) xs ≡ true → prefix_len (λ b. not (is_semicolon b)) xs ≡ length xs
     whole_len [] h = refl
@@ -121,7 +84,7 @@ second_is row col small fits = second_of row (decimal col) small ∙ alone_is co
 numbers_are : (row col : ℕ) → row < 2 ^ 64 → col < 2 ^ 64 → list_all is_numeric (decimal row ++ 59 ∷ decimal col) ≡ true
 numbers_are row col small fits =
     list_all-append is_numeric (decimal row) (59 ∷ decimal col)
-    ∙ and_from _ _ (passes is_digit is_numeric numeric_if (decimal row) (digits_are row small)) (passes is_digit is_numeric numeric_if (decimal col) (digits_are col fits))
+    ∙ and_from _ _ (passes is_digit is_numeric numeric_if (decimal row) (decimal_digits row small)) (passes is_digit is_numeric numeric_if (decimal col) (decimal_digits col fits))
 
 is_size : (row col : ℕ) → 1 < row → 0 < col → numbers_token row col 82 ≡ Size col row
 is_size row col more some = ap (λ t. cond t (Size col row) (numbers_token 0 col 82)) (and_from _ _ (lt-ltb 1 row more) (lt-ltb 0 col some))
@@ -144,7 +107,7 @@ cursor_reports row col more small some fits l rest =
 
 -- the digits of a number, and more behind a semicolon
 numeric_behind : (n : ℕ) (more : List ℕ) → n < 2 ^ 64 → list_all is_numeric more ≡ true → list_all is_numeric (decimal n ++ 59 ∷ more) ≡ true
-numeric_behind n more small all = list_all-append is_numeric (decimal n) (59 ∷ more) ∙ and_from _ _ (passes is_digit is_numeric numeric_if (decimal n) (digits_are n small)) all
+numeric_behind n more small all = list_all-append is_numeric (decimal n) (59 ∷ more) ∙ and_from _ _ (passes is_digit is_numeric numeric_if (decimal n) (decimal_digits n small)) all
 
 is_told : (rows cols : ℕ) → 0 < rows → 0 < cols → size_token rows cols ≡ Size cols rows
 is_told rows cols some wide = ap (λ t. cond t (Size cols rows) Unknown) (and_from _ _ (lt-ltb 0 rows some) (lt-ltb 0 cols wide))

@@ -6,7 +6,7 @@ use Rattle.tw_surface.specs.declared.cell.CellAttributes.{CellAttributes}
 use Rattle.tw_surface.specs.Characters.{is_printable, cr, lf}
 use Rattle.tw_screens.specs.Pens.{Pen}
 use Rattle.tw_screens.specs.Screens.{blank_of}
-use Rattle.tw_ansi.specs.KeyBytes.{is_parameter, value_after}
+use Rattle.tw_ansi.specs.KeyBytes.{is_digit, is_parameter, value_after}
 use Rattle.tw_ansi.specs.Selections.{selected}
 
 -- how far a control sequence was read: none, an ESC, or ESC [ and these parameters
@@ -67,10 +67,6 @@ act_by pen h w n letter t =
     else if eqb letter 75 && eqb n 0 then record t { cell = row_cleared t.cell t.row t.col paper }
     else if eqb letter 100 then record t { row = min (h - 1) (steps n - 1); waits = false }
     else t
-
--- whether a byte is a digit
-abbrev pub is_digit : ℕ → Bool
-is_digit b = leb 48 b && ltb b 58
 
 -- what a sequence does: SGR selects attributes, and one of other parameters than a number does nothing
 abbrev pub act : {A C : Type 0} → Pen A C → ℕ → ℕ → List ℕ → ℕ → EcmaScreen C → EcmaScreen C

@@ -141,9 +141,13 @@ is_parameter b = leb 32 b && ltb b 64
 abbrev pub is_letter : ℕ → Bool
 is_letter b = leb 64 b && ltb b 127
 
+-- whether a byte is a digit
+abbrev pub is_digit : ℕ → Bool
+is_digit b = leb 48 b && ltb b 58
+
 -- whether a byte is a digit or a semicolon
 abbrev pub is_numeric : ℕ → Bool
-is_numeric b = leb 48 b && ltb b 58 || eqb b 59
+is_numeric b = is_digit b || eqb b 59
 
 abbrev pub is_semicolon : ℕ → Bool
 is_semicolon b = eqb b 59
@@ -249,7 +253,7 @@ opens_string b = eqb b 93 || eqb b 80
 
 -- whether a byte stands first in a string that a terminal answers: a digit, ! or >
 abbrev pub begins_answer : ℕ → Bool
-begins_answer b = leb 48 b && ltb b 58 || (eqb b 33 || eqb b 62)
+begins_answer b = is_digit b || (eqb b 33 || eqb b 62)
 
 -- whether a byte can stand in a string: each but a control character
 abbrev pub is_string_byte : ℕ → Bool
