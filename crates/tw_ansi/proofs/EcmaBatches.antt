@@ -5,7 +5,8 @@ use Rattle.tw_surface.specs.Attributes.{with_attribute}
 use Rattle.tw_surface.specs.declared.cell.CellAttributes.{CellAttributes}
 use Rattle.tw_surface.specs.declared.color.ColorAttribute.{ColorAttribute}
 use Rattle.tw_surface.specs.ChangeView.{ChangeView, Attribute, AllAttributes, Text, ClearScreen, ClearToEndOfScreen, CursorPosition}
-use Rattle.tw_strokes.specs.Strokes.{PictureOf, Stroke, cleared_in, filled, step, steps_on, scrolled}
+use Rattle.tw_strokes.specs.Strokes.{PictureOf, Stroke, cleared_in, filled, steps_on}
+use Rattle.tw_strokes.proofs.SeenRows.{steps_on-append}
 use Rattle.tw_screens.specs.Pens.{Pen, change_strokes, strokes_of, kept_after}
 use Rattle.tw_screens.specs.Screens.{blank_of}
 use Rattle.tw_ansi.specs.declared.encode.Encoder.{Encoder}
@@ -22,11 +23,6 @@ use Rattle.tw_ansi.proofs.EcmaClearings.{clears_below, clears_rows, clears_all}
 use Rattle.tw_ansi.proofs.EcmaTexts.{plain_text_is_shown, keeps_text}
 use Rattle.tw_ansi.proofs.EcmaScrolls.{still}
 use Rattle.tw_ansi.proofs.EcmaMoves.{move_shown}
-
--- strokes that come in two parts
-pub steps_of_both : {C : Type 0} (h w : ℕ) (xs ys : List (Stroke C)) (s : PictureOf C) → steps_on (Some h) w (xs ++ ys) s ≡ steps_on (Some h) w ys (steps_on (Some h) w xs s)
-steps_of_both h w [] ys s = refl
-steps_of_both h w (x ∷ xs) ys s = steps_of_both h w xs ys (scrolled (Some h) (step w x s))
 
 -- ---- cells that are cleared
 
@@ -333,5 +329,5 @@ module _ {A C : Type 0} (pen : Pen A C) where
       subst (λ u. Shows pen h w end u (steps_on (Some h) w (strokes_of pen (pen.attributes e.attributes) (change ∷ batch)) s))
       (sym (received pen h w x.bytes (sent_batch batch x.next).bytes t))
       (subst (λ v. Shows pen h w end (receive_all pen h w (sent_batch batch x.next).bytes (receive_all pen h w x.bytes t)) v)
-      (sym (steps_of_both h w strokes (more (kept_after pen (pen.attributes e.attributes) change)) s
+      (sym (steps_on-append (Some h) w strokes (more (kept_after pen (pen.attributes e.attributes) change)) s
       ∙ ap (λ kept. steps_on (Some h) w (more kept) drawn) (keeps_change h w change e s follows fits.0))) rest)

@@ -1,9 +1,10 @@
 -- Where texts lead, and the column that leads to a cell by division.
 use Rattle.std.proofs.Common.{◌≡◌, ℕ, zero, suc, ℤ, pos, negsuc, ◌+ℤ◌, ◌-ℤ◌, ◌≤ℤ◌, ◌<ℤ◌, ◌+◌, ◌*◌, ◌/◌, ◌%◌, ◌<◌, ◌≤◌, Bool, true, false, ◌&&◌, leb, nat_abs, if◌then◌else◌, List, [], ◌∷◌, length, replicate, take, drop, refl, ap, sym, ◌∙◌, arith}
 use Rattle.std.specs.List.{list_all}
-use Rattle.std.proofs.lemmas.Bool.{and_parts, leb-true, leb-false, le-leb, ne_eqb, true≢false}
-use Rattle.std.proofs.lemmas.Bool.{and_from}
+use Rattle.std.proofs.lemmas.Bool.{and_parts, leb-true, leb-false, le-leb, and_from, true≢false}
 use Rattle.std.proofs.lemmas.Int.{ints}
+use Rattle.std.proofs.lemmas.List.{take-append-drop}
+use Rattle.std.proofs.lemmas.List.Folds.{list_all-append}
 use Rattle.std.proofs.Math.Nat.{mul-add-mod_self_right, mul-add-div_right, mod-eq_of_lt, div-eq_of_lt, add-mul, div-add-mod'}
 use Rattle.tw_surface.specs.declared.measure.Extent.{Extent}
 use Rattle.tw_surface.specs.declared.measure.Piece.{Piece}
@@ -14,7 +15,7 @@ use Rattle.tw_surface.specs.Paintings.{place_at}
 use Rattle.tw_surface.specs.Places.{Place, pieces, next_place, end_of_pieces, places_after}
 use Rattle.tw_surface.specs.Positions.{at_least_0}
 use Rattle.tw_surface.proofs.DrawingLemmas.{place_of-pieces}
-use Rattle.tw_surface.proofs.RowLemmas.{printable_pieces}
+use Rattle.tw_surface.proofs.RowLemmas.{plain_from_printable, printable_pieces}
 use Rattle.tw_surface.specs.Width.{column_width}
 use Rattle.tw_hosts.specs.Settling.{cell_pieces, settled_pieces, place_after_text, needed, needed_by_first, needed_by_text, begins_at, rows_between, columns_between, line_start, settled_place, settled_column, is_settled, is_measured}
 use Rattle.tw_hosts.specs.SettlingLaws.{goes_on, ColumnLeadsThere, CursorIsSettled, PrintableIsPlain, NoOtherColumn, SomeColumn, WholeIsMeasured}
@@ -172,36 +173,17 @@ begins-behind cols n p q some h = by (leb (q.x + 1) cols) refl
         let more : at_least_0 (q.y +ℤ pos 1 -ℤ p.y) ≡ rows_between p q + 1 = rows-suc p.y q.y (q.y -ℤ p.y) refl h.below in
         rw e (ap (λ r. r * cols + 0) more ∙ omega (arith, add-mul (rows_between p q) 1 cols, h.columns, full))
 
--- a printable text is plain: it needs one column, and has the editor's pieces
-printable-plain : (b : ℕ) → is_printable b ≡ true → is_plain b ≡ true
-printable-plain b h =
-    let low = leb-true 32 b (and_parts (leb 32 b) (leb b 126) h).0 in
-    rw (ne_eqb b 13 (λ e. omega (arith, low, e)), ne_eqb b 10 (λ e. omega (arith, low, e))) h
-
-all-plain : (text : List ℕ) → list_all is_printable text ≡ true → list_all is_plain text ≡ true
-all-plain [] h = refl
-all-plain (b ∷ text) h =
-    let both = and_parts (is_printable b) (list_all is_printable text) h in
-    and_from _ _ (printable-plain b both.0) (all-plain text both.1)
-
+-- a printable text needs one column, and has the editor's pieces
 printable_needs : (text : List ℕ) → list_all is_printable text ≡ true → needed_by_text text ≡ 1
-printable_needs text h = plain_needs text (all-plain text h)
+printable_needs text h = plain_needs text (plain_from_printable text h)
 
 settled_printable : (text : List ℕ) → list_all is_printable text ≡ true → settled_pieces text ≡ replicate (length text) (Wide 1)
-settled_printable text h = plain_settles text (all-plain text h) ∙ printable_pieces text h
+settled_printable text h = plain_settles text (plain_from_printable text h) ∙ printable_pieces text h
 
 -- the parts of a printable text are printable
-take-printable : (n : ℕ) (text : List ℕ) → list_all is_printable text ≡ true → list_all is_printable (take n text) ≡ true
-take-printable zero text h = refl
-take-printable (suc n) [] h = refl
-take-printable (suc n) (b ∷ text) h =
-    let both = and_parts (is_printable b) (list_all is_printable text) h in
-    and_from _ _ both.0 (take-printable n text both.1)
-
-drop-printable : (n : ℕ) (text : List ℕ) → list_all is_printable text ≡ true → list_all is_printable (drop n text) ≡ true
-drop-printable zero text h = h
-drop-printable (suc n) [] h = refl
-drop-printable (suc n) (b ∷ text) h = drop-printable n text (and_parts (is_printable b) (list_all is_printable text) h).1
+printable_parts : (n : ℕ) (text : List ℕ) → list_all is_printable text ≡ true → (list_all is_printable (take n text) ≡ true) × (list_all is_printable (drop n text) ≡ true)
+printable_parts n text h =
+    and_parts _ _ (sym (list_all-append is_printable (take n text) (drop n text)) ∙ ap (list_all is_printable) (take-append-drop n text) ∙ h)
 
 printable-width : (text : List ℕ) → list_all is_printable text ≡ true → column_width text ≡ length text
 unfolding column_width
@@ -222,16 +204,16 @@ printable_is_plain cols prompt cut h = by (is_settled cols prompt cut) refl
         let start = line_start cols prompt in
         let inside : start.x ≤ cols = leb-true _ _ (and_parts (leb start.x cols) _ two.1).0 in
         let n = length (take cut.cursor cut.line) in
-        let first = take-printable cut.cursor cut.line h in
+        let parts = printable_parts cut.cursor cut.line h in
         let last = place_after_text cols (take cut.cursor cut.line) start in
         let none : 0 + n ≡ n = omega arith in
         let went : IsBehind cols n start last =
-        rw (settled_printable (take cut.cursor cut.line) first) (rw none at (go-behind cols 0 n start start some (behind-itself cols start inside))) in
+        rw (settled_printable (take cut.cursor cut.line) parts.0) (rw none at (go-behind cols 0 n start start some (behind-itself cols start inside))) in
         let cell : settled_place cols prompt cut ≡ begins_at cols 1 last =
-        ap (λ w. begins_at cols w last) (printable_needs (drop cut.cursor cut.line) (drop-printable cut.cursor cut.line h)) in
+        ap (λ w. begins_at cols w last) (printable_needs (drop cut.cursor cut.line) parts.1) in
         let far = begins-behind cols n start last some went in
         let same : columns_between cols start (begins_at cols 1 last) ≡ n = omega (arith, far) in
-        rw e (ap (λ q. columns_between cols start q) cell ∙ same ∙ sym (printable-width (take cut.cursor cut.line) first))
+        rw e (ap (λ q. columns_between cols start q) cell ∙ same ∙ sym (printable-width (take cut.cursor cut.line) parts.0))
 
 -- no other column leads there
 pub no_other_column : NoOtherColumn

@@ -19,10 +19,11 @@ use Rattle.tw_surface.specs.Places.{pieces, plain_piece, place_after_all, origin
 use Rattle.tw_surface.specs.Scenes.{Scene, IsPlain, Lower, IsPlainLower, is_typing, is_text, typed_text, lower_lines}
 use Rattle.tw_surface.specs.Scenes.Lower.{NoLower, Preview, Search}
 use Rattle.tw_surface.specs.Simple.{is_break, parted_pieces, spelled_change, spelled_all, spelled_lower, AreSimple, AreCounted, IsCounted, IsSimpleText, IsSimpleLower}
+use Rattle.tw_surface.proofs.RowLemmas.{plain_from_printable}
 use Rattle.tw_screens.specs.PlainScreens.{PlainIsSimple}
 use Rattle.tw_screens.proofs.DrawnChanges.{wide-plain}
 use Rattle.tw_screens.proofs.MeasuredHeights.{space_is, crlf_is, crlf_before}
-use Rattle.tw_screens.proofs.PlainTexts.{plain_from_printable, lower-typed_text, lower-printable, breaks-plain}
+use Rattle.tw_screens.proofs.PlainTexts.{lower-typed_text, lower-printable, breaks-plain}
 
 -- ---- texts
 

@@ -1,33 +1,15 @@
 -- Plain texts, and their lines.
-use Rattle.std.proofs.Common.{◌≡◌, ℕ, zero, suc, ◌+◌, ◌-◌, ◌/◌, ◌<◌, ◌≤◌, max, Bool, true, false, ◌&&◌, ◌||◌, eqb, cond, List, [], ◌∷◌, ◌++◌, refl, sym, ap, ◌∙◌, arith}
+use Rattle.std.proofs.Common.{◌≡◌, ℕ, ◌≤◌, Bool, true, false, ◌&&◌, eqb, cond, List, [], ◌∷◌, ◌++◌, refl, sym, ap, ◌∙◌, arith}
 use Rattle.std.specs.List.{list_all}
-use Rattle.std.proofs.lemmas.Bool.{eqb-true, ne_eqb, and_parts, and_from, or_right, leb-true}
+use Rattle.std.proofs.lemmas.Bool.{eqb-true, ne_eqb, and_parts, and_from, leb-true}
 use Rattle.std.proofs.lemmas.List.{append-nil}
 use Rattle.std.proofs.lemmas.List.Folds.{list_all-append}
-use Rattle.std.proofs.Math.Nat.{add-div_right, div-eq_of_lt, max-eq_right, zero-div}
 use Rattle.tw_surface.specs.Scenes.Lower.{NoLower, Preview, Search}
 use Rattle.tw_surface.specs.Characters.{is_printable, is_plain}
 use Rattle.tw_surface.specs.Scenes.{typed_text, Lower, lower_lines, IsPlainLower}
 use Rattle.tw_surface.specs.Lines.{before_lines, lines_of, text_of_lines}
 use Rattle.tw_surface.specs.Paintings.{lower_changes}
-
-pub plain_from_printable : (t : List ℕ) → list_all is_printable t ≡ true → list_all is_plain t ≡ true
-plain_from_printable [] h = refl
-plain_from_printable (b ∷ t) h =
-    let both = and_parts (is_printable b) (list_all is_printable t) h in
-    and_from (is_plain b) (list_all is_plain t)
-    (or_right (eqb b 13 || eqb b 10) (is_printable b) both.0)
-    (plain_from_printable t both.1)
-
--- the rows of a line of q characters
-pub rows-is : (w q : ℕ) → 0 < w → max 1 ((q + w - 1) / w) ≡ 1 + (q - 1) / w
-rows-is w zero h =
-    let e : 0 + w - 1 < w = omega arith in
-    rw (div-eq_of_lt e, zero-div w) refl
-rows-is w (suc q) h =
-    let e : suc q + w - 1 ≡ q + w = omega arith in
-    let d : suc q - 1 ≡ q = omega arith in
-    rw (e, d, add-div_right q h) (max-eq_right (omega arith) ∙ omega arith)
+use Rattle.tw_surface.proofs.RowLemmas.{plain_from_printable}
 
 -- ---- lines
 

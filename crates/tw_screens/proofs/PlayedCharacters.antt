@@ -1,8 +1,10 @@
 -- What is played on a screen of characters is what its strokes draw.
-use Rattle.std.proofs.Common.{◌≡◌, ℕ, ◌+◌, ◌-◌, ◌<◌, Some, None, false, List, [], ◌∷◌, ◌++◌, map, refl, sym, ap, ◌∙◌, arith, inl, inr}
+use Rattle.std.proofs.Common.{◌≡◌, ℕ, ◌+◌, ◌-◌, ◌<◌, Some, None, false, List, [], ◌∷◌, map, refl, sym, ap, ◌∙◌, arith, inl, inr}
 use Rattle.std.proofs.lemmas.Bool.{cases_eq, eq-eqb, ne_eqb}
 use Rattle.std.proofs.Math.Path.{fun_ext}
 use Rattle.tw_strokes.specs.Strokes.{PictureOf, Stroke, step, steps, scrolled, steps_on}
+use Rattle.tw_strokes.proofs.LineOfCells.{steps-append}
+use Rattle.tw_strokes.proofs.SeenRows.{steps_on-append}
 use Rattle.tw_surface.specs.ChangeView.{ChangeView, Batch}
 use Rattle.tw_surface.specs.ChangeView.{Attribute, AllAttributes, Text, ClearScreen, ClearToEndOfScreen, CursorPosition}
 use Rattle.tw_surface.specs.Characters.{cr, lf}
@@ -32,10 +34,6 @@ played_char w ch s = elim (cases_eq ch cr) [
 played_text : (w : ℕ) (text : List ℕ) (s : Picture) → cells_of (play_text w text s) ≡ steps w (map (char_stroke characters kept) text) (cells_of s)
 played_text w [] s = refl
 played_text w (ch ∷ text) s = played_text w text (play_char w ch s) ∙ ap (steps w (map (char_stroke characters kept) text)) (played_char w ch s)
-
-steps-append : (w : ℕ) (a b : List (Stroke ℕ)) (s : PictureOf ℕ) → steps w (a ++ b) s ≡ steps w b (steps w a s)
-steps-append w [] b s = refl
-steps-append w (stroke ∷ a) b s = steps-append w a b (step w stroke s)
 
 played_change : (w : ℕ) (change : ChangeView) (s : Picture) → cells_of (play w change s) ≡ steps w (change_strokes characters kept change) (cells_of s)
 played_change w (Attribute a) s = refl
@@ -78,10 +76,6 @@ still h s low =
     ap (λ f. record { cell = f; row = s.row; col = s.col }) (fun_ext (λ i. fun_ext (λ j. ap (λ r. s.cell r j) (omega (arith, low)))))
     ∙ ap (λ r. record { cell = λ i j. s.cell (i + (s.row + 1 - h)) j; row = r; col = s.col }) (omega (arith, low))
 
-steps_on-append : (h w : ℕ) (a b : List (Stroke ℕ)) (s : PictureOf ℕ) → steps_on (Some h) w (a ++ b) s ≡ steps_on (Some h) w b (steps_on (Some h) w a s)
-steps_on-append h w [] b s = refl
-steps_on-append h w (stroke ∷ a) b s = steps_on-append h w a b (scrolled (Some h) (step w stroke s))
-
 played_change_on : (h w : ℕ) (change : ChangeView) (s : Picture) → s.row < h → cells_of (play_on h w change s) ≡ steps_on (Some h) w (change_strokes characters kept change) (cells_of s)
 played_change_on h w (Attribute a) s low = refl
 played_change_on h w (AllAttributes a) s low = refl
@@ -108,7 +102,7 @@ plays_strokes_on h w [] s low = refl
 plays_strokes_on h w (change ∷ changes) s low =
     plays_strokes_on h w changes (play_on h w change s) (row_change h w change s low)
     ∙ ap (steps_on (Some h) w (strokes_of characters kept changes)) (played_change_on h w change s low)
-    ∙ sym (steps_on-append h w (change_strokes characters kept change) (strokes_of characters kept changes) (cells_of s))
+    ∙ sym (steps_on-append (Some h) w (change_strokes characters kept change) (strokes_of characters kept changes) (cells_of s))
 
 row_batch : (h w : ℕ) (batch : Batch) (s : Picture) → s.row < h → (play_all_on h w batch s).row < h
 row_batch h w [] s low = low

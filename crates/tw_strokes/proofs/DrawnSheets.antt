@@ -17,7 +17,7 @@ cell_place : (w s k : ℕ) → (s + k / w) * w + k % w ≡ s * w + k
 cell_place w s k = omega (arith, add-mul s (k / w) w, div-add-mod' k w)
 
 -- the rows of a line of q cells
-rows-is : (w q : ℕ) → 0 < w → max 1 ((q + w - 1) / w) ≡ 1 + (q - 1) / w
+pub rows-is : (w q : ℕ) → 0 < w → max 1 ((q + w - 1) / w) ≡ 1 + (q - 1) / w
 rows-is w zero h =
     let e : 0 + w - 1 < w = omega arith in
     rw (div-eq_of_lt e, zero-div w) refl

@@ -25,7 +25,11 @@ printable-list (ch ∷ text) h =
     let rest = printable-list text both.1 in
     (rw (first.0, rest.0) refl, and_from _ _ first.1 rest.1)
 
--- and a printable text is as many pieces of one column
+-- a printable text is plain
+pub plain_from_printable : (text : List ℕ) → list_all is_printable text ≡ true → list_all is_plain text ≡ true
+plain_from_printable text h = (printable-list text h).1
+
+-- and as many pieces of one column
 pub printable_pieces : (text : List ℕ) → list_all is_printable text ≡ true → pieces text ≡ replicate (length text) (Wide 1)
 unfolding pieces
 printable_pieces text h = let both = printable-list text h in rw both.1 both.0

@@ -1,11 +1,12 @@
 use Rattle.std.proofs.Common.{length, arith}
+use Rattle.tw_strokes.proofs.DrawnSheets.{rows-is}
 use Rattle.tw_surface.proofs.BatchLemmas.{beginning}
 use Rattle.tw_screens.proofs.FreshLemmas.{one_fresh}
 use Rattle.tw_screens.proofs.JoinedLines.{lines_of_joined}
 use Rattle.tw_screens.proofs.PlainPaintings.{counted_rows}
 use Rattle.tw_screens.proofs.PlainScenes.{plain_is_simple}
 use Rattle.tw_screens.proofs.PlainStations.{every_painting, last_painting}
-use Rattle.tw_screens.proofs.PlainTexts.{text_of_lines-lines, one_line, rows-is}
+use Rattle.tw_screens.proofs.PlainTexts.{text_of_lines-lines, one_line}
 use Rattle.tw_screens.proofs.SceneLists.{first_painting, later_painting, cleared_painting, incremental, closed_run, stacked}
 use Rattle.tw_screens.proofs.laws.incremental_equals_fresh.Goals as goal
 
