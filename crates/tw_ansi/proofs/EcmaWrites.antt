@@ -41,49 +41,45 @@ module _ {A C : Type 0} (pen : Pen A C) where
     below = λ r c low. ap (λ x. cond (x && eqb c s.col) b (s.cell r c)) (ne_eqb r s.row (λ e. omega (arith, within.row))) ∙ within.below r c low;
   }
 
-  inside_cases : (h w : ℕ) (b : C) (e : Encoder) (t : EcmaScreen C) (s : PictureOf C) → Shows pen h w e t s → s.col < w → t.waits ≡ false → t.col ≡ s.col
-      → (t.col + 1 ≡ w) ⊎ (t.col + 1 ≡ w → ⊥) → Shows pen h w (at_column (e.x + 1) e) (write_here w b t) (put_here b s)
-  inside_cases h w b e t s a inside idle col (inl last) =
-      let ends : EcmaScreen C = record t { cell = put_in t.cell t.row t.col b; waits = true } in
-      let goes : EcmaScreen C = record t { cell = put_in t.cell t.row t.col b; col = t.col + 1 } in
-      let is : write_here w b t ≡ ends = ap (λ x. cond x ends goes) (eq-eqb (t.col + 1) w last) in
-      let shown : Shows pen h w (at_column (e.x + 1) e) ends (put_here b s) = record {
-        within = inside_within h b s a.within;
-        edge = omega arith;
-        cells = λ r c low left. written_same t.row s.row t.col s.col r c b t.cell s.cell a.row col (a.cells r c low left);
-        row = a.row;
-        col = omega (arith, col, last);
-        waits = ap (λ x. x && true) (sym (eq-eqb (s.col + 1) w (omega (arith, col, last))));
-        parted = λ x. absurd (cc x);
-        reading = a.reading;
-        rendition = a.rendition;
-        cols = a.cols;
-        x = ap (λ n. n + 1) a.x;
-      } in
-      subst (λ u. Shows pen h w (at_column (e.x + 1) e) u (put_here b s)) (sym is) shown
-  inside_cases h w b e t s a inside idle col (inr more) =
-      let ends : EcmaScreen C = record t { cell = put_in t.cell t.row t.col b; waits = true } in
-      let goes : EcmaScreen C = record t { cell = put_in t.cell t.row t.col b; col = t.col + 1 } in
-      let is : write_here w b t ≡ goes = ap (λ x. cond x ends goes) (ne_eqb (t.col + 1) w more) in
-      let not_last : s.col + 1 ≡ w → ⊥ = λ e. more (omega (arith, col, e)) in
-      let room : s.col + 1 < w = below_from w (s.col + 1) (omega arith) not_last in
-      let shown : Shows pen h w (at_column (e.x + 1) e) goes (put_here b s) = record {
-        within = inside_within h b s a.within;
-        edge = omega arith;
-        cells = λ r c low left. written_same t.row s.row t.col s.col r c b t.cell s.cell a.row col (a.cells r c low left);
-        row = a.row;
-        col = omega (arith, col, room);
-        waits = idle ∙ ap (λ x. x && true) (sym (ne_eqb (s.col + 1) w not_last));
-        parted = λ x. absurd (cc x);
-        reading = a.reading;
-        rendition = a.rendition;
-        cols = a.cols;
-        x = ap (λ n. n + 1) a.x;
-      } in
-      subst (λ u. Shows pen h w (at_column (e.x + 1) e) u (put_here b s)) (sym is) shown
-    where
-      below_from : (w n : ℕ) → n ≤ w → (n ≡ w → ⊥) → n < w
-      below_from w n up other = elim (cases_eq n w) [ inl e ↦ absurd (other e) | inr ne ↦ omega (arith, ne) ]
+  -- the terminal u is t with a character at its cursor, which moves on, or waits in the last column
+  record Written (w : ℕ) (b : C) (t u : EcmaScreen C) : Type 0 where
+    cell : u.cell ≡ put_in t.cell t.row t.col b
+    row : u.row ≡ t.row
+    col : u.col ≡ min (t.col + 1) (w - 1)
+    waits : u.waits ≡ (eqb (t.col + 1) w && true)
+    reading : u.reading ≡ t.reading
+    rendition : u.rendition ≡ t.rendition
+
+  abbrev waiting : C → EcmaScreen C → EcmaScreen C
+  waiting b t = record t { cell = put_in t.cell t.row t.col b; waits = true }
+
+  abbrev moved_on : C → EcmaScreen C → EcmaScreen C
+  moved_on b t = record t { cell = put_in t.cell t.row t.col b; col = t.col + 1 }
+
+  written_cases : (w : ℕ) (b : C) (t : EcmaScreen C) → t.waits ≡ false → t.col < w → (t.col + 1 ≡ w) ⊎ (t.col + 1 ≡ w → ⊥) → Written w b t (write_here w b t)
+  written_cases w b t idle inside (inl last) =
+      subst (Written w b t) (sym (ap (λ x. cond x (waiting b t) (moved_on b t)) (eq-eqb (t.col + 1) w last)))
+      (record {
+        cell = refl;
+        row = refl;
+        col = omega (arith, last);
+        waits = ap (λ x. x && true) (sym (eq-eqb (t.col + 1) w last));
+        reading = refl;
+        rendition = refl;
+      })
+  written_cases w b t idle inside (inr more) =
+      subst (Written w b t) (sym (ap (λ x. cond x (waiting b t) (moved_on b t)) (ne_eqb (t.col + 1) w more)))
+      (record {
+        cell = refl;
+        row = refl;
+        col = omega (arith, inside, more);
+        waits = idle ∙ ap (λ x. x && true) (sym (ne_eqb (t.col + 1) w more));
+        reading = refl;
+        rendition = refl;
+      })
+
+  written : (w : ℕ) (b : C) (t : EcmaScreen C) → t.waits ≡ false → t.col < w → Written w b t (write_here w b t)
+  written w b t idle inside = written_cases w b t idle inside (cases_eq (t.col + 1) w)
 
   -- a character in the row
   pub written_inside : (h w b : ℕ) (e : Encoder) (t : EcmaScreen C) (s : PictureOf C) → Shows pen h w e t s → s.col < w → is_printable b ≡ true
@@ -95,7 +91,21 @@ module _ {A C : Type 0} (pen : Pen A C) where
       let is : receive pen h w b t ≡ write_here w x t =
       text_write h w b t a.reading printable
       ∙ ap (λ v. cond v (write_here w x (return_to_start (feed_line (blank_of pen) h t))) (write_here w x t)) idle in
-      subst (λ u. Shows pen h w (at_column (e.x + 1) e) u (put_here x s)) (sym is) (inside_cases h w x e t s a inside idle col (cases_eq (t.col + 1) w))
+      let u = written w x t idle (omega (arith, col, inside)) in
+      subst (λ v. Shows pen h w (at_column (e.x + 1) e) v (put_here x s)) (sym is)
+      (record {
+        within = inside_within h x s a.within;
+        edge = omega arith;
+        cells = λ r c low left. ap (λ f. f r c) u.cell ∙ written_same t.row s.row t.col s.col r c x t.cell s.cell a.row col (a.cells r c low left);
+        row = u.row ∙ a.row;
+        col = u.col ∙ ap (λ n. min (n + 1) (w - 1)) col;
+        waits = u.waits ∙ ap (λ n. eqb (n + 1) w && true) col;
+        parted = λ y. absurd (cc y);
+        reading = u.reading ∙ a.reading;
+        rendition = u.rendition ∙ a.rendition;
+        cols = a.cols;
+        x = ap (λ n. n + 1) a.x;
+      })
 
   -- the picture with a character in the first cell of the next row
   abbrev pub put_below : C → PictureOf C → PictureOf C
@@ -123,51 +133,21 @@ module _ {A C : Type 0} (pen : Pen A C) where
       ∙ ap (λ x. cond (x && eqb c 0) b (u.cell r c)) (row_test r (s.row + 1) (s.row + 1 + 1 - h) (omega (arith, inside)) (cases_eq _ _))
       ∙ ap (λ v. cond (eqb (r + (s.row + 1 + 1 - h)) (s.row + 1) && eqb c 0) b v) (fed.cells r c low left)
 
-  wrapped_cases : (h w : ℕ) (b : C) (e : Encoder) (t u : EcmaScreen C) (s : PictureOf C) → IsWithin (blank_of pen) h s → 0 < w → e.cols ≡ w → Fed h w t u s → u.col ≡ 0 → u.reading ≡ terminal.Text → u.rendition ≡ e.attributes
-      → (u.col + 1 ≡ w) ⊎ (u.col + 1 ≡ w → ⊥) → Shows pen h w (at_column 1 e) (write_here w b u) (scrolled (Some h) (put_below b s))
-  wrapped_cases h w b e t u s within some cols fed col reading rendition (inl last) =
-      let ends : EcmaScreen C = record u { cell = put_in u.cell u.row u.col b; waits = true } in
-      let goes : EcmaScreen C = record u { cell = put_in u.cell u.row u.col b; col = u.col + 1 } in
-      let is : write_here w b u ≡ ends = ap (λ x. cond x ends goes) (eq-eqb (u.col + 1) w last) in
-      let shown : Shows pen h w (at_column 1 e) ends (scrolled (Some h) (put_below b s)) = record {
-        within = below_within h b s within;
-        edge = omega arith;
-        cells = λ r c low left. ap (λ x. put_in u.cell u.row x b r c) col ∙ below_cells h w b u t s fed within.row r c low left;
-        row = fed.row;
-        col = omega (arith, col, last);
-        waits = ap (λ x. x && true) (sym (eq-eqb 1 w (omega (arith, col, last))));
-        parted = λ x. absurd (cc x);
-        reading = reading;
-        rendition = rendition;
-        cols = cols;
-        x = refl;
-      } in
-      subst (λ v. Shows pen h w (at_column 1 e) v (scrolled (Some h) (put_below b s))) (sym is) shown
-  wrapped_cases h w b e t u s within some cols fed col reading rendition (inr more) =
-      let ends : EcmaScreen C = record u { cell = put_in u.cell u.row u.col b; waits = true } in
-      let goes : EcmaScreen C = record u { cell = put_in u.cell u.row u.col b; col = u.col + 1 } in
-      let is : write_here w b u ≡ goes = ap (λ x. cond x ends goes) (ne_eqb (u.col + 1) w more) in
-      let not_one : 1 ≡ w → ⊥ = λ e. more (omega (arith, col, e)) in
-      let shown : Shows pen h w (at_column 1 e) goes (scrolled (Some h) (put_below b s)) = record {
-        within = below_within h b s within;
-        edge = omega arith;
-        cells = λ r c low left. ap (λ x. put_in u.cell u.row x b r c) col ∙ below_cells h w b u t s fed within.row r c low left;
-        row = fed.row;
-        col = wide w (u.col) col some not_one;
-        waits = fed.waits ∙ ap (λ x. x && true) (sym (ne_eqb 1 w not_one));
-        parted = λ x. absurd (cc x);
-        reading = reading;
-        rendition = rendition;
-        cols = cols;
-        x = refl;
-      } in
-      subst (λ v. Shows pen h w (at_column 1 e) v (scrolled (Some h) (put_below b s))) (sym is) shown
-    where
-      wide : (w c : ℕ) → c ≡ 0 → 0 < w → (1 ≡ w → ⊥) → c + 1 ≡ min 1 (w - 1)
-      wide w c e some other = elim (cases_eq 1 w) [ inl q ↦ absurd (other q) | inr q ↦ omega (arith, e, some, q) ]
-
   -- a character in the first cell of the next row
   pub wrapped : (h w : ℕ) (b : C) (e : Encoder) (t u : EcmaScreen C) (s : PictureOf C) → IsWithin (blank_of pen) h s → 0 < w → e.cols ≡ w → Fed h w t u s → u.col ≡ 0 → u.reading ≡ terminal.Text → u.rendition ≡ e.attributes
       → Shows pen h w (at_column 1 e) (write_here w b u) (scrolled (Some h) (put_below b s))
   wrapped h w b e t u s within some cols fed col reading rendition =
-      wrapped_cases h w b e t u s within some cols fed col reading rendition (cases_eq (u.col + 1) w)
+      let v = written w b u fed.waits (omega (arith, col, some)) in
+      record {
+        within = below_within h b s within;
+        edge = omega (arith, some);
+        cells = λ r c low left. ap (λ f. f r c) v.cell ∙ ap (λ x. put_in u.cell u.row x b r c) col ∙ below_cells h w b u t s fed within.row r c low left;
+        row = v.row ∙ fed.row;
+        col = v.col ∙ ap (λ n. min (n + 1) (w - 1)) col;
+        waits = v.waits ∙ ap (λ n. eqb (n + 1) w && true) col;
+        parted = λ x. absurd (cc x);
+        reading = v.reading ∙ reading;
+        rendition = v.rendition ∙ rendition;
+        cols = cols;
+        x = refl;
+      }
