@@ -15,8 +15,8 @@ use Rattle.tw_ansi.specs.Sequences.{set_attribute, set_attributes, to_column, to
 use Rattle.tw_ansi.specs.EcmaScreen.{EcmaScreen, receive_all, row_cleared, feed_line, return_to_start}
 use Rattle.tw_ansi.specs.EcmaScreen as terminal
 use Rattle.tw_ansi.specs.EcmaLaws.{at_rest, IsColor, rows_cleared}
-use Rattle.tw_ansi.specs.EcmaTexts.{IsWithin, Shows}
-use Rattle.tw_ansi.specs.EcmaBatches.{Follows, IsSendable, FirstIsShown, ChangeIsShown, BatchIsShown}
+use Rattle.tw_ansi.specs.EcmaTexts.{IsOfRows, ShowsPicture}
+use Rattle.tw_ansi.specs.EcmaBatches.{CarriesAttributes, IsSendable, FirstIsShown, ChangeIsShown, BatchIsShown}
 use Rattle.tw_ansi.proofs.EcmaSequences.{received, columns_are_reached}
 use Rattle.tw_ansi.proofs.EcmaRenditions.{attribute_is_selected, attributes_are_selected}
 use Rattle.tw_ansi.proofs.EcmaClearings.{clears_below, clears_rows, clears_all}
@@ -34,7 +34,7 @@ either_same false x y is = is
 abbrev clear_from : {C : Type 0} → C → PictureOf C → PictureOf C
 clear_from x s = record s { cell = cleared_in s.cell s.row s.col x }
 
-cleared_within : {C : Type 0} (blank : C) (h : ℕ) (x : C) (s : PictureOf C) → x ≡ blank → IsWithin blank h s → IsWithin blank h (clear_from x s)
+cleared_within : {C : Type 0} (blank : C) (h : ℕ) (x : C) (s : PictureOf C) → x ≡ blank → IsOfRows blank h s → IsOfRows blank h (clear_from x s)
 cleared_within blank h x s is within = record {
   row = within.row;
   below = λ r c low. either_same (ltb s.row r || (eqb s.row r && leb s.col c)) x (s.cell r c) (within.below r c low ∙ sym is) ∙ is;
@@ -100,8 +100,8 @@ module _ {A C : Type 0} (pen : Pen A C) where
   -- ---- attributes
 
   -- other attributes, selected and known
-  with_attributes : (h w : ℕ) (e : Encoder) (t : EcmaScreen C) (s : PictureOf C) (to from : CellAttributes) → from ≡ to → Shows pen h w e t s
-      → Shows pen h w (record e { attributes = to }) (record t { rendition = from; reading = terminal.Text }) s
+  with_attributes : (h w : ℕ) (e : Encoder) (t : EcmaScreen C) (s : PictureOf C) (to from : CellAttributes) → from ≡ to → ShowsPicture pen h w e t s
+      → ShowsPicture pen h w (record e { attributes = to }) (record t { rendition = from; reading = terminal.Text }) s
   with_attributes h w e t s to from is a = record {
     within = a.within;
     edge = a.edge;
@@ -118,8 +118,8 @@ module _ {A C : Type 0} (pen : Pen A C) where
 
   -- ---- clearings
 
-  screen_cleared : (h w : ℕ) (x : C) (e : Encoder) (t : EcmaScreen C) (s : PictureOf C) → 0 < w → x ≡ blank_of pen → Shows pen h w e t s
-      → Shows pen h w (at_column 0 e) (record t { cell = λ _ _. x; row = 0; col = 0; waits = false; reading = terminal.Text }) (filled x)
+  screen_cleared : (h w : ℕ) (x : C) (e : Encoder) (t : EcmaScreen C) (s : PictureOf C) → 0 < w → x ≡ blank_of pen → ShowsPicture pen h w e t s
+      → ShowsPicture pen h w (at_column 0 e) (record t { cell = λ _ _. x; row = 0; col = 0; waits = false; reading = terminal.Text }) (filled x)
   screen_cleared h w x e t s some is a = record {
     within = record { row = omega (arith, a.within.row); below = λ r c low. is };
     edge = omega arith;
@@ -134,8 +134,8 @@ module _ {A C : Type 0} (pen : Pen A C) where
     x = refl;
   }
 
-  clear_inside : (h w : ℕ) (x : C) (e : Encoder) (t : EcmaScreen C) (s : PictureOf C) → x ≡ blank_of pen → Shows pen h w e t s → s.col < w
-      → Shows pen h w e (record t { cell = cleared_in t.cell t.row t.col x; reading = terminal.Text }) (clear_from x s)
+  clear_inside : (h w : ℕ) (x : C) (e : Encoder) (t : EcmaScreen C) (s : PictureOf C) → x ≡ blank_of pen → ShowsPicture pen h w e t s → s.col < w
+      → ShowsPicture pen h w e (record t { cell = cleared_in t.cell t.row t.col x; reading = terminal.Text }) (clear_from x s)
   clear_inside h w x e t s is a inside =
       let col : t.col ≡ s.col = omega (arith, a.col, inside) in
       record {
@@ -153,8 +153,8 @@ module _ {A C : Type 0} (pen : Pen A C) where
       }
 
   -- clearing by rows clears what clearing from column 0 on does
-  clear_at_start : (h w : ℕ) (x : C) (e : Encoder) (t : EcmaScreen C) (s : PictureOf C) → x ≡ blank_of pen → 0 < w → s.col ≡ 0 → Shows pen h w e t s
-      → Shows pen h w e (record t { cell = rows_cleared w x t; col = 0; waits = false; reading = terminal.Text }) (clear_from x s)
+  clear_at_start : (h w : ℕ) (x : C) (e : Encoder) (t : EcmaScreen C) (s : PictureOf C) → x ≡ blank_of pen → 0 < w → s.col ≡ 0 → ShowsPicture pen h w e t s
+      → ShowsPicture pen h w e (record t { cell = rows_cleared w x t; col = 0; waits = false; reading = terminal.Text }) (clear_from x s)
   clear_at_start h w x e t s is some start a =
       let col : t.col ≡ s.col = omega (arith, a.col, start) in
       record {
@@ -194,8 +194,8 @@ module _ {A C : Type 0} (pen : Pen A C) where
       ∙ ap (receive_all pen h w (to_column (w - 1))) (received pen h w clear up_a_row down ∙ ap (receive_all pen h w up_a_row) (clears_below pen h w color down p q))
       ∙ columns_are_reached pen h w (w - 1) up (omega (arith, some)) (omega (arith, small))
 
-  edge_shown : (h w : ℕ) (x : C) (e : Encoder) (t : EcmaScreen C) (s : PictureOf C) → x ≡ blank_of pen → 0 < w → s.col ≡ w → Shows pen h w e t s
-      → Shows pen h w (parted_from_wait e) (back_at_edge w x t) (clear_from x s)
+  edge_shown : (h w : ℕ) (x : C) (e : Encoder) (t : EcmaScreen C) (s : PictureOf C) → x ≡ blank_of pen → 0 < w → s.col ≡ w → ShowsPicture pen h w e t s
+      → ShowsPicture pen h w (parted_from_wait e) (back_at_edge w x t) (clear_from x s)
   edge_shown h w x e t s is some edge a = record {
     within = cleared_within (blank_of pen) h x s is a.within;
     edge = a.edge;
@@ -216,7 +216,7 @@ module _ {A C : Type 0} (pen : Pen A C) where
 
   -- the terminal shows the picture after what is sent
   abbrev Then : ℕ → ℕ → EcmaScreen C → Sent → PictureOf C → Type 0
-  Then h w t x s = Shows pen h w x.next (receive_all pen h w x.bytes t) s
+  Then h w t x s = ShowsPicture pen h w x.next (receive_all pen h w x.bytes t) s
 
   -- what is sent for a clearing, where that colour is set behind the text: by rows, from the cursor on, and from the next row on
   abbrev by_rows : ColorAttribute → ColorAttribute → Encoder → Sent
@@ -230,7 +230,7 @@ module _ {A C : Type 0} (pen : Pen A C) where
       record { bytes = (13 ∷ 10 ∷ clear_with clear_below color set) ++ up_a_row ++ to_column (cols - 1); next = parted_from_wait e }
 
   module _ (h w : ℕ) (color : ColorAttribute) (e : Encoder) (t : EcmaScreen C) (s : PictureOf C) (some : 0 < w) (small : w < 2 ^ 64)
-      (p : IsColor color) (q : IsColor t.rendition.background) (is : pen.paper color ≡ blank_of pen) (a : Shows pen h w e t s) where
+      (p : IsColor color) (q : IsColor t.rendition.background) (is : pen.paper color ≡ blank_of pen) (a : ShowsPicture pen h w e t s) where
     -- the colour that is set behind the text
     abbrev set : ColorAttribute
     set = t.rendition.background
@@ -239,12 +239,12 @@ module _ {A C : Type 0} (pen : Pen A C) where
         → Then h w t (cond (eqb e.x 0) (by_rows color set e) (by_cells color set e)) (clear_from (pen.paper color) s)
     clear_within inside (inl start) =
         subst (λ x. Then h w t (cond x (by_rows color set e) (by_cells color set e)) (clear_from (pen.paper color) s)) (sym (eq-eqb e.x 0 start))
-        (subst (λ u. Shows pen h w e u (clear_from (pen.paper color) s))
+        (subst (λ u. ShowsPicture pen h w e u (clear_from (pen.paper color) s))
         (sym (ap (receive_all pen h w (clear_with clear_rows color set)) (rested t a.reading) ∙ clears_rows pen h w color t p q))
         (clear_at_start h w (pen.paper color) e t s is some (sym a.x ∙ start) a))
     clear_within inside (inr later) =
         subst (λ x. Then h w t (cond x (by_rows color set e) (by_cells color set e)) (clear_from (pen.paper color) s)) (sym (ne_eqb e.x 0 later))
-        (subst (λ u. Shows pen h w e u (clear_from (pen.paper color) s))
+        (subst (λ u. ShowsPicture pen h w e u (clear_from (pen.paper color) s))
         (sym (ap (receive_all pen h w (clear_with clear_below color set)) (rested t a.reading) ∙ clears_below pen h w color t p q))
         (clear_inside h w (pen.paper color) e t s is a inside))
 
@@ -263,7 +263,7 @@ module _ {A C : Type 0} (pen : Pen A C) where
         ∙ edge_received h w color t some small p q (λ e. omega (arith, e, a.row, room)) in
         subst (λ x. Then h w t (cond x (by_next_row e.cols color set e) (cond (eqb e.x 0) (by_rows color set e) (by_cells color set e))) (clear_from (pen.paper color) s))
         (sym (le-leb e.cols e.x (omega (arith, a.cols, a.x, past))))
-        (subst (λ u. Shows pen h w (parted_from_wait e) u (clear_from (pen.paper color) s)) (sym does)
+        (subst (λ u. ShowsPicture pen h w (parted_from_wait e) u (clear_from (pen.paper color) s)) (sym does)
         (edge_shown h w (pen.paper color) e t s is some edge a))
 
   -- ---- changes
@@ -277,18 +277,18 @@ module _ {A C : Type 0} (pen : Pen A C) where
   change_is_shown h w (Attribute change) e t s some small fits a =
       let does = ap (receive_all pen h w (set_attribute change)) (rested t a.reading) ∙ attribute_is_selected pen h w change t fits in
       let to : CellAttributes = with_attribute change e.attributes in
-      subst (λ u. Shows pen h w (record e { attributes = to }) u s) (sym does)
+      subst (λ u. ShowsPicture pen h w (record e { attributes = to }) u s) (sym does)
       (with_attributes h w e t s to (with_attribute change t.rendition) (ap (with_attribute change) a.rendition) a)
   change_is_shown h w (AllAttributes to) e t s some small fits a =
       let does = ap (receive_all pen h w (set_attributes to)) (rested t a.reading) ∙ attributes_are_selected pen h w to t fits.0 fits.1 in
-      subst (λ u. Shows pen h w (record e { attributes = to }) u s) (sym does) (with_attributes h w e t s to to refl a)
+      subst (λ u. ShowsPicture pen h w (record e { attributes = to }) u s) (sym does) (with_attributes h w e t s to to refl a)
   change_is_shown h w (ClearScreen color) e t s some small fits a =
       let q : IsColor t.rendition.background = set_color t e a.rendition fits.1 in
       let x : C = pen.paper color in
       let clear : ColorAttribute → List ℕ = λ set. to_first_cell ++ clear_with clear_all color set in
       let does = ap (receive_all pen h w (clear t.rendition.background)) (rested t a.reading) ∙ clears_all pen h w color t fits.0 q in
-      subst (λ (v : CellAttributes). Shows pen h w (at_column 0 e) (receive_all pen h w (clear v.background) t) (steps_on (Some h) w (change_strokes pen (pen.attributes e.attributes) (ClearScreen color)) s)) a.rendition
-      (subst (λ u. Shows pen h w (at_column 0 e) u (steps_on (Some h) w (change_strokes pen (pen.attributes e.attributes) (ClearScreen color)) s)) (sym does)
+      subst (λ (v : CellAttributes). ShowsPicture pen h w (at_column 0 e) (receive_all pen h w (clear v.background) t) (steps_on (Some h) w (change_strokes pen (pen.attributes e.attributes) (ClearScreen color)) s)) a.rendition
+      (subst (λ u. ShowsPicture pen h w (at_column 0 e) u (steps_on (Some h) w (change_strokes pen (pen.attributes e.attributes) (ClearScreen color)) s)) (sym does)
       (still pen h w (at_column 0 e) _ (filled x) (screen_cleared h w x e t s some fits.2 a)))
   change_is_shown h w (ClearToEndOfScreen color) e t s some small fits a =
       let q : IsColor t.rendition.background = set_color t e a.rendition fits.1 in
@@ -302,32 +302,32 @@ module _ {A C : Type 0} (pen : Pen A C) where
   -- ---- batches
 
   -- what the pen keeps behind a change is what the encoder then knows
-  pub keeps_change : (h w : ℕ) (change : ChangeView) (e : Encoder) (s : PictureOf C) → Follows pen → IsSendable pen h w e change s
+  pub keeps_change : (h w : ℕ) (change : ChangeView) (e : Encoder) (s : PictureOf C) → CarriesAttributes pen → IsSendable pen h w e change s
       → kept_after pen (pen.attributes e.attributes) change ≡ pen.attributes (sent_change change e).next.attributes
-  keeps_change h w (Text text) e s follows fits = ap pen.attributes (sym (keeps_text text e fits))
-  keeps_change h w (Attribute change) e s follows fits = follows change e.attributes
-  keeps_change h w (AllAttributes to) e s follows fits = refl
-  keeps_change h w (ClearScreen color) e s follows fits = refl
-  keeps_change h w (ClearToEndOfScreen color) e s follows fits = ap pen.attributes (sym (clears (leb e.cols e.x) (eqb e.x 0)))
+  keeps_change h w (Text text) e s carries fits = ap pen.attributes (sym (keeps_text text e fits))
+  keeps_change h w (Attribute change) e s carries fits = carries change e.attributes
+  keeps_change h w (AllAttributes to) e s carries fits = refl
+  keeps_change h w (ClearScreen color) e s carries fits = refl
+  keeps_change h w (ClearToEndOfScreen color) e s carries fits = ap pen.attributes (sym (clears (leb e.cols e.x) (eqb e.x 0)))
     where
       clears : (x y : Bool) → (cond x (by_next_row e.cols color e.attributes.background e) (cond y (by_rows color e.attributes.background e) (by_cells color e.attributes.background e))).next.attributes ≡ e.attributes
       clears true y = refl
       clears false true = refl
       clears false false = refl
-  keeps_change h w (CursorPosition x y) e s follows fits = refl
+  keeps_change h w (CursorPosition x y) e s carries fits = refl
 
   pub batch_is_shown : BatchIsShown pen
-  batch_is_shown h w [] e t s follows some small fits a = a
-  batch_is_shown h w (change ∷ batch) e t s follows some small fits a =
+  batch_is_shown h w [] e t s carries some small fits a = a
+  batch_is_shown h w (change ∷ batch) e t s carries some small fits a =
       let x : Sent = sent_change change e in
       let strokes : List (Stroke C) = change_strokes pen (pen.attributes e.attributes) change in
       let drawn : PictureOf C = steps_on (Some h) w strokes s in
       let first = change_is_shown h w change e t s some small fits.0 a in
-      let rest = batch_is_shown h w batch x.next (receive_all pen h w x.bytes t) drawn follows some small fits.1 first in
+      let rest = batch_is_shown h w batch x.next (receive_all pen h w x.bytes t) drawn carries some small fits.1 first in
       let more : A → List (Stroke C) = λ kept. strokes_of pen kept batch in
       let end : Encoder = (sent_batch batch x.next).next in
-      subst (λ u. Shows pen h w end u (steps_on (Some h) w (strokes_of pen (pen.attributes e.attributes) (change ∷ batch)) s))
+      subst (λ u. ShowsPicture pen h w end u (steps_on (Some h) w (strokes_of pen (pen.attributes e.attributes) (change ∷ batch)) s))
       (sym (received pen h w x.bytes (sent_batch batch x.next).bytes t))
-      (subst (λ v. Shows pen h w end (receive_all pen h w (sent_batch batch x.next).bytes (receive_all pen h w x.bytes t)) v)
+      (subst (λ v. ShowsPicture pen h w end (receive_all pen h w (sent_batch batch x.next).bytes (receive_all pen h w x.bytes t)) v)
       (sym (steps_on-append (Some h) w strokes (more (kept_after pen (pen.attributes e.attributes) change)) s
-      ∙ ap (λ kept. steps_on (Some h) w (more kept) drawn) (keeps_change h w change e s follows fits.0))) rest)
+      ∙ ap (λ kept. steps_on (Some h) w (more kept) drawn) (keeps_change h w change e s carries fits.0))) rest)

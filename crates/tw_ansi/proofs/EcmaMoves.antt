@@ -14,17 +14,17 @@ use Rattle.tw_screens.specs.Screens.{blank_of}
 use Rattle.tw_ansi.specs.declared.encode.Encoder.{Encoder}
 use Rattle.tw_ansi.specs.Encoding.{sent_change, at_column, column_of}
 use Rattle.tw_ansi.specs.Sequences.{to_column, to_row, sequence, most_rows}
-use Rattle.tw_ansi.specs.EcmaScreen.{EcmaScreen, receive, receive_all, receive_by, feed_line, steps}
+use Rattle.tw_ansi.specs.EcmaScreen.{EcmaScreen, receive, receive_all, receive_by, feed_line, told_steps}
 use Rattle.tw_ansi.specs.EcmaScreen as terminal
 use Rattle.tw_ansi.specs.EcmaLaws.{at_rest}
-use Rattle.tw_ansi.specs.EcmaTexts.{IsWithin, Shows}
+use Rattle.tw_ansi.specs.EcmaTexts.{IsOfRows, ShowsPicture}
 use Rattle.tw_ansi.specs.EcmaBatches.{IsReached}
 use Rattle.tw_ansi.proofs.EcmaSequences.{received, columns_are_reached, rows_above_are_reached, numbered, steps_taken}
 use Rattle.tw_ansi.proofs.EcmaScrolls.{Fed, fed}
 
 -- the terminal shows the rows of a picture, wherever the cursor stands in its row, and these attributes are selected
 pub record Rows {A C : Type 0} (pen : Pen A C) (to : CellAttributes) (h w : ℕ) (t : EcmaScreen C) (s : PictureOf C) : Type 0 where
-  pub within : IsWithin (blank_of pen) h s
+  pub within : IsOfRows (blank_of pen) h s
   pub cells : (r c : ℕ) → r < h → c < w → t.cell r c ≡ s.cell r c
   pub row : t.row ≡ s.row
   pub reading : t.reading ≡ terminal.Text
@@ -41,7 +41,7 @@ rows_up m n = by_sign (pos m +ℤ negsuc n) refl
 abbrev lowered : {C : Type 0} → ℕ → PictureOf C → PictureOf C
 lowered n s = record s { row = s.row + n }
 
-low_within : {C : Type 0} (blank : C) (h n : ℕ) (s : PictureOf C) → IsWithin blank h s → IsWithin blank h (scrolled (Some h) (lowered n s))
+low_within : {C : Type 0} (blank : C) (h n : ℕ) (s : PictureOf C) → IsOfRows blank h s → IsOfRows blank h (scrolled (Some h) (lowered n s))
 low_within blank h n s within = record {
   row = omega (arith, within.row);
   below = λ r c low. within.below (r + (s.row + n + 1 - h)) c (omega (arith, low));
@@ -49,7 +49,7 @@ low_within blank h n s within = record {
 
 module _ {A C : Type 0} (pen : Pen A C) (to : CellAttributes) where
   -- one row first, and then the others
-  after_one : (h w n : ℕ) (u : EcmaScreen C) (s : PictureOf C) → IsWithin (blank_of pen) h s → Rows pen to h w u (scrolled (Some h) (lowered n (scrolled (Some h) (lowered 1 s)))) → Rows pen to h w u (scrolled (Some h) (lowered (suc n) s))
+  after_one : (h w n : ℕ) (u : EcmaScreen C) (s : PictureOf C) → IsOfRows (blank_of pen) h s → Rows pen to h w u (scrolled (Some h) (lowered n (scrolled (Some h) (lowered 1 s)))) → Rows pen to h w u (scrolled (Some h) (lowered (suc n) s))
   after_one h w n u s within a =
       let inside : s.row < h = within.row in
       record {
@@ -99,13 +99,13 @@ module _ {A C : Type 0} (pen : Pen A C) (to : CellAttributes) where
 module _ {A C : Type 0} (pen : Pen A C) where
   -- to a column of the row
   pub column_shown : (h w col : ℕ) (e : Encoder) (u : EcmaScreen C) (s : PictureOf C) → col < w → w < 2 ^ 64 → e.cols ≡ w → Rows pen e.attributes h w u s
-      → Shows pen h w (at_column col e) (receive_all pen h w (to_column col) u) (record s { col = col })
+      → ShowsPicture pen h w (at_column col e) (receive_all pen h w (to_column col) u) (record s { col = col })
   column_shown h w col e u s inside small cols a =
       let rest : u ≡ record u { reading = terminal.Text } = ap (λ r. record u { reading = r }) a.reading in
       let there : EcmaScreen C = record u { col = col; waits = false; reading = terminal.Text } in
       let is : receive_all pen h w (to_column col) u ≡ there =
       ap (λ x. receive_all pen h w (to_column col) x) rest ∙ columns_are_reached pen h w col u inside (omega (arith, small, inside)) in
-      let shown : Shows pen h w (at_column col e) there (record s { col = col }) = record {
+      let shown : ShowsPicture pen h w (at_column col e) there (record s { col = col }) = record {
         within = record { row = a.within.row; below = a.within.below };
         edge = omega (arith, inside);
         cells = a.cells;
@@ -118,10 +118,10 @@ module _ {A C : Type 0} (pen : Pen A C) where
         cols = cols;
         x = refl;
       } in
-      subst (λ v. Shows pen h w (at_column col e) v (record s { col = col })) (sym is) shown
+      subst (λ v. ShowsPicture pen h w (at_column col e) v (record s { col = col })) (sym is) shown
 
   -- the terminal after the bytes that lead to a row
-  row_shown : (h w : ℕ) (y : Position) (e : Encoder) (t : EcmaScreen C) (s : PictureOf C) → IsReached h y → Shows pen h w e t s
+  row_shown : (h w : ℕ) (y : Position) (e : Encoder) (t : EcmaScreen C) (s : PictureOf C) → IsReached h y → ShowsPicture pen h w e t s
       → Rows pen e.attributes h w (receive_all pen h w (to_row y) t) (scrolled (Some h) (record s { row = at_least_0 (position_after y (pos s.row)) }))
   row_shown h w (Relative (pos n)) e t s reached a =
       let rows : Rows pen e.attributes h w t s = record { within = a.within; cells = a.cells; row = a.row; reading = a.reading; rendition = a.rendition } in
@@ -149,7 +149,7 @@ module _ {A C : Type 0} (pen : Pen A C) where
       let there : EcmaScreen C = record t { row = row; waits = false; reading = terminal.Text } in
       let number : min row most_rows + 1 ≡ row + 1 = omega (arith, low) in
       let steps_is = steps_taken (row + 1) (omega arith) in
-      let line : min (h - 1) (steps (row + 1) - 1) ≡ row = omega (arith, steps_is, inside) in
+      let line : min (h - 1) (told_steps (row + 1) - 1) ≡ row = omega (arith, steps_is, inside) in
       let is : receive_all pen h w (to_row (Absolute row)) t ≡ there =
       ap (λ x. receive_all pen h w (to_row (Absolute row)) x) rest
       ∙ ap (λ k. receive_all pen h w (sequence (decimal k) (codes "d")) (at_rest t)) number
@@ -164,8 +164,8 @@ module _ {A C : Type 0} (pen : Pen A C) where
         rendition = a.rendition;
       }))
 
-  pub move_shown : (h w : ℕ) (x y : Position) (e : Encoder) (t : EcmaScreen C) (s : PictureOf C) → 0 < w → w < 2 ^ 64 → IsReached h y → Shows pen h w e t s
-      → Shows pen h w (sent_change (CursorPosition x y) e).next (receive_all pen h w (sent_change (CursorPosition x y) e).bytes t) (steps_on (Some h) w (change_strokes pen (pen.attributes e.attributes) (CursorPosition x y)) s)
+  pub move_shown : (h w : ℕ) (x y : Position) (e : Encoder) (t : EcmaScreen C) (s : PictureOf C) → 0 < w → w < 2 ^ 64 → IsReached h y → ShowsPicture pen h w e t s
+      → ShowsPicture pen h w (sent_change (CursorPosition x y) e).next (receive_all pen h w (sent_change (CursorPosition x y) e).bytes t) (steps_on (Some h) w (change_strokes pen (pen.attributes e.attributes) (CursorPosition x y)) s)
   move_shown h w x y e t s some small reached a =
       let col : ℕ = column_of x e in
       let is : column_of x e ≡ min (w - 1) (at_least_0 (position_after x (pos s.col))) =
@@ -175,5 +175,5 @@ module _ {A C : Type 0} (pen : Pen A C) where
       let rows = row_shown h w y e t s reached a in
       let lower : PictureOf C = scrolled (Some h) (record s { row = at_least_0 (position_after y (pos s.row)) }) in
       let shown = column_shown h w (column_of x e) e u lower inside small a.cols rows in
-      subst (λ v. Shows pen h w (at_column (column_of x e) e) v (steps_on (Some h) w (change_strokes pen (pen.attributes e.attributes) (CursorPosition x y)) s)) (sym (received pen h w (to_row y) (to_column (column_of x e)) t))
-      (subst (λ c. Shows pen h w (at_column (column_of x e) e) (receive_all pen h w (to_column (column_of x e)) u) (record lower { col = c })) is shown)
+      subst (λ v. ShowsPicture pen h w (at_column (column_of x e) e) v (steps_on (Some h) w (change_strokes pen (pen.attributes e.attributes) (CursorPosition x y)) s)) (sym (received pen h w (to_row y) (to_column (column_of x e)) t))
+      (subst (λ c. ShowsPicture pen h w (at_column (column_of x e) e) (receive_all pen h w (to_column (column_of x e)) u) (record lower { col = c })) is shown)

@@ -21,24 +21,24 @@ use Rattle.tw_surface.specs.PaintingBatches.{clear_batch, clearing, batches_afte
 use Rattle.tw_ansi.specs.declared.encode.Encoder.{Encoder}
 use Rattle.tw_ansi.specs.Encoding.{sent_change, sent_batch}
 use Rattle.tw_ansi.specs.EcmaLaws.{IsColor, IsAttribute}
-use Rattle.tw_ansi.specs.EcmaBatches.{Follows, AreSendable}
-use Rattle.tw_ansi.specs.EcmaPaintings.{IsTyped, IsTypedLower, IsTypedScene, IsShowable, AreAllSendable, sent_batches, PaintingIsSendable, RepaintingIsSendable, ClosingIsSendable, PaintingKnowsColor, RunIsSendable, BatchesAreShown}
+use Rattle.tw_ansi.specs.EcmaBatches.{CarriesAttributes, AreSendable}
+use Rattle.tw_ansi.specs.EcmaPaintings.{IsTypedChange, IsTypedLower, IsTypedScene, IsShowable, AreAllSendable, sent_batches, PaintingIsSendable, RepaintingIsSendable, ClosingIsSendable, PaintingKnowsColor, RunIsSendable, BatchesAreShown}
 use Rattle.tw_ansi.specs.EcmaScreen.{EcmaScreen, receive_all}
-use Rattle.tw_ansi.specs.EcmaTexts.{Shows}
+use Rattle.tw_ansi.specs.EcmaTexts.{ShowsPicture}
 use Rattle.tw_ansi.proofs.EcmaSequences.{received}
 use Rattle.tw_ansi.proofs.EcmaTexts.{keeps_text}
 use Rattle.tw_ansi.proofs.EcmaBatches.{batch_is_shown, keeps_change}
 
 -- two lists of such changes
-both_typed : (xs ys : Batch) → AllByRecursion IsTyped xs → AllByRecursion IsTyped ys → AllByRecursion IsTyped (xs ++ ys)
+both_typed : (xs ys : Batch) → AllByRecursion IsTypedChange xs → AllByRecursion IsTypedChange ys → AllByRecursion IsTypedChange (xs ++ ys)
 both_typed [] ys a b = b
 both_typed (x ∷ xs) ys a b = (a.0, both_typed xs ys a.1 b)
 
-space_typed : (t : Bool) → AllByRecursion IsTyped (cond t (Text (blank ∷ []) ∷ []) [])
+space_typed : (t : Bool) → AllByRecursion IsTypedChange (cond t (Text (blank ∷ []) ∷ []) [])
 space_typed true = (refl, tt)
 space_typed false = tt
 
-lower_typed : (lower : Lower) → IsTypedLower lower → AllByRecursion IsTyped (lower_changes lower)
+lower_typed : (lower : Lower) → IsTypedLower lower → AllByRecursion IsTypedChange (lower_changes lower)
 lower_typed NoLower h = tt
 lower_typed (Preview elements) h = (refl, ((tt, tt), h))
 lower_typed (Search text) h = ((tt, tt), (h, tt))
@@ -49,11 +49,11 @@ shown w scene =
     ((scene.prompt ++ AllAttributes default_attributes ∷ []) ++ scene.line)
     ++ (edge_space w (place_after_all w (before_line scene.prompt ++ scene.line) origin) ++ lower_changes scene.lower)
 
-shown_typed : (w : ℕ) (scene : Scene) → IsTypedScene scene → AllByRecursion IsTyped (shown w scene)
+shown_typed : (w : ℕ) (scene : Scene) → IsTypedScene scene → AllByRecursion IsTypedChange (shown w scene)
 shown_typed w scene t =
     let place = place_after_all w (before_line scene.prompt ++ scene.line) origin in
-    let plain : AllByRecursion IsTyped (AllAttributes default_attributes ∷ []) = ((tt, tt), tt) in
-    let prompt : AllByRecursion IsTyped (scene.prompt ++ AllAttributes default_attributes ∷ []) = both_typed scene.prompt (AllAttributes default_attributes ∷ []) t.prompt plain in
+    let plain : AllByRecursion IsTypedChange (AllAttributes default_attributes ∷ []) = ((tt, tt), tt) in
+    let prompt : AllByRecursion IsTypedChange (scene.prompt ++ AllAttributes default_attributes ∷ []) = both_typed scene.prompt (AllAttributes default_attributes ∷ []) t.prompt plain in
     both_typed ((scene.prompt ++ AllAttributes default_attributes ∷ []) ++ scene.line) (edge_space w place ++ lower_changes scene.lower)
     (both_typed (scene.prompt ++ AllAttributes default_attributes ∷ []) scene.line prompt t.line)
     (both_typed (edge_space w place) (lower_changes scene.lower) (space_typed (eqb place.x w)) (lower_typed scene.lower t.lower))
@@ -70,7 +70,7 @@ set_color (attribute.Invisible to) c a h = h
 set_color (attribute.Foreground to) c a h = h
 set_color (attribute.Background to) c a h = a
 
-one_color : (x : ChangeView) (e : Encoder) → IsTyped x → IsColor e.attributes.background → IsColor (sent_change x e).next.attributes.background
+one_color : (x : ChangeView) (e : Encoder) → IsTypedChange x → IsColor e.attributes.background → IsColor (sent_change x e).next.attributes.background
 one_color (Text text) e a h = subst (λ (c : CellAttributes). IsColor c.background) (sym (keeps_text text e a)) h
 one_color (Attribute change) e a h = set_color change e.attributes a h
 one_color (AllAttributes to) e a h = a.1
@@ -78,7 +78,7 @@ one_color (ClearScreen color) e a h = absurd a
 one_color (ClearToEndOfScreen color) e a h = absurd a
 one_color (CursorPosition x y) e a h = absurd a
 
-typed_color : (xs : Batch) (x y : _) (e : Encoder) → AllByRecursion IsTyped xs → IsColor e.attributes.background
+typed_color : (xs : Batch) (x y : _) (e : Encoder) → AllByRecursion IsTypedChange xs → IsColor e.attributes.background
     → IsColor (sent_batch (xs ++ CursorPosition x y ∷ []) e).next.attributes.background
 typed_color [] x y e a h = h
 typed_color (z ∷ xs) x y e a h = typed_color xs x y (sent_change z e).next a.1 (one_color z e a.0 h)
@@ -88,7 +88,7 @@ painting_knows_color w scene e t =
     typed_color (shown w scene) _ _ (sent_change (AllAttributes default_attributes) (sent_change (ClearToEndOfScreen default_color) e).next).next (shown_typed w scene t) tt
 
 module _ {A C : Type 0} (pen : Pen A C) where
-  one_sendable : (h w : ℕ) (x : ChangeView) (ys : Batch) (e : Encoder) (s : PictureOf C) → IsTyped x
+  one_sendable : (h w : ℕ) (x : ChangeView) (ys : Batch) (e : Encoder) (s : PictureOf C) → IsTypedChange x
       → AreSendable pen h w (sent_change x e).next ys (steps_on (Some h) w (change_strokes pen (pen.attributes e.attributes) x) s) → AreSendable pen h w e (x ∷ ys) s
   one_sendable h w (Text text) ys e s a b = (a, b)
   one_sendable h w (Attribute change) ys e s a b = (a, b)
@@ -98,7 +98,7 @@ module _ {A C : Type 0} (pen : Pen A C) where
   one_sendable h w (CursorPosition x y) ys e s a b = absurd a
 
   -- such changes are sendable wherever they come
-  typed_sendable : (h w : ℕ) (xs ys : Batch) (e : Encoder) (s : PictureOf C) → AllByRecursion IsTyped xs
+  typed_sendable : (h w : ℕ) (xs ys : Batch) (e : Encoder) (s : PictureOf C) → AllByRecursion IsTypedChange xs
       → ((d : Encoder) (r : PictureOf C) → AreSendable pen h w d ys r) → AreSendable pen h w e (xs ++ ys) s
   typed_sendable h w [] ys e s a b = b e s
   typed_sendable h w (x ∷ xs) ys e s a b = one_sendable h w x (xs ++ ys) e s a.0 (typed_sendable h w xs ys _ _ a.1 b)
@@ -178,22 +178,22 @@ module _ {A C : Type 0} (pen : Pen A C) where
       first_sendable h w some (closing_of w (scene ∷ scenes)) (end_sendable h w (scene ∷ scenes) some a) scene scenes a.0 a.1 e s color inside
 
   -- what the pen keeps behind a batch is what the encoder then knows
-  keeps_batch : (h w : ℕ) (batch : Batch) (e : Encoder) (s : PictureOf C) → Follows pen → AreSendable pen h w e batch s
+  keeps_batch : (h w : ℕ) (batch : Batch) (e : Encoder) (s : PictureOf C) → CarriesAttributes pen → AreSendable pen h w e batch s
       → kept_after_all pen (pen.attributes e.attributes) batch ≡ pen.attributes (sent_batch batch e).next.attributes
-  keeps_batch h w [] e s follows a = refl
-  keeps_batch h w (change ∷ batch) e s follows a =
-      ap (λ kept. kept_after_all pen kept batch) (keeps_change pen h w change e s follows a.0)
-      ∙ keeps_batch h w batch (sent_change change e).next _ follows a.1
+  keeps_batch h w [] e s carries a = refl
+  keeps_batch h w (change ∷ batch) e s carries a =
+      ap (λ kept. kept_after_all pen kept batch) (keeps_change pen h w change e s carries a.0)
+      ∙ keeps_batch h w batch (sent_change change e).next _ carries a.1
 
   pub batches_are_shown : BatchesAreShown pen
-  batches_are_shown h w [] e t s follows some small a shows = shows
-  batches_are_shown h w (batch ∷ more) e t s follows some small a shows =
+  batches_are_shown h w [] e t s carries some small a shows = shows
+  batches_are_shown h w (batch ∷ more) e t s carries some small a shows =
       let next : Encoder = (sent_batch batch e).next in
       let end : Encoder = (sent_batches more next).next in
       let drawn : PictureOf C = steps_on (Some h) w (strokes_of pen (pen.attributes e.attributes) batch) s in
       let u : EcmaScreen C = receive_all pen h w (sent_batch batch e).bytes t in
-      let rest = batches_are_shown h w more next u drawn follows some small a.1 (batch_is_shown pen h w batch e t s follows some small a.0 shows) in
-      subst (λ v. Shows pen h w end v (play_sized (Some h) false pen w (pen.attributes e.attributes) (sized_at w (batch ∷ more)) s))
+      let rest = batches_are_shown h w more next u drawn carries some small a.1 (batch_is_shown pen h w batch e t s carries some small a.0 shows) in
+      subst (λ v. ShowsPicture pen h w end v (play_sized (Some h) false pen w (pen.attributes e.attributes) (sized_at w (batch ∷ more)) s))
       (sym (received pen h w (sent_batch batch e).bytes (sent_batches more next).bytes t))
-      (subst (λ kept. Shows pen h w end (receive_all pen h w (sent_batches more next).bytes u) (play_sized (Some h) false pen w kept (sized_at w more) drawn))
-      (sym (keeps_batch h w batch e s follows a.0)) rest)
+      (subst (λ kept. ShowsPicture pen h w end (receive_all pen h w (sent_batches more next).bytes u) (play_sized (Some h) false pen w kept (sized_at w more) drawn))
+      (sym (keeps_batch h w batch e s carries a.0)) rest)

@@ -5,10 +5,10 @@ use Rattle.tw_strokes.specs.Strokes.{PictureOf, scrolled}
 use Rattle.tw_screens.specs.Pens.{Pen}
 use Rattle.tw_ansi.specs.declared.encode.Encoder.{Encoder}
 use Rattle.tw_ansi.specs.EcmaScreen.{EcmaScreen, feed_line}
-use Rattle.tw_ansi.specs.EcmaTexts.{IsWithin, Shows}
+use Rattle.tw_ansi.specs.EcmaTexts.{IsOfRows, ShowsPicture}
 
 -- a picture that does not scroll
-pub still : {A C : Type 0} (pen : Pen A C) (h w : ℕ) (e : Encoder) (t : EcmaScreen C) (s : PictureOf C) → Shows pen h w e t s → Shows pen h w e t (scrolled (Some h) s)
+pub still : {A C : Type 0} (pen : Pen A C) (h w : ℕ) (e : Encoder) (t : EcmaScreen C) (s : PictureOf C) → ShowsPicture pen h w e t s → ShowsPicture pen h w e t (scrolled (Some h) s)
 still pen h w e t s a =
     let inside : s.row < h = a.within.row in
     record {
@@ -38,14 +38,14 @@ pub record Fed {C : Type 0} (h w : ℕ) (t u : EcmaScreen C) (s : PictureOf C) :
   pub rendition : u.rendition ≡ t.rendition
 
 -- a cell of the row that comes from below
-cell_below : {C : Type 0} (blank : C) (h w : ℕ) (t : EcmaScreen C) (s : PictureOf C) (r c : ℕ) → IsWithin blank h s → s.row + 1 ≡ h → ((i j : ℕ) → i < h → j < w → t.cell i j ≡ s.cell i j)
+cell_below : {C : Type 0} (blank : C) (h w : ℕ) (t : EcmaScreen C) (s : PictureOf C) (r c : ℕ) → IsOfRows blank h s → s.row + 1 ≡ h → ((i j : ℕ) → i < h → j < w → t.cell i j ≡ s.cell i j)
     → r < h → c < w → (r + 1 < h) ⊎ (h ≤ r + 1) → cond (ltb (r + 1) h) (t.cell (r + 1) c) blank ≡ s.cell (r + (s.row + 1 + 1 - h)) c
 cell_below blank h w t s r c within last same low left (inl inside) =
     ap (λ x. cond x (t.cell (r + 1) c) blank) (lt-ltb (r + 1) h inside) ∙ same (r + 1) c inside left ∙ ap (λ i. s.cell i c) (omega (arith, last))
 cell_below blank h w t s r c within last same low left (inr outside) =
     ap (λ x. cond x (t.cell (r + 1) c) blank) (le-ltb (r + 1) h outside) ∙ sym (within.below (r + (s.row + 1 + 1 - h)) c (omega (arith, last, outside)))
 
-fed_cases : {C : Type 0} (blank : C) (h w : ℕ) (t : EcmaScreen C) (s : PictureOf C) → IsWithin blank h s → t.row ≡ s.row → ((i j : ℕ) → i < h → j < w → t.cell i j ≡ s.cell i j)
+fed_cases : {C : Type 0} (blank : C) (h w : ℕ) (t : EcmaScreen C) (s : PictureOf C) → IsOfRows blank h s → t.row ≡ s.row → ((i j : ℕ) → i < h → j < w → t.cell i j ≡ s.cell i j)
     → (t.row + 1 ≡ h) ⊎ (t.row + 1 ≡ h → ⊥) → Fed h w t (feed_line blank h t) s
 fed_cases {C} blank h w t s within row same (inl last) =
     let up : EcmaScreen C = record t { cell = λ r c. cond (ltb (r + 1) h) (t.cell (r + 1) c) blank; waits = false } in
@@ -79,5 +79,5 @@ fed_cases {C} blank h w t s within row same (inr other) =
     lower : (h m n : ℕ) → m ≡ n → n < h → (m + 1 ≡ h → ⊥) → n + 1 < h
     lower h m n e below other = elim (cases_lt (n + 1) h) [ inl less ↦ less | inr more ↦ absurd (other (omega (arith, e, below, more))) ]
 
-pub fed : {C : Type 0} (blank : C) (h w : ℕ) (t : EcmaScreen C) (s : PictureOf C) → IsWithin blank h s → t.row ≡ s.row → ((i j : ℕ) → i < h → j < w → t.cell i j ≡ s.cell i j) → Fed h w t (feed_line blank h t) s
+pub fed : {C : Type 0} (blank : C) (h w : ℕ) (t : EcmaScreen C) (s : PictureOf C) → IsOfRows blank h s → t.row ≡ s.row → ((i j : ℕ) → i < h → j < w → t.cell i j ≡ s.cell i j) → Fed h w t (feed_line blank h t) s
 fed blank h w t s within row same = fed_cases blank h w t s within row same (cases_eq (t.row + 1) h)

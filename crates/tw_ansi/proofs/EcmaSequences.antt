@@ -6,14 +6,14 @@ use Rattle.std.proofs.lemmas.Bool.{eq-eqb, ne_eqb, cases_eq, and_parts}
 use Rattle.tw_screens.specs.Pens.{Pen}
 use Rattle.tw_ansi.specs.KeyBytes.{is_digit, is_parameter, value_after}
 use Rattle.tw_ansi.specs.Sequences.{sequence, to_column, most_rows}
-use Rattle.tw_ansi.specs.EcmaScreen.{EcmaScreen, receive, receive_all, steps, act, act_by}
+use Rattle.tw_ansi.specs.EcmaScreen.{EcmaScreen, receive, receive_all, told_steps, act, act_by}
 use Rattle.tw_ansi.specs.EcmaScreen as terminal
 use Rattle.tw_ansi.specs.Selections.{selected}
 use Rattle.tw_ansi.specs.EcmaLaws.{at_rest, ColumnsAreReached, RowsAboveAreReached}
 use Rattle.tw_ansi.proofs.Numbers.{decimal_value, decimal_digits, decimal_parameters}
 
 -- a number of steps that is not 0
-pub steps_taken : (n : ℕ) → 0 < n → steps n ≡ n
+pub steps_taken : (n : ℕ) → 0 < n → told_steps n ≡ n
 steps_taken n some = ap (λ x. cond x 1 n) (ne_eqb n 0 (λ e. omega arith))
 
 module _ {A C : Type 0} (pen : Pen A C) where
@@ -60,7 +60,7 @@ module _ {A C : Type 0} (pen : Pen A C) where
       ap (λ x. receive_all pen h w (13 ∷ cond x [] (sequence (decimal col) (codes "C"))) (at_rest t)) (eq-eqb col 0 e)
       ∙ ap (λ c. record t { col = c; waits = false; reading = terminal.Text }) (sym e)
   column_cases h w col t inside small (inr n) =
-      let right : min (w - 1) (0 + steps col) ≡ col = omega (arith, steps_taken col (omega arith)) in
+      let right : min (w - 1) (0 + told_steps col) ≡ col = omega (arith, steps_taken col (omega arith)) in
       ap (λ x. receive_all pen h w (13 ∷ cond x [] (sequence (decimal col) (codes "C"))) (at_rest t)) (ne_eqb col 0 n)
       ∙ numbered h w col 67 (record t { col = 0; waits = false }) small refl refl
       ∙ ap (λ c. record t { col = c; waits = false; reading = terminal.Text }) right
@@ -71,7 +71,7 @@ module _ {A C : Type 0} (pen : Pen A C) where
   pub rows_above_are_reached : RowsAboveAreReached pen
   rows_above_are_reached h w n t small =
       let fewer : min (n + 1) most_rows ≡ n + 1 = omega arith in
-      let up : steps (n + 1) ≡ n + 1 = steps_taken (n + 1) (omega arith) in
+      let up : told_steps (n + 1) ≡ n + 1 = steps_taken (n + 1) (omega arith) in
       ap (λ k. receive_all pen h w (sequence (decimal k) (codes "A")) (at_rest t)) fewer
       ∙ numbered h w (n + 1) 65 t (omega arith) refl refl
       ∙ ap (λ k. record t { row = t.row - k; waits = false; reading = terminal.Text }) up

@@ -14,7 +14,7 @@ use Rattle.tw_ansi.specs.Encoding.{Sent, at_column, parted_from_wait, sent_retur
 use Rattle.tw_ansi.specs.Sequences.{to_column}
 use Rattle.tw_ansi.specs.EcmaScreen.{EcmaScreen, receive, receive_all, receive_by, return_to_start, feed_line, write, write_here}
 use Rattle.tw_ansi.specs.EcmaScreen as terminal
-use Rattle.tw_ansi.specs.EcmaTexts.{IsWithin, Shows, PlainTextIsShown}
+use Rattle.tw_ansi.specs.EcmaTexts.{IsOfRows, ShowsPicture, PlainTextIsShown}
 use Rattle.tw_ansi.proofs.EcmaSequences.{received, columns_are_reached}
 use Rattle.tw_ansi.proofs.EcmaScrolls.{Fed, fed, still}
 use Rattle.tw_ansi.proofs.EcmaWrites.{text_write, written_inside, wrapped, put_here, put_below}
@@ -39,12 +39,12 @@ keeps_text text e plain = ap (λ t. let x : Sent = cond t (sent_plain text e) (s
 module _ {A C : Type 0} (pen : Pen A C) where
   -- the terminal shows the picture after what is sent
   abbrev Then : ℕ → ℕ → EcmaScreen C → Sent → PictureOf C → Type 0
-  Then h w t x s = Shows pen h w x.next (receive_all pen h w x.bytes t) s
+  Then h w t x s = ShowsPicture pen h w x.next (receive_all pen h w x.bytes t) s
 
-  returned : (h w : ℕ) (e : Encoder) (t : EcmaScreen C) (s : PictureOf C) → 0 < w → Shows pen h w e t s → Then h w t (sent_return e) (scrolled (Some h) (record s { col = 0 }))
+  returned : (h w : ℕ) (e : Encoder) (t : EcmaScreen C) (s : PictureOf C) → 0 < w → ShowsPicture pen h w e t s → Then h w t (sent_return e) (scrolled (Some h) (record s { col = 0 }))
   returned h w e t s some a =
       let is : receive pen h w 13 t ≡ return_to_start t = ap (λ r. receive_by pen h w r 13 t) a.reading in
-      let shown : Shows pen h w (at_column 0 e) (return_to_start t) (record s { col = 0 }) = record {
+      let shown : ShowsPicture pen h w (at_column 0 e) (return_to_start t) (record s { col = 0 }) = record {
         within = record { row = a.within.row; below = a.within.below };
         edge = omega arith;
         cells = a.cells;
@@ -57,20 +57,20 @@ module _ {A C : Type 0} (pen : Pen A C) where
         cols = a.cols;
         x = refl;
       } in
-      still pen h w (at_column 0 e) (receive pen h w 13 t) (record s { col = 0 }) (subst (λ u. Shows pen h w (at_column 0 e) u (record s { col = 0 })) (sym is) shown)
+      still pen h w (at_column 0 e) (receive pen h w 13 t) (record s { col = 0 }) (subst (λ u. ShowsPicture pen h w (at_column 0 e) u (record s { col = 0 })) (sym is) shown)
 
   -- the picture after a line feed
   abbrev lower : PictureOf C → PictureOf C
   lower s = record s { row = s.row + 1 }
 
-  lower_within : (h : ℕ) (s : PictureOf C) → IsWithin (blank_of pen) h s → IsWithin (blank_of pen) h (scrolled (Some h) (lower s))
+  lower_within : (h : ℕ) (s : PictureOf C) → IsOfRows (blank_of pen) h s → IsOfRows (blank_of pen) h (scrolled (Some h) (lower s))
   lower_within h s within = record {
     row = omega (arith, within.row);
     below = λ r c low. within.below (r + (s.row + 1 + 1 - h)) c (omega (arith, low));
   }
 
   -- a line feed where the terminal does not wait
-  fed_idle : (h w : ℕ) (e : Encoder) (t u : EcmaScreen C) (s : PictureOf C) → Shows pen h w e t s → Fed h w t u s → (eqb s.col w && not e.parted) ≡ false → Shows pen h w e u (scrolled (Some h) (lower s))
+  fed_idle : (h w : ℕ) (e : Encoder) (t u : EcmaScreen C) (s : PictureOf C) → ShowsPicture pen h w e t s → Fed h w t u s → (eqb s.col w && not e.parted) ≡ false → ShowsPicture pen h w e u (scrolled (Some h) (lower s))
   fed_idle h w e t u s a f idle = record {
     within = lower_within h s a.within;
     edge = a.edge;
@@ -86,11 +86,11 @@ module _ {A C : Type 0} (pen : Pen A C) where
   }
 
   -- a line feed where it waits, and back to the last column
-  fed_waiting : (h w : ℕ) (e : Encoder) (t u v : EcmaScreen C) (s : PictureOf C) → Shows pen h w e t s → Fed h w t u s → s.col ≡ w
-      → v ≡ record u { col = w - 1; waits = false; reading = terminal.Text } → Shows pen h w (parted_from_wait e) v (scrolled (Some h) (lower s))
+  fed_waiting : (h w : ℕ) (e : Encoder) (t u v : EcmaScreen C) (s : PictureOf C) → ShowsPicture pen h w e t s → Fed h w t u s → s.col ≡ w
+      → v ≡ record u { col = w - 1; waits = false; reading = terminal.Text } → ShowsPicture pen h w (parted_from_wait e) v (scrolled (Some h) (lower s))
   fed_waiting h w e t u v s a f edge is =
       let back : EcmaScreen C = record u { col = w - 1; waits = false; reading = terminal.Text } in
-      let shown : Shows pen h w (parted_from_wait e) back (scrolled (Some h) (lower s)) = record {
+      let shown : ShowsPicture pen h w (parted_from_wait e) back (scrolled (Some h) (lower s)) = record {
         within = lower_within h s a.within;
         edge = a.edge;
         cells = f.cells;
@@ -103,7 +103,7 @@ module _ {A C : Type 0} (pen : Pen A C) where
         cols = a.cols;
         x = a.x;
       } in
-      subst (λ x. Shows pen h w (parted_from_wait e) x (scrolled (Some h) (lower s))) (sym is) shown
+      subst (λ x. ShowsPicture pen h w (parted_from_wait e) x (scrolled (Some h) (lower s))) (sym is) shown
     where
       at_edge : (b : Bool) → false ≡ (b && false)
       at_edge true = refl
@@ -112,10 +112,10 @@ module _ {A C : Type 0} (pen : Pen A C) where
   feed_received : (h w : ℕ) (t : EcmaScreen C) → t.reading ≡ terminal.Text → receive pen h w 10 t ≡ feed_line (blank_of pen) h t
   feed_received h w t text = ap (λ r. receive_by pen h w r 10 t) text
 
-  fed_to : (h w : ℕ) (e : Encoder) (t : EcmaScreen C) (s : PictureOf C) → Shows pen h w e t s → Fed h w t (receive pen h w 10 t) s
+  fed_to : (h w : ℕ) (e : Encoder) (t : EcmaScreen C) (s : PictureOf C) → ShowsPicture pen h w e t s → Fed h w t (receive pen h w 10 t) s
   fed_to h w e t s a = subst (λ u. Fed h w t u s) (sym (feed_received h w t a.reading)) (fed (blank_of pen) h w t s a.within a.row a.cells)
 
-  feed_cases : (h w : ℕ) (e : Encoder) (t : EcmaScreen C) (s : PictureOf C) → 0 < w → w < 2 ^ 64 → Shows pen h w e t s
+  feed_cases : (h w : ℕ) (e : Encoder) (t : EcmaScreen C) (s : PictureOf C) → 0 < w → w < 2 ^ 64 → ShowsPicture pen h w e t s
       → (s.col < w) ⊎ (w ≤ s.col) → (p : Bool) → e.parted ≡ p → Then h w t (sent_feed e) (scrolled (Some h) (lower s))
   feed_cases h w e t s some small a (inl inside) p is =
       let stays : Sent = record { bytes = 10 ∷ []; next = e } in
@@ -148,7 +148,7 @@ module _ {A C : Type 0} (pen : Pen A C) where
   one_column e b x is = ap (λ (y : Sent). let all : Sent = record { bytes = y.bytes ++ b ∷ []; next = y.next } in all) is
 
   -- a printable character, as the cell that it is under the attributes that are selected
-  print_cases : (h w b : ℕ) (e : Encoder) (t : EcmaScreen C) (s : PictureOf C) → 0 < w → is_printable b ≡ true → Shows pen h w e t s
+  print_cases : (h w b : ℕ) (e : Encoder) (t : EcmaScreen C) (s : PictureOf C) → 0 < w → is_printable b ≡ true → ShowsPicture pen h w e t s
       → (s.col < w) ⊎ (w ≤ s.col) → (p : Bool) → e.parted ≡ p → Then h w t (sent_columns e 1 (b ∷ [])) (scrolled (Some h) (put w (pen.ink (pen.attributes t.rendition) b) s))
   print_cases h w b e t s some printable a (inl inside) p is =
       let x : C = pen.ink (pen.attributes t.rendition) b in
@@ -157,7 +157,7 @@ module _ {A C : Type 0} (pen : Pen A C) where
       let fits = one_column e b here (ap (λ x. cond x here below) (le-leb (e.x + 1) e.cols (omega (arith, a.x, a.cols, inside)))) in
       let drawn : put w x s ≡ put_here pen x s = ap (λ v. cond v (put_below pen x s) (put_here pen x s)) (ne_eqb s.col w (λ q. omega (arith, q))) in
       subst (λ v. Then h w t v (scrolled (Some h) (put w x s))) (sym fits)
-      (subst (λ v. Shows pen h w (at_column (e.x + 1) e) (receive pen h w b t) (scrolled (Some h) v)) (sym drawn)
+      (subst (λ v. ShowsPicture pen h w (at_column (e.x + 1) e) (receive pen h w b t) (scrolled (Some h) v)) (sym drawn)
       (still pen h w (at_column (e.x + 1) e) (receive pen h w b t) (put_here pen x s) (written_inside pen h w b e t s a inside printable)))
   print_cases h w b e t s some printable a (inr edge) true is =
       let x : C = pen.ink (pen.attributes t.rendition) b in
@@ -178,8 +178,8 @@ module _ {A C : Type 0} (pen : Pen A C) where
       text_write pen h w b u text printable ∙ ap (λ v. write (blank_of pen) h w v u) same
       ∙ ap (λ v. cond v (write_here w x (return_to_start (feed_line (blank_of pen) h u))) (write_here w x u)) f.waits in
       subst (λ v. Then h w t v (scrolled (Some h) (put w x s))) (sym goes)
-      (subst (λ v. Shows pen h w (at_column 1 e) (receive pen h w b (receive pen h w 10 (receive pen h w 13 t))) (scrolled (Some h) v)) (sym drawn)
-      (subst (λ v. Shows pen h w (at_column 1 e) v (scrolled (Some h) (put_below pen x s))) (sym (ap (receive pen h w b) second ∙ third))
+      (subst (λ v. ShowsPicture pen h w (at_column 1 e) (receive pen h w b (receive pen h w 10 (receive pen h w 13 t))) (scrolled (Some h) v)) (sym drawn)
+      (subst (λ v. ShowsPicture pen h w (at_column 1 e) v (scrolled (Some h) (put_below pen x s))) (sym (ap (receive pen h w b) second ∙ third))
       (wrapped pen h w x e start u s a.within some a.cols f f.col text (f.rendition ∙ a.rendition))))
   print_cases h w b e t s some printable a (inr edge) false is =
       let x : C = pen.ink (pen.attributes t.rendition) b in
@@ -197,13 +197,13 @@ module _ {A C : Type 0} (pen : Pen A C) where
       let third : receive pen h w b t ≡ write_here w x u =
       text_write pen h w b t a.reading printable ∙ ap (λ v. cond v (write_here w x u) (write_here w x t)) waits in
       subst (λ v. Then h w t v (scrolled (Some h) (put w x s))) (sym goes)
-      (subst (λ v. Shows pen h w (at_column 1 e) (receive pen h w b t) (scrolled (Some h) v)) (sym drawn)
-      (subst (λ v. Shows pen h w (at_column 1 e) v (scrolled (Some h) (put_below pen x s))) (sym third)
+      (subst (λ v. ShowsPicture pen h w (at_column 1 e) (receive pen h w b t) (scrolled (Some h) v)) (sym drawn)
+      (subst (λ v. ShowsPicture pen h w (at_column 1 e) v (scrolled (Some h) (put_below pen x s))) (sym third)
       (wrapped pen h w x e (return_to_start t) u s a.within some a.cols g refl (f.reading ∙ a.reading) (f.rendition ∙ a.rendition))))
 
   -- ---- texts
 
-  byte_cases : (h w b : ℕ) (e : Encoder) (t : EcmaScreen C) (s : PictureOf C) → 0 < w → w < 2 ^ 64 → is_plain b ≡ true → Shows pen h w e t s
+  byte_cases : (h w b : ℕ) (e : Encoder) (t : EcmaScreen C) (s : PictureOf C) → 0 < w → w < 2 ^ 64 → is_plain b ≡ true → ShowsPicture pen h w e t s
       → (eqb b 13 ≡ true) ⊎ (eqb b 13 ≡ false) → (eqb b 10 ≡ true) ⊎ (eqb b 10 ≡ false)
       → Then h w t (sent_byte e b) (scrolled (Some h) (step w (char_stroke pen (pen.attributes t.rendition) b) s))
   byte_cases h w b e t s some small plain a (inl holds) other =
@@ -234,13 +234,13 @@ module _ {A C : Type 0} (pen : Pen A C) where
       (print_cases h w b e t s some printable a (cases_lt s.col w) e.parted refl))
 
   -- under the attributes that the encoder knows, which are those that are selected
-  byte_shown : (h w b : ℕ) (e : Encoder) (t : EcmaScreen C) (s : PictureOf C) → 0 < w → w < 2 ^ 64 → is_plain b ≡ true → Shows pen h w e t s
+  byte_shown : (h w b : ℕ) (e : Encoder) (t : EcmaScreen C) (s : PictureOf C) → 0 < w → w < 2 ^ 64 → is_plain b ≡ true → ShowsPicture pen h w e t s
       → Then h w t (sent_byte e b) (scrolled (Some h) (step w (char_stroke pen (pen.attributes e.attributes) b) s))
   byte_shown h w b e t s some small plain a =
       subst (λ (v : CellAttributes). Then h w t (sent_byte e b) (scrolled (Some h) (step w (char_stroke pen (pen.attributes v) b) s))) a.rendition
       (byte_cases h w b e t s some small plain a (cases_Bool _) (cases_Bool _))
 
-  plain_shown : (h w : ℕ) (text : List ℕ) (e : Encoder) (t : EcmaScreen C) (s : PictureOf C) → 0 < w → w < 2 ^ 64 → list_all is_plain text ≡ true → Shows pen h w e t s
+  plain_shown : (h w : ℕ) (text : List ℕ) (e : Encoder) (t : EcmaScreen C) (s : PictureOf C) → 0 < w → w < 2 ^ 64 → list_all is_plain text ≡ true → ShowsPicture pen h w e t s
       → Then h w t (sent_plain text e) (steps_on (Some h) w (map (char_stroke pen (pen.attributes e.attributes)) text) s)
   plain_shown h w [] e t s some small plain a = a
   plain_shown h w (b ∷ text) e t s some small plain a =
@@ -249,11 +249,11 @@ module _ {A C : Type 0} (pen : Pen A C) where
       let drawn : PictureOf C = scrolled (Some h) (step w (char_stroke pen (pen.attributes e.attributes) b) s) in
       let first = byte_shown h w b e t s some small parts.0 a in
       let rest = plain_shown h w text x.next (receive_all pen h w x.bytes t) drawn some small parts.1 first in
-      let known : Shows pen h w (sent_plain text x.next).next (receive_all pen h w (sent_plain text x.next).bytes (receive_all pen h w x.bytes t))
+      let known : ShowsPicture pen h w (sent_plain text x.next).next (receive_all pen h w (sent_plain text x.next).bytes (receive_all pen h w x.bytes t))
       (steps_on (Some h) w (map (char_stroke pen (pen.attributes e.attributes)) text) drawn) =
-      subst (λ (v : CellAttributes). Shows pen h w (sent_plain text x.next).next (receive_all pen h w (sent_plain text x.next).bytes (receive_all pen h w x.bytes t))
+      subst (λ (v : CellAttributes). ShowsPicture pen h w (sent_plain text x.next).next (receive_all pen h w (sent_plain text x.next).bytes (receive_all pen h w x.bytes t))
       (steps_on (Some h) w (map (char_stroke pen (pen.attributes v)) text) drawn)) (keeps_byte e b) rest in
-      subst (λ u. Shows pen h w (sent_plain text x.next).next u (steps_on (Some h) w (map (char_stroke pen (pen.attributes e.attributes)) text) drawn))
+      subst (λ u. ShowsPicture pen h w (sent_plain text x.next).next u (steps_on (Some h) w (map (char_stroke pen (pen.attributes e.attributes)) text) drawn))
       (sym (received pen h w x.bytes (sent_plain text x.next).bytes t)) known
 
   pub plain_text_is_shown : PlainTextIsShown pen

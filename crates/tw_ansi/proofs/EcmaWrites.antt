@@ -9,7 +9,7 @@ use Rattle.tw_ansi.specs.declared.encode.Encoder.{Encoder}
 use Rattle.tw_ansi.specs.Encoding.{at_column}
 use Rattle.tw_ansi.specs.EcmaScreen.{EcmaScreen, receive, receive_by, return_to_start, feed_line, write, write_here}
 use Rattle.tw_ansi.specs.EcmaScreen as terminal
-use Rattle.tw_ansi.specs.EcmaTexts.{IsWithin, Shows}
+use Rattle.tw_ansi.specs.EcmaTexts.{IsOfRows, ShowsPicture}
 use Rattle.tw_ansi.proofs.EcmaScrolls.{Fed}
 
 module _ {A C : Type 0} (pen : Pen A C) where
@@ -35,7 +35,7 @@ module _ {A C : Type 0} (pen : Pen A C) where
   abbrev pub put_here : C → PictureOf C → PictureOf C
   put_here b s = record { cell = put_in s.cell s.row s.col b; row = s.row; col = s.col + 1 }
 
-  inside_within : (h : ℕ) (b : C) (s : PictureOf C) → IsWithin (blank_of pen) h s → IsWithin (blank_of pen) h (put_here b s)
+  inside_within : (h : ℕ) (b : C) (s : PictureOf C) → IsOfRows (blank_of pen) h s → IsOfRows (blank_of pen) h (put_here b s)
   inside_within h b s within = record {
     row = within.row;
     below = λ r c low. ap (λ x. cond (x && eqb c s.col) b (s.cell r c)) (ne_eqb r s.row (λ e. omega (arith, within.row))) ∙ within.below r c low;
@@ -82,8 +82,8 @@ module _ {A C : Type 0} (pen : Pen A C) where
   written w b t idle inside = written_cases w b t idle inside (cases_eq (t.col + 1) w)
 
   -- a character in the row
-  pub written_inside : (h w b : ℕ) (e : Encoder) (t : EcmaScreen C) (s : PictureOf C) → Shows pen h w e t s → s.col < w → is_printable b ≡ true
-      → Shows pen h w (at_column (e.x + 1) e) (receive pen h w b t) (put_here (pen.ink (pen.attributes t.rendition) b) s)
+  pub written_inside : (h w b : ℕ) (e : Encoder) (t : EcmaScreen C) (s : PictureOf C) → ShowsPicture pen h w e t s → s.col < w → is_printable b ≡ true
+      → ShowsPicture pen h w (at_column (e.x + 1) e) (receive pen h w b t) (put_here (pen.ink (pen.attributes t.rendition) b) s)
   written_inside h w b e t s a inside printable =
       let x : C = pen.ink (pen.attributes t.rendition) b in
       let idle : t.waits ≡ false = a.waits ∙ ap (λ x. x && not e.parted) (ne_eqb s.col w (λ q. omega (arith, q))) in
@@ -92,7 +92,7 @@ module _ {A C : Type 0} (pen : Pen A C) where
       text_write h w b t a.reading printable
       ∙ ap (λ v. cond v (write_here w x (return_to_start (feed_line (blank_of pen) h t))) (write_here w x t)) idle in
       let u = written w x t idle (omega (arith, col, inside)) in
-      subst (λ v. Shows pen h w (at_column (e.x + 1) e) v (put_here x s)) (sym is)
+      subst (λ v. ShowsPicture pen h w (at_column (e.x + 1) e) v (put_here x s)) (sym is)
       (record {
         within = inside_within h x s a.within;
         edge = omega arith;
@@ -115,7 +115,7 @@ module _ {A C : Type 0} (pen : Pen A C) where
   row_test r n k low (inl e) = eq-eqb r (n - k) e ∙ sym (eq-eqb (r + k) n (omega arith))
   row_test r n k low (inr d) = ne_eqb r (n - k) d ∙ sym (ne_eqb (r + k) n (λ e. d (omega arith)))
 
-  below_within : (h : ℕ) (b : C) (s : PictureOf C) → IsWithin (blank_of pen) h s → IsWithin (blank_of pen) h (scrolled (Some h) (put_below b s))
+  below_within : (h : ℕ) (b : C) (s : PictureOf C) → IsOfRows (blank_of pen) h s → IsOfRows (blank_of pen) h (scrolled (Some h) (put_below b s))
   below_within h b s within =
       let k : ℕ = s.row + 1 + 1 - h in
       record {
@@ -134,8 +134,8 @@ module _ {A C : Type 0} (pen : Pen A C) where
       ∙ ap (λ v. cond (eqb (r + (s.row + 1 + 1 - h)) (s.row + 1) && eqb c 0) b v) (fed.cells r c low left)
 
   -- a character in the first cell of the next row
-  pub wrapped : (h w : ℕ) (b : C) (e : Encoder) (t u : EcmaScreen C) (s : PictureOf C) → IsWithin (blank_of pen) h s → 0 < w → e.cols ≡ w → Fed h w t u s → u.col ≡ 0 → u.reading ≡ terminal.Text → u.rendition ≡ e.attributes
-      → Shows pen h w (at_column 1 e) (write_here w b u) (scrolled (Some h) (put_below b s))
+  pub wrapped : (h w : ℕ) (b : C) (e : Encoder) (t u : EcmaScreen C) (s : PictureOf C) → IsOfRows (blank_of pen) h s → 0 < w → e.cols ≡ w → Fed h w t u s → u.col ≡ 0 → u.reading ≡ terminal.Text → u.rendition ≡ e.attributes
+      → ShowsPicture pen h w (at_column 1 e) (write_here w b u) (scrolled (Some h) (put_below b s))
   wrapped h w b e t u s within some cols fed col reading rendition =
       let v = written w b u fed.waits (omega (arith, col, some)) in
       record {

@@ -19,11 +19,11 @@ use Rattle.tw_ansi.specs.Encoding.{first_known, sent_change, sent_batch}
 use Rattle.tw_ansi.specs.EcmaScreen.{EcmaScreen, receive_all}
 use Rattle.tw_ansi.specs.EcmaScreen as terminal
 use Rattle.tw_ansi.specs.EcmaLaws.{IsColor, IsAttribute}
-use Rattle.tw_ansi.specs.EcmaTexts.{Shows}
+use Rattle.tw_ansi.specs.EcmaTexts.{ShowsPicture}
 
 -- what a pen keeps of attributes follows their changes
-abbrev pub Follows : {A C : Type 0} → Pen A C → Type 0
-Follows pen = (change : AttributeChange) (a : CellAttributes) → pen.attribute change (pen.attributes a) ≡ pen.attributes (with_attribute change a)
+abbrev pub CarriesAttributes : {A C : Type 0} → Pen A C → Type 0
+CarriesAttributes pen = (change : AttributeChange) (a : CellAttributes) → pen.attribute change (pen.attributes a) ≡ pen.attributes (with_attribute change a)
 
 -- a row to which the bytes of a move lead: one of the h rows of the screen by its number, or one so many rows below or
 -- above, each at most 65,535
@@ -52,13 +52,13 @@ first_picture pen h t = record { cell = λ r c. if ltb r h then t.cell r c else 
 abbrev pub FirstIsShown : {A C : Type 0} → Pen A C → Type 0
 FirstIsShown {A} {C} pen = (h w : ℕ) (t : EcmaScreen C)
     → 0 < w → t.row < h → t.col ≡ 0 → t.waits ≡ false → t.reading ≡ terminal.Text → t.rendition ≡ default_attributes
-    → Shows pen h w (first_known w) t (first_picture pen h t)
+    → ShowsPicture pen h w (first_known w) t (first_picture pen h t)
 
 -- a terminal that shows a picture, and is sent the bytes of a change, shows the picture on which the change was drawn
 abbrev pub ChangeIsShown : {A C : Type 0} → Pen A C → Type 0
 ChangeIsShown {A} {C} pen = (h w : ℕ) (change : ChangeView) (e : Encoder) (t : EcmaScreen C) (s : PictureOf C)
-    → 0 < w → w < 2 ^ 64 → IsSendable pen h w e change s → Shows pen h w e t s
-    → Shows pen h w (sent_change change e).next (receive_all pen h w (sent_change change e).bytes t)
+    → 0 < w → w < 2 ^ 64 → IsSendable pen h w e change s → ShowsPicture pen h w e t s
+    → ShowsPicture pen h w (sent_change change e).next (receive_all pen h w (sent_change change e).bytes t)
     (steps_on (Some h) w (change_strokes pen (pen.attributes e.attributes) change) s)
 
 -- each change of a batch is such a one where it comes, after those before it
@@ -71,6 +71,6 @@ AreSendable pen h w e (change ∷ changes) s =
 -- a terminal that shows a picture, and is sent the bytes of a batch, shows the picture on which the batch was drawn
 abbrev pub BatchIsShown : {A C : Type 0} → Pen A C → Type 0
 BatchIsShown {A} {C} pen = (h w : ℕ) (batch : Batch) (e : Encoder) (t : EcmaScreen C) (s : PictureOf C)
-    → Follows pen → 0 < w → w < 2 ^ 64 → AreSendable pen h w e batch s → Shows pen h w e t s
-    → Shows pen h w (sent_batch batch e).next (receive_all pen h w (sent_batch batch e).bytes t)
+    → CarriesAttributes pen → 0 < w → w < 2 ^ 64 → AreSendable pen h w e batch s → ShowsPicture pen h w e t s
+    → ShowsPicture pen h w (sent_batch batch e).next (receive_all pen h w (sent_batch batch e).bytes t)
     (steps_on (Some h) w (strokes_of pen (pen.attributes e.attributes) batch) s)

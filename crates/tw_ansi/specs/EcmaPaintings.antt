@@ -17,29 +17,29 @@ use Rattle.tw_screens.specs.SizedBatches.{sized_at}
 use Rattle.tw_ansi.specs.declared.encode.Encoder.{Encoder}
 use Rattle.tw_ansi.specs.Encoding.{Sent, sends, sent_then, sent_batch}
 use Rattle.tw_ansi.specs.EcmaLaws.{IsColor, IsAttribute}
-use Rattle.tw_ansi.specs.EcmaBatches.{Follows, IsReached, AreSendable}
+use Rattle.tw_ansi.specs.EcmaBatches.{CarriesAttributes, IsReached, AreSendable}
 use Rattle.tw_ansi.specs.EcmaScreen.{EcmaScreen, receive_all}
-use Rattle.tw_ansi.specs.EcmaTexts.{Shows}
+use Rattle.tw_ansi.specs.EcmaTexts.{ShowsPicture}
 
 -- a plain text, or attributes whose colours are by bytes
-abbrev pub IsTyped : ChangeView → Type 0
-IsTyped (Text text) = list_all is_plain text ≡ true
-IsTyped (Attribute change) = IsAttribute change
-IsTyped (AllAttributes to) = IsColor to.foreground × IsColor to.background
-IsTyped (ClearScreen color) = ⊥
-IsTyped (ClearToEndOfScreen color) = ⊥
-IsTyped (CursorPosition x y) = ⊥
+abbrev pub IsTypedChange : ChangeView → Type 0
+IsTypedChange (Text text) = list_all is_plain text ≡ true
+IsTypedChange (Attribute change) = IsAttribute change
+IsTypedChange (AllAttributes to) = IsColor to.foreground × IsColor to.background
+IsTypedChange (ClearScreen color) = ⊥
+IsTypedChange (ClearToEndOfScreen color) = ⊥
+IsTypedChange (CursorPosition x y) = ⊥
 
 -- a lower text of such changes
 abbrev pub IsTypedLower : Lower → Type 0
 IsTypedLower NoLower = ⊤
-IsTypedLower (Preview elements) = AllByRecursion IsTyped elements
+IsTypedLower (Preview elements) = AllByRecursion IsTypedChange elements
 IsTypedLower (Search text) = list_all is_plain text ≡ true
 
 -- a scene of such changes
 pub record IsTypedScene (scene : Scene) : Type 0 where
-  pub prompt : AllByRecursion IsTyped scene.prompt
-  pub line : AllByRecursion IsTyped scene.line
+  pub prompt : AllByRecursion IsTypedChange scene.prompt
+  pub line : AllByRecursion IsTypedChange scene.line
   pub lower : IsTypedLower scene.lower
 
 -- the last move of a painting leads no further than a move can
@@ -97,6 +97,6 @@ RunIsSendable {A} {C} pen = (h w : ℕ) (scenes : List Scene) (e : Encoder) (s :
 -- a terminal that shows a picture, and is sent the bytes of sendable batches, shows the picture on which they were drawn
 abbrev pub BatchesAreShown : {A C : Type 0} → Pen A C → Type 0
 BatchesAreShown {A} {C} pen = (h w : ℕ) (batches : List Batch) (e : Encoder) (t : EcmaScreen C) (s : PictureOf C)
-    → Follows pen → 0 < w → w < 2 ^ 64 → AreAllSendable pen h w e batches s → Shows pen h w e t s
-    → Shows pen h w (sent_batches batches e).next (receive_all pen h w (sent_batches batches e).bytes t)
+    → CarriesAttributes pen → 0 < w → w < 2 ^ 64 → AreAllSendable pen h w e batches s → ShowsPicture pen h w e t s
+    → ShowsPicture pen h w (sent_batches batches e).next (receive_all pen h w (sent_batches batches e).bytes t)
     (play_sized (Some h) false pen w (pen.attributes e.attributes) (sized_at w batches) s)

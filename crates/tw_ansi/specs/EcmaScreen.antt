@@ -51,21 +51,21 @@ abbrev pub row_cleared : {C : Type 0} → (ℕ → ℕ → C) → ℕ → ℕ �
 row_cleared cell row col x r c = if eqb row r && leb col c then x else cell r c
 
 -- a number of steps: none written means one
-abbrev pub steps : ℕ → ℕ
-steps n = if eqb n 0 then 1 else n
+abbrev pub told_steps : ℕ → ℕ
+told_steps n = if eqb n 0 then 1 else n
 
 -- what a sequence of one number does: CUU and CUF stop at the edge, VPA and CUP count from 1, ED clears from the cursor on or all,
 -- EL the row from the cursor on, and any other does nothing; what is cleared is under the colour that is selected
 abbrev pub act_by : {A C : Type 0} → Pen A C → ℕ → ℕ → ℕ → ℕ → EcmaScreen C → EcmaScreen C
 act_by pen h w n letter t =
     let paper = pen.paper t.rendition.background in
-    if eqb letter 65 then record t { row = t.row - steps n; waits = false }
-    else if eqb letter 67 then record t { col = min (w - 1) (t.col + steps n); waits = false }
-    else if eqb letter 72 then record t { row = min (h - 1) (steps n - 1); col = 0; waits = false }
+    if eqb letter 65 then record t { row = t.row - told_steps n; waits = false }
+    else if eqb letter 67 then record t { col = min (w - 1) (t.col + told_steps n); waits = false }
+    else if eqb letter 72 then record t { row = min (h - 1) (told_steps n - 1); col = 0; waits = false }
     else if eqb letter 74 && eqb n 0 then record t { cell = cleared_in t.cell t.row t.col paper }
     else if eqb letter 74 && eqb n 2 then record t { cell = λ r c. paper }
     else if eqb letter 75 && eqb n 0 then record t { cell = row_cleared t.cell t.row t.col paper }
-    else if eqb letter 100 then record t { row = min (h - 1) (steps n - 1); waits = false }
+    else if eqb letter 100 then record t { row = min (h - 1) (told_steps n - 1); waits = false }
     else t
 
 -- what a sequence does: SGR selects attributes, and one of other parameters than a number does nothing

@@ -11,14 +11,14 @@ use Rattle.tw_ansi.specs.EcmaScreen.{EcmaScreen, receive_all}
 use Rattle.tw_ansi.specs.EcmaScreen as terminal
 
 -- the picture of a screen of h rows: the cursor stands in one of them, and all cells below them are blank
-pub record IsWithin {C : Type 0} (blank : C) (h : ℕ) (s : PictureOf C) : Type 0 where
+pub record IsOfRows {C : Type 0} (blank : C) (h : ℕ) (s : PictureOf C) : Type 0 where
   pub row : s.row < h
   pub below : (r c : ℕ) → h ≤ r → s.cell r c ≡ blank
 
 -- the terminal shows the picture of a screen of h rows and w columns: the same cells and the same row; behind the last column it waits there, or
 -- stands in it without waiting and the encoder knows that; and those attributes are selected that the encoder knows
-pub record Shows {A C : Type 0} (pen : Pen A C) (h w : ℕ) (e : Encoder) (t : EcmaScreen C) (s : PictureOf C) : Type 0 where
-  pub within : IsWithin (blank_of pen) h s
+pub record ShowsPicture {A C : Type 0} (pen : Pen A C) (h w : ℕ) (e : Encoder) (t : EcmaScreen C) (s : PictureOf C) : Type 0 where
+  pub within : IsOfRows (blank_of pen) h s
   pub edge : s.col ≤ w
   pub cells : (r c : ℕ) → r < h → c < w → t.cell r c ≡ s.cell r c
   pub row : t.row ≡ s.row
@@ -34,6 +34,6 @@ pub record Shows {A C : Type 0} (pen : Pen A C) (h w : ℕ) (e : Encoder) (t : E
 -- the encoder knows
 abbrev pub PlainTextIsShown : {A C : Type 0} → Pen A C → Type 0
 PlainTextIsShown {A} {C} pen = (h w : ℕ) (text : List ℕ) (e : Encoder) (t : EcmaScreen C) (s : PictureOf C)
-    → 0 < w → w < 2 ^ 64 → list_all is_plain text ≡ true → Shows pen h w e t s
-    → Shows pen h w (sent_text text e).next (receive_all pen h w (sent_text text e).bytes t)
+    → 0 < w → w < 2 ^ 64 → list_all is_plain text ≡ true → ShowsPicture pen h w e t s
+    → ShowsPicture pen h w (sent_text text e).next (receive_all pen h w (sent_text text e).bytes t)
     (steps_on (Some h) w (map (char_stroke pen (pen.attributes e.attributes)) text) s)

@@ -6,7 +6,7 @@ ghost use Rattle.tw_screens.specs.Pens.{Pen};
 ghost use Rattle.tw_screens.specs.StyledCells.{characters, styled};
 ghost use Rattle.tw_ansi.specs.EcmaLaws.{AttributeIsSelected, AttributesAreSelected, ColumnsAreReached, RowsAboveAreReached, ClearsBelow, ClearsRows, ClearsAll};
 ghost use Rattle.tw_ansi.specs.EcmaTexts.{PlainTextIsShown};
-ghost use Rattle.tw_ansi.specs.EcmaBatches.{Follows, FirstIsShown, ChangeIsShown, BatchIsShown};
+ghost use Rattle.tw_ansi.specs.EcmaBatches.{CarriesAttributes, FirstIsShown, ChangeIsShown, BatchIsShown};
 ghost use Rattle.tw_ansi.specs.EcmaPaintings.{PaintingIsSendable, RepaintingIsSendable, ClosingIsSendable, PaintingKnowsColor, RunIsSendable, BatchesAreShown};
 ghost use Rattle.tw_ansi.specs.KeyLaws.{StaysFound, TakesBytes, EndsWithToken, PrintableKeys, CharacterKeys, AltCharacterKeys, EscapeKey, EscapePair, EscapesAtTheEnd, AltLetterKeys, AltKeys, AltOpenings, ControlKeys, ControlLetters, ApplicationKeys, LetterKeys, HeldLetterKeys, NumberKeys, HeldNumberKeys, BackTab, CursorReports, SizeReports, PastedTexts, UnknownSequences, MouseReports, OpenMouseReports, EndedStrings, CutStrings, OpenStrings, LostBytes, LoneBytes, CutCharacters, WaitsForCharacter};
 
@@ -122,8 +122,8 @@ pub fn batches<A, C>()
 /// What is kept of attributes follows their changes, where characters alone are shown and where they are shown under
 /// their attributes.
 pub fn pens()
-    ensures characters { Follows characters }
-    ensures styled { Follows styled }
+    ensures characters { CarriesAttributes characters }
+    ensures styled { CarriesAttributes styled }
 {}
 
 /// A painting of plain texts and of colours by bytes is one whose bytes do what it does, alone where the cursor does not

@@ -10,20 +10,20 @@ use Rattle.tw_hosts.specs.Settling.{settled_column}
 use Rattle.tw_hosts.specs.declared.settling.PromptScreen.{PromptScreen}
 
 -- the columns of a screen, and the prompt before the line
-pub record ScreenView : Type 0 where
+pub record PromptScreenView : Type 0 where
   pub cols : ℕ
   pub prompt : List ℕ
 
 -- the view of what is known of a screen
-abbrev pub screen_view : PromptScreen → ScreenView
+abbrev pub screen_view : PromptScreen → PromptScreenView
 screen_view screen = record { cols = screen.cols; prompt = string_bytes screen.prompt }
 
 -- the column of the cursor on a screen
-abbrev pub column_on : ScreenView → Cut → ℕ
+abbrev pub column_on : PromptScreenView → Cut → ℕ
 column_on screen cut = settled_column screen.cols screen.prompt cut
 
 -- the screen has the columns that an event tells
-abbrev pub screen_after : EventView → ScreenView → ScreenView
+abbrev pub screen_after : EventView → PromptScreenView → PromptScreenView
 screen_after (Resized cols rows) screen = record { cols = cols; prompt = screen.prompt }
 screen_after (Key key) screen = screen
 screen_after (Paste text) screen = screen
@@ -32,14 +32,14 @@ screen_after Wake screen = screen
 -- what another host holds, and a screen
 pub record Settled (V : Type 0) : Type 0 where
   pub host : V
-  pub screen : ScreenView
+  pub screen : PromptScreenView
 
 -- what the other host shows, with the column on the screen
-abbrev pub settled_highlight : ScreenView → Cut → Highlight → Highlight
+abbrev pub settled_highlight : PromptScreenView → Cut → Highlight → Highlight
 settled_highlight screen cut shown = record { elements = shown.elements; column = column_on screen cut }
 
 -- what the other host makes of an event, beside a screen
-abbrev pub beside : {V : Type 0} → ScreenView → Resolution V → Resolution (Settled V)
+abbrev pub beside : {V : Type 0} → PromptScreenView → Resolution V → Resolution (Settled V)
 beside screen r = record { value = record { host = r.value; screen = screen }; cut = r.cut; action = r.action }
 
 -- the other host's answers, but for the column
