@@ -44,12 +44,12 @@ lower_typed (Preview elements) h = (refl, ((tt, tt), h))
 lower_typed (Search text) h = ((tt, tt), (h, tt))
 
 -- what a painting shows behind its clearing and the first attributes
-abbrev shown : ℕ → Scene → Batch
+abbrev pub shown : ℕ → Scene → Batch
 shown w scene =
     ((scene.prompt ++ AllAttributes default_attributes ∷ []) ++ scene.line)
     ++ (edge_space w (place_after_all w (before_line scene.prompt ++ scene.line) origin) ++ lower_changes scene.lower)
 
-shown_typed : (w : ℕ) (scene : Scene) → IsTypedScene scene → AllByRecursion IsTypedChange (shown w scene)
+pub shown_typed : (w : ℕ) (scene : Scene) → IsTypedScene scene → AllByRecursion IsTypedChange (shown w scene)
 shown_typed w scene t =
     let place = place_after_all w (before_line scene.prompt ++ scene.line) origin in
     let plain : AllByRecursion IsTypedChange (AllAttributes default_attributes ∷ []) = ((tt, tt), tt) in
@@ -166,7 +166,7 @@ module _ {A C : Type 0} (pen : Pen A C) where
           ]
 
   -- the batch that closes such a run
-  end_sendable : (h w : ℕ) (scenes : List Scene) → 0 < w → AllByRecursion (IsShowable h w) scenes
+  pub end_sendable : (h w : ℕ) (scenes : List Scene) → 0 < w → AllByRecursion (IsShowable h w) scenes
       → (d : Encoder) (r : PictureOf C) → IsColor d.attributes.background → AreAllSendable pen h w d (closing_of w scenes) r
   end_sendable h w [] some a d r color = tt
   end_sendable h w (scene ∷ []) some a d r color = (closing_is_sendable h w (mark_of (painting w scene)) d r some a.0.under color, tt)

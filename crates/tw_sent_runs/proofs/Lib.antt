@@ -1,0 +1,2 @@
+pub mod ClosingLemmas
+pub mod SentLemmas

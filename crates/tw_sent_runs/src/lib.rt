@@ -1,0 +1,19 @@
+//! What a terminal shows that is sent the bytes of a run: the fresh painting after each of its paintings, and the row
+//! below the last one after its closing batch.
+//!
+//! Each law is the contract of a function that does nothing. The terminal is that of `tw_ansi`, of some rows and columns;
+//! what stands in its cells is characters alone, or characters under their attributes.
+#![tactic(auto)]
+
+ghost use Rattle.tw_screens.specs.Pens.{Pen};
+ghost use Rattle.tw_sent_runs.specs.SentRuns.{ClosingsAreShown, PaintingsAreShown};
+
+use tw_host::LineEditorHost;
+
+/// A terminal that shows a picture, its cursor in column 0, and is sent the bytes of a run's batches up to a painting,
+/// shows that station's fresh painting, and what stood above it, moved up; and after those of the closing batch its
+/// cursor is in column 0 of the row below, with blanks from there on.
+pub fn sent_runs<H: LineEditorHost, A, C>()
+    ensures paintings { (pen : Pen A C) → PaintingsAreShown H.rules pen }
+    ensures closings { (pen : Pen A C) → ClosingsAreShown H.rules pen }
+{}
