@@ -77,6 +77,17 @@ edge_cleared w r0 r1 edge i j p f g rows at left same =
     ∙ ap (λ x. cond x p (f i j)) (sym (ap (λ x. ltb r1 i || (eqb r1 i && x)) (lt-leb edge j (omega (arith, at, left))) ∙ or_none (ltb r1 i) (eqb r1 i)))
     ∙ ap (λ v. cond (ltb r1 i || (eqb r1 i && leb edge j)) p v) same
 
+-- one of three that all leave these attributes
+kept_by : (x y : Bool) (a b c : Sent) (kept : CellAttributes) → a.next.attributes ≡ kept → b.next.attributes ≡ kept → c.next.attributes ≡ kept
+    → (cond x a (cond y b c)).next.attributes ≡ kept
+kept_by true y a b c kept first second third = first
+kept_by false true a b c kept first second third = second
+kept_by false false a b c kept first second third = third
+
+-- a clearing leaves the attributes that are known
+pub clear_keeps : (color : ColorAttribute) (e : Encoder) → (sent_change (ClearToEndOfScreen color) e).next.attributes ≡ e.attributes
+clear_keeps color e = kept_by (leb e.cols e.x) (eqb e.x 0) _ _ _ e.attributes refl refl refl
+
 module _ {A C : Type 0} (pen : Pen A C) where
   -- a terminal that shows a picture has read no part of a sequence
   rested : (t : EcmaScreen C) → t.reading ≡ terminal.Text → t ≡ at_rest t
@@ -308,12 +319,7 @@ module _ {A C : Type 0} (pen : Pen A C) where
   keeps_change h w (Attribute change) e s carries fits = carries change e.attributes
   keeps_change h w (AllAttributes to) e s carries fits = refl
   keeps_change h w (ClearScreen color) e s carries fits = refl
-  keeps_change h w (ClearToEndOfScreen color) e s carries fits = ap pen.attributes (sym (clears (leb e.cols e.x) (eqb e.x 0)))
-    where
-      clears : (x y : Bool) → (cond x (by_next_row e.cols color e.attributes.background e) (cond y (by_rows color e.attributes.background e) (by_cells color e.attributes.background e))).next.attributes ≡ e.attributes
-      clears true y = refl
-      clears false true = refl
-      clears false false = refl
+  keeps_change h w (ClearToEndOfScreen color) e s carries fits = ap pen.attributes (sym (clear_keeps color e))
   keeps_change h w (CursorPosition x y) e s carries fits = refl
 
   pub batch_is_shown : BatchIsShown pen

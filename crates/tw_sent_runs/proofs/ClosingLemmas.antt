@@ -5,8 +5,11 @@ use Rattle.std.proofs.lemmas.List.{map-append}
 use Rattle.tw_strokes.specs.Strokes.{PictureOf, resized}
 use Rattle.tw_strokes.specs.Sheets.{last_row}
 use Rattle.tw_strokes.specs.Paintings.{IsClosed, top_row}
-use Rattle.tw_surface.specs.declared.change.Position.TheVariants.{Relative}
+use Rattle.tw_surface.specs.declared.cell.CellAttributes.{CellAttributes}
+use Rattle.tw_surface.specs.declared.change.Position.TheVariants.{Absolute, Relative}
 use Rattle.tw_surface.specs.ChangeView.{Batch}
+use Rattle.tw_surface.specs.ChangeView.{CursorPosition}
+use Rattle.tw_surface.specs.Defaults.{default_color}
 use Rattle.tw_surface.specs.Paintings.{Mark, painting, mark_of, start_move, closing}
 use Rattle.tw_surface.specs.PaintingBatches.{SizedScene, shot_of, clear_batch, clearing, start_of, batches, batches_after, closing_if, closing_batch}
 use Rattle.tw_surface.specs.Scenes.{Scene}
@@ -30,6 +33,7 @@ use Rattle.tw_ansi.specs.EcmaPaintings.{IsTypedScene, sent_batches}
 use Rattle.tw_ansi.specs.EcmaScreen.{EcmaScreen, receive_all}
 use Rattle.tw_ansi.specs.EcmaTexts.{ShowsPicture}
 use Rattle.tw_ansi.specs.Encoding.{Sent, sent_batch, sent_change, sent_then}
+use Rattle.tw_ansi.proofs.EcmaBatches.{clear_keeps}
 use Rattle.tw_ansi.proofs.EcmaSequences.{received}
 use Rattle.tw_ansi.proofs.EcmaPaintings.{painting_knows_color, closing_is_sendable, batches_are_shown}
 use Rattle.tw_sent_runs.specs.SentRuns.{IsSentAt, ComesSent, sent_paintings, sent_run, shown_by, ClosingsAreShown}
@@ -68,10 +72,11 @@ known_color h w mark (x ∷ xs) e a color =
 
 -- ---- the closing batch
 
--- the colour that is known stays
+-- behind the closing batch
 closing_color : (taken : List Batch) (m : Mark) (e : Encoder) → IsColor (sent_batches taken e).next.attributes.background
     → IsColor (sent_batches (taken ++ closing m ∷ []) e).next.attributes.background
-closing_color taken m e color = subst (λ (s : Sent). IsColor s.next.attributes.background) (sym (sent_both taken (closing m ∷ []) e)) color
+closing_color taken m e color = subst (λ (s : Sent). IsColor s.next.attributes.background) (sym (sent_both taken (closing m ∷ []) e))
+    (subst (λ (c : CellAttributes). IsColor c.background) (sym (clear_keeps default_color (sent_change (CursorPosition (Absolute 0) (Relative (pos (1 + m.height) -ℤ m.row))) (sent_batches taken e).next).next)) color)
 
 -- what holds of each of a list holds of its last one
 last_of_all : {S T : Type 0} (P : T → Type 0) (view : S → T) (earlier : List S) (last : S) → AllByRecursion P (map view (earlier ++ last ∷ [])) → P (view last)
