@@ -20,7 +20,8 @@ use Rattle.tw_ansi.specs.EcmaBatches.{CarriesAttributes, IsSendable, FirstIsShow
 use Rattle.tw_ansi.proofs.EcmaSequences.{received, columns_are_reached}
 use Rattle.tw_ansi.proofs.EcmaRenditions.{attribute_is_selected, attributes_are_selected}
 use Rattle.tw_ansi.proofs.EcmaClearings.{clears_below, clears_rows, clears_all}
-use Rattle.tw_ansi.proofs.EcmaTexts.{plain_text_is_shown, keeps_text}
+use Rattle.tw_ansi.proofs.EcmaTexts.{plain_text_is_shown}
+use Rattle.tw_ansi.proofs.KnownTerminals.{keeps_text, clear_keeps}
 use Rattle.tw_ansi.proofs.EcmaScrolls.{still}
 use Rattle.tw_ansi.proofs.EcmaMoves.{move_shown}
 
@@ -76,17 +77,6 @@ edge_cleared w r0 r1 edge i j p f g rows at left same =
     ∙ ap (λ x. cond x p (f i j)) (next_row_on r1 i j (cases_lt r1 i) (cases_eq (r1 + 1) i))
     ∙ ap (λ x. cond x p (f i j)) (sym (ap (λ x. ltb r1 i || (eqb r1 i && x)) (lt-leb edge j (omega (arith, at, left))) ∙ or_none (ltb r1 i) (eqb r1 i)))
     ∙ ap (λ v. cond (ltb r1 i || (eqb r1 i && leb edge j)) p v) same
-
--- one of three that all leave these attributes
-kept_by : (x y : Bool) (a b c : Sent) (kept : CellAttributes) → a.next.attributes ≡ kept → b.next.attributes ≡ kept → c.next.attributes ≡ kept
-    → (cond x a (cond y b c)).next.attributes ≡ kept
-kept_by true y a b c kept first second third = first
-kept_by false true a b c kept first second third = second
-kept_by false false a b c kept first second third = third
-
--- a clearing leaves the attributes that are known
-pub clear_keeps : (color : ColorAttribute) (e : Encoder) → (sent_change (ClearToEndOfScreen color) e).next.attributes ≡ e.attributes
-clear_keeps color e = kept_by (leb e.cols e.x) (eqb e.x 0) _ _ _ e.attributes refl refl refl
 
 module _ {A C : Type 0} (pen : Pen A C) where
   -- a terminal that shows a picture has read no part of a sequence

@@ -26,7 +26,7 @@ use Rattle.tw_ansi.specs.EcmaPaintings.{IsTypedChange, IsTypedLower, IsTypedScen
 use Rattle.tw_ansi.specs.EcmaScreen.{EcmaScreen, receive_all}
 use Rattle.tw_ansi.specs.EcmaTexts.{ShowsPicture}
 use Rattle.tw_ansi.proofs.EcmaSequences.{received}
-use Rattle.tw_ansi.proofs.EcmaTexts.{keeps_text}
+use Rattle.tw_ansi.proofs.KnownTerminals.{keeps_text}
 use Rattle.tw_ansi.proofs.EcmaBatches.{batch_is_shown, keeps_change}
 
 -- two lists of such changes

@@ -17,24 +17,8 @@ use Rattle.tw_ansi.specs.EcmaScreen as terminal
 use Rattle.tw_ansi.specs.EcmaTexts.{IsOfRows, ShowsPicture, PlainTextIsShown}
 use Rattle.tw_ansi.proofs.EcmaSequences.{received, columns_are_reached}
 use Rattle.tw_ansi.proofs.EcmaScrolls.{Fed, fed, still}
+use Rattle.tw_ansi.proofs.KnownTerminals.{keeps_byte}
 use Rattle.tw_ansi.proofs.EcmaWrites.{text_write, written_inside, wrapped, put_here, put_below}
-
--- ---- attributes
-
-either : (t : Bool) (x y : Sent) (a : CellAttributes) → x.next.attributes ≡ a → y.next.attributes ≡ a → (cond t x y).next.attributes ≡ a
-either true x y a p q = p
-either false x y a p q = q
-
--- a plain text changes no attribute
-keeps_byte : (e : Encoder) (b : ℕ) → (sent_byte e b).next.attributes ≡ e.attributes
-keeps_byte e b = either (eqb b 13) _ _ _ refl (either (eqb b 10) _ _ _ (either _ _ _ _ refl refl) (either (leb (e.x + 1) e.cols) _ _ _ refl refl))
-
-keeps_plain : (text : List ℕ) (e : Encoder) → (sent_plain text e).next.attributes ≡ e.attributes
-keeps_plain [] e = refl
-keeps_plain (b ∷ text) e = keeps_plain text (sent_byte e b).next ∙ keeps_byte e b
-
-pub keeps_text : (text : List ℕ) (e : Encoder) → list_all is_plain text ≡ true → (sent_text text e).next.attributes ≡ e.attributes
-keeps_text text e plain = ap (λ t. let x : Sent = cond t (sent_plain text e) (sent_clusters (graphemes true text) e) in x.next.attributes) plain ∙ keeps_plain text e
 
 module _ {A C : Type 0} (pen : Pen A C) where
   -- the terminal shows the picture after what is sent

@@ -11,6 +11,7 @@ pub mod Reports
 pub mod StringLemmas
 pub mod LostBytes
 pub mod Unknowns
+pub mod KnownTerminals
 pub mod EcmaSequences
 pub mod EcmaRenditions
 pub mod EcmaClearings

@@ -33,7 +33,7 @@ use Rattle.tw_ansi.specs.EcmaPaintings.{IsTypedScene, sent_batches}
 use Rattle.tw_ansi.specs.EcmaScreen.{EcmaScreen, receive_all}
 use Rattle.tw_ansi.specs.EcmaTexts.{ShowsPicture}
 use Rattle.tw_ansi.specs.Encoding.{Sent, sent_batch, sent_change, sent_then}
-use Rattle.tw_ansi.proofs.EcmaBatches.{clear_keeps}
+use Rattle.tw_ansi.proofs.KnownTerminals.{clear_keeps}
 use Rattle.tw_ansi.proofs.EcmaSequences.{received}
 use Rattle.tw_ansi.proofs.EcmaPaintings.{painting_knows_color, closing_is_sendable, batches_are_shown}
 use Rattle.tw_sent_runs.specs.SentRuns.{IsSentAt, ComesSent, sent_paintings, sent_run, shown_by, ClosingsAreShown}
