@@ -1,16 +1,20 @@
 -- Deeds, one after the other, and what they send.
-use Rattle.std.proofs.Common.{◌≡◌, ◌≢◌, ◌≤◌, ◌+◌, ◌&&◌, ℕ, Bool, true, false, List, [], ◌∷◌, ◌++◌, Option, Some, None, map, refl, sym, ap, ◌∙◌, subst, append_assoc, append-nil, inl, inr, arith}
+use Rattle.std.proofs.Common.{◌≡◌, ◌≢◌, ◌≤◌, ◌+◌, ◌&&◌, ℕ, Bool, true, false, List, [], ◌∷◌, ◌++◌, Option, Some, None, length, map, refl, sym, ap, ◌∙◌, subst, append_assoc, append-nil, inl, inr, arith}
 use Rattle.std.proofs.lemmas.Bool.{false≢true}
 use Rattle.std.specs.Io.KnownBytes.{Appends, Keeps}
-use Rattle.std.specs.List.{list_all}
+use Rattle.std.specs.List.{list_all, AllByRecursion}
 use Rattle.tw_surface.specs.ChangeView.{Batch}
 use Rattle.tw_input.specs.EventView.{EventView, Key, Resized, Paste, Wake}
 use Rattle.tw_terminal.specs.TerminalState.{count_up, usize_max}
 use Rattle.tw_terminal.specs.Uses.{Call, Took, Refused, Other, Uses, IsUsed, with_taken}
 use Rattle.tw_ansi.specs.declared.encode.Encoder.{Encoder}
+use Rattle.tw_ansi.specs.Encoding.{sent_batch}
+use Rattle.tw_ansi.specs.EcmaPaintings.{sent_batches}
+use Rattle.tw_ansi.proofs.KnownTerminals.{batch_in}
+use Rattle.tw_terminal.specs.declared.terminal.ScreenSize.{ScreenSize}
 use Rattle.tw_device.specs.Terminal.{terminal_state}
 use Rattle.tw_device.specs.declared.terminal.AnsiTerminal.{AnsiTerminal}
-use Rattle.tw_device.specs.Deeds.{Deed, Called, Sized, Said, sent_deed, sent_by, batches_by, sizes_by, sizes_in, texts_by, is_whole, none_refused, Sends, Does, IsLedBy, IsLedAsTold, DeedsAreSent, FailuresAreCounted}
+use Rattle.tw_device.specs.Deeds.{Deed, Called, Sized, Said, sent_deed, sent_by, batches_by, sizes_by, sizes_in, texts_by, is_whole, none_refused, Sends, Does, IsLedBy, IsLedAsTold, DeedsAreSent, FailuresAreCounted, LedIsSent}
 use Rattle.tw_lineedit.proofs.FailureLemmas.{le_count, rose_once}
 use Rattle.tw_lineedit.proofs.UseLemmas.{both_uses}
 
@@ -69,6 +73,24 @@ no-texts (call ∷ calls) = no-texts calls
 no-sizes : (calls : List Call) → sizes_by (map Called calls) ≡ []
 no-sizes [] = refl
 no-sizes (call ∷ calls) = no-sizes calls
+
+-- sizes of so many columns
+abbrev AreOf : ℕ → List ScreenSize → Type 0
+AreOf w sizes = AllByRecursion (λ size. size.cols ≡ w) sizes
+
+-- where no text is sent, and no other number of columns is given, deeds send their batches
+sent-batches-of : (deeds : List Deed) (e : Encoder) → texts_by deeds ≡ [] → AreOf e.cols (sizes_by deeds)
+    → sent_by deeds e ≡ sent_batches (batches_by deeds) e
+sent-batches-of [] e none same = refl
+sent-batches-of (Called (Took batch) ∷ deeds) e none same =
+    let next : Encoder = (sent_batch batch e).next in
+    ap (λ s. record { bytes = (sent_batch batch e).bytes ++ s.bytes; next = s.next })
+    (sent-batches-of deeds next none (subst (λ w. AreOf w (sizes_by deeds)) (sym (batch_in batch e)) same))
+sent-batches-of (Called Refused ∷ deeds) e none same = sent-batches-of deeds e none same
+sent-batches-of (Called Other ∷ deeds) e none same = sent-batches-of deeds e none same
+sent-batches-of (Sized size ∷ deeds) e none (first, more) =
+    ap (λ w. sent_by deeds (record e { cols = w })) first ∙ sent-batches-of deeds e none more
+sent-batches-of (Said text ∷ deeds) e none same = absurd (let some : length (text ∷ texts_by deeds) ≡ 0 = ap length none in omega arith)
 
 module _ {W : Type 0} (contents : W → Option (List ℕ)) where
   -- ---- failures
@@ -238,3 +260,15 @@ module _ {W : Type 0} (contents : W → Option (List ℕ)) where
   pub led_still : (before between after : List EventView) (old new : AnsiTerminal W) → IsLedAsTold contents before between old new
       → after ≡ between → IsLedAsTold contents before after old new
   led_still before between after old new led same = subst (λ told. IsLedAsTold contents before told old new) (sym same) led
+
+  -- ---- what is written where no other number of columns is told
+
+  pub led_is_sent : LedIsSent contents
+  led_is_sent events old new (deeds, uses, sizes, texts) kept below same =
+      let sent = deeds_are_sent deeds old new uses (failures_are_counted deeds old new uses kept below) in
+      let is = sent-batches-of deeds old.encoder texts (subst (λ all. AreOf old.encoder.cols all) (sym sizes) same) in (
+        batches_by deeds,
+        sent.2,
+        subst (λ s. Appends (contents old.writer) (contents new.writer) s.bytes) is sent.0,
+        sent.1 ∙ ap (λ s. s.next) is,
+      )

@@ -1,6 +1,6 @@
 -- What is done to a terminal over a writer, deed by deed, and what it sends for it.
 use Rattle.std.specs.Prelude.{◌≡◌, ◌≢◌, ◌≤◌, ℕ, Bool, true, false, List, [], ◌∷◌, ◌++◌, Option}
-use Rattle.std.specs.List.{list_all}
+use Rattle.std.specs.List.{list_all, AllByRecursion}
 use Rattle.std.specs.Io.KnownBytes.{Appends}
 use Rattle.tw_surface.specs.ChangeView.{Batch}
 use Rattle.tw_surface.specs.Defaults.{default_attributes}
@@ -10,6 +10,7 @@ use Rattle.tw_terminal.specs.Uses.{Call, Took, Refused, Other, Uses, with_taken}
 use Rattle.tw_terminal.specs.declared.terminal.ScreenSize.{ScreenSize}
 use Rattle.tw_ansi.specs.declared.encode.Encoder.{Encoder}
 use Rattle.tw_ansi.specs.Encoding.{Sent, sends, sent_then, sent_batch, without_attributes}
+use Rattle.tw_ansi.specs.EcmaPaintings.{sent_batches}
 use Rattle.tw_ansi.specs.Sequences.{set_attributes}
 use Rattle.tw_device.specs.Terminal.{terminal_state}
 use Rattle.tw_device.specs.declared.terminal.AnsiTerminal.{AnsiTerminal}
@@ -117,3 +118,13 @@ module _ {W : Type 0} (contents : W → Option (List ℕ)) where
   abbrev pub FailuresAreCounted : Type 0
   FailuresAreCounted = (deeds : List Deed) (old new : AnsiTerminal W) → Uses Does deeds old new
       → new.failures ≡ old.failures → old.failures ≢ usize_max → none_refused deeds ≡ true
+
+  -- Where no failure was counted, and one could have been, and no event told another number of columns, what was written is
+  -- what was there, and then the bytes of the batches that were taken since.
+  abbrev pub LedIsSent : Type 0
+  LedIsSent = (events : List EventView) (old new : AnsiTerminal W) → IsLedBy events old new
+      → new.failures ≡ old.failures → old.failures ≢ usize_max
+      → AllByRecursion (λ size. size.cols ≡ old.encoder.cols) (sizes_in events)
+      → (batches : List Batch) × ((terminal_state new).batches ≡ (terminal_state old).batches ++ batches)
+      × Appends (contents old.writer) (contents new.writer) (sent_batches batches old.encoder).bytes
+      × (new.encoder ≡ (sent_batches batches old.encoder).next)

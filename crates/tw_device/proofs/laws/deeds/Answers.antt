@@ -1,4 +1,4 @@
-use Rattle.tw_device.proofs.DeedLemmas.{deeds_are_sent, failures_are_counted}
+use Rattle.tw_device.proofs.DeedLemmas.{deeds_are_sent, failures_are_counted, led_is_sent}
 use Rattle.tw_device.proofs.laws.deeds.Goals as goal
 
 pub returns-clause-sent : goal.returns-clause-sent
@@ -6,3 +6,6 @@ returns-clause-sent g c = deeds_are_sent g.W.Write.contents
 
 pub returns-clause-counted : goal.returns-clause-counted
 returns-clause-counted g c = failures_are_counted g.W.Write.contents
+
+pub returns-clause-led : goal.returns-clause-led
+returns-clause-led g c = led_is_sent g.W.Write.contents
