@@ -40,7 +40,7 @@ use Rattle.tw_sent_runs.specs.SentRuns.{IsSentAt, ComesSent, sent_paintings, sen
 use Rattle.tw_sent_runs.proofs.SentLemmas.{paintings_are_shown, wide}
 
 -- batches, and then others
-sent_both : (xs ys : List Batch) (e : Encoder) → sent_batches (xs ++ ys) e ≡ sent_then (sent_batches xs e) (sent_batches ys)
+pub sent_both : (xs ys : List Batch) (e : Encoder) → sent_batches (xs ++ ys) e ≡ sent_then (sent_batches xs e) (sent_batches ys)
 sent_both [] ys e = refl
 sent_both (x ∷ xs) ys e =
     let next : Encoder = (sent_batch x e).next in
@@ -121,7 +121,7 @@ module _ {A C : Type 0} (pen : Pen A C) where
         let m : Mark = mark_of (painting station.size.cols (sized_scene rules station).scene) in
         let here : IsSentAt h w (sized_scene rules station) = last_of_all (IsSentAt h w) (sized_scene rules) earlier station k.sent in
         let under : IsReached h (Relative (pos (1 + m.height) -ℤ m.row)) =
-            subst (λ n. let p = painting n (sized_scene rules station).scene in IsReached h (Relative (pos (1 + p.height) -ℤ p.row))) (sym here.cols) here.showable.under in
+        subst (λ n. let p = painting n (sized_scene rules station).scene in IsReached h (Relative (pos (1 + p.height) -ℤ p.row))) (sym here.cols) here.showable.under in
         let taken : batches (map shot_of xs) ≡ batches_of rules stations = sym (sized_batches_are xs) ∙ painted.1.batches in
         let color : IsColor known.attributes.background = subst (λ l. IsColor (sent_batches l e).next.attributes.background) taken (known_color h w None xs e k.sent k.color) in
         let is = closing_of_run f (Some h) earlier station later before k.comes none in

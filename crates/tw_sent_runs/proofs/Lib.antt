@@ -1,2 +1,3 @@
 pub mod ClosingLemmas
+pub mod ReadingLemmas
 pub mod SentLemmas

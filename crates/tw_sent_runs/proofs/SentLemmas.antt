@@ -137,6 +137,6 @@ module _ {A C : Type 0} (pen : Pen A C) where
         let inside : before.col < w = omega (arith, k.comes.at_start, two) in
         let taken : batches (map shot_of xs) ≡ batches_of rules stations = sym (sized_batches_are xs) ∙ drawn.batches in (
           subst (λ l. ShowsPicture pen h w (sent_batches l e).next (receive_all pen h w (sent_batches l e).bytes t) (play_stations rules pen (Some h) false w (pen.attributes e.attributes) stations before))
-          taken (stations_shown h w xs e t before carries (omega (arith, two)) k.narrow k.sent k.color inside k.shows),
+              taken (stations_shown h w xs e t before carries (omega (arith, two)) k.narrow k.sent k.color inside k.shows),
           drawn,
         )

@@ -1,1 +1,2 @@
+pub mod SentReadings
 pub mod SentRuns

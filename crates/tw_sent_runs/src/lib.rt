@@ -1,13 +1,15 @@
-//! What a terminal shows that is sent the bytes of a run: the fresh painting after each of its paintings, and the row
-//! below the last one after its closing batch.
+//! From bytes to cells: what a terminal shows that is sent the bytes of a run, or of a reading. After each painting it
+//! is the fresh painting, and after the closing batch the row below the last one.
 //!
 //! Each law is the contract of a function that does nothing. The terminal is that of `tw_ansi`, of some rows and columns;
 //! what stands in its cells is characters alone, or characters under their attributes.
 #![tactic(auto)]
 
 ghost use Rattle.tw_screens.specs.Pens.{Pen};
+ghost use Rattle.tw_sent_runs.specs.SentReadings.{ReadingClosingsAreShown, ReadingPaintingsAreShown};
 ghost use Rattle.tw_sent_runs.specs.SentRuns.{ClosingsAreShown, PaintingsAreShown};
 
+use std::io::Write;
 use tw_host::LineEditorHost;
 
 /// A terminal that shows a picture, its cursor in column 0, and is sent the bytes of a run's batches up to a painting,
@@ -16,4 +18,11 @@ use tw_host::LineEditorHost;
 pub fn sent_runs<H: LineEditorHost, A, C>()
     ensures paintings { (pen : Pen A C) → PaintingsAreShown H.rules pen }
     ensures closings { (pen : Pen A C) → ClosingsAreShown H.rules pen }
+{}
+
+/// The bytes that `read_line_from` has written, where it was answered and no event told another number of columns, are
+/// those of its run: so a terminal shows what `sent_runs` says.
+pub fn sent_readings<H: LineEditorHost, W: Write, A, C>()
+    ensures paintings { (pen : Pen A C) → ReadingPaintingsAreShown H.rules W.contents pen }
+    ensures closings { (pen : Pen A C) → ReadingClosingsAreShown H.rules W.contents pen }
 {}
