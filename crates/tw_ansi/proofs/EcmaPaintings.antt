@@ -141,7 +141,7 @@ module _ {A C : Type 0} (pen : Pen A C) where
 
     module _ (more : List Batch) (end : (d : Encoder) (r : PictureOf C) → IsColor d.attributes.background → AreAllSendable pen h w d more r) where
       -- paintings behind another one
-      later_sendable : (before : Scene) (scenes : List Scene) → IsShowable h w before → AllByRecursion (IsShowable h w) scenes
+      pub later_sendable : (before : Scene) (scenes : List Scene) → IsShowable h w before → AllByRecursion (IsShowable h w) scenes
           → (d : Encoder) (r : PictureOf C) → IsColor d.attributes.background
           → AreAllSendable pen h w d (batches_after (Some (mark_of (painting w before))) (shots w scenes) ++ more) r
       later_sendable before [] p a d r color = end d r color

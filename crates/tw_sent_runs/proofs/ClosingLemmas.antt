@@ -79,7 +79,7 @@ closing_color taken m e color = subst (λ (s : Sent). IsColor s.next.attributes.
     (subst (λ (c : CellAttributes). IsColor c.background) (sym (clear_keeps default_color (sent_change (CursorPosition (Absolute 0) (Relative (pos (1 + m.height) -ℤ m.row))) (sent_batches taken e).next).next)) color)
 
 -- what holds of each of a list holds of its last one
-last_of_all : {S T : Type 0} (P : T → Type 0) (view : S → T) (earlier : List S) (last : S) → AllByRecursion P (map view (earlier ++ last ∷ [])) → P (view last)
+pub last_of_all : {S T : Type 0} (P : T → Type 0) (view : S → T) (earlier : List S) (last : S) → AllByRecursion P (map view (earlier ++ last ∷ [])) → P (view last)
 last_of_all P view [] last a = a.0
 last_of_all P view (first ∷ more) last a = last_of_all P view more last a.1
 

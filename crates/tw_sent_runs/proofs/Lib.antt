@@ -1,3 +1,4 @@
 pub mod ClosingLemmas
+pub mod HealingLemmas
 pub mod ReadingLemmas
 pub mod SentLemmas

@@ -18,6 +18,7 @@ use Rattle.tw_lineedit.specs.Stations.{Station}
 use Rattle.tw_screen_runs.specs.DrawnRuns.{closed_by}
 use Rattle.tw_ansi.specs.declared.encode.Encoder.{Encoder}
 use Rattle.tw_ansi.specs.Encoding.{Sent}
+use Rattle.tw_ansi.specs.EcmaLaws.{IsColor}
 use Rattle.tw_ansi.specs.EcmaBatches.{CarriesAttributes}
 use Rattle.tw_ansi.specs.EcmaPaintings.{sent_batches}
 use Rattle.tw_ansi.specs.EcmaScreen.{EcmaScreen, receive_all}
@@ -105,4 +106,5 @@ module _ {V W : Type 0} (rules : HostRules V) (contents : W → Option (List ℕ
           subst (λ next. ShowsPicture pen h w next (receive_all pen h w bytes t) closed) (sym run.known)
               (subst (λ l. ShowsPicture pen h w (sent_batches l e).next (receive_all pen h w (sent_batches l e).bytes t) closed) (sym all) closes.1),
           closes.2,
+          subst (λ next. IsColor next.attributes.background) (sym run.known) (subst (λ l. IsColor (sent_batches l e).next.attributes.background) (sym all) closes.3),
         )

@@ -10,7 +10,7 @@ use Rattle.tw_surface.specs.Paintings.{Mark, painting, shown_part, cursor_place,
 use Rattle.tw_surface.specs.PaintingBatches.{SizedScene, shot_of, scenes_of, shots, clear_batch, clearing, start_of, batches, batches_after, closing_if, closing_batch, closing_of, run_batches, shown_batches}
 use Rattle.tw_surface.specs.Places.{place_after_all, origin, move_between}
 use Rattle.tw_surface.specs.Scenes.{Scene}
-use Rattle.tw_surface.specs.Simple.{spelled_change, spelled_all}
+use Rattle.tw_surface.specs.Simple.{spelled_change, spelled_all, IsSimpleWide}
 use Rattle.tw_screens.specs.Pens.{Pen, strokes_of}
 use Rattle.tw_screens.specs.Screens.{play_sized}
 use Rattle.tw_screens.specs.SizedBatches.{sized_at, sized_after, sized_batches, spelled_sized}
@@ -78,7 +78,7 @@ sized_cleared true cols w batch more rest same spelled later =
 
 module _ (h w : ℕ) where
   -- the batches of such stations are those that come at w columns
-  sized_is : (mark : Option Mark) (xs : List SizedScene) → AllByRecursion (IsSentAt h w) xs
+  pub sized_is : (mark : Option Mark) (xs : List SizedScene) → AllByRecursion (IsSentAt h w) xs
       → spelled_sized (sized_after mark xs) ≡ sized_at w (batches_after mark (map shot_of xs))
   sized_is mark [] a = refl
   sized_is mark (x ∷ xs) a =
@@ -87,15 +87,20 @@ module _ (h w : ℕ) where
       a.0.cols (spelled_begun mark x.cols x.scene a.0.showable.typed) (sized_is next xs a.1)
 
   -- their paintings are those of their scenes at w columns
-  shots_are : (xs : List SizedScene) → AllByRecursion (IsSentAt h w) xs → map shot_of xs ≡ shots w (scenes_of xs)
+  pub shots_are : (xs : List SizedScene) → AllByRecursion (IsSentAt h w) xs → map shot_of xs ≡ shots w (scenes_of xs)
   shots_are [] a = refl
   shots_are (x ∷ xs) a =
       ap (λ cols. record { painting = painting cols x.scene; cleared = x.scene.cleared } ∷ map shot_of xs) a.0.cols
       ∙ ap (λ l. record { painting = painting w x.scene; cleared = x.scene.cleared } ∷ l) (shots_are xs a.1)
 
-  scenes_showable : (xs : List SizedScene) → AllByRecursion (IsSentAt h w) xs → AllByRecursion (IsShowable h w) (scenes_of xs)
+  pub scenes_showable : (xs : List SizedScene) → AllByRecursion (IsSentAt h w) xs → AllByRecursion (IsShowable h w) (scenes_of xs)
   scenes_showable [] a = tt
   scenes_showable (x ∷ xs) a = (a.0.showable, scenes_showable xs a.1)
+
+-- such stations have two columns or more, where they are simple
+pub first_wide : (h w : ℕ) (xs : List SizedScene) (x : SizedScene) → All IsSimpleWide (xs ++ x ∷ []) → AllByRecursion (IsSentAt h w) (xs ++ x ∷ []) → 2 ≤ w
+first_wide h w [] x simple sent = subst (λ n. 2 ≤ n) sent.0.cols (simple 0 x (omega arith)).0
+first_wide h w (first ∷ more) x simple sent = subst (λ n. 2 ≤ n) sent.0.cols (simple 0 first (omega arith)).0
 
 module _ {A C : Type 0} (pen : Pen A C) where
   -- the first of some batches that are sendable
@@ -104,7 +109,7 @@ module _ {A C : Type 0} (pen : Pen A C) where
   first_sendable h w (x ∷ xs) ys e s a = (a.0, first_sendable h w xs ys _ _ a.1)
 
   -- the batches of such stations
-  stations_sendable : (h w : ℕ) (xs : List SizedScene) (e : Encoder) (s : PictureOf C) → 0 < w → AllByRecursion (IsSentAt h w) xs
+  pub stations_sendable : (h w : ℕ) (xs : List SizedScene) (e : Encoder) (s : PictureOf C) → 0 < w → AllByRecursion (IsSentAt h w) xs
       → IsColor e.attributes.background → s.col < w → AreAllSendable pen h w e (batches (map shot_of xs)) s
   stations_sendable h w xs e s some a color inside =
       subst (λ l. AreAllSendable pen h w e (batches l) s) (sym (shots_are h w xs a))
@@ -123,10 +128,12 @@ module _ {A C : Type 0} (pen : Pen A C) where
       (batches_are_shown pen h w played e t s carries some narrow (stations_sendable h w xs e s some a color inside) shows)
 
   module _ {V : Type 0} (rules : HostRules V) where
+    -- the terminal of a run that comes to a station has two columns or more
     pub wide : (h : ℕ) (f : Frame V) (earlier : List (Station V)) (station : Station V) (later : List (Station V)) (w : ℕ) (before : PictureOf C)
         → ComesSimply rules pen (Some h) f earlier station later before → AllByRecursion (IsSentAt h w) (map (sized_scene rules) (earlier ++ station ∷ [])) → 2 ≤ w
-    wide h f [] station later w before comes sent = subst (λ n. 2 ≤ n) sent.0.cols (comes.simple 0 (sized_scene rules station) (omega arith)).0
-    wide h f (first ∷ more) station later w before comes sent = subst (λ n. 2 ≤ n) sent.0.cols (comes.simple 0 (sized_scene rules first) (omega arith)).0
+    wide h f earlier station later w before comes sent =
+        let scenes = map-append (sized_scene rules) earlier (station ∷ []) in
+        first_wide h w (map (sized_scene rules) earlier) (sized_scene rules station) (rw scenes at comes.simple) (rw scenes at sent)
 
     pub paintings_are_shown : PaintingsAreShown rules pen
     paintings_are_shown f h w earlier station later e t before carries k =

@@ -13,6 +13,7 @@ use Rattle.tw_lineedit.specs.Frame.{Frame}
 use Rattle.tw_lineedit.specs.ScreenRuns.{RendersNothing}
 use Rattle.tw_lineedit.specs.Stations.{Station}
 use Rattle.tw_screen_runs.specs.DrawnRuns.{paintings_at, painted_at, closed_by, ShowsDrawn}
+use Rattle.tw_ansi.specs.EcmaLaws.{IsColor}
 use Rattle.tw_ansi.specs.EcmaBatches.{CarriesAttributes}
 use Rattle.tw_ansi.specs.EcmaScreen.{EcmaScreen, receive_all}
 use Rattle.tw_ansi.specs.EcmaTexts.{ShowsPicture}
@@ -62,7 +63,8 @@ module _ {V W A C : Type 0} (rules : HostRules V) (contents : W → Option (List
       × ShowsPicture pen h w sent.next (receive_all pen h w sent.bytes t) (shown_by rules pen h w old.encoder stations before)
       × ShowsDrawn rules pen (Some h) false w (pen.attributes old.encoder.attributes) f earlier station before
 
-  -- Behind all bytes that it has written it shows what the closing batch left: the cursor in column 0 of the row below the last painting, and blanks from there on.
+  -- Behind all bytes that it has written it shows what the closing batch left: the cursor in column 0 of the row below the last painting, and blanks from
+  -- there on; the colour that is known is by bytes. So the next reading begins at such a terminal, and lines stack.
   abbrev pub ReadingClosingsAreShown : Type 0
   ReadingClosingsAreShown = (prompt : List ℕ) (value : V) (old new : AnsiTerminal W) (events : List EventView) (held : List ℕ)
       (h w : ℕ) (earlier : List (Station V)) (station : Station V) (later : List (Station V)) (t : EcmaScreen C) (before : PictureOf C)
@@ -76,3 +78,4 @@ module _ {V W A C : Type 0} (rules : HostRules V) (contents : W → Option (List
       → (bytes : List ℕ) × (contents new.writer ≡ Some (held ++ bytes))
       × ShowsPicture pen h w new.encoder (receive_all pen h w bytes t) closed
       × IsClosed (Some h) w (blank_of pen) last shown closed
+      × IsColor new.encoder.attributes.background

@@ -1,10 +1,12 @@
 -- What a terminal shows that is sent the bytes of a run's batches.
-use Rattle.std.specs.Prelude.{◌≡◌, ◌<◌, ◌+◌, ◌^◌, ℕ, Some, false, List, [], ◌∷◌, ◌++◌, map}
+use Rattle.std.specs.Prelude.{◌≡◌, ◌<◌, ◌+◌, ◌^◌, neg_ℤ, ℕ, Some, None, false, List, [], ◌∷◌, ◌++◌, map}
 use Rattle.std.specs.List.{All, AllByRecursion}
 use Rattle.tw_strokes.specs.Strokes.{PictureOf}
-use Rattle.tw_strokes.specs.Sheets.{last_row}
+use Rattle.tw_strokes.specs.Sheets.{IsFresh, last_row}
 use Rattle.tw_strokes.specs.Paintings.{IsClosed, top_row}
-use Rattle.tw_surface.specs.PaintingBatches.{SizedScene, closing_if}
+use Rattle.tw_surface.specs.declared.change.Position.TheVariants.{Relative}
+use Rattle.tw_surface.specs.Paintings.{Mark}
+use Rattle.tw_surface.specs.PaintingBatches.{SizedScene, shot_of, mark_after, closing_if}
 use Rattle.tw_screens.specs.Pens.{Pen}
 use Rattle.tw_screens.specs.Screens.{blank_of}
 use Rattle.tw_host.specs.HostRules.{HostRules}
@@ -12,13 +14,14 @@ use Rattle.tw_lineedit.specs.Frame.{Frame}
 use Rattle.tw_lineedit.specs.Run.{run_of}
 use Rattle.tw_lineedit.specs.ScreenRuns.{sized_scene, batches_of, RendersNothing}
 use Rattle.tw_lineedit.specs.Stations.{Station}
-use Rattle.tw_screen_runs.specs.DrawnRuns.{paintings_at, painted_at, play_stations, closed_by, ComesSimply, ShowsDrawn}
+use Rattle.tw_screen_runs.specs.DrawnRuns.{paintings_at, painted_at, play_stations, closed_by, since_batches, ComesSimply, ComesHealed, ShowsDrawn}
 use Rattle.tw_ansi.specs.declared.encode.Encoder.{Encoder}
 use Rattle.tw_ansi.specs.Encoding.{Sent}
 use Rattle.tw_ansi.specs.EcmaLaws.{IsColor}
-use Rattle.tw_ansi.specs.EcmaBatches.{CarriesAttributes}
+use Rattle.tw_ansi.specs.EcmaBatches.{CarriesAttributes, IsReached}
 use Rattle.tw_ansi.specs.EcmaPaintings.{IsShowable, sent_batches}
 use Rattle.tw_ansi.specs.EcmaScreen.{EcmaScreen, receive_all}
+use Rattle.tw_ansi.specs.EcmaScreen as terminal
 use Rattle.tw_ansi.specs.EcmaTexts.{ShowsPicture}
 
 -- a station that is painted for w columns, and whose bytes do what its changes do on a terminal of h rows
@@ -71,3 +74,26 @@ module _ {V A C : Type 0} (rules : HostRules V) (pen : Pen A C) where
       × ShowsPicture pen h w sent.next (receive_all pen h w sent.bytes t) closed
       × IsClosed (Some h) w (blank_of pen) last shown closed
       × IsColor sent.next.attributes.background
+
+  -- ---- behind a clearing
+
+  -- The run from a frame comes to a station and paints it. The screen was cleared before the first of the stations since then, and these are sent at w columns; a
+  -- move back from the painting before them leads no further than a move can. Of the terminal it is known that it has read no part of a sequence, and
+  -- which attributes are selected; it may show anything, its cursor anywhere.
+  pub record HealsSent (h w : ℕ) (f : Frame V) (earlier since : List (Station V)) (station : Station V) (later : List (Station V)) (e : Encoder) (t : EcmaScreen C) : Type 0 where
+    pub comes : ComesHealed rules pen (Some h) f earlier since station later
+    pub sent : AllByRecursion (IsSentAt h w) (map (sized_scene rules) (since ++ station ∷ []))
+    pub back : (m : Mark) → mark_after None (map shot_of (map (sized_scene rules) earlier)) ≡ Some m → IsReached h (Relative (neg_ℤ m.row))
+    pub narrow : w < 2 ^ 64
+    pub color : IsColor e.attributes.background
+    pub reading : t.reading ≡ terminal.Text
+    pub rendition : t.rendition ≡ e.attributes
+    pub cols : e.cols ≡ w
+
+  -- The terminal that is sent the bytes from the clearing on shows the last station's painting, fresh from row 0 on.
+  abbrev pub HealingsAreShown : Type 0
+  HealingsAreShown = (f : Frame V) (h w : ℕ) (earlier since : List (Station V)) (station : Station V) (later : List (Station V)) (e : Encoder) (t : EcmaScreen C)
+      → CarriesAttributes pen → HealsSent h w f earlier since station later e t
+      → let sent = sent_batches (map (λ sized. sized.batch) (since_batches rules pen earlier (since ++ station ∷ []))) e in
+      (picture : PictureOf C) × ShowsPicture pen h w sent.next (receive_all pen h w sent.bytes t) picture
+      × IsFresh w 0 (blank_of pen) (painted_at rules pen station).sheet picture

@@ -7,17 +7,19 @@
 
 ghost use Rattle.tw_screens.specs.Pens.{Pen};
 ghost use Rattle.tw_sent_runs.specs.SentReadings.{ReadingClosingsAreShown, ReadingPaintingsAreShown};
-ghost use Rattle.tw_sent_runs.specs.SentRuns.{ClosingsAreShown, PaintingsAreShown};
+ghost use Rattle.tw_sent_runs.specs.SentRuns.{ClosingsAreShown, HealingsAreShown, PaintingsAreShown};
 
 use std::io::Write;
 use tw_host::LineEditorHost;
 
 /// A terminal that shows a picture, its cursor in column 0, and is sent the bytes of a run's batches up to a painting,
 /// shows that station's fresh painting, and what stood above it, moved up; and after those of the closing batch its
-/// cursor is in column 0 of the row below, with blanks from there on.
+/// cursor is in column 0 of the row below, with blanks from there on. One that may show anything shows a fresh painting
+/// behind a clearing.
 pub fn sent_runs<H: LineEditorHost, A, C>()
     ensures paintings { (pen : Pen A C) → PaintingsAreShown H.rules pen }
     ensures closings { (pen : Pen A C) → ClosingsAreShown H.rules pen }
+    ensures healings { (pen : Pen A C) → HealingsAreShown H.rules pen }
 {}
 
 /// The bytes that `read_line_from` has written, where it was answered and no event told another number of columns, are

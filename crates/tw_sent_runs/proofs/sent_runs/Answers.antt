@@ -1,4 +1,5 @@
 use Rattle.tw_sent_runs.proofs.ClosingLemmas.{closings_are_shown}
+use Rattle.tw_sent_runs.proofs.HealingLemmas.{healings_are_shown}
 use Rattle.tw_sent_runs.proofs.SentLemmas.{paintings_are_shown}
 use Rattle.tw_sent_runs.proofs.sent_runs.Goals as goal
 
@@ -7,3 +8,6 @@ returns-clause-paintings g c = λ pen. paintings_are_shown pen g.H.LineEditorHos
 
 pub returns-clause-closings : goal.returns-clause-closings
 returns-clause-closings g c = λ pen. closings_are_shown pen g.H.LineEditorHost.rules
+
+pub returns-clause-healings : goal.returns-clause-healings
+returns-clause-healings g c = λ pen. healings_are_shown pen g.H.LineEditorHost.rules
