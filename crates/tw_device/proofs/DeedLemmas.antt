@@ -1,12 +1,10 @@
 -- Deeds, one after the other, and what they send.
-use Rattle.std.proofs.Common.{◌≡◌, ◌≢◌, ◌≤◌, ◌+◌, ◌&&◌, ℕ, Bool, true, false, List, [], ◌∷◌, ◌++◌, Option, Some, None, length, map, refl, sym, ap, ◌∙◌, subst, append_assoc, append-nil, inl, inr, arith}
+use Rattle.std.proofs.Common.{◌≡◌, ◌≤◌, ℕ, List, [], ◌∷◌, ◌++◌, Option, Some, None, length, map, refl, sym, ap, ◌∙◌, subst, append_assoc, append-nil, inl, inr, arith}
 use Rattle.std.proofs.lemmas.Bool.{false≢true}
 use Rattle.std.specs.Io.KnownBytes.{Appends, Keeps}
-use Rattle.std.specs.List.{list_all, AllByRecursion}
-use Rattle.tw_surface.specs.ChangeView.{Batch}
+use Rattle.std.specs.List.{AllByRecursion}
 use Rattle.tw_input.specs.EventView.{EventView, Key, Resized, Paste, Wake}
-use Rattle.tw_terminal.specs.TerminalState.{count_up, usize_max}
-use Rattle.tw_terminal.specs.Uses.{Call, Took, Refused, Other, Uses, IsUsed, with_taken}
+use Rattle.tw_terminal.specs.Uses.{Call, Took, Refused, Other, Uses, IsUsed}
 use Rattle.tw_ansi.specs.declared.encode.Encoder.{Encoder}
 use Rattle.tw_ansi.specs.Encoding.{sent_batch}
 use Rattle.tw_ansi.specs.EcmaPaintings.{sent_batches}
@@ -14,7 +12,7 @@ use Rattle.tw_ansi.proofs.KnownTerminals.{batch_in}
 use Rattle.tw_terminal.specs.declared.terminal.ScreenSize.{ScreenSize}
 use Rattle.tw_device.specs.Terminal.{terminal_state}
 use Rattle.tw_device.specs.declared.terminal.AnsiTerminal.{AnsiTerminal}
-use Rattle.tw_device.specs.Deeds.{Deed, Called, Sized, Said, sent_deed, sent_by, batches_by, sizes_by, sizes_in, texts_by, is_whole, none_refused, Sends, Does, IsLedBy, IsLedAsTold, DeedsAreSent, FailuresAreCounted, LedIsSent}
+use Rattle.tw_device.specs.Deeds.{Deed, Called, Sized, Said, sent_deed, sent_by, batches_by, sizes_by, sizes_in, texts_by, Sends, Does, IsLedBy, IsLedAsTold, DeedsAreSent, FailuresAreCounted, LedIsSent}
 use Rattle.tw_lineedit.proofs.FailureLemmas.{le_count, rose_once}
 use Rattle.tw_lineedit.proofs.UseLemmas.{both_uses}
 
@@ -126,8 +124,8 @@ module _ {W : Type 0} (contents : W → Option (List ℕ)) where
   failures_are_counted (Called Refused ∷ deeds) old new (between, does, uses) kept below =
       let same = whole-later deeds old between new (does-counts (Called Refused) old between does) uses kept in
       elim (rose_once old.failures between.failures does.failures) [
-      | inl rises ↦ absurd (let stays : between.failures ≡ old.failures = same.1 in omega arith)
-      | inr full ↦ absurd (below full)
+        | inl rises ↦ absurd (let stays : between.failures ≡ old.failures = same.1 in omega arith)
+        | inr full ↦ absurd (below full)
       ]
   failures_are_counted (Called Other ∷ deeds) old new (between, does, uses) kept below =
       let same = whole-later deeds old between new does.failures uses kept in

@@ -1,8 +1,8 @@
 -- A terminal that is sent the bytes of a whole run shows what its closing batch left.
-use Rattle.std.proofs.Common.{◌≡◌, ◌≤◌, ◌<◌, ◌+◌, ◌-ℤ◌, ◌^◌, ℕ, pos, Bool, true, false, Option, Some, None, List, [], ◌∷◌, ◌++◌, map, ap, subst, ◌∙◌, sym, refl, append_assoc, arith}
+use Rattle.std.proofs.Common.{◌≡◌, ◌≤◌, ◌<◌, ◌+◌, ◌-ℤ◌, ◌^◌, ℕ, pos, true, false, Option, Some, None, List, [], ◌∷◌, ◌++◌, map, ap, subst, ◌∙◌, sym, refl, append_assoc, arith}
 use Rattle.std.specs.List.{All, AllByRecursion}
 use Rattle.std.proofs.lemmas.List.{map-append}
-use Rattle.tw_strokes.specs.Strokes.{PictureOf, resized}
+use Rattle.tw_strokes.specs.Strokes.{PictureOf}
 use Rattle.tw_strokes.specs.Sheets.{last_row}
 use Rattle.tw_strokes.specs.Paintings.{IsClosed, top_row}
 use Rattle.tw_surface.specs.declared.cell.CellAttributes.{CellAttributes}
@@ -15,7 +15,7 @@ use Rattle.tw_surface.specs.PaintingBatches.{SizedScene, shot_of, clear_batch, c
 use Rattle.tw_surface.specs.Scenes.{Scene}
 use Rattle.tw_screens.specs.Pens.{Pen}
 use Rattle.tw_screens.specs.Screens.{blank_of, play_sized}
-use Rattle.tw_screens.specs.SizedBatches.{sized_at, sized_batches, spelled_sized}
+use Rattle.tw_screens.specs.SizedBatches.{sized_at}
 use Rattle.tw_screens.proofs.SizedBatchLemmas.{sized_batches_are}
 use Rattle.tw_screens.proofs.StationMarks.{closing_is}
 use Rattle.tw_host.specs.HostRules.{HostRules}
@@ -36,7 +36,7 @@ use Rattle.tw_ansi.specs.Encoding.{Sent, sent_batch, sent_change, sent_then}
 use Rattle.tw_ansi.proofs.KnownTerminals.{clear_keeps}
 use Rattle.tw_ansi.proofs.EcmaSequences.{received}
 use Rattle.tw_ansi.proofs.EcmaPaintings.{painting_knows_color, closing_is_sendable, batches_are_shown}
-use Rattle.tw_sent_runs.specs.SentRuns.{IsSentAt, ComesSent, sent_paintings, sent_run, shown_by, ClosingsAreShown}
+use Rattle.tw_sent_runs.specs.SentRuns.{IsSentAt, sent_paintings, shown_by, ClosingsAreShown}
 use Rattle.tw_sent_runs.proofs.SentLemmas.{paintings_are_shown, wide}
 
 -- batches, and then others

@@ -1,5 +1,5 @@
 -- A terminal that may show anything shows a fresh painting behind a clearing.
-use Rattle.std.proofs.Common.{◌≡◌, ◌≤◌, ◌<◌, ◌+◌, ◌^◌, neg_ℤ, ℕ, Bool, true, false, ◌&&◌, Option, Some, None, List, [], ◌∷◌, ◌++◌, map, ap, subst, ◌∙◌, sym, refl, append-nil, arith}
+use Rattle.std.proofs.Common.{◌≡◌, ◌≤◌, ◌<◌, neg_ℤ, ℕ, true, false, ◌&&◌, Option, Some, None, List, [], ◌∷◌, ◌++◌, map, ap, subst, ◌∙◌, sym, refl, append-nil, arith}
 use Rattle.std.specs.List.{AllByRecursion}
 use Rattle.std.proofs.lemmas.List.{map-append}
 use Rattle.std.proofs.lemmas.Bool.{ne_eqb, false≢true}
@@ -16,15 +16,13 @@ use Rattle.tw_screens.specs.Screens.{blank_of, play_sized}
 use Rattle.tw_screens.specs.SizedBatches.{sized_at, sized_after, spelled_sized}
 use Rattle.tw_screens.proofs.SizedBatchLemmas.{sized_are}
 use Rattle.tw_host.specs.HostRules.{HostRules}
-use Rattle.tw_lineedit.specs.Frame.{Frame}
 use Rattle.tw_lineedit.specs.ScreenRuns.{sized_scene}
-use Rattle.tw_lineedit.specs.Stations.{Station}
-use Rattle.tw_screen_runs.specs.DrawnRuns.{begins_cleared, painted_at, play_since}
+use Rattle.tw_screen_runs.specs.DrawnRuns.{begins_cleared, painted_at}
 use Rattle.tw_screen_runs.proofs.DrawnRunLemmas.{drawn_healings}
 use Rattle.tw_ansi.specs.declared.encode.Encoder.{Encoder}
 use Rattle.tw_ansi.specs.Encoding.{Sent, sent_batch, sent_change, at_column}
 use Rattle.tw_ansi.specs.EcmaLaws.{IsColor}
-use Rattle.tw_ansi.specs.EcmaBatches.{CarriesAttributes, IsReached}
+use Rattle.tw_ansi.specs.EcmaBatches.{IsReached}
 use Rattle.tw_ansi.specs.EcmaPaintings.{AreAllSendable, sent_batches}
 use Rattle.tw_ansi.specs.EcmaScreen.{EcmaScreen, receive_all}
 use Rattle.tw_ansi.specs.EcmaScreen as terminal
@@ -32,7 +30,7 @@ use Rattle.tw_ansi.specs.EcmaTexts.{ShowsPicture}
 use Rattle.tw_ansi.proofs.EcmaClearings.{clears_all}
 use Rattle.tw_ansi.proofs.EcmaSequences.{received}
 use Rattle.tw_ansi.proofs.EcmaPaintings.{painting_knows_color, repainting_is_sendable, later_sendable, batches_are_shown}
-use Rattle.tw_sent_runs.specs.SentRuns.{IsSentAt, HealsSent, HealingsAreShown}
+use Rattle.tw_sent_runs.specs.SentRuns.{IsSentAt, HealingsAreShown}
 use Rattle.tw_sent_runs.proofs.SentLemmas.{sized_is, shots_are, scenes_showable, stations_sendable, first_wide}
 use Rattle.tw_sent_runs.proofs.ClosingLemmas.{last_of_all}
 
@@ -82,14 +80,14 @@ module _ {A C : Type 0} (pen : Pen A C) where
       let known : Encoder = (sent_batch begun next).next in
       let is : painting w x.scene ≡ painting x.cols x.scene = ap (λ cols. painting cols x.scene) (sym a.0.cols) in
       let first = subst (λ p. AreAllSendable pen h w next ((start_move m ∷ p.changes) ∷ []) drawn) is
-          (repainting_is_sendable pen h w m x.scene next drawn some a.0.showable.typed a.0.showable.near (back m refl) color, tt) in
+      (repainting_is_sendable pen h w m x.scene next drawn some a.0.showable.typed a.0.showable.near (back m refl) color, tt) in
       let colored : IsColor known.attributes.background = painting_knows_color x.cols x.scene (sent_change (start_move m) next).next a.0.showable.typed in
       let shown : PictureOf C = steps_on (Some h) w (strokes_of pen (pen.attributes next.attributes) begun) drawn in
       let later : AreAllSendable pen h w known rest shown =
-          subst (λ (p : _). AreAllSendable pen h w known (batches_after (Some (mark_of p)) (map shot_of xs)) shown) is
-          (subst (λ l. AreAllSendable pen h w known (batches_after (Some (mark_of (painting w x.scene))) l) shown) (sym (shots_are h w xs a.1))
-          (subst (λ l. AreAllSendable pen h w known l shown) (append-nil (batches_after (Some (mark_of (painting w x.scene))) (shots w (scenes_of xs))))
-          (later_sendable pen h w some [] (λ d r colour. tt) x.scene (scenes_of xs) a.0.showable (scenes_showable h w xs a.1) known shown colored))) in
+      subst (λ (p : _). AreAllSendable pen h w known (batches_after (Some (mark_of p)) (map shot_of xs)) shown) is
+      (subst (λ l. AreAllSendable pen h w known (batches_after (Some (mark_of (painting w x.scene))) l) shown) (sym (shots_are h w xs a.1))
+      (subst (λ l. AreAllSendable pen h w known l shown) (append-nil (batches_after (Some (mark_of (painting w x.scene))) (shots w (scenes_of xs))))
+      (later_sendable pen h w some [] (λ d r colour. tt) x.scene (scenes_of xs) a.0.showable (scenes_showable h w xs a.1) known shown colored))) in
       subst (λ t. AreAllSendable pen h w e (clearing t ++ begun ∷ rest) s) (sym cleared) (((tt, color, refl), tt), (first.0, later))
 
   -- what a terminal shows that was empty, it shows whatever it was
@@ -105,13 +103,13 @@ module _ {A C : Type 0} (pen : Pen A C) where
       let clear : List ℕ = (sent_batch clear_batch e).bytes in
       let rest : Sent = sent_batches more (at_column 0 e) in
       let same : receive_all pen h w (clear ++ rest.bytes) (emptied t) ≡ receive_all pen h w (clear ++ rest.bytes) t =
-          received pen h w clear rest.bytes (emptied t)
-          ∙ ap (receive_all pen h w rest.bytes) (cleared_by h w e (emptied t) color refl rendition ∙ sym (cleared_by h w e t color reading rendition))
-          ∙ sym (received pen h w clear rest.bytes t) in
+      received pen h w clear rest.bytes (emptied t)
+      ∙ ap (receive_all pen h w rest.bytes) (cleared_by h w e (emptied t) color refl rendition ∙ sym (cleared_by h w e t color reading rendition))
+      ∙ sym (received pen h w clear rest.bytes t) in
       subst (λ c. let played = clearing c ++ more in
-          let known = sent_batches played (at_column 0 e) in
-          ShowsPicture pen h w known.next (receive_all pen h w known.bytes (emptied t)) s
-          → ShowsPicture pen h w (sent_batches played e).next (receive_all pen h w (sent_batches played e).bytes t) s) (sym cleared)
+      let known = sent_batches played (at_column 0 e) in
+      ShowsPicture pen h w known.next (receive_all pen h w known.bytes (emptied t)) s
+      → ShowsPicture pen h w (sent_batches played e).next (receive_all pen h w (sent_batches played e).bytes t) s) (sym cleared)
       (λ given. subst (λ u. ShowsPicture pen h w rest.next u s) same given) shows
 
   module _ {V : Type 0} (rules : HostRules V) where
@@ -127,9 +125,9 @@ module _ {A C : Type 0} (pen : Pen A C) where
         let empty : PictureOf C = filled (blank_of pen) in
         let picture : PictureOf C = play_sized (Some h) false pen w (pen.attributes e.attributes) (sized_at w played) empty in
         let sendable : AreAllSendable pen h w first played empty =
-            since_sendable h w mark xs first empty (omega (arith, two)) k.sent k.comes.cleared k.back k.color (omega (arith, two)) in
+        since_sendable h w mark xs first empty (omega (arith, two)) k.sent k.comes.cleared k.back k.color (omega (arith, two)) in
         let shown = batches_are_shown pen h w played first (emptied t) empty carries (omega (arith, two)) k.narrow sendable
-            (empty_shown h w e t k.comes.in_sight (omega (arith, two)) k.rendition k.cols) in
+        (empty_shown h w e t k.comes.in_sight (omega (arith, two)) k.rendition k.cols) in
         let fresh = (drawn_healings rules pen f (Some h) earlier since station later k.comes).fresh false w (pen.attributes e.attributes) empty in (
           picture,
           subst (λ l. ShowsPicture pen h w (sent_batches l e).next (receive_all pen h w (sent_batches l e).bytes t) picture) (sym (sized_are mark xs))

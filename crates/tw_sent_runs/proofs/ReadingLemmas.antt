@@ -1,8 +1,7 @@
 -- The bytes that a reading has written are those of its run.
-use Rattle.std.proofs.Common.{◌≡◌, ◌+◌, ℕ, Some, None, Option, false, List, [], ◌∷◌, ◌++◌, map, ap, subst, ◌∙◌, sym, refl, append_assoc}
+use Rattle.std.proofs.Common.{◌≡◌, ℕ, Some, None, Option, false, List, [], ◌∷◌, ◌++◌, ap, subst, ◌∙◌, sym, append_assoc}
 use Rattle.std.specs.Prelude.{MatchOption, ⊤}
 use Rattle.std.specs.Io.KnownBytes.{Appends, append_known}
-use Rattle.std.specs.List.{All, AllByRecursion}
 use Rattle.std.proofs.lemmas.List.{append_cancel_left}
 use Rattle.tw_strokes.specs.Strokes.{PictureOf}
 use Rattle.tw_surface.specs.ChangeView.{Batch}
@@ -13,15 +12,13 @@ use Rattle.tw_host.specs.HostRules.{HostRules}
 use Rattle.tw_lineedit.specs.Frame.{Frame}
 use Rattle.tw_lineedit.specs.Reading.{Reads}
 use Rattle.tw_lineedit.specs.Run.{run_of}
-use Rattle.tw_lineedit.specs.ScreenRuns.{batches_of, RendersNothing}
-use Rattle.tw_lineedit.specs.Stations.{Station}
+use Rattle.tw_lineedit.specs.ScreenRuns.{batches_of}
 use Rattle.tw_screen_runs.specs.DrawnRuns.{closed_by}
 use Rattle.tw_ansi.specs.declared.encode.Encoder.{Encoder}
 use Rattle.tw_ansi.specs.Encoding.{Sent}
 use Rattle.tw_ansi.specs.EcmaLaws.{IsColor}
-use Rattle.tw_ansi.specs.EcmaBatches.{CarriesAttributes}
 use Rattle.tw_ansi.specs.EcmaPaintings.{sent_batches}
-use Rattle.tw_ansi.specs.EcmaScreen.{EcmaScreen, receive_all}
+use Rattle.tw_ansi.specs.EcmaScreen.{receive_all}
 use Rattle.tw_ansi.specs.EcmaTexts.{ShowsPicture}
 use Rattle.tw_device.specs.Deeds.{IsLedBy}
 use Rattle.tw_device.specs.Live.{outcome_in, frame_of, fresh_frame, run_over}
@@ -29,7 +26,7 @@ use Rattle.tw_device.specs.Terminal.{terminal_state}
 use Rattle.tw_device.specs.declared.terminal.AnsiTerminal.{AnsiTerminal}
 use Rattle.tw_device.proofs.DeedLemmas.{led_is_sent}
 use Rattle.tw_sent_runs.specs.SentReadings.{reading_frame, IsSentReading, ReadingPaintingsAreShown, ReadingClosingsAreShown}
-use Rattle.tw_sent_runs.specs.SentRuns.{ComesSent, sent_paintings, shown_by}
+use Rattle.tw_sent_runs.specs.SentRuns.{sent_paintings, shown_by}
 use Rattle.tw_sent_runs.proofs.ClosingLemmas.{sent_both, closings_are_shown}
 use Rattle.tw_sent_runs.proofs.SentLemmas.{paintings_are_shown}
 

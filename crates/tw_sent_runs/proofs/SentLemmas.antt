@@ -1,27 +1,26 @@
 -- A terminal that is sent the bytes of a run's batches shows the picture on which they were played.
-use Rattle.std.proofs.Common.{◌≡◌, ◌≤◌, ◌<◌, ◌+◌, ◌^◌, ℕ, Bool, true, false, Option, Some, None, List, [], ◌∷◌, ◌++◌, map, ap, subst, ◌∙◌, sym, refl, arith}
+use Rattle.std.proofs.Common.{◌≡◌, ◌≤◌, ◌<◌, ◌^◌, ℕ, Bool, true, false, Option, Some, None, List, [], ◌∷◌, ◌++◌, map, ap, subst, ◌∙◌, sym, refl, arith}
 use Rattle.std.specs.List.{All, AllByRecursion}
 use Rattle.std.proofs.lemmas.List.{map-append}
-use Rattle.tw_strokes.specs.Strokes.{PictureOf, steps_on}
+use Rattle.tw_strokes.specs.Strokes.{PictureOf}
 use Rattle.tw_surface.specs.ChangeView.{ChangeView, Batch}
 use Rattle.tw_surface.specs.ChangeView.{Attribute, AllAttributes, Text, ClearScreen, ClearToEndOfScreen, CursorPosition}
 use Rattle.tw_surface.specs.Defaults.{default_attributes, default_color}
-use Rattle.tw_surface.specs.Paintings.{Mark, painting, shown_part, cursor_place, mark_of, start_move, closing}
-use Rattle.tw_surface.specs.PaintingBatches.{SizedScene, shot_of, scenes_of, shots, clear_batch, clearing, start_of, batches, batches_after, closing_if, closing_batch, closing_of, run_batches, shown_batches}
+use Rattle.tw_surface.specs.Paintings.{Mark, painting, shown_part, cursor_place, mark_of, start_move}
+use Rattle.tw_surface.specs.PaintingBatches.{SizedScene, shot_of, scenes_of, shots, clear_batch, clearing, start_of, batches, batches_after, closing_of, shown_batches}
 use Rattle.tw_surface.specs.Places.{place_after_all, origin, move_between}
 use Rattle.tw_surface.specs.Scenes.{Scene}
 use Rattle.tw_surface.specs.Simple.{spelled_change, spelled_all, IsSimpleWide}
-use Rattle.tw_screens.specs.Pens.{Pen, strokes_of}
+use Rattle.tw_screens.specs.Pens.{Pen}
 use Rattle.tw_screens.specs.Screens.{play_sized}
 use Rattle.tw_screens.specs.SizedBatches.{sized_at, sized_after, sized_batches, spelled_sized}
 use Rattle.tw_screens.proofs.PlainScenes.{plain_chars}
 use Rattle.tw_screens.proofs.SizedBatchLemmas.{sized_batches_are}
 use Rattle.tw_host.specs.HostRules.{HostRules}
 use Rattle.tw_lineedit.specs.Frame.{Frame}
-use Rattle.tw_lineedit.specs.Run.{run_of}
-use Rattle.tw_lineedit.specs.ScreenRuns.{sized_scene, batches_of, shots_at}
+use Rattle.tw_lineedit.specs.ScreenRuns.{sized_scene, batches_of}
 use Rattle.tw_lineedit.specs.Stations.{Station}
-use Rattle.tw_screen_runs.specs.DrawnRuns.{play_stations, ComesSimply, ShowsDrawn}
+use Rattle.tw_screen_runs.specs.DrawnRuns.{play_stations, ComesSimply}
 use Rattle.tw_screen_runs.proofs.DrawnRunLemmas.{drawn_paintings}
 use Rattle.tw_ansi.specs.declared.encode.Encoder.{Encoder}
 use Rattle.tw_ansi.specs.EcmaLaws.{IsColor}
@@ -29,9 +28,8 @@ use Rattle.tw_ansi.specs.EcmaBatches.{CarriesAttributes}
 use Rattle.tw_ansi.specs.EcmaPaintings.{IsTypedChange, IsTypedScene, IsShowable, AreAllSendable, sent_batches}
 use Rattle.tw_ansi.specs.EcmaScreen.{EcmaScreen, receive_all}
 use Rattle.tw_ansi.specs.EcmaTexts.{ShowsPicture}
-use Rattle.tw_ansi.specs.Encoding.{sent_batch, sent_change}
 use Rattle.tw_ansi.proofs.EcmaPaintings.{shown, shown_typed, run_is_sendable, batches_are_shown}
-use Rattle.tw_sent_runs.specs.SentRuns.{IsSentAt, ComesSent, PaintingsAreShown}
+use Rattle.tw_sent_runs.specs.SentRuns.{IsSentAt, PaintingsAreShown}
 
 -- ---- characters for bytes
 

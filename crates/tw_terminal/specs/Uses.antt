@@ -1,5 +1,5 @@
 -- What contracts say of a terminal besides its state, call by call.
-use Rattle.std.specs.Prelude.{◌≡◌, List, [], ◌∷◌, ◌++◌}
+use Rattle.std.specs.Prelude.{◌≡◌, List, [], ◌∷◌}
 use Rattle.tw_surface.specs.ChangeView.{Batch}
 
 -- a call, as far as what is rendered goes: a batch was taken, a batch was refused, or nothing was rendered
