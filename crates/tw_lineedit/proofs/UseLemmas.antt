@@ -1,5 +1,5 @@
 -- Calls of a terminal, one after the other.
-use Rattle.std.proofs.Common.{◌≡◌, List, [], ◌∷◌, ◌++◌, refl}
+use Rattle.std.proofs.Common.{List, [], ◌∷◌, ◌++◌, refl}
 use Rattle.tw_terminal.specs.Uses.{Uses, IsUsed}
 
 module _ {T K : Type 0} (Follows : T → T → K → Type 0) where

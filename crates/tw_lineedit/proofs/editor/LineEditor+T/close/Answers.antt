@@ -8,12 +8,12 @@ returns-in_err-render-in-Some-clause-used g c = used_once g.T.Terminal.follows R
 
 pub returns-in_err-flush-clause-used : goal.returns-in_err-flush-clause-used
 returns-in_err-flush-clause-used g c = elim c.match-end.branch [
-    | in-None w ↦ used_once g.T.Terminal.follows Other _ _ (rw w.self-is at c.flush.ensures.follows)
-    | in-Some+in_ok-render-in-Some w ↦ used_then g.T.Terminal.follows _ w.render.new.self _ (used_once g.T.Terminal.follows _ _ _ w.in_ok-render-in-Some.ensures.took) (used_once g.T.Terminal.follows Other _ _ (rw w.self-is at c.flush.ensures.follows))
-    ]
+  | in-None w ↦ used_once g.T.Terminal.follows Other _ _ (rw w.self-is at c.flush.ensures.follows)
+  | in-Some+in_ok-render-in-Some w ↦ used_then g.T.Terminal.follows _ w.render.new.self _ (used_once g.T.Terminal.follows _ _ _ w.in_ok-render-in-Some.ensures.took) (used_once g.T.Terminal.follows Other _ _ (rw w.self-is at c.flush.ensures.follows))
+]
 
 pub returns-clause-used : goal.returns-clause-used
 returns-clause-used g c = elim c.match-end.branch [
-    | in-None w ↦ used_once g.T.Terminal.follows Other _ _ (rw w.self-is at c.flush.ensures.follows)
-    | in-Some+in_ok-render-in-Some w ↦ used_then g.T.Terminal.follows _ w.render.new.self _ (used_once g.T.Terminal.follows _ _ _ w.in_ok-render-in-Some.ensures.took) (used_once g.T.Terminal.follows Other _ _ (rw w.self-is at c.flush.ensures.follows))
-    ]
+  | in-None w ↦ used_once g.T.Terminal.follows Other _ _ (rw w.self-is at c.flush.ensures.follows)
+  | in-Some+in_ok-render-in-Some w ↦ used_then g.T.Terminal.follows _ w.render.new.self _ (used_once g.T.Terminal.follows _ _ _ w.in_ok-render-in-Some.ensures.took) (used_once g.T.Terminal.follows Other _ _ (rw w.self-is at c.flush.ensures.follows))
+]
