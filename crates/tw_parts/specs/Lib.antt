@@ -1,0 +1,2 @@
+pub mod SearchWatch
+pub mod WatchLaws
