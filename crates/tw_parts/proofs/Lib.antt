@@ -1,2 +1,3 @@
 pub mod WatchLemmas
 pub mod RunLemmas
+pub mod RingLemmas

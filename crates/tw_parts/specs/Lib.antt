@@ -1,2 +1,5 @@
+pub mod Keys
 pub mod SearchWatch
 pub mod WatchLaws
+pub mod Ring
+pub mod RingRules
