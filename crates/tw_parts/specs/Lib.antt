@@ -3,3 +3,4 @@ pub mod SearchWatch
 pub mod WatchLaws
 pub mod Ring
 pub mod RingRules
+pub mod RingLaws

@@ -1,9 +1,17 @@
 //! What follows from the definitions alone.
 
 ghost use Rattle.std.specs.Prelude.{Bool};
+ghost use Rattle.tw_input.specs.Equality.{ComparesValues};
+ghost use Rattle.tw_parts.specs.RingLaws.{KillIsLatest, KillsKeepLine, RingHasWatch, RingKeepsWatch, YankGivesBack};
 ghost use Rattle.tw_parts.specs.WatchLaws.{IsOffBehindLines, TellsReadings, TellsRuns};
 
+use crate::ring::Latest;
 use tw_host::LineEditorHost;
+
+/// `==` is equality of values.
+pub fn equality()
+    ensures { ComparesValues ⟦<Latest as PartialEq>⟧.eq }
+{}
 
 /// A watch that follows what comes of a host's answers says at each event of a run whether the editor searches, where it
 /// does at the beginning; so it does in each reading that begins while it is off, and behind one that was accepted or
@@ -12,4 +20,18 @@ pub fn watch<H: LineEditorHost>()
     ensures runs { (watch : H.Value → Bool) → TellsRuns H.rules watch }
     ensures readings { (watch : H.Value → Bool) → TellsReadings H.rules watch }
     ensures off { (watch : H.Value → Bool) → IsOffBehindLines H.rules watch }
+{}
+
+/// One kill, or many in a row, each of which leaves the cursor where it killed, and a yank right behind them give back
+/// the line that stood before the first.
+pub fn kills()
+    ensures kept { KillsKeepLine }
+    ensures latest { KillIsLatest }
+    ensures given_back { YankGivesBack }
+{}
+
+/// A ring's watch is one for its host, and it leaves those of the host below as they are: such hosts stack.
+pub fn ring<H: LineEditorHost>()
+    ensures own { RingHasWatch H.rules }
+    ensures below { RingKeepsWatch H.rules }
 {}

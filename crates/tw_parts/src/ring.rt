@@ -74,7 +74,11 @@ fn is_kept(movement: Movement) -> bool
 fn kept_movement(movement: Movement) -> Option<Movement>
     ensures { result ≡ kept_movement movement }
 {
-    if is_kept(movement) { Some(movement) } else { None }
+    if is_kept(movement) {
+        Some(movement)
+    } else {
+        None
+    }
 }
 
 /// How far an action kills, if it kills what is kept.
@@ -167,7 +171,11 @@ impl KillRing {
             Some(newest) => newest.as_str(),
             None => "",
         };
-        let (front, back) = if ahead { (newest, killed) } else { (killed, newest) };
+        let (front, back) = if ahead {
+            (newest, killed)
+        } else {
+            (killed, newest)
+        };
         let Ok(()) = text.push_str(front) else {
             unreachable!()
         };
@@ -238,7 +246,13 @@ impl KillRing {
 
     /// Takes in the action that comes of an event, if one does. `editor` has the line as the host leaves it, and `lines`
     /// says whether the history has lines.
-    pub fn follow(&mut self, action: Option<&Action>, lines: bool, room: Room, editor: &LineEditBuffer)
+    pub fn follow(
+        &mut self,
+        action: Option<&Action>,
+        lines: bool,
+        room: Room,
+        editor: &LineEditBuffer,
+    )
         requires empty { string_bytes room.text ≡ [] }
         requires text { length (newest_kill (map string_bytes self.old.kills.items)) + length room.line.line ≤ string_capacity room.text }
         requires kills { vec_len self.old.kills < vec_capacity self.old.kills }
@@ -255,7 +269,12 @@ impl KillRing {
     }
 
     /// The kill with an index comes back into a line, if there is one.
-    fn yank(&self, alloc: Global, index: usize, line: LineEditBuffer) -> Result<Option<Yank>, AllocError>
+    fn yank(
+        &self,
+        alloc: Global,
+        index: usize,
+        line: LineEditBuffer,
+    ) -> Result<Option<Yank>, AllocError>
         ensures { IfOk result (λ yank. option_map yank_view yank ≡ yank_of (map string_bytes self.now.kills.items) index line) }
     {
         let Some(kill) = self.kills.get(index) else {
@@ -304,7 +323,11 @@ impl KillRing {
             return Ok(None);
         }
         if is_key(YANK, event) {
-            return self.yank(alloc, self.kills.len().saturating_sub(1), copy_of(alloc, editor)?);
+            return self.yank(
+                alloc,
+                self.kills.len().saturating_sub(1),
+                copy_of(alloc, editor)?,
+            );
         }
         if is_key(ROTATE, event) {
             return self.rotate(alloc, editor);

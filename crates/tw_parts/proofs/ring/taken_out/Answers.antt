@@ -1,4 +1,4 @@
-use Rattle.std.proofs.Common.{◌≡◌, ◌≤◌, length, sym, ◌∙◌, rules, arith}
+use Rattle.std.proofs.Common.{rules}
 use Rattle.tw_parts.proofs.RingLemmas.{not_there, there}
 use Rattle.tw_parts.proofs.ring.taken_out.Goals as goal
 
