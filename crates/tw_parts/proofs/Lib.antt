@@ -5,3 +5,4 @@ pub mod KeyLemmas
 pub mod RingLawLemmas
 pub mod KillLemmas
 pub mod GivenBackLemmas
+pub mod UndoLemmas

@@ -19,3 +19,7 @@ yank_key = key_press ctrl (letter (codes "Y"))
 -- brings another one back in its place
 abbrev pub rotate_key : KeyEvent
 rotate_key = key_press alt (letter (codes "y"))
+
+-- brings the line before the last step back
+abbrev pub undo_key : KeyEvent
+undo_key = key_press ctrl (letter (codes "_"))

@@ -4,3 +4,5 @@ pub mod WatchLaws
 pub mod Ring
 pub mod RingRules
 pub mod RingLaws
+pub mod Undo
+pub mod UndoRules

@@ -19,6 +19,12 @@ pub const ROTATE: KeyEvent = KeyEvent {
     modifiers: Modifiers::ALT,
 };
 
+/// Brings the line before the last step back.
+pub const UNDO: KeyEvent = KeyEvent {
+    key: KeyCode::Char('_'),
+    modifiers: Modifiers::CTRL,
+};
+
 /// Whether two keys are the same, with their modifiers.
 fn is_same_key(key: KeyEvent, other: KeyEvent) -> bool
     ensures { result ≡ is_same_key key other }

@@ -5,9 +5,13 @@ mod cuts;
 mod keys;
 pub mod laws;
 mod ring;
+mod undo;
 mod watch;
 mod with_ring;
+mod with_undo;
 
 pub use ring::{KillRing, Latest, Room, Yank};
+pub use undo::UndoSteps;
 pub use watch::{SearchWatch, has_lines};
 pub use with_ring::WithRing;
+pub use with_undo::WithUndo;
