@@ -6,3 +6,4 @@ pub mod RingLawLemmas
 pub mod KillLemmas
 pub mod GivenBackLemmas
 pub mod UndoLemmas
+pub mod UndoLawLemmas

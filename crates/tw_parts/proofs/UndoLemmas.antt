@@ -1,5 +1,5 @@
 -- The last step that changed the line, from the last step on backwards.
-use Rattle.std.proofs.Common.{◌≡◌, ◌≤◌, ◌<◌, ◌+◌, ◌-◌, ℕ, zero, suc, List, [], ◌∷◌, ◌++◌, length, take, eqb, Option, Some, None, Bool, true, false, not, refl, ap, sym, ◌∙◌, subst, if◌then◌else◌, arith, rules, length-append, get_or}
+use Rattle.std.proofs.Common.{◌≡◌, ◌≤◌, ◌+◌, ℕ, suc, List, [], ◌∷◌, ◌++◌, length, take, eqb, Some, None, Bool, true, false, not, refl, ap, sym, ◌∙◌, if◌then◌else◌, arith, length-append, get_or}
 use Rattle.std.specs.Cmp.Lexicographic.{pointwise}
 use Rattle.std.proofs.lemmas.List.{get_or_push, get_or-take, take-take, take_at}
 use Rattle.tw_extremes.specs.Extremes.{greatest_below}

@@ -6,3 +6,4 @@ pub mod RingRules
 pub mod RingLaws
 pub mod Undo
 pub mod UndoRules
+pub mod UndoLaws

@@ -3,6 +3,7 @@
 ghost use Rattle.std.specs.Prelude.{Bool};
 ghost use Rattle.tw_input.specs.Equality.{ComparesValues};
 ghost use Rattle.tw_parts.specs.RingLaws.{KillIsLatest, KillsKeepLine, RingHasWatch, RingKeepsWatch, YankGivesBack};
+ghost use Rattle.tw_parts.specs.UndoLaws.{UndoHasWatch, UndoKeepsOldest, UndoKeepsWatch, UndosGiveOldest};
 ghost use Rattle.tw_parts.specs.WatchLaws.{IsOffBehindLines, TellsReadings, TellsRuns};
 
 use crate::ring::Latest;
@@ -34,4 +35,16 @@ pub fn kills()
 pub fn ring<H: LineEditorHost>()
     ensures own { RingHasWatch H.rules }
     ensures below { RingKeepsWatch H.rules }
+{}
+
+/// As many undos as there are steps give the oldest line, and each of them keeps it.
+pub fn undos()
+    ensures kept { UndoKeepsOldest }
+    ensures given { UndosGiveOldest }
+{}
+
+/// The watch of the steps is one for its host, and it leaves those of the host below as they are.
+pub fn steps<H: LineEditorHost>()
+    ensures own { UndoHasWatch H.rules }
+    ensures below { UndoKeepsWatch H.rules }
 {}

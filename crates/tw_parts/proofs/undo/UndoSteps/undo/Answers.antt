@@ -1,6 +1,5 @@
-use Rattle.std.proofs.Common.{◌≡◌, ◌∙◌, [], refl, ap, rules, length, sym, arith, eqb, true, false, Some, not}
+use Rattle.std.proofs.Common.{◌≡◌, [], refl, ap, rules, eqb, true, false, Some}
 use Rattle.std.specs.Cmp.Lexicographic.{pointwise}
-use Rattle.tw_parts.specs.Undo.{last_change, step_at}
 use Rattle.tw_parts.proofs.UndoLemmas.{are_first, goes_back, is_at, is_change, none_left}
 use Rattle.tw_parts.proofs.undo.UndoSteps.undo.Goals as goal
 
