@@ -7,3 +7,4 @@ pub mod RingLaws
 pub mod Undo
 pub mod UndoRules
 pub mod UndoLaws
+pub mod ReadlineKeys

@@ -2,6 +2,7 @@
 
 ghost use Rattle.std.specs.Prelude.{Bool};
 ghost use Rattle.tw_input.specs.Equality.{ComparesValues};
+ghost use Rattle.tw_parts.specs.ReadlineKeys.{RowsAreDistinct, RowsAreNew};
 ghost use Rattle.tw_parts.specs.RingLaws.{KillIsLatest, KillsKeepLine, RingHasWatch, RingKeepsWatch, YankGivesBack};
 ghost use Rattle.tw_parts.specs.UndoLaws.{UndoHasWatch, UndoKeepsOldest, UndoKeepsWatch, UndosGiveOldest};
 ghost use Rattle.tw_parts.specs.WatchLaws.{IsOffBehindLines, TellsReadings, TellsRuns};
@@ -47,4 +48,10 @@ pub fn undos()
 pub fn steps<H: LineEditorHost>()
     ensures own { UndoHasWatch H.rules }
     ensures below { UndoKeepsWatch H.rules }
+{}
+
+/// The keys of readline are not in the key table, and none of them stands in two rows.
+pub fn readline_table()
+    ensures new { RowsAreNew }
+    ensures distinct { RowsAreDistinct }
 {}

@@ -4,12 +4,14 @@
 mod cuts;
 mod keys;
 pub mod laws;
+mod readline_keys;
 mod ring;
 mod undo;
 mod watch;
 mod with_ring;
 mod with_undo;
 
+pub use readline_keys::{WithReadlineKeys, readline_key};
 pub use ring::{KillRing, Latest, Room, Yank};
 pub use undo::UndoSteps;
 pub use watch::{SearchWatch, has_lines};

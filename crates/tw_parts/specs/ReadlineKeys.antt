@@ -1,0 +1,58 @@
+-- Keys of readline that the key table has not.
+use Rattle.std.specs.Prelude.{◌≡◌, ◌≢◌, ℕ, ◌==◌, ◌&&◌, Bool, not, All, AllPairs, List, [], ◌∷◌, length, codes, Option, Some, None, if◌then◌else◌}
+use Rattle.std.specs.Option.{option_or}
+use Rattle.tw_input.specs.declared.key.KeyCode.TheVariants.{Backspace, LeftArrow, RightArrow}
+use Rattle.tw_input.specs.declared.key.KeyEvent.{KeyEvent}
+use Rattle.tw_input.specs.EventView.{EventView, Key, Resized, Paste, Wake}
+use Rattle.tw_input.specs.Modifiers.{alt, ctrl}
+use Rattle.tw_line.specs.Cut.{Cut}
+use Rattle.tw_line.specs.declared.movements.Movement.TheVariants as movement
+use Rattle.tw_host.specs.ActionView.{ActionView, Kill, KillAndMove, Move}
+use Rattle.tw_host.specs.HostRules.{HostRules, Resolution}
+use Rattle.tw_host.specs.KeyTable.{is_same_key, key_press, key_table, letter, looked_up}
+
+-- the keys with an action of their own
+abbrev pub readline_table : List (KeyEvent × ActionView)
+readline_table =
+    (key_press ctrl (letter (codes "U")), Kill movement.StartOfLine)
+    ∷ (key_press ctrl LeftArrow, Move (movement.BackwardWord 1))
+    ∷ (key_press ctrl RightArrow, Move (movement.ForwardWord 1))
+    ∷ (key_press alt (letter (codes "d")), KillAndMove (movement.ForwardWord 1) movement.None)
+    ∷ (key_press alt Backspace, Kill (movement.BackwardWord 1))
+    ∷ []
+
+-- the key that deletes in a line, and on an empty line is left to the key table
+abbrev pub delete_key : KeyEvent
+delete_key = key_press ctrl (letter (codes "D"))
+
+-- what that key does
+abbrev pub delete_action : KeyEvent → Cut → Option ActionView
+delete_action key cut =
+    if is_same_key key delete_key && not (length cut.line == 0) then Some (KillAndMove (movement.ForwardChar 1) movement.None) else None
+
+-- the action of a key in a line
+abbrev pub readline_key : KeyEvent → Cut → Option ActionView
+readline_key key cut = option_or (looked_up readline_table key) (delete_action key cut)
+
+-- the action of an event in a line
+abbrev pub readline_action : EventView → Cut → Option ActionView
+readline_action (Key key) cut = readline_key key cut
+readline_action (Resized cols rows) cut = None
+readline_action (Paste text) cut = None
+readline_action Wake cut = None
+
+module _ {V : Type 0} (rules : HostRules V) where
+  -- the host's answer, with the action of the keys where it has none
+  abbrev pub with_key : EventView → Resolution V → Resolution V
+  with_key event r = record { value = r.value; cut = r.cut; action = option_or r.action (readline_action event r.cut) }
+
+  -- the host's answers, but for the keys
+  abbrev pub readline_rules : HostRules V
+  readline_rules = record rules { resolve = λ v event cut. with_key event (rules.resolve v event cut) }
+
+-- no key stands in two rows, none of them is a row of the key table, and each row is found by its key
+abbrev pub RowsAreNew : Type 0
+RowsAreNew = All (λ row. looked_up key_table row.0 ≡ None) readline_table
+
+abbrev pub RowsAreDistinct : Type 0
+RowsAreDistinct = AllPairs (λ row later. row.0 ≢ later.0) readline_table
