@@ -4,8 +4,8 @@ use host_testing::script_events;
 use std::alloc::Global;
 use std::process::Abort;
 use std::test::Fail;
-use tw_lineedit::{Error, LineEditor, LineEditorHost, NopLineEditorHost};
-use tw_parts::{WithReadlineKeys, WithRing, WithUndo};
+use tw_lineedit::{BasicHistory, Error, LineEditor, LineEditorHost, NopLineEditorHost};
+use tw_parts::{WithHint, WithReadlineKeys, WithRing, WithUndo};
 use tw_terminal::{ScreenSize, ScriptTerminal};
 
 /// A plain host with keys of readline, whose kills come back and whose edits are undone.
@@ -126,5 +126,27 @@ fn an_empty_line_ends_the_input(rt: HostRuntime) -> Result<(), Fail> {
     let mut terminal = ScriptTerminal::new(alloc, size, script_events(alloc, script)?);
     let answer = LineEditor::new(alloc, &mut terminal)?.read_line(&mut host);
     assert!(rt; matches!(answer, Err(Error::EndOfFile)));
+    Ok(())
+}
+
+/// As fish and zsh-autosuggestions tell it: the rest of the newest line that begins with the typed one.
+#[test]
+fn hints_are_taken(rt: HostRuntime) -> Result<(), Fail> {
+    let alloc = rt.alloc();
+    let mut host = WithHint::new(NopLineEditorHost::new(alloc), BasicHistory::new(alloc));
+    for &(script, answer) in &[
+        ("type copy a b\nkey Enter", "copy a b"),
+        ("type cop\nkey Right\nkey Enter", "copy a b"),
+        ("type copy x\nkey Enter", "copy x"),
+        ("type co\nkey End\nkey Enter", "copy x"),
+        ("type copy\nkey Left\nkey Right\nkey Enter", "copy"),
+        ("key Right\ntype z\nkey Right\nkey Enter", "z"),
+        ("key C-R\ntype copy\nkey Right\nkey Enter", "copy"),
+    ] {
+        let size = ScreenSize { rows: 24, cols: 80 };
+        let mut terminal = ScriptTerminal::new(alloc, size, script_events(alloc, script)?);
+        let line = LineEditor::new(alloc, &mut terminal)?.read_line_and_remember(&mut host)?;
+        assert!(rt; line.as_deref() == Some(answer), "{script:?}");
+    }
     Ok(())
 }

@@ -7,3 +7,5 @@ pub mod KillLemmas
 pub mod GivenBackLemmas
 pub mod UndoLemmas
 pub mod UndoLawLemmas
+pub mod HintLemmas
+pub mod HintLawLemmas

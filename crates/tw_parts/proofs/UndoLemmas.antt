@@ -7,7 +7,7 @@ use Rattle.tw_line.specs.Cut.{Cut, empty_cut}
 use Rattle.tw_parts.specs.Undo.{step_at, is_other, last_change}
 
 -- the greatest number below one more
-one_more : (p : ℕ → Bool) (n : ℕ) (b : Bool) → p n ≡ b → greatest_below p (n + 1) ≡ (if b then Some n else greatest_below p n)
+pub one_more : (p : ℕ → Bool) (n : ℕ) (b : Bool) → p n ≡ b → greatest_below p (n + 1) ≡ (if b then Some n else greatest_below p n)
 unfolding greatest_below
 one_more p n b e = let next : n + 1 ≡ suc n = omega arith in ap (greatest_below p) next ∙ ap (λ b. if b then Some n else greatest_below p n) e
 

@@ -8,3 +8,5 @@ pub mod Undo
 pub mod UndoRules
 pub mod UndoLaws
 pub mod ReadlineKeys
+pub mod Hint
+pub mod HintLaws

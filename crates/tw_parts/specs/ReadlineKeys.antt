@@ -1,5 +1,5 @@
 -- Keys of readline that the key table has not.
-use Rattle.std.specs.Prelude.{◌≡◌, ◌≢◌, ℕ, ◌==◌, ◌&&◌, Bool, not, All, AllPairs, List, [], ◌∷◌, length, codes, Option, Some, None, if◌then◌else◌}
+use Rattle.std.specs.Prelude.{◌≡◌, ◌≢◌, ◌==◌, ◌&&◌, not, All, AllPairs, List, [], ◌∷◌, length, codes, Option, Some, None, if◌then◌else◌}
 use Rattle.std.specs.Option.{option_or}
 use Rattle.tw_input.specs.declared.key.KeyCode.TheVariants.{Backspace, LeftArrow, RightArrow}
 use Rattle.tw_input.specs.declared.key.KeyEvent.{KeyEvent}

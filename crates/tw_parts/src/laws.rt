@@ -2,6 +2,7 @@
 
 ghost use Rattle.std.specs.Prelude.{Bool};
 ghost use Rattle.tw_input.specs.Equality.{ComparesValues};
+ghost use Rattle.tw_parts.specs.HintLaws.{HintHasWatch};
 ghost use Rattle.tw_parts.specs.ReadlineKeys.{RowsAreDistinct, RowsAreNew};
 ghost use Rattle.tw_parts.specs.RingLaws.{KillIsLatest, KillsKeepLine, RingHasWatch, RingKeepsWatch, YankGivesBack};
 ghost use Rattle.tw_parts.specs.UndoLaws.{UndoHasWatch, UndoKeepsOldest, UndoKeepsWatch, UndosGiveOldest};
@@ -54,4 +55,9 @@ pub fn steps<H: LineEditorHost>()
 pub fn readline_table()
     ensures new { RowsAreNew }
     ensures distinct { RowsAreDistinct }
+{}
+
+/// The watch of a host with hints is one for it.
+pub fn hint<H: LineEditorHost>()
+    ensures { HintHasWatch H.rules }
 {}

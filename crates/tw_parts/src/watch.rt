@@ -59,6 +59,13 @@ impl SearchWatch {
     }
 }
 
+/// Whether a history has lines. It takes no memory.
+pub fn is_filled<L: History>(history: &L) -> bool
+    ensures { result ≡ has_lines (L.lines history.now) }
+{
+    history.last().is_some()
+}
+
 /// Whether a host's history has lines.
 pub fn has_lines<H: LineEditorHost>(host: &mut H) -> bool
     ensures value { result ≡ has_lines (H.rules.lines (H.value host.old)) }
