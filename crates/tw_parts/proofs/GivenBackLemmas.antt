@@ -11,7 +11,7 @@ use Rattle.tw_line.specs.Edits.{with_text}
 use Rattle.tw_line.specs.Movements.{destination}
 use Rattle.tw_line.specs.declared.movements.Movement.{Movement}
 use Rattle.tw_host.specs.ActionView.{ActionView}
-use Rattle.tw_parts.specs.Ring.{Ring, is_same_cut, kill_of, killing, killed_by, is_ahead, joined, newest_kill, kills_with, after_nothing, with_killed, with_killing, with_room, ring_after, yank_of}
+use Rattle.tw_parts.specs.Ring.{Ring, is_same_cut, kill_of, killing, killed_by, leads_onward, joined, newest_kill, kills_with, after_nothing, with_killed, with_killing, with_room, ring_after, yank_of}
 use Rattle.tw_parts.specs.RingLaws.{line_before, KillsKeepLine, KillIsLatest, YankGivesBack}
 use Rattle.tw_parts.specs.declared.ring.Latest.{Latest}
 use Rattle.tw_parts.specs.declared.ring.Latest.TheVariants as latest
@@ -23,8 +23,8 @@ same_cut cut = and_from _ (cut.cursor == cut.cursor) ((bytes_eq-Decides cut.line
 
 -- the ring behind a kill in place
 killed_ring : (lines : Bool) (action : ActionView) (m : Movement) (old : Cut) (r : Ring) → r.searching ≡ false → killing (Some action) ≡ Some m
-    → ((ring_after lines (Some action) old old r).latest ≡ (with_killed (is_ahead m old) (killed_by m old) r).latest)
-    × ((ring_after lines (Some action) old old r).kills ≡ (with_killed (is_ahead m old) (killed_by m old) r).kills)
+    → ((ring_after lines (Some action) old old r).latest ≡ (with_killed (leads_onward m old) (killed_by m old) r).latest)
+    × ((ring_after lines (Some action) old old r).kills ≡ (with_killed (leads_onward m old) (killed_by m old) r).kills)
 killed_ring lines action m old r still kills =
     let there : kill_of r.searching (Some action) old old ≡ Some m = rw (still, same_cut old) kills in
     (ap (λ k. (with_killing k old r).latest) there, ap (λ k. (with_killing k old r).kills) there)
@@ -62,13 +62,13 @@ module _ (m : Movement) (old new : Cut) (inside : old.cursor ≤ length old.line
     (line : new.line ≡ remove_range old.line (min old.cursor (destination m old)) (max old.cursor (destination m old)))
     (cursor : new.cursor ≡ min old.cursor (destination m old)) where
   -- a text with what was killed, put in at the new cursor
-  joined_back : (text : List ℕ) → (with_text (joined (is_ahead m old) text (killed_by m old)) new).line ≡ (with_text text old).line
+  joined_back : (text : List ℕ) → (with_text (joined (leads_onward m old) text (killed_by m old)) new).line ≡ (with_text text old).line
   joined_back text = rw (line, cursor) (put_joined old.line text old.cursor (destination m old) inside)
 
   -- what was killed, put in at the new cursor
   killed_back : (with_text (killed_by m old) new).line ≡ old.line
   killed_back =
-      ap (λ text. (with_text text new).line) (sym (nothing_joined (is_ahead m old) (killed_by m old)))
+      ap (λ text. (with_text text new).line) (sym (nothing_joined (leads_onward m old) (killed_by m old)))
       ∙ joined_back [] ∙ nothing_in old.line old.cursor
 
   -- where nothing was killed the line stays
@@ -77,9 +77,9 @@ module _ (m : Movement) (old new : Cut) (inside : old.cursor ≤ length old.line
 
   -- by what was done last, and whether anything was killed
   kept_line : (l : Latest) (kills : List (List ℕ)) (nothing : Bool) → (length (killed_by m old) == 0) ≡ nothing
-      → line_before (if nothing then after_nothing l else latest.Kill) (if nothing then kills else kills_with l (is_ahead m old) (killed_by m old) kills) new ≡ line_before l kills old
+      → line_before (if nothing then after_nothing l else latest.Kill) (if nothing then kills else kills_with l (leads_onward m old) (killed_by m old) kills) new ≡ line_before l kills old
   kept_line latest.Kill kills true e =
-      ap (λ text. (with_text text new).line) (sym (joined_to_nothing (is_ahead m old) (newest_kill kills) (killed_by m old) (no_elements (killed_by m old) e)))
+      ap (λ text. (with_text text new).line) (sym (joined_to_nothing (leads_onward m old) (newest_kill kills) (killed_by m old) (no_elements (killed_by m old) e)))
       ∙ joined_back (newest_kill kills)
   kept_line (latest.Yank i) kills true e = same_line e
   kept_line latest.Other kills true e = same_line e
@@ -98,7 +98,7 @@ killed_parts ahead text r false e = (rw e refl, rw e refl)
 pub kills_keep_line : KillsKeepLine
 kills_keep_line lines action m old new r still in_place =
     let ring = killed_ring lines action m old r still in_place.kills in
-    let parts = killed_parts (is_ahead m old) (killed_by m old) r (length (killed_by m old) == 0) refl in
+    let parts = killed_parts (leads_onward m old) (killed_by m old) r (length (killed_by m old) == 0) refl in
     ap (λ l. line_before l (ring_after lines (Some action) old old r).kills new) (ring.0 ∙ parts.0)
     ∙ ap (λ kills. line_before (if length (killed_by m old) == 0 then after_nothing r.latest else latest.Kill) kills new) (ring.1 ∙ parts.1)
     ∙ kept_line m old new in_place.inside in_place.line in_place.cursor r.latest r.kills (length (killed_by m old) == 0) refl
@@ -106,9 +106,9 @@ kills_keep_line lines action m old new r still in_place =
 pub kill_is_latest : KillIsLatest
 kill_is_latest lines action m old r still kills some = (killed_ring lines action m old r still kills).0 ∙ by (length (killed_by m old) == 0) refl
   where
-    by : (nothing : Bool) → (length (killed_by m old) == 0) ≡ nothing → (with_killed (is_ahead m old) (killed_by m old) r).latest ≡ latest.Kill
+    by : (nothing : Bool) → (length (killed_by m old) == 0) ≡ nothing → (with_killed (leads_onward m old) (killed_by m old) r).latest ≡ latest.Kill
     by true e = absurd (some (no_elements (killed_by m old) e))
-    by false e = (killed_parts (is_ahead m old) (killed_by m old) r false e).0
+    by false e = (killed_parts (leads_onward m old) (killed_by m old) r false e).0
 
 pub yank_gives_back : YankGivesBack
 yank_gives_back r cut still last some = rw (still, last) (newest_back r.kills some)

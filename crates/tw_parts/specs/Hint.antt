@@ -51,12 +51,12 @@ pub record Hinted (V : Type 0) : Type 0 where
   pub searching : Bool
 
 -- what an action puts in behind the line, by the lines that are lent and by whether the editor searches
-abbrev pub taken_by : List (List ℕ) → Bool → Option ActionView → Cut → Option (List ℕ)
-taken_by lent searching action cut = if searching || not (is_taking action cut) then None else hint_of lent cut.line
+abbrev pub hint_taken_by : List (List ℕ) → Bool → Option ActionView → Cut → Option (List ℕ)
+hint_taken_by lent searching action cut = if searching || not (is_taking action cut) then None else hint_of lent cut.line
 
 -- what an event puts in behind the line
 abbrev pub taken : {V : Type 0} → Hinted V → EventView → Cut → Option (List ℕ)
-taken v event cut = taken_by v.lent v.searching (action_of event) cut
+taken v event cut = hint_taken_by v.lent v.searching (action_of event) cut
 
 -- what another host shows under the line, or where it shows nothing the hint
 abbrev pub shown_under : List ElementView → Option (List ℕ) → List ElementView

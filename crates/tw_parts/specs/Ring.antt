@@ -60,8 +60,8 @@ abbrev pub killed_by : Movement → Cut → List ℕ
 killed_by m cut = slice_range cut.line (min cut.cursor (destination m cut)) (max cut.cursor (destination m cut))
 
 -- whether it lies behind the cursor
-abbrev pub is_ahead : Movement → Cut → Bool
-is_ahead m cut = nat_lt cut.cursor (destination m cut)
+abbrev pub leads_onward : Movement → Cut → Bool
+leads_onward m cut = nat_lt cut.cursor (destination m cut)
 
 -- ---- what is kept
 
@@ -102,7 +102,7 @@ with_killed ahead text r =
 -- a kill by a movement, if there is one; all else ends kills and yanks
 abbrev pub with_killing : Option Movement → Cut → Ring → Ring
 with_killing None cut r = record r { latest = latest.Other }
-with_killing (Some m) cut r = with_killed (is_ahead m cut) (killed_by m cut) r
+with_killing (Some m) cut r = with_killed (leads_onward m cut) (killed_by m cut) r
 
 -- whether two cut texts are the same
 abbrev pub is_same_cut : Cut → Cut → Bool

@@ -38,9 +38,9 @@ is_edit HistoryIncSearchForwards = true
 is_edit _ = false
 
 -- an action that types a character
-abbrev pub is_typing : ActionView → Bool
-is_typing (InsertChar r x) = true
-is_typing _ = false
+abbrev pub types_character : ActionView → Bool
+types_character (InsertChar r x) = true
+types_character _ = false
 
 -- an action that ends a reading
 abbrev pub is_end : ActionView → Bool
@@ -59,8 +59,8 @@ abbrev pub is_same_line : Cut → Cut → Bool
 is_same_line a b = pointwise eqb a.line b.line
 
 -- the typing goes on: a character is typed right behind others, and the host left the line as it was
-abbrev pub goes_on : Option ActionView → Cut → Cut → Bool → Bool
-goes_on action cut new typing = typing && (if_any is_typing action && is_same_line cut new)
+abbrev pub typing_goes_on : Option ActionView → Cut → Cut → Bool → Bool
+typing_goes_on action cut new typing = typing && (if_any types_character action && is_same_line cut new)
 
 -- a step begins: an edit, or a host that changed the line itself
 abbrev pub is_step : Option ActionView → Cut → Cut → Bool
@@ -68,14 +68,14 @@ is_step action cut new = if_any is_edit action || not (is_same_line cut new)
 
 -- the cut texts before the steps, with one more where a step begins; typing that goes on is none
 abbrev pub steps_with : Option ActionView → Cut → Cut → Undo → List Cut
-steps_with action cut new u = if is_step action cut new && not (goes_on action cut new u.typing) then u.before ++ cut ∷ [] else u.before
+steps_with action cut new u = if is_step action cut new && not (typing_goes_on action cut new u.typing) then u.before ++ cut ∷ [] else u.before
 
 -- whether the last step is typing that goes on: where a character was typed it is, and where nothing is done it is as before
 abbrev pub typing_after : Option ActionView → Bool → Bool
 typing_after None typing = typing
 typing_after (Some NoAction) typing = typing
 typing_after (Some Repaint) typing = typing
-typing_after (Some action) typing = is_typing action
+typing_after (Some action) typing = types_character action
 
 -- the steps behind an action of a line that is edited: a reading that ends leaves none
 abbrev pub steps_after : Option ActionView → Cut → Cut → Undo → List Cut

@@ -7,7 +7,7 @@ ghost use Rattle.std.specs.Str.{IsCharBoundary};
 ghost use Rattle.tw_input.specs.EventView.{event_view};
 ghost use Rattle.tw_host.specs.ActionView.{action_view};
 ghost use Rattle.tw_parts.specs.declared.ring.Latest.TheVariants as Latest;
-ghost use Rattle.tw_parts.specs.Ring.{index_below, is_ahead, is_kept, joined, kept_movement, kill_of, killed_by, killing, newest_kill, ring_after, ring_view, rotated, taken_out, with_killed, with_killing, with_room, yank_by, yank_into, yank_of, yank_view};
+ghost use Rattle.tw_parts.specs.Ring.{index_below, leads_onward, is_kept, joined, kept_movement, kill_of, killed_by, killing, newest_kill, ring_after, ring_view, rotated, taken_out, with_killed, with_killing, with_room, yank_by, yank_into, yank_of, yank_view};
 
 use crate::cuts::{copy_of, is_same};
 use crate::keys::{ROTATE, YANK, is_key};

@@ -3,7 +3,7 @@
 ghost use Rattle.std.specs.Prelude.{◌≡◌, ◌++◌, ◌∷◌, ◌<◌, [], IfOk, OnOk, OnErr, length, option_map};
 ghost use Rattle.std.specs.Vec.{vec_capacity, vec_len};
 ghost use Rattle.tw_host.specs.ActionView.{action_view};
-ghost use Rattle.tw_parts.specs.Undo.{before_change, goes_on, if_any, is_edit, is_end, is_same_line, is_typing, no_steps, steps_after, steps_with, typing_after, undo_after, undo_behind, undo_view};
+ghost use Rattle.tw_parts.specs.Undo.{before_change, typing_goes_on, if_any, is_edit, is_end, is_same_line, types_character, no_steps, steps_after, steps_with, typing_after, undo_after, undo_behind, undo_view};
 
 use crate::watch::SearchWatch;
 use std::alloc::{AllocError, Global};
@@ -46,8 +46,8 @@ fn is_edit(action: Option<&Action>) -> bool
 }
 
 /// Whether an action types a character.
-fn is_typing(action: Option<&Action>) -> bool
-    ensures { result ≡ if_any is_typing (option_map (λ action. action_view action.now) action.entry) }
+fn types_character(action: Option<&Action>) -> bool
+    ensures { result ≡ if_any types_character (option_map (λ action. action_view action.now) action.entry) }
 {
     matches!(action, Some(Action::InsertChar(_, _)))
 }
@@ -68,7 +68,7 @@ fn typing_after(action: Option<&Action>, typing: bool) -> bool
 {
     match action {
         None | Some(Action::NoAction | Action::Repaint) => typing,
-        Some(_) => is_typing(action),
+        Some(_) => types_character(action),
     }
 }
 
@@ -118,7 +118,7 @@ impl UndoSteps {
         ensures watch { self.new.watch ≡ self.old.watch }
     {
         let is_same = is_same_line(&line, editor);
-        let goes_on = self.typing && is_typing(action) && is_same;
+        let goes_on = self.typing && types_character(action) && is_same;
         if (is_edit(action) || !is_same) && !goes_on {
             let Ok(()) = self.before.push(line) else {
                 unreachable!()

@@ -3,7 +3,7 @@
 ghost use Rattle.std.specs.Prelude.{◌≡◌, false, refl, IfOk, IfSome, option_map, string_bytes};
 ghost use Rattle.tw_host.specs.ActionView.{action_view};
 ghost use Rattle.tw_host.specs.PlainAnswers.{all_overrides, no_plain_left};
-ghost use Rattle.tw_parts.specs.Hint.{Hinted, hint_rules, taken_by};
+ghost use Rattle.tw_parts.specs.Hint.{Hinted, hint_rules, hint_taken_by};
 
 use crate::cuts::copy_of;
 use crate::hint::{history_hint, is_taking};
@@ -66,7 +66,7 @@ impl<H: LineEditorHost, L: History + LentLines> WithHint<H, L> {
         editor: &LineEditBuffer,
     ) -> Result<Option<(LineEditBuffer, String)>, AllocError>
         ensures rest { IfOk result (λ hint. option_map (λ pair. string_bytes pair.1) hint
-            ≡ taken_by (L.LentLines.lines self.now.history) self.now.watch (option_map (λ action. action_view action.now) action.entry) editor.now) }
+            ≡ hint_taken_by (L.LentLines.lines self.now.history) self.now.watch (option_map (λ action. action_view action.now) action.entry) editor.now) }
         ensures line { IfOk result (λ hint. IfSome hint (λ pair. pair.0 ≡ editor.now)) }
     {
         if self.watch.is_on() || !is_taking(action, editor) {
