@@ -14,11 +14,6 @@ with_taken (Took batch) batches = batch ∷ batches
 with_taken Refused batches = batches
 with_taken Other batches = batches
 
--- the batches that calls took, in their order
-abbrev pub taken_by : List Call → List Batch
-taken_by [] = []
-taken_by (call ∷ calls) = with_taken call (taken_by calls)
-
 module _ {T K : Type 0} (Follows : T → T → K → Type 0) where
   -- such calls one after the other, and nothing else, lead from the one to the other
   abbrev pub Uses : List K → T → T → Type 0
