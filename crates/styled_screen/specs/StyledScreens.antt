@@ -1,5 +1,5 @@
 -- What a screen of characters and attributes holds, and the pictures that it shows.
-use Rattle.std.specs.Prelude.{ℕ, ◌≡◌, ◌+◌, ◌*◌, ◌<◌, ◌≤◌, List, [], ◌++◌, chars, map, slice_index_or}
+use Rattle.std.specs.Prelude.{ℕ, ◌≡◌, ◌+◌, ◌-◌, ◌*◌, drop, ◌<◌, ◌≤◌, List, [], ◌++◌, chars, map, slice_index_or}
 use Rattle.tw_strokes.specs.Strokes.{PictureOf, Stroke, steps}
 use Rattle.tw_surface.specs.declared.cell.CellAttributes.{CellAttributes}
 use Rattle.tw_surface.specs.declared.color.ColorAttribute.{ColorAttribute}
@@ -31,6 +31,10 @@ pub record StyledView : Type 0 where
 -- a screen of a width, at first
 abbrev pub blank_styled : ℕ → StyledView
 blank_styled width = record { width = width; row = 0; col = 0; kept = default_attributes; cells = []; rest = paper_cell default_color }
+
+-- a screen without its first rows
+abbrev pub without_rows : ℕ → StyledView → StyledView
+without_rows count screen = record screen { row = screen.row - count; cells = drop (count * screen.width) screen.cells }
 
 -- the width is one to 65,535, the cursor is in a row up to 4,294,967,295, and its column within the width or behind it
 pub record IsInReach (screen : StyledView) : Type 0 where

@@ -1,16 +1,16 @@
 //! The screen.
 
-ghost use Rattle.std.specs.Prelude.{◌≡◌, ℕ, ◌+◌, ◌*◌, ◌<◌, ◌≤◌, ◌↔◌, [], ◌∷◌, chars, map, length, Ok, Err, OnOk, OnErr, slice_index_or, eqb, if◌then◌else◌, List};
+ghost use Rattle.std.specs.Prelude.{◌≡◌, ℕ, ◌+◌, ◌*◌, ◌<◌, ◌≤◌, ◌↔◌, [], ◌∷◌, chars, map, length, Ok, Err, IfOk, OnOk, OnErr, slice_index_or, eqb, if◌then◌else◌, List};
 ghost use Rattle.tw_surface.specs.ChangeView.{change_view};
 ghost use Rattle.tw_surface.specs.Simple.{spelled_change};
 ghost use Rattle.tw_surface.specs.Positions.{at_least_0, position_after};
 ghost use Rattle.tw_strokes.specs.Strokes.Stroke.{Clear, ClearBehind, Move, Put};
 ghost use Rattle.tw_screens.specs.Pens.{change_strokes, char_stroke, kept_after, led};
 ghost use Rattle.tw_screens.specs.StyledCells.{styled};
-ghost use Rattle.styled_screen.specs.StyledScreens.{AreDrawn, IsRefusedAt, IsSameBut, IsSure, WritesBeginning, blank_styled, paper_cell, styled_cell};
+ghost use Rattle.styled_screen.specs.StyledScreens.{AreDrawn, IsRefusedAt, IsSameBut, IsSure, WritesBeginning, blank_styled, paper_cell, styled_cell, without_rows};
 
 use crate::cell::{ScreenCell, with_change};
-use std::alloc::Global;
+use std::alloc::{AllocError, Global};
 use std::marker::Model;
 use tw_surface::{CellAttributes, Change, ColorAttribute, Position, ScreenFault, SizeFault};
 
@@ -66,6 +66,29 @@ impl StyledScreen {
         })
     }
 
+    /// The same screen without its first rows, which its cursor is not in.
+    pub fn without_rows(&self, alloc: Global, count: usize) -> Result<Self, AllocError>
+        requires { count ≤ self.now.row }
+        ensures { IfOk result (λ cut. cut ≡ without_rows count self.now) }
+    {
+        let from = self.cells.len().min(count * self.width);
+        Ok(StyledScreen {
+            width: self.width,
+            row: self.row - count,
+            col: self.col,
+            kept: self.kept,
+            cells: Vec::from_slice(alloc, &self.cells[from..])?,
+            rest: self.rest,
+        })
+    }
+
+    /// The same screen once more.
+    pub fn copy(&self, alloc: Global) -> Result<Self, AllocError>
+        ensures { IfOk result (λ copy. copy ≡ self.now) }
+    {
+        self.without_rows(alloc, 0)
+    }
+
     /// What stands at a row and a column of the screen.
     pub fn cell(&self, row: usize, col: usize) -> Option<ScreenCell>
         ensures inside { col < self.now.width → result ≡ Some (slice_index_or self.now.cells (row * self.now.width + col) self.now.rest) }
@@ -82,8 +105,26 @@ impl StyledScreen {
     pub fn cursor(&self) -> (usize, usize)
         ensures row { result.0 ≡ self.now.row }
         ensures col { result.1 ≡ self.now.col }
+        ensures row_most { result.0 ≤ 4294967295 }
+        ensures col_most { result.1 ≤ self.now.width }
     {
         (self.row, self.col)
+    }
+
+    /// The number of columns.
+    pub fn width(&self) -> usize
+        ensures value { result ≡ self.now.width }
+        ensures above { 0 < result }
+        ensures most { result ≤ 65535 }
+    {
+        self.width
+    }
+
+    /// The attributes under which the text that follows is typed.
+    pub fn attributes(&self) -> CellAttributes
+        ensures { result ≡ self.now.kept }
+    {
+        self.kept
     }
 
     /// Plays a change. What is refused for its row leaves the screen as it was; a text that is refused in its middle is

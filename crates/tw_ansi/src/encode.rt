@@ -92,6 +92,16 @@ impl Encoder {
         }
     }
 
+    /// Adds what a character of a plain text is sent as. A refusal may have added a part of it.
+    pub fn encode_byte(&mut self, byte: u8, out: &mut String) -> Result<(), AllocError>
+        requires { is_plain byte ≡ true }
+        ensures bytes { OnOk result (string_bytes out.new ≡ string_bytes out.old ++ (sent_byte self.old byte).bytes) }
+        ensures next { OnOk result (self.new ≡ (sent_byte self.old byte).next) }
+        ensures err { OnErr result (Extends (string_bytes out.old) (string_bytes out.new)) }
+    {
+        self.write_byte(byte, out)
+    }
+
     /// Adds what the change is sent as, or a part of it.
     fn send(&mut self, change: &Change, out: &mut String) -> Result<(), AllocError>
         ensures bytes { OnOk result (string_bytes out.new ≡ string_bytes out.old ++ (sent_change (change_view change.now) self.old).bytes) }
