@@ -1,0 +1,140 @@
+-- What is sent for redrawings that follow one another.
+use Rattle.std.proofs.Common.{◌≡◌, ◌+◌, ◌-◌, ℕ, suc, Option, true, cond, List, [], ◌∷◌, ◌++◌, append_assoc, append-nil, ap, subst, ◌∙◌, sym, refl, arith, ◌&&◌, ◌<◌, ◌≤◌}
+use Rattle.std.proofs.lemmas.Bool.{and_parts, leb-true}
+use Rattle.unicode_segmentation.specs.Grapheme.{graphemes}
+use Rattle.tw_surface.specs.Characters.{is_plain, is_printable}
+use Rattle.tw_surface.specs.ChangeView.{Batch, Text}
+use Rattle.tw_ansi.specs.declared.encode.Encoder.{Encoder}
+use Rattle.tw_ansi.specs.Encoding.{Sent, sent_byte, sent_batch, sent_plain, sent_clusters, Extends}
+use Rattle.tw_changed.specs.declared.hand.Hand.{Hand}
+use Rattle.tw_changed.specs.declared.redrawer.Redrawer.{Redrawer}
+use Rattle.tw_screens.specs.StyledCells.{StyledCell}
+use Rattle.tw_changed.specs.Redrawings.{Redrawing, at_ease, redraw_then, typed_once, cell_redrawn, run_redrawn, row_redrawn, rows_redrawn, rest_of, rest_emptied, left_of, lowered, handed_to, redrawn}
+use Rattle.tw_changed.specs.Sending.{IsAdded}
+use Rattle.tw_changed.proofs.SentBatches.{both_next, both_bytes}
+use Rattle.tw_changed.proofs.SentChanges.{printable_plain}
+
+-- one after the other
+pub added_both : (d : Redrawing) (more : Hand → Redrawing) (a b c : Redrawer) (x y z : List ℕ) → IsAdded d a x b y → IsAdded (more b.hand) b y c z → IsAdded (redraw_then d more) a x c z
+added_both d more a b c x y z first second =
+    let then : IsAdded (more d.hand) b y c z = subst (λ hand. IsAdded (more hand) b y c z) first.hand second in
+    let ys : Batch = (more d.hand).changes in
+    let e : Encoder = (sent_batch d.changes a.encoder).next in
+    record {
+      bytes =
+          then.bytes ∙ ap (λ bytes. bytes ++ (sent_batch ys b.encoder).bytes) first.bytes
+          ∙ ap (λ n. (x ++ (sent_batch d.changes a.encoder).bytes) ++ (sent_batch ys n).bytes) first.next
+          ∙ append_assoc x (sent_batch d.changes a.encoder).bytes (sent_batch ys e).bytes
+          ∙ ap (λ bytes. x ++ bytes) (sym (both_bytes d.changes ys a.encoder));
+      next = then.next ∙ ap (λ n. (sent_batch ys n).next) first.next ∙ sym (both_next d.changes ys a.encoder);
+      hand = then.hand;
+    }
+
+pub added_none : (a : Redrawer) (x : List ℕ) → IsAdded (at_ease a.hand) a x a x
+added_none a x = record { bytes = sym (append-nil x); next = refl; hand = refl }
+
+-- what is left to be added ends where all of it does
+pub record SameEnd (d : Redrawing) (now : Redrawer) (x : List ℕ) (all : Redrawing) (old : Redrawer) (before : List ℕ) : Type 0 where
+  pub bytes : x ++ (sent_batch d.changes now.encoder).bytes ≡ before ++ (sent_batch all.changes old.encoder).bytes
+  pub next : (sent_batch d.changes now.encoder).next ≡ (sent_batch all.changes old.encoder).next
+  pub hand : d.hand ≡ all.hand
+
+pub same_start : (d : Redrawing) (a : Redrawer) (x : List ℕ) → SameEnd d a x d a x
+same_start d a x = record { bytes = refl; next = refl; hand = refl }
+
+pub same_step : (d : Redrawing) (more : Hand → Redrawing) (a b old : Redrawer) (x y before : List ℕ) (all : Redrawing)
+    → SameEnd (redraw_then d more) a x all old before → IsAdded d a x b y → SameEnd (more b.hand) b y all old before
+same_step d more a b old x y before all same added =
+    let ys : Batch = (more d.hand).changes in
+    let e : Encoder = (sent_batch d.changes a.encoder).next in
+    subst (λ hand. SameEnd (more hand) b y all old before) (sym added.hand) (record {
+      bytes =
+          ap (λ bytes. bytes ++ (sent_batch ys b.encoder).bytes) added.bytes
+          ∙ ap (λ n. (x ++ (sent_batch d.changes a.encoder).bytes) ++ (sent_batch ys n).bytes) added.next
+          ∙ append_assoc x (sent_batch d.changes a.encoder).bytes (sent_batch ys e).bytes
+          ∙ ap (λ bytes. x ++ bytes) (sym (both_bytes d.changes ys a.encoder))
+          ∙ same.bytes;
+      next = ap (λ n. (sent_batch ys n).next) added.next ∙ sym (both_next d.changes ys a.encoder) ∙ same.next;
+      hand = same.hand;
+    })
+
+pub same_added : (a old : Redrawer) (x before : List ℕ) (all : Redrawing) → SameEnd (at_ease a.hand) a x all old before → IsAdded all old before a x
+same_added a old x before all same = record { bytes = sym (append-nil x) ∙ same.bytes; next = same.next; hand = same.hand }
+
+-- ---- a character
+
+pub printable_small : (b : ℕ) → is_printable b ≡ true → b ≤ 126
+printable_small b is = leb-true b 126 (and_parts _ _ is).1
+
+typed_is : (b : ℕ) (e : Encoder) → is_plain b ≡ true
+    → ((sent_batch (Text (b ∷ []) ∷ []) e).bytes ≡ (sent_byte e b).bytes) × ((sent_batch (Text (b ∷ []) ∷ []) e).next ≡ (sent_byte e b).next)
+typed_is b e plain =
+    let one : Sent = sent_plain (b ∷ []) e in
+    let other : Sent = sent_clusters (graphemes true (b ∷ [])) e in (
+      ap (λ x. (cond (x && true) one other).bytes ++ []) plain ∙ append-nil ((sent_byte e b).bytes ++ []) ∙ append-nil (sent_byte e b).bytes,
+      ap (λ x. (cond (x && true) one other).next) plain,
+    )
+
+pub typed_added : (b : ℕ) (a : Redrawer) (next : Encoder) (x y : List ℕ) → is_printable b ≡ true → y ≡ x ++ (sent_byte a.encoder b).bytes → next ≡ (sent_byte a.encoder b).next
+    → IsAdded (typed_once b a.hand) a x (record { hand = (typed_once b a.hand).hand; encoder = next }) y
+typed_added b a next x y printable bytes is =
+    let same = typed_is b a.encoder (printable_plain b printable) in
+    record { bytes = bytes ∙ ap (λ v. x ++ v) (sym same.0); next = is ∙ sym same.1; hand = refl }
+
+-- ---- runs and rows
+
+pub extends_more : (before x y more : List ℕ) → Extends before x → y ≡ x ++ more → Extends before y
+extends_more before x y more (first, e) then = (first ++ more, then ∙ ap (λ v. v ++ more) e ∙ append_assoc before first more)
+
+pub run_step : (line : ℕ → StyledCell) (cell : StyledCell) (col to : ℕ) (a b old : Redrawer) (x y before : List ℕ) (all : Redrawing) → col < to → cell ≡ line col
+    → SameEnd (run_redrawn line col (to - col) a.hand) a x all old before → IsAdded (cell_redrawn cell a.hand) a x b y
+    → SameEnd (run_redrawn line (col + 1) (to - (col + 1)) b.hand) b y all old before
+run_step line cell col to a b old x y before all less is same added =
+    let count : to - col ≡ suc (to - (col + 1)) = omega (arith, less) in
+    let next : suc col ≡ col + 1 = omega arith in
+    subst (λ n. SameEnd (run_redrawn line n (to - (col + 1)) b.hand) b y all old before) next
+    (same_step (cell_redrawn (line col) a.hand) (run_redrawn line (suc col) (to - (col + 1))) a b old x y before all
+    (subst (λ n. SameEnd (run_redrawn line col n a.hand) a x all old before) count same)
+    (subst (λ z. IsAdded (cell_redrawn z a.hand) a x b y) is added))
+
+pub run_end : (line : ℕ → StyledCell) (col to : ℕ) (a old : Redrawer) (x before : List ℕ) (all : Redrawing) → to ≤ col
+    → SameEnd (run_redrawn line col (to - col) a.hand) a x all old before → IsAdded all old before a x
+run_end line col to a old x before all done same =
+    let count : to - col ≡ 0 = omega (arith, done) in
+    same_added a old x before all (subst (λ n. SameEnd (run_redrawn line col n a.hand) a x all old before) count same)
+
+pub rows_step : (w : ℕ) (left new : ℕ → ℕ → StyledCell) (row rows : ℕ) (a b old : Redrawer) (x y before : List ℕ) (all : Redrawing) → row < rows
+    → SameEnd (rows_redrawn w left new row (rows - row) a.hand) a x all old before → IsAdded (row_redrawn w left new row a.hand) a x b y
+    → SameEnd (rows_redrawn w left new (row + 1) (rows - (row + 1)) b.hand) b y all old before
+rows_step w left new row rows a b old x y before all less same added =
+    let count : rows - row ≡ suc (rows - (row + 1)) = omega (arith, less) in
+    let next : suc row ≡ row + 1 = omega arith in
+    subst (λ n. SameEnd (rows_redrawn w left new n (rows - (row + 1)) b.hand) b y all old before) next
+    (same_step (row_redrawn w left new row a.hand) (rows_redrawn w left new (suc row) (rows - (row + 1))) a b old x y before all
+    (subst (λ n. SameEnd (rows_redrawn w left new row n a.hand) a x all old before) count same) added)
+
+pub rows_end : (w : ℕ) (left new : ℕ → ℕ → StyledCell) (row rows : ℕ) (a old : Redrawer) (x before : List ℕ) (all : Redrawing) → rows ≤ row
+    → SameEnd (rows_redrawn w left new row (rows - row) a.hand) a x all old before → IsAdded all old before a x
+rows_end w left new row rows a old x before all done same =
+    let count : rows - row ≡ 0 = omega (arith, done) in
+    same_added a old x before all (subst (λ n. SameEnd (rows_redrawn w left new row n a.hand) a x all old before) count same)
+
+-- ---- all of it
+
+pub redrawn_added : (w v u reached rows : ℕ) (old new : ℕ → ℕ → StyledCell) (to : Hand) (from : Option ℕ) (a b c d e : Redrawer) (x0 x1 x2 x3 x4 : List ℕ)
+    → v ≡ w → u ≡ w → from ≡ rest_of w rows old new
+    → IsAdded (lowered reached rows a.hand) a x0 b x1 → IsAdded (rest_emptied u from b.hand) b x1 c x2
+    → IsAdded (rows_redrawn w (left_of v from old) new 0 rows c.hand) c x2 d x3 → IsAdded (handed_to to d.hand) d x3 e x4
+    → IsAdded (redrawn w reached rows old new to a.hand) a x0 e x4
+redrawn_added w v u reached rows old new to from a b c d e x0 x1 x2 x3 x4 is_v is_u is_from first second third last =
+    let rest : Option ℕ = rest_of w rows old new in
+    let last_of : Hand → Redrawing = handed_to to in
+    let third_of : Hand → Redrawing = λ hand. redraw_then (rows_redrawn w (left_of w (rest_of w rows old new) old) new 0 rows hand) last_of in
+    let second_of : Hand → Redrawing = λ hand. redraw_then (rest_emptied w (rest_of w rows old new) hand) third_of in
+    let emptied : IsAdded (rest_emptied w (rest_of w rows old new) b.hand) b x1 c x2 =
+    subst (λ r. IsAdded (rest_emptied w r b.hand) b x1 c x2) is_from (subst (λ n. IsAdded (rest_emptied n from b.hand) b x1 c x2) is_u second) in
+    let typed : IsAdded (rows_redrawn w (left_of w (rest_of w rows old new) old) new 0 rows c.hand) c x2 d x3 =
+    subst (λ r. IsAdded (rows_redrawn w (left_of w r old) new 0 rows c.hand) c x2 d x3) is_from (subst (λ n. IsAdded (rows_redrawn w (left_of n from old) new 0 rows c.hand) c x2 d x3) is_v third) in
+    added_both (lowered reached rows a.hand) second_of a b e x0 x1 x4 first
+    (added_both (rest_emptied w (rest_of w rows old new) b.hand) third_of b c e x1 x2 x4 emptied
+    (added_both (rows_redrawn w (left_of w (rest_of w rows old new) old) new 0 rows c.hand) last_of c d e x2 x3 x4 typed last))

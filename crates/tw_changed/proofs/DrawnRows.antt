@@ -1,0 +1,261 @@
+-- Rows that are drawn.
+use Rattle.std.proofs.Common.{◌≡◌, ◌<◌, ◌≤◌, ◌+◌, ◌-◌, ◌&&◌, ℕ, ℤ, zero, suc, pos, negsuc, ◌+ℤ◌, ◌-ℤ◌, Bool, true, false, cond, eqb, min, Some, [], ◌∷◌, ap, ◌∙◌, sym, refl, inl, inr, arith}
+use Rattle.std.proofs.lemmas.Bool.{eq-eqb, ne_eqb, eqb-true, cases_eq, and_parts, leb-true}
+use Rattle.std.proofs.lemmas.Int.{ints}
+use Rattle.tw_surface.specs.declared.cell.CellAttributes.{CellAttributes}
+use Rattle.tw_surface.specs.contracts.cell.CellAttributesPartialEq.TheImpl.{ghosts as attributes}
+use Rattle.tw_surface.proofs.EqualityLemmas.{attributes_equal}
+use Rattle.tw_surface.specs.Characters.{is_printable}
+use Rattle.tw_surface.specs.ChangeView.{AllAttributes, CursorPosition}
+use Rattle.tw_surface.specs.declared.change.Position.TheVariants.{Absolute, Relative}
+use Rattle.tw_surface.specs.Positions.{at_least_0}
+use Rattle.tw_strokes.specs.Strokes.{PictureOf, Stroke, put_in, step, steps_on, scrolled}
+use Rattle.tw_strokes.specs.Strokes.Stroke.{Put, Return, Feed}
+use Rattle.tw_strokes.proofs.SeenRows.{steps_on-append}
+use Rattle.tw_screens.specs.Pens.{strokes_of, kept_after_all, char_stroke}
+use Rattle.tw_screens.specs.StyledCells.{StyledCell, styled}
+use Rattle.tw_screens.proofs.DrawnChanges.{strokes-append, kept-append}
+use Rattle.tw_changed.specs.declared.hand.Hand.{Hand}
+use Rattle.tw_changed.specs.Redrawings.{Redrawing, at_ease, redraw_then, led_to, under, typed_once, cell_redrawn, run_redrawn}
+
+-- a picture whose cursor stands in one of h rows does not scroll
+pub unscrolled : {C : Type 0} (h : ℕ) (p : PictureOf C) → p.row < h → ((scrolled (Some h) p).row ≡ p.row) × ((i j : ℕ) → (scrolled (Some h) p).cell i j ≡ p.cell i j)
+unscrolled h p low = (omega (arith, low), λ i j. ap (λ k. p.cell k j) (omega (arith, low)))
+
+-- the cursor of a picture stands where the hand is, whose row 0 is row s of the picture
+pub record Holds (s : ℕ) (hand : Hand) (p : PictureOf StyledCell) : Type 0 where
+  pub row : p.row ≡ s + hand.row
+  pub col : p.col ≡ hand.col
+
+-- a relative move from row to row
+pub moved_row : (n s from to : ℕ) → n ≡ s + from → at_least_0 (pos n +ℤ (pos to -ℤ pos from)) ≡ s + to
+moved_row n s from to at = by_sign (pos n +ℤ (pos to -ℤ pos from)) refl
+  where
+    by_sign : (z : ℤ) → z ≡ (pos n +ℤ (pos to -ℤ pos from)) → at_least_0 z ≡ s + to
+    by_sign (pos k) e = omega (arith, ints, e, at)
+    by_sign (negsuc k) e = omega (arith, ints, e, at)
+
+module _ {C : Type 0} (f : ℕ → ℕ → C) (r c : ℕ) (x : C) where
+  pub put_there : (j : ℕ) → j ≡ c → put_in f r c x r j ≡ x
+  put_there j e = ap (λ b. cond (b && eqb j c) x (f r j)) (eq-eqb r r refl) ∙ ap (λ b. cond b x (f r j)) (eq-eqb j c e)
+
+  pub put_beside : (j : ℕ) → (j ≡ c → ⊥) → put_in f r c x r j ≡ f r j
+  put_beside j n = ap (λ b. cond (b && eqb j c) x (f r j)) (eq-eqb r r refl) ∙ ap (λ b. cond b x (f r j)) (ne_eqb j c n)
+
+  pub put_away : (i j : ℕ) → (i ≡ r → ⊥) → put_in f r c x i j ≡ f i j
+  put_away i j n = ap (λ b. cond (b && eqb j c) x (f i j)) (ne_eqb i r n)
+
+module _ (h w : ℕ) where
+  -- what a redrawing leaves of a picture
+  abbrev pub redrawn_on : Hand → Redrawing → PictureOf StyledCell → PictureOf StyledCell
+  redrawn_on hand d p = steps_on (Some h) w (strokes_of styled hand.attributes d.changes) p
+
+  -- it leaves the cursor and the attributes where it leaves the hand
+  pub record Leads (s : ℕ) (hand : Hand) (d : Redrawing) (p : PictureOf StyledCell) : Type 0 where
+    pub kept : kept_after_all styled hand.attributes d.changes ≡ d.hand.attributes
+    pub holds : Holds s d.hand (redrawn_on hand d p)
+
+  pub redrawn_both : (hand : Hand) (d : Redrawing) (more : Hand → Redrawing) (p : PictureOf StyledCell)
+      → kept_after_all styled hand.attributes d.changes ≡ d.hand.attributes
+      → redrawn_on hand (redraw_then d more) p ≡ redrawn_on d.hand (more d.hand) (redrawn_on hand d p)
+  redrawn_both hand d more p kept =
+      ap (λ strokes. steps_on (Some h) w strokes p) (strokes-append styled hand.attributes d.changes (more d.hand).changes)
+      ∙ steps_on-append (Some h) w (strokes_of styled hand.attributes d.changes) (strokes_of styled (kept_after_all styled hand.attributes d.changes) (more d.hand).changes) p
+      ∙ ap (λ a. steps_on (Some h) w (strokes_of styled a (more d.hand).changes) (redrawn_on hand d p)) kept
+
+  pub kept_both : (hand : Hand) (d : Redrawing) (more : Hand → Redrawing)
+      → kept_after_all styled hand.attributes d.changes ≡ d.hand.attributes
+      → kept_after_all styled hand.attributes (redraw_then d more).changes ≡ kept_after_all styled d.hand.attributes (more d.hand).changes
+  kept_both hand d more kept = kept-append styled hand.attributes d.changes (more d.hand).changes ∙ ap (λ a. kept_after_all styled a (more d.hand).changes) kept
+
+  pub leads_both : (s : ℕ) (hand : Hand) (d : Redrawing) (more : Hand → Redrawing) (p : PictureOf StyledCell)
+      → Leads s hand d p → Leads s d.hand (more d.hand) (redrawn_on hand d p) → Leads s hand (redraw_then d more) p
+  leads_both s hand d more p a b =
+      let is = redrawn_both hand d more p a.kept in
+      record {
+        kept = kept_both hand d more a.kept ∙ b.kept;
+        holds = record {
+          row = ap (λ (q : PictureOf StyledCell). q.row) is ∙ b.holds.row;
+          col = ap (λ (q : PictureOf StyledCell). q.col) is ∙ b.holds.col;
+        };
+      }
+
+  pub leads_ease : (s : ℕ) (hand : Hand) (p : PictureOf StyledCell) → Holds s hand p → Leads s hand (at_ease hand) p
+  leads_ease s hand p holds = record { kept = refl; holds = holds }
+
+  -- ---- moves
+
+  -- a move to a cell changes no other
+  pub record Gone (s r c : ℕ) (hand : Hand) (d : Redrawing) (p : PictureOf StyledCell) : Type 0 where
+    pub leads : Leads s hand d p
+    pub row : d.hand.row ≡ r
+    pub col : d.hand.col ≡ c
+    pub attributes : d.hand.attributes ≡ hand.attributes
+    pub cells : (i j : ℕ) → (redrawn_on hand d p).cell i j ≡ p.cell i j
+
+  gone_cases : (s row col : ℕ) (hand : Hand) (p : PictureOf StyledCell) → s + row < h → col < w → Holds s hand p
+      → (b : Bool) → (eqb hand.row row && eqb hand.col col) ≡ b
+      → Gone s row col hand (cond b (at_ease hand) (record { changes = CursorPosition (Absolute col) (Relative (pos row -ℤ pos hand.row)) ∷ []; hand = record hand { row = row; col = col } })) p
+  gone_cases s row col hand p low left holds true is =
+      let both = and_parts _ _ is in
+      record {
+        leads = leads_ease s hand p holds;
+        row = eqb-true hand.row row both.0;
+        col = eqb-true hand.col col both.1;
+        attributes = refl;
+        cells = λ i j. refl;
+      }
+  gone_cases s row col hand p low left holds false is =
+      let there = moved_row p.row s hand.row row holds.row in
+      let q : PictureOf StyledCell = record p { row = at_least_0 (pos p.row +ℤ (pos row -ℤ pos hand.row)); col = min (w - 1) col } in
+      let still = unscrolled h q (omega (arith, there, low)) in
+      record {
+        leads = record { kept = refl; holds = record { row = still.0 ∙ there; col = omega (arith, left) } };
+        row = refl;
+        col = refl;
+        attributes = refl;
+        cells = still.1;
+      }
+
+  pub gone : (s row col : ℕ) (hand : Hand) (p : PictureOf StyledCell) → s + row < h → col < w → Holds s hand p → Gone s row col hand (led_to row col hand) p
+  gone s row col hand p low left holds = gone_cases s row col hand p low left holds (eqb hand.row row && eqb hand.col col) refl
+
+  -- ---- attributes
+
+  pub record Under (s : ℕ) (to : CellAttributes) (hand : Hand) (d : Redrawing) (p : PictureOf StyledCell) : Type 0 where
+    pub leads : Leads s hand d p
+    pub row : d.hand.row ≡ hand.row
+    pub col : d.hand.col ≡ hand.col
+    pub attributes : d.hand.attributes ≡ to
+    pub same : redrawn_on hand d p ≡ p
+
+  under_cases : (s : ℕ) (to : CellAttributes) (hand : Hand) (p : PictureOf StyledCell) → Holds s hand p
+      → (b : Bool) → attributes.eq hand.attributes to ≡ b
+      → Under s to hand (cond b (at_ease hand) (record { changes = AllAttributes to ∷ []; hand = record hand { attributes = to } })) p
+  under_cases s to hand p holds true is = record {
+    leads = leads_ease s hand p holds;
+    row = refl;
+    col = refl;
+    attributes = (attributes_equal hand.attributes to).0 is;
+    same = refl;
+  }
+  under_cases s to hand p holds false is = record {
+    leads = record { kept = refl; holds = record { row = holds.row; col = holds.col } };
+    row = refl;
+    col = refl;
+    attributes = refl;
+    same = refl;
+  }
+
+  pub is_under : (s : ℕ) (to : CellAttributes) (hand : Hand) (p : PictureOf StyledCell) → Holds s hand p → Under s to hand (under to hand) p
+  is_under s to hand p holds = under_cases s to hand p holds (attributes.eq hand.attributes to) refl
+
+  -- ---- characters
+
+  -- a printable character is put
+  put_stroke : (a : CellAttributes) (ch : ℕ) → is_printable ch ≡ true → char_stroke styled a ch ≡ Put (record { ch = ch; attributes = a })
+  put_stroke a ch printable =
+      let low : 32 ≤ ch = leb-true 32 ch (and_parts _ _ printable).0 in
+      let cell : Stroke StyledCell = Put (record { ch = ch; attributes = a }) in
+      let feed : Stroke StyledCell = cond (eqb ch 10) Feed cell in
+      ap (λ x. cond x Return feed) (ne_eqb ch 13 (λ e. omega arith)) ∙ ap (λ x. cond x Feed cell) (ne_eqb ch 10 (λ e. omega arith))
+
+  -- the picture with a cell at its cursor, which goes on
+  abbrev put_here : StyledCell → PictureOf StyledCell → PictureOf StyledCell
+  put_here x p = record { cell = put_in p.cell p.row p.col x; row = p.row; col = p.col + 1 }
+
+  -- a cell is put at the cursor, and the cursor goes on
+  pub record Inked (s : ℕ) (x : StyledCell) (hand : Hand) (d : Redrawing) (p : PictureOf StyledCell) : Type 0 where
+    pub leads : Leads s hand d p
+    pub row : d.hand.row ≡ hand.row
+    pub col : d.hand.col ≡ hand.col + 1
+    pub cells : (i j : ℕ) → (redrawn_on hand d p).cell i j ≡ put_in p.cell (s + hand.row) hand.col x i j
+
+  typed_inked : (s ch : ℕ) (hand : Hand) (p : PictureOf StyledCell) → s + hand.row < h → hand.col < w → is_printable ch ≡ true → Holds s hand p
+      → Inked s (record { ch = ch; attributes = hand.attributes }) hand (typed_once ch hand) p
+  typed_inked s ch hand p low left printable holds =
+      let x : StyledCell = record { ch = ch; attributes = hand.attributes } in
+      let below : PictureOf StyledCell = record { cell = put_in p.cell (p.row + 1) 0 x; row = p.row + 1; col = 1 } in
+      let is : redrawn_on hand (typed_once ch hand) p ≡ scrolled (Some h) (put_here x p) =
+      ap (λ stroke. scrolled (Some h) (step w stroke p)) (put_stroke hand.attributes ch printable)
+      ∙ ap (λ b. scrolled (Some h) (cond b below (put_here x p))) (ne_eqb p.col w (λ e. omega (arith, e, holds.col, left))) in
+      let still = unscrolled h (put_here x p) (omega (arith, holds.row, low)) in
+      record {
+        leads = record {
+          kept = refl;
+          holds = record {
+            row = ap (λ (q : PictureOf StyledCell). q.row) is ∙ still.0 ∙ holds.row;
+            col = ap (λ (q : PictureOf StyledCell). q.col) is ∙ ap (λ n. n + 1) holds.col;
+          };
+        };
+        row = refl;
+        col = refl;
+        cells = λ i j. ap (λ (q : PictureOf StyledCell). q.cell i j) is ∙ still.1 i j ∙ ap (λ r. put_in p.cell r p.col x i j) holds.row ∙ ap (λ c. put_in p.cell (s + hand.row) c x i j) holds.col;
+      }
+
+  -- a cell is put at the cursor, under its attributes
+  pub cell_inked : (s : ℕ) (x : StyledCell) (hand : Hand) (p : PictureOf StyledCell) → s + hand.row < h → hand.col < w → is_printable x.ch ≡ true → Holds s hand p
+      → Inked s x hand (cell_redrawn x hand) p
+  cell_inked s x hand p low left printable holds =
+      let u = is_under s x.attributes hand p holds in
+      let first : Redrawing = under x.attributes hand in
+      let q : PictureOf StyledCell = redrawn_on hand first p in
+      let t = typed_inked s x.ch first.hand q (omega (arith, u.row, low)) (omega (arith, u.col, left)) printable u.leads.holds in
+      let is = redrawn_both hand first (typed_once x.ch) p u.leads.kept in
+      record {
+        leads = leads_both s hand first (typed_once x.ch) p u.leads t.leads;
+        row = t.row ∙ u.row;
+        col = t.col ∙ ap (λ n. n + 1) u.col;
+        cells = λ i j.
+            ap (λ (v : PictureOf StyledCell). v.cell i j) is
+            ∙ t.cells i j
+            ∙ ap (λ (v : PictureOf StyledCell). put_in v.cell (s + first.hand.row) first.hand.col (record { ch = x.ch; attributes = first.hand.attributes }) i j) u.same
+            ∙ ap (λ n. put_in p.cell (s + n) first.hand.col (record { ch = x.ch; attributes = first.hand.attributes }) i j) u.row
+            ∙ ap (λ n. put_in p.cell (s + hand.row) n (record { ch = x.ch; attributes = first.hand.attributes }) i j) u.col
+            ∙ ap (λ a. put_in p.cell (s + hand.row) hand.col (record { ch = x.ch; attributes = a }) i j) u.attributes;
+      }
+
+  -- ---- runs
+
+  -- n cells of a row are shown from column c of row r on, and all else is as it was
+  pub record RunInked (s r c n : ℕ) (line : ℕ → StyledCell) (hand : Hand) (d : Redrawing) (p : PictureOf StyledCell) : Type 0 where
+    pub leads : Leads s hand d p
+    pub row : d.hand.row ≡ r
+    pub inside : (j : ℕ) → c ≤ j → j < c + n → (redrawn_on hand d p).cell (s + r) j ≡ line j
+    pub before : (j : ℕ) → j < c → (redrawn_on hand d p).cell (s + r) j ≡ p.cell (s + r) j
+    pub behind : (j : ℕ) → c + n ≤ j → (redrawn_on hand d p).cell (s + r) j ≡ p.cell (s + r) j
+    pub others : (i j : ℕ) → (i ≡ s + r → ⊥) → (redrawn_on hand d p).cell i j ≡ p.cell i j
+
+  pub run_inked : (s r c n : ℕ) (line : ℕ → StyledCell) (hand : Hand) (p : PictureOf StyledCell)
+      → s + r < h → c + n ≤ w → ((j : ℕ) → c ≤ j → j < c + n → is_printable (line j).ch ≡ true) → hand.row ≡ r → hand.col ≡ c → Holds s hand p
+      → RunInked s r c n line hand (run_redrawn line c n hand) p
+  run_inked s r c zero line hand p low left printable row col holds = record {
+    leads = leads_ease s hand p holds;
+    row = row;
+    inside = λ j from to. absurd (omega (arith, from, to));
+    before = λ j to. refl;
+    behind = λ j from. refl;
+    others = λ i j other. refl;
+  }
+  run_inked s r c (suc n) line hand p low left printable row col holds =
+      let x : StyledCell = line c in
+      let first : Redrawing = cell_redrawn x hand in
+      let a = cell_inked s x hand p (omega (arith, row, low)) (omega (arith, col, left)) (printable c (omega arith) (omega arith)) holds in
+      let q : PictureOf StyledCell = redrawn_on hand first p in
+      let b = run_inked s r (suc c) n line first.hand q low (omega (arith, left)) (λ j from to. printable j (omega (arith, from)) (omega (arith, to))) (a.row ∙ row) (a.col ∙ omega (arith, col)) a.leads.holds in
+      let is = redrawn_both hand first (run_redrawn line (suc c) n) p a.leads.kept in
+      let here : (i j : ℕ) → q.cell i j ≡ put_in p.cell (s + r) c x i j =
+      λ i j. a.cells i j ∙ ap (λ k. put_in p.cell (s + k) hand.col x i j) row ∙ ap (λ k. put_in p.cell (s + r) k x i j) col in
+      let last : PictureOf StyledCell = redrawn_on first.hand (run_redrawn line (suc c) n first.hand) q in
+      let to_last : (i j : ℕ) → (redrawn_on hand (run_redrawn line c (suc n) hand) p).cell i j ≡ last.cell i j = λ i j. ap (λ (v : PictureOf StyledCell). v.cell i j) is in
+      record {
+        leads = leads_both s hand first (run_redrawn line (suc c) n) p a.leads b.leads;
+        row = b.row;
+        inside = λ j from to. elim (cases_eq j c) [
+          | inl e ↦ to_last (s + r) j ∙ b.before j (omega (arith, e)) ∙ here (s + r) j ∙ put_there p.cell (s + r) c x j e ∙ ap line (sym e)
+          | inr more ↦ to_last (s + r) j ∙ b.inside j (omega (arith, from, more)) (omega (arith, to))
+        ];
+        before = λ j to. to_last (s + r) j ∙ b.before j (omega (arith, to)) ∙ here (s + r) j ∙ put_beside p.cell (s + r) c x j (λ e. omega (arith, e, to));
+        behind = λ j from. to_last (s + r) j ∙ b.behind j (omega (arith, from)) ∙ here (s + r) j ∙ put_beside p.cell (s + r) c x j (λ e. omega (arith, e, from));
+        others = λ i j other. to_last i j ∙ b.others i j other ∙ here i j ∙ put_away p.cell (s + r) c x i j other;
+      }

@@ -1,0 +1,11 @@
+pub mod FoundColumns
+pub mod DrawnRows
+pub mod DrawnScreens
+pub mod DrawnEnds
+pub mod DrawnChangedScreens
+pub mod SentBatches
+pub mod SentChanges
+pub mod ShownChanges
+pub mod AddedChanges
+pub mod ShortChanges
+pub mod TypedChanges

@@ -1,0 +1,137 @@
+-- The changes of a redrawing are such that their bytes do what they do.
+use Rattle.std.proofs.Common.{◌≡◌, ◌<◌, ◌≤◌, ◌+◌, ◌-◌, ◌&&◌, ◌||◌, ℕ, ℤ, zero, suc, pos, negsuc, ◌-ℤ◌, Bool, true, false, cond, eqb, leb, Some, [], ◌∷◌, ◌++◌, ap, ◌∙◌, refl, inl, inr, arith}
+use Rattle.std.specs.List.{list_all, AllByRecursion}
+use Rattle.std.proofs.lemmas.Int.{ints}
+use Rattle.tw_surface.specs.contracts.cell.CellAttributesPartialEq.TheImpl.{ghosts as attributes}
+use Rattle.tw_surface.specs.declared.cell.CellAttributes.{CellAttributes}
+use Rattle.tw_surface.specs.declared.change.Position.TheVariants.{Absolute, Relative}
+use Rattle.tw_surface.specs.Characters.{is_plain, is_printable}
+use Rattle.tw_surface.specs.ChangeView.{ChangeView, Batch}
+use Rattle.tw_surface.specs.ChangeView.{Attribute, AllAttributes, Text, ClearScreen, ClearToEndOfScreen, CursorPosition}
+use Rattle.tw_strokes.specs.Strokes.{PictureOf, steps_on}
+use Rattle.tw_screens.specs.Pens.{change_strokes}
+use Rattle.tw_screens.specs.StyledCells.{StyledCell, styled}
+use Rattle.tw_ansi.specs.declared.encode.Encoder.{Encoder}
+use Rattle.tw_ansi.specs.Sequences.{most_rows}
+use Rattle.tw_ansi.specs.Encoding.{sent_change}
+use Rattle.tw_ansi.specs.EcmaBatches.{IsReached, IsSendable, AreSendable}
+use Rattle.tw_changed.specs.Differences.{differ_in, first_changed, last_changed}
+use Rattle.tw_changed.specs.declared.hand.Hand.{Hand}
+use Rattle.tw_changed.specs.Redrawings.{Redrawing, at_ease, redraw_then, led_to, under, typed_once, cell_redrawn, run_redrawn, span_redrawn, row_redrawn, rows_redrawn, handed_to, lowered}
+use Rattle.tw_changed.specs.ChangedScreens.{AreByBytes, IsInk}
+use Rattle.tw_changed.proofs.FoundColumns.{least_cases, greatest_cases}
+
+-- changes that can be sent whatever a terminal shows
+abbrev pub IsEasy : ChangeView → Type 0
+IsEasy (Text text) = list_all is_plain text ≡ true
+IsEasy (Attribute change) = ⊥
+IsEasy (AllAttributes to) = AreByBytes to
+IsEasy (ClearScreen color) = ⊥
+IsEasy (ClearToEndOfScreen color) = ⊥
+IsEasy (CursorPosition x y) = (h : ℕ) → IsReached h y
+
+easy_sendable : (h w : ℕ) (x : ChangeView) (e : Encoder) (p : PictureOf StyledCell) → IsEasy x → IsSendable styled h w e x p
+easy_sendable h w (Text text) e p a = a
+easy_sendable h w (Attribute change) e p a = absurd a
+easy_sendable h w (AllAttributes to) e p a = a
+easy_sendable h w (ClearScreen color) e p a = absurd a
+easy_sendable h w (ClearToEndOfScreen color) e p a = absurd a
+easy_sendable h w (CursorPosition x y) e p a = a h
+
+pub all_sendable : (h w : ℕ) (xs : Batch) (e : Encoder) (p : PictureOf StyledCell) → AllByRecursion IsEasy xs → AreSendable styled h w e xs p
+all_sendable h w [] e p a = tt
+all_sendable h w (x ∷ xs) e p a =
+    (easy_sendable h w x e p a.0, all_sendable h w xs (sent_change x e).next (steps_on (Some h) w (change_strokes styled (styled.attributes e.attributes) x) p) a.1)
+
+-- such changes, which leave the hand in a row that a move reaches
+pub record IsSent (d : Redrawing) : Type 0 where
+  pub easy : AllByRecursion IsEasy d.changes
+  pub low : d.hand.row ≤ most_rows
+
+both_easy : (xs ys : Batch) → AllByRecursion IsEasy xs → AllByRecursion IsEasy ys → AllByRecursion IsEasy (xs ++ ys)
+both_easy [] ys a b = b
+both_easy (x ∷ xs) ys a b = (a.0, both_easy xs ys a.1 b)
+
+pub sent_both : (d : Redrawing) (more : Hand → Redrawing) → IsSent d → IsSent (more d.hand) → IsSent (redraw_then d more)
+sent_both d more a b = record { easy = both_easy d.changes (more d.hand).changes a.easy b.easy; low = b.low }
+
+pub sent_ease : (hand : Hand) → hand.row ≤ most_rows → IsSent (at_ease hand)
+sent_ease hand low = record { easy = tt; low = low }
+
+reached : (from to : ℕ) → from ≤ most_rows → to ≤ most_rows → (h : ℕ) → IsReached h (Relative (pos to -ℤ pos from))
+reached from to a b h = by_sign (pos to -ℤ pos from) refl
+  where
+    by_sign : (z : ℤ) → z ≡ (pos to -ℤ pos from) → IsReached h (Relative z)
+    by_sign (pos k) e = omega (arith, ints, e, a, b)
+    by_sign (negsuc k) e = omega (arith, ints, e, a, b)
+
+pub sent_move : (row col : ℕ) (hand : Hand) → row ≤ most_rows → hand.row ≤ most_rows → IsSent (led_to row col hand)
+sent_move row col hand to from = by_place (eqb hand.row row && eqb hand.col col)
+  where
+    by_place : (b : Bool) → IsSent (cond b (at_ease hand) (record { changes = CursorPosition (Absolute col) (Relative (pos row -ℤ pos hand.row)) ∷ []; hand = record hand { row = row; col = col } }))
+    by_place true = sent_ease hand from
+    by_place false = record { easy = (reached hand.row row from to, tt); low = to }
+
+pub sent_under : (to : CellAttributes) (hand : Hand) → AreByBytes to → hand.row ≤ most_rows → IsSent (under to hand)
+sent_under to hand colors low = by_same (attributes.eq hand.attributes to)
+  where
+    by_same : (b : Bool) → IsSent (cond b (at_ease hand) (record { changes = AllAttributes to ∷ []; hand = record hand { attributes = to } }))
+    by_same true = sent_ease hand low
+    by_same false = record { easy = (colors, tt); low = low }
+
+-- a printable character is plain
+pub printable_plain : (b : ℕ) → is_printable b ≡ true → is_plain b ≡ true
+printable_plain b is = ap (λ x. (eqb b 13 || eqb b 10) || x) is ∙ either (eqb b 13 || eqb b 10)
+  where
+    either : (x : Bool) → (x || true) ≡ true
+    either true = refl
+    either false = refl
+
+sent_cell : (x : StyledCell) (hand : Hand) → IsInk x → hand.row ≤ most_rows → IsSent (cell_redrawn x hand)
+sent_cell x hand ink low =
+    let a = sent_under x.attributes hand ink.1 low in
+    let b : IsSent (typed_once x.ch (under x.attributes hand).hand) = record { easy = (ap (λ x. x && true) (printable_plain x.ch ink.0), tt); low = a.low } in
+    sent_both (under x.attributes hand) (typed_once x.ch) a b
+
+sent_run : (line : ℕ → StyledCell) (c n : ℕ) (hand : Hand) → ((j : ℕ) → c ≤ j → j < c + n → IsInk (line j)) → hand.row ≤ most_rows → IsSent (run_redrawn line c n hand)
+sent_run line c zero hand ink low = sent_ease hand low
+sent_run line c (suc n) hand ink low =
+    let a = sent_cell (line c) hand (ink c (omega arith) (omega arith)) low in
+    sent_both (cell_redrawn (line c) hand) (run_redrawn line (suc c) n) a
+    (sent_run line (suc c) n (cell_redrawn (line c) hand).hand (λ j from to. ink j (omega (arith, from)) (omega (arith, to))) a.low)
+
+sent_row : (w r : ℕ) (old new : ℕ → StyledCell) (hand : Hand) → ((j : ℕ) → j < w → IsInk (new j)) → r ≤ most_rows → hand.row ≤ most_rows
+    → IsSent (span_redrawn r new (first_changed w old new) (last_changed w old new) hand)
+sent_row w r old new hand ink here low = elim (least_cases (differ_in old new) w 0) [
+  | inl none ↦ rw none.0 (sent_ease hand low)
+  | inr found ↦ elim (greatest_cases (differ_in old new) w) [
+    | inl none ↦ rw (found.1, none.0) (sent_ease hand low)
+    | inr last ↦ rw (found.1, last.1) (span found.0 last.0 last.2.high)
+  ]
+]
+  where
+    span : (first last : ℕ) → last < w → IsSent (span_redrawn r new (Some first) (Some last) hand)
+    span first last left =
+        let a = sent_move r first hand here low in
+        sent_both (led_to r first hand) (run_redrawn new first (last + 1 - first)) a
+        (sent_run new first (last + 1 - first) (led_to r first hand).hand (λ j from to. ink j (omega (arith, from, to, left))) a.low)
+
+pub sent_rows : (w r n : ℕ) (old new : ℕ → ℕ → StyledCell) (hand : Hand) → ((i j : ℕ) → r ≤ i → i < r + n → j < w → IsInk (new i j)) → r + n ≤ most_rows → hand.row ≤ most_rows
+    → IsSent (rows_redrawn w old new r n hand)
+sent_rows w r zero old new hand ink here low = sent_ease hand low
+sent_rows w r (suc n) old new hand ink here low =
+    let a = sent_row w r (old r) (new r) hand (λ j left. ink r j (omega arith) (omega arith) left) (omega (arith, here)) low in
+    sent_both (row_redrawn w old new r hand) (rows_redrawn w old new (suc r) n) a
+    (sent_rows w (suc r) n old new (row_redrawn w old new r hand).hand (λ i j from to left. ink i j (omega (arith, from)) (omega (arith, to)) left) (omega (arith, here)) a.low)
+
+pub sent_handed : (to hand : Hand) → AreByBytes to.attributes → to.row ≤ most_rows → hand.row ≤ most_rows → IsSent (handed_to to hand)
+sent_handed to hand colors here low =
+    let a = sent_move to.row to.col hand here low in
+    sent_both (led_to to.row to.col hand) (under to.attributes) a (sent_under to.attributes (led_to to.row to.col hand).hand colors a.low)
+
+pub sent_lowered : (reached rows : ℕ) (hand : Hand) → rows ≤ most_rows → hand.row ≤ most_rows → IsSent (lowered reached rows hand)
+sent_lowered reached rows hand here low = by_reached (leb rows reached)
+  where
+    by_reached : (b : Bool) → IsSent (cond b (at_ease hand) (led_to (rows - 1) 0 hand))
+    by_reached true = sent_ease hand low
+    by_reached false = sent_move (rows - 1) 0 hand (omega (arith, here)) low

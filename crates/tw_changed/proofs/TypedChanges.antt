@@ -1,0 +1,120 @@
+-- What is typed at the cursor is sent alone.
+use Rattle.std.proofs.Common.{◌≡◌, ◌<◌, ◌≤◌, ◌+◌, ◌-◌, ◌&&◌, ℕ, zero, suc, Bool, true, eqb, leb, cond, Some, List, [], ◌∷◌, ◌++◌, append-nil, map, ap, ◌∙◌, sym, refl, inl, inr, arith}
+use Rattle.std.proofs.lemmas.Bool.{cases_Bool, cases_eq, and_parts, ne_eqb, le-leb, leb-true}
+use Rattle.unicode_segmentation.specs.Grapheme.{graphemes}
+use Rattle.tw_surface.specs.Characters.{is_printable}
+use Rattle.tw_surface.specs.ChangeView.{Batch, Text}
+use Rattle.tw_extremes.proofs.ExtremesLemmas.{least_from-is, greatest_below-is}
+use Rattle.tw_screens.specs.StyledCells.{StyledCell}
+use Rattle.tw_ansi.specs.declared.encode.Encoder.{Encoder}
+use Rattle.tw_ansi.specs.Encoding.{Sent, at_column, sent_byte, sent_return, sent_feed, sent_columns, sent_plain, sent_clusters, sent_change, sent_batch}
+use Rattle.tw_changed.specs.declared.hand.Hand.{Hand}
+use Rattle.tw_changed.specs.Differences.{differ_in, first_changed, last_changed}
+use Rattle.tw_changed.specs.Redrawings.{Redrawing, redraw_then, typed_once, run_redrawn, span_redrawn, row_redrawn, rows_redrawn, handed_to, redrawn}
+use Rattle.tw_changed.specs.Shortness.{characters_from, IsTypedAt, TypedIsSentAlone}
+use Rattle.tw_changed.proofs.FoundColumns.{same_where}
+use Rattle.tw_changed.proofs.SentChanges.{printable_plain}
+use Rattle.tw_changed.proofs.ShortChanges.{no_difference, stays_there, stays_under, stays_handed, row_stays, rows_stay, sent_rows_alone}
+
+-- ---- the bytes of characters that have room in the row
+
+one_byte : (e : Encoder) (b : ℕ) → is_printable b ≡ true → e.x + 1 ≤ e.cols → sent_byte e b ≡ record { bytes = b ∷ []; next = at_column (e.x + 1) e }
+one_byte e b printable room =
+    let low : 32 ≤ b = leb-true 32 b (and_parts _ _ printable).0 in
+    let typed : Sent = sent_columns e 1 (b ∷ []) in
+    ap (λ x. cond x (sent_return e) (cond (eqb b 10) (sent_feed e) typed)) (ne_eqb b 13 (λ e. omega arith))
+    ∙ ap (λ x. cond x (sent_feed e) typed) (ne_eqb b 10 (λ e. omega arith))
+    ∙ beginning (le-leb (e.x + 1) e.cols room)
+  where
+    beginning : leb (e.x + 1) e.cols ≡ true → sent_columns e 1 (b ∷ []) ≡ record { bytes = b ∷ []; next = at_column (e.x + 1) e }
+    beginning fits = rw fits refl
+
+one_text : (e : Encoder) (b : ℕ) → is_printable b ≡ true → e.x + 1 ≤ e.cols → sent_change (Text (b ∷ [])) e ≡ record { bytes = b ∷ []; next = at_column (e.x + 1) e }
+one_text e b printable room =
+    let one : Sent = sent_plain (b ∷ []) e in
+    let other : Sent = sent_clusters (graphemes true (b ∷ [])) e in
+    ap (λ x. cond (x && true) one other) (printable_plain b printable)
+    ∙ ap (λ (x : Sent). let y : Sent = record { bytes = x.bytes ++ []; next = x.next } in y) (one_byte e b printable room)
+
+-- the texts of characters, one by one
+abbrev pub texts_of : List ℕ → Batch
+texts_of chars = map (λ ch. Text (ch ∷ [])) chars
+
+typed_bytes : (line : ℕ → StyledCell) (c n : ℕ) (e : Encoder) → e.x + n ≤ e.cols → ((j : ℕ) → c ≤ j → j < c + n → is_printable (line j).ch ≡ true)
+    → (sent_batch (texts_of (characters_from line c n)) e).bytes ≡ characters_from line c n
+typed_bytes line c zero e room printable = refl
+typed_bytes line c (suc n) e room printable =
+    let b : ℕ = (line c).ch in
+    let more : Batch = texts_of (characters_from line (suc c) n) in
+    ap (λ (x : Sent). x.bytes ++ (sent_batch more x.next).bytes) (one_text e (line c).ch (printable c (omega arith) (omega arith)) (omega (arith, room)))
+    ∙ ap (λ bytes. (line c).ch ∷ bytes) (typed_bytes line (suc c) n (at_column (e.x + 1) e) (omega (arith, room)) (λ j from to. printable j (omega (arith, from)) (omega (arith, to))))
+
+-- ---- the changes of a run under the attributes that are selected
+
+abbrev pub moved_on : ℕ → Hand → Hand
+moved_on n hand = record hand { col = hand.col + n }
+
+run_typed : (line : ℕ → StyledCell) (c n : ℕ) (hand : Hand) → ((j : ℕ) → c ≤ j → j < c + n → (line j).attributes ≡ hand.attributes)
+    → run_redrawn line c n hand ≡ record { changes = texts_of (characters_from line c n); hand = moved_on n hand }
+run_typed line c zero hand same = ap (λ k. let x : Redrawing = record { changes = []; hand = record hand { col = k } } in x) (omega arith)
+run_typed line c (suc n) hand same =
+    let x : StyledCell = line c in
+    let next : Hand = moved_on 1 hand in
+    ap (λ d. redraw_then (redraw_then d (typed_once (line c).ch)) (run_redrawn line (suc c) n)) (stays_under (line c).attributes hand (sym (same c (omega arith) (omega arith))))
+    ∙ ap (λ (d : Redrawing). let y : Redrawing = record { changes = Text ((line c).ch ∷ []) ∷ d.changes; hand = d.hand } in y)
+    (run_typed line (suc c) n (moved_on 1 hand) (λ j from to. same j (omega (arith, from)) (omega (arith, to))))
+    ∙ ap (λ k. let y : Redrawing = record { changes = texts_of (characters_from line c (suc n)); hand = record hand { col = k } } in y) (omega arith)
+
+-- ---- the row of the cursor
+
+differs_where : (old new : ℕ → StyledCell) (j : ℕ) → (old j ≡ new j → ⊥) → differ_in old new j ≡ true
+differs_where old new j other = elim (cases_Bool (differ_in old new j)) [ inl is ↦ is | inr is ↦ absurd (other (same_where old new j is)) ]
+
+module _ (w rows n : ℕ) (old new : ℕ → ℕ → StyledCell) (hand to : Hand) (t : IsTypedAt w rows n old new hand to) where
+  row_typed : row_redrawn w old new hand.row hand ≡ run_redrawn (new hand.row) hand.col n hand
+  row_typed =
+      let r : ℕ = hand.row in
+      let p : ℕ → Bool = differ_in (old hand.row) (new hand.row) in
+      let some : 0 < n = t.some in
+      let room : hand.col + n ≤ w = t.col in
+      let first : first_changed w (old hand.row) (new hand.row) ≡ Some hand.col =
+      least_from-is (differ_in (old hand.row) (new hand.row)) w 0 hand.col (omega arith) (omega (arith, some, room)) (differs_where (old hand.row) (new hand.row) hand.col t.first)
+      (λ k low high. no_difference (old hand.row) (new hand.row) k (t.others hand.row k t.row (omega (arith, high, some, room)) (λ e from less. omega (arith, from, high)))) in
+      let last : last_changed w (old hand.row) (new hand.row) ≡ Some (hand.col + n - 1) =
+      greatest_below-is (differ_in (old hand.row) (new hand.row)) w (hand.col + n - 1) (omega (arith, some, room)) (differs_where (old hand.row) (new hand.row) (hand.col + n - 1) t.last)
+      (λ k low high. no_difference (old hand.row) (new hand.row) k (t.others hand.row k t.row high (λ e from less. omega (arith, low, less, some)))) in
+      let count : hand.col + n - 1 + 1 - hand.col ≡ n = omega (arith, some) in
+      ap (λ f. span_redrawn hand.row (new hand.row) f (last_changed w (old hand.row) (new hand.row)) hand) first
+      ∙ ap (λ l. span_redrawn hand.row (new hand.row) (Some hand.col) l hand) last
+      ∙ ap (λ d. redraw_then d (run_redrawn (new hand.row) hand.col (hand.col + n - 1 + 1 - hand.col))) (stays_there hand.row hand.col hand refl refl)
+      ∙ ap (λ k. run_redrawn (new hand.row) hand.col k hand) count
+
+  rows_typed : (r count : ℕ) → r ≤ hand.row → hand.row < r + count → r + count ≤ rows → rows_redrawn w old new r count hand ≡ run_redrawn (new hand.row) hand.col n hand
+  rows_typed r zero from less within = absurd (omega (arith, from, less))
+  rows_typed r (suc count) from less within = elim (cases_eq r hand.row) [
+    | inl e ↦
+        let run : Redrawing = run_redrawn (new hand.row) hand.col n hand in
+        ap (λ k. redraw_then (row_redrawn w old new k hand) (rows_redrawn w old new (suc r) count)) e
+        ∙ ap (λ d. redraw_then d (rows_redrawn w old new (suc r) count)) row_typed
+        ∙ ap (λ (d : Redrawing). let y : Redrawing = record { changes = run.changes ++ d.changes; hand = d.hand } in y)
+        (rows_stay w (suc r) count old new run.hand (λ i j low high left. t.others i j (omega (arith, high, within)) left (λ at _ _. omega (arith, at, low, e))))
+        ∙ ap (λ changes. let y : Redrawing = record { changes = changes; hand = run.hand } in y) (append-nil run.changes)
+    | inr other ↦
+        ap (λ d. redraw_then d (rows_redrawn w old new (suc r) count)) (row_stays w r old new hand (λ j left. t.others r j (omega (arith, within)) left (λ at _ _. other at)))
+        ∙ rows_typed (suc r) count (omega (arith, from, other)) (omega (arith, less)) (omega (arith, within))
+  ]
+
+  typed_changes : (reached : ℕ) → rows ≤ reached → (redrawn w reached rows old new to hand).changes ≡ texts_of (characters_from (new hand.row) hand.col n)
+  typed_changes reached low =
+      let last : Hand → Redrawing = handed_to to in
+      let inside : hand.row < rows = t.row in
+      ap (λ (d : Redrawing). d.changes) (sent_rows_alone w reached rows old new to hand low t.onward)
+      ∙ ap (λ (d : Redrawing). (redraw_then d last).changes) (rows_typed 0 rows (omega arith) (omega (arith, inside)) (omega arith) ∙ run_typed (new hand.row) hand.col n hand t.typed)
+      ∙ ap (λ changes. texts_of (characters_from (new hand.row) hand.col n) ++ changes) (stays_handed to (moved_on n hand) (sym t.behind))
+      ∙ append-nil (texts_of (characters_from (new hand.row) hand.col n))
+
+pub typed_is_sent_alone : TypedIsSentAlone
+typed_is_sent_alone w reached rows n old new hand to e low t cols at =
+    let room : hand.col + n ≤ w = t.col in
+    ap (λ changes. (sent_batch changes e).bytes) (typed_changes w rows n old new hand to t reached low)
+    ∙ typed_bytes (new hand.row) hand.col n e (omega (arith, room, cols, at)) t.printable

@@ -1,0 +1,12 @@
+-- Nothing stands from this index on.
+use Rattle.std.proofs.Common.{◌≤◌, ◌*◌}
+use Rattle.tw_extremes.specs.Extremes.{NonePasses}
+use Rattle.tw_changed.specs.Differences.{is_used}
+use Rattle.tw_changed.specs.Sending.{screen_cells}
+use Rattle.tw_changed.proofs.difference.end_of.Given as goal
+
+abbrev pub invariant-loop-end : goal.invariant-loop-end
+invariant-loop-end l = (l.end ≤ l.rows * l.screen.width) × NonePasses (is_used l.screen.width (screen_cells l.screen)) l.end (l.rows * l.screen.width)
+
+abbrev pub decreases-loop-end : goal.decreases-loop-end
+decreases-loop-end l = l.end

@@ -1,0 +1,5 @@
+pub mod Differences
+pub mod Redrawings
+pub mod ChangedScreens
+pub mod Sending
+pub mod Shortness

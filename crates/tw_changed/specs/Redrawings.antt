@@ -1,0 +1,99 @@
+-- The changes that make one picture of another.
+use Rattle.std.specs.Prelude.{ℕ, zero, suc, pos, ◌+◌, ◌-◌, ◌/◌, ◌%◌, ◌-ℤ◌, ◌&&◌, eqb, leb, ltb, if◌then◌else◌, Option, Some, None, [], ◌∷◌, ◌++◌}
+use Rattle.tw_surface.specs.declared.cell.CellAttributes.{CellAttributes}
+use Rattle.tw_surface.specs.declared.change.Position.TheVariants.{Absolute, Relative}
+use Rattle.tw_surface.specs.contracts.cell.CellAttributesPartialEq.TheImpl.{ghosts as attributes}
+use Rattle.tw_surface.specs.ChangeView.{Batch}
+use Rattle.tw_surface.specs.ChangeView.{AllAttributes, Text, ClearToEndOfScreen, CursorPosition}
+use Rattle.tw_surface.specs.Defaults.{default_color}
+use Rattle.tw_strokes.specs.Strokes.{cleared_in}
+use Rattle.tw_screens.specs.StyledCells.{StyledCell}
+use Rattle.tw_changed.specs.declared.hand.Hand.{Hand}
+use Rattle.tw_changed.specs.Differences.{first_changed, last_changed, blank_cell, end_of}
+
+-- changes, and where they leave the hand
+pub record Redrawing : Type 0 where
+  pub changes : Batch
+  pub hand : Hand
+
+-- no change
+abbrev pub at_ease : Hand → Redrawing
+at_ease hand = record { changes = []; hand = hand }
+
+-- some changes, and then others
+abbrev pub redraw_then : Redrawing → (Hand → Redrawing) → Redrawing
+redraw_then first more = record { changes = first.changes ++ (more first.hand).changes; hand = (more first.hand).hand }
+
+-- the cursor goes to a row and a column, unless it stands there
+abbrev pub led_to : ℕ → ℕ → Hand → Redrawing
+led_to row col hand =
+    if eqb hand.row row && eqb hand.col col then at_ease hand
+    else record { changes = CursorPosition (Absolute col) (Relative (pos row -ℤ pos hand.row)) ∷ []; hand = record hand { row = row; col = col } }
+
+-- attributes are selected, unless they are
+abbrev pub under : CellAttributes → Hand → Redrawing
+under to hand = if attributes.eq hand.attributes to then at_ease hand else record { changes = AllAttributes to ∷ []; hand = record hand { attributes = to } }
+
+-- a character is typed
+abbrev pub typed_once : ℕ → Hand → Redrawing
+typed_once ch hand = record { changes = Text (ch ∷ []) ∷ []; hand = record hand { col = hand.col + 1 } }
+
+-- a cell at the cursor
+abbrev pub cell_redrawn : StyledCell → Hand → Redrawing
+cell_redrawn x hand = redraw_then (under x.attributes hand) (typed_once x.ch)
+
+-- so many cells of a row, from a column on, at the cursor
+abbrev pub run_redrawn : (ℕ → StyledCell) → ℕ → ℕ → Hand → Redrawing
+run_redrawn row col zero hand = at_ease hand
+run_redrawn row col (suc count) hand = redraw_then (cell_redrawn (row col) hand) (run_redrawn row (suc col) count)
+
+-- the cells of row r from the first one to the last one that differ
+abbrev pub span_redrawn : ℕ → (ℕ → StyledCell) → Option ℕ → Option ℕ → Hand → Redrawing
+span_redrawn r row None last hand = at_ease hand
+span_redrawn r row (Some first) None hand = at_ease hand
+span_redrawn r row (Some first) (Some last) hand = redraw_then (led_to r first hand) (run_redrawn row first (last + 1 - first))
+
+abbrev pub row_redrawn : ℕ → (ℕ → ℕ → StyledCell) → (ℕ → ℕ → StyledCell) → ℕ → Hand → Redrawing
+row_redrawn w old new r hand = span_redrawn r (new r) (first_changed w (old r) (new r)) (last_changed w (old r) (new r)) hand
+
+-- so many rows, from row r on
+abbrev pub rows_redrawn : ℕ → (ℕ → ℕ → StyledCell) → (ℕ → ℕ → StyledCell) → ℕ → ℕ → Hand → Redrawing
+rows_redrawn w old new r zero hand = at_ease hand
+rows_redrawn w old new r (suc count) hand = redraw_then (row_redrawn w old new r hand) (rows_redrawn w old new (suc r) count)
+
+-- the cursor and the attributes become those of a hand
+abbrev pub handed_to : Hand → Hand → Redrawing
+handed_to to hand = redraw_then (led_to to.row to.col hand) (under to.attributes)
+
+-- all is blank from the cursor on
+abbrev pub emptied_here : Hand → Redrawing
+emptied_here hand = record { changes = ClearToEndOfScreen default_color ∷ []; hand = hand }
+
+-- all is blank from an index on, counted along the rows
+abbrev pub emptied : ℕ → ℕ → Hand → Redrawing
+emptied w from hand = redraw_then (led_to (from / w) (from % w) hand) emptied_here
+
+-- where the old cells go on behind the end of the new ones, the rest begins there
+abbrev pub rest_of : ℕ → ℕ → (ℕ → ℕ → StyledCell) → (ℕ → ℕ → StyledCell) → Option ℕ
+rest_of w rows old new = if ltb (end_of w rows new) (end_of w rows old) then Some (end_of w rows new) else None
+
+-- the rest is emptied, where there is one
+abbrev pub rest_emptied : ℕ → Option ℕ → Hand → Redrawing
+rest_emptied w None hand = at_ease hand
+rest_emptied w (Some from) hand = emptied w from hand
+
+-- what is left of the cells then
+abbrev pub left_of : ℕ → Option ℕ → (ℕ → ℕ → StyledCell) → ℕ → ℕ → StyledCell
+left_of w None old = old
+left_of w (Some from) old = cleared_in old (from / w) (from % w) blank_cell
+
+-- the cursor goes down to the last row, so that it comes into sight, where that row was not reached before
+abbrev pub lowered : ℕ → ℕ → Hand → Redrawing
+lowered reached rows hand = if leb rows reached then at_ease hand else led_to (rows - 1) 0 hand
+
+-- the last row comes into sight, the rest is emptied, the rows that differ are drawn, and then the cursor and the attributes are led to
+abbrev pub redrawn : ℕ → ℕ → ℕ → (ℕ → ℕ → StyledCell) → (ℕ → ℕ → StyledCell) → Hand → Hand → Redrawing
+redrawn w reached rows old new to hand =
+    redraw_then (lowered reached rows hand) (λ low.
+    redraw_then (rest_emptied w (rest_of w rows old new) low) (λ emptied.
+    redraw_then (rows_redrawn w (left_of w (rest_of w rows old new) old) new 0 rows emptied) (handed_to to)))

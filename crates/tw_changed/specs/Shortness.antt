@@ -1,0 +1,40 @@
+-- How little is sent.
+use Rattle.std.specs.Prelude.{◌≡◌, ◌≤◌, ◌<◌, ◌+◌, ◌-◌, ℕ, zero, suc, true, List, [], ◌∷◌}
+use Rattle.tw_surface.specs.Characters.{is_printable}
+use Rattle.tw_screens.specs.StyledCells.{StyledCell}
+use Rattle.tw_ansi.specs.declared.encode.Encoder.{Encoder}
+use Rattle.tw_ansi.specs.Encoding.{sent_batch}
+use Rattle.tw_changed.specs.declared.hand.Hand.{Hand}
+use Rattle.tw_changed.specs.Differences.{end_of}
+use Rattle.tw_changed.specs.Redrawings.{redrawn}
+
+-- where no cell differs, no row is new, and neither cursor nor attributes are others, nothing is sent
+abbrev pub NothingIsSentForNothing : Type 0
+NothingIsSentForNothing = (w reached rows : ℕ) (old new : ℕ → ℕ → StyledCell) (hand : Hand)
+    → 0 < w → rows ≤ reached → ((i j : ℕ) → i < rows → j < w → old i j ≡ new i j)
+    → (redrawn w reached rows old new hand hand).changes ≡ []
+
+-- the characters of n cells of a row, from a column on
+abbrev pub characters_from : (ℕ → StyledCell) → ℕ → ℕ → List ℕ
+characters_from line col zero = []
+characters_from line col (suc n) = (line col).ch ∷ characters_from line (suc col) n
+
+-- the n cells at the cursor differ, the first and the last of them at least, and no others; those of the new screen are printable characters under the
+-- attributes that are selected, it does not end before the old one, and its cursor stands behind them
+pub record IsTypedAt (w rows n : ℕ) (old new : ℕ → ℕ → StyledCell) (hand to : Hand) : Type 0 where
+  pub some : 0 < n
+  pub row : hand.row < rows
+  pub col : hand.col + n ≤ w
+  pub others : (i j : ℕ) → i < rows → j < w → (i ≡ hand.row → hand.col ≤ j → j < hand.col + n → ⊥) → old i j ≡ new i j
+  pub first : old hand.row hand.col ≡ new hand.row hand.col → ⊥
+  pub last : old hand.row (hand.col + n - 1) ≡ new hand.row (hand.col + n - 1) → ⊥
+  pub typed : (j : ℕ) → hand.col ≤ j → j < hand.col + n → (new hand.row j).attributes ≡ hand.attributes
+  pub printable : (j : ℕ) → hand.col ≤ j → j < hand.col + n → is_printable (new hand.row j).ch ≡ true
+  pub onward : end_of w rows old ≤ end_of w rows new
+  pub behind : to ≡ record hand { col = hand.col + n }
+
+-- then these characters are all that is sent
+abbrev pub TypedIsSentAlone : Type 0
+TypedIsSentAlone = (w reached rows n : ℕ) (old new : ℕ → ℕ → StyledCell) (hand to : Hand) (e : Encoder)
+    → rows ≤ reached → IsTypedAt w rows n old new hand to → e.cols ≡ w → e.x ≡ hand.col
+    → (sent_batch (redrawn w reached rows old new to hand).changes e).bytes ≡ characters_from (new hand.row) hand.col n

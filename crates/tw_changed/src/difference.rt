@@ -1,0 +1,155 @@
+//! Where two screens differ.
+
+ghost use Rattle.std.specs.Prelude.{◌≡◌, ◌<◌, ◌≤◌, ◌*◌, IfSome, true, false};
+ghost use Rattle.styled_screen.specs.StyledScreens.{styled_cell};
+ghost use Rattle.tw_changed.specs.Differences.{differ_in, first_changed, last_changed, is_used, end_of};
+ghost use Rattle.tw_changed.specs.Redrawings.{left_of, rest_of};
+ghost use Rattle.tw_changed.specs.Sending.{ArePrintable, IsPrintable, screen_cells};
+
+use styled_screen::{ScreenCell, StyledScreen};
+use tw_surface::ColorAttribute;
+
+/// What stands at a row and a column.
+pub fn cell_at(screen: &StyledScreen, row: usize, col: usize) -> ScreenCell
+    requires { col < screen.now.width }
+    ensures { styled_cell result ≡ screen_cells screen.now row col }
+{
+    match screen.cell(row, col) {
+        Some(cell) => cell,
+        None => ScreenCell::blank(ColorAttribute::Default),
+    }
+}
+
+/// What stands at a row and a column of a screen that was emptied from an index on, counted along the rows.
+fn left_at(screen: &StyledScreen, from: Option<usize>, row: usize, col: usize) -> ScreenCell
+    requires { col < screen.now.width }
+    ensures { styled_cell result ≡ left_of screen.now.width from (screen_cells screen.now) row col }
+{
+    let width = screen.width();
+    match from {
+        Some(from) if from / width < row || (from / width == row && from % width <= col) => {
+            ScreenCell::blank(ColorAttribute::Default)
+        }
+        _ => cell_at(screen, row, col),
+    }
+}
+
+/// Whether two screens differ in a cell, the old one being emptied from an index on.
+fn differ_at(
+    old: &StyledScreen,
+    from: Option<usize>,
+    new: &StyledScreen,
+    row: usize,
+    col: usize,
+) -> bool
+    requires old { col < old.now.width }
+    requires new { col < new.now.width }
+    ensures { result ≡ differ_in (left_of old.now.width from (screen_cells old.now) row) (screen_cells new.now row) col }
+{
+    left_at(old, from, row, col) != cell_at(new, row, col)
+}
+
+/// The first column of a row in which two screens differ, the old one being emptied from an index on.
+pub fn first_changed(
+    old: &StyledScreen,
+    from: Option<usize>,
+    new: &StyledScreen,
+    row: usize,
+) -> Option<usize>
+    requires { old.now.width ≡ new.now.width }
+    ensures value { result ≡ first_changed new.now.width (left_of old.now.width from (screen_cells old.now) row) (screen_cells new.now row) }
+    ensures bound { IfSome result (λ col. col < new.now.width) }
+{
+    for col in 0..new.width() {
+        if differ_at(old, from, new, row, col) {
+            return Some(col);
+        }
+    }
+    None
+}
+
+/// The last column of a row in which two screens differ, the old one being emptied from an index on.
+pub fn last_changed(
+    old: &StyledScreen,
+    from: Option<usize>,
+    new: &StyledScreen,
+    row: usize,
+) -> Option<usize>
+    requires { old.now.width ≡ new.now.width }
+    ensures value { result ≡ last_changed new.now.width (left_of old.now.width from (screen_cells old.now) row) (screen_cells new.now row) }
+    ensures bound { IfSome result (λ col. col < new.now.width) }
+    ensures most { IfSome result (λ col. col < 65535) }
+{
+    let mut end = new.width();
+    while end > 0 {
+        end -= 1;
+        if differ_at(old, from, new, row, end) {
+            return Some(end);
+        }
+    }
+    None
+}
+
+/// Whether the place of an index, counted along the rows, is not blank.
+fn is_used(screen: &StyledScreen, index: usize) -> bool
+    ensures { result ≡ is_used screen.now.width (screen_cells screen.now) index }
+{
+    let width = screen.width();
+    cell_at(screen, index / width, index % width) != ScreenCell::blank(ColorAttribute::Default)
+}
+
+/// Where the cells of some rows end: the index behind the last one that is not blank.
+pub fn end_of(screen: &StyledScreen, rows: usize) -> usize
+    requires { rows ≤ 65535 }
+    ensures value { result ≡ end_of screen.now.width rows (screen_cells screen.now) }
+    ensures bound { result ≤ rows * screen.now.width }
+{
+    let mut end = rows * screen.width();
+    while end > 0 {
+        if is_used(screen, end - 1) {
+            return end;
+        }
+        end -= 1;
+    }
+    0
+}
+
+/// The index from which on the old screen is to be emptied: the end of the new one, where the old one goes on behind it.
+pub fn rest_of(old: &StyledScreen, new: &StyledScreen, rows: usize) -> Option<usize>
+    requires width { old.now.width ≡ new.now.width }
+    requires rows { rows ≤ 65535 }
+    ensures value { result ≡ rest_of new.now.width rows (screen_cells old.now) (screen_cells new.now) }
+    ensures bound { IfSome result (λ from. from < rows * new.now.width) }
+{
+    let end = end_of(new, rows);
+    if end < end_of(old, rows) {
+        return Some(end);
+    }
+    None
+}
+
+/// Whether the cells of a row are printable characters.
+fn is_printable_row(screen: &StyledScreen, row: usize) -> bool
+    ensures yes { result ≡ true → ArePrintable screen.now.width (screen_cells screen.now row) }
+    ensures no { result ≡ false → ArePrintable screen.now.width (screen_cells screen.now row) → ⊥ }
+{
+    for col in 0..screen.width() {
+        if !(' '..='~').contains(&cell_at(screen, row, col).character) {
+            return false;
+        }
+    }
+    true
+}
+
+/// Whether the cells of the first rows are printable characters.
+pub fn is_printable(screen: &StyledScreen, rows: usize) -> bool
+    ensures yes { result ≡ true → IsPrintable rows screen.now }
+    ensures no { result ≡ false → IsPrintable rows screen.now → ⊥ }
+{
+    for row in 0..rows {
+        if !is_printable_row(screen, row) {
+            return false;
+        }
+    }
+    true
+}

@@ -1,0 +1,274 @@
+//! What is sent for the difference of two screens.
+
+ghost use Rattle.std.specs.Prelude.{◌≡◌, ℕ, true, ◌<◌, ◌≤◌, ◌+◌, ◌-◌, ◌++◌, OnOk, OnErr, IfOk, IfSome, Option, string_bytes};
+ghost use Rattle.tw_surface.specs.Characters.{is_printable};
+ghost use Rattle.styled_screen.specs.StyledScreens.{styled_cell};
+ghost use Rattle.tw_ansi.specs.Encoding.{Extends, sent_batch};
+ghost use Rattle.tw_changed.specs.Redrawings.{led_to, under, cell_redrawn, run_redrawn, row_redrawn, rows_redrawn, handed_to, emptied_here, rest_emptied, rest_of, left_of, lowered, redrawn};
+ghost use Rattle.tw_changed.specs.Sending.{IsAdded, IsPrintable, screen_cells, changes_between, hand_of};
+
+use crate::difference::{cell_at, first_changed, last_changed, rest_of};
+use crate::hand::Hand;
+use std::alloc::AllocError;
+use styled_screen::{ScreenCell, StyledScreen};
+use tw_ansi::Encoder;
+use tw_surface::{CellAttributes, Change, ColorAttribute, Position};
+
+/// Where the cursor stands while a difference is sent, and what is then known of the terminal.
+#[derive(Debug, Clone, Copy)]
+struct Redrawer {
+    hand: Hand,
+    encoder: Encoder,
+}
+
+impl Redrawer {
+    /// Goes to a cell, unless the cursor stands there.
+    fn lead_to(&mut self, row: usize, col: usize, out: &mut String) -> Result<(), AllocError>
+        requires from { self.old.hand.row ≤ 4294967295 }
+        requires to { row ≤ 4294967295 }
+        ensures ok { OnOk result (IsAdded (led_to row col self.old.hand) self.old (string_bytes out.old) self.new (string_bytes out.new)) }
+        ensures row { OnOk result (self.new.hand.row ≡ row) }
+        ensures col { OnOk result (self.new.hand.col ≡ col) }
+        ensures err { OnErr result (Extends (string_bytes out.old) (string_bytes out.new)) }
+    {
+        if self.hand.row == row && self.hand.col == col {
+            return Ok(());
+        }
+        let by = row as isize - self.hand.row as isize;
+        let change = Change::CursorPosition {
+            x: Position::Absolute(col),
+            y: Position::Relative(by),
+        };
+        self.encoder.encode(&change, out)?;
+        self.hand.row = row;
+        self.hand.col = col;
+        Ok(())
+    }
+
+    /// Selects attributes, unless they are selected.
+    fn select(&mut self, to: CellAttributes, out: &mut String) -> Result<(), AllocError>
+        ensures ok { OnOk result (IsAdded (under to self.old.hand) self.old (string_bytes out.old) self.new (string_bytes out.new)) }
+        ensures col { self.new.hand.col ≡ self.old.hand.col }
+        ensures row { self.new.hand.row ≡ self.old.hand.row }
+        ensures err { OnErr result (Extends (string_bytes out.old) (string_bytes out.new)) }
+    {
+        if self.hand.attributes == to {
+            return Ok(());
+        }
+        self.encoder.encode(&Change::AllAttributes(to), out)?;
+        self.hand.attributes = to;
+        Ok(())
+    }
+
+    /// Types a cell's character under its attributes.
+    fn write_cell(&mut self, cell: ScreenCell, out: &mut String) -> Result<(), AllocError>
+        requires printable { is_printable cell.character ≡ true }
+        requires col { self.old.hand.col ≤ 65535 }
+        ensures ok { OnOk result (IsAdded (cell_redrawn (styled_cell cell) self.old.hand) self.old (string_bytes out.old) self.new (string_bytes out.new)) }
+        ensures col { OnOk result (self.new.hand.col ≡ self.old.hand.col + 1) }
+        ensures row { self.new.hand.row ≡ self.old.hand.row }
+        ensures err { OnErr result (Extends (string_bytes out.old) (string_bytes out.new)) }
+    {
+        self.select(cell.attributes, out)?;
+        self.encoder.encode_byte(cell.character as u8, out)?;
+        self.hand.col += 1;
+        Ok(())
+    }
+
+    /// Types the cells of a row from one column to before another, the cursor standing at the first of them.
+    fn write_run(
+        &mut self,
+        screen: &StyledScreen,
+        row: usize,
+        from: usize,
+        to: usize,
+        out: &mut String,
+    ) -> Result<(), AllocError>
+        requires within { to ≤ screen.now.width }
+        requires most { to ≤ 65535 }
+        requires printable { (j : ℕ) → j < screen.now.width → is_printable (screen_cells screen.now row j).ch ≡ true }
+        requires at { self.old.hand.col ≡ from }
+        ensures ok { OnOk result (IsAdded (run_redrawn (screen_cells screen.now row) from (to - from) self.old.hand) self.old (string_bytes out.old) self.new (string_bytes out.new)) }
+        ensures row { self.new.hand.row ≡ self.old.hand.row }
+        ensures err { OnErr result (Extends (string_bytes out.old) (string_bytes out.new)) }
+    {
+        for col in from..to {
+            self.write_cell(cell_at(screen, row, col), out)?;
+        }
+        Ok(())
+    }
+
+    /// Types what differs in a row of two screens, the old one being emptied from an index on.
+    fn draw_row(
+        &mut self,
+        old: &StyledScreen,
+        from: Option<usize>,
+        new: &StyledScreen,
+        row: usize,
+        out: &mut String,
+    ) -> Result<(), AllocError>
+        requires width { old.now.width ≡ new.now.width }
+        requires printable { (j : ℕ) → j < new.now.width → is_printable (screen_cells new.now row j).ch ≡ true }
+        requires row { row ≤ 4294967295 }
+        requires held { self.old.hand.row ≤ 4294967295 }
+        ensures ok { OnOk result (IsAdded (row_redrawn new.now.width (left_of old.now.width from (screen_cells old.now)) (screen_cells new.now) row self.old.hand) self.old (string_bytes out.old) self.new (string_bytes out.new)) }
+        ensures held { OnOk result (self.new.hand.row ≤ 4294967295) }
+        ensures err { OnErr result (Extends (string_bytes out.old) (string_bytes out.new)) }
+    {
+        let first = first_changed(old, from, new, row);
+        let last = last_changed(old, from, new, row);
+        match (first, last) {
+            (Some(first), Some(last)) => {
+                self.lead_to(row, first, out)?;
+                self.write_run(new, row, first, last + 1, out)
+            }
+            _ => Ok(()),
+        }
+    }
+
+    /// Types what differs in some rows of two screens, the old one being emptied from an index on.
+    fn draw_rows(
+        &mut self,
+        old: &StyledScreen,
+        from: Option<usize>,
+        new: &StyledScreen,
+        rows: usize,
+        out: &mut String,
+    ) -> Result<(), AllocError>
+        requires width { old.now.width ≡ new.now.width }
+        requires printable { IsPrintable rows new.now }
+        requires rows { rows ≤ 65535 }
+        requires held { self.old.hand.row ≤ 4294967295 }
+        ensures ok { OnOk result (IsAdded (rows_redrawn new.now.width (left_of old.now.width from (screen_cells old.now)) (screen_cells new.now) 0 rows self.old.hand) self.old (string_bytes out.old) self.new (string_bytes out.new)) }
+        ensures held { OnOk result (self.new.hand.row ≤ 4294967295) }
+        ensures err { OnErr result (Extends (string_bytes out.old) (string_bytes out.new)) }
+    {
+        for row in 0..rows {
+            self.draw_row(old, from, new, row, out)?;
+        }
+        Ok(())
+    }
+
+    /// Goes where a hand is, and selects its attributes.
+    fn hand_over(&mut self, to: Hand, out: &mut String) -> Result<(), AllocError>
+        requires to { to.row ≤ 4294967295 }
+        requires held { self.old.hand.row ≤ 4294967295 }
+        ensures ok { OnOk result (IsAdded (handed_to to self.old.hand) self.old (string_bytes out.old) self.new (string_bytes out.new)) }
+        ensures err { OnErr result (Extends (string_bytes out.old) (string_bytes out.new)) }
+    {
+        self.lead_to(to.row, to.col, out)?;
+        self.select(to.attributes, out)
+    }
+
+    /// Empties what stands from the cursor on.
+    fn empty_here(&mut self, out: &mut String) -> Result<(), AllocError>
+        ensures ok { OnOk result (IsAdded (emptied_here self.old.hand) self.old (string_bytes out.old) self.new (string_bytes out.new)) }
+        ensures row { self.new.hand.row ≡ self.old.hand.row }
+        ensures err { OnErr result (Extends (string_bytes out.old) (string_bytes out.new)) }
+    {
+        let change = Change::ClearToEndOfScreen(ColorAttribute::Default);
+        self.encoder.encode(&change, out)
+    }
+
+    /// Empties what stands from an index on, where there is one.
+    fn empty_rest(
+        &mut self,
+        width: usize,
+        from: Option<usize>,
+        out: &mut String,
+    ) -> Result<(), AllocError>
+        requires width { 0 < width }
+        requires from { IfSome from (λ index. index ≤ 4294967295) }
+        requires held { self.old.hand.row ≤ 4294967295 }
+        ensures ok { OnOk result (IsAdded (rest_emptied width from self.old.hand) self.old (string_bytes out.old) self.new (string_bytes out.new)) }
+        ensures held { OnOk result (self.new.hand.row ≤ 4294967295) }
+        ensures err { OnErr result (Extends (string_bytes out.old) (string_bytes out.new)) }
+    {
+        match from {
+            Some(from) => {
+                self.lead_to(from / width, from % width, out)?;
+                self.empty_here(out)
+            }
+            None => Ok(()),
+        }
+    }
+
+    /// Goes down to the last of some rows, so that it comes into sight, where it was not reached before.
+    fn lower(&mut self, reached: usize, rows: usize, out: &mut String) -> Result<(), AllocError>
+        requires rows { rows ≤ 65535 }
+        requires held { self.old.hand.row ≤ 4294967295 }
+        ensures ok { OnOk result (IsAdded (lowered reached rows self.old.hand) self.old (string_bytes out.old) self.new (string_bytes out.new)) }
+        ensures held { OnOk result (self.new.hand.row ≤ 4294967295) }
+        ensures err { OnErr result (Extends (string_bytes out.old) (string_bytes out.new)) }
+    {
+        if rows <= reached {
+            return Ok(());
+        }
+        self.lead_to(rows - 1, 0, out)
+    }
+
+    /// Makes one screen of another: its last row comes into sight, what stands behind the end of the new one is
+    /// emptied, and the rows that differ are typed.
+    fn redraw(
+        &mut self,
+        old: &StyledScreen,
+        reached: usize,
+        new: &StyledScreen,
+        rows: usize,
+        to: Hand,
+        out: &mut String,
+    ) -> Result<(), AllocError>
+        requires width { old.now.width ≡ new.now.width }
+        requires printable { IsPrintable rows new.now }
+        requires rows { rows ≤ 65535 }
+        requires to { to.row ≤ 4294967295 }
+        requires held { self.old.hand.row ≤ 4294967295 }
+        ensures ok { OnOk result (IsAdded (redrawn new.now.width reached rows (screen_cells old.now) (screen_cells new.now) to self.old.hand) self.old (string_bytes out.old) self.new (string_bytes out.new)) }
+        ensures err { OnErr result (Extends (string_bytes out.old) (string_bytes out.new)) }
+    {
+        let rest = rest_of(old, new, rows);
+        self.lower(reached, rows, out)?;
+        self.empty_rest(new.width(), rest, out)?;
+        self.draw_rows(old, rest, new, rows, out)?;
+        self.hand_over(to, out)
+    }
+}
+
+/// Where a screen's cursor stands, and its attributes.
+fn hand_of(screen: &StyledScreen) -> Hand
+    ensures value { result ≡ hand_of screen.now }
+    ensures row { result.row ≤ 4294967295 }
+{
+    let (row, col) = screen.cursor();
+    Hand {
+        row,
+        col,
+        attributes: screen.attributes(),
+    }
+}
+
+/// Adds what a terminal is sent that shows an old screen, and is to show a new one of as many columns, and answers what
+/// is then known of it. No more than the first `rows` rows may differ, and the terminal has reached the first `reached`
+/// of them before. A refusal may have added a part of it.
+pub fn send_changed(
+    old: &StyledScreen,
+    reached: usize,
+    new: &StyledScreen,
+    rows: usize,
+    encoder: Encoder,
+    out: &mut String,
+) -> Result<Encoder, AllocError>
+    requires width { old.now.width ≡ new.now.width }
+    requires printable { IsPrintable rows new.now }
+    requires rows { rows ≤ 65535 }
+    ensures bytes { OnOk result (string_bytes out.new ≡ string_bytes out.old ++ (sent_batch (changes_between reached rows old.now new.now) encoder).bytes) }
+    ensures next { IfOk result (λ next. next ≡ (sent_batch (changes_between reached rows old.now new.now) encoder).next) }
+    ensures err { OnErr result (Extends (string_bytes out.old) (string_bytes out.new)) }
+{
+    let mut redrawer = Redrawer {
+        hand: hand_of(old),
+        encoder,
+    };
+    redrawer.redraw(old, reached, new, rows, hand_of(new), out)?;
+    Ok(redrawer.encoder)
+}
