@@ -1,0 +1,2 @@
+pub mod DrawnBatches
+pub mod CutScreens

@@ -1,0 +1,234 @@
+//! What a terminal shows, as far as it is known.
+
+ghost use Rattle.std.specs.Prelude.{◌≡◌, ◌≤◌, ◌<◌, ◌++◌, ℕ, [], ◌∷◌, true, IfOk, IfSome, OnOk, Some, string_bytes};
+ghost use Rattle.tw_ansi.specs.Encoding.{sent_batch};
+ghost use Rattle.tw_surface.specs.ChangeView.{batch_view, change_view};
+ghost use Rattle.styled_screen.specs.StyledScreens.{blank_styled};
+ghost use Rattle.tw_changed.specs.Sending.{IsPrintable, screen_cells};
+ghost use Rattle.tw_sparing.specs.Shown.{changes_below, IsBegunBy, IsDrawn, FitsTerminal, IsKnownAfter, KeepsAbove};
+
+use std::alloc::{AllocError, Global};
+use styled_screen::StyledScreen;
+use tw_ansi::Encoder;
+use tw_changed::{cell_at, is_printable, send_changed};
+use tw_surface::{Change, ColorAttribute, Position};
+use tw_terminal::ScreenSize;
+
+/// The most rows that a move leads.
+const MOST_ROWS: usize = 65_535;
+
+/// A screen without a bottom, whose first row is the one from which on the terminal was last emptied, and how many of
+/// its rows the terminal has reached.
+#[derive(Debug, Drop)]
+pub struct Shown {
+    pub screen: StyledScreen,
+    pub reached: usize,
+}
+
+impl Shown {
+    /// An empty screen. Where it has no column, or too many, it is not known what is shown.
+    fn empty(alloc: Global, cols: usize) -> Option<Self>
+        ensures { IfSome result (λ shown. shown.screen ≡ blank_styled cols) }
+    {
+        match StyledScreen::new(alloc, cols) {
+            Ok(screen) => Some(Shown { screen, reached: 1 }),
+            Err(_) => None,
+        }
+    }
+
+    /// Plays a change. It answers false where it is not known what the terminal shows then: where the cursor would go above
+    /// the last rows that it has reached.
+    fn play(&mut self, change: &Change, rows: usize) -> bool
+        ensures drawn { result ≡ true → IsDrawn (change_view change.now ∷ []) self.old.screen self.new.screen }
+        ensures reached { self.old.reached ≤ self.new.reached }
+    {
+        let (row, _) = self.screen.cursor();
+        let above = row.saturating_sub(self.reached.saturating_sub(rows));
+        if !is_playable(change, above) || self.screen.apply(change).is_err() {
+            return false;
+        }
+        let (row, _) = self.screen.cursor();
+        self.reached = self.reached.max(row + 1);
+        true
+    }
+
+    /// Plays a batch. It answers false where it is not known what the terminal shows then.
+    fn play_all(&mut self, changes: &[Change], rows: usize) -> bool
+        ensures drawn { result ≡ true → IsDrawn (batch_view changes.now) self.old.screen self.new.screen }
+        ensures reached { self.old.reached ≤ self.new.reached }
+    {
+        for change in changes {
+            if !self.play(change, rows) {
+                return false;
+            }
+        }
+        true
+    }
+
+    /// Whether its cursor stands in a column and in one of the last rows that it has reached, and its cells hold printable
+    /// characters.
+    fn is_fit(&self, rows: usize) -> bool
+        ensures { result ≡ true → FitsTerminal rows self.now }
+    {
+        let (row, col) = self.screen.cursor();
+        self.reached <= MOST_ROWS
+            && self.reached.saturating_sub(rows) <= row
+            && col < self.screen.width()
+            && is_printable(&self.screen, self.reached)
+    }
+
+    /// What is shown once a batch is drawn on it, on a terminal of so many rows.
+    fn drawn(&self, alloc: Global, changes: &[Change], rows: usize) -> Option<Self>
+        ensures { IfSome result (λ new. IsKnownAfter self.now.screen.width rows (batch_view changes.now) (Some self.now) (Some new)) }
+    {
+        let Ok(screen) = self.screen.copy(alloc) else {
+            return None;
+        };
+        let mut next = Shown {
+            screen,
+            reached: self.reached,
+        };
+        if !next.play_all(changes, usize::MAX) || !next.is_fit(rows) {
+            return None;
+        }
+        let top = next.reached.saturating_sub(rows);
+        if is_same_above(&self.screen, &next.screen, top) {
+            return Some(next);
+        }
+        None
+    }
+}
+
+/// Whether a row of two screens shows the same.
+fn is_same_row(old: &StyledScreen, new: &StyledScreen, row: usize) -> bool
+    requires { old.now.width ≡ new.now.width }
+    ensures { result ≡ true → (j : ℕ) → j < new.now.width → screen_cells old.now row j ≡ screen_cells new.now row j }
+{
+    for col in 0..new.width() {
+        if cell_at(old, row, col) != cell_at(new, row, col) {
+            return false;
+        }
+    }
+    true
+}
+
+/// Whether the first rows of two screens show the same, and the cursor of the old one is behind them.
+fn is_same_above(old: &StyledScreen, new: &StyledScreen, top: usize) -> bool
+    requires { old.now.width ≡ new.now.width }
+    ensures { result ≡ true → KeepsAbove top old.now new.now }
+{
+    let (at, _) = old.cursor();
+    if at < top {
+        return false;
+    }
+    for row in 0..top {
+        if !is_same_row(old, new, row) {
+            return false;
+        }
+    }
+    true
+}
+
+/// Whether it is known what a change does to a terminal with so many known rows above its cursor: a plain text, a clearing
+/// that leaves blanks from the cursor on, attributes, and a relative move to one of the rows that are known.
+fn is_playable(change: &Change, above: usize) -> bool {
+    match change {
+        Change::Text(text) => text.as_bytes().iter().all(|byte| *byte == b'\r'
+            || *byte == b'\n'
+            || (0x20..=0x7e).contains(byte)),
+        Change::CursorPosition {
+            x: _,
+            y: Position::Relative(by),
+        } => *by >= 0 || by.unsigned_abs() <= above,
+        Change::CursorPosition { x: _, y: _ } => false,
+        Change::ClearToEndOfScreen(color) => *color == ColorAttribute::Default,
+        Change::ClearScreen(_) => false,
+        Change::Attribute(_) | Change::AllAttributes(_) => true,
+    }
+}
+
+/// Whether a batch empties the terminal from its cursor on, and sets all attributes.
+fn empties(changes: &[Change]) -> bool {
+    matches!(
+        changes,
+        [Change::ClearToEndOfScreen(_), Change::AllAttributes(_), ..]
+    )
+}
+
+/// What is left of a batch that empties the terminal from column 0 on: where it begins there, or behind its move.
+fn begun(changes: &[Change], at_start: bool) -> Option<&[Change]>
+    ensures { IfSome result (λ rest. IsBegunBy (batch_view changes.now) (batch_view rest.now)) }
+{
+    match changes {
+        [
+            Change::CursorPosition {
+                x: Position::Absolute(0),
+                y: _,
+            },
+            rest @ ..,
+        ] if empties(rest) => Some(rest),
+        _ if at_start && empties(changes) => Some(changes),
+        _ => None,
+    }
+}
+
+/// What a terminal of a size shows once a batch was sent, by what it showed before.
+pub fn shown_after(
+    alloc: Global,
+    size: ScreenSize,
+    shown: &Option<Shown>,
+    at_start: bool,
+    changes: &[Change],
+) -> Option<Shown>
+    ensures { IsKnownAfter size.cols size.rows (batch_view changes.now) shown.now result }
+{
+    if let Some(shown) = shown {
+        return shown.drawn(alloc, changes, size.rows);
+    }
+    let rest = begun(changes, at_start)?;
+    let mut next = Shown::empty(alloc, size.cols)?;
+    if next.play_all(rest, size.rows) && next.is_fit(size.rows) {
+        return Some(next);
+    }
+    None
+}
+
+/// Whether a batch leaves the cursor in column 0 of a terminal.
+pub fn ends_at_start(changes: &[Change]) -> bool {
+    matches!(
+        changes,
+        [.., Change::ClearScreen(_)]
+            | [
+                ..,
+                Change::CursorPosition {
+                    x: Position::Absolute(0),
+                    y: _
+                },
+                Change::ClearToEndOfScreen(_)
+            ]
+    )
+}
+
+/// Adds what differs of two screens below their first rows, and answers what is then known of the terminal.
+pub fn send_below(
+    alloc: Global,
+    old: &Shown,
+    new: &Shown,
+    top: usize,
+    encoder: Encoder,
+    out: &mut String,
+) -> Result<Encoder, AllocError>
+    requires width { old.now.screen.width ≡ new.now.screen.width }
+    requires printable { IsPrintable new.now.reached new.now.screen }
+    requires most { new.now.reached ≤ 65535 }
+    requires old_row { top ≤ old.now.screen.row }
+    requires new_row { top ≤ new.now.screen.row }
+    ensures bytes { OnOk result (string_bytes out.new ≡ string_bytes out.old ++ (sent_batch (changes_below top old.now new.now) encoder).bytes) }
+    ensures next { IfOk result (λ next. next ≡ (sent_batch (changes_below top old.now new.now) encoder).next) }
+{
+    let before = old.screen.without_rows(alloc, top)?;
+    let after = new.screen.without_rows(alloc, top)?;
+    let reached = old.reached.saturating_sub(top);
+    let rows = new.reached.saturating_sub(top);
+    send_changed(&before, reached, &after, rows, encoder, out)
+}

@@ -1,0 +1,225 @@
+//! A terminal over a writer that is sent what differs.
+
+ghost use Rattle.std.specs.Io.KnownBytes.{Appends, Keeps};
+ghost use Rattle.std.specs.Prelude.{◌≡◌, ◌++◌, [], Ok, None, IfOk, OnOk, OnErr, string_bytes};
+ghost use Rattle.tw_surface.specs.ChangeView.{batch_view};
+ghost use Rattle.tw_surface.specs.Defaults.{default_attributes};
+ghost use Rattle.tw_terminal.specs.TerminalState.{fresh_terminal, Fails, Flushes, RenderFails, Renders};
+ghost use Rattle.tw_ansi.specs.Encoding.{first_known, without_attributes, sent_batch};
+ghost use Rattle.tw_ansi.specs.Sequences.{set_attributes};
+ghost use Rattle.tw_sparing.specs.Shown.{IsKnownAfter, sent_for};
+ghost use Rattle.tw_sparing.specs.Terminal.{terminal_state};
+
+use crate::shown::{Shown, ends_at_start, send_below, shown_after};
+use std::alloc::{AllocError, Global};
+use std::io::Write;
+use std::snapshot::Snapshot;
+use tw_ansi::Encoder;
+use tw_input::InputEvent;
+use tw_surface::Change;
+use tw_terminal::{BatchLog, ScreenSize, Terminal, TerminalFault};
+
+/// A terminal over a writer. It has no events, and the size that its owner gives it. Where it is known what it shows, a
+/// batch is sent as what differs then, and else by its changes.
+#[derive(Drop)]
+pub struct SparingTerminal<W> {
+    alloc: Global,
+    writer: W,
+    encoder: Encoder,
+    size: ScreenSize,
+    batches: BatchLog,
+    flushed: Snapshot<BatchLog>,
+    failures: usize,
+    shown: Option<Shown>,
+    at_start: bool,
+}
+
+impl<W: Write> SparingTerminal<W> {
+    /// A terminal of this size, whose cursor stands in column 0.
+    pub fn new(alloc: Global, writer: W, size: ScreenSize) -> Self
+        ensures state { terminal_state result ≡ fresh_terminal size [] }
+        ensures known { result.encoder ≡ first_known size.cols }
+        ensures shown { result.shown ≡ None }
+        ensures writer { result.writer ≡ writer }
+    {
+        let batches = BatchLog::new();
+        let flushed = Snapshot::of(&batches);
+        SparingTerminal {
+            alloc,
+            writer,
+            encoder: Encoder::new(size.cols),
+            size,
+            batches,
+            flushed,
+            failures: 0,
+            shown: None,
+            at_start: true,
+        }
+    }
+
+    /// Sets the size, which nothing else changes. What the terminal shows then is not known.
+    pub fn set_screen_size(&mut self, size: ScreenSize)
+        ensures state { terminal_state self.new ≡ record (terminal_state self.old) { size = size } }
+        ensures known { self.new.encoder ≡ record self.old.encoder { cols = size.cols } }
+        ensures shown { self.new.shown ≡ None }
+        ensures writer { self.new.writer ≡ self.old.writer }
+    {
+        self.encoder.set_cols(size.cols);
+        self.size = size;
+        self.shown = None;
+    }
+
+    /// Sends a text of its owner's as it is, behind a reset of all attributes: a line may have ended in some. The text
+    /// has to leave the cursor in column 0, and no attribute set. What the terminal shows then is not known. A refusal
+    /// may have sent a beginning.
+    pub fn send(&mut self, text: &str) -> Result<(), TerminalFault>
+        ensures kept { terminal_state self.new ≡ terminal_state self.old }
+        ensures sent { let bytes = set_attributes default_attributes ++ text.now in
+            OnOk result (Appends (W.contents self.old.writer) (W.contents self.new.writer) bytes) }
+        ensures next { OnOk result (self.new.encoder ≡ without_attributes self.old.encoder) }
+        ensures known { OnErr result (self.new.encoder ≡ self.old.encoder) }
+        ensures shown { self.new.shown ≡ None }
+    {
+        self.shown = None;
+        self.at_start = false;
+        let mut encoder = self.encoder;
+        self.write(encoder.reset())?;
+        self.write(text)?;
+        self.encoder = encoder;
+        self.at_start = true;
+        Ok(())
+    }
+
+    /// Writes a text as it is.
+    fn write(&mut self, text: &str) -> Result<(), TerminalFault>
+        ensures kept { terminal_state self.new ≡ terminal_state self.old }
+        ensures known { self.new.encoder ≡ self.old.encoder }
+        ensures shown { self.new.shown ≡ self.old.shown }
+        ensures sent { OnOk result (Appends (W.contents self.old.writer) (W.contents self.new.writer) text.now) }
+    {
+        match self.writer.write_all(text.as_bytes()) {
+            Ok(()) => Ok(()),
+            Err(_) => Err(TerminalFault::Device),
+        }
+    }
+
+    /// Adds what a batch is sent as by its changes, and answers what is then known.
+    fn encode(&self, changes: &[Change], text: &mut String) -> Result<Encoder, AllocError>
+        ensures bytes { let sent = sent_batch (batch_view changes.now) self.now.encoder in
+            OnOk result (string_bytes text.new ≡ string_bytes text.old ++ sent.bytes) }
+        ensures next { IfOk result (λ encoder. encoder ≡ (sent_batch (batch_view changes.now) self.now.encoder).next) }
+    {
+        let mut encoder = self.encoder;
+        for change in changes {
+            encoder.encode(change, text)?;
+        }
+        Ok(encoder)
+    }
+
+    /// Adds what a batch is sent as, by what is shown before it and after it, and answers what is then known.
+    fn encode_for(
+        &self,
+        changes: &[Change],
+        next: &Option<Shown>,
+        text: &mut String,
+    ) -> Result<Encoder, AllocError>
+        requires { IsKnownAfter self.now.size.cols self.now.size.rows (batch_view changes.now) self.now.shown next.now }
+        ensures bytes { let sent = sent_batch (sent_for self.now.size.rows (batch_view changes.now) self.now.shown next.now) self.now.encoder in
+            OnOk result (string_bytes text.new ≡ string_bytes text.old ++ sent.bytes) }
+        ensures next { IfOk result (λ encoder. encoder ≡ (sent_batch (sent_for self.now.size.rows (batch_view changes.now) self.now.shown next.now) self.now.encoder).next) }
+    {
+        match (&self.shown, next) {
+            (Some(old), Some(new)) => {
+                let top = new.reached.saturating_sub(self.size.rows);
+                send_below(self.alloc, old, new, top, self.encoder, text)
+            }
+            _ => self.encode(changes, text),
+        }
+    }
+
+    /// Sends a batch. Where it is refused it is not known what the terminal shows.
+    fn put(&mut self, changes: &[Change]) -> Result<(), TerminalFault>
+        ensures sent { let sent = sent_batch (sent_for self.old.size.rows (batch_view changes.now) self.old.shown self.new.shown) self.old.encoder in
+            OnOk result (Appends (W.contents self.old.writer) (W.contents self.new.writer) sent.bytes) }
+        ensures next { OnOk result (self.new.encoder ≡ (sent_batch (sent_for self.old.size.rows (batch_view changes.now) self.old.shown self.new.shown) self.old.encoder).next) }
+        ensures shown { OnOk result (IsKnownAfter self.old.size.cols self.old.size.rows (batch_view changes.now) self.old.shown self.new.shown) }
+        ensures ok { OnOk result (Renders (batch_view changes.now) (terminal_state self.old) (terminal_state self.new)) }
+        ensures err { OnErr result (terminal_state self.new ≡ terminal_state self.old) }
+        ensures known { OnErr result (self.new.encoder ≡ self.old.encoder) }
+        ensures lost { OnErr result (self.new.shown ≡ None) }
+    {
+        let next = shown_after(self.alloc, self.size, &self.shown, self.at_start, changes);
+        let mut text = String::new(self.alloc);
+        let encoded = self.encode_for(changes, &next, &mut text);
+        self.shown = None;
+        self.at_start = false;
+        let Ok(encoder) = encoded else {
+            return Err(TerminalFault::Memory);
+        };
+        if self.writer.write_all(text.as_bytes()).is_err() {
+            return Err(TerminalFault::Device);
+        }
+        self.encoder = encoder;
+        self.shown = next;
+        self.at_start = ends_at_start(changes);
+        self.batches = self.batches.with_batch(changes);
+        Ok(())
+    }
+}
+
+impl<W: Write> Terminal for SparingTerminal<W> {
+    ghost state = { terminal_state };
+
+    /// The size that its owner gave it. It is never refused.
+    fn get_screen_size(&mut self) -> Result<ScreenSize, TerminalFault>
+        ensures size { result ≡ Ok (terminal_state self.old).size }
+        ensures kept { self.new ≡ self.old }
+    {
+        Ok(self.size)
+    }
+
+    /// None, at every call. It is never refused.
+    fn poll_input(&mut self) -> Result<Option<InputEvent>, TerminalFault>
+        ensures none { result ≡ Ok None }
+        ensures kept { self.new ≡ self.old }
+    {
+        Ok(None)
+    }
+
+    /// Sends at once what differs, or the bytes of the changes where it is not known what the terminal shows. Where the
+    /// writer is refused a beginning of them may have been sent, and it is not known what the terminal shows.
+    fn render(&mut self, changes: &[Change]) -> Result<(), TerminalFault>
+        ensures ok { OnOk result (Renders (batch_view changes.now) (terminal_state self.old) (terminal_state self.new)) }
+        ensures err { OnErr result (RenderFails (batch_view changes.now) (terminal_state self.old) (terminal_state self.new)) }
+        ensures sent { let sent = sent_batch (sent_for self.old.size.rows (batch_view changes.now) self.old.shown self.new.shown) self.old.encoder in
+            OnOk result (Appends (W.contents self.old.writer) (W.contents self.new.writer) sent.bytes) }
+        ensures next { OnOk result (self.new.encoder ≡ (sent_batch (sent_for self.old.size.rows (batch_view changes.now) self.old.shown self.new.shown) self.old.encoder).next) }
+        ensures shown { OnOk result (IsKnownAfter self.old.size.cols self.old.size.rows (batch_view changes.now) self.old.shown self.new.shown) }
+        ensures known { OnErr result (self.new.encoder ≡ self.old.encoder) }
+        ensures lost { OnErr result (self.new.shown ≡ None) }
+    {
+        match self.put(changes) {
+            Ok(()) => Ok(()),
+            Err(fault) => {
+                self.failures = self.failures.saturating_add(1);
+                Err(fault)
+            }
+        }
+    }
+
+    /// Flushes the writer, to which it adds no byte.
+    fn flush(&mut self) -> Result<(), TerminalFault>
+        ensures ok { OnOk result (Flushes (terminal_state self.old) (terminal_state self.new)) }
+        ensures err { OnErr result (Fails (terminal_state self.old) (terminal_state self.new)) }
+        ensures known { self.new.encoder ≡ self.old.encoder }
+        ensures shown { self.new.shown ≡ self.old.shown }
+        ensures writer { Keeps (W.contents self.old.writer) (W.contents self.new.writer) }
+    {
+        if self.writer.flush().is_err() {
+            self.failures = self.failures.saturating_add(1);
+            return Err(TerminalFault::Device);
+        }
+        self.flushed = Snapshot::of(&self.batches);
+        Ok(())
+    }
+}
