@@ -1,5 +1,6 @@
 //! Actions, prompts and lines of an editor, with each request refused in turn.
 
+use crate::expected::{expect_count, expect_line, expect_number, expect_text, expect_that};
 use case_player::{batches_text, case_of, events_named, host_of, mark, terminal_of};
 use std::alloc::Global;
 use std::process::Abort;
@@ -37,7 +38,7 @@ fn step<H: LineEditorHost>(
     if number == 0 {
         return Ok(0);
     }
-    assert_eq!(rt; editor.get_line_and_cursor(), (line.as_str(), cursor));
+    expect_line(rt, editor.get_line_and_cursor(), (line.as_str(), cursor));
     if number != 6 && number != 7 {
         return Ok(number);
     }
@@ -62,8 +63,8 @@ fn expect_action<H: LineEditorHost>(
     assert!(rt; line.is_char_boundary(cursor), "{line:?} at {cursor}");
     editor.set_line_and_cursor(line, cursor)?;
     let refusal = step(rt, alloc, &mut editor, host, action, again)?;
-    assert_eq!(rt; refusal, number, "{line:?} at {cursor}");
-    assert_eq!(rt; editor.get_line_and_cursor(), (left, target));
+    expect_number(rt, line, refusal, number);
+    expect_line(rt, editor.get_line_and_cursor(), (left, target));
     Ok(())
 }
 
@@ -180,18 +181,18 @@ fn expect_steps(rt: &impl Abort, alloc: Global, lines: &str, wanted: &str) -> Re
         let action = default_action(alloc, event)?.ok_or("no action")?;
         let again = default_action(alloc, event)?.ok_or("no action")?;
         let refusal = step(rt, alloc, &mut editor, &mut host, action, again)?;
-        assert_eq!(rt; refusal, 0, "{lines}");
+        expect_number(rt, lines, refusal, 0);
     }
     let (line, cursor) = editor.get_line_and_cursor();
     let shown = format!(in alloc; "{line:?} at {cursor}")?;
-    assert_eq!(rt; shown.as_str(), wanted, "{lines}");
+    expect_text(rt, lines, shown.as_str(), wanted);
     Ok(())
 }
 
 /// What the later actions come to shows that a refused one left mode, index, typed line and cycle as they were.
 #[test]
 fn actions_refused_in_turn(rt: HostRuntime) -> Result<(), Fail> {
-    let mut count = 0u32;
+    let mut count = 0usize;
     for text in STEPS.split("==\n") {
         let Some((lines, wanted)) = text.split_once("--\n") else {
             continue;
@@ -199,8 +200,19 @@ fn actions_refused_in_turn(rt: HostRuntime) -> Result<(), Fail> {
         expect_steps(&rt, rt.alloc(), lines, wanted.trim_end())?;
         count = count.saturating_add(1);
     }
-    assert_eq!(rt; count, 10);
+    expect_count(&rt, "cases", count, 10);
     Ok(())
+}
+
+/// Applies an action, which is not refused.
+fn expect_applied<H: LineEditorHost>(
+    rt: &impl Abort,
+    editor: &mut LineEditor<'_, ScriptTerminal>,
+    host: &mut H,
+    action: Action,
+) {
+    let refusal = refusal_of(editor.apply_action(host, action));
+    expect_number(rt, "an action", refusal, 0);
 }
 
 /// A kill takes memory while searching alone.
@@ -211,16 +223,17 @@ fn kills_of_a_pattern_refused_in_turn(rt: HostRuntime) -> Result<(), Fail> {
     let mut host = host_of(alloc, BasicHistory::new(alloc), &case)?;
     let mut terminal = terminal_of(alloc, 80, "")?;
     let mut editor = LineEditor::new(alloc, &mut terminal)?;
-    editor.apply_action(&mut host, Action::HistoryIncSearchBackwards)?;
     let pattern = Action::InsertText(1, String::from_str(alloc, "ab")?);
-    editor.apply_action(&mut host, pattern)?;
+    let search = Action::HistoryIncSearchBackwards;
+    expect_applied(&rt, &mut editor, &mut host, search);
+    expect_applied(&rt, &mut editor, &mut host, pattern);
     let back = Movement::BackwardChar(1);
     let (kill, again) = (Action::Kill(back), Action::Kill(back));
     let refusal = step(&rt, alloc, &mut editor, &mut host, kill, again)?;
-    assert_eq!(rt; refusal, 0);
-    assert_eq!(rt; editor.get_line_and_cursor(), ("a", 1));
-    editor.apply_action(&mut host, Action::AcceptLine)?;
-    assert_eq!(rt; editor.get_line_and_cursor(), ("ab", 0));
+    expect_number(&rt, "a kill while searching", refusal, 0);
+    expect_line(&rt, editor.get_line_and_cursor(), ("a", 1));
+    expect_applied(&rt, &mut editor, &mut host, Action::AcceptLine);
+    expect_line(&rt, editor.get_line_and_cursor(), ("ab", 0));
     Ok(())
 }
 
@@ -236,11 +249,11 @@ fn set_lines_refused_in_turn(rt: HostRuntime) -> Result<(), Fail> {
     mark(alloc)?;
     let refusal = refusal_of(answer);
     if refusal != 0 {
-        assert_eq!(rt; refusal, 6);
-        assert_eq!(rt; editor.get_line_and_cursor(), ("\u{e9}", 2));
+        expect_number(&rt, "a line", refusal, 6);
+        expect_line(&rt, editor.get_line_and_cursor(), ("\u{e9}", 2));
         editor.set_line_and_cursor("hello world", 5)?;
     }
-    assert_eq!(rt; editor.get_line_and_cursor(), ("hello world", 5));
+    expect_line(&rt, editor.get_line_and_cursor(), ("hello world", 5));
     Ok(())
 }
 
@@ -253,6 +266,15 @@ const AFTER: &str = "\
 ClearToEndOfScreen, AllAttributes, Text(\"$ \"), AllAttributes, Text(\"\"), CP(R(0), R(0))
 CP(A(0), R(1)), ClearToEndOfScreen
 ";
+
+/// Reads a line, which is not refused.
+fn expect_line_read(
+    rt: &impl Abort,
+    editor: &mut LineEditor<'_, ScriptTerminal>,
+    host: &mut NopLineEditorHost,
+) {
+    expect_that(rt, "a reading", editor.read_line(host).is_ok());
+}
 
 /// A refused prompt leaves the one before it, which the next reading shows.
 #[test]
@@ -267,16 +289,16 @@ fn prompts_refused_in_turn(rt: HostRuntime) -> Result<(), Fail> {
     let refusal = refusal_of(answer);
     let mut wanted = String::new(alloc);
     if refusal != 0 {
-        assert_eq!(rt; refusal, 6);
+        expect_number(&rt, "a prompt", refusal, 6);
         wanted.push_str(BEFORE)?;
-        editor.read_line(&mut host)?;
+        expect_line_read(&rt, &mut editor, &mut host);
         editor.set_prompt("$ ")?;
     }
     wanted.push_str(AFTER)?;
-    editor.read_line(&mut host)?;
+    expect_line_read(&rt, &mut editor, &mut host);
     drop(editor);
     let shown = batches_text(alloc, terminal.batches())?;
-    assert_eq!(rt; shown.as_str(), wanted.as_str());
+    expect_text(&rt, "paintings", shown.as_str(), wanted.as_str());
     Ok(())
 }
 
@@ -293,8 +315,8 @@ fn a_paste_refused_in_turn(rt: HostRuntime) -> Result<(), Fail> {
             Err(_) => default_action(alloc, event)?,
         };
         match action {
-            Some(Action::InsertText(1, text)) => assert_eq!(rt; text.as_str(), "g"),
-            _ => assert!(rt; false, "no insertion"),
+            Some(Action::InsertText(1, text)) => expect_text(&rt, "a paste", text.as_str(), "g"),
+            _ => expect_that(&rt, "no insertion", false),
         }
     }
     Ok(())

@@ -1,5 +1,6 @@
 //! Lines that are fed their events, with each request refused in turn.
 
+use crate::expected::expect_count;
 use crate::feeding::{Call, expect_fed};
 use case_player::{ResolvingHost, case_of, host_of};
 use std::alloc::Global;
@@ -7,9 +8,15 @@ use std::process::Abort;
 use std::test::Fail;
 use tw_lineedit::BasicHistory;
 
-/// Runs the cases with marks round the calls of one kind, and says how many there were. A case has the lines of
+/// Runs the cases, so many, with marks round the calls of one kind. A case has the lines of
 /// `case_of`, and below `--` the answer of the line; `==` ends it.
-fn expect_all(rt: &impl Abort, alloc: Global, marked: Call, cases: &str) -> Result<usize, Fail> {
+fn expect_all(
+    rt: &impl Abort,
+    alloc: Global,
+    marked: Call,
+    cases: &str,
+    wanted_count: usize,
+) -> Result<(), Fail> {
     let mut count = 0usize;
     for text in cases.split("==\n") {
         let Some((lines, wanted)) = text.split_once("--\n") else {
@@ -20,7 +27,8 @@ fn expect_all(rt: &impl Abort, alloc: Global, marked: Call, cases: &str) -> Resu
         expect_fed(rt, alloc, &case, &mut host, marked, wanted.trim_end())?;
         count = count.saturating_add(1);
     }
-    Ok(count)
+    expect_count(rt, "cases", count, wanted_count);
+    Ok(())
 }
 
 const BEGUN: &str = "\
@@ -43,9 +51,7 @@ Some(\"abcdefgh\")
 
 #[test]
 fn begun_lines_refused_in_turn(rt: HostRuntime) -> Result<(), Fail> {
-    let cases = expect_all(&rt, rt.alloc(), Call::Begin, BEGUN)?;
-    assert_eq!(rt; cases, 3);
-    Ok(())
+    expect_all(&rt, rt.alloc(), Call::Begin, BEGUN, 3)
 }
 
 const FED: &str = "\
@@ -75,9 +81,7 @@ Some(\"far\")
 
 #[test]
 fn fed_events_refused_in_turn(rt: HostRuntime) -> Result<(), Fail> {
-    let cases = expect_all(&rt, rt.alloc(), Call::Feed, FED)?;
-    assert_eq!(rt; cases, 4);
-    Ok(())
+    expect_all(&rt, rt.alloc(), Call::Feed, FED, 4)
 }
 
 const FINISHED: &str = "\
@@ -102,9 +106,7 @@ None
 
 #[test]
 fn finished_lines_refused_in_turn(rt: HostRuntime) -> Result<(), Fail> {
-    let cases = expect_all(&rt, rt.alloc(), Call::Finish, FINISHED)?;
-    assert_eq!(rt; cases, 4);
-    Ok(())
+    expect_all(&rt, rt.alloc(), Call::Finish, FINISHED, 4)
 }
 
 /// The first function key makes the line `clear`.

@@ -1,7 +1,8 @@
 //! Lines that are fed their events with requests for memory refused, beside the same lines with memory.
 
+use crate::expected::{expect_text, expect_that};
 use crate::readings::without_clearing;
-use crate::watched::{Seen, Watched};
+use crate::watched::{Seen, Watched, expect_seen};
 use case_player::{Case, answer_text, batches_text, events_named, mark_if};
 use std::alloc::Global;
 use std::process::Abort;
@@ -229,10 +230,18 @@ fn expect_refusal(
         Err(Error::Memory(_) | Error::Terminal(TerminalFault::Memory))
     );
     let answer = answer_text(alloc, &refused.end.answer)?;
-    assert!(rt; is_memory, "{events}: {answer}");
     let shown = batches_text(alloc, refused.batches())?;
-    assert!(rt; stops_at(refused, cut), "{events}: {shown}");
+    let told = format!(in alloc; "{events}: {answer}\n{shown}")?;
+    expect_that(rt, told.as_str(), is_memory);
+    expect_that(rt, told.as_str(), stops_at(refused, cut));
     Ok(())
+}
+
+/// Tests that two lines came to the same.
+fn expect_same(rt: &impl Abort, events: &str, told: &FedLine, wanted: &FedLine) {
+    expect_that(rt, events, told.batches() == wanted.batches());
+    expect_seen(rt, events, told.end.seen, wanted.end.seen);
+    expect_text(rt, events, told.end.line.as_str(), wanted.end.line.as_str());
 }
 
 /// Feeds a line the events of a case, whose answer is wanted, with marks round the calls of one kind. Where one of
@@ -249,13 +258,11 @@ pub fn expect_fed<H: LineEditorHost>(
     let told = fed_line(alloc, case, host, usize::MAX, Some(marked))?;
     let fed = told.end.fed.unwrap_or(0);
     let cut = fed_line(alloc, case, host, fed, None)?;
-    assert!(rt; told.is_closed && cut.is_closed, "{}", case.events);
+    expect_that(rt, case.events, told.is_closed && cut.is_closed);
     let answer = answer_text(alloc, &told.end.answer)?;
     if answer.as_str() != wanted {
         return expect_refusal(rt, alloc, case.events, &told, &cut);
     }
-    assert!(rt; told.batches() == cut.batches(), "{}", case.events);
-    assert_eq!(rt; told.end.seen, cut.end.seen, "{}", case.events);
-    assert_eq!(rt; told.end.line.as_str(), cut.end.line.as_str());
+    expect_same(rt, case.events, &told, &cut);
     Ok(())
 }

@@ -1,19 +1,34 @@
 //! Actions of an editor that make no request for memory.
 
+use crate::expected::{expect_line, expect_number, expect_that};
 use case_player::{case_of, events_named, host_of, mark, terminal_of};
 use std::alloc::{AllocError, Global};
 use std::process::Abort;
 use std::test::Fail;
 use tw_input::{InputEvent, KeyCode, KeyEvent, Modifiers};
 use tw_lineedit::{
-    Action, BasicHistory, Error, LineEditor, LineStatus, Movement, NopLineEditorHost,
-    default_action,
+    Action, BasicHistory, Error, LineEditor, LineEditorHost, LineStatus, Movement,
+    NopLineEditorHost, default_action,
 };
 use tw_terminal::{ScriptTerminal, TerminalFault};
 
 /// The modes in which an editor stands after the actions of these names: editing, in the history, completing,
 /// searching with a match and without one, cancelled and accepted.
 const MODES: &[&str] = &["a", "a Up", "f Tab Tab", "C-R g", "C-S z", "C-C", "a Enter"];
+
+/// Applies the actions of the events of these names, one after the other.
+fn apply_all<H: LineEditorHost>(
+    alloc: Global,
+    editor: &mut Editor<'_>,
+    host: &mut H,
+    names: &str,
+) -> Result<(), Fail> {
+    for event in &events_named(alloc, names)? {
+        let action = default_action(alloc, event)?.ok_or("no action")?;
+        editor.apply_action(host, action)?;
+    }
+    Ok(())
+}
 
 /// Puts the editor into a mode, and applies one action that takes no memory there.
 fn expect_free(
@@ -30,15 +45,12 @@ fn expect_free(
     let mut host = host_of(alloc, BasicHistory::new(alloc), &case)?;
     let mut terminal = terminal_of(alloc, 80, "")?;
     let mut editor = LineEditor::new(alloc, &mut terminal)?;
-    for event in &events_named(alloc, mode)? {
-        let action = default_action(alloc, event)?.ok_or("no action")?;
-        editor.apply_action(&mut host, action)?;
-    }
+    apply_all(alloc, &mut editor, &mut host, mode)?;
     mark(alloc)?;
     let answer = editor.apply_action(&mut host, action);
     mark(alloc)?;
     let number = answer.err().map_or(0, |error| error.number());
-    assert_eq!(rt; number, wanted, "after {mode}");
+    expect_number(rt, mode, number, wanted);
     Ok(())
 }
 
@@ -84,10 +96,11 @@ fn editors_are_made_without_memory(rt: HostRuntime) -> Result<(), Fail> {
     let mut terminal = terminal_of(alloc, 80, "a")?;
     mark(alloc)?;
     let mut editor = LineEditor::new(alloc, &mut terminal)?;
-    assert_eq!(rt; editor.get_line_and_cursor(), ("", 0));
-    editor.apply_action(&mut host, Action::Cancel)?;
-    let answer = editor.read_line(&mut host);
-    assert_eq!(rt; answer.err().map(|error| error.number()), Some(2));
+    expect_line(&rt, editor.get_line_and_cursor(), ("", 0));
+    let left = refusal_of(&mut editor, &mut host, Action::Cancel);
+    expect_number(&rt, "an action", left, 0);
+    let refused = refused_line(&mut editor, &mut host);
+    expect_number(&rt, "a reading", refused, 2);
     mark(alloc)?;
     Ok(())
 }
@@ -101,10 +114,27 @@ fn refusal_of(editor: &mut Editor<'_>, host: &mut NopLineEditorHost, action: Act
     answer.err().map_or(0, |error| error.number())
 }
 
+/// Applies an action of this name, which is not refused.
+fn expect_free_action(
+    rt: &impl Abort,
+    editor: &mut Editor<'_>,
+    host: &mut NopLineEditorHost,
+    name: &str,
+    action: Action,
+) {
+    expect_number(rt, name, refusal_of(editor, host, action), 0);
+}
+
 /// The number of the refusal where a line is begun, or 0.
 fn refused_beginning(editor: &mut Editor<'_>, host: &NopLineEditorHost) -> u8 {
     let begun = editor.begin_line(host, Some("ab"));
     begun.err().map_or(0, |error| error.number())
+}
+
+/// The number of the refusal where a line is read, or 0.
+fn refused_line(editor: &mut Editor<'_>, host: &mut NopLineEditorHost) -> u8 {
+    let answer = editor.read_line(host);
+    answer.err().map_or(0, |error| error.number())
 }
 
 /// The number of the refusal where a line is read and remembered, or 0.
@@ -131,11 +161,12 @@ fn no_open_line_is_fed_without_memory(rt: HostRuntime) -> Result<(), Fail> {
     let mut terminal = terminal_of(alloc, 80, "a")?;
     let mut editor = LineEditor::new(alloc, &mut terminal)?;
     mark(alloc)?;
-    assert!(rt; is_closed(&mut editor, &mut host));
-    assert!(rt; finishes_none(&mut editor));
-    assert_eq!(rt; refusal_of(&mut editor, &mut host, Action::Cancel), 0);
-    assert_eq!(rt; refused_beginning(&mut editor, &host), 2);
-    assert_eq!(rt; refused_reading(&mut editor, &mut host), 2);
+    let (it, by) = (&mut editor, &mut host);
+    expect_that(&rt, "no event is taken", is_closed(it, by));
+    expect_that(&rt, "no line is finished", finishes_none(it));
+    expect_number(&rt, "Cancel", refusal_of(it, by, Action::Cancel), 0);
+    expect_number(&rt, "a beginning", refused_beginning(it, by), 2);
+    expect_number(&rt, "a reading", refused_reading(it, by), 2);
     mark(alloc)?;
     Ok(())
 }
@@ -151,15 +182,19 @@ fn actions_with_nothing_to_do_without_memory(rt: HostRuntime) -> Result<(), Fail
     mark(alloc)?;
     let (it, by) = (&mut editor, &mut host);
     let empty = Action::InsertText(usize::MAX, String::new(alloc));
-    assert_eq!(rt; refusal_of(it, by, Action::HistoryNext), 0);
-    assert_eq!(rt; refusal_of(it, by, Action::HistoryPrevious), 0);
-    assert_eq!(rt; refusal_of(it, by, Action::Complete), 0);
-    assert_eq!(rt; refusal_of(it, by, Action::InsertChar(0, 'x')), 0);
-    assert_eq!(rt; refusal_of(it, by, empty), 0);
-    assert_eq!(rt; it.get_line_and_cursor(), ("ab", 1));
-    assert_eq!(rt; refusal_of(it, by, Action::HistoryIncSearchBackwards), 0);
-    assert_eq!(rt; refusal_of(it, by, Action::HistoryIncSearchForwards), 0);
-    assert_eq!(rt; it.get_line_and_cursor(), ("", 0));
+    expect_free_action(&rt, it, by, "HistoryNext", Action::HistoryNext);
+    expect_free_action(&rt, it, by, "HistoryPrevious", Action::HistoryPrevious);
+    expect_free_action(&rt, it, by, "Complete", Action::Complete);
+    expect_free_action(&rt, it, by, "InsertChar", Action::InsertChar(0, 'x'));
+    expect_free_action(&rt, it, by, "InsertText", empty);
+    expect_line(&rt, it.get_line_and_cursor(), ("ab", 1));
+    let (back, forth) = (
+        Action::HistoryIncSearchBackwards,
+        Action::HistoryIncSearchForwards,
+    );
+    expect_free_action(&rt, it, by, "HistoryIncSearchBackwards", back);
+    expect_free_action(&rt, it, by, "HistoryIncSearchForwards", forth);
+    expect_line(&rt, it.get_line_and_cursor(), ("", 0));
     mark(alloc)?;
     Ok(())
 }
@@ -177,7 +212,7 @@ fn refusals_are_numbered_without_memory(rt: HostRuntime) -> Result<(), Fail> {
         (Error::Memory(AllocError), 6),
         (Error::Terminal(TerminalFault::Device), 7),
     ] {
-        assert_eq!(rt; error.number(), *number);
+        expect_number(&rt, "a refusal", error.number(), *number);
     }
     mark(alloc)?;
     Ok(())
@@ -223,12 +258,13 @@ fn keys_have_actions_without_memory(rt: HostRuntime) -> Result<(), Fail> {
     ] {
         for &key in KEYS {
             let event = InputEvent::Key(KeyEvent { key, modifiers });
-            assert!(rt; default_action(alloc, &event).is_ok());
+            expect_that(&rt, "a key", default_action(alloc, &event).is_ok());
         }
     }
-    assert!(rt; default_action(alloc, &InputEvent::Wake).is_ok());
+    let woken = default_action(alloc, &InputEvent::Wake).is_ok();
+    expect_that(&rt, "a wake", woken);
     let resized = InputEvent::Resized { cols: 80, rows: 24 };
-    assert!(rt; default_action(alloc, &resized).is_ok());
+    expect_that(&rt, "a size", default_action(alloc, &resized).is_ok());
     mark(alloc)?;
     Ok(())
 }

@@ -5,6 +5,8 @@
 #[cfg(test)]
 mod actions;
 #[cfg(test)]
+mod expected;
+#[cfg(test)]
 mod fed_lines;
 #[cfg(test)]
 mod feeding;

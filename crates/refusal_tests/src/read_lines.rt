@@ -1,5 +1,6 @@
 //! Lines that are read, with each request refused in turn.
 
+use crate::expected::{expect_count, expect_text, expect_that};
 use crate::readings::{Play, expect_reading, last_reading};
 use case_player::{ColumnHost, case_of, host_of, remember_all};
 use std::alloc::Global;
@@ -7,9 +8,14 @@ use std::process::Abort;
 use std::test::Fail;
 use tw_lineedit::{BasicHistory, Error, NopLineEditorHost};
 
-/// Runs the cases, and says how many there were. A case has the lines of `case_of`, and below `--` the answer of its
+/// Runs the cases, so many. A case has the lines of `case_of`, and below `--` the answer of its
 /// last reading; `==` ends it.
-fn expect_readings(rt: &impl Abort, alloc: Global, cases: &str) -> Result<usize, Fail> {
+fn expect_readings(
+    rt: &impl Abort,
+    alloc: Global,
+    cases: &str,
+    wanted_count: usize,
+) -> Result<(), Fail> {
     let mut count = 0usize;
     for text in cases.split("==\n") {
         let Some((lines, wanted)) = text.split_once("--\n") else {
@@ -27,7 +33,8 @@ fn expect_readings(rt: &impl Abort, alloc: Global, cases: &str) -> Result<usize,
         }
         count = count.saturating_add(1);
     }
-    Ok(count)
+    expect_count(rt, "cases", count, wanted_count);
+    Ok(())
 }
 
 const TYPED: &str = "\
@@ -77,8 +84,7 @@ Some(\"b\")
 
 #[test]
 fn typed_lines_refused_in_turn(rt: HostRuntime) -> Result<(), Fail> {
-    assert_eq!(rt; expect_readings(&rt, rt.alloc(), TYPED)?, 9);
-    Ok(())
+    expect_readings(&rt, rt.alloc(), TYPED, 9)
 }
 
 const SIZES: &str = "\
@@ -111,8 +117,7 @@ refusal 3
 
 #[test]
 fn sizes_refused_in_turn(rt: HostRuntime) -> Result<(), Fail> {
-    assert_eq!(rt; expect_readings(&rt, rt.alloc(), SIZES)?, 6);
-    Ok(())
+    expect_readings(&rt, rt.alloc(), SIZES, 6)
 }
 
 const FAULTS: &str = "\
@@ -130,8 +135,7 @@ refusal 7
 
 #[test]
 fn faulty_terminals_refused_in_turn(rt: HostRuntime) -> Result<(), Fail> {
-    assert_eq!(rt; expect_readings(&rt, rt.alloc(), FAULTS)?, 2);
-    Ok(())
+    expect_readings(&rt, rt.alloc(), FAULTS, 2)
 }
 
 const WALKS: &str = "\
@@ -155,8 +159,7 @@ Some(\"\")
 
 #[test]
 fn walks_refused_in_turn(rt: HostRuntime) -> Result<(), Fail> {
-    assert_eq!(rt; expect_readings(&rt, rt.alloc(), WALKS)?, 3);
-    Ok(())
+    expect_readings(&rt, rt.alloc(), WALKS, 3)
 }
 
 const SEARCHES: &str = "\
@@ -211,8 +214,7 @@ Some(\"ls\")
 
 #[test]
 fn searches_refused_in_turn(rt: HostRuntime) -> Result<(), Fail> {
-    assert_eq!(rt; expect_readings(&rt, rt.alloc(), SEARCHES)?, 7);
-    Ok(())
+    expect_readings(&rt, rt.alloc(), SEARCHES, 7)
 }
 
 const HOSTS: &str = "\
@@ -232,8 +234,7 @@ Some(\"abcdefgh\")
 
 #[test]
 fn previews_and_candidates_refused_in_turn(rt: HostRuntime) -> Result<(), Fail> {
-    assert_eq!(rt; expect_readings(&rt, rt.alloc(), HOSTS)?, 2);
-    Ok(())
+    expect_readings(&rt, rt.alloc(), HOSTS, 2)
 }
 
 #[test]
@@ -260,12 +261,13 @@ fn an_initial_value_refused_in_turn(rt: HostRuntime) -> Result<(), Fail> {
     };
     let reading = last_reading(alloc, &case, &mut host, play)?;
     if reading.sizes() == 0 {
-        assert!(rt; matches!(reading.answer(), Err(Error::Memory(_))));
-        assert_eq!(rt; reading.line(), "");
-        assert_eq!(rt; reading.batches().len(), 0);
-        assert_eq!(rt; reading.flushes(), 1);
+        let is_memory = matches!(reading.answer(), Err(Error::Memory(_)));
+        expect_that(&rt, "for memory", is_memory);
+        expect_text(&rt, "no line", reading.line(), "");
+        expect_count(&rt, "batches", reading.batches().len(), 0);
+        expect_count(&rt, "flushes", reading.flushes(), 1);
     } else {
-        assert_eq!(rt; reading.line(), "hi");
+        expect_text(&rt, "the line", reading.line(), "hi");
     }
     Ok(())
 }

@@ -1,5 +1,6 @@
 //! Readings of a line with requests for memory refused, beside the same readings with memory.
 
+use crate::expected::{expect_count, expect_text, expect_that};
 use crate::watched::{Seen, Watched};
 use case_player::{Case, answer_text, batches_text, events_named, mark};
 use std::alloc::{AllocError, Global};
@@ -187,18 +188,62 @@ fn expect_refusal(
 ) -> Result<(), Fail> {
     let events = case.events;
     match refused.answer() {
-        Err(Error::Memory(_)) => assert_eq!(rt; refused.flushes(), 1, "{events}"),
+        Err(Error::Memory(_)) => expect_count(rt, events, refused.flushes(), 1),
         Err(Error::Terminal(TerminalFault::Memory)) => {}
-        Err(Error::Terminal(TerminalFault::Device)) => assert!(rt;
-            case.fault.is_some(),
-            "{events}"
-        ),
+        Err(Error::Terminal(TerminalFault::Device)) => {
+            expect_that(rt, events, case.fault.is_some());
+        }
         answer => {
             let shown = answer_text(alloc, answer)?;
-            assert!(rt; false, "{events}: {shown}");
+            let told = format!(in alloc; "{events}: {shown}")?;
+            expect_that(rt, told.as_str(), false);
         }
     }
-    assert!(rt; refused.end.next != Some(2), "{events}");
+    expect_that(rt, events, refused.end.next != Some(2));
+    Ok(())
+}
+
+/// Tests that what the terminal took of a refused reading is a beginning of what it takes with memory.
+fn expect_beginning(
+    rt: &impl Abort,
+    case: &Case<'_>,
+    refused: &LastReading,
+    with_memory: &LastReading,
+) {
+    let (begun, closing) = parts_of(refused);
+    let is_beginning = with_memory.batches().starts_with(begun);
+    expect_that(rt, case.events, is_beginning);
+    if begun.is_empty() {
+        expect_that(rt, case.events, closing.is_none());
+        expect_count(rt, case.events, refused.flushes(), 1);
+    } else if closing.is_none() && case.fault.is_none() {
+        let paintings = with_memory.batches().len().saturating_sub(1);
+        expect_count(rt, case.events, begun.len(), paintings);
+    }
+}
+
+/// Tests that a refused reading was stopped where a reading with memory ends that has so many of the events or fewer.
+fn expect_stop<H: LineEditorHost>(
+    rt: &impl Abort,
+    alloc: Global,
+    case: &Case<'_>,
+    host: &mut H,
+    refused: &LastReading,
+    all: usize,
+) -> Result<(), Fail> {
+    let mut is_found = false;
+    for events in 0..=all {
+        let play = Play {
+            events,
+            fault: None,
+            marked: false,
+        };
+        let cut = last_reading(alloc, case, host, play)?;
+        is_found = is_found || stops_at(refused, &cut);
+    }
+    let shown = batches_text(alloc, refused.batches())?;
+    let told = format!(in alloc; "{}: {shown}", case.events)?;
+    expect_that(rt, told.as_str(), is_found);
     Ok(())
 }
 
@@ -220,7 +265,7 @@ pub fn expect_reading<H: LineEditorHost>(
     };
     let with_memory = last_reading(alloc, case, host, whole)?;
     let answer = answer_text(alloc, with_memory.answer())?;
-    assert_eq!(rt; answer.as_str(), wanted, "{}", case.events);
+    expect_text(rt, case.events, answer.as_str(), wanted);
     let marked = Play {
         marked: true,
         ..whole
@@ -230,28 +275,9 @@ pub fn expect_reading<H: LineEditorHost>(
         return Ok(());
     }
     expect_refusal(rt, alloc, case, &reading)?;
-    let (begun, closing) = parts_of(&reading);
-    assert!(rt; with_memory.batches().starts_with(begun), "{}", case.events);
-    if begun.is_empty() {
-        assert!(rt; closing.is_none(), "{}", case.events);
-        assert_eq!(rt; reading.flushes(), 1, "{}", case.events);
+    expect_beginning(rt, case, &reading, &with_memory);
+    if parts_of(&reading).0.is_empty() {
         return Ok(());
     }
-    if closing.is_none() && case.fault.is_none() {
-        let paintings = with_memory.batches().len().saturating_sub(1);
-        assert_eq!(rt; begun.len(), paintings, "{}", case.events);
-    }
-    let mut is_found = false;
-    for events in 0..=all {
-        let play = Play {
-            events,
-            fault: None,
-            marked: false,
-        };
-        let cut = last_reading(alloc, case, host, play)?;
-        is_found = is_found || stops_at(&reading, &cut);
-    }
-    let shown = batches_text(alloc, reading.batches())?;
-    assert!(rt; is_found, "{}: {shown}", case.events);
-    Ok(())
+    expect_stop(rt, alloc, case, host, &reading, all)
 }

@@ -1,6 +1,7 @@
 //! Lines that are read and remembered, with each request refused in turn.
 
-use crate::watched::{Seen, Watched};
+use crate::expected::{expect_count, expect_text, expect_that};
+use crate::watched::{Seen, Watched, expect_seen};
 use case_player::{Case, answer_text, case_of, events_named, host_of, mark_if};
 use std::alloc::{AllocError, Global};
 use std::process::Abort;
@@ -102,28 +103,24 @@ fn expect_refusal(
     with_memory: &Remembered,
     lines: &str,
 ) {
-    assert_eq!(rt; refused.lines.as_str(), lines, "{events}");
+    expect_text(rt, events, refused.lines.as_str(), lines);
     let all = with_memory.batches();
     match &refused.end.answer {
-        Err(Error::Memory(_)) => assert_eq!(rt; refused.end.seen.flushes, 1, "{events}"),
-        Err(Error::Terminal(TerminalFault::Memory)) => assert!(rt;
-            refused.end.seen.taken < all.len(),
-            "{events}"
-        ),
-        _ => assert!(rt; false, "{events}"),
+        Err(Error::Memory(_)) => expect_count(rt, events, refused.end.seen.flushes, 1),
+        Err(Error::Terminal(TerminalFault::Memory)) => {
+            expect_that(rt, events, refused.end.seen.taken < all.len());
+        }
+        _ => expect_that(rt, events, false),
     }
     let begun = match refused.batches().split_last() {
         Some((_, begun)) => begun,
         None => &[],
     };
-    assert!(rt; all.starts_with(begun), "{events}");
+    expect_that(rt, events, all.starts_with(begun));
     if refused.end.seen == with_memory.end.seen {
-        assert!(rt; refused.batches() == all, "{events}");
-        assert_eq!(rt;
-            refused.end.line.as_str(),
-            with_memory.end.line.as_str(),
-            "{events}"
-        );
+        expect_that(rt, events, refused.batches() == all);
+        let line = with_memory.end.line.as_str();
+        expect_text(rt, events, refused.end.line.as_str(), line);
     }
 }
 
@@ -161,25 +158,41 @@ one|two|one|
 ==
 ";
 
+/// Compares the answer of a reading, and the lines of the history behind it.
+fn expect_read(
+    rt: &impl Abort,
+    alloc: Global,
+    case: &str,
+    reading: &Remembered,
+    (answer, after): (&str, &str),
+) -> Result<(), Fail> {
+    let shown = answer_text(alloc, &reading.end.answer)?;
+    expect_text(rt, case, shown.as_str(), answer);
+    expect_text(rt, case, reading.lines.as_str(), after);
+    Ok(())
+}
+
+/// Tests that two readings came to the same.
+fn expect_same(rt: &impl Abort, case: &str, told: &Remembered, wanted: &Remembered) {
+    expect_that(rt, case, told.batches() == wanted.batches());
+    expect_seen(rt, case, told.end.seen, wanted.end.seen);
+    expect_text(rt, case, told.lines.as_str(), wanted.lines.as_str());
+}
+
 fn expect_case(rt: &impl Abort, alloc: Global, lines: &str, wanted: &str) -> Result<(), Fail> {
-    let case = case_of(alloc, lines)?;
     let (answer, histories) = wanted.split_once('\n').ok_or("no history")?;
     let (before, after) = histories.split_once('\n').ok_or("no second history")?;
-    let after = after.trim_end();
+    let case = case_of(alloc, lines)?;
     let with_memory = reading_of(alloc, &case, false)?;
-    let shown = answer_text(alloc, &with_memory.end.answer)?;
-    assert_eq!(rt; shown.as_str(), answer, "{lines}");
-    assert_eq!(rt; with_memory.lines.as_str(), after, "{lines}");
+    expect_read(rt, alloc, lines, &with_memory, (answer, after.trim_end()))?;
     let told = reading_of(alloc, &case, true)?;
-    assert!(rt; told.end.reads_again, "{lines}");
+    expect_that(rt, lines, told.end.reads_again);
     let shown = answer_text(alloc, &told.end.answer)?;
-    if shown.as_str() != answer {
+    if shown.as_str() == answer {
+        expect_same(rt, lines, &told, &with_memory);
+    } else {
         expect_refusal(rt, lines, &told, &with_memory, before);
-        return Ok(());
     }
-    assert!(rt; told.batches() == with_memory.batches(), "{lines}");
-    assert_eq!(rt; told.end.seen, with_memory.end.seen, "{lines}");
-    assert_eq!(rt; told.lines.as_str(), after, "{lines}");
     Ok(())
 }
 
@@ -193,6 +206,6 @@ fn remembered_lines_refused_in_turn(rt: HostRuntime) -> Result<(), Fail> {
         expect_case(&rt, rt.alloc(), lines, wanted)?;
         count = count.saturating_add(1);
     }
-    assert_eq!(rt; count, 4);
+    expect_count(&rt, "cases", count, 4);
     Ok(())
 }

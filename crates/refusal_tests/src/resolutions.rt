@@ -1,5 +1,6 @@
 //! What a host of its own makes of an event, with each request refused in turn.
 
+use crate::expected::{expect_line, expect_that};
 use crate::readings::expect_reading;
 use case_player::{ResolvingHost, case_of, events_named, mark};
 use std::test::Fail;
@@ -18,14 +19,13 @@ fn resolutions_refused_in_turn(rt: HostRuntime) -> Result<(), Fail> {
         let action = match made {
             Ok(action) => action,
             Err(_) => {
-                assert_eq!(rt; line.get_line(), "ab");
-                assert_eq!(rt; line.get_cursor(), 1);
+                expect_line(&rt, (line.get_line(), line.get_cursor()), ("ab", 1));
                 host.resolve_action(alloc, event, &mut line)?
             }
         };
-        assert!(rt; matches!(action, Some(Action::NoAction)));
-        assert_eq!(rt; line.get_line(), "clear");
-        assert_eq!(rt; line.get_cursor(), 5);
+        let is_none = matches!(action, Some(Action::NoAction));
+        expect_that(&rt, "the action", is_none);
+        expect_line(&rt, (line.get_line(), line.get_cursor()), ("clear", 5));
     }
     Ok(())
 }

@@ -1,5 +1,6 @@
 //! Scripts with one reading, with each request refused in turn.
 
+use crate::expected::{expect_count, expect_text, expect_that};
 use case_player::mark;
 use script_player::{RunFault, run};
 use std::alloc::Global;
@@ -183,6 +184,11 @@ fn tells_of_the_terminal(written: &str) -> bool {
     })
 }
 
+/// Compares why a script was not run; the script is told where it is another.
+fn expect_fault(rt: &impl Abort, script: &str, fault: RunFault, wanted: RunFault) {
+    assert_eq!(rt; fault, wanted, "{script}");
+}
+
 /// Runs a script between marks: it writes all, or nothing where memory is refused, or tells that the terminal refused.
 fn expect_run(rt: &impl Abort, alloc: Global, script: &str, output: &str) -> Result<(), Fail> {
     let mut written = Vec::with_capacity(alloc, 4096)?;
@@ -192,16 +198,15 @@ fn expect_run(rt: &impl Abort, alloc: Global, script: &str, output: &str) -> Res
     mark(alloc)?;
     let shown = std::str::from_utf8(written.as_slice())?;
     match ended {
-        Ok(()) => assert!(rt;
-            shown == output || tells_of_the_terminal(shown),
-            "{script}{shown}"
-        ),
+        Ok(()) if tells_of_the_terminal(shown) => {}
+        Ok(()) => expect_text(rt, script, shown, output),
         Err(fault) => {
-            assert_eq!(rt; fault, RunFault::Memory, "{script}");
-            assert_eq!(rt; shown, "", "{script}");
+            expect_fault(rt, script, fault, RunFault::Memory);
+            expect_text(rt, script, shown, "");
             written.clear();
             run(alloc, &mut script.as_bytes(), &mut written)?;
-            assert_eq!(rt; written.as_slice(), output.as_bytes(), "{script}");
+            let is_same = written.as_slice() == output.as_bytes();
+            expect_that(rt, script, is_same);
         }
     }
     Ok(())
@@ -209,14 +214,14 @@ fn expect_run(rt: &impl Abort, alloc: Global, script: &str, output: &str) -> Res
 
 #[test]
 fn scripts_refused_in_turn(rt: HostRuntime) -> Result<(), Fail> {
-    let mut count = 0u32;
+    let mut count = 0usize;
     for case in SCRIPTS.split("==\n") {
         if let Some((script, output)) = case.split_once("--\n") {
             expect_run(&rt, rt.alloc(), script, output)?;
             count = count.saturating_add(1);
         }
     }
-    assert_eq!(rt; count, 14);
+    expect_count(&rt, "cases", count, 14);
     Ok(())
 }
 
@@ -230,11 +235,13 @@ fn a_bad_line_refused_in_turn(rt: HostRuntime) -> Result<(), Fail> {
     let ended = run(alloc, &mut script.as_bytes(), &mut written);
     mark(alloc)?;
     let shown = std::str::from_utf8(written.as_slice())?;
-    if ended == Err(RunFault::Memory) {
-        assert!(rt; "refused 3\n".starts_with(shown), "{shown}");
-    } else {
-        assert_eq!(rt; ended, Err(RunFault::BadLine(3)));
-        assert_eq!(rt; shown, "refused 3\nbad line 3\n");
+    match ended {
+        Ok(()) => expect_that(&rt, "no fault", false),
+        Err(RunFault::Memory) => expect_that(&rt, shown, "refused 3\n".starts_with(shown)),
+        Err(fault) => {
+            expect_fault(&rt, script, fault, RunFault::BadLine(3));
+            expect_text(&rt, script, shown, "refused 3\nbad line 3\n");
+        }
     }
     Ok(())
 }

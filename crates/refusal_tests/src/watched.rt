@@ -2,6 +2,7 @@
 
 use std::alloc::{AllocError, Global};
 use std::cell::Cell;
+use std::process::Abort;
 use std::rc::Rc;
 use tw_input::InputEvent;
 use tw_surface::Change;
@@ -15,6 +16,11 @@ pub struct Seen {
     pub flushes: usize,
     pub taken: usize,
     pub left: usize,
+}
+
+/// Compares how far a terminal has come; the case is told where it is not so far.
+pub fn expect_seen(rt: &impl Abort, case: &str, seen: Seen, wanted: Seen) {
+    assert_eq!(rt; seen, wanted, "{case}");
 }
 
 /// A scripted terminal that tells how far it has come while an editor has it.
