@@ -1,0 +1,167 @@
+-- Lines that are written, and what is read of them.
+use Rattle.std.proofs.Common.{◌≡◌, ℕ, suc, ◌+◌, ◌<◌, Bool, true, false, List, [], ◌∷◌, ◌++◌, length, take, Option, Some, None, refl, sym, ap, subst, ◌∙◌, append_assoc, append-nil, length-append, arith, ⊎_elim, inl, inr}
+use Rattle.std.specs.Prelude.{◌==◌, ◌⊎◌}
+use Rattle.std.specs.List.{cons_option, filter_map}
+use Rattle.std.specs.Option.{option_to_list}
+use Rattle.std.specs.Str.{is_utf8}
+use Rattle.std.proofs.lemmas.Bool.{eqb-true}
+use Rattle.std.proofs.lemmas.List.Elements.{filter_map-append}
+use Rattle.tw_history_parts.specs.FileLaws.{AreTexts, BeginningIsRead, DamageStaysAlone, WrittenAreRead}
+use Rattle.tw_history_parts.specs.HistoryFile.{escaped, escaped_byte, line_of, lines_in, unescaped, whole_lines, with_byte, with_byte_in_front, written_line, written_lines}
+use Rattle.tw_history_parts.proofs.ReadingLemmas.{lines_cut}
+
+-- ---- one byte
+
+-- what a byte is written as stays in the line that follows
+module _ (b : ℕ) (text : List ℕ) where
+  ends_as : (x y : Bool) → (b == 92) ≡ x → (b == 10) ≡ y → (line : List ℕ) (lines : List (List ℕ)) → whole_lines text ≡ line ∷ lines
+      → whole_lines (escaped_byte b ++ text) ≡ (escaped_byte b ++ line) ∷ lines
+  ends_as true y is_backslash is_feed line lines e = rw (is_backslash, e) refl
+  ends_as false true is_backslash is_feed line lines e = rw (is_backslash, is_feed, e) refl
+  ends_as false false is_backslash is_feed line lines e = rw (is_backslash, is_feed, e, is_feed) refl
+
+  never_ends : (x y : Bool) → (b == 92) ≡ x → (b == 10) ≡ y → whole_lines text ≡ [] → whole_lines (escaped_byte b ++ text) ≡ []
+  never_ends true y is_backslash is_feed e = rw (is_backslash, e) refl
+  never_ends false true is_backslash is_feed e = rw (is_backslash, is_feed, e) refl
+  never_ends false false is_backslash is_feed e = rw (is_backslash, is_feed, e, is_feed) refl
+
+  stands_for : (x y : Bool) → (b == 92) ≡ x → (b == 10) ≡ y → unescaped (escaped_byte b ++ text) ≡ with_byte (Some b) (unescaped text)
+  stands_for true y is_backslash is_feed = rw is_backslash (ap (λ c. with_byte (Some c) (unescaped text)) (sym (eqb-true b 92 is_backslash)))
+  stands_for false true is_backslash is_feed = rw (is_backslash, is_feed) (ap (λ c. with_byte (Some c) (unescaped text)) (sym (eqb-true b 10 is_feed)))
+  stands_for false false is_backslash is_feed = rw (is_backslash, is_feed, is_backslash) refl
+
+-- ---- one line
+
+ended_escaped : (line rest : List ℕ) → whole_lines (escaped line ++ (10 ∷ rest)) ≡ escaped line ∷ whole_lines rest
+ended_escaped [] rest = refl
+ended_escaped (b ∷ line) rest =
+    ap whole_lines (append_assoc (escaped_byte b) (escaped line) (10 ∷ rest))
+    ∙ ends_as b (escaped line ++ (10 ∷ rest)) (b == 92) (b == 10) refl refl (escaped line) (whole_lines rest) (ended_escaped line rest)
+
+unended_escaped : (line : List ℕ) → whole_lines (escaped line) ≡ []
+unended_escaped [] = refl
+unended_escaped (b ∷ line) = never_ends b (escaped line) (b == 92) (b == 10) refl refl (unended_escaped line)
+
+unescaped_escaped : (line : List ℕ) → unescaped (escaped line) ≡ Some line
+unescaped_escaped [] = refl
+unescaped_escaped (b ∷ line) = stands_for b (escaped line) (b == 92) (b == 10) refl refl ∙ ap (with_byte (Some b)) (unescaped_escaped line)
+
+line_of_escaped : (line : List ℕ) → is_utf8 line ≡ true → line_of (escaped line) ≡ Some line
+line_of_escaped line text = rw (unescaped_escaped line, text) refl
+
+-- a written line, and those behind it
+lines_in-cons : (line rest : List ℕ) → is_utf8 line ≡ true → lines_in (written_line line ++ rest) ≡ line ∷ lines_in rest
+lines_in-cons line rest text =
+    ap lines_in (append_assoc (escaped line) (10 ∷ []) rest)
+    ∙ ap (filter_map line_of) (ended_escaped line rest)
+    ∙ ap (λ found. cons_option found (lines_in rest)) (line_of_escaped line text)
+
+first_text : (line : List ℕ) (lines : List (List ℕ)) → AreTexts (line ∷ lines) → is_utf8 line ≡ true
+first_text line lines texts = texts 0 [] (omega arith)
+
+other_texts : (line : List ℕ) (lines : List (List ℕ)) → AreTexts (line ∷ lines) → AreTexts lines
+other_texts line lines texts k d low = texts (suc k) d (omega (arith, low))
+
+pub written_are_read : WrittenAreRead
+written_are_read [] texts = refl
+written_are_read (line ∷ lines) texts =
+    lines_in-cons line (written_lines lines) (first_text line lines texts) ∙ ap (λ rest. line ∷ rest) (written_are_read lines (other_texts line lines texts))
+
+-- ---- a beginning
+
+-- of two ways to part a list one part is no longer than the other one
+parted : (front rest bytes more : List ℕ) → front ++ rest ≡ bytes ++ more
+    → ((between : List ℕ) × (bytes ≡ front ++ between) × (rest ≡ between ++ more)) ⊎ ((left : List ℕ) × (front ≡ bytes ++ left) × (0 < length left))
+parted [] rest bytes more e = inl (bytes, refl, e)
+parted (x ∷ front) rest [] more e = inr (x ∷ front, refl, omega arith)
+parted (x ∷ front) rest (b ∷ bytes) more e =
+    let same : x ≡ b = cc in
+    let others : front ++ rest ≡ bytes ++ more = cc in
+    ⊎_elim
+    (λ whole. inl (whole.0, ap (λ l. b ∷ l) whole.1 ∙ ap (λ c. c ∷ (front ++ whole.0)) (sym same), whole.2))
+    (λ cut. inr (cut.0, ap (λ l. x ∷ l) cut.1 ∙ ap (λ c. c ∷ (bytes ++ cut.0)) same, cut.2)) (parted front rest bytes more others)
+
+none_in_front : (b : ℕ) (lines : List (List ℕ)) → with_byte_in_front b lines ≡ [] → lines ≡ []
+none_in_front b [] e = refl
+none_in_front b (line ∷ lines) e = absurd (cc)
+
+no_line : (lines : List (List ℕ)) → [] ∷ lines ≡ [] → ⊥
+no_line lines e = cc
+
+none_whole-cons : (b : ℕ) (bytes more : List ℕ) (x : Bool) → (b == 10) ≡ x → (whole_lines (bytes ++ more) ≡ [] → whole_lines bytes ≡ [])
+    → whole_lines ((b ∷ bytes) ++ more) ≡ [] → whole_lines (b ∷ bytes) ≡ []
+none_whole-cons b bytes more true is rest e = absurd (no_line (whole_lines (bytes ++ more)) (rw is at e))
+none_whole-cons b bytes more false is rest e = rw (is, rest (none_in_front b (whole_lines (bytes ++ more)) (rw is at e))) refl
+
+-- no line is whole in the beginning of a text in which none is
+none_whole : (bytes more : List ℕ) → whole_lines (bytes ++ more) ≡ [] → whole_lines bytes ≡ []
+none_whole [] more e = refl
+none_whole (b ∷ bytes) more e = none_whole-cons b bytes more (b == 10) refl (none_whole bytes more) e
+
+none_at_end : (line bytes between left : List ℕ) → bytes ≡ escaped line ++ between → 10 ∷ [] ≡ between ++ left → 0 < length left → whole_lines bytes ≡ []
+none_at_end line bytes [] left e parts some = ap whole_lines (e ∙ append-nil (escaped line)) ∙ unended_escaped line
+none_at_end line bytes (x ∷ between) left e parts some = absurd (omega (arith, some, ap length parts, length-append between left))
+
+-- none is whole in a line that is cut off
+none_in_cut : (line bytes left : List ℕ) → written_line line ≡ bytes ++ left → 0 < length left → whole_lines bytes ≡ []
+none_in_cut line bytes left e some =
+    ⊎_elim
+    (λ behind. none_at_end line bytes behind.0 left behind.1 behind.2 some)
+    (λ within. none_whole bytes within.0 (ap whole_lines (sym within.1) ∙ unended_escaped line)) (parted (escaped line) (10 ∷ []) bytes left e)
+
+pub beginning_is_read : BeginningIsRead
+beginning_is_read [] [] more texts e = (0, refl, omega arith, λ low. absurd (omega (arith, low)))
+beginning_is_read [] (b ∷ bytes) more texts e = absurd (cc)
+beginning_is_read (line ∷ lines) bytes more texts e =
+    ⊎_elim
+    (λ whole.
+    let rest = beginning_is_read lines whole.0 more (other_texts line lines texts) whole.2 in
+    let long : length bytes ≡ length (written_line line) + length whole.0 = ap length whole.1 ∙ length-append (written_line line) whole.0 in
+    let next : suc (rest.0 + 1) ≡ suc rest.0 + 1 = omega arith in (
+      suc rest.0,
+      ap lines_in whole.1 ∙ lines_in-cons line whole.0 (first_text line lines texts) ∙ ap (λ l. line ∷ l) rest.1,
+      omega (arith, long, rest.2, length-append (written_line line) (written_lines (take rest.0 lines))),
+      λ low. subst (λ k. length bytes < length (written_lines (take k (line ∷ lines)))) next
+          (omega (arith, long, rest.3 (omega (arith, low)), length-append (written_line line) (written_lines (take (rest.0 + 1) lines)))),
+    ))
+    (λ cut. (
+      0,
+      ap (filter_map line_of) (none_in_cut line bytes cut.0 cut.1 cut.2),
+      omega arith,
+      λ low. omega (arith, cut.2, ap length cut.1, length-append bytes cut.0, length-append (written_line line) []),
+    ))
+    (parted (written_line line) (written_lines lines) bytes more e)
+
+-- ---- damage
+
+-- some line is whole where a line feed ends the bytes
+abbrev HasWhole : List ℕ → Type 0
+HasWhole bytes = (line : List ℕ) × (lines : List (List ℕ)) × (whole_lines bytes ≡ line ∷ lines)
+
+some_whole-cons : (b : ℕ) (bytes : List ℕ) (x : Bool) → (b == 10) ≡ x → HasWhole bytes → HasWhole (b ∷ bytes)
+some_whole-cons b bytes true is some = ([], whole_lines bytes, rw is refl)
+some_whole-cons b bytes false is some = (b ∷ some.0, some.1, rw (is, some.2) refl)
+
+some_whole : (before : List ℕ) → HasWhole (before ++ 10 ∷ [])
+some_whole [] = ([], [], refl)
+some_whole (b ∷ before) = some_whole-cons b (before ++ 10 ∷ []) (b == 10) refl (some_whole before)
+
+-- what stands behind a line feed is read by itself
+behind_feed-cons : (b : ℕ) (bytes rest : List ℕ) (x : Bool) → (b == 10) ≡ x → HasWhole bytes → whole_lines (bytes ++ rest) ≡ whole_lines bytes ++ whole_lines rest
+    → whole_lines ((b ∷ bytes) ++ rest) ≡ whole_lines (b ∷ bytes) ++ whole_lines rest
+behind_feed-cons b bytes rest true is some e = rw (is, e) refl
+behind_feed-cons b bytes rest false is some e = rw (is, e, some.2) refl
+
+behind_feed : (before rest : List ℕ) → whole_lines ((before ++ 10 ∷ []) ++ rest) ≡ whole_lines (before ++ 10 ∷ []) ++ whole_lines rest
+behind_feed [] rest = refl
+behind_feed (b ∷ before) rest = behind_feed-cons b (before ++ 10 ∷ []) rest (b == 10) refl (some_whole before) (behind_feed before rest)
+
+found-list : (found : Option (List ℕ)) (lines : List (List ℕ)) → cons_option found lines ≡ option_to_list found ++ lines
+found-list None lines = refl
+found-list (Some line) lines = refl
+
+pub damage_stays_alone : DamageStaysAlone
+damage_stays_alone before text after free =
+    ap (filter_map line_of) (behind_feed before (text ++ (10 ∷ after)))
+    ∙ filter_map-append line_of (whole_lines (before ++ 10 ∷ [])) (whole_lines (text ++ (10 ∷ after)))
+    ∙ ap (λ l. lines_in (before ++ 10 ∷ []) ++ l) (lines_cut (text ++ (10 ∷ after)) text after (free, refl) ∙ found-list (line_of text) (lines_in after))

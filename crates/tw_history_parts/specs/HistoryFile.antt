@@ -1,0 +1,74 @@
+-- How the lines of a history stand in a file.
+use Rattle.std.specs.Prelude.{◌≡◌, ◌==◌, ℕ, Bool, true, false, if◌then◌else◌, List, [], ◌∷◌, ◌++◌, Option, Some, None, option_map, Contains}
+use Rattle.std.specs.List.{filter_map, flat_map}
+use Rattle.std.specs.Str.{is_utf8}
+
+-- what a byte of a line is written as: a backslash is two of them, and a line feed a backslash and an n
+abbrev pub escaped_byte : ℕ → List ℕ
+escaped_byte b = if b == 92 then 92 ∷ 92 ∷ [] else if b == 10 then 92 ∷ 110 ∷ [] else b ∷ []
+
+-- what a line is written as, without its end
+abbrev pub escaped : List ℕ → List ℕ
+escaped line = flat_map escaped_byte line
+
+-- and with the line feed that ends it
+abbrev pub written_line : List ℕ → List ℕ
+written_line line = escaped line ++ 10 ∷ []
+
+-- what lines are written as, one after the other
+abbrev pub written_lines : List (List ℕ) → List ℕ
+written_lines lines = flat_map written_line lines
+
+-- the byte that a backslash and another byte stand for
+abbrev pub escape_of : ℕ → Option ℕ
+escape_of b = if b == 92 then Some 92 else if b == 110 then Some 10 else None
+
+-- a byte in front, if there is both
+abbrev pub with_byte : Option ℕ → Option (List ℕ) → Option (List ℕ)
+with_byte (Some b) (Some bytes) = Some (b ∷ bytes)
+with_byte _ _ = None
+
+-- what a text stands for, behind a backslash or not; none where a backslash stands before another byte, or at the end
+abbrev pub unescaped_behind : Bool → List ℕ → Option (List ℕ)
+unescaped_behind true [] = None
+unescaped_behind false [] = Some []
+unescaped_behind true (b ∷ text) = with_byte (escape_of b) (unescaped_behind false text)
+unescaped_behind false (b ∷ text) = if b == 92 then unescaped_behind true text else with_byte (Some b) (unescaped_behind false text)
+
+abbrev pub unescaped : List ℕ → Option (List ℕ)
+unescaped text = unescaped_behind false text
+
+-- the bytes that were understood so far, and then what the text behind them stands for, behind a backslash or not; none where a backslash stood before another byte
+abbrev pub understood : List ℕ → Option Bool → List ℕ → Option (List ℕ)
+understood bytes None text = None
+understood bytes (Some behind) text = option_map (λ rest. bytes ++ rest) (unescaped_behind behind text)
+
+-- bytes that are a text
+abbrev pub if_text : List ℕ → Option (List ℕ)
+if_text bytes = if is_utf8 bytes then Some bytes else None
+
+abbrev pub text_in : Option (List ℕ) → Option (List ℕ)
+text_in None = None
+text_in (Some bytes) = if_text bytes
+
+-- the line that a text of a file is, if it is one
+abbrev pub line_of : List ℕ → Option (List ℕ)
+line_of text = text_in (unescaped text)
+
+-- a byte in front of the first line
+abbrev pub with_byte_in_front : ℕ → List (List ℕ) → List (List ℕ)
+with_byte_in_front b [] = []
+with_byte_in_front b (line ∷ lines) = (b ∷ line) ∷ lines
+
+-- the texts of a file that a line feed ends
+abbrev pub whole_lines : List ℕ → List (List ℕ)
+whole_lines [] = []
+whole_lines (b ∷ bytes) = if b == 10 then [] ∷ whole_lines bytes else with_byte_in_front b (whole_lines bytes)
+
+-- the lines in a file: of its texts that a line feed ends those that are one
+abbrev pub lines_in : List ℕ → List (List ℕ)
+lines_in bytes = filter_map line_of (whole_lines bytes)
+
+-- bytes that are cut at their first line feed
+abbrev pub IsCutAtFeed : List ℕ → List ℕ → List ℕ → Type 0
+IsCutAtFeed bytes line after = (¬ (Contains line 10)) × (bytes ≡ line ++ (10 ∷ after))
