@@ -101,7 +101,7 @@ module _ {W : Type 0} (contents : W → Option (List ℕ)) where
   does-counts (Sized size) old new does = does.failures
   does-counts (Said text) old new does = does.failures
 
-  use-counts : (deeds : List Deed) (old new : AnsiTerminal W) → Uses (Does contents) deeds old new → old.failures ≤ new.failures
+  pub use-counts : (deeds : List Deed) (old new : AnsiTerminal W) → Uses (Does contents) deeds old new → old.failures ≤ new.failures
   use-counts [] old new same = rw same (omega arith)
   use-counts (deed ∷ deeds) old new (between, does, uses) =
       let first : old.failures ≤ between.failures = does-counts deed old between does in

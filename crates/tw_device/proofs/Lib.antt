@@ -1,5 +1,6 @@
 pub mod CallLemmas
 pub mod DeedLemmas
+pub mod LedLemmas
 pub mod LiveLemmas
 pub mod PieceLemmas
 pub mod ReadLemmas

@@ -3,6 +3,7 @@ pub mod Deeds
 pub mod EventLog
 pub mod Faults
 pub mod Keys
+pub mod Led
 pub mod Live
 pub mod Pieces
 pub mod Terminal

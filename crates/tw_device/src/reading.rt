@@ -9,6 +9,7 @@ ghost use Rattle.tw_lineedit.specs.Feeding.{status_if};
 ghost use Rattle.tw_lineedit.specs.Outcomes.{is_open};
 ghost use Rattle.tw_device.specs.Calls.{IsCalled};
 ghost use Rattle.tw_device.specs.Deeds.{IsLedAsTold, IsLedBy};
+ghost use Rattle.tw_device.specs.Led.{taken_on, taken_over, IsLedByEvent, IsSizedBy, IsToldAlong};
 ghost use Rattle.tw_device.specs.Terminal.{terminal_state};
 ghost use Rattle.tw_device.specs.Live.{fresh_frame, Comes, ComesBy, FailsFrom, FailsBy, IsRead, FailsToRead, IsStopped, answer_from};
 
@@ -49,6 +50,7 @@ fn resize<W: Write>(terminal: &mut AnsiTerminal<W>, event: &InputEvent)
     ensures state { let before = terminal_state terminal.old in
         terminal_state terminal.new ≡ record before { size = size_after (event_view event.now) before.size } }
     ensures led { IsLedBy W.contents (event_view event.now ∷ []) terminal.old terminal.new }
+    ensures sized { IsSizedBy W.contents (event_view event.now) terminal.old terminal.new }
 {
     if let InputEvent::Resized { cols, rows } = event {
         terminal.set_screen_size(ScreenSize {
@@ -75,6 +77,7 @@ fn feed<W: Write, H: LineEditorHost>(
         let after = frame terminal_state H.value editor.new host.new in
         IfErr result (FailsFrom H.rules H.OVERRIDES (event_view event.now ∷ []) before after) }
     ensures led { IsLedBy W.contents (event_view event.now ∷ []) editor.old.terminal.now editor.new.terminal.now }
+    ensures sized { IsLedByEvent W.contents (event_view event.now) editor.old.terminal.now editor.new.terminal.now }
 {
     resize(editor.terminal(), event);
     editor.feed(host, event)
@@ -100,6 +103,8 @@ fn take_events<S: EventSource, W: Write, H: LineEditorHost>(
         IfErr result (FailsBy H.rules H.OVERRIDES (S.told source.old) (S.told source.new) before after) }
     ensures called { IsCalled S.told S.follows source.old source.new }
     ensures led { IsLedAsTold W.contents (S.told source.old) (S.told source.new) editor.old.terminal.now editor.new.terminal.now }
+    ensures along { let taken = taken_on H.rules (frame terminal_state H.value editor.old host.old) in
+        IsToldAlong W.contents taken (S.told source.old) (S.told source.new) editor.old.terminal.now editor.new.terminal.now }
 {
     for turn in 0..u64::MAX {
         let _told = turn;
@@ -151,6 +156,8 @@ pub fn read_line_from<S: EventSource, W: Write, H: LineEditorHost>(
         (H.value host.new) (terminal_state terminal.new)) }
     ensures called { IsCalled S.told S.follows source.old source.new }
     ensures led { IsLedAsTold W.contents (S.told source.old) (S.told source.new) terminal.old terminal.new }
+    ensures along { let taken = taken_over H.rules (fresh_frame prompt.now (H.value host.old) (terminal_state terminal.old)) in
+        IsToldAlong W.contents taken (S.told source.old) (S.told source.new) terminal.old terminal.new }
 {
     let mut editor = LineEditor::new(alloc, terminal)?;
     editor.set_prompt(prompt)?;

@@ -2,6 +2,7 @@ use Rattle.std.proofs.Common.{[], ◌∷◌, refl, ap, subst}
 use Rattle.tw_input.specs.EventView.{event_view}
 use Rattle.tw_device.specs.contracts.terminal.AnsiTerminalTerminal.TheImpl as terminal
 use Rattle.tw_device.specs.Deeds.{IsLedBy}
+use Rattle.tw_device.specs.Led.{IsSizedBy}
 use Rattle.tw_device.proofs.DeedLemmas.{led_by_calls, led_then}
 use Rattle.tw_device.proofs.LiveLemmas.{resized_is, comes_if, refused_if}
 use Rattle.tw_device.proofs.reading.feed.Goals as goal
@@ -28,3 +29,9 @@ returns-clause-led g c =
     let sized = c.resize.new.terminal in
     led_then contents (event ∷ []) [] c.args.editor.now.terminal.now sized c.feed.new.self.terminal.now
     (subst (λ it. IsLedBy contents (event ∷ []) it sized) c.terminal.ensures.shows c.resize.ensures.led) (led_by_calls contents sized c.feed.new.self.terminal.now c.feed.ensures.used)
+
+pub returns-clause-sized : goal.returns-clause-sized
+returns-clause-sized g c =
+    let contents = g.W.Write.contents in
+    let sized = c.resize.new.terminal in
+    (sized, subst (λ it. IsSizedBy contents (event_view c.args.event.now) it sized) c.terminal.ensures.shows c.resize.ensures.sized, c.feed.ensures.used)

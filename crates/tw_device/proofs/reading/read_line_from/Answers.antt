@@ -1,8 +1,10 @@
 use Rattle.std.proofs.Common.{rules, refl}
 use Rattle.std.proofs.lemmas.Result.{err_from_is_err_and}
+use Rattle.tw_device.specs.Led.{taken_over}
 use Rattle.tw_device.specs.Live.{fresh_frame}
 use Rattle.tw_device.specs.contracts.terminal.AnsiTerminalTerminal.TheImpl as terminal
 use Rattle.tw_device.proofs.DeedLemmas.{led_between, led_from_calls, led_to_calls, led_told_nothing, led_unmoved}
+use Rattle.tw_device.proofs.LedLemmas.{told_along_between, told_along_nothing, told_along_opened, told_along_to_calls, told_along_unmoved}
 use Rattle.tw_device.proofs.LiveLemmas.{opened_at, unbegun_at, stopped_at, ended_at, closed_at, read_as, cut_as}
 use Rattle.tw_device.proofs.reading.read_line_from.Goals as goal
 use Rattle.tw_lineedit.proofs.ClosingLemmas.{reads_with, fails_to_finish_with}
@@ -117,3 +119,74 @@ returns-clause-led g c =
     let finished = c.finish_line.new.self.terminal.now in
     led_between contents before after c.args.terminal.now set _ finished (search rules) (search rules)
     (led_to_calls contents before after set fed finished (led_from_calls contents before after set begun fed c.begin_line.ensures.used c.take_events.ensures.led) c.finish_line.ensures.used)
+
+pub returns-in_err-set_prompt-clause-along : goal.returns-in_err-set_prompt-clause-along
+returns-in_err-set_prompt-clause-along g c = told_along_unmoved g.W.Write.contents _ (g.S.EventSource.told c.args.source.now) _ _ (search rules)
+
+pub returns-in_err-begin_line-clause-along : goal.returns-in_err-begin_line-clause-along
+returns-in_err-begin_line-clause-along g c =
+    let told = g.S.EventSource.told c.args.source.now in
+    let set = c.set_prompt.new.self.terminal.now in
+    let begun = c.begin_line.new.self.terminal.now in
+    told_along_between g.W.Write.contents _ told told c.args.terminal.now set _ begun (search rules) (search rules)
+    (told_along_nothing g.W.Write.contents _ told set begun c.begin_line.ensures.used)
+
+pub returns-in_err-stop-clause-along : goal.returns-in_err-stop-clause-along
+returns-in_err-stop-clause-along g c =
+    let contents = g.W.Write.contents in
+    let rules_of = g.H.LineEditorHost.rules in
+    let overrides = g.H.LineEditorHost.OVERRIDES in
+    let state = (terminal.ghosts g.row.W g.W.Write g.W.Write-dict).state in
+    let value = g.H.LineEditorHost.value in
+    let i = frame state value c.set_prompt.new.self c.args.host.now in
+    let f = fresh_frame c.args.prompt.now (value c.args.host.now) (state c.args.terminal.now) in
+    let painted = frame state value c.begin_line.new.self c.args.host.now in
+    let before = g.S.EventSource.told c.args.source.now in
+    let after = g.S.EventSource.told c.take_events.new.source in
+    let set = c.set_prompt.new.self.terminal.now in
+    let begun = c.begin_line.new.self.terminal.now in
+    let fed = c.take_events.new.editor.terminal.now in
+    let opens = opened_at rules_of overrides i f painted (search rules) (c.in_ok-begin_line.ensures.ok (search rules)) in
+    let along = told_along_opened contents rules_of overrides before after f painted set begun fed opens c.begin_line.ensures.used c.take_events.ensures.along in
+    told_along_between contents (taken_over rules_of f) before after c.args.terminal.now set _ fed (search rules) (search rules)
+    along
+
+pub returns-in_err-line-clause-along : goal.returns-in_err-line-clause-along
+returns-in_err-line-clause-along g c =
+    let contents = g.W.Write.contents in
+    let rules_of = g.H.LineEditorHost.rules in
+    let overrides = g.H.LineEditorHost.OVERRIDES in
+    let state = (terminal.ghosts g.row.W g.W.Write g.W.Write-dict).state in
+    let value = g.H.LineEditorHost.value in
+    let i = frame state value c.set_prompt.new.self c.args.host.now in
+    let f = fresh_frame c.args.prompt.now (value c.args.host.now) (state c.args.terminal.now) in
+    let painted = frame state value c.begin_line.new.self c.args.host.now in
+    let before = g.S.EventSource.told c.args.source.now in
+    let after = g.S.EventSource.told c.take_events.new.source in
+    let set = c.set_prompt.new.self.terminal.now in
+    let begun = c.begin_line.new.self.terminal.now in
+    let fed = c.take_events.new.editor.terminal.now in
+    let opens = opened_at rules_of overrides i f painted (search rules) (c.in_ok-begin_line.ensures.ok (search rules)) in
+    let along = told_along_opened contents rules_of overrides before after f painted set begun fed opens c.begin_line.ensures.used c.take_events.ensures.along in
+    told_along_between contents (taken_over rules_of f) before after c.args.terminal.now set _ c.finish_line.new.self.terminal.now (search rules) (search rules)
+    (told_along_to_calls contents (taken_over rules_of f) before after set fed c.finish_line.new.self.terminal.now along c.finish_line.ensures.used)
+
+pub returns-clause-along : goal.returns-clause-along
+returns-clause-along g c =
+    let contents = g.W.Write.contents in
+    let rules_of = g.H.LineEditorHost.rules in
+    let overrides = g.H.LineEditorHost.OVERRIDES in
+    let state = (terminal.ghosts g.row.W g.W.Write g.W.Write-dict).state in
+    let value = g.H.LineEditorHost.value in
+    let i = frame state value c.set_prompt.new.self c.args.host.now in
+    let f = fresh_frame c.args.prompt.now (value c.args.host.now) (state c.args.terminal.now) in
+    let painted = frame state value c.begin_line.new.self c.args.host.now in
+    let before = g.S.EventSource.told c.args.source.now in
+    let after = g.S.EventSource.told c.take_events.new.source in
+    let set = c.set_prompt.new.self.terminal.now in
+    let begun = c.begin_line.new.self.terminal.now in
+    let fed = c.take_events.new.editor.terminal.now in
+    let opens = opened_at rules_of overrides i f painted (search rules) (c.in_ok-begin_line.ensures.ok (search rules)) in
+    let along = told_along_opened contents rules_of overrides before after f painted set begun fed opens c.begin_line.ensures.used c.take_events.ensures.along in
+    told_along_between contents (taken_over rules_of f) before after c.args.terminal.now set _ c.finish_line.new.self.terminal.now (search rules) (search rules)
+    (told_along_to_calls contents (taken_over rules_of f) before after set fed c.finish_line.new.self.terminal.now along c.finish_line.ensures.used)

@@ -1,10 +1,12 @@
-use Rattle.std.proofs.Common.{[], ◌∷◌, arith, rules}
+use Rattle.std.proofs.Common.{[], ◌∷◌, arith, refl, rules}
 use Rattle.std.proofs.lemmas.Result.{err_from_is_err_and}
 use Rattle.tw_input.specs.EventView.{event_view}
 use Rattle.tw_device.specs.contracts.terminal.AnsiTerminalTerminal.TheImpl as terminal
 use Rattle.tw_device.specs.Told.{answer_events}
 use Rattle.tw_device.proofs.CallLemmas.{called_more, told_answer}
 use Rattle.tw_device.proofs.DeedLemmas.{led_on, led_still}
+use Rattle.tw_device.specs.Led.{taken_on}
+use Rattle.tw_device.proofs.LedLemmas.{told_along_event, told_along_still, told_along_unmoved}
 use Rattle.tw_device.proofs.LiveLemmas.{fails_by_one, comes_by_one, counted}
 use Rattle.tw_device.proofs.reading.take_events.Goals as goal
 use Rattle.tw_lineedit.specs.Frame.{frame}
@@ -82,6 +84,43 @@ returns-in-Err-clause-led g c =
 pub returns-clause-led : goal.returns-clause-led
 returns-clause-led g c = c.loop-turn.invariant.led
 
+pub returns-in_err-feed-in-Ok-Some-clause-along : goal.returns-in_err-feed-in-Ok-Some-clause-along
+returns-in_err-feed-in-Ok-Some-clause-along g c =
+    let source = g.S.EventSource in
+    let state = (terminal.ghosts g.row.W g.W.Write g.W.Write-dict).state in
+    told_along_event g.W.Write.contents g.H.LineEditorHost.rules g.H.LineEditorHost.OVERRIDES (source.told c.args.source.now) (source.told c.loop-turn.source) (source.told c.next_event.new.self) (event_view c.in-Ok-Some.event)
+    (frame state g.H.LineEditorHost.value c.args.editor.now c.args.host.now) (frame state g.H.LineEditorHost.value c.loop-turn.editor c.loop-turn.host)
+    c.args.editor.now.terminal.now c.loop-turn.editor.terminal.now c.feed.new.editor.terminal.now c.loop-turn.invariant.along c.loop-turn.invariant.comes refl
+    (rw c.in-Ok-Some.field-0-is at c.in-Ok-Some.ensures.ok) c.in_err-feed-in-Ok-Some.ensures.sized
+
+pub returns-in-Ended-clause-along : goal.returns-in-Ended-clause-along
+returns-in-Ended-clause-along g c =
+    let source = g.S.EventSource in
+    let state = (terminal.ghosts g.row.W g.W.Write g.W.Write-dict).state in
+    told_along_event g.W.Write.contents g.H.LineEditorHost.rules g.H.LineEditorHost.OVERRIDES (source.told c.args.source.now) (source.told c.loop-turn.source) (source.told c.next_event.new.self) (event_view c.in-Ok-Some.event)
+    (frame state g.H.LineEditorHost.value c.args.editor.now c.args.host.now) (frame state g.H.LineEditorHost.value c.loop-turn.editor c.loop-turn.host)
+    c.args.editor.now.terminal.now c.loop-turn.editor.terminal.now c.feed.new.editor.terminal.now c.loop-turn.invariant.along c.loop-turn.invariant.comes refl
+    (rw c.in-Ok-Some.field-0-is at c.in-Ok-Some.ensures.ok) c.in_ok-feed-in-Ok-Some.ensures.sized
+
+pub returns-in-Ok-None-clause-along : goal.returns-in-Ok-None-clause-along
+returns-in-Ok-None-clause-along g c =
+    let source = g.S.EventSource in
+    let state = (terminal.ghosts g.row.W g.W.Write g.W.Write-dict).state in
+    told_along_still g.W.Write.contents (taken_on g.H.LineEditorHost.rules (frame state g.H.LineEditorHost.value c.args.editor.now c.args.host.now))
+    (source.told c.args.source.now) (source.told c.loop-turn.source) (source.told c.next_event.new.self)
+    c.args.editor.now.terminal.now c.loop-turn.editor.terminal.now c.loop-turn.invariant.along (rw c.in-Ok-None.field-0-is at c.in-Ok-None.ensures.ok).0
+
+pub returns-in-Err-clause-along : goal.returns-in-Err-clause-along
+returns-in-Err-clause-along g c =
+    let source = g.S.EventSource in
+    let state = (terminal.ghosts g.row.W g.W.Write g.W.Write-dict).state in
+    told_along_still g.W.Write.contents (taken_on g.H.LineEditorHost.rules (frame state g.H.LineEditorHost.value c.args.editor.now c.args.host.now))
+    (source.told c.args.source.now) (source.told c.loop-turn.source) (source.told c.next_event.new.self)
+    c.args.editor.now.terminal.now c.loop-turn.editor.terminal.now c.loop-turn.invariant.along c.in-Err.ensures.told
+
+pub returns-clause-along : goal.returns-clause-along
+returns-clause-along g c = c.loop-turn.invariant.along
+
 pub loop-turn-preserved : goal.loop-turn-preserved
 loop-turn-preserved g c =
     let source = g.S.EventSource in
@@ -101,5 +140,9 @@ loop-turn-preserved g c =
       led = led_on g.W.Write.contents (source.told c.args.source.now) (source.told c.loop-turn.source) (source.told c.next_event.new.self) (event_view c.in-Ok-Some.event ∷ [])
           c.args.editor.now.terminal.now c.loop-turn.editor.terminal.now c.feed.new.editor.terminal.now c.loop-turn.invariant.led
           (rw c.in-Ok-Some.field-0-is at c.in-Ok-Some.ensures.ok) c.in_ok-feed-in-Ok-Some.ensures.led;
+      along = told_along_event g.W.Write.contents rules_of overrides (source.told c.args.source.now) (source.told c.loop-turn.source) (source.told c.next_event.new.self) (event_view c.in-Ok-Some.event)
+          (frame state g.H.LineEditorHost.value c.args.editor.now c.args.host.now) (frame state g.H.LineEditorHost.value c.loop-turn.editor c.loop-turn.host)
+          c.args.editor.now.terminal.now c.loop-turn.editor.terminal.now c.feed.new.editor.terminal.now c.loop-turn.invariant.along c.loop-turn.invariant.comes refl
+          told c.in_ok-feed-in-Ok-Some.ensures.sized;
       still_open = search rules;
     }

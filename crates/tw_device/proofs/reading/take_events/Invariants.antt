@@ -3,6 +3,7 @@ use Rattle.tw_lineedit.specs.Frame.{frame}
 use Rattle.tw_lineedit.specs.Outcomes.{is_open}
 use Rattle.tw_device.specs.Calls.{IsCalled}
 use Rattle.tw_device.specs.Deeds.{IsLedAsTold}
+use Rattle.tw_device.specs.Led.{taken_on, IsToldAlong}
 use Rattle.tw_device.specs.Live.{ComesBy}
 use Rattle.tw_device.specs.contracts.terminal.AnsiTerminalTerminal.TheImpl as terminal
 use Rattle.tw_device.proofs.reading.take_events.Given as goal
@@ -17,5 +18,7 @@ invariant-loop-turn g l =
       count : length (g.S.EventSource.told l.source) ≡ length (g.S.EventSource.told l.fn.source) + l.turn;
       called : IsCalled g.S.EventSource.told g.S.EventSource.follows l.fn.source l.source;
       led : IsLedAsTold g.W.Write.contents (g.S.EventSource.told l.fn.source) (g.S.EventSource.told l.source) l.fn.editor.terminal.now l.editor.terminal.now;
+      along : IsToldAlong g.W.Write.contents (taken_on g.H.LineEditorHost.rules (frame state g.H.LineEditorHost.value l.fn.editor l.fn.host))
+          (g.S.EventSource.told l.fn.source) (g.S.EventSource.told l.source) l.fn.editor.terminal.now l.editor.terminal.now;
       still_open : is_open l.editor.session.state.mode ≡ true;
     }
