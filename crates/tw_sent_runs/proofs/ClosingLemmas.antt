@@ -58,7 +58,7 @@ begun_color None w scene e t = painting_knows_color w scene e t
 begun_color (Some m) w scene e t = painting_knows_color w scene (sent_change (start_move m) e).next t
 
 -- behind a list of paintings
-known_color : (h w : ℕ) (mark : Option Mark) (xs : List SizedScene) (e : Encoder) → AllByRecursion (IsSentAt h w) xs → IsColor e.attributes.background
+pub known_color : (h w : ℕ) (mark : Option Mark) (xs : List SizedScene) (e : Encoder) → AllByRecursion (IsSentAt h w) xs → IsColor e.attributes.background
     → IsColor (sent_batches (batches_after mark (map shot_of xs)) e).next.attributes.background
 known_color h w mark [] e a color = color
 known_color h w mark (x ∷ xs) e a color =
@@ -73,7 +73,7 @@ known_color h w mark (x ∷ xs) e a color =
 -- ---- the closing batch
 
 -- behind the closing batch
-closing_color : (taken : List Batch) (m : Mark) (e : Encoder) → IsColor (sent_batches taken e).next.attributes.background
+pub closing_color : (taken : List Batch) (m : Mark) (e : Encoder) → IsColor (sent_batches taken e).next.attributes.background
     → IsColor (sent_batches (taken ++ closing m ∷ []) e).next.attributes.background
 closing_color taken m e color = subst (λ (s : Sent). IsColor s.next.attributes.background) (sym (sent_both taken (closing m ∷ []) e))
     (subst (λ (c : CellAttributes). IsColor c.background) (sym (clear_keeps default_color (sent_change (CursorPosition (Absolute 0) (Relative (pos (1 + m.height) -ℤ m.row))) (sent_batches taken e).next).next)) color)
@@ -85,7 +85,7 @@ last_of_all P view (first ∷ more) last a = last_of_all P view more last a.1
 
 module _ {A C : Type 0} (pen : Pen A C) where
   -- a terminal that is sent a closing batch behind some bytes
-  closing_shown : (h w : ℕ) (taken : List Batch) (m : Mark) (e : Encoder) (t : EcmaScreen C) (shown : PictureOf C) → CarriesAttributes pen → 0 < w → w < 2 ^ 64
+  pub closing_shown : (h w : ℕ) (taken : List Batch) (m : Mark) (e : Encoder) (t : EcmaScreen C) (shown : PictureOf C) → CarriesAttributes pen → 0 < w → w < 2 ^ 64
       → IsReached h (Relative (pos (1 + m.height) -ℤ m.row)) → IsColor (sent_batches taken e).next.attributes.background
       → ShowsPicture pen h w (sent_batches taken e).next (receive_all pen h w (sent_batches taken e).bytes t) shown
       → ShowsPicture pen h w (sent_batches (taken ++ closing m ∷ []) e).next (receive_all pen h w (sent_batches (taken ++ closing m ∷ []) e).bytes t)

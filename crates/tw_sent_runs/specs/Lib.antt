@@ -1,2 +1,3 @@
 pub mod SentReadings
 pub mod SentRuns
+pub mod SizedReadings

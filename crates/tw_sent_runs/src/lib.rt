@@ -8,6 +8,7 @@
 ghost use Rattle.tw_screens.specs.Pens.{Pen};
 ghost use Rattle.tw_sent_runs.specs.SentReadings.{ReadingClosingsAreShown, ReadingPaintingsAreShown};
 ghost use Rattle.tw_sent_runs.specs.SentRuns.{ClosingsAreShown, HealingsAreShown, PaintingsAreShown};
+ghost use Rattle.tw_sent_runs.specs.SizedReadings.{HealedClosingsAreShown, ReadingHealingsAreShown, ReadingsAreSized, SizedPaintingsAreShown};
 
 use std::io::Write;
 use tw_host::LineEditorHost;
@@ -27,4 +28,15 @@ pub fn sent_runs<H: LineEditorHost, A, C>()
 pub fn sent_readings<H: LineEditorHost, W: Write, A, C>()
     ensures paintings { (pen : Pen A C) → ReadingPaintingsAreShown H.rules W.contents pen }
     ensures closings { (pen : Pen A C) → ReadingClosingsAreShown H.rules W.contents pen }
+{}
+
+/// Whatever sizes the events tell, the bytes that `read_line_from` has written, where it was answered, are those of its
+/// run's batches, each sent for the columns of its station. A changed size is followed from the next clearing on: the
+/// bytes from there on show a fresh painting at the new size, whatever the terminal showed, and those of the closing
+/// batch leave the cursor in the row below, so that the next reading can begin there.
+pub fn sized_readings<H: LineEditorHost, W: Write, A, C>()
+    ensures sized { ReadingsAreSized H.rules W.contents }
+    ensures paintings { (pen : Pen A C) → SizedPaintingsAreShown H.rules W.contents pen }
+    ensures healings { (pen : Pen A C) → ReadingHealingsAreShown H.rules W.contents pen }
+    ensures closings { (pen : Pen A C) → HealedClosingsAreShown H.rules W.contents pen }
 {}
