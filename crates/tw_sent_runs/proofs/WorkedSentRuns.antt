@@ -1,7 +1,8 @@
 -- Worked runs from bytes to cells: the premises hold, the bytes are these to the last one, and this is what is shown; a conclusion that is a little off does not hold.
-use Rattle.std.proofs.Common.{◌≡◌, ◌≢◌, ℕ, zero, suc, ◌+◌, ◌≤◌, ◌<◌, pos, List, [], ◌∷◌, ◌++◌, length, true, false, refl, sym, ap, subst, None, Some, Option, Ok, Err, Result, map, if◌then◌else◌, ltb, arith}
+use Rattle.std.proofs.Common.{◌≡◌, ◌≢◌, ℕ, zero, suc, ◌+◌, ◌≤◌, ◌<◌, pos, List, [], ◌∷◌, ◌++◌, length, true, false, refl, sym, ap, subst, None, Some, Option, Ok, Err, Result, map, min, codes, ◌∙◌, arith}
 use Rattle.std.specs.List.{All, AllByRecursion}
 use Rattle.std.proofs.lemmas.List.Elements.{All-nil, All-cons}
+use Rattle.std.specs.Fmt.{digits}
 use Rattle.unicode_segmentation.proofs.Computing.{unicode_segmentation}
 use Rattle.tw_strokes.specs.Sheets.{IsLow}
 use Rattle.tw_strokes.specs.Strokes.{PictureOf}
@@ -77,6 +78,22 @@ room rows station plain low = subst (λ scene. IsLow rows station.cols (sheet_of
 carries : CarriesAttributes characters
 carries change a = refl
 
+-- ESC [, these letters, and more
+abbrev csi : List ℕ → List ℕ → List ℕ
+csi letters more = 27 ∷ 91 ∷ letters ++ more
+
+-- from column 0 on all is cleared, and no attribute is set
+abbrev cleared_rows : List ℕ → List ℕ
+cleared_rows more = csi (codes "K") (csi (codes "C") (csi (codes "J") (13 ∷ csi (codes "0m") more)))
+
+-- the prompt, and no attribute again
+abbrev prompted : List ℕ → List ℕ
+prompted more = codes "> " ++ csi (codes "0m") more
+
+-- to column 0, and so many to the right
+abbrev to_right : List ℕ → List ℕ → List ℕ
+to_right steps more = 13 ∷ csi steps more
+
 -- ---- five columns and four rows, entered in the last row: "abcdef" is pasted, and no event is left
 
 abbrev low_run : Frame Lines
@@ -128,3 +145,85 @@ low_bytes = sent_paintings rules characters (low_first ∷ low_last ∷ []) (fir
 
 abbrev low_terminal : EcmaScreen ℕ
 low_terminal = receive_all characters 4 5 low_bytes.bytes (full 3)
+
+-- the two paintings, byte by byte
+low_written : low_bytes.bytes ≡ cleared_rows (prompted (to_right (codes "2C") (13 ∷ cleared_rows (prompted (codes "abcdef" ++ to_right (codes "3C") [])))))
+unfolding pieces column_width painted_on apply destination searched_again search_step boundary_below is_boundary iterate greatest_below least_from unicode_segmentation digits
+low_written = refl
+
+low_known : low_bytes.next ≡ record { cols = 5; x = 3; parted = false; attributes = default_attributes }
+unfolding pieces column_width painted_on apply destination searched_again search_step boundary_below is_boundary iterate greatest_below least_from unicode_segmentation digits
+low_known = refl
+
+-- by the law
+low_by_law : (low_terminal.row ≡ 3) × (low_terminal.col ≡ 3) × (low_terminal.cell 2 0 ≡ 62) × (low_terminal.cell 3 2 ≡ 102) × (low_terminal.cell 1 0 ≡ 67)
+unfolding pieces column_width painted_on apply destination searched_again search_step boundary_below is_boundary iterate greatest_below least_from unicode_segmentation
+low_by_law =
+    let s = paintings_are_shown characters rules low_run 4 5 (low_first ∷ []) low_last [] (first_known 5) (full 3) (before 3) carries low_sent in
+    let fresh = s.1.shown.fresh in (
+      s.0.row ∙ fresh.row,
+      s.0.col ∙ ap (λ c. min c 4) fresh.col,
+      s.0.cells 2 0 (omega arith) (omega arith) ∙ fresh.shown 0 (omega arith),
+      s.0.cells 3 2 (omega arith) (omega arith) ∙ fresh.shown 7 (omega arith),
+      s.0.cells 1 0 (omega arith) (omega arith) ∙ s.1.shown.above 1 0 (omega arith) (omega arith) (omega arith),
+    )
+
+-- and by the bytes: two rows have gone out of sight
+low_by_bytes : (low_terminal.row ≡ 3) × (low_terminal.col ≡ 3) × (low_terminal.cell 2 0 ≡ 62) × (low_terminal.cell 3 2 ≡ 102) × (low_terminal.cell 1 0 ≡ 67) × (low_terminal.cell 3 3 ≡ 32)
+unfolding pieces column_width painted_on apply destination searched_again search_step boundary_below is_boundary iterate greatest_below least_from unicode_segmentation digits
+low_by_bytes = (refl, refl, refl, refl, refl, refl)
+
+-- not with a byte less, not a row higher, and no stale D stands behind the line
+low_is_whole : length low_bytes.bytes ≡ 56 → ⊥
+unfolding pieces column_width painted_on apply destination searched_again search_step boundary_below is_boundary iterate greatest_below least_from unicode_segmentation digits
+low_is_whole less = let off : 57 ≡ 56 = less in omega (arith, off)
+
+low_is_low : low_terminal.row ≡ 2 → ⊥
+unfolding pieces column_width painted_on apply destination searched_again search_step boundary_below is_boundary iterate greatest_below least_from unicode_segmentation digits
+low_is_low higher = let off : 3 ≡ 2 = higher in omega (arith, off)
+
+low_is_fresh : low_terminal.cell 3 3 ≡ 68 → ⊥
+unfolding pieces column_width painted_on apply destination searched_again search_step boundary_below is_boundary iterate greatest_below least_from unicode_segmentation digits
+low_is_fresh stale = let off : 32 ≡ 68 = stale in omega (arith, off)
+
+-- ---- and its closing batch
+
+abbrev end_bytes : Sent
+end_bytes = sent_run rules characters low_run (low_first ∷ low_last ∷ []) (first_known 5)
+
+abbrev end_terminal : EcmaScreen ℕ
+end_terminal = receive_all characters 4 5 end_bytes.bytes (full 3)
+
+end_written : end_bytes.bytes ≡ low_bytes.bytes ++ 10 ∷ 13 ∷ csi (codes "K") (csi (codes "C") (csi (codes "J") (13 ∷ [])))
+unfolding pieces column_width painted_on apply destination searched_again search_step boundary_below is_boundary iterate greatest_below least_from unicode_segmentation digits
+end_written = refl
+
+end_by_law : (end_terminal.row ≡ 3) × (end_terminal.col ≡ 0) × (end_terminal.cell 3 0 ≡ 32)
+unfolding pieces column_width painted_on apply destination searched_again search_step boundary_below is_boundary iterate greatest_below least_from unicode_segmentation
+end_by_law =
+    let s = closings_are_shown characters rules low_run 4 5 (low_first ∷ []) low_last [] (first_known 5) (full 3) (before 3) carries low_sent (All-nil (RendersNothing rules)) in
+    let shown = s.1 in
+    let closed = s.2 in (
+      shown.row ∙ closed.row,
+      shown.col ∙ ap (λ c. min c 4) closed.col,
+      shown.cells 3 0 (omega arith) (omega arith) ∙ closed.blank_below 3 0 (omega (arith, closed.row)) (omega arith),
+    )
+
+end_by_bytes : (end_terminal.row ≡ 3) × (end_terminal.col ≡ 0) × (end_terminal.cell 3 0 ≡ 32) × (end_terminal.cell 2 2 ≡ 102) × (end_terminal.cell 1 0 ≡ 62) × (end_terminal.cell 0 0 ≡ 67)
+unfolding pieces column_width painted_on apply destination searched_again search_step boundary_below is_boundary iterate greatest_below least_from unicode_segmentation digits
+end_by_bytes = (refl, refl, refl, refl, refl, refl)
+
+-- the cursor does not stay in the row of the line, and the line is not cleared
+end_is_below : end_terminal.cell 3 0 ≡ 100 → ⊥
+unfolding pieces column_width painted_on apply destination searched_again search_step boundary_below is_boundary iterate greatest_below least_from unicode_segmentation digits
+end_is_below stays = let off : 32 ≡ 100 = stays in omega (arith, off)
+
+end_keeps : end_terminal.cell 2 2 ≡ 32 → ⊥
+unfolding pieces column_width painted_on apply destination searched_again search_step boundary_below is_boundary iterate greatest_below least_from unicode_segmentation digits
+end_keeps gone = let off : 102 ≡ 32 = gone in omega (arith, off)
+
+-- ---- a station for five columns is none that is sent at six
+
+not_sent_at_six : IsSentAt 4 6 (sized_scene rules low_last) → ⊥
+unfolding pieces column_width painted_on apply destination searched_again search_step boundary_below is_boundary iterate greatest_below least_from
+not_sent_at_six sent = let off : 5 ≡ 6 = sent.cols in omega (arith, off)

@@ -1,11 +1,22 @@
 -- A worked reading whose events tell another number of columns: what it has written, to the last byte, and what a terminal shows of it that may have shown anything.
-use Rattle.std.proofs.Common.{◌≡◌, ◌≢◌, ℕ, zero, suc, ◌+◌, ◌≤◌, ◌<◌, pos, List, [], ◌∷◌, ◌++◌, length, true, false, refl, sym, ap, subst, None, Some, Option, Ok, Err, Result, map, append-nil, arith}
+use Rattle.std.proofs.Common.{◌≡◌, ◌≢◌, ℕ, zero, suc, ◌+◌, ◌≤◌, ◌<◌, pos, List, [], ◌∷◌, ◌++◌, length, true, false, refl, sym, ap, subst, None, Some, Option, Ok, Err, Result, Bool, map, min, codes, get_or, neg_ℤ, ◌∙◌, append-nil, arith}
 use Rattle.std.specs.List.{All, AllByRecursion}
 use Rattle.std.proofs.lemmas.Bool.{false≢true}
 use Rattle.std.proofs.lemmas.List.Elements.{All-nil, All-cons}
+use Rattle.std.specs.Fmt.{digits}
 use Rattle.unicode_segmentation.proofs.Computing.{unicode_segmentation}
+use Rattle.tw_strokes.specs.Sheets.{IsLow}
+use Rattle.tw_surface.specs.declared.change.Position.TheVariants.{Relative}
 use Rattle.tw_surface.specs.ChangeView.{Batch}
-use Rattle.tw_surface.specs.PaintingBatches.{closing_if}
+use Rattle.tw_surface.specs.Defaults.{default_attributes}
+use Rattle.tw_surface.specs.Paintings.{Mark, Painting}
+use Rattle.tw_surface.specs.Scenes.{IsPlain}
+use Rattle.tw_surface.specs.Simple.{IsSimpleWide}
+use Rattle.tw_screens.specs.SceneSheets.{sheet_of}
+use Rattle.tw_screens.specs.Screens.{HasRoom}
+use Rattle.tw_screens.specs.StyledCells.{characters}
+use Rattle.tw_screens.proofs.PlainScenes.{plain_is_simple}
+use Rattle.tw_surface.specs.PaintingBatches.{SizedScene, shot_of, closing_if, mark_after}
 use Rattle.tw_surface.specs.Width.{column_width}
 use Rattle.tw_surface.specs.Places.{pieces}
 use Rattle.tw_input.specs.EventView.{EventView, Key, Resized, Paste}
@@ -18,14 +29,22 @@ use Rattle.tw_terminal.specs.declared.terminal.ScreenSize.{ScreenSize}
 use Rattle.tw_host.specs.HostRules.{HostRules, plain_rules}
 use Rattle.tw_host.specs.KeyTable.{key_press}
 use Rattle.tw_painter.specs.Painting.{painted_on}
+use Rattle.tw_painter.specs.Refusal.{Refusal}
 use Rattle.tw_session.specs.Search.{searched_again, search_step}
+use Rattle.tw_session.specs.SessionView.{new_state}
 use Rattle.tw_session.specs.Steps.{apply}
 use Rattle.tw_lineedit.specs.Frame.{Frame}
 use Rattle.tw_lineedit.specs.EditState.{Inactive}
 use Rattle.tw_lineedit.specs.Reading.{Reads}
 use Rattle.tw_lineedit.specs.Run.{Ending}
+use Rattle.tw_lineedit.specs.ScreenRuns.{sized_scene}
+use Rattle.tw_lineedit.specs.Stations.{Station, painting_of, stations_of}
 use Rattle.tw_ansi.specs.declared.encode.Encoder.{Encoder}
-use Rattle.tw_ansi.specs.Encoding.{Sent, first_known, sent_batch}
+use Rattle.tw_ansi.specs.Encoding.{first_known, sent_batch}
+use Rattle.tw_ansi.specs.EcmaBatches.{CarriesAttributes, IsReached}
+use Rattle.tw_ansi.specs.EcmaPaintings.{sent_batches}
+use Rattle.tw_ansi.specs.EcmaScreen.{EcmaScreen, receive_all}
+use Rattle.tw_ansi.specs.EcmaScreen as terminal
 use Rattle.tw_device.specs.Deeds.{Called, Sized, Does}
 use Rattle.tw_device.specs.Led.{taken_over, IsLedByCalls, IsSizedBy, IsLedAlong}
 use Rattle.tw_device.specs.Live.{fresh_frame, frame_of, outcome_in, run_over}
@@ -34,7 +53,8 @@ use Rattle.tw_device.specs.declared.keys.SourceState.TheVariants.{AtEnd}
 use Rattle.tw_device.specs.declared.reading.Answer.TheVariants.{Cancelled}
 use Rattle.tw_device.specs.declared.terminal.AnsiTerminal.{AnsiTerminal}
 use Rattle.tw_sent_runs.specs.SentReadings.{reading_frame}
-use Rattle.tw_sent_runs.specs.SizedReadings.{sent_sized, run_sized, IsSizedReading}
+use Rattle.tw_sent_runs.specs.SentRuns.{HealsSent}
+use Rattle.tw_sent_runs.specs.SizedReadings.{sent_sized, stations_sized, run_sized, IsSizedReading}
 use Rattle.tw_sent_runs.proofs.SizedRunLemmas.{readings_are_sized, reading_healings_are_shown}
 
 abbrev Lines : Type 0
@@ -46,6 +66,45 @@ rules = plain_rules (λ v. v)
 abbrev bytes_in : Option (List ℕ) → List ℕ
 bytes_in None = []
 bytes_in (Some bytes) = bytes
+
+abbrev nth : List (Station Lines) → ℕ → Station Lines
+nth [] n = record { state = new_state; value = []; size = record { rows = 0; cols = 0 }; cleared = false }
+nth (s ∷ more) zero = s
+nth (s ∷ more) (suc n) = nth more n
+
+abbrev painting_in : Result Painting Refusal → Painting
+painting_in (Ok p) = p
+painting_in (Err r) = record { changes = []; row = pos 0; height = 0 }
+
+simple : (station : SizedScene) → 2 ≤ station.cols → IsPlain station.scene → IsSimpleWide station
+simple station two plain = (two, (plain_is_simple station.scene plain).0)
+
+room : (rows : Option ℕ) (station : SizedScene) → IsPlain station.scene → IsLow rows station.cols (sheet_of characters station.cols station.scene) → HasRoom rows characters station
+room rows station plain low = subst (λ scene. IsLow rows station.cols (sheet_of characters station.cols scene)) (sym (plain_is_simple station.scene plain).1) low
+
+carries : CarriesAttributes characters
+carries change a = refl
+
+-- a move back from a painting, if there is one, that leads no further than a move can
+abbrev IsBack : Option Mark → Type 0
+IsBack None = ⊥
+IsBack (Some m) = IsReached 4 (Relative (neg_ℤ m.row))
+
+-- ESC [, these letters, and more
+abbrev csi : List ℕ → List ℕ → List ℕ
+csi letters more = 27 ∷ 91 ∷ letters ++ more
+
+-- from column 0 on all is cleared, and no attribute is set
+abbrev cleared_rows : List ℕ → List ℕ
+cleared_rows more = csi (codes "K") (csi (codes "C") (csi (codes "J") (13 ∷ csi (codes "0m") more)))
+
+-- the prompt, and no attribute again
+abbrev prompted : List ℕ → List ℕ
+prompted more = codes "> " ++ csi (codes "0m") more
+
+-- to column 0, and so many to the right
+abbrev to_right : List ℕ → List ℕ → List ℕ
+to_right steps more = 13 ∷ csi steps more
 
 -- ---- a terminal over a writer that keeps its bytes
 
@@ -86,23 +145,23 @@ last_calls first second t =
     let two = with_batch second one in
     (Took first ∷ Took second ∷ Other ∷ [], (one, takes first t, (two, takes second one, (flushed_now two, flushes two, refl))))
 
--- ---- "abcd" is pasted at ten columns; then there are five, the screen is cleared by a Repaint, and the line is cancelled
+-- ---- "abcd" is pasted at five columns; then there are ten, the screen is cleared by a Repaint, and the line is cancelled
 
 abbrev prompt : List ℕ
 prompt = 62 ∷ 32 ∷ []
 
 abbrev events : List EventView
-events = Paste (97 ∷ 98 ∷ 99 ∷ 100 ∷ []) ∷ Resized 5 4 ∷ Key (key_press 8 (Char 76)) ∷ Key (key_press 8 (Char 67)) ∷ []
+events = Paste (97 ∷ 98 ∷ 99 ∷ 100 ∷ []) ∷ Resized 10 4 ∷ Key (key_press 8 (Char 76)) ∷ Key (key_press 8 (Char 67)) ∷ []
 
 abbrev nth_batch : List Batch → ℕ → Batch
 nth_batch [] n = []
 nth_batch (batch ∷ more) zero = batch
 nth_batch (batch ∷ more) (suc n) = nth_batch more n
 
--- any terminal, a byte written, four rows of ten columns
+-- any terminal over such a writer, a byte written before, four rows of five columns
 module _ (it : AnsiTerminal Wrote) where
   abbrev old : AnsiTerminal Wrote
-  old = record it { writer = 63 ∷ []; encoder = first_known 10; size = record { rows = 4; cols = 10 }; batches = []; failures = 0 }
+  old = record it { writer = 63 ∷ []; encoder = first_known 5; size = record { rows = 4; cols = 5 }; batches = []; failures = 0 }
 
   abbrev begun : Frame Lines
   begun = fresh_frame prompt [] (terminal_state old)
@@ -119,11 +178,11 @@ module _ (it : AnsiTerminal Wrote) where
   abbrev pasted : AnsiTerminal Wrote
   pasted = with_batch (batch 1) painted
 
-  abbrev narrow : AnsiTerminal Wrote
-  narrow = with_size (record { rows = 4; cols = 5 }) pasted
+  abbrev wide : AnsiTerminal Wrote
+  wide = with_size (record { rows = 4; cols = 10 }) pasted
 
   abbrev repainted : AnsiTerminal Wrote
-  repainted = with_batch (batch 2) narrow
+  repainted = with_batch (batch 2) wide
 
   abbrev cleared : AnsiTerminal Wrote
   cleared = with_batch (batch 4) (with_batch (batch 3) repainted)
@@ -138,8 +197,8 @@ module _ (it : AnsiTerminal Wrote) where
   led_along : IsLedAlong Some (taken_over rules begun) events old new
   unfolding pieces column_width painted_on apply destination searched_again search_step boundary_below is_boundary iterate greatest_below least_from
   led_along = (painted, painted, one_batch (batch 0) old, refl, refl,
-      (pasted, narrow, one_batch (batch 1) painted, refl, sizes 5 4 pasted,
-      (repainted, repainted, one_batch (batch 2) narrow, refl, refl,
+      (pasted, wide, one_batch (batch 1) painted, refl, sizes 10 4 pasted,
+      (repainted, repainted, one_batch (batch 2) wide, refl, refl,
       (cleared, cleared, two_batches (batch 3) (batch 4) repainted, refl, refl, last_calls (batch 5) closing cleared))))
 
   reads : Reads whole begun (frame_of (record { state = record whole.state { mode = Inactive }; mark = None }) whole.value (terminal_state new)) (outcome_in Cancelled)
@@ -163,5 +222,118 @@ module _ (it : AnsiTerminal Wrote) where
   }
 
   -- by the law
-  written : new.writer ≡ 63 ∷ (sent_sized (run_sized rules (reading_frame prompt [] old events)) (first_known 10)).bytes
+  written : new.writer ≡ 63 ∷ (sent_sized (run_sized rules (reading_frame prompt [] old events)) (first_known 5)).bytes
   written = ap bytes_in (readings_are_sized rules Some prompt [] old new events (63 ∷ []) reading).0
+
+  -- the bytes for five columns and then for ten, up to the clearing
+  abbrev before_clearing : List ℕ
+  before_clearing = cleared_rows (prompted (to_right (codes "2C") (13 ∷ cleared_rows (prompted (codes "abcd" ++ to_right (codes "1C")
+      (csi (codes "1A") (13 ∷ cleared_rows (prompted (codes "abcd" ++ to_right (codes "6C") [])))))))))
+
+  -- those of the clearing and of the painting behind it
+  abbrev clearing_on : List ℕ
+  clearing_on = csi (codes "H") (csi (codes "2J") (13 ∷ cleared_rows (prompted (codes "abcd" ++ to_right (codes "6C") []))))
+
+  -- those of the cancelled line and of the closing batch
+  abbrev cancelled_on : List ℕ
+  cancelled_on = 13 ∷ cleared_rows (prompted (codes "abcd" ++ to_right (codes "6C") (10 ∷ 13 ∷ csi (codes "K") (csi (codes "C") (csi (codes "J") (13 ∷ []))))))
+
+  -- all that was written
+  written_is : new.writer ≡ 63 ∷ before_clearing ++ (clearing_on ++ cancelled_on)
+  unfolding pieces column_width painted_on apply destination searched_again search_step boundary_below is_boundary iterate greatest_below least_from unicode_segmentation digits
+  written_is = refl
+
+  -- not with a byte less
+  written_is_whole : length new.writer ≡ 168 → ⊥
+  unfolding pieces column_width painted_on apply destination searched_again search_step boundary_below is_boundary iterate greatest_below least_from unicode_segmentation digits
+  written_is_whole less = let off : 169 ≡ 168 = less in omega (arith, off)
+
+  -- what is sent for five columns all along leads to column 1, as where the line wraps
+  at_five : (sent_batches (whole.taken ++ closing_if whole.mark) (first_known 5)).bytes
+      ≡ cleared_rows (prompted (to_right (codes "2C") (13 ∷ cleared_rows (prompted (codes "abcd" ++ to_right (codes "1C")
+      (csi (codes "1A") (13 ∷ cleared_rows (prompted (codes "abcd" ++ to_right (codes "1C")
+      (csi (codes "H") (csi (codes "2J") (13 ∷ cleared_rows (prompted (codes "abcd" ++ to_right (codes "1C")
+      (13 ∷ cleared_rows (prompted (codes "abcd" ++ to_right (codes "1C") (10 ∷ 13 ∷ csi (codes "K") (csi (codes "C") (csi (codes "J") (13 ∷ [])))))))))))))))))))))
+  unfolding pieces column_width painted_on apply destination searched_again search_step boundary_below is_boundary iterate greatest_below least_from unicode_segmentation digits
+  at_five = refl
+
+  -- and was not written
+  not_at_five : new.writer ≡ 63 ∷ (sent_batches (whole.taken ++ closing_if whole.mark) (first_known 5)).bytes → ⊥
+  not_at_five same =
+      let off : get_or (63 ∷ before_clearing ++ (clearing_on ++ cancelled_on)) 88 0 ≡ 49 = ap (λ bytes. get_or bytes 88 0) (sym written_is ∙ same ∙ ap (λ bytes. 63 ∷ bytes) at_five) in
+      let no : 54 ≡ 49 = off in
+      omega (arith, no)
+
+  -- ---- behind the clearing
+
+  abbrev frame : Frame Lines
+  frame = reading_frame prompt [] old events
+
+  abbrev at : ℕ → Station Lines
+  at n = nth (stations_of rules frame) n
+
+  abbrev earlier : List (Station Lines)
+  earlier = at 0 ∷ at 1 ∷ at 2 ∷ []
+
+  abbrev known : Encoder
+  known = record (sent_sized (stations_sized rules earlier) (first_known 5)).next { cols = 10 }
+
+  plain_at : (IsPlain (sized_scene rules (at 3)).scene) × (IsPlain (sized_scene rules (at 4)).scene)
+  unfolding pieces column_width painted_on apply destination searched_again search_step boundary_below is_boundary iterate greatest_below least_from
+  plain_at = (record { prompt = refl; line = refl; lower = tt }, record { prompt = refl; line = refl; lower = tt })
+
+  back : (m : Mark) → mark_after None (map shot_of (map (sized_scene rules) earlier)) ≡ Some m → IsReached 4 (Relative (neg_ℤ m.row))
+  unfolding pieces column_width painted_on apply destination searched_again search_step boundary_below is_boundary iterate greatest_below least_from
+  back m is = subst IsBack is (omega arith)
+
+  -- a terminal that shows anything, its cursor anywhere
+  module _ (cell : ℕ → ℕ → ℕ) (row col : ℕ) (waits : Bool) where
+    abbrev anything : EcmaScreen ℕ
+    anything = record { cell = cell; row = row; col = col; waits = waits; rendition = default_attributes; reading = terminal.Text }
+
+    heals : HealsSent rules characters 4 10 frame earlier [] (at 3) (at 4 ∷ []) known anything
+    unfolding pieces column_width painted_on apply destination searched_again search_step boundary_below is_boundary iterate greatest_below least_from unicode_segmentation digits
+    heals = record {
+      comes = record {
+        nothing_painted = refl;
+        stations = refl;
+        painting = painting_in (painting_of rules (at 3));
+        painted = refl;
+        cleared = refl;
+        simple = All-cons IsSimpleWide (sized_scene rules (at 3)) [] (simple (sized_scene rules (at 3)) (omega arith) plain_at.0) (All-nil IsSimpleWide);
+        low = All-cons (HasRoom (Some 4) characters) (sized_scene rules (at 3)) [] (room (Some 4) (sized_scene rules (at 3)) plain_at.0 (omega arith)) (All-nil (HasRoom (Some 4) characters));
+        in_sight = omega arith;
+      };
+      sent = (record { cols = refl; showable = record { typed = record { prompt = (refl, tt); line = (refl, tt); lower = tt }; near = omega arith; back = omega arith; under = omega arith } }, tt);
+      back = back;
+      narrow = omega arith;
+      color = tt;
+      reading = refl;
+      rendition = refl;
+      cols = refl;
+    }
+
+    abbrev healed : EcmaScreen ℕ
+    healed = receive_all characters 4 10 clearing_on anything
+
+    healed_by_law : (healed.row ≡ 0) × (healed.col ≡ 6) × (healed.cell 0 5 ≡ 100) × (healed.cell 1 0 ≡ 32)
+    unfolding pieces column_width painted_on apply destination searched_again search_step boundary_below is_boundary iterate greatest_below least_from unicode_segmentation digits
+    healed_by_law =
+        let s = (reading_healings_are_shown rules Some characters prompt [] old new events (63 ∷ []) 4 10 earlier [] (at 3) (at 4 ∷ []) anything reading carries heals).2 in
+        let fresh = s.2 in (
+          s.1.row ∙ fresh.row,
+          s.1.col ∙ ap (λ c. min c 9) fresh.col,
+          s.1.cells 0 5 (omega arith) (omega arith) ∙ fresh.shown 5 (omega arith),
+          s.1.cells 1 0 (omega arith) (omega arith) ∙ fresh.rest 1 0 (omega arith) (omega arith) (λ inside. omega (arith, inside)) (λ below. below),
+        )
+
+    healed_by_bytes : (healed.row ≡ 0) × (healed.col ≡ 6) × (healed.cell 0 5 ≡ 100) × (healed.cell 1 0 ≡ 32) × (healed.cell 3 9 ≡ 32)
+    unfolding pieces column_width painted_on apply destination searched_again search_step boundary_below is_boundary iterate greatest_below least_from unicode_segmentation digits
+    healed_by_bytes = (refl, refl, refl, refl, refl)
+
+    -- not where the line wraps at five columns, and not what stood there
+    healed_is_wide : healed.col ≡ 1 → ⊥
+    healed_is_wide off = let no : 6 ≡ 1 = off in omega (arith, no)
+
+    healed_is_fresh : (stale : ℕ) → stale ≢ 32 → healed.cell 1 0 ≡ stale → ⊥
+    healed_is_fresh stale other stays = other (sym stays)
