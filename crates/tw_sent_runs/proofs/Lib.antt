@@ -5,5 +5,7 @@ pub mod ReadingLemmas
 pub mod SentLemmas
 pub mod SizedReadingLemmas
 pub mod SizedRunLemmas
+pub mod WorkedParts
+mod WorkedSentReadings
 mod WorkedSentRuns
 mod WorkedSizedReadings

@@ -29,7 +29,7 @@ use Rattle.tw_device.specs.Terminal.{terminal_state}
 use Rattle.tw_device.specs.declared.terminal.AnsiTerminal.{AnsiTerminal}
 use Rattle.tw_device.proofs.DeedLemmas.{appends_nothing, appends_then, led_by_calls, led_is_sent}
 use Rattle.tw_device.proofs.LedLemmas.{along_counts, calls_count, along_same, sized_is}
-use Rattle.tw_sent_runs.specs.SizedReadings.{sent_sized}
+use Rattle.tw_sent_runs.specs.SizedReadings.{sent_at, sent_sized}
 
 -- ---- sized batches
 
@@ -37,17 +37,21 @@ use Rattle.tw_sent_runs.specs.SizedReadings.{sent_sized}
 pub sized_both : (xs ys : List SizedBatch) (e : Encoder) → sent_sized (xs ++ ys) e ≡ sent_then (sent_sized xs e) (sent_sized ys)
 sized_both [] ys e = refl
 sized_both (x ∷ xs) ys e =
-    let first : Sent = sent_batch x.batch (record e { cols = x.cols }) in
+    let first : Sent = sent_at x e in
     let later : Sent = sent_sized ys (sent_sized xs first.next).next in
     ap (λ s. record { bytes = first.bytes ++ s.bytes; next = s.next }) (sized_both xs ys first.next)
     ∙ ap (λ bytes. record { bytes = bytes; next = later.next }) (sym (append_assoc first.bytes (sent_sized xs first.next).bytes later.bytes))
 
--- at the columns that are known
+-- one at the columns that are known
+known_at : (w : ℕ) (batch : Batch) (e : Encoder) → e.cols ≡ w → sent_at (record { cols = w; batch = batch }) e ≡ sent_batch batch e
+known_at w batch e same = subst (λ cols. sent_at (record { cols = cols; batch = batch }) e ≡ sent_batch batch e) same refl
+
+-- and some
 pub sized_known : (w : ℕ) (played : List Batch) (e : Encoder) → e.cols ≡ w → sent_sized (sized_at w played) e ≡ sent_batches played e
 sized_known w [] e same = refl
 sized_known w (batch ∷ more) e same =
     let next : Encoder = (sent_batch batch e).next in
-    ap (λ cols. sent_then (sent_batch batch (record e { cols = cols })) (sent_sized (sized_at w more))) (sym same)
+    ap (λ (s : Sent). sent_then s (sent_sized (sized_at w more))) (known_at w batch e same)
     ∙ ap (λ s. record { bytes = (sent_batch batch e).bytes ++ s.bytes; next = s.next }) (sized_known w more next (batch_in batch e ∙ same))
 
 -- batches leave the columns that are known

@@ -43,12 +43,7 @@ use Rattle.tw_ansi.proofs.EcmaBatches.{first_is_shown}
 use Rattle.tw_sent_runs.specs.SentRuns.{ComesSent, IsSentAt, sent_paintings, sent_run, shown_by}
 use Rattle.tw_sent_runs.proofs.ClosingLemmas.{closings_are_shown}
 use Rattle.tw_sent_runs.proofs.SentLemmas.{paintings_are_shown}
-
-abbrev Lines : Type 0
-Lines = List (List ℕ)
-
-abbrev rules : HostRules Lines
-rules = plain_rules (λ v. v)
+use Rattle.tw_sent_runs.proofs.WorkedParts.{Lines, rules, nth, painting_in, simple, room, carries, prompted, to_right, closed}
 
 abbrev frame_with : ℕ → List EventView → Frame Lines
 frame_with cols events = start None (record { state = new_state; value = []; mark = None; terminal = record { size = record { rows = 4; cols = cols }; events = events; batches = []; flushed = 0; failures = 0 } })
@@ -59,40 +54,6 @@ full row = record { cell = λ r c. 65 + r; row = row; col = 0; waits = false; re
 
 abbrev before : ℕ → PictureOf ℕ
 before row = first_picture characters 4 (full row)
-
-abbrev painting_in : Result Painting Refusal → Painting
-painting_in (Ok p) = p
-painting_in (Err r) = record { changes = []; row = pos 0; height = 0 }
-
-abbrev nth : List (Station Lines) → ℕ → Station Lines
-nth [] n = record { state = new_state; value = []; size = record { rows = 0; cols = 0 }; cleared = false }
-nth (s ∷ more) zero = s
-nth (s ∷ more) (suc n) = nth more n
-
-simple : (station : SizedScene) → 2 ≤ station.cols → IsPlain station.scene → IsSimpleWide station
-simple station two plain = (two, (plain_is_simple station.scene plain).0)
-
-room : (rows : Option ℕ) (station : SizedScene) → IsPlain station.scene → IsLow rows station.cols (sheet_of characters station.cols station.scene) → HasRoom rows characters station
-room rows station plain low = subst (λ scene. IsLow rows station.cols (sheet_of characters station.cols scene)) (sym (plain_is_simple station.scene plain).1) low
-
-carries : CarriesAttributes characters
-carries change a = refl
-
--- ESC [, these letters, and more
-abbrev csi : List ℕ → List ℕ → List ℕ
-csi letters more = 27 ∷ 91 ∷ letters ++ more
-
--- from column 0 on all is cleared, and no attribute is set
-abbrev cleared_rows : List ℕ → List ℕ
-cleared_rows more = csi (codes "K") (csi (codes "C") (csi (codes "J") (13 ∷ csi (codes "0m") more)))
-
--- the prompt, and no attribute again
-abbrev prompted : List ℕ → List ℕ
-prompted more = codes "> " ++ csi (codes "0m") more
-
--- to column 0, and so many to the right
-abbrev to_right : List ℕ → List ℕ → List ℕ
-to_right steps more = 13 ∷ csi steps more
 
 -- ---- five columns and four rows, entered in the last row: "abcdef" is pasted, and no event is left
 
@@ -147,7 +108,7 @@ abbrev low_terminal : EcmaScreen ℕ
 low_terminal = receive_all characters 4 5 low_bytes.bytes (full 3)
 
 -- the two paintings, byte by byte
-low_written : low_bytes.bytes ≡ cleared_rows (prompted (to_right (codes "2C") (13 ∷ cleared_rows (prompted (codes "abcdef" ++ to_right (codes "3C") [])))))
+low_written : low_bytes.bytes ≡ prompted (to_right (codes "2C") (13 ∷ prompted (codes "abcdef" ++ to_right (codes "3C") [])))
 unfolding pieces column_width painted_on apply destination searched_again search_step boundary_below is_boundary iterate greatest_below least_from unicode_segmentation digits
 low_written = refl
 
@@ -194,7 +155,7 @@ end_bytes = sent_run rules characters low_run (low_first ∷ low_last ∷ []) (f
 abbrev end_terminal : EcmaScreen ℕ
 end_terminal = receive_all characters 4 5 end_bytes.bytes (full 3)
 
-end_written : end_bytes.bytes ≡ low_bytes.bytes ++ 10 ∷ 13 ∷ csi (codes "K") (csi (codes "C") (csi (codes "J") (13 ∷ [])))
+end_written : end_bytes.bytes ≡ low_bytes.bytes ++ closed
 unfolding pieces column_width painted_on apply destination searched_again search_step boundary_below is_boundary iterate greatest_below least_from unicode_segmentation digits
 end_written = refl
 
@@ -203,10 +164,10 @@ unfolding pieces column_width painted_on apply destination searched_again search
 end_by_law =
     let s = closings_are_shown characters rules low_run 4 5 (low_first ∷ []) low_last [] (first_known 5) (full 3) (before 3) carries low_sent (All-nil (RendersNothing rules)) in
     let shown = s.1 in
-    let closed = s.2 in (
-      shown.row ∙ closed.row,
-      shown.col ∙ ap (λ c. min c 4) closed.col,
-      shown.cells 3 0 (omega arith) (omega arith) ∙ closed.blank_below 3 0 (omega (arith, closed.row)) (omega arith),
+    let below = s.2 in (
+      shown.row ∙ below.row,
+      shown.col ∙ ap (λ c. min c 4) below.col,
+      shown.cells 3 0 (omega arith) (omega arith) ∙ below.blank_below 3 0 (omega (arith, below.row)) (omega arith),
     )
 
 end_by_bytes : (end_terminal.row ≡ 3) × (end_terminal.col ≡ 0) × (end_terminal.cell 3 0 ≡ 32) × (end_terminal.cell 2 2 ≡ 102) × (end_terminal.cell 1 0 ≡ 62) × (end_terminal.cell 0 0 ≡ 67)

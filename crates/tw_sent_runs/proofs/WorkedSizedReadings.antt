@@ -55,72 +55,15 @@ use Rattle.tw_device.specs.declared.terminal.AnsiTerminal.{AnsiTerminal}
 use Rattle.tw_sent_runs.specs.SentReadings.{reading_frame}
 use Rattle.tw_sent_runs.specs.SentRuns.{HealsSent}
 use Rattle.tw_sent_runs.specs.SizedReadings.{sent_sized, stations_sized, run_sized, IsSizedReading}
-use Rattle.tw_sent_runs.proofs.SizedRunLemmas.{readings_are_sized, reading_healings_are_shown}
-
-abbrev Lines : Type 0
-Lines = List (List ℕ)
-
-abbrev rules : HostRules Lines
-rules = plain_rules (λ v. v)
-
-abbrev bytes_in : Option (List ℕ) → List ℕ
-bytes_in None = []
-bytes_in (Some bytes) = bytes
-
-abbrev nth : List (Station Lines) → ℕ → Station Lines
-nth [] n = record { state = new_state; value = []; size = record { rows = 0; cols = 0 }; cleared = false }
-nth (s ∷ more) zero = s
-nth (s ∷ more) (suc n) = nth more n
-
-abbrev painting_in : Result Painting Refusal → Painting
-painting_in (Ok p) = p
-painting_in (Err r) = record { changes = []; row = pos 0; height = 0 }
-
-simple : (station : SizedScene) → 2 ≤ station.cols → IsPlain station.scene → IsSimpleWide station
-simple station two plain = (two, (plain_is_simple station.scene plain).0)
-
-room : (rows : Option ℕ) (station : SizedScene) → IsPlain station.scene → IsLow rows station.cols (sheet_of characters station.cols station.scene) → HasRoom rows characters station
-room rows station plain low = subst (λ scene. IsLow rows station.cols (sheet_of characters station.cols scene)) (sym (plain_is_simple station.scene plain).1) low
-
-carries : CarriesAttributes characters
-carries change a = refl
+use Rattle.tw_sent_runs.proofs.SizedRunLemmas.{readings_are_sized, reading_healings_are_shown, healed_closings_are_shown}
+use Rattle.tw_sent_runs.proofs.WorkedParts.{Lines, rules, nth, nth_batch, painting_in, bytes_in, simple, room, carries, csi, prompted, to_right, closed, Wrote, with_batch, with_size, flushed_now, takes, is_sized, flushes}
 
 -- a move back from a painting, if there is one, that leads no further than a move can
 abbrev IsBack : Option Mark → Type 0
 IsBack None = ⊥
 IsBack (Some m) = IsReached 4 (Relative (neg_ℤ m.row))
 
--- ESC [, these letters, and more
-abbrev csi : List ℕ → List ℕ → List ℕ
-csi letters more = 27 ∷ 91 ∷ letters ++ more
-
--- from column 0 on all is cleared, and no attribute is set
-abbrev cleared_rows : List ℕ → List ℕ
-cleared_rows more = csi (codes "K") (csi (codes "C") (csi (codes "J") (13 ∷ csi (codes "0m") more)))
-
--- the prompt, and no attribute again
-abbrev prompted : List ℕ → List ℕ
-prompted more = codes "> " ++ csi (codes "0m") more
-
--- to column 0, and so many to the right
-abbrev to_right : List ℕ → List ℕ → List ℕ
-to_right steps more = 13 ∷ csi steps more
-
--- ---- a terminal over a writer that keeps its bytes
-
-abbrev Wrote : Type 0
-Wrote = List ℕ
-
--- once a batch is taken
-abbrev with_batch : Batch → AnsiTerminal Wrote → AnsiTerminal Wrote
-with_batch batch t = record t { writer = t.writer ++ (sent_batch batch t.encoder).bytes; encoder = (sent_batch batch t.encoder).next; batches = t.batches ++ batch ∷ [] }
-
--- once its size is set
-abbrev with_size : ScreenSize → AnsiTerminal Wrote → AnsiTerminal Wrote
-with_size size t = record t { encoder = record t.encoder { cols = size.cols }; size = size }
-
-takes : (batch : Batch) (t : AnsiTerminal Wrote) → Does Some t (with_batch batch t) (Called (Took batch))
-takes batch t = record { bytes = refl; known = refl; batches = refl; failures = omega arith }
+-- ---- calls, and a size
 
 one_batch : (batch : Batch) (t : AnsiTerminal Wrote) → IsLedByCalls Some t (with_batch batch t)
 one_batch batch t = (Took batch ∷ [], (with_batch batch t, takes batch t, refl))
@@ -129,14 +72,7 @@ two_batches : (first second : Batch) (t : AnsiTerminal Wrote) → IsLedByCalls S
 two_batches first second t = (Took first ∷ Took second ∷ [], (with_batch first t, takes first t, (with_batch second (with_batch first t), takes second (with_batch first t), refl)))
 
 sizes : (cols rows : ℕ) (t : AnsiTerminal Wrote) → IsSizedBy Some (Resized cols rows) t (with_size (record { rows = rows; cols = cols }) t)
-sizes cols rows t = (with_size (record { rows = rows; cols = cols }) t, record { bytes = sym (append-nil t.writer); known = refl; batches = sym (append-nil t.batches); failures = omega arith }, refl)
-
--- once it is flushed
-abbrev flushed_now : AnsiTerminal Wrote → AnsiTerminal Wrote
-flushed_now t = record t { flushed = record t.flushed { value = t.batches } }
-
-flushes : (t : AnsiTerminal Wrote) → Does Some t (flushed_now t) (Called Other)
-flushes t = record { bytes = sym (append-nil t.writer); known = refl; batches = sym (append-nil t.batches); failures = omega arith }
+sizes cols rows t = (with_size (record { rows = rows; cols = cols }) t, is_sized (record { rows = rows; cols = cols }) t, refl)
 
 -- two batches, and a flush
 last_calls : (first second : Batch) (t : AnsiTerminal Wrote) → IsLedByCalls Some t (flushed_now (with_batch second (with_batch first t)))
@@ -152,11 +88,6 @@ prompt = 62 ∷ 32 ∷ []
 
 abbrev events : List EventView
 events = Paste (97 ∷ 98 ∷ 99 ∷ 100 ∷ []) ∷ Resized 10 4 ∷ Key (key_press 8 (Char 76)) ∷ Key (key_press 8 (Char 67)) ∷ []
-
-abbrev nth_batch : List Batch → ℕ → Batch
-nth_batch [] n = []
-nth_batch (batch ∷ more) zero = batch
-nth_batch (batch ∷ more) (suc n) = nth_batch more n
 
 -- any terminal over such a writer, a byte written before, four rows of five columns
 module _ (it : AnsiTerminal Wrote) where
@@ -187,11 +118,11 @@ module _ (it : AnsiTerminal Wrote) where
   abbrev cleared : AnsiTerminal Wrote
   cleared = with_batch (batch 4) (with_batch (batch 3) repainted)
 
-  abbrev closing : Batch
-  closing = nth_batch (closing_if whole.mark) 0
+  abbrev last_batch : Batch
+  last_batch = nth_batch (closing_if whole.mark) 0
 
   abbrev new : AnsiTerminal Wrote
-  new = flushed_now (with_batch closing (with_batch (batch 5) cleared))
+  new = flushed_now (with_batch last_batch (with_batch (batch 5) cleared))
 
   -- event by event the terminal was led so, beside the run
   led_along : IsLedAlong Some (taken_over rules begun) events old new
@@ -199,7 +130,7 @@ module _ (it : AnsiTerminal Wrote) where
   led_along = (painted, painted, one_batch (batch 0) old, refl, refl,
       (pasted, wide, one_batch (batch 1) painted, refl, sizes 10 4 pasted,
       (repainted, repainted, one_batch (batch 2) wide, refl, refl,
-      (cleared, cleared, two_batches (batch 3) (batch 4) repainted, refl, refl, last_calls (batch 5) closing cleared))))
+      (cleared, cleared, two_batches (batch 3) (batch 4) repainted, refl, refl, last_calls (batch 5) last_batch cleared))))
 
   reads : Reads whole begun (frame_of (record { state = record whole.state { mode = Inactive }; mark = None }) whole.value (terminal_state new)) (outcome_in Cancelled)
   unfolding pieces column_width painted_on apply destination searched_again search_step boundary_below is_boundary iterate greatest_below least_from
@@ -227,16 +158,15 @@ module _ (it : AnsiTerminal Wrote) where
 
   -- the bytes for five columns and then for ten, up to the clearing
   abbrev before_clearing : List ℕ
-  before_clearing = cleared_rows (prompted (to_right (codes "2C") (13 ∷ cleared_rows (prompted (codes "abcd" ++ to_right (codes "1C")
-      (csi (codes "1A") (13 ∷ cleared_rows (prompted (codes "abcd" ++ to_right (codes "6C") [])))))))))
+  before_clearing = prompted (to_right (codes "2C") (13 ∷ prompted (codes "abcd" ++ to_right (codes "1C") (csi (codes "1A") (13 ∷ prompted (codes "abcd" ++ to_right (codes "6C") []))))))
 
   -- those of the clearing and of the painting behind it
   abbrev clearing_on : List ℕ
-  clearing_on = csi (codes "H") (csi (codes "2J") (13 ∷ cleared_rows (prompted (codes "abcd" ++ to_right (codes "6C") []))))
+  clearing_on = csi (codes "H") (csi (codes "2J") (13 ∷ prompted (codes "abcd" ++ to_right (codes "6C") [])))
 
   -- those of the cancelled line and of the closing batch
   abbrev cancelled_on : List ℕ
-  cancelled_on = 13 ∷ cleared_rows (prompted (codes "abcd" ++ to_right (codes "6C") (10 ∷ 13 ∷ csi (codes "K") (csi (codes "C") (csi (codes "J") (13 ∷ []))))))
+  cancelled_on = 13 ∷ prompted (codes "abcd" ++ to_right (codes "6C") closed)
 
   -- all that was written
   written_is : new.writer ≡ 63 ∷ before_clearing ++ (clearing_on ++ cancelled_on)
@@ -250,10 +180,8 @@ module _ (it : AnsiTerminal Wrote) where
 
   -- what is sent for five columns all along leads to column 1, as where the line wraps
   at_five : (sent_batches (whole.taken ++ closing_if whole.mark) (first_known 5)).bytes
-      ≡ cleared_rows (prompted (to_right (codes "2C") (13 ∷ cleared_rows (prompted (codes "abcd" ++ to_right (codes "1C")
-      (csi (codes "1A") (13 ∷ cleared_rows (prompted (codes "abcd" ++ to_right (codes "1C")
-      (csi (codes "H") (csi (codes "2J") (13 ∷ cleared_rows (prompted (codes "abcd" ++ to_right (codes "1C")
-      (13 ∷ cleared_rows (prompted (codes "abcd" ++ to_right (codes "1C") (10 ∷ 13 ∷ csi (codes "K") (csi (codes "C") (csi (codes "J") (13 ∷ [])))))))))))))))))))))
+      ≡ prompted (to_right (codes "2C") (13 ∷ prompted (codes "abcd" ++ to_right (codes "1C") (csi (codes "1A") (13 ∷ prompted (codes "abcd" ++ to_right (codes "1C")
+      (csi (codes "H") (csi (codes "2J") (13 ∷ prompted (codes "abcd" ++ to_right (codes "1C") (13 ∷ prompted (codes "abcd" ++ to_right (codes "1C") closed))))))))))))
   unfolding pieces column_width painted_on apply destination searched_again search_step boundary_below is_boundary iterate greatest_below least_from unicode_segmentation digits
   at_five = refl
 
@@ -337,3 +265,57 @@ module _ (it : AnsiTerminal Wrote) where
 
     healed_is_fresh : (stale : ℕ) → stale ≢ 32 → healed.cell 1 0 ≡ stale → ⊥
     healed_is_fresh stale other stays = other (sym stays)
+
+    -- ---- to the end
+
+    heals_to_end : HealsSent rules characters 4 10 frame earlier (at 3 ∷ []) (at 4) [] known anything
+    unfolding pieces column_width painted_on apply destination searched_again search_step boundary_below is_boundary iterate greatest_below least_from unicode_segmentation digits
+    heals_to_end = record {
+      comes = record {
+        nothing_painted = refl;
+        stations = refl;
+        painting = painting_in (painting_of rules (at 4));
+        painted = refl;
+        cleared = refl;
+        simple = All-cons IsSimpleWide (sized_scene rules (at 3)) (sized_scene rules (at 4) ∷ []) (simple (sized_scene rules (at 3)) (omega arith) plain_at.0)
+            (All-cons IsSimpleWide (sized_scene rules (at 4)) [] (simple (sized_scene rules (at 4)) (omega arith) plain_at.1) (All-nil IsSimpleWide));
+        low = All-cons (HasRoom (Some 4) characters) (sized_scene rules (at 3)) (sized_scene rules (at 4) ∷ []) (room (Some 4) (sized_scene rules (at 3)) plain_at.0 (omega arith))
+            (All-cons (HasRoom (Some 4) characters) (sized_scene rules (at 4)) [] (room (Some 4) (sized_scene rules (at 4)) plain_at.1 (omega arith)) (All-nil (HasRoom (Some 4) characters)));
+        in_sight = omega arith;
+      };
+      sent = (
+        record { cols = refl; showable = record { typed = record { prompt = (refl, tt); line = (refl, tt); lower = tt }; near = omega arith; back = omega arith; under = omega arith } },
+        (record { cols = refl; showable = record { typed = record { prompt = (refl, tt); line = (refl, tt); lower = tt }; near = omega arith; back = omega arith; under = omega arith } }, tt),
+      );
+      back = back;
+      narrow = omega arith;
+      color = tt;
+      reading = refl;
+      rendition = refl;
+      cols = refl;
+    }
+
+    abbrev ended : List ℕ → EcmaScreen ℕ
+    ended bytes = receive_all characters 4 10 bytes anything
+
+    -- the law names some bytes, which are those that were written
+    ended_by_law : (bytes : List ℕ) × (new.writer ≡ 63 ∷ before_clearing ++ bytes) × ((ended bytes).row ≡ 1) × ((ended bytes).col ≡ 0) × ((ended bytes).cell 1 0 ≡ 32)
+    unfolding pieces column_width painted_on apply destination searched_again search_step boundary_below is_boundary iterate greatest_below least_from unicode_segmentation digits
+    ended_by_law =
+        let s = healed_closings_are_shown rules Some characters prompt [] old new events (63 ∷ []) 4 10 earlier (at 3 ∷ []) (at 4) anything reading carries heals_to_end in
+        let shown = s.2.3 in
+        let below = s.2.4 in (
+          s.0,
+          ap bytes_in s.1,
+          shown.row ∙ below.row,
+          shown.col ∙ ap (λ c. min c 9) below.col,
+          shown.cells 1 0 (omega arith) (omega arith) ∙ below.blank_below 1 0 (omega (arith, below.row)) (omega arith),
+        )
+
+    ended_by_bytes : let last = ended (clearing_on ++ cancelled_on) in
+        (last.row ≡ 1) × (last.col ≡ 0) × (last.cell 1 0 ≡ 32) × (last.cell 0 5 ≡ 100) × (last.cell 3 9 ≡ 32)
+    ended_by_bytes = (refl, refl, refl, refl, refl)
+
+    -- the cursor does not stay in the row of the line
+    ended_is_below : (ended (clearing_on ++ cancelled_on)).row ≡ 0 → ⊥
+    ended_is_below stays = let no : 1 ≡ 0 = stays in omega (arith, no)

@@ -31,10 +31,14 @@ use Rattle.tw_device.specs.declared.terminal.AnsiTerminal.{AnsiTerminal}
 use Rattle.tw_sent_runs.specs.SentReadings.{reading_frame}
 use Rattle.tw_sent_runs.specs.SentRuns.{ComesSent, HealsSent, sent_paintings, shown_by}
 
--- what batches are sent as, each for the columns that the screen has when it comes
+-- what a batch is sent as, for the columns that the screen has when it comes
+abbrev pub sent_at : SizedBatch → Encoder → Sent
+sent_at sized e = sent_batch sized.batch (record e { cols = sized.cols })
+
+-- and batches, one after the other
 abbrev pub sent_sized : List SizedBatch → Encoder → Sent
 sent_sized [] e = sends [] e
-sent_sized (sized ∷ more) e = sent_then (sent_batch sized.batch (record e { cols = sized.cols })) (sent_sized more)
+sent_sized (sized ∷ more) e = sent_then (sent_at sized e) (sent_sized more)
 
 module _ {V : Type 0} (rules : HostRules V) where
   -- the batches of stations, each with the columns of its station
