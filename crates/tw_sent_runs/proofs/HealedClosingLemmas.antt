@@ -1,5 +1,5 @@
 -- A terminal that showed a fresh painting behind a clearing shows what the closing batch left.
-use Rattle.std.proofs.Common.{◌≡◌, ◌≤◌, ◌<◌, ◌+◌, ◌-ℤ◌, ℕ, suc, pos, false, Option, Some, None, List, [], ◌∷◌, ◌++◌, map, ap, subst, ◌∙◌, sym, refl, append_assoc, arith}
+use Rattle.std.proofs.Common.{◌≡◌, ◌≤◌, ◌+◌, ◌-ℤ◌, ℕ, suc, pos, false, Option, Some, None, List, [], ◌∷◌, ◌++◌, map, ap, subst, ◌∙◌, sym, append_assoc, arith}
 use Rattle.std.specs.List.{All}
 use Rattle.std.proofs.lemmas.List.{map-append}
 use Rattle.tw_strokes.specs.Strokes.{PictureOf}
@@ -8,7 +8,7 @@ use Rattle.tw_strokes.specs.Paintings.{IsClosed}
 use Rattle.tw_surface.specs.declared.change.Position.TheVariants.{Relative}
 use Rattle.tw_surface.specs.ChangeView.{Batch}
 use Rattle.tw_surface.specs.Paintings.{Mark, painting, mark_of, closing}
-use Rattle.tw_surface.specs.PaintingBatches.{SizedScene, shot_of, batches_after, mark_after, closing_if, closing_batch}
+use Rattle.tw_surface.specs.PaintingBatches.{SizedScene, shot_of, mark_after, closing_if, closing_batch}
 use Rattle.tw_surface.specs.Simple.{IsSimpleWide}
 use Rattle.tw_screens.specs.Pens.{Pen}
 use Rattle.tw_screens.specs.Screens.{blank_of, play_sized}

@@ -1,13 +1,13 @@
 -- The bytes that a reading has written are those of its run's batches, each for the columns of its station.
-use Rattle.std.proofs.Common.{◌≡◌, ◌≢◌, ◌≤◌, ℕ, Bool, true, false, cond, Option, Some, None, Result, Ok, Err, List, [], ◌∷◌, ◌++◌, length, map, ap, subst, ◌∙◌, sym, refl, append_assoc, append-nil, arith}
+use Rattle.std.proofs.Common.{◌≡◌, ◌≢◌, ◌≤◌, ℕ, Bool, true, false, cond, Option, Some, Result, Ok, Err, List, [], ◌∷◌, ◌++◌, length, map, ap, subst, ◌∙◌, sym, refl, append_assoc, append-nil, arith}
 use Rattle.std.specs.Io.KnownBytes.{Appends}
 use Rattle.std.proofs.lemmas.List.{append_cancel_left}
 use Rattle.tw_surface.specs.ChangeView.{Batch}
 use Rattle.tw_surface.specs.Paintings.{Mark, Painting, painting, mark_of}
-use Rattle.tw_surface.specs.PaintingBatches.{SizedScene, Shot, clearing, start_of}
+use Rattle.tw_surface.specs.PaintingBatches.{Shot, clearing, start_of}
 use Rattle.tw_screens.specs.SizedBatches.{SizedBatch, sized_at, sized_after}
-use Rattle.tw_input.specs.EventView.{EventView, Key, Resized, Paste, Wake}
-use Rattle.tw_terminal.specs.TerminalState.{usize_max, size_after}
+use Rattle.tw_input.specs.EventView.{EventView}
+use Rattle.tw_terminal.specs.TerminalState.{usize_max}
 use Rattle.tw_terminal.specs.declared.terminal.ScreenSize.{ScreenSize}
 use Rattle.tw_host.specs.HostRules.{HostRules}
 use Rattle.tw_painter.specs.EditState.{EditState}
@@ -15,19 +15,18 @@ use Rattle.tw_painter.specs.Painting.{Rendering, rendering_of}
 use Rattle.tw_painter.specs.Refusal.{Refusal}
 use Rattle.tw_session.specs.Outcomes.{Outcome, is_over, answer_at}
 use Rattle.tw_session.specs.Steps.{is_repaint}
-use Rattle.tw_lineedit.specs.Frame.{Frame}
-use Rattle.tw_lineedit.specs.Run.{Progress, Ending, run, run_of, ends, at_end, at_event, after_event, painting_at, after_painting, chosen_action, state_after, after_action}
+use Rattle.tw_lineedit.specs.Run.{Progress, Ending, run, ends, at_end, at_event, after_event, painting_at, after_painting, chosen_action, state_after, after_action}
 use Rattle.tw_lineedit.specs.ScreenRuns.{sized_scene}
 use Rattle.tw_lineedit.specs.Stations.{Station, station_at, painting_of, shots_by, stations_from, stations_by, stations_after, stations_unless}
 use Rattle.tw_lineedit.proofs.StationLemmas.{rendered_at, shots_before}
 use Rattle.tw_ansi.specs.declared.encode.Encoder.{Encoder}
-use Rattle.tw_ansi.specs.Encoding.{Sent, sends, sent_then, sent_batch}
+use Rattle.tw_ansi.specs.Encoding.{Sent, sent_then, sent_batch}
 use Rattle.tw_ansi.specs.EcmaPaintings.{sent_batches}
 use Rattle.tw_ansi.proofs.KnownTerminals.{batch_in}
-use Rattle.tw_device.specs.Led.{IsLedByCalls, IsSizedBy, IsLedAlong}
+use Rattle.tw_device.specs.Led.{IsLedByCalls, IsLedAlong}
 use Rattle.tw_device.specs.Terminal.{terminal_state}
 use Rattle.tw_device.specs.declared.terminal.AnsiTerminal.{AnsiTerminal}
-use Rattle.tw_device.proofs.DeedLemmas.{appends_nothing, appends_then, led_by_calls, led_is_sent}
+use Rattle.tw_device.proofs.DeedLemmas.{appends_then, led_by_calls, led_is_sent}
 use Rattle.tw_device.proofs.LedLemmas.{along_counts, calls_count, along_same, sized_is}
 use Rattle.tw_sent_runs.specs.SizedReadings.{sent_at, sent_sized}
 

@@ -3,25 +3,24 @@ use Rattle.std.proofs.Common.{◌≡◌, ℕ, Some, None, Option, Bool, true, fa
 use Rattle.std.specs.List.{AllByRecursion}
 use Rattle.std.proofs.lemmas.List.Elements.{All-nil}
 use Rattle.std.proofs.lemmas.List.{append_cancel_left, map-append}
-use Rattle.tw_strokes.specs.Strokes.{PictureOf}
 use Rattle.tw_surface.specs.ChangeView.{Batch}
 use Rattle.tw_surface.specs.Paintings.{Mark, Painting, painting, mark_of}
 use Rattle.tw_surface.specs.PaintingBatches.{SizedScene, shot_of, clear_batch, clearing, start_of, closing_if, mark_after}
 use Rattle.tw_screens.specs.Pens.{Pen}
-use Rattle.tw_screens.specs.SizedBatches.{SizedBatch, sized_at, sized_after, sized_batches}
+use Rattle.tw_screens.specs.SizedBatches.{SizedBatch, sized_at, sized_after}
 use Rattle.tw_input.specs.EventView.{EventView}
 use Rattle.tw_host.specs.HostRules.{HostRules}
 use Rattle.tw_lineedit.specs.Frame.{Frame}
 use Rattle.tw_lineedit.specs.Reading.{Reads}
-use Rattle.tw_lineedit.specs.Run.{run, run_of, progress_of}
+use Rattle.tw_lineedit.specs.Run.{run_of, progress_of}
 use Rattle.tw_lineedit.specs.ScreenRuns.{sized_scene, RendersNothing}
 use Rattle.tw_lineedit.specs.Stations.{Station, stations_of}
-use Rattle.tw_screen_runs.specs.DrawnRuns.{since_batches, begins_cleared}
+use Rattle.tw_screen_runs.specs.DrawnRuns.{since_batches}
 use Rattle.tw_ansi.specs.declared.encode.Encoder.{Encoder}
 use Rattle.tw_ansi.specs.Encoding.{Sent, sent_then}
 use Rattle.tw_ansi.specs.EcmaPaintings.{sent_batches}
 use Rattle.tw_ansi.specs.EcmaLaws.{IsColor}
-use Rattle.tw_ansi.specs.EcmaScreen.{EcmaScreen, receive_all}
+use Rattle.tw_ansi.specs.EcmaScreen.{receive_all}
 use Rattle.tw_ansi.specs.EcmaTexts.{ShowsPicture}
 use Rattle.tw_device.specs.Led.{taken_over, IsLedAlong}
 use Rattle.tw_device.specs.Live.{outcome_in, frame_of, fresh_frame, run_over}

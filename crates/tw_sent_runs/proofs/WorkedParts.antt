@@ -1,5 +1,5 @@
 -- What the worked runs share: plain rules, bytes that are written, and a terminal over a writer that keeps its bytes.
-use Rattle.std.proofs.Common.{◌≡◌, ℕ, zero, suc, ◌+◌, ◌≤◌, pos, List, [], ◌∷◌, ◌++◌, false, refl, sym, subst, None, Some, Option, Ok, Err, Result, codes, append-nil, arith}
+use Rattle.std.proofs.Common.{ℕ, zero, suc, ◌≤◌, pos, List, [], ◌∷◌, ◌++◌, false, refl, sym, subst, None, Some, Option, Ok, Err, Result, codes, append-nil, arith}
 use Rattle.tw_strokes.specs.Sheets.{IsLow}
 use Rattle.tw_surface.specs.ChangeView.{Batch}
 use Rattle.tw_surface.specs.Paintings.{Painting}

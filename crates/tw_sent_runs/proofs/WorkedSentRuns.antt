@@ -1,31 +1,22 @@
 -- Worked runs from bytes to cells: the premises hold, the bytes are these to the last one, and this is what is shown; a conclusion that is a little off does not hold.
-use Rattle.std.proofs.Common.{◌≡◌, ◌≢◌, ℕ, zero, suc, ◌+◌, ◌≤◌, ◌<◌, pos, List, [], ◌∷◌, ◌++◌, length, true, false, refl, sym, ap, subst, None, Some, Option, Ok, Err, Result, map, min, codes, ◌∙◌, arith}
-use Rattle.std.specs.List.{All, AllByRecursion}
+use Rattle.std.proofs.Common.{◌≡◌, ℕ, ◌+◌, List, [], ◌∷◌, ◌++◌, length, false, refl, ap, None, Some, map, min, codes, ◌∙◌, arith}
+use Rattle.std.specs.List.{AllByRecursion}
 use Rattle.std.proofs.lemmas.List.Elements.{All-nil, All-cons}
 use Rattle.std.specs.Fmt.{digits}
 use Rattle.unicode_segmentation.proofs.Computing.{unicode_segmentation}
-use Rattle.tw_strokes.specs.Sheets.{IsLow}
 use Rattle.tw_strokes.specs.Strokes.{PictureOf}
 use Rattle.tw_surface.specs.Defaults.{default_attributes}
-use Rattle.tw_surface.specs.Paintings.{Painting}
 use Rattle.tw_surface.specs.Places.{pieces}
 use Rattle.tw_surface.specs.Scenes.{IsPlain}
-use Rattle.tw_surface.specs.PaintingBatches.{SizedScene}
 use Rattle.tw_surface.specs.Simple.{IsSimpleWide}
 use Rattle.tw_surface.specs.Width.{column_width}
-use Rattle.tw_screens.specs.SceneSheets.{sheet_of}
 use Rattle.tw_screens.specs.Screens.{HasRoom}
 use Rattle.tw_screens.specs.StyledCells.{characters}
-use Rattle.tw_screens.proofs.PlainScenes.{plain_is_simple}
-use Rattle.tw_input.specs.EventView.{EventView, Key, Resized, Paste}
-use Rattle.tw_input.specs.declared.key.KeyCode.TheVariants.{Char, Home}
+use Rattle.tw_input.specs.EventView.{EventView, Paste}
 use Rattle.tw_line.specs.Boundaries.{boundary_below, is_boundary}
 use Rattle.tw_extremes.specs.Extremes.{iterate, greatest_below, least_from}
 use Rattle.tw_line.specs.Movements.{destination}
-use Rattle.tw_host.specs.HostRules.{HostRules, plain_rules}
-use Rattle.tw_host.specs.KeyTable.{key_press}
 use Rattle.tw_painter.specs.Painting.{painted_on}
-use Rattle.tw_painter.specs.Refusal.{Refusal}
 use Rattle.tw_session.specs.Search.{searched_again, search_step}
 use Rattle.tw_session.specs.SessionView.{new_state}
 use Rattle.tw_session.specs.Steps.{apply}
@@ -34,13 +25,12 @@ use Rattle.tw_lineedit.specs.Reading.{start}
 use Rattle.tw_lineedit.specs.ScreenRuns.{sized_scene, RendersNothing}
 use Rattle.tw_lineedit.specs.Stations.{Station, painting_of, stations_of}
 use Rattle.tw_screen_runs.specs.DrawnRuns.{ComesSimply}
-use Rattle.tw_ansi.specs.declared.encode.Encoder.{Encoder}
 use Rattle.tw_ansi.specs.Encoding.{Sent, first_known}
-use Rattle.tw_ansi.specs.EcmaBatches.{CarriesAttributes, first_picture}
+use Rattle.tw_ansi.specs.EcmaBatches.{first_picture}
 use Rattle.tw_ansi.specs.EcmaScreen.{EcmaScreen, receive_all}
 use Rattle.tw_ansi.specs.EcmaScreen as terminal
 use Rattle.tw_ansi.proofs.EcmaBatches.{first_is_shown}
-use Rattle.tw_sent_runs.specs.SentRuns.{ComesSent, IsSentAt, sent_paintings, sent_run, shown_by}
+use Rattle.tw_sent_runs.specs.SentRuns.{ComesSent, IsSentAt, sent_paintings, sent_run}
 use Rattle.tw_sent_runs.proofs.ClosingLemmas.{closings_are_shown}
 use Rattle.tw_sent_runs.proofs.SentLemmas.{paintings_are_shown}
 use Rattle.tw_sent_runs.proofs.WorkedParts.{Lines, rules, nth, painting_in, simple, room, carries, prompted, to_right, closed}

@@ -1,37 +1,29 @@
 -- A worked reading whose events tell another number of columns: what it has written, to the last byte, and what a terminal shows of it that may have shown anything.
-use Rattle.std.proofs.Common.{◌≡◌, ◌≢◌, ℕ, zero, suc, ◌+◌, ◌≤◌, ◌<◌, pos, List, [], ◌∷◌, ◌++◌, length, true, false, refl, sym, ap, subst, None, Some, Option, Ok, Err, Result, Bool, map, min, codes, get_or, neg_ℤ, ◌∙◌, append-nil, arith}
-use Rattle.std.specs.List.{All, AllByRecursion}
+use Rattle.std.proofs.Common.{◌≡◌, ◌≢◌, ℕ, List, [], ◌∷◌, ◌++◌, length, refl, sym, ap, subst, None, Some, Option, Bool, map, min, codes, get_or, neg_ℤ, ◌∙◌, arith}
 use Rattle.std.proofs.lemmas.Bool.{false≢true}
 use Rattle.std.proofs.lemmas.List.Elements.{All-nil, All-cons}
 use Rattle.std.specs.Fmt.{digits}
 use Rattle.unicode_segmentation.proofs.Computing.{unicode_segmentation}
-use Rattle.tw_strokes.specs.Sheets.{IsLow}
 use Rattle.tw_surface.specs.declared.change.Position.TheVariants.{Relative}
 use Rattle.tw_surface.specs.ChangeView.{Batch}
 use Rattle.tw_surface.specs.Defaults.{default_attributes}
-use Rattle.tw_surface.specs.Paintings.{Mark, Painting}
+use Rattle.tw_surface.specs.Paintings.{Mark}
 use Rattle.tw_surface.specs.Scenes.{IsPlain}
 use Rattle.tw_surface.specs.Simple.{IsSimpleWide}
-use Rattle.tw_screens.specs.SceneSheets.{sheet_of}
 use Rattle.tw_screens.specs.Screens.{HasRoom}
 use Rattle.tw_screens.specs.StyledCells.{characters}
-use Rattle.tw_screens.proofs.PlainScenes.{plain_is_simple}
-use Rattle.tw_surface.specs.PaintingBatches.{SizedScene, shot_of, closing_if, mark_after}
+use Rattle.tw_surface.specs.PaintingBatches.{shot_of, closing_if, mark_after}
 use Rattle.tw_surface.specs.Width.{column_width}
 use Rattle.tw_surface.specs.Places.{pieces}
 use Rattle.tw_input.specs.EventView.{EventView, Key, Resized, Paste}
-use Rattle.tw_input.specs.declared.key.KeyCode.TheVariants.{Char, Enter}
+use Rattle.tw_input.specs.declared.key.KeyCode.TheVariants.{Char}
 use Rattle.tw_line.specs.Boundaries.{boundary_below, is_boundary}
 use Rattle.tw_extremes.specs.Extremes.{iterate, greatest_below, least_from}
 use Rattle.tw_line.specs.Movements.{destination}
 use Rattle.tw_terminal.specs.Uses.{Took, Other}
-use Rattle.tw_terminal.specs.declared.terminal.ScreenSize.{ScreenSize}
-use Rattle.tw_host.specs.HostRules.{HostRules, plain_rules}
 use Rattle.tw_host.specs.KeyTable.{key_press}
 use Rattle.tw_painter.specs.Painting.{painted_on}
-use Rattle.tw_painter.specs.Refusal.{Refusal}
 use Rattle.tw_session.specs.Search.{searched_again, search_step}
-use Rattle.tw_session.specs.SessionView.{new_state}
 use Rattle.tw_session.specs.Steps.{apply}
 use Rattle.tw_lineedit.specs.Frame.{Frame}
 use Rattle.tw_lineedit.specs.EditState.{Inactive}
@@ -40,12 +32,11 @@ use Rattle.tw_lineedit.specs.Run.{Ending}
 use Rattle.tw_lineedit.specs.ScreenRuns.{sized_scene}
 use Rattle.tw_lineedit.specs.Stations.{Station, painting_of, stations_of}
 use Rattle.tw_ansi.specs.declared.encode.Encoder.{Encoder}
-use Rattle.tw_ansi.specs.Encoding.{first_known, sent_batch}
-use Rattle.tw_ansi.specs.EcmaBatches.{CarriesAttributes, IsReached}
+use Rattle.tw_ansi.specs.Encoding.{first_known}
+use Rattle.tw_ansi.specs.EcmaBatches.{IsReached}
 use Rattle.tw_ansi.specs.EcmaPaintings.{sent_batches}
 use Rattle.tw_ansi.specs.EcmaScreen.{EcmaScreen, receive_all}
 use Rattle.tw_ansi.specs.EcmaScreen as terminal
-use Rattle.tw_device.specs.Deeds.{Called, Sized, Does}
 use Rattle.tw_device.specs.Led.{taken_over, IsLedByCalls, IsSizedBy, IsLedAlong}
 use Rattle.tw_device.specs.Live.{fresh_frame, frame_of, outcome_in, run_over}
 use Rattle.tw_device.specs.Terminal.{terminal_state}
@@ -127,10 +118,28 @@ module _ (it : AnsiTerminal Wrote) where
   -- event by event the terminal was led so, beside the run
   led_along : IsLedAlong Some (taken_over rules begun) events old new
   unfolding pieces column_width painted_on apply destination searched_again search_step boundary_below is_boundary iterate greatest_below least_from
-  led_along = (painted, painted, one_batch (batch 0) old, refl, refl,
-      (pasted, wide, one_batch (batch 1) painted, refl, sizes 10 4 pasted,
-      (repainted, repainted, one_batch (batch 2) wide, refl, refl,
-      (cleared, cleared, two_batches (batch 3) (batch 4) repainted, refl, refl, last_calls (batch 5) last_batch cleared))))
+  led_along = (
+    painted,
+    painted,
+    one_batch (batch 0) old,
+    refl,
+    refl,
+    (
+      pasted,
+      wide,
+      one_batch (batch 1) painted,
+      refl,
+      sizes 10 4 pasted,
+      (
+        repainted,
+        repainted,
+        one_batch (batch 2) wide,
+        refl,
+        refl,
+        (cleared, cleared, two_batches (batch 3) (batch 4) repainted, refl, refl, last_calls (batch 5) last_batch cleared),
+      ),
+    ),
+  )
 
   reads : Reads whole begun (frame_of (record { state = record whole.state { mode = Inactive }; mark = None }) whole.value (terminal_state new)) (outcome_in Cancelled)
   unfolding pieces column_width painted_on apply destination searched_again search_step boundary_below is_boundary iterate greatest_below least_from
