@@ -6,15 +6,14 @@ use Rattle.tw_surface.specs.ChangeView.{Batch}
 use Rattle.tw_input.specs.EventView.{EventView, Key, Resized, Paste, Wake}
 use Rattle.tw_terminal.specs.TerminalState.{size_after}
 use Rattle.tw_terminal.specs.declared.terminal.ScreenSize.{ScreenSize}
-use Rattle.tw_lineedit.specs.Feeding.{run_on}
 use Rattle.tw_lineedit.specs.Frame.{Frame}
 use Rattle.tw_lineedit.specs.HostRules.{HostRules}
-use Rattle.tw_lineedit.specs.Run.{Ending, progress_of}
+use Rattle.tw_lineedit.specs.Run.{Ending}
 use Rattle.tw_lineedit.specs.declared.Overrides.{Overrides}
 use Rattle.tw_lineedit.proofs.UseLemmas.{unused, used_then}
 use Rattle.tw_device.specs.Deeds.{Called, Sized, Does, sizes_in}
 use Rattle.tw_device.specs.Led.{taken_on, taken_over, IsLedByCalls, IsSizedBy, IsLedByEvent, IsLedAlong, IsToldAlong}
-use Rattle.tw_device.specs.Live.{Comes, ComesBy, Opens}
+use Rattle.tw_device.specs.Live.{ComesBy, Opens}
 use Rattle.tw_device.specs.Terminal.{terminal_state}
 use Rattle.tw_device.specs.declared.terminal.AnsiTerminal.{AnsiTerminal}
 use Rattle.tw_device.proofs.DeedLemmas.{appends_nothing, led_by_calls, use-counts}

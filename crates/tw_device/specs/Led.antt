@@ -45,4 +45,3 @@ module _ {W : Type 0} (contents : W → Option (List ℕ)) where
   abbrev pub IsToldAlong : (List EventView → List Batch) → List EventView → List EventView → AnsiTerminal W → AnsiTerminal W → Type 0
   IsToldAlong taken told_before told_after old new =
       (events : List EventView) × (told_after ≡ told_before ++ events) × IsLedAlong taken events old new
-

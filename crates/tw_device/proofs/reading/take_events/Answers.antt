@@ -6,7 +6,7 @@ use Rattle.tw_device.specs.Told.{answer_events}
 use Rattle.tw_device.proofs.CallLemmas.{called_more, told_answer}
 use Rattle.tw_device.proofs.DeedLemmas.{led_on, led_still}
 use Rattle.tw_device.specs.Led.{taken_on}
-use Rattle.tw_device.proofs.LedLemmas.{told_along_event, told_along_still, told_along_unmoved}
+use Rattle.tw_device.proofs.LedLemmas.{told_along_event, told_along_still}
 use Rattle.tw_device.proofs.LiveLemmas.{fails_by_one, comes_by_one, counted}
 use Rattle.tw_device.proofs.reading.take_events.Goals as goal
 use Rattle.tw_lineedit.specs.Frame.{frame}
