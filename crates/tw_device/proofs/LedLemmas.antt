@@ -11,12 +11,21 @@ use Rattle.tw_lineedit.specs.HostRules.{HostRules}
 use Rattle.tw_lineedit.specs.Run.{Ending}
 use Rattle.tw_lineedit.specs.declared.Overrides.{Overrides}
 use Rattle.tw_lineedit.proofs.UseLemmas.{unused, used_then}
-use Rattle.tw_device.specs.Deeds.{Called, Sized, Does, sizes_in}
-use Rattle.tw_device.specs.Led.{taken_on, taken_over, IsLedByCalls, IsSizedBy, IsLedByEvent, IsLedAlong, IsToldAlong}
+use Rattle.tw_device.specs.Deeds.{Called, Sized, Does, IsLedBy, sizes_by, sizes_in, texts_by}
+use Rattle.tw_device.specs.Led.{taken_on, taken_over, IsLedByCalls, IsSizedBy, IsLedByEvent, IsLedAlong, IsToldAlong, AlongIsLed}
 use Rattle.tw_device.specs.Live.{ComesBy, Opens}
 use Rattle.tw_device.specs.Terminal.{terminal_state}
 use Rattle.tw_device.specs.declared.terminal.AnsiTerminal.{AnsiTerminal}
-use Rattle.tw_device.proofs.DeedLemmas.{appends_nothing, led_by_calls, use-counts}
+use Rattle.tw_device.proofs.DeedLemmas.{appends_nothing, led_by_calls, led_then, use-counts}
+
+-- sizes alone
+sizes-are : (sizes : List ScreenSize) → sizes_by (map Sized sizes) ≡ sizes
+sizes-are [] = refl
+sizes-are (size ∷ sizes) = ap (λ all. size ∷ all) (sizes-are sizes)
+
+no-texts : (sizes : List ScreenSize) → texts_by (map Sized sizes) ≡ []
+no-texts [] = refl
+no-texts (size ∷ sizes) = no-texts sizes
 
 -- what a run has taken where it waits
 comes-taken : {V : Type 0} (rules : HostRules V) (overrides : Overrides) (before between events : List EventView) (f g : Frame V)
@@ -57,6 +66,15 @@ module _ {W : Type 0} (contents : W → Option (List ℕ)) where
   along_same taken same [] old new are along = along
   along_same taken same (event ∷ events) old new are (reached, sized, calls, is, sizes, later) =
       (reached, sized, calls, is ∙ are [], sizes, along_same (λ more. taken (event ∷ more)) (λ more. same (event ∷ more)) events sized new (λ seen. are (event ∷ seen)) later)
+
+  -- what is led along a run is led by its events
+  pub along_is_led : AlongIsLed contents
+  along_is_led taken [] old new calls = led_by_calls contents old new calls
+  along_is_led taken (event ∷ events) old new (reached, sized, calls, is, sizes, later) =
+      let told = sizes_in (event ∷ []) in
+      let set : IsLedBy contents (event ∷ []) reached sized = (map Sized told, sizes, sizes-are told, no-texts told) in
+      let first : IsLedBy contents (event ∷ []) old sized = led_then contents [] (event ∷ []) old reached sized (led_by_calls contents old reached calls) set in
+      led_then contents (event ∷ []) events old sized new first (along_is_led (λ more. taken (event ∷ more)) events sized new later)
 
   -- ---- what a size changes, and failures
 

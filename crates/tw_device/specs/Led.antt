@@ -7,7 +7,7 @@ use Rattle.tw_lineedit.specs.Feeding.{run_on}
 use Rattle.tw_lineedit.specs.Frame.{Frame}
 use Rattle.tw_lineedit.specs.HostRules.{HostRules}
 use Rattle.tw_lineedit.specs.Run.{progress_of}
-use Rattle.tw_device.specs.Deeds.{Called, Sized, Does, sizes_in}
+use Rattle.tw_device.specs.Deeds.{Called, Sized, Does, IsLedBy, sizes_in}
 use Rattle.tw_device.specs.Live.{run_over}
 use Rattle.tw_device.specs.Terminal.{terminal_state}
 use Rattle.tw_device.specs.declared.terminal.AnsiTerminal.{AnsiTerminal}
@@ -45,3 +45,8 @@ module _ {W : Type 0} (contents : W → Option (List ℕ)) where
   abbrev pub IsToldAlong : (List EventView → List Batch) → List EventView → List EventView → AnsiTerminal W → AnsiTerminal W → Type 0
   IsToldAlong taken told_before told_after old new =
       (events : List EventView) × (told_after ≡ told_before ++ events) × IsLedAlong taken events old new
+
+  -- What is led along a run is led by its events: their sizes are set, one for one, and no text is sent.
+  abbrev pub AlongIsLed : Type 0
+  AlongIsLed = (taken : List EventView → List Batch) (events : List EventView) (old new : AnsiTerminal W)
+      → IsLedAlong taken events old new → IsLedBy contents events old new

@@ -2,6 +2,7 @@
 
 ghost use Rattle.tw_input.specs.Equality.{ComparesValues};
 ghost use Rattle.tw_device.specs.Deeds.{DeedsAreSent, FailuresAreCounted, LedIsSent};
+ghost use Rattle.tw_device.specs.Led.{AlongIsLed};
 ghost use Rattle.tw_device.specs.Pieces.{PiecesDoNotMatter};
 ghost use Rattle.tw_device.specs.Typed.{NoneIsLost};
 
@@ -29,9 +30,10 @@ pub fn pieces()
 
 /// What is written is what was written before, and then the bytes of the deeds one after the other, where no batch was
 /// refused; none was where no failure was counted. So a reading whose events tell no other number of columns has written
-/// the bytes of the batches that it took.
+/// the bytes of the batches that it took. What is led along a run is led by its events.
 pub fn deeds<W: Write>()
     ensures sent { DeedsAreSent W.contents }
     ensures counted { FailuresAreCounted W.contents }
     ensures led { LedIsSent W.contents }
+    ensures along { AlongIsLed W.contents }
 {}

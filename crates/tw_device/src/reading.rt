@@ -103,8 +103,9 @@ fn take_events<S: EventSource, W: Write, H: LineEditorHost>(
         IfErr result (FailsBy H.rules H.OVERRIDES (S.told source.old) (S.told source.new) before after) }
     ensures called { IsCalled S.told S.follows source.old source.new }
     ensures led { IsLedAsTold W.contents (S.told source.old) (S.told source.new) editor.old.terminal.now editor.new.terminal.now }
-    ensures along { let taken = taken_on H.rules (frame terminal_state H.value editor.old host.old) in
-        IsToldAlong W.contents taken (S.told source.old) (S.told source.new) editor.old.terminal.now editor.new.terminal.now }
+    ensures along { let before = frame terminal_state H.value editor.old host.old in
+        IsToldAlong W.contents (taken_on H.rules before) (S.told source.old) (S.told source.new)
+        editor.old.terminal.now editor.new.terminal.now }
 {
     for turn in 0..u64::MAX {
         let _told = turn;
@@ -136,7 +137,7 @@ fn answer_of(line: Option<String>, stop: Stop) -> Result<Answer, Error>
 /// Reads a line with a new editor from the events of a source, up to that which ends the line or the end of the
 /// source. The answer, the batches, the screen's size and the host's value are those of the abstract editor's run
 /// over exactly the events that the source told, by calls of `next_event` and nothing else (`called`). A `Resized` sets
-/// the terminal's size.
+/// the terminal's size, before the batches of its own and behind those of the events before it (`along`).
 ///
 /// Where the source refuses, the line is closed as at the source's end, and the answer is the source's refusal;
 /// so it is, with `Device`, where one call was told 2^64 - 1 events and none of them ended the line. Every other
@@ -156,8 +157,9 @@ pub fn read_line_from<S: EventSource, W: Write, H: LineEditorHost>(
         (H.value host.new) (terminal_state terminal.new)) }
     ensures called { IsCalled S.told S.follows source.old source.new }
     ensures led { IsLedAsTold W.contents (S.told source.old) (S.told source.new) terminal.old terminal.new }
-    ensures along { let taken = taken_over H.rules (fresh_frame prompt.now (H.value host.old) (terminal_state terminal.old)) in
-        IsToldAlong W.contents taken (S.told source.old) (S.told source.new) terminal.old terminal.new }
+    ensures along { let begun = fresh_frame prompt.now (H.value host.old) (terminal_state terminal.old) in
+        IsToldAlong W.contents (taken_over H.rules begun) (S.told source.old) (S.told source.new)
+        terminal.old terminal.new }
 {
     let mut editor = LineEditor::new(alloc, terminal)?;
     editor.set_prompt(prompt)?;

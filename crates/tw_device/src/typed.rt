@@ -34,8 +34,8 @@ pub fn read_typed_line<R: Read, W: Write, H: LineEditorHost>(
     ensures typed { (events : List EventView) × (keys.new.told ≡ keys.old.told ++ events)
         × Tells (held_by R.remaining keys.old) (held_by R.remaining keys.new) events }
     ensures led { IsLedAsTold W.contents keys.old.told keys.new.told terminal.old terminal.new }
-    ensures along { let taken = taken_over H.rules (fresh_frame prompt.now (H.value host.old) (terminal_state terminal.old)) in
-        IsToldAlong W.contents taken keys.old.told keys.new.told terminal.old terminal.new }
+    ensures along { let begun = fresh_frame prompt.now (H.value host.old) (terminal_state terminal.old) in
+        IsToldAlong W.contents (taken_over H.rules begun) keys.old.told keys.new.told terminal.old terminal.new }
 {
     read_line_from(alloc, keys, terminal, host, prompt)
 }

@@ -65,8 +65,8 @@ module _ {V W : Type 0} (rules : HostRules V) (contents : W → Option (List ℕ
     pub cols : old.encoder.cols ≡ old.size.cols
     pub holds : contents old.writer ≡ Some held
 
-  -- What it has written is what was there, and then the batches of its run, each sent for the columns of its station; what is known is what is known after them,
-  -- and the columns are known again.
+  -- What it has written is what was there, and then the batches of its run, each sent for the columns of its station; what is known is what is known after
+  -- them, and the columns are known again.
   abbrev pub ReadingsAreSized : Type 0
   ReadingsAreSized = (prompt : List ℕ) (value : V) (old new : AnsiTerminal W) (events : List EventView) (held : List ℕ)
       → IsSizedReading prompt value old new events held

@@ -1,4 +1,5 @@
 use Rattle.tw_device.proofs.DeedLemmas.{deeds_are_sent, failures_are_counted, led_is_sent}
+use Rattle.tw_device.proofs.LedLemmas.{along_is_led}
 use Rattle.tw_device.proofs.laws.deeds.Goals as goal
 
 pub returns-clause-sent : goal.returns-clause-sent
@@ -9,3 +10,6 @@ returns-clause-counted g c = failures_are_counted g.W.Write.contents
 
 pub returns-clause-led : goal.returns-clause-led
 returns-clause-led g c = led_is_sent g.W.Write.contents
+
+pub returns-clause-along : goal.returns-clause-along
+returns-clause-along g c = along_is_led g.W.Write.contents
