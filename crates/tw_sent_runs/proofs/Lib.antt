@@ -2,6 +2,8 @@ pub mod ClosingLemmas
 pub mod HealedClosingLemmas
 pub mod HealingLemmas
 pub mod ReadingLemmas
+pub mod RestLemmas
+pub mod RestedRunLemmas
 pub mod SentLemmas
 pub mod SizedReadingLemmas
 pub mod SizedRunLemmas

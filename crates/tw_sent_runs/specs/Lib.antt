@@ -1,3 +1,4 @@
+pub mod Rests
 pub mod SentReadings
 pub mod SentRuns
 pub mod SizedReadings

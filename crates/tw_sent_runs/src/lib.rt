@@ -6,6 +6,7 @@
 #![tactic(auto)]
 
 ghost use Rattle.tw_screens.specs.Pens.{Pen};
+ghost use Rattle.tw_sent_runs.specs.Rests.{RestIsKept};
 ghost use Rattle.tw_sent_runs.specs.SentReadings.{ReadingClosingsAreShown, ReadingPaintingsAreShown};
 ghost use Rattle.tw_sent_runs.specs.SentRuns.{ClosingsAreShown, HealingsAreShown, PaintingsAreShown};
 ghost use Rattle.tw_sent_runs.specs.SizedReadings.{HealedClosingsAreShown, ReadingHealingsAreShown, ReadingsAreSized, SizedPaintingsAreShown};
@@ -39,4 +40,10 @@ pub fn sized_readings<H: LineEditorHost, W: Write, A, C>()
     ensures paintings { (pen : Pen A C) → SizedPaintingsAreShown H.rules W.contents pen }
     ensures healings { (pen : Pen A C) → ReadingHealingsAreShown H.rules W.contents pen }
     ensures closings { (pen : Pen A C) → HealedClosingsAreShown H.rules W.contents pen }
+{}
+
+/// What is sent of stations of plain texts and of colours by bytes leaves a terminal at rest under the attributes that are
+/// known then, whatever becomes of its size, its cells and its cursor between the batches.
+pub fn rested<H: LineEditorHost, A, C>()
+    ensures { (pen : Pen A C) → RestIsKept H.rules pen }
 {}
