@@ -22,7 +22,7 @@ use Rattle.tw_ansi.specs.Sequences.{clear_all, clear_with, to_first_cell}
 use Rattle.tw_ansi.proofs.EcmaClearings.{clears_all}
 use Rattle.tw_ansi.proofs.EcmaPaintings.{shown, shown_typed, painting_knows_color}
 use Rattle.tw_ansi.proofs.KnownTerminals.{batch_in, clear_keeps}
-use Rattle.tw_sent_runs.specs.Rests.{Rests, Receives, IsTypedStation, RestIsKept}
+use Rattle.tw_sent_runs.specs.Rests.{Rests, Receives, IsTypedStation, RestIsKept, ResizedHeals}
 use Rattle.tw_sent_runs.specs.SizedReadings.{sent_at, sent_sized}
 use Rattle.tw_sent_runs.proofs.RestLemmas.{IsRestful, Leads, leads-then, nothing-leads, change-leads, clear-leads}
 
@@ -131,3 +131,17 @@ module _ {A C : Type 0} (pen : Pen A C) where
   rest_is_kept rules stations e t u a color rests received =
       let lead = stations-lead None (map (sized_scene rules) stations) e a color in
       (rests-behind (sized_after None (map (sized_scene rules) stations)) e t u lead.0 rests received, lead.1)
+
+  pub resized_heals : {V : Type 0} (rules : HostRules V) → ResizedHeals rules pen
+  resized_heals rules h w f earlier since station later e first t k =
+      let kept = rest_is_kept rules earlier e first t k.typed k.color k.rests k.received in
+      record {
+        comes = k.comes;
+        sent = k.sent;
+        back = k.back;
+        narrow = k.narrow;
+        color = kept.1;
+        reading = kept.0.0;
+        rendition = kept.0.1;
+        cols = refl;
+      }

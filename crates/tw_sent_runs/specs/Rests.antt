@@ -1,18 +1,24 @@
 -- A terminal whose size changes between the batches that it is sent stays at rest, and the attributes that are known stay those that are selected.
-use Rattle.std.specs.Prelude.{◌≡◌, ◌<◌, ◌^◌, ℕ, List, [], ◌∷◌, map}
+use Rattle.std.specs.Prelude.{◌≡◌, ◌<◌, ◌^◌, neg_ℤ, ℕ, Some, None, List, [], ◌∷◌, ◌++◌, map}
 use Rattle.std.specs.List.{AllByRecursion}
-use Rattle.tw_surface.specs.PaintingBatches.{SizedScene}
 use Rattle.tw_surface.specs.declared.cell.CellAttributes.{CellAttributes}
+use Rattle.tw_surface.specs.declared.change.Position.TheVariants.{Relative}
+use Rattle.tw_surface.specs.Paintings.{Mark}
+use Rattle.tw_surface.specs.PaintingBatches.{SizedScene, shot_of, mark_after}
 use Rattle.tw_screens.specs.Pens.{Pen}
 use Rattle.tw_screens.specs.SizedBatches.{SizedBatch}
 use Rattle.tw_host.specs.HostRules.{HostRules}
+use Rattle.tw_lineedit.specs.Frame.{Frame}
 use Rattle.tw_lineedit.specs.ScreenRuns.{sized_scene}
 use Rattle.tw_lineedit.specs.Stations.{Station}
+use Rattle.tw_screen_runs.specs.DrawnRuns.{ComesHealed}
 use Rattle.tw_ansi.specs.declared.encode.Encoder.{Encoder}
 use Rattle.tw_ansi.specs.EcmaLaws.{IsColor}
+use Rattle.tw_ansi.specs.EcmaBatches.{IsReached}
 use Rattle.tw_ansi.specs.EcmaPaintings.{IsTypedScene}
 use Rattle.tw_ansi.specs.EcmaScreen.{EcmaScreen, receive_all}
 use Rattle.tw_ansi.specs.EcmaScreen as terminal
+use Rattle.tw_sent_runs.specs.SentRuns.{IsSentAt, HealsSent}
 use Rattle.tw_sent_runs.specs.SizedReadings.{sent_at, sent_sized, stations_sized}
 
 -- it has read no part of a sequence, and these attributes are selected
@@ -41,3 +47,21 @@ module _ {V A C : Type 0} (rules : HostRules V) (pen : Pen A C) where
       → IsColor e.attributes.background → Rests e.attributes t → Receives pen (stations_sized rules stations) e t u
       → Rests (sent_sized (stations_sized rules stations) e).next.attributes u
       × IsColor (sent_sized (stations_sized rules stations) e).next.attributes.background
+
+  -- As in `HealsSent`, and what is known of the terminal is known where the run begins: it is at rest there, and receives what is sent up to the clearing,
+  -- whatever becomes of its size meanwhile.
+  pub record HealsResized (h w : ℕ) (f : Frame V) (earlier since : List (Station V)) (station : Station V) (later : List (Station V)) (e : Encoder) (first t : EcmaScreen C) : Type 0 where
+    pub comes : ComesHealed rules pen (Some h) f earlier since station later
+    pub sent : AllByRecursion (IsSentAt h w) (map (sized_scene rules) (since ++ station ∷ []))
+    pub back : (m : Mark) → mark_after None (map shot_of (map (sized_scene rules) earlier)) ≡ Some m → IsReached h (Relative (neg_ℤ m.row))
+    pub narrow : w < 2 ^ 64
+    pub typed : AllByRecursion IsTypedStation (map (sized_scene rules) earlier)
+    pub color : IsColor e.attributes.background
+    pub rests : Rests e.attributes first
+    pub received : Receives pen (stations_sized rules earlier) e first t
+
+  -- Such a terminal is one that a clearing heals.
+  abbrev pub ResizedHeals : Type 0
+  ResizedHeals = (h w : ℕ) (f : Frame V) (earlier since : List (Station V)) (station : Station V) (later : List (Station V)) (e : Encoder) (first t : EcmaScreen C)
+      → HealsResized h w f earlier since station later e first t
+      → HealsSent rules pen h w f earlier since station later (record (sent_sized (stations_sized rules earlier) e).next { cols = w }) t

@@ -6,7 +6,7 @@
 #![tactic(auto)]
 
 ghost use Rattle.tw_screens.specs.Pens.{Pen};
-ghost use Rattle.tw_sent_runs.specs.Rests.{RestIsKept};
+ghost use Rattle.tw_sent_runs.specs.Rests.{ResizedHeals, RestIsKept};
 ghost use Rattle.tw_sent_runs.specs.SentReadings.{ReadingClosingsAreShown, ReadingPaintingsAreShown};
 ghost use Rattle.tw_sent_runs.specs.SentRuns.{ClosingsAreShown, HealingsAreShown, PaintingsAreShown};
 ghost use Rattle.tw_sent_runs.specs.SizedReadings.{HealedClosingsAreShown, ReadingHealingsAreShown, ReadingsAreSized, SizedPaintingsAreShown};
@@ -43,7 +43,9 @@ pub fn sized_readings<H: LineEditorHost, W: Write, A, C>()
 {}
 
 /// What is sent of stations of plain texts and of colours by bytes leaves a terminal at rest under the attributes that are
-/// known then, whatever becomes of its size, its cells and its cursor between the batches.
+/// known then, whatever becomes of its size, its cells and its cursor between the batches. So a terminal that was at rest
+/// where a reading began, and has changed its size since, is one that the next clearing heals.
 pub fn rested<H: LineEditorHost, A, C>()
-    ensures { (pen : Pen A C) → RestIsKept H.rules pen }
+    ensures kept { (pen : Pen A C) → RestIsKept H.rules pen }
+    ensures heals { (pen : Pen A C) → ResizedHeals H.rules pen }
 {}
