@@ -1,20 +1,20 @@
 -- A terminal that is sent paintings stays at rest under the attributes that are known, whatever size it has and whatever it shows.
-use Rattle.std.proofs.Common.{◌≡◌, ◌≤◌, ◌<◌, ◌+◌, ◌-◌, ◌^◌, ◌&&◌, not, ℕ, zero, suc, pos, negsuc, true, false, Bool, cond, eqb, leb, min, replicate, codes, Option, Some, None, List, [], ◌∷◌, ◌++◌, ap, subst, ◌∙◌, sym, refl, arith}
+use Rattle.std.proofs.Common.{◌≡◌, ◌<◌, ◌+◌, ◌-◌, ◌^◌, ◌&&◌, not, ℕ, zero, suc, pos, negsuc, true, false, Bool, cond, eqb, leb, min, replicate, codes, List, [], ◌∷◌, ◌++◌, ap, subst, sym, refl, arith}
 use Rattle.std.specs.Fmt.{decimal}
-use Rattle.std.specs.List.{list_all, AllByRecursion}
+use Rattle.std.specs.List.{list_all}
 use Rattle.std.proofs.lemmas.Bool.{ne_eqb, false≢true, and_parts}
 use Rattle.tw_surface.specs.declared.cell.CellAttributes.{CellAttributes}
 use Rattle.tw_surface.specs.declared.change.Position.{Position}
 use Rattle.tw_surface.specs.declared.change.Position.TheVariants.{Absolute, Relative}
 use Rattle.tw_surface.specs.declared.color.ColorAttribute.{ColorAttribute}
-use Rattle.tw_surface.specs.ChangeView.{ChangeView, Batch}
+use Rattle.tw_surface.specs.ChangeView.{ChangeView}
 use Rattle.tw_surface.specs.ChangeView.{Attribute, AllAttributes, Text, ClearScreen, ClearToEndOfScreen, CursorPosition}
 use Rattle.tw_surface.specs.Attributes.{with_attribute}
 use Rattle.tw_surface.specs.Characters.{is_plain, is_printable}
 use Rattle.tw_screens.specs.Pens.{Pen}
 use Rattle.tw_screens.specs.Screens.{blank_of}
 use Rattle.tw_ansi.specs.declared.encode.Encoder.{Encoder}
-use Rattle.tw_ansi.specs.Encoding.{Sent, sends, sent_batch, sent_beginning, sent_byte, sent_change, sent_clear, sent_columns, sent_feed, sent_plain, sent_text, column_of}
+use Rattle.tw_ansi.specs.Encoding.{Sent, sent_beginning, sent_byte, sent_change, sent_clear, sent_plain, sent_text, column_of}
 use Rattle.tw_ansi.specs.Sequences.{sequence, to_column, to_row, clear_below, clear_rows, clear_with, up_a_row, set_attributes, set_attribute}
 use Rattle.tw_ansi.specs.EcmaLaws.{at_rest, IsColor, IsAttribute}
 use Rattle.tw_ansi.specs.EcmaScreen.{EcmaScreen, act_by, feed_line, receive_all, return_to_start, write, write_here}
@@ -118,7 +118,7 @@ module _ {A C : Type 0} (pen : Pen A C) where
     byte-leads : (b : ℕ) (a : CellAttributes) → eqb b 27 ≡ false → Leads (b ∷ []) a a
     byte-leads b a other = leads-by (b ∷ []) a a rest (λ t r. ap (λ z. cond z (record t { reading = terminal.Escaped }) (rest t)) other)
         (λ t r. either-rests (eqb b 13) a _ _ (refl, r) (either-rests (eqb b 10) a _ _ (fed-rests a (at_rest t) (refl, r))
-            (either-rests (is_printable b) a _ _ (write-rests a (pen.ink (pen.attributes t.rendition) b) (at_rest t) (refl, r)) (refl, r))))
+        (either-rests (is_printable b) a _ _ (write-rests a (pen.ink (pen.attributes t.rendition) b) (at_rest t) (refl, r)) (refl, r))))
       where
         rest : EcmaScreen C → EcmaScreen C
         rest t = cond (eqb b 13) (return_to_start (at_rest t)) (cond (eqb b 10) (feed_line (blank_of pen) h (at_rest t))

@@ -1,5 +1,6 @@
 -- A worked reading whose events tell another number of columns: what it has written, to the last byte, and what a terminal shows of it that may have shown anything.
-use Rattle.std.proofs.Common.{◌≡◌, ◌≢◌, ℕ, List, [], ◌∷◌, ◌++◌, length, refl, sym, ap, subst, None, Some, Option, Bool, map, min, codes, get_or, neg_ℤ, ◌∙◌, arith}
+use Rattle.std.proofs.Common.{false, ◌+◌, ◌≡◌, ◌≢◌, ℕ, List, [], ◌∷◌, ◌++◌, length, refl, sym, ap, subst, None, Some, Option, Bool, map, min, codes, get_or, neg_ℤ, ◌∙◌, arith}
+use Rattle.std.specs.List.{AllByRecursion}
 use Rattle.std.proofs.lemmas.Bool.{false≢true}
 use Rattle.std.proofs.lemmas.List.Elements.{All-nil, All-cons}
 use Rattle.std.specs.Fmt.{digits}
@@ -32,7 +33,7 @@ use Rattle.tw_lineedit.specs.Run.{Ending}
 use Rattle.tw_lineedit.specs.ScreenRuns.{sized_scene}
 use Rattle.tw_lineedit.specs.Stations.{Station, painting_of, stations_of}
 use Rattle.tw_ansi.specs.declared.encode.Encoder.{Encoder}
-use Rattle.tw_ansi.specs.Encoding.{first_known}
+use Rattle.tw_ansi.specs.Encoding.{first_known, sent_batch}
 use Rattle.tw_ansi.specs.EcmaBatches.{IsReached}
 use Rattle.tw_ansi.specs.EcmaPaintings.{sent_batches}
 use Rattle.tw_ansi.specs.EcmaScreen.{EcmaScreen, receive_all}
@@ -44,8 +45,10 @@ use Rattle.tw_device.specs.declared.keys.SourceState.TheVariants.{AtEnd}
 use Rattle.tw_device.specs.declared.reading.Answer.TheVariants.{Cancelled}
 use Rattle.tw_device.specs.declared.terminal.AnsiTerminal.{AnsiTerminal}
 use Rattle.tw_sent_runs.specs.SentReadings.{reading_frame}
+use Rattle.tw_sent_runs.specs.Rests.{Rests, Receives, IsTypedStation, HealsResized}
 use Rattle.tw_sent_runs.specs.SentRuns.{HealsSent}
 use Rattle.tw_sent_runs.specs.SizedReadings.{sent_sized, stations_sized, run_sized, IsSizedReading}
+use Rattle.tw_sent_runs.proofs.RestedRunLemmas.{resized_heals}
 use Rattle.tw_sent_runs.proofs.SizedRunLemmas.{readings_are_sized, reading_healings_are_shown, healed_closings_are_shown}
 use Rattle.tw_sent_runs.proofs.WorkedParts.{Lines, rules, nth, nth_batch, painting_in, bytes_in, simple, room, carries, csi, prompted, to_right, closed, Wrote, with_batch, with_size, flushed_now, takes, is_sized, flushes}
 
@@ -328,3 +331,44 @@ module _ (it : AnsiTerminal Wrote) where
     -- the cursor does not stay in the row of the line
     ended_is_below : (ended (clearing_on ++ cancelled_on)).row ≡ 0 → ⊥
     ended_is_below stays = let no : 1 ≡ 0 = stays in omega (arith, no)
+
+    -- ---- so it is where the terminal was at rest at five columns, and takes any shape before the painting at ten columns and again behind it
+
+    abbrev fresh : EcmaScreen ℕ
+    fresh = record { cell = λ r c. 65 + r; row = 1; col = 0; waits = false; rendition = default_attributes; reading = terminal.Text }
+
+    abbrev one : EcmaScreen ℕ
+    one = receive_all characters 4 5 (sent_batch (batch 0) (first_known 5)).bytes fresh
+
+    reached : Receives characters (stations_sized rules earlier) (first_known 5) fresh anything
+    unfolding pieces column_width painted_on apply destination searched_again search_step boundary_below is_boundary iterate greatest_below least_from unicode_segmentation digits
+    reached = (4, 5, fresh, (refl, refl), (4, 5, one, (refl, refl), (4, 10, anything, (refl, refl), (refl, refl))))
+
+    typed_earlier : AllByRecursion IsTypedStation (map (sized_scene rules) earlier)
+    unfolding pieces column_width painted_on apply destination searched_again search_step boundary_below is_boundary iterate greatest_below least_from
+    typed_earlier = (
+      record { typed = record { prompt = (refl, tt); line = (refl, tt); lower = tt }; narrow = omega arith },
+      (
+        record { typed = record { prompt = (refl, tt); line = (refl, tt); lower = tt }; narrow = omega arith },
+        (record { typed = record { prompt = (refl, tt); line = (refl, tt); lower = tt }; narrow = omega arith }, tt),
+      ),
+    )
+
+    resized : HealsResized rules characters 4 10 frame earlier [] (at 3) (at 4 ∷ []) (first_known 5) fresh anything
+    resized = record {
+      comes = heals.comes;
+      sent = heals.sent;
+      back = back;
+      narrow = heals.narrow;
+      typed = typed_earlier;
+      color = tt;
+      rests = (refl, refl);
+      received = reached;
+    }
+
+    heals_again : HealsSent rules characters 4 10 frame earlier [] (at 3) (at 4 ∷ []) known anything
+    heals_again = resized_heals characters rules 4 10 frame earlier [] (at 3) (at 4 ∷ []) (first_known 5) fresh anything resized
+
+    -- one that has read an ESC is not at rest
+    not_at_rest : Rests default_attributes (record anything { reading = terminal.Escaped }) → ⊥
+    not_at_rest rests = absurd (cc rests.0)
