@@ -24,7 +24,7 @@ use Rattle.tw_ansi.proofs.EcmaPaintings.{shown, shown_typed, painting_knows_colo
 use Rattle.tw_ansi.proofs.KnownTerminals.{batch_in, clear_keeps}
 use Rattle.tw_sent_runs.specs.Rests.{Rests, Receives, IsTypedStation, RestIsKept, ResizedHeals}
 use Rattle.tw_sent_runs.specs.SizedReadings.{sent_at, sent_sized}
-use Rattle.tw_sent_runs.proofs.RestLemmas.{IsRestful, Leads, leads-then, nothing-leads, change-leads, clear-leads}
+use Rattle.tw_sent_runs.proofs.RestLemmas.{IsRestful, KeepsRest, leads-then, nothing-leads, change-leads, clear-leads}
 
 both-restful : (xs ys : Batch) → AllByRecursion IsRestful xs → AllByRecursion IsRestful ys → AllByRecursion IsRestful (xs ++ ys)
 both-restful [] ys a b = b
@@ -47,7 +47,7 @@ begun-color (Some m) w scene e t = painting_knows_color w scene (sent_change (st
 
 module _ {A C : Type 0} (pen : Pen A C) where
   batch-leads : (h w : ℕ) (batch : Batch) (e : Encoder) → AllByRecursion IsRestful batch → e.cols < 2 ^ 64
-      → Leads pen h w (sent_batch batch e).bytes e.attributes (sent_batch batch e).next.attributes
+      → KeepsRest pen h w (sent_batch batch e).bytes e.attributes (sent_batch batch e).next.attributes
   batch-leads h w [] e a small = nothing-leads pen h w e.attributes
   batch-leads h w (x ∷ xs) e a small =
       let next : Encoder = (sent_change x e).next in
@@ -55,7 +55,7 @@ module _ {A C : Type 0} (pen : Pen A C) where
       (change-leads pen h w x e a.0 small) (batch-leads h w xs next a.1 (rw (batch_in (x ∷ []) e) small))
 
   painting-leads : (h w n : ℕ) (scene : Scene) (e : Encoder) → IsTypedScene scene → IsColor e.attributes.background → e.cols < 2 ^ 64
-      → Leads pen h w (sent_batch (painting n scene).changes e).bytes e.attributes (sent_batch (painting n scene).changes e).next.attributes
+      → KeepsRest pen h w (sent_batch (painting n scene).changes e).bytes e.attributes (sent_batch (painting n scene).changes e).next.attributes
   painting-leads h w n scene e t color small =
       let move : ChangeView = move_between (place_after_all n (shown_part n scene) origin) (cursor_place n scene) in
       let rest : Batch = AllAttributes default_attributes ∷ (shown n scene ++ move ∷ []) in
@@ -63,19 +63,19 @@ module _ {A C : Type 0} (pen : Pen A C) where
       let restful : AllByRecursion IsRestful rest = ((tt, tt), both-restful (shown n scene) (move ∷ []) (typed-restful (shown n scene) (shown_typed n scene t)) (tt, tt)) in
       leads-then pen h w (sent_change (ClearToEndOfScreen default_color) e).bytes (sent_batch rest next).bytes e.attributes e.attributes (sent_batch rest next).next.attributes
       (clear-leads pen h w default_color e tt color small)
-      (subst (λ a. Leads pen h w (sent_batch rest next).bytes a (sent_batch rest next).next.attributes) (clear_keeps default_color e)
+      (subst (λ a. KeepsRest pen h w (sent_batch rest next).bytes a (sent_batch rest next).next.attributes) (clear_keeps default_color e)
       (batch-leads h w rest next restful (rw (batch_in (ClearToEndOfScreen default_color ∷ []) e) small)))
 
   begun-leads : (h w n : ℕ) (mark : Option Mark) (scene : Scene) (e : Encoder) → IsTypedScene scene → IsColor e.attributes.background → e.cols < 2 ^ 64
       → let begun = start_of mark ++ (painting n scene).changes in
-      Leads pen h w (sent_batch begun e).bytes e.attributes (sent_batch begun e).next.attributes
+      KeepsRest pen h w (sent_batch begun e).bytes e.attributes (sent_batch begun e).next.attributes
   begun-leads h w n None scene e t color small = painting-leads h w n scene e t color small
   begun-leads h w n (Some m) scene e t color small =
       let next : Encoder = (sent_change (start_move m) e).next in
       leads-then pen h w (sent_change (start_move m) e).bytes (sent_batch (painting n scene).changes next).bytes e.attributes e.attributes (sent_batch (painting n scene).changes next).next.attributes
       (change-leads pen h w (start_move m) e tt small) (painting-leads h w n scene next t color small)
 
-  cleared-leads : (h w : ℕ) (e : Encoder) → IsColor e.attributes.background → Leads pen h w (sent_batch clear_batch e).bytes e.attributes e.attributes
+  cleared-leads : (h w : ℕ) (e : Encoder) → IsColor e.attributes.background → KeepsRest pen h w (sent_batch clear_batch e).bytes e.attributes e.attributes
   cleared-leads h w e q t (reading, rendition) =
       let is : t ≡ at_rest t = ap (λ r. record t { reading = r }) reading in
       let bytes : CellAttributes → List ℕ = λ a. to_first_cell ++ clear_with clear_all default_color a.background in
@@ -87,15 +87,15 @@ module _ {A C : Type 0} (pen : Pen A C) where
   -- ---- batches, each at some size
 
   -- at every size each leads from the attributes that are known to those that are known then
-  abbrev AllLead : List SizedBatch → Encoder → Type 0
-  AllLead [] e = Unit {0}
-  AllLead (sized ∷ more) e =
-      ((h w : ℕ) → Leads pen h w (sent_at sized e).bytes e.attributes (sent_at sized e).next.attributes) × AllLead more (sent_at sized e).next
+  abbrev AllKeepRest : List SizedBatch → Encoder → Type 0
+  AllKeepRest [] e = Unit {0}
+  AllKeepRest (sized ∷ more) e =
+      ((h w : ℕ) → KeepsRest pen h w (sent_at sized e).bytes e.attributes (sent_at sized e).next.attributes) × AllKeepRest more (sent_at sized e).next
 
   reshaped : (a : CellAttributes) (t u : EcmaScreen C) → Rests a t → (u.reading ≡ t.reading) × (u.rendition ≡ t.rendition) → Rests a u
   reshaped a t u rests same = (same.0 ∙ rests.0, same.1 ∙ rests.1)
 
-  rests-behind : (played : List SizedBatch) (e : Encoder) (t u : EcmaScreen C) → AllLead played e → Rests e.attributes t → Receives pen played e t u
+  rests-behind : (played : List SizedBatch) (e : Encoder) (t u : EcmaScreen C) → AllKeepRest played e → Rests e.attributes t → Receives pen played e t u
       → Rests (sent_sized played e).next.attributes u
   rests-behind [] e t u lead rests same = reshaped e.attributes t u rests same
   rests-behind (sized ∷ more) e t u lead rests (h, w, s, same, later) =
@@ -104,7 +104,7 @@ module _ {A C : Type 0} (pen : Pen A C) where
 
   -- the batches of stations do, and the colour that is known is by bytes
   stations-lead : (mark : Option Mark) (xs : List SizedScene) (e : Encoder) → AllByRecursion IsTypedStation xs → IsColor e.attributes.background
-      → AllLead (sized_after mark xs) e × IsColor (sent_sized (sized_after mark xs) e).next.attributes.background
+      → AllKeepRest (sized_after mark xs) e × IsColor (sent_sized (sized_after mark xs) e).next.attributes.background
   stations-lead mark [] e a color = (tt, color)
   stations-lead mark (x ∷ xs) e a color = by_cleared (λ known. stations-lead (Some (mark_of (painting x.cols x.scene))) xs known a.1) x.scene.cleared
     where
@@ -114,9 +114,9 @@ module _ {A C : Type 0} (pen : Pen A C) where
       rest : List SizedBatch
       rest = sized_after (Some (mark_of shot)) xs
 
-      by_cleared : ((known : Encoder) → IsColor known.attributes.background → AllLead rest known × IsColor (sent_sized rest known).next.attributes.background)
+      by_cleared : ((known : Encoder) → IsColor known.attributes.background → AllKeepRest rest known × IsColor (sent_sized rest known).next.attributes.background)
           → (b : Bool) → let played = sized_at x.cols (clearing b ++ (start_of mark ++ shot.changes) ∷ []) ++ rest in
-          AllLead played e × IsColor (sent_sized played e).next.attributes.background
+          AllKeepRest played e × IsColor (sent_sized played e).next.attributes.background
       by_cleared more false =
           let known : Encoder = record e { cols = x.cols } in
           let later = more (sent_batch (start_of mark ++ shot.changes) known).next (begun-color mark x.cols x.scene known a.0.typed) in

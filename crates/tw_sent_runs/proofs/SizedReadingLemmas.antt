@@ -92,14 +92,14 @@ sized_at-both w [] ys = refl
 sized_at-both w (x ∷ xs) ys = ap (λ l. record { cols = w; batch = x } ∷ l) (sized_at-both w xs ys)
 
 -- the painting of the first of some shots
-abbrev first_painting : Painting → List Shot → Painting
-first_painting p [] = p
-first_painting p (shot ∷ more) = shot.painting
+abbrev painting_of_first : Painting → List Shot → Painting
+painting_of_first p [] = p
+painting_of_first p (shot ∷ more) = shot.painting
 
 module _ {V : Type 0} (rules : HostRules V) where
   -- a painting that is not refused is that of the scene at the screen's columns
   painting-is : (s : Station V) (p : Painting) → painting_of rules s ≡ Ok p → p ≡ painting s.size.cols (sized_scene rules s).scene
-  painting-is s p h = ap (first_painting p) (ap (shots_by s.cleared []) (sym h) ∙ shots_before rules (s ∷ []) [] ((p, h), tt))
+  painting-is s p h = ap (painting_of_first p) (ap (shots_by s.cleared []) (sym h) ∙ shots_before rules (s ∷ []) [] ((p, h), tt))
 
   -- ---- a run that goes on behind an event
 
@@ -238,12 +238,12 @@ module _ {V : Type 0} (rules : HostRules V) where
     -- ---- a run
 
     -- all that a run takes was taken, and then these batches; no event is left, and it is answered
-    abbrev IsWhole : Ending V → List Batch → AnsiTerminal W → Type 0
-    IsWhole r end new = ((terminal_state new).batches ≡ r.taken ++ end) × (r.left ≡ []) × IsAnswer r.answer
+    abbrev IsAllTaken : Ending V → List Batch → AnsiTerminal W → Type 0
+    IsAllTaken r end new = ((terminal_state new).batches ≡ r.taken ++ end) × (r.left ≡ []) × IsAnswer r.answer
 
     -- the batches of stations were sent, and then those behind the end of the run
-    abbrev Sends : Option Mark → List (Station V) → Ending V → List Batch → AnsiTerminal W → AnsiTerminal W → Type 0
-    Sends mark stations r end old new = IsSentAs (sized_from rules mark stations ++ sized_at r.size.cols end) r.size.cols old new
+    abbrev SendsStations : Option Mark → List (Station V) → Ending V → List Batch → AnsiTerminal W → AnsiTerminal W → Type 0
+    SendsStations mark stations r end old new = IsSentAs (sized_from rules mark stations ++ sized_at r.size.cols end) r.size.cols old new
 
     -- the run over events from somewhere on
     abbrev SendsFrom : List EventView → Type 0
@@ -251,19 +251,19 @@ module _ {V : Type 0} (rules : HostRules V) where
         → s.taken ≡ (terminal_state old).batches ++ clearing cleared → old.encoder.cols ≡ s.size.cols
         → IsLedAlong contents (λ seen. (run rules seen s).taken) events old new
         → new.failures ≡ old.failures → old.failures ≢ usize_max
-        → IsWhole (run rules events s) end new
-        → Sends s.mark (stations_from rules events cleared s) (run rules events s) end old new
+        → IsAllTaken (run rules events s) end new
+        → SendsStations s.mark (stations_from rules events cleared s) (run rules events s) end old new
 
     -- the last painting
     sends-last : SendsFrom []
     sends-last cleared s old new end base cols calls kept below =
-        subst (λ r. IsWhole (at_end rules s r) end new → Sends s.mark (station_at cleared s ∷ []) (at_end rules s r) end old new) (sym (rendered-is s cleared q refl)) (by_painting q refl)
+        subst (λ r. IsAllTaken (at_end rules s r) end new → SendsStations s.mark (station_at cleared s ∷ []) (at_end rules s r) end old new) (sym (rendered-is s cleared q refl)) (by_painting q refl)
       where
         q : Result Painting Refusal
         q = painting_of rules (station_at cleared s)
 
         by_painting : (q : Result Painting Refusal) → painting_of rules (station_at cleared s) ≡ q
-            → IsWhole (at_end rules s (rendering_of s.mark q)) end new → Sends s.mark (station_at cleared s ∷ []) (at_end rules s (rendering_of s.mark q)) end old new
+            → IsAllTaken (at_end rules s (rendering_of s.mark q)) end new → SendsStations s.mark (station_at cleared s ∷ []) (at_end rules s (rendering_of s.mark q)) end old new
         by_painting (Err r) h whole = absurd whole.2
         by_painting (Ok p) h whole =
             let w : ℕ = s.size.cols in
@@ -299,15 +299,15 @@ module _ {V : Type 0} (rules : HostRules V) where
         let stations : List (Station V) = stations_from rules events (clears k) (next k) in
         let more = rest (clears k) (next k) sized new end (ap (λ b. b ++ clearing (clears k)) (sym (resized.batches ∙ is ∙ painted-next k))) resized.cols
         (along_same contents (λ more. (run rules (event ∷ more) s).taken) (λ seen. (run rules seen (next k)).taken) events sized new (λ more. ap (λ (end : Ending V). end.taken) (run-next k more)) along)
-        (kept ∙ sym same) (λ full. below (sym same ∙ full)) (subst (λ r. IsWhole r end new) (run-next k events) whole) in
+        (kept ∙ sym same) (λ full. below (sym same ∙ full)) (subst (λ r. IsAllTaken r end new) (run-next k events) whole) in
         let mark : Option Mark = Some (mark_of k.painting) in
         let both : IsSentAs (sized_at w played ++ (sized_from rules mark stations ++ sized_at r.size.cols end)) r.size.cols old new =
         sent-then (sized_at w played) (sized_from rules mark stations ++ sized_at r.size.cols end) w r.size.cols old reached sized new first resized.bytes resized.known
         (stations_set rules events (clears k) (next k) mark (sized_at r.size.cols end)) more in
         let joined : IsSentAs ((sized_at w played ++ sized_from rules mark stations) ++ sized_at r.size.cols end) r.size.cols old new =
         subst (λ l. IsSentAs l r.size.cols old new) (sym (append_assoc (sized_at w played) (sized_from rules mark stations) (sized_at r.size.cols end))) both in
-        subst (λ l. Sends s.mark l (run rules (event ∷ events) s) end old new) (sym (stations-next k events))
-        (subst (λ r. Sends s.mark (station_at cleared s ∷ stations) r end old new) (sym (run-next k events))
+        subst (λ l. SendsStations s.mark l (run rules (event ∷ events) s) end old new) (sym (stations-next k events))
+        (subst (λ r. SendsStations s.mark (station_at cleared s ∷ stations) r end old new) (sym (run-next k events))
         (subst (λ (p : Painting). IsSentAs ((sized_at w (clearing cleared ++ (start_of s.mark ++ p.changes) ∷ []) ++ sized_from rules (Some (mark_of p)) stations) ++ sized_at r.size.cols end) r.size.cols old new)
         (painting-is (station_at cleared s) k.painting k.painted) joined))
 

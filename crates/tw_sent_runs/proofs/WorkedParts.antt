@@ -74,8 +74,8 @@ abbrev pub to_right : List ℕ → List ℕ → List ℕ
 to_right steps more = 13 ∷ csi steps more
 
 -- to column 0 of the row below, and from there on all is cleared
-abbrev pub closed : List ℕ
-closed = 10 ∷ 13 ∷ cleared_rows []
+abbrev pub closing_bytes : List ℕ
+closing_bytes = 10 ∷ 13 ∷ cleared_rows []
 
 -- ---- a terminal over a writer that keeps its bytes
 

@@ -44,7 +44,7 @@ use Rattle.tw_device.specs.declared.terminal.AnsiTerminal.{AnsiTerminal}
 use Rattle.tw_sent_runs.specs.SentReadings.{reading_frame, IsSentReading}
 use Rattle.tw_sent_runs.specs.SentRuns.{ComesSent}
 use Rattle.tw_sent_runs.proofs.ReadingLemmas.{reading_closings_are_shown}
-use Rattle.tw_sent_runs.proofs.WorkedParts.{Lines, rules, nth, nth_batch, painting_in, bytes_in, simple, room, carries, prompted, to_right, closed, Wrote, with_batch, flushed_now, takes, flushes}
+use Rattle.tw_sent_runs.proofs.WorkedParts.{Lines, rules, nth, nth_batch, painting_in, bytes_in, simple, room, carries, prompted, to_right, closing_bytes, Wrote, with_batch, flushed_now, takes, flushes}
 
 abbrev prompt : List ℕ
 prompt = 62 ∷ 32 ∷ []
@@ -159,7 +159,7 @@ module _ (it : AnsiTerminal Wrote) where
   }
 
   -- all that was written
-  written_is : new.writer ≡ prompted (to_right (codes "2C") (13 ∷ prompted (codes "ab" ++ to_right (codes "4C") (13 ∷ prompted (codes "ab" ++ to_right (codes "4C") closed)))))
+  written_is : new.writer ≡ prompted (to_right (codes "2C") (13 ∷ prompted (codes "ab" ++ to_right (codes "4C") (13 ∷ prompted (codes "ab" ++ to_right (codes "4C") closing_bytes)))))
   unfolding pieces column_width painted_on apply destination searched_again search_step boundary_below is_boundary iterate greatest_below least_from unicode_segmentation digits
   written_is = refl
 

@@ -33,7 +33,7 @@ use Rattle.tw_ansi.proofs.EcmaBatches.{first_is_shown}
 use Rattle.tw_sent_runs.specs.SentRuns.{ComesSent, IsSentAt, sent_paintings, sent_run}
 use Rattle.tw_sent_runs.proofs.ClosingLemmas.{closings_are_shown}
 use Rattle.tw_sent_runs.proofs.SentLemmas.{paintings_are_shown}
-use Rattle.tw_sent_runs.proofs.WorkedParts.{Lines, rules, nth, painting_in, simple, room, carries, prompted, to_right, closed}
+use Rattle.tw_sent_runs.proofs.WorkedParts.{Lines, rules, nth, painting_in, simple, room, carries, prompted, to_right, closing_bytes}
 
 abbrev frame_with : ℕ → List EventView → Frame Lines
 frame_with cols events = start None (record { state = new_state; value = []; mark = None; terminal = record { size = record { rows = 4; cols = cols }; events = events; batches = []; flushed = 0; failures = 0 } })
@@ -145,7 +145,7 @@ end_bytes = sent_run rules characters low_run (low_first ∷ low_last ∷ []) (f
 abbrev end_terminal : EcmaScreen ℕ
 end_terminal = receive_all characters 4 5 end_bytes.bytes (full 3)
 
-end_written : end_bytes.bytes ≡ low_bytes.bytes ++ closed
+end_written : end_bytes.bytes ≡ low_bytes.bytes ++ closing_bytes
 unfolding pieces column_width painted_on apply destination searched_again search_step boundary_below is_boundary iterate greatest_below least_from unicode_segmentation digits
 end_written = refl
 

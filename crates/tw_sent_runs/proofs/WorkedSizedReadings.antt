@@ -50,7 +50,7 @@ use Rattle.tw_sent_runs.specs.SentRuns.{HealsSent}
 use Rattle.tw_sent_runs.specs.SizedReadings.{sent_sized, stations_sized, run_sized, IsSizedReading}
 use Rattle.tw_sent_runs.proofs.RestedRunLemmas.{resized_heals}
 use Rattle.tw_sent_runs.proofs.SizedRunLemmas.{readings_are_sized, reading_healings_are_shown, healed_closings_are_shown}
-use Rattle.tw_sent_runs.proofs.WorkedParts.{Lines, rules, nth, nth_batch, painting_in, bytes_in, simple, room, carries, csi, prompted, to_right, closed, Wrote, with_batch, with_size, flushed_now, takes, is_sized, flushes}
+use Rattle.tw_sent_runs.proofs.WorkedParts.{Lines, rules, nth, nth_batch, painting_in, bytes_in, simple, room, carries, csi, prompted, to_right, closing_bytes, Wrote, with_batch, with_size, flushed_now, takes, is_sized, flushes}
 
 -- a move back from a painting, if there is one, that leads no further than a move can
 abbrev IsBack : Option Mark → Type 0
@@ -178,7 +178,7 @@ module _ (it : AnsiTerminal Wrote) where
 
   -- those of the cancelled line and of the closing batch
   abbrev cancelled_on : List ℕ
-  cancelled_on = 13 ∷ prompted (codes "abcd" ++ to_right (codes "6C") closed)
+  cancelled_on = 13 ∷ prompted (codes "abcd" ++ to_right (codes "6C") closing_bytes)
 
   -- all that was written
   written_is : new.writer ≡ 63 ∷ before_clearing ++ (clearing_on ++ cancelled_on)
@@ -193,7 +193,7 @@ module _ (it : AnsiTerminal Wrote) where
   -- what is sent for five columns all along leads to column 1, as where the line wraps
   at_five : (sent_batches (whole.taken ++ closing_if whole.mark) (first_known 5)).bytes
       ≡ prompted (to_right (codes "2C") (13 ∷ prompted (codes "abcd" ++ to_right (codes "1C") (csi (codes "1A") (13 ∷ prompted (codes "abcd" ++ to_right (codes "1C")
-      (csi (codes "H") (csi (codes "2J") (13 ∷ prompted (codes "abcd" ++ to_right (codes "1C") (13 ∷ prompted (codes "abcd" ++ to_right (codes "1C") closed))))))))))))
+      (csi (codes "H") (csi (codes "2J") (13 ∷ prompted (codes "abcd" ++ to_right (codes "1C") (13 ∷ prompted (codes "abcd" ++ to_right (codes "1C") closing_bytes))))))))))))
   unfolding pieces column_width painted_on apply destination searched_again search_step boundary_below is_boundary iterate greatest_below least_from unicode_segmentation digits
   at_five = refl
 
