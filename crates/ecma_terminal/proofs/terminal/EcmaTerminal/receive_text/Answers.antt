@@ -1,0 +1,4 @@
+use Rattle.ecma_terminal.proofs.terminal.EcmaTerminal.receive_text.Goals as goal
+
+pub returns-in-13 : goal.returns-in-13
+returns-in-13 c = rw c.in-13.is c.return_to_start.ensures

@@ -1,0 +1,4 @@
+pub mod Grids
+pub mod Colors
+pub mod Readings
+pub mod Terminals

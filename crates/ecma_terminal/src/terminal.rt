@@ -1,0 +1,318 @@
+//! The terminal.
+
+ghost use Rattle.std.specs.Prelude.{◌≡◌, ◌<◌, ◌≤◌, ◌↔◌, ◌⊎◌, true, false, None, Some, Ok, Err, IfOk, IfErr, OnOk, OnErr};
+ghost use Rattle.tw_screens.specs.Screens.{blank_of};
+ghost use Rattle.tw_screens.specs.StyledCells.{styled};
+ghost use Rattle.tw_ansi.specs.EcmaScreen.{act, act_by, feed_line, receive, receive_all, receive_text, return_to_start, told_steps, write, write_here};
+ghost use Rattle.tw_ansi.specs.EcmaScreen as terminal;
+ghost use Rattle.tw_ansi.specs.KeyBytes.{is_parameter};
+ghost use Rattle.styled_screen.specs.StyledScreens.{styled_cell};
+ghost use Rattle.ecma_terminal.specs.Grids.{cell_in};
+ghost use Rattle.ecma_terminal.specs.Colors.{ends_in_large};
+ghost use Rattle.ecma_terminal.specs.Terminals.{Becomes, HasNoSize, IsNew, IsRefusedFor, StopsWithin, is_too_large, takes_memory, wrapped};
+
+use crate::fault::EcmaFault;
+use crate::grid::Grid;
+use crate::number::{are_digits, number_of};
+use crate::rendition::selected;
+use std::alloc::Global;
+use std::marker::Model;
+use std::mem;
+use styled_screen::ScreenCell;
+use tw_surface::{CellAttributes, ColorAttribute};
+
+/// The greatest number of rows, and of columns.
+const MOST: usize = 65_535;
+
+const ESC: u8 = 0x1b;
+
+/// How far a control sequence was read.
+#[derive(Debug, Drop)]
+enum Reading {
+    /// There is none.
+    Text,
+    /// An ESC.
+    Escaped,
+    /// ESC [ and these parameters.
+    Parameters(Vec<u8>),
+}
+
+/// A terminal after ECMA-48: its cells, its cursor, the attributes that are selected, and how far a control sequence was
+/// read. Rows and columns are numbered from 0.
+#[derive(Debug, Drop)]
+pub struct EcmaTerminal {
+    alloc: Global,
+    grid: Grid,
+    row: usize,
+    col: usize,
+    waits: bool,
+    attributes: CellAttributes,
+    reading: Reading,
+}
+
+impl Model for EcmaTerminal {
+    ghost use Rattle.ecma_terminal.specs.Terminals.{TerminalView, IsTerminal};
+    ghost use Rattle.ecma_terminal.specs.Readings.{reading_of};
+
+    ghost Value = { TerminalView };
+
+    ghost view = { λ s. record { grid = s.grid; row = s.row; col = s.col; waits = s.waits; attributes = s.attributes; reading = reading_of s.reading } };
+
+    ghost invariant = { λ s. IsTerminal (record { grid = s.grid; row = s.row; col = s.col; waits = s.waits; attributes = s.attributes; reading = reading_of s.reading }) };
+}
+
+/// A number of steps: none written means one.
+fn told_steps(number: usize) -> usize
+    ensures { result ≡ told_steps number }
+{
+    if number == 0 { 1 } else { number }
+}
+
+impl EcmaTerminal {
+    /// A terminal of 1 to 65,535 rows and columns, each cell of which holds the one given. The cursor stands at (0, 0), and
+    /// the default attributes are selected.
+    pub fn new(alloc: Global, rows: usize, cols: usize, cell: ScreenCell) -> Result<Self, EcmaFault>
+        ensures ok { IfOk result (λ terminal. IsNew rows cols (styled_cell cell) terminal) }
+        ensures err { IfErr result (λ fault. fault ≡ EcmaFault.Size ⊎ fault ≡ EcmaFault.Memory) }
+        ensures size { (result ≡ Err EcmaFault.Size) ↔ (HasNoSize rows cols) }
+    {
+        if rows == 0 || rows > MOST || cols == 0 || cols > MOST {
+            return Err(EcmaFault::Size);
+        }
+        Ok(EcmaTerminal {
+            alloc,
+            grid: Grid::new(alloc, rows, cols, cell)?,
+            row: 0,
+            col: 0,
+            waits: false,
+            attributes: CellAttributes::default(),
+            reading: Reading::Text,
+        })
+    }
+
+    /// The number of rows.
+    pub fn rows(&self) -> usize
+        ensures { result ≡ self.now.grid.rows }
+    {
+        self.grid.rows()
+    }
+
+    /// The number of columns.
+    pub fn cols(&self) -> usize
+        ensures { result ≡ self.now.grid.cols }
+    {
+        self.grid.cols()
+    }
+
+    /// What stands at a row and a column, or none behind the last ones.
+    pub fn cell(&self, row: usize, col: usize) -> Option<ScreenCell>
+        ensures inside { row < self.now.grid.rows → col < self.now.grid.cols → result ≡ Some (cell_in self.now.grid row col) }
+        ensures below { self.now.grid.rows ≤ row → result ≡ None }
+        ensures behind { self.now.grid.cols ≤ col → result ≡ None }
+    {
+        self.grid.cell(row, col)
+    }
+
+    /// The cursor's row and column. Where it waits behind the last column, the column is the last one.
+    pub fn cursor(&self) -> (usize, usize)
+        ensures row { result.0 ≡ self.now.row }
+        ensures col { result.1 ≡ self.now.col }
+        ensures row_within { result.0 < self.now.grid.rows }
+        ensures col_within { result.1 < self.now.grid.cols }
+    {
+        (self.row, self.col)
+    }
+
+    /// Whether the cursor waits behind the last column.
+    pub fn waits(&self) -> bool
+        ensures { result ≡ self.now.waits }
+    {
+        self.waits
+    }
+
+    /// The attributes that are selected.
+    pub fn attributes(&self) -> CellAttributes
+        ensures { result ≡ self.now.attributes }
+    {
+        self.attributes
+    }
+
+    /// To column 0.
+    fn return_to_start(&mut self)
+        ensures { Becomes self.old return_to_start self.new }
+    {
+        self.col = 0;
+        self.waits = false;
+    }
+
+    /// To the next row. In the last row all rows go up by one, and a blank one comes.
+    fn feed_line(&mut self)
+        ensures { Becomes self.old (feed_line (blank_of styled) self.old.grid.rows) self.new }
+    {
+        if self.row + 1 == self.grid.rows() {
+            self.grid.raise(ScreenCell::blank(ColorAttribute::Default));
+        } else {
+            self.row += 1;
+        }
+        self.waits = false;
+    }
+
+    /// Writes a cell at the cursor, which moves on, and waits where that was the last column.
+    fn write_here(&mut self, cell: ScreenCell)
+        ensures { Becomes self.old (write_here self.old.grid.cols (styled_cell cell)) self.new }
+    {
+        self.grid.put(self.row, self.col, cell);
+        if self.col + 1 == self.grid.cols() {
+            self.waits = true;
+        } else {
+            self.col += 1;
+        }
+    }
+
+    /// To the start of the next row, where the cursor waits.
+    fn wrap(&mut self)
+        ensures { Becomes self.old (wrapped (blank_of styled) self.old.grid.rows) self.new }
+    {
+        if self.waits {
+            self.feed_line();
+            self.return_to_start();
+        }
+    }
+
+    /// Writes a character at the cursor, or at the start of the next row where the cursor waits.
+    fn write(&mut self, character: char)
+        ensures { let cell = styled.ink self.old.attributes character in
+            Becomes self.old (write (blank_of styled) self.old.grid.rows self.old.grid.cols cell) self.new }
+    {
+        let cell = ScreenCell {
+            character,
+            attributes: self.attributes,
+        };
+        self.wrap();
+        self.write_here(cell);
+    }
+
+    /// Does what a sequence of one number does.
+    fn act_by(&mut self, number: usize, letter: u8)
+        requires { number ≤ 4294967295 }
+        ensures { Becomes self.old (act_by styled self.old.grid.rows self.old.grid.cols number letter) self.new }
+    {
+        let paper = ScreenCell::blank(self.attributes.background);
+        let (row, col) = self.cursor();
+        let last_row = self.grid.rows() - 1;
+        let last_col = self.grid.cols() - 1;
+        let steps = told_steps(number);
+        match (letter, number) {
+            (b'A', _) => self.lead_to(row.saturating_sub(steps), col),
+            (b'C', _) => self.lead_to(row, last_col.min(col + steps)),
+            (b'H', _) => self.lead_to(last_row.min(steps - 1), 0),
+            (b'J', 0) => self.grid.clear_behind(row, col, paper),
+            (b'J', 2) => self.grid.clear(paper),
+            (b'K', 0) => self.grid.clear_row(row, col, paper),
+            (b'd', _) => self.lead_to(last_row.min(steps - 1), col),
+            _ => {}
+        }
+    }
+
+    /// Leads the cursor to a row and a column, where it does not wait.
+    fn lead_to(&mut self, row: usize, col: usize)
+        requires row { row < self.old.grid.rows }
+        requires col { col < self.old.grid.cols }
+        ensures { Becomes self.old (λ t. record t { row = row; col = col; waits = false }) self.new }
+    {
+        self.row = row;
+        self.col = col;
+        self.waits = false;
+    }
+
+    /// Does what a sequence does.
+    fn act(&mut self, parameters: &[u8], letter: u8) -> Result<(), EcmaFault>
+        ensures ok { OnOk result (Becomes self.old (act styled self.old.grid.rows self.old.grid.cols parameters.now letter) self.new) }
+        ensures err { OnErr result (self.new ≡ self.old) }
+        ensures cause { IfErr result (λ fault. (fault ≡ EcmaFault.Color) × (ends_in_large parameters.now letter self.old.attributes ≡ true)) }
+        ensures large { ends_in_large parameters.now letter self.old.attributes ≡ true → result ≡ Err EcmaFault.Color }
+        ensures sure { ends_in_large parameters.now letter self.old.attributes ≡ false → result ≡ Ok tt }
+    {
+        let before = self.attributes;
+        if letter == b'm' {
+            let Some(attributes) = selected(parameters, before) else {
+                return Err(EcmaFault::Color);
+            };
+            self.attributes = attributes;
+        } else if are_digits(parameters) {
+            self.act_by(number_of(parameters) as usize, letter);
+        }
+        Ok(())
+    }
+
+    /// Receives a byte outside a sequence.
+    fn receive_text(&mut self, byte: u8)
+        ensures { Becomes self.old (receive_text styled self.old.grid.rows self.old.grid.cols byte) self.new }
+    {
+        match byte {
+            ESC => self.reading = Reading::Escaped,
+            b'\r' => self.return_to_start(),
+            b'\n' => self.feed_line(),
+            b' '..=b'~' => self.write(char::from(byte)),
+            _ => {}
+        }
+    }
+
+    /// Receives a byte behind ESC [ and these parameters.
+    fn receive_behind(&mut self, mut parameters: Vec<u8>, byte: u8) -> Result<(), EcmaFault>
+        requires { self.old.reading ≡ terminal.Text }
+        ensures ok { let before = record self.old { reading = terminal.Parameters parameters.items } in
+            OnOk result (Becomes before (receive styled self.old.grid.rows self.old.grid.cols byte) self.new) }
+        ensures err { OnErr result (self.new ≡ record self.old { reading = terminal.Parameters parameters.items }) }
+        ensures cause { let before = record self.old { reading = terminal.Parameters parameters.items } in
+            IfErr result (λ fault. IsRefusedFor fault before byte) }
+        ensures large { is_parameter byte ≡ false → ends_in_large parameters.items byte self.old.attributes ≡ true → result ≡ Err EcmaFault.Color }
+        ensures sure { is_parameter byte ≡ false → ends_in_large parameters.items byte self.old.attributes ≡ false → result ≡ Ok tt }
+    {
+        if (b' '..=b'?').contains(&byte) {
+            let pushed = parameters.push(byte);
+            self.reading = Reading::Parameters(parameters);
+            pushed?;
+            return Ok(());
+        }
+        match self.act(parameters.as_slice(), byte) {
+            Ok(()) => Ok(()),
+            Err(fault) => {
+                self.reading = Reading::Parameters(parameters);
+                Err(fault)
+            }
+        }
+    }
+
+    /// Receives a byte. It takes memory for a parameter alone, and a byte is refused for a colour where it ends an SGR
+    /// sequence with a number of a colour above 255. One that is refused leaves the terminal as it was.
+    pub fn receive(&mut self, byte: u8) -> Result<(), EcmaFault>
+        ensures ok { OnOk result (Becomes self.old (receive styled self.old.grid.rows self.old.grid.cols byte) self.new) }
+        ensures err { OnErr result (self.new ≡ self.old) }
+        ensures cause { IfErr result (λ fault. IsRefusedFor fault self.old byte) }
+        ensures large { is_too_large self.old byte ≡ true → result ≡ Err EcmaFault.Color }
+        ensures sure { takes_memory self.old byte ≡ false → is_too_large self.old byte ≡ false → result ≡ Ok tt }
+    {
+        match mem::replace(&mut self.reading, Reading::Text) {
+            Reading::Text => self.receive_text(byte),
+            Reading::Escaped => {
+                if byte == b'[' {
+                    self.reading = Reading::Parameters(Vec::new(self.alloc));
+                }
+            }
+            Reading::Parameters(parameters) => return self.receive_behind(parameters, byte),
+        }
+        Ok(())
+    }
+
+    /// Receives bytes, one after the other. Where one is refused those before it were received, and no more.
+    pub fn receive_all(&mut self, bytes: &[u8]) -> Result<(), EcmaFault>
+        ensures ok { OnOk result (Becomes self.old (receive_all styled self.old.grid.rows self.old.grid.cols bytes.now) self.new) }
+        ensures err { IfErr result (λ fault. StopsWithin fault bytes.now self.old self.new) }
+    {
+        for byte in bytes {
+            self.receive(*byte)?;
+        }
+        Ok(())
+    }
+}
