@@ -17,5 +17,5 @@ pub use host::MarkedHost;
 pub use numbers::Numbers;
 pub use painted::{Batch, PaintedTexts};
 pub use shows::{Plays, Shows};
-pub use stage::{ScrollingStage, Stage};
-pub use table::{Entry, Table};
+pub use stage::{ScrollingStage, ScrollingTable, Stage};
+pub use table::{Entry, FILLING, Table};

@@ -1,9 +1,11 @@
 //! Screens on which batches are played, beside the tables of what they are to hold.
 
+ghost use Rattle.std.specs.Prelude.{◌<◌};
+
 use crate::painted::{Batch, PaintedTexts};
 use crate::shows::Plays;
 use crate::table::{Entry, FILLING, ROWS, Table};
-use std::alloc::Global;
+use std::alloc::{AllocError, Global};
 use styled_screen::StyledScreen;
 use tw_surface::{Change, Position, Screen, ScrollingScreen};
 
@@ -51,42 +53,38 @@ impl Stage {
     }
 }
 
-/// A screen of some rows, which scrolls, and beside it what it is to hold.
+/// What a screen of some rows, which scrolls, is to hold.
 #[derive(Drop)]
-pub struct ScrollingStage {
-    screen: ScrollingScreen,
+pub struct ScrollingTable {
     table: Table,
     rows: usize,
     is_known: bool,
 }
 
-impl ScrollingStage {
-    /// A screen of some rows and this width, and the table beside it.
-    pub fn new(
-        alloc: Global,
-        rows: usize,
-        width: usize,
-        entry: Entry,
-    ) -> Result<Self, anyhow::Error> {
-        let mut screen = ScrollingScreen::new(alloc, rows, width)?;
-        let table = Table::new(alloc, rows, width, entry)?;
-        enter(alloc, rows, width, entry, &mut screen)?;
-        Ok(ScrollingStage {
-            screen,
-            table,
+impl ScrollingTable {
+    /// What a screen of some rows and columns holds at first.
+    pub fn new(alloc: Global, rows: usize, width: usize, entry: Entry) -> Result<Self, AllocError>
+        requires { 0 < width }
+    {
+        Ok(ScrollingTable {
+            table: Table::new(alloc, rows, width, entry)?,
             rows,
             is_known: true,
         })
     }
 
-    /// Plays a batch, and answers how many cells differ from what they are to hold, as a stage without a bottom
-    /// does. Behind a painting that has more rows than the screen nothing is known until the screen is cleared.
-    pub fn take(
-        &mut self,
-        batch: &[Change],
-        column: Option<usize>,
-    ) -> Result<Option<usize>, anyhow::Error> {
-        play(&mut self.screen, batch)?;
+    /// What the screen is to hold, or none behind a painting that has more rows than it, until it is cleared.
+    pub fn known(&self) -> Option<&Table> {
+        if self.is_known {
+            Some(&self.table)
+        } else {
+            None
+        }
+    }
+
+    /// Plays a batch, where the host gives this column of the cursor, if any. It answers false for one of no known
+    /// form, and leaves all as it was.
+    pub fn take(&mut self, batch: &[Change], column: Option<usize>) -> bool {
         match Batch::read(batch) {
             Batch::Clears => {
                 self.table.clear();
@@ -94,9 +92,9 @@ impl ScrollingStage {
             }
             Batch::Paints(texts) => self.paint(&texts, column),
             Batch::Closes => self.close(),
-            Batch::Unknown => return Ok(Some(1)),
+            Batch::Unknown => return false,
         }
-        Ok(self.is_known.then(|| self.table.differences(&self.screen)))
+        true
     }
 
     /// The texts are painted from the first row on, or from as far above as it needs.
@@ -118,6 +116,45 @@ impl ScrollingStage {
         let row = under.min(self.rows.saturating_sub(1));
         self.table.raise(under.saturating_sub(row));
         self.table.close(row);
+    }
+}
+
+/// A screen of some rows, which scrolls, and beside it what it is to hold.
+#[derive(Drop)]
+pub struct ScrollingStage {
+    screen: ScrollingScreen,
+    table: ScrollingTable,
+}
+
+impl ScrollingStage {
+    /// A screen of some rows and this width, and the table beside it.
+    pub fn new(
+        alloc: Global,
+        rows: usize,
+        width: usize,
+        entry: Entry,
+    ) -> Result<Self, anyhow::Error> {
+        let mut screen = ScrollingScreen::new(alloc, rows, width)?;
+        let table = ScrollingTable::new(alloc, rows, width, entry)?;
+        enter(alloc, rows, width, entry, &mut screen)?;
+        Ok(ScrollingStage { screen, table })
+    }
+
+    /// Plays a batch, and answers how many cells differ from what they are to hold, as a stage without a bottom
+    /// does. Behind a painting that has more rows than the screen nothing is known until the screen is cleared.
+    pub fn take(
+        &mut self,
+        batch: &[Change],
+        column: Option<usize>,
+    ) -> Result<Option<usize>, anyhow::Error> {
+        play(&mut self.screen, batch)?;
+        if !self.table.take(batch, column) {
+            return Ok(Some(1));
+        }
+        match self.table.known() {
+            Some(table) => Ok(Some(table.differences(&self.screen))),
+            None => Ok(None),
+        }
     }
 }
 

@@ -174,6 +174,27 @@ impl Table {
         self.cursor = (row, 0);
     }
 
+    /// How many cells there are.
+    pub fn len(&self) -> usize {
+        self.cells.len()
+    }
+
+    /// Where the cursor is to stand.
+    pub fn cursor(&self) -> (usize, usize) {
+        self.cursor
+    }
+
+    /// What the cell at a row and a column is to hold, under its attributes, or none where it is not compared.
+    pub fn cell(&self, row: usize, col: usize) -> Option<ScreenCell> {
+        if col >= self.width {
+            return None;
+        }
+        match self.cells.get(self.index_of(row, col)) {
+            Some(cell) => Some(cell.shown()),
+            None => None,
+        }
+    }
+
     /// How many cells of the screen hold something else. A cursor that stands elsewhere counts as one more.
     pub fn differences(&self, screen: &impl Shows) -> usize {
         let width = self.width;
