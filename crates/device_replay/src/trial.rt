@@ -1,0 +1,113 @@
+//! What is played.
+
+use crate::keystrokes::keystrokes;
+use fresh_table::{Entry, MarkedHost, Numbers};
+use std::alloc::{AllocError, Global};
+use tw_lineedit::{BasicHistory, History};
+use tw_terminal::ScreenSize;
+
+const PROMPTS: [&str; 5] = ["> ", "> ", "", "sh$ ", "a longer prompt: "];
+
+const PREVIEWS: [&str; 8] = [
+    "",
+    "",
+    "",
+    "ok",
+    "a text that is longer",
+    "abcde\r\n\r\nfg",
+    "abcdef\r\n",
+    "\r\nabc",
+];
+
+const LINES: [&str; 6] = [
+    "git log",
+    "ls",
+    "go",
+    "cat a b",
+    "sed abc dog",
+    "tail log -n 5 of a longer line",
+];
+
+const COLUMNS: [Option<usize>; 8] = [None, None, None, None, None, None, Some(0), Some(19)];
+
+/// The fewest rows and columns of a screen.
+const LEAST: u64 = 2;
+
+const MOST_ROWS: u64 = 30;
+
+const MOST_COLS: u64 = 40;
+
+/// A screen, the host of its editors, and the bytes that come.
+#[derive(Debug, Drop)]
+pub struct Trial {
+    /// The rows and the columns of the screen.
+    pub size: ScreenSize,
+    /// How the screen is at first.
+    pub entry: Entry,
+    /// The prompt.
+    pub prompt: &'static str,
+    /// The column that the host gives in place of the cursor's own.
+    pub column: Option<usize>,
+    /// The bytes of the keys.
+    pub bytes: Vec<u8>,
+    /// How the bytes are cut.
+    pub cuts: Numbers,
+    preview: &'static str,
+    history: Vec<&'static str>,
+}
+
+/// One of the two screens.
+fn entry(numbers: &mut Numbers) -> Entry {
+    if numbers.below(2) == 0 {
+        Entry::Blank
+    } else {
+        Entry::Full
+    }
+}
+
+/// A number from one up to another.
+fn between(numbers: &mut Numbers, from: u64, to: u64) -> usize {
+    let more = numbers.below(to.saturating_sub(from).saturating_add(1));
+    from.saturating_add(more) as usize
+}
+
+fn history(alloc: Global, numbers: &mut Numbers) -> Result<Vec<&'static str>, AllocError> {
+    let mut lines = Vec::new(alloc);
+    for _ in 0..numbers.below(6) {
+        lines.push(numbers.pick(&LINES, ""))?;
+    }
+    Ok(lines)
+}
+
+impl Trial {
+    /// The next trial.
+    pub fn generate(alloc: Global, numbers: &mut Numbers) -> Result<Self, AllocError> {
+        let size = ScreenSize {
+            rows: between(numbers, LEAST, MOST_ROWS),
+            cols: between(numbers, LEAST, MOST_COLS),
+        };
+        let count = numbers.below(36).saturating_add(5);
+        Ok(Trial {
+            size,
+            entry: entry(numbers),
+            prompt: numbers.pick(&PROMPTS, ""),
+            column: numbers.pick(&COLUMNS, None),
+            bytes: keystrokes(alloc, numbers, count)?,
+            cuts: Numbers::new(numbers.number() | 1),
+            preview: numbers.pick(&PREVIEWS, ""),
+            history: history(alloc, numbers)?,
+        })
+    }
+
+    /// The host of an editor, with two candidates.
+    pub fn host(&self, alloc: Global) -> Result<MarkedHost<BasicHistory>, AllocError> {
+        let mut history = BasicHistory::new(alloc);
+        for line in &self.history {
+            history.add(line)?;
+        }
+        let mut host = MarkedHost::new(alloc, history, self.preview, self.column)?;
+        host.offer(alloc, 0..0, "let ")?;
+        host.offer(alloc, 0..0, "a longer candidate ")?;
+        Ok(host)
+    }
+}
