@@ -7,8 +7,8 @@ const LETTERS: [&[u8]; 16] = [
     b"a", b"b", b"c", b"d", b"e", b"g", b"i", b"l", b"o", b"s", b"t", b" ", b" ", b"a", b"0", b"~",
 ];
 
-/// Keys as terminals send them: the arrows in their two modes, Home and End, Backspace and Delete, the keys of words, Tab,
-/// the searches, the history, and sequences that mean nothing.
+/// Keys as terminals send them: the arrows in their two modes, Home and End, Backspace and Delete, the keys of words,
+/// Tab, the searches, the history, and sequences that mean nothing.
 const COMMANDS: [&[u8]; 34] = [
     b"\x1b[D",
     b"\x1b[D",

@@ -37,8 +37,9 @@ enum Reading {
     Parameters(Vec<u8>),
 }
 
-/// A terminal after ECMA-48: its cells, its cursor, the attributes that are selected, and how far a control sequence was
-/// read. Rows and columns are numbered from 0.
+/// A terminal after ECMA-48: its cells, its cursor, the attributes that are selected, and how far a control sequence
+/// was read. Rows and columns are numbered from 0. It holds what the small terminal of the definitions of `tw_ansi`
+/// holds.
 #[derive(Debug, Drop)]
 pub struct EcmaTerminal {
     alloc: Global,
@@ -69,8 +70,8 @@ fn told_steps(number: usize) -> usize
 }
 
 impl EcmaTerminal {
-    /// A terminal of 1 to 65,535 rows and columns, each cell of which holds the one given. The cursor stands at (0, 0), and
-    /// the default attributes are selected.
+    /// A terminal of 1 to 65,535 rows and columns, each cell of which holds the one given. The cursor stands at (0, 0),
+    /// and the default attributes are selected.
     pub fn new(alloc: Global, rows: usize, cols: usize, cell: ScreenCell) -> Result<Self, EcmaFault>
         ensures ok { IfOk result (λ terminal. IsNew rows cols (styled_cell cell) terminal) }
         ensures err { IfErr result (λ fault. fault ≡ EcmaFault.Size ⊎ fault ≡ EcmaFault.Memory) }
@@ -285,7 +286,7 @@ impl EcmaTerminal {
     }
 
     /// Receives a byte. It takes memory for a parameter alone, and a byte is refused for a colour where it ends an SGR
-    /// sequence with a number of a colour above 255. One that is refused leaves the terminal as it was.
+    /// sequence in which a number of a colour is above 255. One that is refused leaves the terminal as it was.
     pub fn receive(&mut self, byte: u8) -> Result<(), EcmaFault>
         ensures ok { OnOk result (Becomes self.old (receive styled self.old.grid.rows self.old.grid.cols byte) self.new) }
         ensures err { OnErr result (self.new ≡ self.old) }
