@@ -6,7 +6,7 @@ use Rattle.std.proofs.lemmas.Bool.{cases_Bool}
 use Rattle.tw_surface.specs.declared.cell.CellAttributes.{CellAttributes}
 use Rattle.tw_ansi.specs.KeyBytes.{is_semicolon}
 use Rattle.tw_ansi.specs.Selections.{Selection, fields, onto_first, select, selected_by}
-use Rattle.ecma_terminal.specs.Colors.{fits, all_fit}
+use Rattle.ecma_terminal.specs.Colors.{fits_awaited, all_fit}
 
 -- ---- the first parameter
 
@@ -50,23 +50,23 @@ fields_more (b ∷ bytes) at x more e split = elim (cases_Bool (eqb b 59)) [
 abbrev pub outcome : List (List ℕ) → Selection → Option CellAttributes
 outcome fs s = if all_fit fs s then Some (selected_by fs s).attributes else None
 
-pub outcome_more : (field : List ℕ) (more : List (List ℕ)) (s next : Selection) → fits s.awaited field ≡ true → next ≡ select s.awaited field s.attributes
+pub outcome_more : (field : List ℕ) (more : List (List ℕ)) (s next : Selection) → fits_awaited s.awaited field ≡ true → next ≡ select s.awaited field s.attributes
     → outcome (field ∷ more) s ≡ outcome more next
 outcome_more field more s next fit e =
     ap (λ b. if b && all_fit more (select s.awaited field s.attributes) then Some (selected_by more (select s.awaited field s.attributes)).attributes else None) fit
     ∙ ap (outcome more) (sym e)
 
-pub outcome_none : (field : List ℕ) (more : List (List ℕ)) (s : Selection) → fits s.awaited field ≡ false → outcome (field ∷ more) s ≡ None
+pub outcome_none : (field : List ℕ) (more : List (List ℕ)) (s : Selection) → fits_awaited s.awaited field ≡ false → outcome (field ∷ more) s ≡ None
 outcome_none field more s fit =
     ap (λ b. if b && all_fit more (select s.awaited field s.attributes) then Some (selected_by more (select s.awaited field s.attributes)).attributes else None) fit
 
 -- none are told where the first parameter does not fit, whether others stand behind it or not
 pub outcome_refused : {A : Type 0} (view : A → List ℕ) (Q : A → Type 0) (more : Option A) (bytes field : List ℕ) (s : Selection)
-    → MatchOption more (fields bytes ≡ field ∷ []) (λ m. (fields bytes ≡ field ∷ fields (view m)) × Q m) → fits s.awaited field ≡ false → outcome (fields bytes) s ≡ None
+    → MatchOption more (fields bytes ≡ field ∷ []) (λ m. (fields bytes ≡ field ∷ fields (view m)) × Q m) → fits_awaited s.awaited field ≡ false → outcome (fields bytes) s ≡ None
 outcome_refused view Q None bytes field s parts fit = ap (λ fs. outcome fs s) parts ∙ outcome_none field [] s fit
 outcome_refused view Q (Some m) bytes field s parts fit = ap (λ fs. outcome fs s) parts.0 ∙ outcome_none field (fields (view m)) s fit
 
 -- one parameter was taken
-pub outcome_taken : (bytes field : List ℕ) (more : List (List ℕ)) (s next : Selection) → fields bytes ≡ field ∷ more → fits s.awaited field ≡ true
+pub outcome_taken : (bytes field : List ℕ) (more : List (List ℕ)) (s next : Selection) → fields bytes ≡ field ∷ more → fits_awaited s.awaited field ≡ true
     → next ≡ select s.awaited field s.attributes → outcome (fields bytes) s ≡ outcome more next
 outcome_taken bytes field more s next parts fit e = ap (λ fs. outcome fs s) parts ∙ outcome_more field more s next fit e

@@ -16,14 +16,14 @@ use Rattle.ecma_terminal.specs.declared.rendition.Numbers.TheVariants as numbers
 use Rattle.ecma_terminal.specs.declared.rendition.Selection as selection
 
 -- a parameter that is a number of a colour is below 256
-abbrev pub fits : Awaited → List ℕ → Bool
-fits NoColor field = true
-fits (Color kind numbers) field = ltb (value_after 0 field) 256
+abbrev pub fits_awaited : Awaited → List ℕ → Bool
+fits_awaited NoColor field = true
+fits_awaited (Color kind numbers) field = ltb (value_after 0 field) 256
 
 -- so are all numbers of colours among some parameters, behind what was selected so far
 abbrev pub all_fit : List (List ℕ) → Selection → Bool
 all_fit [] s = true
-all_fit (field ∷ more) s = fits s.awaited field && all_fit more (select s.awaited field s.attributes)
+all_fit (field ∷ more) s = fits_awaited s.awaited field && all_fit more (select s.awaited field s.attributes)
 
 -- so are all among the parameters of an SGR sequence
 abbrev pub colors_fit : List ℕ → CellAttributes → Bool

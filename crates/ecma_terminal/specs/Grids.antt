@@ -20,12 +20,12 @@ pub record IsGrid (grid : GridView) : Type 0 where
   pub all : length grid.cells ≡ grid.rows * grid.cols
 
 -- the cell at a row and a column
-abbrev pub cell_in : GridView → ℕ → ℕ → ScreenCell
-cell_in grid r c = slice_index_or grid.cells (r * grid.cols + c) (paper_cell default_color)
+abbrev pub grid_cell : GridView → ℕ → ℕ → ScreenCell
+grid_cell grid r c = slice_index_or grid.cells (r * grid.cols + c) (paper_cell default_color)
 
 -- a grid shows cells in its rows and columns
 abbrev pub ShowsCells : GridView → (ℕ → ℕ → StyledCell) → Type 0
-ShowsCells grid cell = (r c : ℕ) → r < grid.rows → c < grid.cols → cell r c ≡ styled_cell (cell_in grid r c)
+ShowsCells grid cell = (r c : ℕ) → r < grid.rows → c < grid.cols → cell r c ≡ styled_cell (grid_cell grid r c)
 
 -- a grid of so many rows and columns that shows one cell everywhere
 pub record IsFilledWith (h w : ℕ) (x : StyledCell) (grid : GridView) : Type 0 where

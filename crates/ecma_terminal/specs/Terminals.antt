@@ -59,14 +59,14 @@ pub record IsNew (rows cols : ℕ) (x : StyledCell) (view : TerminalView) : Type
   pub reading : view.reading ≡ Text
 
 -- a byte is one more parameter
-abbrev pub is_kept : Reading → ℕ → Bool
-is_kept Text byte = false
-is_kept Escaped byte = false
-is_kept (Parameters parameters) byte = is_parameter byte
+abbrev pub is_added_to : Reading → ℕ → Bool
+is_added_to Text byte = false
+is_added_to Escaped byte = false
+is_added_to (Parameters parameters) byte = is_parameter byte
 
 -- so it takes memory
 abbrev pub takes_memory : TerminalView → ℕ → Bool
-takes_memory view byte = is_kept view.reading byte
+takes_memory view byte = is_added_to view.reading byte
 
 -- a byte ends an SGR sequence with a number of a colour above 255
 abbrev pub ends_large : Reading → ℕ → CellAttributes → Bool

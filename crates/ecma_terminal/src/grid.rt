@@ -4,7 +4,7 @@ ghost use Rattle.std.specs.Prelude.{◌≡◌, ◌<◌, ◌≤◌, None, Some, l
 ghost use Rattle.tw_strokes.specs.Strokes.{put_in, cleared_in};
 ghost use Rattle.tw_ansi.specs.EcmaScreen.{row_cleared};
 ghost use Rattle.styled_screen.specs.StyledScreens.{styled_cell};
-ghost use Rattle.ecma_terminal.specs.Grids.{AreFilled, AreShifted, IsFilledWith, Redraws, cell_in, raised_rows};
+ghost use Rattle.ecma_terminal.specs.Grids.{AreFilled, AreShifted, IsFilledWith, Redraws, grid_cell, raised_rows};
 
 use std::alloc::{AllocError, Global};
 use std::marker::Model;
@@ -90,7 +90,7 @@ impl Grid {
 
     /// The cell at a row and a column, or none behind the last ones.
     pub(crate) fn cell(&self, row: usize, col: usize) -> Option<ScreenCell>
-        ensures inside { row < self.now.rows → col < self.now.cols → result ≡ Some (cell_in self.now row col) }
+        ensures inside { row < self.now.rows → col < self.now.cols → result ≡ Some (grid_cell self.now row col) }
         ensures below { self.now.rows ≤ row → result ≡ None }
         ensures behind { self.now.cols ≤ col → result ≡ None }
     {

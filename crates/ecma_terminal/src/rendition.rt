@@ -6,7 +6,7 @@ ghost use Rattle.tw_surface.specs.declared.cell.CellAttributes.{CellAttributes};
 ghost use Rattle.tw_surface.specs.Attributes.{with_attribute};
 ghost use Rattle.tw_ansi.specs.KeyBytes.{is_semicolon};
 ghost use Rattle.tw_ansi.specs.Selections.{colored, fields, select, selects, underlined, NoColor, Color};
-ghost use Rattle.ecma_terminal.specs.Colors.{fits, kind_of, numbers_in, selection_of, changed_by, selected_if_fit};
+ghost use Rattle.ecma_terminal.specs.Colors.{fits_awaited, kind_of, numbers_in, selection_of, changed_by, selected_if_fit};
 
 use crate::number::{byte_of, number_of};
 use tw_surface::{AttributeChange, Blink, CellAttributes, ColorAttribute, Intensity, Underline};
@@ -241,8 +241,8 @@ fn colored(ground: Ground, numbers: Numbers, next: u8, attributes: CellAttribute
 
 /// One more parameter, or none where it is a number of a colour above 255.
 fn select(selection: Selection, field: &[u8]) -> Option<Selection>
-    ensures { let s = selection_of selection in MatchOption result (fits s.awaited field.now ≡ false)
-        (λ next. (fits s.awaited field.now ≡ true) × (selection_of next ≡ select s.awaited field.now s.attributes)) }
+    ensures { let s = selection_of selection in MatchOption result (fits_awaited s.awaited field.now ≡ false)
+        (λ next. (fits_awaited s.awaited field.now ≡ true) × (selection_of next ≡ select s.awaited field.now s.attributes)) }
 {
     match selection.awaited {
         Awaited::Nothing => Some(begun(field, selection.attributes)),

@@ -7,7 +7,7 @@ ghost use Rattle.tw_ansi.specs.EcmaScreen.{act, act_by, feed_line, receive, rece
 ghost use Rattle.tw_ansi.specs.EcmaScreen as terminal;
 ghost use Rattle.tw_ansi.specs.KeyBytes.{is_parameter};
 ghost use Rattle.styled_screen.specs.StyledScreens.{styled_cell};
-ghost use Rattle.ecma_terminal.specs.Grids.{cell_in};
+ghost use Rattle.ecma_terminal.specs.Grids.{grid_cell};
 ghost use Rattle.ecma_terminal.specs.Colors.{ends_in_large};
 ghost use Rattle.ecma_terminal.specs.Terminals.{Becomes, HasNoSize, IsNew, IsRefusedFor, StopsWithin, is_too_large, takes_memory, wrapped};
 
@@ -107,7 +107,7 @@ impl EcmaTerminal {
 
     /// What stands at a row and a column, or none behind the last ones.
     pub fn cell(&self, row: usize, col: usize) -> Option<ScreenCell>
-        ensures inside { row < self.now.grid.rows → col < self.now.grid.cols → result ≡ Some (cell_in self.now.grid row col) }
+        ensures inside { row < self.now.grid.rows → col < self.now.grid.cols → result ≡ Some (grid_cell self.now.grid row col) }
         ensures below { self.now.grid.rows ≤ row → result ≡ None }
         ensures behind { self.now.grid.cols ≤ col → result ≡ None }
     {
