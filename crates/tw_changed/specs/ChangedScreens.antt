@@ -18,6 +18,10 @@ use Rattle.tw_changed.specs.Redrawings.{redrawn}
 abbrev pub AreByBytes : CellAttributes → Type 0
 AreByBytes a = IsColor a.foreground × IsColor a.background
 
+-- so are those of the cells of w columns and of these rows
+abbrev pub AreAllByBytes : ℕ → ℕ → (ℕ → ℕ → StyledCell) → Type 0
+AreAllByBytes w rows cells = (i j : ℕ) → i < rows → j < w → AreByBytes (cells i j).attributes
+
 -- a printable character under such attributes
 abbrev pub IsInk : StyledCell → Type 0
 IsInk x = (is_printable x.ch ≡ true) × AreByBytes x.attributes

@@ -1,11 +1,13 @@
 //! Where two screens differ.
 
-ghost use Rattle.std.specs.Prelude.{◌≡◌, ◌<◌, ◌≤◌, ◌*◌, IfSome, true, false};
+ghost use Rattle.std.specs.Prelude.{◌≡◌, ℕ, ◌<◌, ◌≤◌, ◌*◌, IfSome, true, false};
 ghost use Rattle.styled_screen.specs.StyledScreens.{styled_cell};
+ghost use Rattle.tw_changed.specs.ChangedScreens.{AreByBytes, AreAllByBytes};
 ghost use Rattle.tw_changed.specs.Differences.{differ_in, first_changed, last_changed, is_used, end_of};
 ghost use Rattle.tw_changed.specs.Redrawings.{left_of, rest_of};
 ghost use Rattle.tw_changed.specs.Sending.{ArePrintable, IsPrintable, screen_cells};
 
+use crate::laws::colors;
 use styled_screen::{ScreenCell, StyledScreen};
 use tw_surface::ColorAttribute;
 
@@ -132,19 +134,23 @@ pub fn rest_of(old: &StyledScreen, new: &StyledScreen, rows: usize) -> Option<us
 fn is_printable_row(screen: &StyledScreen, row: usize) -> bool
     ensures yes { result ≡ true → ArePrintable screen.now.width (screen_cells screen.now row) }
     ensures no { result ≡ false → ArePrintable screen.now.width (screen_cells screen.now row) → ⊥ }
+    ensures colors { result ≡ true → (j : ℕ) → j < screen.now.width → AreByBytes (screen_cells screen.now row j).attributes }
 {
     for col in 0..screen.width() {
-        if !(' '..='~').contains(&cell_at(screen, row, col).character) {
+        let cell = cell_at(screen, row, col);
+        if !(' '..='~').contains(&cell.character) {
             return false;
         }
+        colors(cell.attributes);
     }
     true
 }
 
-/// Whether the cells of the first rows are printable characters.
+/// Whether the cells of the first rows are printable characters. Their colours are by bytes.
 pub fn is_printable(screen: &StyledScreen, rows: usize) -> bool
     ensures yes { result ≡ true → IsPrintable rows screen.now }
     ensures no { result ≡ false → IsPrintable rows screen.now → ⊥ }
+    ensures colors { result ≡ true → AreAllByBytes screen.now.width rows (screen_cells screen.now) }
 {
     for row in 0..rows {
         if !is_printable_row(screen, row) {
