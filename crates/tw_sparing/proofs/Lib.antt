@@ -1,2 +1,7 @@
-pub mod DrawnBatches
+pub mod PlayedBatches
 pub mod CutScreens
+pub mod TypedPictures
+pub mod SpannedPictures
+pub mod PlayedPictures
+pub mod StandingScreens
+pub mod KnownScreens

@@ -1,14 +1,46 @@
 -- What a terminal shows, as far as it is known.
-use Rattle.std.specs.Prelude.{◌≡◌, ◌≤◌, ◌<◌, ◌-◌, ◌⊎◌, ℕ, Option, Some, None, ◌∷◌}
+use Rattle.std.specs.Prelude.{◌≡◌, ◌≤◌, ◌<◌, ◌+◌, ◌-◌, ◌⊎◌, ℕ, pos, negsuc, max, true, Option, Some, None, [], ◌∷◌, ⊤}
+use Rattle.std.specs.List.{list_all}
+use Rattle.tw_surface.specs.declared.cell.CellAttributes.{CellAttributes}
 use Rattle.tw_surface.specs.declared.change.Position.{Position}
-use Rattle.tw_surface.specs.declared.change.Position.TheVariants.{Absolute}
-use Rattle.tw_surface.specs.ChangeView.{Batch, CursorPosition}
+use Rattle.tw_surface.specs.declared.change.Position.TheVariants.{Absolute, Relative}
+use Rattle.tw_surface.specs.Characters.{is_plain}
+use Rattle.tw_surface.specs.Defaults.{default_color}
+use Rattle.tw_surface.specs.ChangeView.{ChangeView, Batch}
+use Rattle.tw_surface.specs.ChangeView.{Attribute, AllAttributes, Text, ClearScreen, ClearToEndOfScreen, CursorPosition}
 use Rattle.tw_surface.specs.Simple.{spelled_all}
 use Rattle.tw_screens.specs.Pens.{strokes_of, kept_after_all}
 use Rattle.tw_screens.specs.StyledCells.{styled}
+use Rattle.tw_ansi.specs.EcmaLaws.{IsAttribute}
+use Rattle.tw_ansi.specs.Sequences.{most_rows}
 use Rattle.styled_screen.specs.StyledScreens.{StyledView, AreDrawn, blank_styled, without_rows}
+use Rattle.tw_changed.specs.ChangedScreens.{AreByBytes, AreAllByBytes}
 use Rattle.tw_changed.specs.Sending.{IsPrintable, screen_cells, changes_between}
 use Rattle.tw_sparing.specs.declared.shown.Shown.{Shown}
+
+-- ---- what is known
+
+-- an empty screen, of which a terminal shows the first row
+abbrev pub first_shown : ℕ → Shown
+first_shown cols = record { screen = blank_styled cols; reached = 1 }
+
+-- the rows that have left a terminal of so many rows
+abbrev pub left_behind : ℕ → Shown → ℕ
+left_behind rows shown = shown.reached - rows
+
+-- a screen of no more rows than can be told, on a terminal of no more, with its cursor in one of its columns and in one of the last rows that it has
+-- reached, and printable characters under colours by bytes in its cells
+pub record FitsTerminal (rows : ℕ) (shown : Shown) : Type 0 where
+  pub tall : rows ≤ most_rows
+  pub most : shown.reached ≤ 65535
+  pub row : shown.reached - rows ≤ shown.screen.row
+  pub low : shown.screen.row < shown.reached
+  pub col : shown.screen.col < shown.screen.width
+  pub printable : IsPrintable shown.reached shown.screen
+  pub colors : AreAllByBytes shown.screen.width shown.reached (screen_cells shown.screen)
+  pub kept : AreByBytes shown.screen.kept
+
+-- ---- what is drawn on it
 
 -- a batch was drawn on a screen: its cells and cursor, and its attributes
 pub record IsDrawn (batch : Batch) (old new : StyledView) : Type 0 where
@@ -16,26 +48,62 @@ pub record IsDrawn (batch : Batch) (old new : StyledView) : Type 0 where
   pub drawn : AreDrawn old (strokes_of styled old.kept (spelled_all batch)) new
   pub kept : new.kept ≡ kept_after_all styled old.kept batch
 
--- a screen of no more rows than can be told, with its cursor in one of its columns and in one of the last rows that it has reached, and printable
--- characters in its cells
-pub record FitsTerminal (rows : ℕ) (shown : Shown) : Type 0 where
-  pub most : shown.reached ≤ 65535
-  pub row : shown.reached - rows ≤ shown.screen.row
-  pub col : shown.screen.col < shown.screen.width
-  pub printable : IsPrintable shown.reached shown.screen
+-- a move to a row of those that are in sight, so many of them above the cursor
+abbrev pub IsInSight : ℕ → Position → Type 0
+IsInSight above (Absolute row) = ⊥
+IsInSight above (Relative (pos n)) = ⊤
+IsInSight above (Relative (negsuc n)) = n < above
+
+-- a change that does on a terminal of so many rows what it does on a screen without a bottom: a plain text, attributes, a move in sight, and a
+-- clearing to blanks from a cursor on that does not wait behind the last column
+abbrev pub IsPlayable : ℕ → Shown → ChangeView → Type 0
+IsPlayable rows shown (Text text) = list_all is_plain text ≡ true
+IsPlayable rows shown (Attribute change) = IsAttribute change
+IsPlayable rows shown (AllAttributes to) = AreByBytes to
+IsPlayable rows shown (ClearScreen color) = ⊥
+IsPlayable rows shown (ClearToEndOfScreen color) = (color ≡ default_color) × (shown.screen.col < shown.screen.width)
+IsPlayable rows shown (CursorPosition x y) = IsInSight (shown.screen.row - left_behind rows shown) y
+
+-- such a change was drawn, and the row of the cursor is reached
+pub record IsPlayedOnce (rows : ℕ) (change : ChangeView) (old new : Shown) : Type 0 where
+  pub playable : IsPlayable rows old change
+  pub drawn : IsDrawn (change ∷ []) old.screen new.screen
+  pub reached : new.reached ≡ max old.reached (new.screen.row + 1)
+
+-- the changes of a batch were played, one after the other
+abbrev pub IsPlayed : ℕ → Batch → Shown → Shown → Type 0
+IsPlayed rows [] old new = new ≡ old
+IsPlayed rows (change ∷ changes) old new = (between : Shown) × IsPlayedOnce rows change old between × IsPlayed rows changes between new
 
 -- the first rows of two screens show the same, and the cursor of the old one is behind them
 pub record KeepsAbove (top : ℕ) (old new : StyledView) : Type 0 where
   pub row : top ≤ old.row
   pub cell : (i j : ℕ) → i < top → j < new.width → screen_cells old i j ≡ screen_cells new i j
 
--- a batch that begins in column 0, behind a move to that column or not
-abbrev pub IsBegunBy : Batch → Batch → Type 0
-IsBegunBy batch rest = (batch ≡ rest) ⊎ ((y : Position) × (batch ≡ CursorPosition (Absolute 0) y ∷ rest))
+-- a change that sets all attributes
+abbrev pub SetsAttributes : ChangeView → Type 0
+SetsAttributes (Text text) = ⊥
+SetsAttributes (Attribute change) = ⊥
+SetsAttributes (AllAttributes to) = ⊤
+SetsAttributes (ClearScreen color) = ⊥
+SetsAttributes (ClearToEndOfScreen color) = ⊥
+SetsAttributes (CursorPosition x y) = ⊥
 
--- the rows that have left a terminal of so many rows
-abbrev pub left_behind : ℕ → Shown → ℕ
-left_behind rows shown = shown.reached - rows
+-- a batch that empties what stands from the cursor on, and then sets all attributes
+abbrev pub Empties : Batch → Type 0
+Empties batch = (second : ChangeView) × (rest : Batch) × SetsAttributes second × (batch ≡ ClearToEndOfScreen default_color ∷ second ∷ rest)
+
+-- a move by rows that leads as far at any terminal
+abbrev pub IsNear : Position → Type 0
+IsNear (Absolute row) = ⊥
+IsNear (Relative (pos n)) = n ≤ most_rows
+IsNear (Relative (negsuc n)) = n < most_rows
+
+-- a batch that empties what stands from column 0 on, behind a move to that column or not
+abbrev pub IsBegunBy : Batch → Batch → Type 0
+IsBegunBy batch rest = Empties rest × ((batch ≡ rest) ⊎ ((y : Position) × IsNear y × (batch ≡ CursorPosition (Absolute 0) y ∷ rest)))
+
+-- ---- what is sent for it
 
 -- what differs below the rows that have left the terminal
 abbrev pub changes_below : ℕ → Shown → Shown → Batch
@@ -47,9 +115,9 @@ sent_for rows batch None new = batch
 sent_for rows batch (Some old) None = batch
 sent_for rows batch (Some old) (Some new) = changes_below (left_behind rows new) old new
 
--- what is known after a batch: on what was known before the batch was drawn, or else on an empty screen what came behind its beginning
+-- what is known after a batch: on what was known before the batch was played, or else on an empty screen what came behind its beginning
 abbrev pub IsKnownAfter : ℕ → ℕ → Batch → Option Shown → Option Shown → Type 0
 IsKnownAfter cols rows batch old None = Unit {0}
 IsKnownAfter cols rows batch (Some old) (Some new) =
-    FitsTerminal rows new × (old.reached ≤ new.reached) × IsDrawn batch old.screen new.screen × KeepsAbove (left_behind rows new) old.screen new.screen
-IsKnownAfter cols rows batch None (Some new) = FitsTerminal rows new × ((rest : Batch) × IsBegunBy batch rest × IsDrawn rest (blank_styled cols) new.screen)
+    FitsTerminal rows new × IsPlayed rows batch old new × KeepsAbove (left_behind rows new) old.screen new.screen
+IsKnownAfter cols rows batch None (Some new) = FitsTerminal rows new × ((rest : Batch) × IsBegunBy batch rest × IsPlayed rows rest (first_shown cols) new)

@@ -3,6 +3,7 @@
 //! `shown` has what a terminal shows, as far as it is known, and `terminal` the terminal over a writer.
 #![tactic(auto)]
 
+pub mod laws;
 mod shown;
 mod terminal;
 

@@ -1,20 +1,21 @@
 //! What a terminal shows, as far as it is known.
 
-ghost use Rattle.std.specs.Prelude.{◌≡◌, ◌≤◌, ◌<◌, ◌++◌, ℕ, [], ◌∷◌, true, IfOk, IfSome, OnOk, Some, string_bytes};
+ghost use Rattle.std.specs.Prelude.{◌≡◌, ◌≤◌, ◌<◌, ◌++◌, ℕ, true, IfOk, IfSome, OnOk, Some, string_bytes};
 ghost use Rattle.tw_ansi.specs.Encoding.{sent_batch};
-ghost use Rattle.tw_surface.specs.ChangeView.{batch_view, change_view};
-ghost use Rattle.styled_screen.specs.StyledScreens.{blank_styled};
+ghost use Rattle.tw_surface.specs.ChangeView.{ClearToEndOfScreen, batch_view, change_view};
+ghost use Rattle.tw_surface.specs.Defaults.{default_color};
 ghost use Rattle.tw_changed.specs.Sending.{IsPrintable, screen_cells};
-ghost use Rattle.tw_sparing.specs.Shown.{changes_below, IsBegunBy, IsDrawn, FitsTerminal, IsKnownAfter, KeepsAbove};
+ghost use Rattle.tw_sparing.specs.Shown.{changes_below, first_shown, Empties, IsBegunBy, FitsTerminal, IsInSight, IsKnownAfter, IsNear, IsPlayable, IsPlayed, IsPlayedOnce, KeepsAbove, SetsAttributes};
 
 use std::alloc::{AllocError, Global};
 use styled_screen::StyledScreen;
 use tw_ansi::Encoder;
+use tw_changed::laws::{attribute, colors};
 use tw_changed::{cell_at, is_printable, send_changed};
-use tw_surface::{Change, ColorAttribute, Position};
+use tw_surface::{Change, ColorAttribute, Position, is_plain_text};
 use tw_terminal::ScreenSize;
 
-/// The most rows that a move leads.
+/// The most rows of a terminal and of what it shows: a move leads no further.
 const MOST_ROWS: usize = 65_535;
 
 /// A screen without a bottom, whose first row is the one from which on the terminal was last emptied, and how many of
@@ -28,7 +29,7 @@ pub struct Shown {
 impl Shown {
     /// An empty screen. Where it has no column, or too many, it is not known what is shown.
     fn empty(alloc: Global, cols: usize) -> Option<Self>
-        ensures { IfSome result (λ shown. shown.screen ≡ blank_styled cols) }
+        ensures { IfSome result (λ shown. shown ≡ first_shown cols) }
     {
         match StyledScreen::new(alloc, cols) {
             Ok(screen) => Some(Shown { screen, reached: 1 }),
@@ -36,15 +37,37 @@ impl Shown {
         }
     }
 
-    /// Plays a change. It answers false where it is not known what the terminal shows then: where the cursor would go above
-    /// the last rows that it has reached.
-    fn play(&mut self, change: &Change, rows: usize) -> bool
-        ensures drawn { result ≡ true → IsDrawn (change_view change.now ∷ []) self.old.screen self.new.screen }
-        ensures reached { self.old.reached ≤ self.new.reached }
+    /// Whether a change does on a terminal of so many rows what it does on this screen: a plain text, attributes, a relative
+    /// move to one of the rows that are in sight, and a clearing that leaves blanks, where the cursor does not wait.
+    fn is_playable(&self, change: &Change, rows: usize) -> bool
+        ensures { result ≡ true → IsPlayable rows self.now (change_view change.now) }
     {
-        let (row, _) = self.screen.cursor();
-        let above = row.saturating_sub(self.reached.saturating_sub(rows));
-        if !is_playable(change, above) || self.screen.apply(change).is_err() {
+        let (row, col) = self.screen.cursor();
+        match change {
+            Change::Text(text) => is_plain_text(text.as_bytes()),
+            Change::CursorPosition { x: _, y } => {
+                is_in_sight(*y, row.saturating_sub(self.reached.saturating_sub(rows)))
+            }
+            Change::ClearToEndOfScreen(color) => {
+                *color == ColorAttribute::Default && col < self.screen.width()
+            }
+            Change::ClearScreen(_) => false,
+            Change::Attribute(change) => {
+                attribute(*change);
+                true
+            }
+            Change::AllAttributes(attributes) => {
+                colors(*attributes);
+                true
+            }
+        }
+    }
+
+    /// Plays a change. It answers false where it is not known what the terminal shows then.
+    fn play(&mut self, change: &Change, rows: usize) -> bool
+        ensures { result ≡ true → IsPlayedOnce rows (change_view change.now) self.old self.new }
+    {
+        if !self.is_playable(change, rows) || self.screen.apply(change).is_err() {
             return false;
         }
         let (row, _) = self.screen.cursor();
@@ -54,8 +77,7 @@ impl Shown {
 
     /// Plays a batch. It answers false where it is not known what the terminal shows then.
     fn play_all(&mut self, changes: &[Change], rows: usize) -> bool
-        ensures drawn { result ≡ true → IsDrawn (batch_view changes.now) self.old.screen self.new.screen }
-        ensures reached { self.old.reached ≤ self.new.reached }
+        ensures { result ≡ true → IsPlayed rows (batch_view changes.now) self.old self.new }
     {
         for change in changes {
             if !self.play(change, rows) {
@@ -65,14 +87,17 @@ impl Shown {
         true
     }
 
-    /// Whether its cursor stands in a column and in one of the last rows that it has reached, and its cells hold printable
-    /// characters.
+    /// Whether it is shown by a terminal of so many rows: its cursor stands in a column and in one of the last rows that it
+    /// has reached, and its cells hold printable characters.
     fn is_fit(&self, rows: usize) -> bool
         ensures { result ≡ true → FitsTerminal rows self.now }
     {
         let (row, col) = self.screen.cursor();
-        self.reached <= MOST_ROWS
+        colors(self.screen.attributes());
+        rows <= MOST_ROWS
+            && self.reached <= MOST_ROWS
             && self.reached.saturating_sub(rows) <= row
+            && row < self.reached
             && col < self.screen.width()
             && is_printable(&self.screen, self.reached)
     }
@@ -88,7 +113,7 @@ impl Shown {
             screen,
             reached: self.reached,
         };
-        if !next.play_all(changes, usize::MAX) || !next.is_fit(rows) {
+        if !next.play_all(changes, rows) || !next.is_fit(rows) {
             return None;
         }
         let top = next.reached.saturating_sub(rows);
@@ -129,30 +154,54 @@ fn is_same_above(old: &StyledScreen, new: &StyledScreen, top: usize) -> bool
     true
 }
 
-/// Whether it is known what a change does to a terminal with so many known rows above its cursor: a plain text, a clearing
-/// that leaves blanks from the cursor on, attributes, and a relative move to one of the rows that are known.
-fn is_playable(change: &Change, above: usize) -> bool {
-    match change {
-        Change::Text(text) => text.as_bytes().iter().all(|byte| *byte == b'\r'
-            || *byte == b'\n'
-            || (0x20..=0x7e).contains(byte)),
-        Change::CursorPosition {
-            x: _,
-            y: Position::Relative(by),
-        } => *by >= 0 || by.unsigned_abs() <= above,
-        Change::CursorPosition { x: _, y: _ } => false,
-        Change::ClearToEndOfScreen(color) => *color == ColorAttribute::Default,
-        Change::ClearScreen(_) => false,
-        Change::Attribute(_) | Change::AllAttributes(_) => true,
+/// Whether a position is a row that is in sight, with so many rows above the cursor.
+fn is_in_sight(position: Position, above: usize) -> bool
+    ensures { result ≡ true → IsInSight above position }
+{
+    match position {
+        Position::Absolute(_) => false,
+        Position::Relative(by) => by >= 0 || by.unsigned_abs() <= above,
     }
 }
 
-/// Whether a batch empties the terminal from its cursor on, and sets all attributes.
-fn empties(changes: &[Change]) -> bool {
-    matches!(
-        changes,
-        [Change::ClearToEndOfScreen(_), Change::AllAttributes(_), ..]
-    )
+/// Whether a change empties what stands from the cursor on.
+fn is_emptying(change: &Change) -> bool
+    ensures { result ≡ true → change_view change.now ≡ ClearToEndOfScreen default_color }
+{
+    match change {
+        Change::ClearToEndOfScreen(color) => *color == ColorAttribute::Default,
+        _ => false,
+    }
+}
+
+/// Whether a change sets all attributes.
+fn is_setting(change: &Change) -> bool
+    ensures { result ≡ true → SetsAttributes (change_view change.now) }
+{
+    match change {
+        Change::AllAttributes(_) => true,
+        _ => false,
+    }
+}
+
+/// Whether a batch empties the terminal from its cursor on, and then sets all attributes.
+fn empties(changes: &[Change]) -> bool
+    ensures { result ≡ true → Empties (batch_view changes.now) }
+{
+    match changes {
+        [first, second, ..] => is_emptying(first) && is_setting(second),
+        _ => false,
+    }
+}
+
+/// Whether a move leads as many rows at any terminal.
+fn is_near(position: Position) -> bool
+    ensures { result ≡ true → IsNear position }
+{
+    match position {
+        Position::Absolute(_) => false,
+        Position::Relative(by) => by.unsigned_abs() <= MOST_ROWS,
+    }
 }
 
 /// What is left of a batch that empties the terminal from column 0 on: where it begins there, or behind its move.
@@ -163,10 +212,10 @@ fn begun(changes: &[Change], at_start: bool) -> Option<&[Change]>
         [
             Change::CursorPosition {
                 x: Position::Absolute(0),
-                y: _,
+                y,
             },
             rest @ ..,
-        ] if empties(rest) => Some(rest),
+        ] if is_near(*y) && empties(rest) => Some(rest),
         _ if at_start && empties(changes) => Some(changes),
         _ => None,
     }

@@ -1,0 +1,8 @@
+use Rattle.std.proofs.Common.{ap, sym, ◌∙◌, refl}
+use Rattle.styled_screen.specs.StyledScreens.{StyledView}
+use Rattle.tw_sparing.proofs.PlayedBatches.{played_width}
+use Rattle.tw_sparing.proofs.shown.Shown.drawn.Goals as goal
+
+pub is_same_above-requires : goal.is_same_above-requires
+is_same_above-requires c =
+    sym (played_width c.args.rows _ _ c.play_all.new.self (c.if-not-play_all.ensures refl) ∙ ap (λ (v : StyledView). v.width) c.in-Ok.ensures)
