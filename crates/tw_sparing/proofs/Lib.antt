@@ -5,3 +5,6 @@ pub mod SpannedPictures
 pub mod PlayedPictures
 pub mod StandingScreens
 pub mod KnownScreens
+pub mod SendableBatches
+pub mod FirstScreens
+pub mod ShortBatches

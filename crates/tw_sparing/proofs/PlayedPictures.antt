@@ -48,7 +48,7 @@ module _ (h w s : ℕ) (first : PictureOf StyledCell) where
         (clear_spans h w s first old new p a is.reached is.drawn.width
         (subst (λ c. ShowsStyled new.screen (step w (ClearBehind (styled.paper c)) a.part)) is.playable.0 (is.drawn.drawn a.part a.screen)))
 
-    change_spans : (x : ChangeView) → IsPlayedOnce h x old new → IsSpanned h w s first new (steps_on (Some h) w (change_strokes styled old.screen.kept x) p)
+    pub change_spans : (x : ChangeView) → IsPlayedOnce h x old new → IsSpanned h w s first new (steps_on (Some h) w (change_strokes styled old.screen.kept x) p)
     change_spans (Text text) is =
         let stroke : ℕ → Stroke StyledCell = char_stroke styled old.screen.kept in
         let same : map stroke (chars text) ++ [] ≡ map stroke text = append-nil (map stroke (chars text)) ∙ ap (map stroke) (plain_chars text is.playable) in

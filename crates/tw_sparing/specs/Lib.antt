@@ -1,3 +1,4 @@
 pub mod Shown
 pub mod ShownTerminals
+pub mod Shortness
 pub mod Terminal

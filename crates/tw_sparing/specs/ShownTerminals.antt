@@ -9,6 +9,7 @@ use Rattle.tw_screens.specs.StyledCells.{StyledCell, styled}
 use Rattle.tw_ansi.specs.declared.encode.Encoder.{Encoder}
 use Rattle.tw_ansi.specs.Encoding.{sent_batch}
 use Rattle.tw_ansi.specs.EcmaScreen.{EcmaScreen, receive_all}
+use Rattle.tw_ansi.specs.EcmaLaws.{IsColor}
 use Rattle.tw_ansi.specs.EcmaTexts.{ShowsPicture}
 use Rattle.styled_screen.specs.StyledScreens.{without_rows}
 use Rattle.tw_changed.specs.ChangedScreens.{IsBlankFrom, IsSeenFrom}
@@ -41,9 +42,9 @@ abbrev pub IsAtStart : Batch → PictureOf StyledCell → Type 0
 IsAtStart batch p = (p.col ≡ 0) ⊎ ((y : Position) × (rest : Batch) × (batch ≡ CursorPosition (Absolute 0) y ∷ rest))
 
 -- So does a terminal of which nothing was known, but that it shows some picture, and which is sent the batch itself: wherever its cursor stands, as long
--- as the batch begins in column 0.
+-- as the batch begins in column 0, and the colour that is known to be set is by bytes.
 abbrev pub FirstIsKnown : Type 0
 FirstIsKnown = (h w : ℕ) (batch : Batch) (new : Shown) (e : Encoder) (t : EcmaScreen StyledCell) (p : PictureOf StyledCell)
-    → 0 < w → w < 2 ^ 64 → IsKnownAfter w h batch None (Some new) → IsAtStart batch p → ShowsPicture styled h w e t p
+    → 0 < w → w < 2 ^ 64 → IsColor e.attributes.background → IsKnownAfter w h batch None (Some new) → IsAtStart batch p → ShowsPicture styled h w e t p
     → let sent = sent_batch (sent_for h batch None (Some new)) e in
     IsShownBy h w sent.next (receive_all styled h w sent.bytes t) (steps_on (Some h) w (strokes_of styled e.attributes batch) p) new

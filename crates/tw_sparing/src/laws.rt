@@ -1,9 +1,22 @@
 //! Laws of this crate's definitions: each function does nothing, and its contract is the law.
 
-ghost use Rattle.tw_sparing.specs.ShownTerminals.{KnownIsShown};
+ghost use Rattle.tw_sparing.specs.Shortness.{NothingIsSentForNothing, TypedIsSentAlone};
+ghost use Rattle.tw_sparing.specs.ShownTerminals.{FirstIsKnown, KnownIsShown};
 
 /// A terminal after ECMA-48 that shows what is known of it, and is sent what differs after a batch, shows the picture on
 /// which the batch was drawn, and what is then known stands in it.
 pub fn known()
     ensures { KnownIsShown }
+{}
+
+/// So does a terminal of which nothing was known, and that is sent a batch which empties it from column 0 on.
+pub fn first()
+    ensures { FirstIsKnown }
+{}
+
+/// Where nothing differs nothing is sent for a batch, and of printable characters that were typed at the cursor, under the
+/// attributes that are selected, these alone.
+pub fn shortness()
+    ensures nothing { NothingIsSentForNothing }
+    ensures typed { TypedIsSentAlone }
 {}
