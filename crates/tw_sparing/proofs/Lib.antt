@@ -8,3 +8,4 @@ pub mod KnownScreens
 pub mod SendableBatches
 pub mod FirstScreens
 pub mod ShortBatches
+pub mod RunLemmas

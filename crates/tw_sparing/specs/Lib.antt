@@ -1,4 +1,5 @@
 pub mod Shown
 pub mod ShownTerminals
+pub mod KnownRuns
 pub mod Shortness
 pub mod Terminal

@@ -1,5 +1,6 @@
 //! Laws of this crate's definitions: each function does nothing, and its contract is the law.
 
+ghost use Rattle.tw_sparing.specs.KnownRuns.{RunsAreShown};
 ghost use Rattle.tw_sparing.specs.Shortness.{NothingIsSentForNothing, TypedIsSentAlone};
 ghost use Rattle.tw_sparing.specs.ShownTerminals.{FirstIsKnown, KnownIsShown};
 
@@ -19,4 +20,9 @@ pub fn first()
 pub fn shortness()
     ensures nothing { NothingIsSentForNothing }
     ensures typed { TypedIsSentAlone }
+{}
+
+/// A terminal that is sent several batches, each as what differs or as it is, shows the picture on which all were drawn.
+pub fn runs()
+    ensures { RunsAreShown }
 {}

@@ -1,0 +1,64 @@
+-- What a terminal shows that is sent several batches, each as what differs or as it is.
+use Rattle.std.specs.Prelude.{◌≡◌, ◌<◌, ◌^◌, ℕ, false, Option, Some, None, List, [], ◌∷◌, map, ⊤}
+use Rattle.tw_strokes.specs.Strokes.{PictureOf, steps_on}
+use Rattle.tw_surface.specs.ChangeView.{Batch}
+use Rattle.tw_screens.specs.Pens.{strokes_of}
+use Rattle.tw_screens.specs.Screens.{play_sized}
+use Rattle.tw_screens.specs.SizedBatches.{sized_at}
+use Rattle.tw_screens.specs.StyledCells.{StyledCell, styled}
+use Rattle.tw_ansi.specs.declared.encode.Encoder.{Encoder}
+use Rattle.tw_ansi.specs.Encoding.{Sent, sends, sent_then, sent_batch}
+use Rattle.tw_ansi.specs.EcmaBatches.{AreSendable}
+use Rattle.tw_ansi.specs.EcmaLaws.{IsColor}
+use Rattle.tw_ansi.specs.EcmaScreen.{EcmaScreen, receive_all}
+use Rattle.tw_ansi.specs.EcmaTexts.{ShowsPicture}
+use Rattle.tw_sparing.specs.declared.shown.Shown.{Shown}
+use Rattle.tw_sparing.specs.Shown.{IsKnownAfter, sent_for}
+use Rattle.tw_sparing.specs.ShownTerminals.{IsAtStart, IsShownBy}
+
+-- a batch, and what is known after it
+pub record KnownBatch : Type 0 where
+  pub batch : Batch
+  pub known : Option Shown
+
+-- the batches alone
+abbrev pub batches_of : List KnownBatch → List Batch
+batches_of calls = map (λ call. call.batch) calls
+
+-- what is known after all of them
+abbrev pub last_known : Option Shown → List KnownBatch → Option Shown
+last_known old [] = old
+last_known old (call ∷ more) = last_known call.known more
+
+-- what is sent for them, one after the other
+abbrev pub sent_for_all : ℕ → Option Shown → List KnownBatch → Encoder → Sent
+sent_for_all rows old [] e = sends [] e
+sent_for_all rows old (call ∷ more) e = sent_then (sent_batch (sent_for rows call.batch old call.known) e) (sent_for_all rows call.known more)
+
+-- a terminal shows a picture, in which what is known stands, where anything is known
+abbrev pub IsShownAs : ℕ → ℕ → Encoder → EcmaScreen StyledCell → PictureOf StyledCell → Option Shown → Type 0
+IsShownAs h w e t p None = ShowsPicture styled h w e t p
+IsShownAs h w e t p (Some shown) = IsShownBy h w e t p shown
+
+-- a batch that is sent as it is can be sent so: it begins in column 0 where something is known from it on, the known colour being by bytes, and else
+-- its bytes do what it draws
+abbrev pub CanBeSent : ℕ → ℕ → Encoder → PictureOf StyledCell → Batch → Option Shown → Option Shown → Type 0
+CanBeSent h w e p batch old None = AreSendable styled h w e batch p
+CanBeSent h w e p batch None (Some new) = IsAtStart batch p × IsColor e.attributes.background
+CanBeSent h w e p batch (Some old) (Some new) = ⊤
+
+-- it is so of each batch where it comes, after those before it
+abbrev pub AreKnown : ℕ → ℕ → Encoder → PictureOf StyledCell → Option Shown → List KnownBatch → Type 0
+AreKnown h w e p old [] = ⊤
+AreKnown h w e p old (call ∷ more) =
+    IsKnownAfter w h call.batch old call.known
+    × CanBeSent h w e p call.batch old call.known
+    × AreKnown h w (sent_batch (sent_for h call.batch old call.known) e).next (steps_on (Some h) w (strokes_of styled e.attributes call.batch) p) call.known more
+
+-- A terminal that shows a picture, and is sent what is sent for batches, one after the other, shows the picture on which all of them were drawn; and what
+-- is known at the end stands in it.
+abbrev pub RunsAreShown : Type 0
+RunsAreShown = (h w : ℕ) (calls : List KnownBatch) (old : Option Shown) (e : Encoder) (t : EcmaScreen StyledCell) (p : PictureOf StyledCell)
+    → 0 < w → w < 2 ^ 64 → AreKnown h w e p old calls → IsShownAs h w e t p old
+    → let sent = sent_for_all h old calls e in
+    IsShownAs h w sent.next (receive_all styled h w sent.bytes t) (play_sized (Some h) false styled w e.attributes (sized_at w (batches_of calls)) p) (last_known old calls)
