@@ -1,0 +1,114 @@
+//! Lines that are painted one after the other.
+
+use crate::wire::{Shot, expect_last};
+use std::alloc::Global;
+use std::process::Abort;
+use std::test::Fail;
+use tw_terminal::ScreenSize;
+
+/// A terminal of 24 rows and 80 columns.
+const USUAL: ScreenSize = ScreenSize { rows: 24, cols: 80 };
+
+/// No write is refused.
+const NONE: usize = 0;
+
+/// A line at which the cursor stands in a column.
+fn line(text: &str, col: usize) -> Shot<'_> {
+    Shot { up: 0, text, col }
+}
+
+/// One more character at the end of a line of so many is one byte.
+fn expect_one_byte(rt: &impl Abort, alloc: Global, len: usize) -> Result<(), Fail> {
+    let size = ScreenSize {
+        rows: 24,
+        cols: 20_000,
+    };
+    let mut text = "x".repeat(alloc, len)?;
+    let before = text.clone()?;
+    text.push('y')?;
+    let shots = [line(before.as_str(), len), line(text.as_str(), text.len())];
+    expect_last(rt, alloc, size, NONE, &shots, "y")
+}
+
+#[test]
+fn a_character_at_the_end_is_one_byte(rt: HostRuntime) -> Result<(), Fail> {
+    for &len in &[1, 10, 1_000, 10_000] {
+        expect_one_byte(&rt, rt.alloc(), len)?;
+    }
+    Ok(())
+}
+
+#[test]
+fn the_first_line_is_sent_whole(rt: HostRuntime) -> Result<(), Fail> {
+    let shots = [line("> a", 3)];
+    let whole = "\r\x1b[K\x1b[C\x1b[J\r\x1b[0m> a\r\x1b[3C";
+    expect_last(&rt, rt.alloc(), USUAL, NONE, &shots, whole)
+}
+
+#[test]
+fn what_is_shown_is_not_sent_again(rt: HostRuntime) -> Result<(), Fail> {
+    let shots = [line("> ab", 4), line("> ab", 4)];
+    expect_last(&rt, rt.alloc(), USUAL, NONE, &shots, "")
+}
+
+#[test]
+fn a_key_to_the_left_is_a_move(rt: HostRuntime) -> Result<(), Fail> {
+    let shots = [line("> ab", 4), line("> ab", 3)];
+    expect_last(&rt, rt.alloc(), USUAL, NONE, &shots, "\r\x1b[3C")
+}
+
+#[test]
+fn a_shorter_line_is_emptied_behind_its_end(rt: HostRuntime) -> Result<(), Fail> {
+    let shots = [line("> abc", 5), line("> ab", 4)];
+    expect_last(&rt, rt.alloc(), USUAL, NONE, &shots, "\r\x1b[4C\x1b[J")
+}
+
+#[test]
+fn the_last_row_scrolls(rt: HostRuntime) -> Result<(), Fail> {
+    let size = ScreenSize { rows: 3, cols: 10 };
+    let more = Shot {
+        up: -2,
+        text: "a\r\nb\r\nc\r\nd",
+        col: 1,
+    };
+    let shots = [line("a\r\nb\r\nc", 1), more];
+    expect_last(&rt, rt.alloc(), size, NONE, &shots, "\n\rd")
+}
+
+#[test]
+fn other_characters_are_sent_as_they_are(rt: HostRuntime) -> Result<(), Fail> {
+    let shots = [line("> a", 3), line("> \u{e9}", 3)];
+    let whole = "\r\x1b[K\x1b[C\x1b[J\r\x1b[0m> \u{e9}\r\x1b[3C";
+    expect_last(&rt, rt.alloc(), USUAL, NONE, &shots, whole)
+}
+
+#[test]
+fn behind_them_a_line_is_sent_whole(rt: HostRuntime) -> Result<(), Fail> {
+    let shots = [line("> \u{e9}", 3), line("> b", 3)];
+    let whole = "\r\x1b[K\x1b[C\x1b[J\r\x1b[0m> b\r\x1b[3C";
+    expect_last(&rt, rt.alloc(), USUAL, NONE, &shots, whole)?;
+    let more = [shots[0], shots[1], line("> bc", 4)];
+    expect_last(&rt, rt.alloc(), USUAL, NONE, &more, "c")
+}
+
+#[test]
+fn behind_a_refused_write_a_line_is_sent_whole(rt: HostRuntime) -> Result<(), Fail> {
+    let shots = [line("> ", 2), line("> a", 3), line("> ab", 4)];
+    let whole = "\r\x1b[K\x1b[C\x1b[J\r\x1b[0m> ab\r\x1b[4C";
+    expect_last(&rt, rt.alloc(), USUAL, 2, &shots, whole)?;
+    let more = [shots[0], shots[1], shots[2], line("> abc", 5)];
+    expect_last(&rt, rt.alloc(), USUAL, 2, &more, "c")
+}
+
+#[test]
+fn more_rows_than_the_terminal_has_are_sent_whole(rt: HostRuntime) -> Result<(), Fail> {
+    let size = ScreenSize { rows: 2, cols: 10 };
+    let more = Shot {
+        up: -2,
+        text: "a\r\nb\r\ncd",
+        col: 2,
+    };
+    let shots = [line("a\r\nb\r\nc", 1), more];
+    let whole = "\x1b[2A\r\x1b[K\x1b[C\x1b[J\r\x1b[0ma\r\nb\r\ncd\r\x1b[2C";
+    expect_last(&rt, rt.alloc(), size, NONE, &shots, whole)
+}
