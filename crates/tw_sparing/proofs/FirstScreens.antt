@@ -1,7 +1,6 @@
 -- A terminal of which nothing was known shows what is known after a batch that empties it.
-use Rattle.std.proofs.Common.{◌≡◌, ◌<◌, ◌≤◌, ◌+◌, ◌-◌, ◌^◌, ◌&&◌, ◌||◌, ℕ, pos, negsuc, Bool, true, false, cond, eqb, ltb, leb, max, Some, None, [], ◌∷◌, inl, inr, ◌⊎◌, ap, subst, ◌∙◌, sym, refl, arith}
+use Rattle.std.proofs.Common.{◌≡◌, ◌<◌, ◌≤◌, ◌+◌, ◌-◌, ◌^◌, ◌&&◌, ◌||◌, ℕ, pos, negsuc, Bool, true, false, cond, eqb, ltb, leb, Some, [], ◌∷◌, inl, inr, ◌⊎◌, ap, subst, ◌∙◌, sym, refl, arith}
 use Rattle.std.proofs.lemmas.Bool.{cases_lt, eq-eqb, le-leb, le-ltb, lt-ltb}
-use Rattle.tw_surface.specs.declared.cell.CellAttributes.{CellAttributes}
 use Rattle.tw_surface.specs.declared.change.Position.{Position}
 use Rattle.tw_surface.specs.declared.change.Position.TheVariants.{Absolute, Relative}
 use Rattle.tw_surface.specs.ChangeView.{ChangeView, Batch}
@@ -22,13 +21,12 @@ use Rattle.tw_ansi.specs.EcmaBatches.{IsReached, AreSendable}
 use Rattle.tw_ansi.proofs.EcmaBatches.{batch_is_shown}
 use Rattle.tw_changed.specs.Differences.{blank_cell}
 use Rattle.tw_sparing.specs.declared.shown.Shown.{Shown}
-use Rattle.tw_sparing.specs.Shown.{first_shown, FitsTerminal, IsNear, IsPlayedOnce, IsPlayed, SetsAttributes, Empties, IsBegunBy, IsKnownAfter}
+use Rattle.tw_sparing.specs.Shown.{first_shown, FitsTerminal, IsNear, IsPlayedOnce, IsPlayed, SetsAttributes, Empties}
 use Rattle.tw_sparing.specs.ShownTerminals.{IsAtStart, IsShownBy, FirstIsKnown}
-use Rattle.tw_sparing.proofs.PlayedBatches.{played_reached}
-use Rattle.tw_sparing.proofs.SpannedPictures.{IsSpanned, seen_row}
+use Rattle.tw_sparing.proofs.SpannedPictures.{IsSpanned}
 use Rattle.tw_sparing.proofs.PlayedPictures.{batch_spans}
 use Rattle.tw_sparing.proofs.SendableBatches.{batch_sent, follows}
-use Rattle.tw_sparing.proofs.StandingScreens.{stands_at, span_seen, span_within, span_blank}
+use Rattle.tw_sparing.proofs.StandingScreens.{stands_at, span_seen, span_blank}
 
 either_blank : (b : Bool) (x : StyledCell) → x ≡ blank_cell → cond b blank_cell x ≡ blank_cell
 either_blank true x e = refl
@@ -118,7 +116,7 @@ module _ (h w : ℕ) (new : Shown) where
       → IsSpanned h w s first new (steps_on (Some h) w (strokes_of styled e.attributes batch) p) → AreSendable styled h w e batch p
       → new.screen.kept ≡ (sent_batch batch e).next.attributes → ShowsPicture styled h w e t p
       → IsShownBy h w (sent_batch batch e).next (receive_all styled h w (sent_batch batch e).bytes t) (steps_on (Some h) w (strokes_of styled e.attributes batch) p) new
-  first_shown_by s first batch e t p some small fits spans sendable kept a = 
+  first_shown_by s first batch e t p some small fits spans sendable kept a =
       let drawn : PictureOf StyledCell = steps_on (Some h) w (strokes_of styled e.attributes batch) p in
       let above : new.reached - h ≤ new.screen.row = fits.row in
       record {

@@ -1,10 +1,10 @@
 -- A terminal that shows what is known, and is sent what differs after a batch, shows what is known then.
-use Rattle.std.proofs.Common.{◌≡◌, ◌<◌, ◌≤◌, ◌+◌, ◌-◌, ◌^◌, ◌&&◌, not, ℕ, Bool, cond, eqb, ltb, min, Some, inl, inr, ap, subst, ◌∙◌, sym, refl, arith}
+use Rattle.std.proofs.Common.{◌≡◌, ◌<◌, ◌≤◌, ◌+◌, ◌-◌, ◌^◌, ◌&&◌, not, ℕ, cond, eqb, min, Some, inl, inr, ap, subst, ◌∙◌, sym, arith}
 use Rattle.std.proofs.lemmas.Bool.{cases_lt, lt-ltb, le-ltb}
 use Rattle.tw_surface.specs.declared.cell.CellAttributes.{CellAttributes}
 use Rattle.tw_surface.specs.ChangeView.{Batch}
 use Rattle.tw_strokes.specs.Strokes.{PictureOf, steps_on}
-use Rattle.tw_screens.specs.Pens.{Pen, strokes_of}
+use Rattle.tw_screens.specs.Pens.{strokes_of}
 use Rattle.tw_screens.specs.Screens.{blank_of}
 use Rattle.tw_screens.specs.StyledCells.{StyledCell, styled}
 use Rattle.tw_ansi.specs.declared.encode.Encoder.{Encoder}
@@ -12,7 +12,7 @@ use Rattle.tw_ansi.specs.Encoding.{Sent, sent_batch}
 use Rattle.tw_ansi.specs.EcmaScreen.{EcmaScreen, receive_all}
 use Rattle.tw_ansi.specs.EcmaLaws.{IsColor}
 use Rattle.tw_ansi.specs.EcmaTexts.{IsOfRows, ShowsPicture}
-use Rattle.styled_screen.specs.StyledScreens.{StyledView, without_rows}
+use Rattle.styled_screen.specs.StyledScreens.{without_rows}
 use Rattle.tw_changed.specs.declared.hand.Hand.{Hand}
 use Rattle.tw_changed.specs.Redrawings.{redrawn}
 use Rattle.tw_changed.specs.ChangedScreens.{IsBlankFrom, IsInk, IsInked, IsHandWithin, IsSeenFrom, turned_to}

@@ -45,6 +45,9 @@ pub emptying : (changes : List Change) (x y : Change) → 2 ≤ length changes �
     → change_view x ≡ ClearToEndOfScreen default_color → SetsAttributes (change_view y) → Empties (batch_view changes)
 emptying [] x y two first second clears sets = absurd (omega arith)
 emptying (a ∷ []) x y two first second clears sets = absurd (omega arith)
-emptying (a ∷ b ∷ rest) x y two first second clears sets =
-    (change_view b, batch_view rest, subst (λ k. SetsAttributes (change_view k)) second sets,
-      ap (λ k. k ∷ change_view b ∷ batch_view rest) (ap change_view (sym first) ∙ clears))
+emptying (a ∷ b ∷ rest) x y two first second clears sets = (
+  change_view b,
+  batch_view rest,
+  subst (λ k. SetsAttributes (change_view k)) second sets,
+  ap (λ k. k ∷ change_view b ∷ batch_view rest) (ap change_view (sym first) ∙ clears),
+)

@@ -1,7 +1,6 @@
 -- What is known of a terminal and what the terminal shows stay parts of one picture while a batch is played.
-use Rattle.std.proofs.Common.{◌≡◌, ◌<◌, ◌≤◌, ◌+◌, ◌-◌, ℕ, pos, negsuc, Some, List, [], ◌∷◌, ◌++◌, map, append-nil, ap, subst, ◌∙◌, sym, refl, arith}
+use Rattle.std.proofs.Common.{◌≡◌, ◌<◌, ◌+◌, ◌-◌, ℕ, pos, negsuc, Some, [], ◌∷◌, ◌++◌, map, append-nil, ap, subst, ◌∙◌, sym, arith}
 use Rattle.std.specs.Prelude.{chars}
-use Rattle.tw_surface.specs.declared.cell.CellAttributes.{CellAttributes}
 use Rattle.tw_surface.specs.declared.color.ColorAttribute.{ColorAttribute}
 use Rattle.tw_surface.specs.declared.change.Position.{Position}
 use Rattle.tw_surface.specs.declared.change.Position.TheVariants.{Absolute, Relative}
@@ -14,9 +13,8 @@ use Rattle.tw_screens.specs.Pens.{led, char_stroke, change_strokes, strokes_of, 
 use Rattle.tw_screens.specs.StyledCells.{StyledCell, styled}
 use Rattle.tw_screens.proofs.PlainScenes.{plain_chars}
 use Rattle.styled_screen.specs.StyledScreens.{ShowsStyled}
-use Rattle.tw_changed.specs.Differences.{blank_cell}
 use Rattle.tw_sparing.specs.declared.shown.Shown.{Shown}
-use Rattle.tw_sparing.specs.Shown.{left_behind, IsInSight, IsPlayable, IsPlayedOnce, IsPlayed}
+use Rattle.tw_sparing.specs.Shown.{left_behind, IsInSight, IsPlayedOnce, IsPlayed}
 use Rattle.tw_sparing.proofs.SpannedPictures.{IsSpanned, seen_row, text_spans, still_spans, clear_spans, move_spans, led_up}
 
 module _ (h w s : ℕ) (first : PictureOf StyledCell) where

@@ -1,5 +1,5 @@
 -- A terminal that is sent what is sent for batches shows the picture on which they were drawn.
-use Rattle.std.proofs.Common.{◌≡◌, ◌<◌, ◌^◌, ℕ, false, Option, Some, None, List, [], ◌∷◌, map, inl, inr, ◌⊎◌, ap, subst, ◌∙◌, sym, refl}
+use Rattle.std.proofs.Common.{◌≡◌, ◌<◌, ◌^◌, ℕ, false, Option, Some, None, List, [], ◌∷◌, inl, inr, ◌⊎◌, ap, subst, ◌∙◌, sym, refl}
 use Rattle.tw_strokes.specs.Strokes.{PictureOf, steps_on}
 use Rattle.tw_surface.specs.declared.cell.CellAttributes.{CellAttributes}
 use Rattle.tw_surface.specs.declared.change.Position.{Position}
@@ -7,22 +7,22 @@ use Rattle.tw_surface.specs.declared.change.Position.TheVariants.{Absolute}
 use Rattle.tw_surface.specs.ChangeView.{ChangeView, Batch}
 use Rattle.tw_surface.specs.ChangeView.{Attribute, AllAttributes, Text, ClearScreen, ClearToEndOfScreen, CursorPosition}
 use Rattle.tw_surface.specs.Defaults.{default_color, default_attributes}
-use Rattle.tw_screens.specs.Pens.{change_strokes, strokes_of, kept_after, kept_after_all}
+use Rattle.tw_screens.specs.Pens.{change_strokes, strokes_of, kept_after_all}
 use Rattle.tw_screens.specs.Screens.{play_sized}
 use Rattle.tw_screens.specs.SizedBatches.{sized_at}
 use Rattle.tw_screens.specs.StyledCells.{StyledCell, styled}
 use Rattle.tw_ansi.specs.declared.encode.Encoder.{Encoder}
 use Rattle.tw_ansi.specs.Encoding.{Sent, sent_change, sent_batch}
 use Rattle.tw_ansi.specs.EcmaBatches.{AreSendable}
-use Rattle.tw_ansi.specs.EcmaLaws.{IsColor}
+use Rattle.tw_ansi.specs.EcmaPaintings.{AreAllSendable, sent_batches}
 use Rattle.tw_ansi.specs.EcmaScreen.{EcmaScreen, receive_all}
 use Rattle.tw_ansi.specs.EcmaTexts.{ShowsPicture}
 use Rattle.tw_ansi.proofs.EcmaSequences.{received}
+use Rattle.tw_ansi.proofs.EcmaPaintings.{batches_are_shown}
 use Rattle.tw_ansi.proofs.EcmaBatches.{batch_is_shown, keeps_change}
 use Rattle.tw_sparing.specs.declared.shown.Shown.{Shown}
-use Rattle.tw_sparing.specs.Shown.{first_shown, IsKnownAfter, IsPlayed, IsBegunBy, IsNear, SetsAttributes, Empties, sent_for}
-use Rattle.tw_sparing.specs.ShownTerminals.{IsShownBy}
-use Rattle.tw_sparing.specs.KnownRuns.{KnownBatch, batches_of, last_known, sent_for_all, IsShownAs, CanBeSent, AreKnown, RunsAreShown}
+use Rattle.tw_sparing.specs.Shown.{first_shown, IsKnownAfter, IsPlayed, IsBegunBy, IsNear, SetsAttributes, sent_for}
+use Rattle.tw_sparing.specs.KnownRuns.{KnownBatch, batches_of, last_known, sent_for_all, IsShownAs, CanBeSent, AreKnown, IsAlike, LooksTheSame, RunsAreShown}
 use Rattle.tw_sparing.proofs.KnownScreens.{known_is_shown}
 use Rattle.tw_sparing.proofs.FirstScreens.{first_is_known}
 use Rattle.tw_sparing.proofs.SendableBatches.{follows}
@@ -111,5 +111,57 @@ module _ (h w : ℕ) where
       (subst (λ a. IsShownAs h w rest.next (receive_all styled h w rest.bytes (receive_all styled h w sent.bytes t)) (play_sized (Some h) false styled w a (sized_at w (batches_of more)) drawn) (last_known call.known more))
       one.attributes after)
 
+  -- ---- beside a terminal that is sent the batches themselves
+
+  -- what is kept of attributes after batches
+  abbrev kept_over : CellAttributes → List Batch → CellAttributes
+  kept_over a [] = a
+  kept_over a (batch ∷ more) = kept_over (kept_after_all styled a batch) more
+
+  runs_keep : (calls : List KnownBatch) (old : Option Shown) (e : Encoder) (t : EcmaScreen StyledCell) (p : PictureOf StyledCell) → 0 < w → w < 2 ^ 64
+      → AreKnown h w e p old calls → IsShownAs h w e t p old → (sent_for_all h old calls e).next.attributes ≡ kept_over e.attributes (batches_of calls)
+  runs_keep [] old e t p some small known a = refl
+  runs_keep (call ∷ more) old e t p some small known a =
+      let sent : Sent = sent_batch (sent_for h call.batch old call.known) e in
+      let drawn : PictureOf StyledCell = steps_on (Some h) w (strokes_of styled e.attributes call.batch) p in
+      let one = goes call.batch old call.known e t p some small known.0 known.1 a in
+      runs_keep more call.known sent.next (receive_all styled h w sent.bytes t) drawn some small known.2 one.shown
+      ∙ ap (λ k. kept_over k (batches_of more)) one.attributes
+
+  wholes_keep : (batches : List Batch) (f : Encoder) (p : PictureOf StyledCell) → AreAllSendable styled h w f batches p
+      → (sent_batches batches f).next.attributes ≡ kept_over f.attributes batches
+  wholes_keep [] f p fits = refl
+  wholes_keep (batch ∷ more) f p fits =
+      wholes_keep more (sent_batch batch f).next (steps_on (Some h) w (strokes_of styled f.attributes batch) p) fits.1
+      ∙ ap (λ k. kept_over k more) (sym (keeps_all batch f p fits.0))
+
+  picture_of : (e : Encoder) (t : EcmaScreen StyledCell) (p : PictureOf StyledCell) (known : Option Shown) → IsShownAs h w e t p known → ShowsPicture styled h w e t p
+  picture_of e t p None a = a
+  picture_of e t p (Some shown) a = a.picture
+
+  alike : (e f : Encoder) (t u : EcmaScreen StyledCell) (p : PictureOf StyledCell) → e.attributes ≡ f.attributes → ShowsPicture styled h w e t p → ShowsPicture styled h w f u p → IsAlike h w t u
+  alike e f t u p same a b = record {
+    cell = λ r c low left. a.cells r c low left ∙ sym (b.cells r c low left);
+    row = a.row ∙ sym b.row;
+    col = a.col ∙ sym b.col;
+    rendition = a.rendition ∙ same ∙ sym b.rendition;
+  }
+
+  pub look_alike : (calls : List KnownBatch) (old : Option Shown) (e f : Encoder) (t u : EcmaScreen StyledCell) (p : PictureOf StyledCell) → 0 < w → w < 2 ^ 64
+      → AreKnown h w e p old calls → IsShownAs h w e t p old → AreAllSendable styled h w f (batches_of calls) p → ShowsPicture styled h w f u p → f.attributes ≡ e.attributes
+      → IsAlike h w (receive_all styled h w (sent_for_all h old calls e).bytes t) (receive_all styled h w (sent_batches (batches_of calls) f).bytes u)
+  look_alike calls old e f t u p some small known a fits b same =
+      let mine : Sent = sent_for_all h old calls e in
+      let its : Sent = sent_batches (batches_of calls) f in
+      let end : PictureOf StyledCell = play_sized (Some h) false styled w e.attributes (sized_at w (batches_of calls)) p in
+      alike mine.next its.next (receive_all styled h w mine.bytes t) (receive_all styled h w its.bytes u) end
+      (runs_keep calls old e t p some small known a ∙ ap (λ k. kept_over k (batches_of calls)) (sym same) ∙ sym (wholes_keep (batches_of calls) f p fits))
+      (picture_of mine.next (receive_all styled h w mine.bytes t) end (last_known old calls) (runs calls old e t p some small known a))
+      (subst (λ k. ShowsPicture styled h w its.next (receive_all styled h w its.bytes u) (play_sized (Some h) false styled w k (sized_at w (batches_of calls)) p)) same
+      (batches_are_shown styled h w (batches_of calls) f u p follows some small fits b))
+
 pub runs_are_shown : RunsAreShown
 runs_are_shown h w calls old e t p some small known a = runs h w calls old e t p some small known a
+
+pub looks_the_same : LooksTheSame
+looks_the_same h w calls old e f t u p some small known a fits b same = look_alike h w calls old e f t u p some small known a fits b same

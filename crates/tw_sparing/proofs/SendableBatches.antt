@@ -3,16 +3,13 @@ use Rattle.std.proofs.Common.{◌≡◌, ◌<◌, ◌≤◌, ◌+◌, ◌-◌, �
 use Rattle.tw_surface.specs.declared.cell.AttributeChange.{AttributeChange}
 use Rattle.tw_surface.specs.declared.cell.AttributeChange.TheVariants.{Intensity, Underline, Italic, Blink, Reverse, StrikeThrough, Invisible, Foreground, Background}
 use Rattle.tw_surface.specs.declared.cell.CellAttributes.{CellAttributes}
-use Rattle.tw_surface.specs.declared.color.ColorAttribute.{ColorAttribute}
 use Rattle.tw_surface.specs.declared.change.Position.{Position}
 use Rattle.tw_surface.specs.declared.change.Position.TheVariants.{Absolute, Relative}
 use Rattle.tw_surface.specs.Attributes.{with_attribute}
 use Rattle.tw_surface.specs.ChangeView.{ChangeView, Batch}
 use Rattle.tw_surface.specs.ChangeView.{Attribute, AllAttributes, Text, ClearScreen, ClearToEndOfScreen, CursorPosition}
-use Rattle.tw_strokes.specs.Strokes.{PictureOf, step, steps_on}
-use Rattle.tw_strokes.specs.Strokes.Stroke.{Move}
-use Rattle.tw_screens.specs.Pens.{led, change_strokes, kept_after}
-use Rattle.tw_screens.specs.Screens.{blank_of}
+use Rattle.tw_strokes.specs.Strokes.{PictureOf, steps_on}
+use Rattle.tw_screens.specs.Pens.{change_strokes, kept_after}
 use Rattle.tw_screens.specs.StyledCells.{StyledCell, styled}
 use Rattle.tw_ansi.specs.declared.encode.Encoder.{Encoder}
 use Rattle.tw_ansi.specs.Sequences.{most_rows}

@@ -1,27 +1,18 @@
 -- What is known of a terminal and what the terminal shows are parts of one picture without a bottom, and stay so while changes are played.
-use Rattle.std.proofs.Common.{◌≡◌, ◌<◌, ◌≤◌, ◌+◌, ◌-◌, ◌*◌, ◌&&◌, ◌||◌, ℕ, ℤ, pos, negsuc, ◌+ℤ◌, max, min, Bool, true, false, cond, eqb, ltb, leb, None, Some, List, [], ◌∷◌, ◌++◌, map, inl, inr, append-nil, ap, subst, ◌∙◌, sym, refl, arith}
+use Rattle.std.proofs.Common.{◌≡◌, ◌<◌, ◌≤◌, ◌+◌, ◌-◌, ◌&&◌, ◌||◌, ℕ, ℤ, pos, negsuc, ◌+ℤ◌, max, min, Bool, true, false, cond, eqb, ltb, leb, None, Some, List, map, inl, inr, ap, subst, ◌∙◌, sym, refl, arith}
 use Rattle.std.specs.List.{list_all}
 use Rattle.std.proofs.lemmas.Bool.{ne_eqb, le-ltb}
 use Rattle.std.proofs.lemmas.Int.{ints}
 use Rattle.tw_surface.specs.declared.cell.CellAttributes.{CellAttributes}
-use Rattle.tw_surface.specs.declared.color.ColorAttribute.{ColorAttribute}
-use Rattle.tw_surface.specs.declared.change.Position.{Position}
-use Rattle.tw_surface.specs.declared.change.Position.TheVariants.{Absolute, Relative}
-use Rattle.tw_surface.specs.Characters.{is_plain}
-use Rattle.tw_surface.specs.ChangeView.{ChangeView, Batch}
-use Rattle.tw_surface.specs.ChangeView.{Attribute, AllAttributes, Text, ClearScreen, ClearToEndOfScreen, CursorPosition}
-use Rattle.tw_surface.specs.Defaults.{default_color}
-use Rattle.tw_surface.specs.Simple.{spelled_change, spelled_all}
+use Rattle.tw_surface.specs.declared.change.Position.TheVariants.{Relative}
 use Rattle.tw_strokes.specs.Strokes.{PictureOf, Stroke, cleared_in, step, steps, steps_on, scrolled}
 use Rattle.tw_strokes.specs.Strokes.Stroke.{Move}
-use Rattle.tw_strokes.proofs.SeenRows.{Sees, sees-typing, sees-clear, sees-still, sees-scrolled, steps_on-append}
-use Rattle.tw_screens.specs.Pens.{led, char_stroke, change_strokes, strokes_of, kept_after, kept_after_all}
+use Rattle.tw_strokes.proofs.SeenRows.{Sees, sees-typing, sees-clear, sees-still, sees-scrolled}
+use Rattle.tw_screens.specs.Pens.{led, char_stroke}
 use Rattle.tw_screens.specs.StyledCells.{StyledCell, styled}
-use Rattle.tw_screens.proofs.PlainScenes.{plain_chars}
 use Rattle.styled_screen.specs.StyledScreens.{ShowsStyled}
 use Rattle.tw_changed.specs.Differences.{blank_cell}
 use Rattle.tw_sparing.specs.declared.shown.Shown.{Shown}
-use Rattle.tw_sparing.specs.Shown.{IsInSight, IsPlayable, IsPlayedOnce, IsPlayed}
 use Rattle.tw_sparing.proofs.TypedPictures.{typing_keeps, steps_on-none, text_types}
 
 -- where the terminal's picture begins in the whole one, whose row s is the first one of what is known
@@ -59,7 +50,7 @@ cleared_above f r c i j x up =
 pub led_up : (k n : ℕ) → k < n → led (Relative (negsuc k)) n ≡ n - (k + 1)
 led_up k n less = by_sign (pos n +ℤ negsuc k) refl
   where
-    by_sign : (z : ℤ) → z ≡ (pos n +ℤ negsuc k) → (elim z [ | pos m ↦ m | negsuc m ↦ 0 ]) ≡ n - (k + 1)
+    by_sign : (z : ℤ) → z ≡ (pos n +ℤ negsuc k) → (elim z [ pos m ↦ m | negsuc m ↦ 0 ]) ≡ n - (k + 1)
     by_sign (pos m) e = omega (arith, ints, e, less)
     by_sign (negsuc m) e = omega (arith, ints, e, less)
 

@@ -10,6 +10,7 @@ use Rattle.tw_ansi.specs.declared.encode.Encoder.{Encoder}
 use Rattle.tw_ansi.specs.Encoding.{Sent, sends, sent_then, sent_batch}
 use Rattle.tw_ansi.specs.EcmaBatches.{AreSendable}
 use Rattle.tw_ansi.specs.EcmaLaws.{IsColor}
+use Rattle.tw_ansi.specs.EcmaPaintings.{AreAllSendable, sent_batches}
 use Rattle.tw_ansi.specs.EcmaScreen.{EcmaScreen, receive_all}
 use Rattle.tw_ansi.specs.EcmaTexts.{ShowsPicture}
 use Rattle.tw_sparing.specs.declared.shown.Shown.{Shown}
@@ -62,3 +63,17 @@ RunsAreShown = (h w : ℕ) (calls : List KnownBatch) (old : Option Shown) (e : E
     → 0 < w → w < 2 ^ 64 → AreKnown h w e p old calls → IsShownAs h w e t p old
     → let sent = sent_for_all h old calls e in
     IsShownAs h w sent.next (receive_all styled h w sent.bytes t) (play_sized (Some h) false styled w e.attributes (sized_at w (batches_of calls)) p) (last_known old calls)
+
+-- two terminals of h rows and w columns show the same cells, with the cursor in the same place, and the same attributes are selected
+pub record IsAlike (h w : ℕ) (a b : EcmaScreen StyledCell) : Type 0 where
+  pub cell : (r c : ℕ) → r < h → c < w → a.cell r c ≡ b.cell r c
+  pub row : a.row ≡ b.row
+  pub col : a.col ≡ b.col
+  pub rendition : a.rendition ≡ b.rendition
+
+-- Of two terminals that show one picture, one is sent what is sent for batches, and the other one the batches themselves. Then they look the same.
+abbrev pub LooksTheSame : Type 0
+LooksTheSame = (h w : ℕ) (calls : List KnownBatch) (old : Option Shown) (e f : Encoder) (t u : EcmaScreen StyledCell) (p : PictureOf StyledCell)
+    → 0 < w → w < 2 ^ 64 → AreKnown h w e p old calls → IsShownAs h w e t p old
+    → AreAllSendable styled h w f (batches_of calls) p → ShowsPicture styled h w f u p → f.attributes ≡ e.attributes
+    → IsAlike h w (receive_all styled h w (sent_for_all h old calls e).bytes t) (receive_all styled h w (sent_batches (batches_of calls) f).bytes u)

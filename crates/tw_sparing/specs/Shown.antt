@@ -1,7 +1,6 @@
 -- What a terminal shows, as far as it is known.
 use Rattle.std.specs.Prelude.{◌≡◌, ◌≤◌, ◌<◌, ◌+◌, ◌-◌, ◌⊎◌, ℕ, pos, negsuc, max, true, Option, Some, None, [], ◌∷◌, ⊤}
 use Rattle.std.specs.List.{list_all}
-use Rattle.tw_surface.specs.declared.cell.CellAttributes.{CellAttributes}
 use Rattle.tw_surface.specs.declared.change.Position.{Position}
 use Rattle.tw_surface.specs.declared.change.Position.TheVariants.{Absolute, Relative}
 use Rattle.tw_surface.specs.Characters.{is_plain}

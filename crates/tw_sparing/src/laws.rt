@@ -1,11 +1,11 @@
 //! Laws of this crate's definitions: each function does nothing, and its contract is the law.
 
-ghost use Rattle.tw_sparing.specs.KnownRuns.{RunsAreShown};
+ghost use Rattle.tw_sparing.specs.KnownRuns.{LooksTheSame, RunsAreShown};
 ghost use Rattle.tw_sparing.specs.Shortness.{NothingIsSentForNothing, TypedIsSentAlone};
 ghost use Rattle.tw_sparing.specs.ShownTerminals.{FirstIsKnown, KnownIsShown};
 
-/// A terminal after ECMA-48 that shows what is known of it, and is sent what differs after a batch, shows the picture on
-/// which the batch was drawn, and what is then known stands in it.
+/// A terminal after ECMA-48 that shows what is known of it, and is sent what differs after a batch, shows the picture
+/// on which the batch was drawn, and what is then known stands in it.
 pub fn known()
     ensures { KnownIsShown }
 {}
@@ -15,14 +15,16 @@ pub fn first()
     ensures { FirstIsKnown }
 {}
 
-/// Where nothing differs nothing is sent for a batch, and of printable characters that were typed at the cursor, under the
-/// attributes that are selected, these alone.
+/// A terminal that is sent several batches, each as what differs or as it is, shows the picture on which all of them
+/// were drawn (`shown`), and looks as one that is sent all of them as they are (`same`).
+pub fn runs()
+    ensures shown { RunsAreShown }
+    ensures same { LooksTheSame }
+{}
+
+/// Where nothing differs nothing is sent for a batch, and of printable characters that were typed at the cursor, under
+/// the attributes that are selected, these alone.
 pub fn shortness()
     ensures nothing { NothingIsSentForNothing }
     ensures typed { TypedIsSentAlone }
-{}
-
-/// A terminal that is sent several batches, each as what differs or as it is, shows the picture on which all were drawn.
-pub fn runs()
-    ensures { RunsAreShown }
 {}

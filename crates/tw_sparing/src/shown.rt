@@ -37,8 +37,8 @@ impl Shown {
         }
     }
 
-    /// Whether a change does on a terminal of so many rows what it does on this screen: a plain text, attributes, a relative
-    /// move to one of the rows that are in sight, and a clearing that leaves blanks, where the cursor does not wait.
+    /// Whether a change does on a terminal of so many rows what it does on this screen: a plain text, attributes, a
+    /// relative move to one of the rows that are in sight, and a clearing to blanks, where the cursor does not wait.
     fn is_playable(&self, change: &Change, rows: usize) -> bool
         ensures { result ≡ true → IsPlayable rows self.now (change_view change.now) }
     {
@@ -87,8 +87,8 @@ impl Shown {
         true
     }
 
-    /// Whether it is shown by a terminal of so many rows: its cursor stands in a column and in one of the last rows that it
-    /// has reached, and its cells hold printable characters.
+    /// Whether a terminal of so many rows can show it: its cursor stands in a column and in one of the last rows that
+    /// it has reached, and its cells hold printable characters.
     fn is_fit(&self, rows: usize) -> bool
         ensures { result ≡ true → FitsTerminal rows self.now }
     {
