@@ -1,5 +1,5 @@
 -- A terminal of which nothing was known shows what is known after a batch that empties it.
-use Rattle.std.proofs.Common.{◌≡◌, ◌<◌, ◌≤◌, ◌+◌, ◌-◌, ◌^◌, ◌&&◌, ◌||◌, ℕ, pos, negsuc, Bool, true, false, cond, eqb, ltb, leb, Some, [], ◌∷◌, inl, inr, ◌⊎◌, ap, subst, ◌∙◌, sym, refl, arith}
+use Rattle.std.proofs.Common.{◌≡◌, ◌<◌, ◌≤◌, ◌+◌, ◌-◌, ◌^◌, ◌&&◌, ◌||◌, ℕ, pos, negsuc, Bool, true, false, cond, eqb, ltb, leb, Some, None, [], ◌∷◌, inl, inr, ◌⊎◌, ap, subst, ◌∙◌, sym, refl, arith}
 use Rattle.std.proofs.lemmas.Bool.{cases_lt, eq-eqb, le-leb, le-ltb, lt-ltb}
 use Rattle.tw_surface.specs.declared.change.Position.{Position}
 use Rattle.tw_surface.specs.declared.change.Position.TheVariants.{Absolute, Relative}
@@ -21,8 +21,8 @@ use Rattle.tw_ansi.specs.EcmaBatches.{IsReached, AreSendable}
 use Rattle.tw_ansi.proofs.EcmaBatches.{batch_is_shown}
 use Rattle.tw_changed.specs.Differences.{blank_cell}
 use Rattle.tw_sparing.specs.declared.shown.Shown.{Shown}
-use Rattle.tw_sparing.specs.Shown.{first_shown, FitsTerminal, IsNear, IsPlayedOnce, IsPlayed, SetsAttributes, Empties}
-use Rattle.tw_sparing.specs.ShownTerminals.{IsAtStart, IsShownBy, FirstIsKnown}
+use Rattle.tw_sparing.specs.Shown.{first_shown, FitsTerminal, IsNear, IsPlayedOnce, IsPlayed, SetsAttributes, Empties, IsFromStart, LeadsToStart}
+use Rattle.tw_sparing.specs.ShownTerminals.{IsShownBy, FirstIsKnown}
 use Rattle.tw_sparing.proofs.SpannedPictures.{IsSpanned}
 use Rattle.tw_sparing.proofs.PlayedPictures.{batch_spans}
 use Rattle.tw_sparing.proofs.SendableBatches.{batch_sent, follows}
@@ -151,13 +151,13 @@ first_is_known h w batch new e t p some small color known start a = by_start kno
         let f = first_of_batch h w new known.1.0 (sent_change (CursorPosition (Absolute 0) y) e).next q some (omega (arith, inside)) (omega arith) color known.0.most known.1.1.0 known.1.2 in
         first_shown_by h w new f.s f.first (CursorPosition (Absolute 0) y ∷ known.1.0) e t p some small known.0 f.spans (near_reached h y near, f.sendable) f.attributes a
 
-    by_start : ((batch ≡ known.1.0) ⊎ ((y : Position) × IsNear y × (batch ≡ CursorPosition (Absolute 0) y ∷ known.1.0))) → IsAtStart batch p → goal batch
-    by_start (inl is) (inl col) = subst (λ xs. goal xs) (sym is) (here col)
+    by_start : ((batch ≡ known.1.0) ⊎ ((y : Position) × IsNear y × (batch ≡ CursorPosition (Absolute 0) y ∷ known.1.0))) → IsFromStart e.x batch None (Some new) → goal batch
+    by_start (inl is) (inl x) = subst (λ xs. goal xs) (sym is) (here (sym a.x ∙ x))
     by_start (inl is) (inr move) = absurd (clash known.1.1.0 is move)
       where
-        clash : Empties known.1.0 → batch ≡ known.1.0 → ((y : Position) × (more : Batch) × (batch ≡ CursorPosition (Absolute 0) y ∷ more)) → ⊥
-        clash empties is move = other (sym move.2 ∙ is ∙ empties.3)
+        clash : Empties known.1.0 → batch ≡ known.1.0 → LeadsToStart batch → ⊥
+        clash empties is move = other (sym move.1.2 ∙ is ∙ empties.3)
           where
-            other : CursorPosition (Absolute 0) move.0 ∷ move.1 ≡ ClearToEndOfScreen default_color ∷ empties.0 ∷ empties.1 → ⊥
+            other : CursorPosition (Absolute 0) move.1.0 ∷ move.0 ≡ ClearToEndOfScreen default_color ∷ empties.0 ∷ empties.1 → ⊥
             other e = cc
     by_start (inr move) other = subst (λ xs. goal xs) (sym move.2) (behind move.0 move.1)

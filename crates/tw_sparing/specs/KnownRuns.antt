@@ -14,8 +14,8 @@ use Rattle.tw_ansi.specs.EcmaPaintings.{AreAllSendable, sent_batches}
 use Rattle.tw_ansi.specs.EcmaScreen.{EcmaScreen, receive_all}
 use Rattle.tw_ansi.specs.EcmaTexts.{ShowsPicture}
 use Rattle.tw_sparing.specs.declared.shown.Shown.{Shown}
-use Rattle.tw_sparing.specs.Shown.{IsKnownAfter, sent_for}
-use Rattle.tw_sparing.specs.ShownTerminals.{IsAtStart, IsShownBy}
+use Rattle.tw_sparing.specs.Shown.{IsFromStart, IsKnownAfter, sent_for}
+use Rattle.tw_sparing.specs.ShownTerminals.{IsShownBy}
 
 -- a batch, and what is known after it
 pub record KnownBatch : Type 0 where
@@ -45,7 +45,7 @@ IsShownAs h w e t p (Some shown) = IsShownBy h w e t p shown
 -- its bytes do what it draws
 abbrev pub CanBeSent : ℕ → ℕ → Encoder → PictureOf StyledCell → Batch → Option Shown → Option Shown → Type 0
 CanBeSent h w e p batch old None = AreSendable styled h w e batch p
-CanBeSent h w e p batch None (Some new) = IsAtStart batch p × IsColor e.attributes.background
+CanBeSent h w e p batch None (Some new) = IsFromStart e.x batch None (Some new) × IsColor e.attributes.background
 CanBeSent h w e p batch (Some old) (Some new) = ⊤
 
 -- it is so of each batch where it comes, after those before it

@@ -98,9 +98,23 @@ IsNear (Absolute row) = ⊥
 IsNear (Relative (pos n)) = n ≤ most_rows
 IsNear (Relative (negsuc n)) = n < most_rows
 
+-- a batch that leads to column 0 first, and what is left of it
+abbrev pub IsMovedBy : Batch → Batch → Type 0
+IsMovedBy batch rest = (y : Position) × IsNear y × (batch ≡ CursorPosition (Absolute 0) y ∷ rest)
+
 -- a batch that empties what stands from column 0 on, behind a move to that column or not
 abbrev pub IsBegunBy : Batch → Batch → Type 0
-IsBegunBy batch rest = Empties rest × ((batch ≡ rest) ⊎ ((y : Position) × IsNear y × (batch ≡ CursorPosition (Absolute 0) y ∷ rest)))
+IsBegunBy batch rest = Empties rest × ((batch ≡ rest) ⊎ IsMovedBy batch rest)
+
+-- a batch that leads to column 0 first
+abbrev pub LeadsToStart : Batch → Type 0
+LeadsToStart batch = (rest : Batch) × IsMovedBy batch rest
+
+-- where something is known after a batch, and nothing was before, the batch comes in column 0, the cursor being in column x, or leads there
+abbrev pub IsFromStart : ℕ → Batch → Option Shown → Option Shown → Type 0
+IsFromStart x batch None (Some new) = (x ≡ 0) ⊎ LeadsToStart batch
+IsFromStart x batch None None = ⊤
+IsFromStart x batch (Some old) new = ⊤
 
 -- ---- what is sent for it
 

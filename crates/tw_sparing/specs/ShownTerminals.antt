@@ -1,9 +1,7 @@
 -- A terminal after ECMA-48 that shows what is known of it.
-use Rattle.std.specs.Prelude.{◌≡◌, ◌≤◌, ◌<◌, ◌+◌, ◌-◌, ◌^◌, ◌⊎◌, ℕ, Some, None, ◌∷◌}
+use Rattle.std.specs.Prelude.{◌≡◌, ◌≤◌, ◌<◌, ◌+◌, ◌-◌, ◌^◌, ℕ, Some, None}
 use Rattle.tw_strokes.specs.Strokes.{PictureOf, steps_on}
-use Rattle.tw_surface.specs.declared.change.Position.{Position}
-use Rattle.tw_surface.specs.declared.change.Position.TheVariants.{Absolute}
-use Rattle.tw_surface.specs.ChangeView.{Batch, CursorPosition}
+use Rattle.tw_surface.specs.ChangeView.{Batch}
 use Rattle.tw_screens.specs.Pens.{strokes_of}
 use Rattle.tw_screens.specs.StyledCells.{StyledCell, styled}
 use Rattle.tw_ansi.specs.declared.encode.Encoder.{Encoder}
@@ -15,7 +13,7 @@ use Rattle.styled_screen.specs.StyledScreens.{without_rows}
 use Rattle.tw_changed.specs.ChangedScreens.{IsBlankFrom, IsSeenFrom}
 use Rattle.tw_changed.specs.Sending.{screen_cells, hand_of}
 use Rattle.tw_sparing.specs.declared.shown.Shown.{Shown}
-use Rattle.tw_sparing.specs.Shown.{FitsTerminal, IsKnownAfter, left_behind, sent_for}
+use Rattle.tw_sparing.specs.Shown.{FitsTerminal, IsFromStart, IsKnownAfter, left_behind, sent_for}
 
 -- a terminal of h rows and w columns shows a picture, in which what is known stands: from some row on the rows that have not left it, as far as they
 -- were reached, with the cursor and the attributes, and nothing below them
@@ -37,14 +35,10 @@ KnownIsShown = (h w : ℕ) (batch : Batch) (old new : Shown) (e : Encoder) (t : 
     → let sent = sent_batch (sent_for h batch (Some old) (Some new)) e in
     IsShownBy h w sent.next (receive_all styled h w sent.bytes t) (steps_on (Some h) w (strokes_of styled e.attributes batch) p) new
 
--- a batch comes in column 0, or leads there first
-abbrev pub IsAtStart : Batch → PictureOf StyledCell → Type 0
-IsAtStart batch p = (p.col ≡ 0) ⊎ ((y : Position) × (rest : Batch) × (batch ≡ CursorPosition (Absolute 0) y ∷ rest))
-
 -- So does a terminal of which nothing was known, but that it shows some picture, and which is sent the batch itself: wherever its cursor stands, as long
 -- as the batch begins in column 0, and the colour that is known to be set is by bytes.
 abbrev pub FirstIsKnown : Type 0
 FirstIsKnown = (h w : ℕ) (batch : Batch) (new : Shown) (e : Encoder) (t : EcmaScreen StyledCell) (p : PictureOf StyledCell)
-    → 0 < w → w < 2 ^ 64 → IsColor e.attributes.background → IsKnownAfter w h batch None (Some new) → IsAtStart batch p → ShowsPicture styled h w e t p
+    → 0 < w → w < 2 ^ 64 → IsColor e.attributes.background → IsKnownAfter w h batch None (Some new) → IsFromStart e.x batch None (Some new) → ShowsPicture styled h w e t p
     → let sent = sent_batch (sent_for h batch None (Some new)) e in
     IsShownBy h w sent.next (receive_all styled h w sent.bytes t) (steps_on (Some h) w (strokes_of styled e.attributes batch) p) new

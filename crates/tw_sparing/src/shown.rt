@@ -1,11 +1,11 @@
 //! What a terminal shows, as far as it is known.
 
-ghost use Rattle.std.specs.Prelude.{◌≡◌, ◌≤◌, ◌<◌, ◌++◌, ℕ, true, IfOk, IfSome, OnOk, Some, string_bytes};
+ghost use Rattle.std.specs.Prelude.{◌≡◌, ◌≤◌, ◌<◌, ◌++◌, ◌⊎◌, ℕ, true, IfOk, IfSome, OnOk, Some, string_bytes};
 ghost use Rattle.tw_ansi.specs.Encoding.{sent_batch};
 ghost use Rattle.tw_surface.specs.ChangeView.{ClearToEndOfScreen, batch_view, change_view};
 ghost use Rattle.tw_surface.specs.Defaults.{default_color};
 ghost use Rattle.tw_changed.specs.Sending.{IsPrintable, screen_cells};
-ghost use Rattle.tw_sparing.specs.Shown.{changes_below, first_shown, Empties, IsBegunBy, FitsTerminal, IsInSight, IsKnownAfter, IsNear, IsPlayable, IsPlayed, IsPlayedOnce, KeepsAbove, SetsAttributes};
+ghost use Rattle.tw_sparing.specs.Shown.{changes_below, first_shown, Empties, IsBegunBy, FitsTerminal, IsFromStart, IsInSight, IsKnownAfter, IsMovedBy, IsNear, IsPlayable, IsPlayed, IsPlayedOnce, KeepsAbove, LeadsToStart, SetsAttributes};
 
 use std::alloc::{AllocError, Global};
 use styled_screen::StyledScreen;
@@ -204,9 +204,9 @@ fn is_near(position: Position) -> bool
     }
 }
 
-/// What is left of a batch that empties the terminal from column 0 on: where it begins there, or behind its move.
-fn begun(changes: &[Change], at_start: bool) -> Option<&[Change]>
-    ensures { IfSome result (λ rest. IsBegunBy (batch_view changes.now) (batch_view rest.now)) }
+/// What is left of a batch behind a move to column 0.
+fn behind_move(changes: &[Change]) -> Option<&[Change]>
+    ensures { IfSome result (λ rest. IsMovedBy (batch_view changes.now) (batch_view rest.now)) }
 {
     match changes {
         [
@@ -215,7 +215,18 @@ fn begun(changes: &[Change], at_start: bool) -> Option<&[Change]>
                 y,
             },
             rest @ ..,
-        ] if is_near(*y) && empties(rest) => Some(rest),
+        ] if is_near(*y) => Some(rest),
+        _ => None,
+    }
+}
+
+/// What is left of a batch that empties the terminal from column 0 on: where it begins there, or behind its move.
+fn begun(changes: &[Change], at_start: bool) -> Option<&[Change]>
+    ensures begun { IfSome result (λ rest. IsBegunBy (batch_view changes.now) (batch_view rest.now)) }
+    ensures start { IfSome result (λ rest. (at_start ≡ true) ⊎ LeadsToStart (batch_view changes.now)) }
+{
+    match behind_move(changes) {
+        Some(rest) if empties(rest) => Some(rest),
         _ if at_start && empties(changes) => Some(changes),
         _ => None,
     }
@@ -229,7 +240,8 @@ pub fn shown_after(
     at_start: bool,
     changes: &[Change],
 ) -> Option<Shown>
-    ensures { IsKnownAfter size.cols size.rows (batch_view changes.now) shown.now result }
+    ensures known { IsKnownAfter size.cols size.rows (batch_view changes.now) shown.now result }
+    ensures start { (x : ℕ) → (at_start ≡ true → x ≡ 0) → IsFromStart x (batch_view changes.now) shown.now result }
 {
     if let Some(shown) = shown {
         return shown.drawn(alloc, changes, size.rows);

@@ -7,7 +7,7 @@ ghost use Rattle.tw_surface.specs.Defaults.{default_attributes};
 ghost use Rattle.tw_terminal.specs.TerminalState.{fresh_terminal, Fails, Flushes, RenderFails, Renders};
 ghost use Rattle.tw_ansi.specs.Encoding.{first_known, without_attributes, sent_batch};
 ghost use Rattle.tw_ansi.specs.Sequences.{set_attributes};
-ghost use Rattle.tw_sparing.specs.Shown.{IsKnownAfter, sent_for};
+ghost use Rattle.tw_sparing.specs.Shown.{IsFromStart, IsKnownAfter, sent_for};
 ghost use Rattle.tw_sparing.specs.Terminal.{terminal_state};
 
 use crate::shown::{Shown, ends_at_start, send_below, shown_after};
@@ -143,12 +143,14 @@ impl<W: Write> SparingTerminal<W> {
             OnOk result (Appends (W.contents self.old.writer) (W.contents self.new.writer) sent.bytes) }
         ensures next { OnOk result (self.new.encoder ≡ (sent_batch (sent_for self.old.size.rows (batch_view changes.now) self.old.shown self.new.shown) self.old.encoder).next) }
         ensures shown { OnOk result (IsKnownAfter self.old.size.cols self.old.size.rows (batch_view changes.now) self.old.shown self.new.shown) }
+        ensures start { OnOk result (IsFromStart self.old.encoder.x (batch_view changes.now) self.old.shown self.new.shown) }
         ensures ok { OnOk result (Renders (batch_view changes.now) (terminal_state self.old) (terminal_state self.new)) }
         ensures err { OnErr result (terminal_state self.new ≡ terminal_state self.old) }
         ensures known { OnErr result (self.new.encoder ≡ self.old.encoder) }
         ensures lost { OnErr result (self.new.shown ≡ None) }
     {
-        let next = shown_after(self.alloc, self.size, &self.shown, self.at_start, changes);
+        let at_start = self.at_start && self.encoder == Encoder::new(self.size.cols);
+        let next = shown_after(self.alloc, self.size, &self.shown, at_start, changes);
         let mut text = String::new(self.alloc);
         let encoded = self.encode_for(changes, &next, &mut text);
         self.shown = None;
@@ -195,6 +197,7 @@ impl<W: Write> Terminal for SparingTerminal<W> {
             OnOk result (Appends (W.contents self.old.writer) (W.contents self.new.writer) sent.bytes) }
         ensures next { OnOk result (self.new.encoder ≡ (sent_batch (sent_for self.old.size.rows (batch_view changes.now) self.old.shown self.new.shown) self.old.encoder).next) }
         ensures shown { OnOk result (IsKnownAfter self.old.size.cols self.old.size.rows (batch_view changes.now) self.old.shown self.new.shown) }
+        ensures start { OnOk result (IsFromStart self.old.encoder.x (batch_view changes.now) self.old.shown self.new.shown) }
         ensures known { OnErr result (self.new.encoder ≡ self.old.encoder) }
         ensures lost { OnErr result (self.new.shown ≡ None) }
     {
