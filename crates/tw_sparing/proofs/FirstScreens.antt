@@ -21,7 +21,7 @@ use Rattle.tw_ansi.specs.EcmaBatches.{IsReached, AreSendable}
 use Rattle.tw_ansi.proofs.EcmaBatches.{batch_is_shown}
 use Rattle.tw_changed.specs.Differences.{blank_cell}
 use Rattle.tw_sparing.specs.declared.shown.Shown.{Shown}
-use Rattle.tw_sparing.specs.Shown.{first_shown, FitsTerminal, IsNear, IsPlayedOnce, IsPlayed, SetsAttributes, Empties, IsFromStart, LeadsToStart}
+use Rattle.tw_sparing.specs.Shown.{first_shown, FitsTerminal, IsShortMove, IsPlayedOnce, IsPlayed, SetsAttributes, Empties, IsFromStart, LeadsToStart}
 use Rattle.tw_sparing.specs.ShownTerminals.{IsShownBy, FirstIsKnown}
 use Rattle.tw_sparing.proofs.SpannedPictures.{IsSpanned}
 use Rattle.tw_sparing.proofs.PlayedPictures.{batch_spans}
@@ -42,7 +42,7 @@ cleared_below f r c i j start low = elim (cases_lt r i) [
       ∙ ap (λ b. cond b blank_cell (f i j)) (le-leb c j (omega (arith, start)))
 ]
 
-near_reached : (h : ℕ) (y : Position) → IsNear y → IsReached h y
+near_reached : (h : ℕ) (y : Position) → IsShortMove y → IsReached h y
 near_reached h (Absolute row) near = absurd near
 near_reached h (Relative (pos n)) near = near
 near_reached h (Relative (negsuc n)) near = near
@@ -144,14 +144,14 @@ first_is_known h w batch new e t p some small color known start a = by_start kno
         let f = first_of_batch h w new known.1.0 e p some a.within.row col color known.0.most known.1.1.0 known.1.2 in
         first_shown_by h w new f.s f.first known.1.0 e t p some small known.0 f.spans f.sendable f.attributes a
 
-    behind : (y : Position) → IsNear y → goal (CursorPosition (Absolute 0) y ∷ known.1.0)
+    behind : (y : Position) → IsShortMove y → goal (CursorPosition (Absolute 0) y ∷ known.1.0)
     behind y near =
         let q : PictureOf StyledCell = scrolled (Some h) (step w (Move (led y) (led (Absolute 0))) p) in
         let inside : p.row < h = a.within.row in
         let f = first_of_batch h w new known.1.0 (sent_change (CursorPosition (Absolute 0) y) e).next q some (omega (arith, inside)) (omega arith) color known.0.most known.1.1.0 known.1.2 in
         first_shown_by h w new f.s f.first (CursorPosition (Absolute 0) y ∷ known.1.0) e t p some small known.0 f.spans (near_reached h y near, f.sendable) f.attributes a
 
-    by_start : ((batch ≡ known.1.0) ⊎ ((y : Position) × IsNear y × (batch ≡ CursorPosition (Absolute 0) y ∷ known.1.0))) → IsFromStart e.x batch None (Some new) → goal batch
+    by_start : ((batch ≡ known.1.0) ⊎ ((y : Position) × IsShortMove y × (batch ≡ CursorPosition (Absolute 0) y ∷ known.1.0))) → IsFromStart e.x batch None (Some new) → goal batch
     by_start (inl is) (inl x) = subst (λ xs. goal xs) (sym is) (here (sym a.x ∙ x))
     by_start (inl is) (inr move) = absurd (clash known.1.1.0 is move)
       where

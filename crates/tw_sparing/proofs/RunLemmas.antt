@@ -21,8 +21,8 @@ use Rattle.tw_ansi.proofs.EcmaSequences.{received}
 use Rattle.tw_ansi.proofs.EcmaPaintings.{batches_are_shown}
 use Rattle.tw_ansi.proofs.EcmaBatches.{batch_is_shown, keeps_change}
 use Rattle.tw_sparing.specs.declared.shown.Shown.{Shown}
-use Rattle.tw_sparing.specs.Shown.{first_shown, IsKnownAfter, IsPlayed, IsBegunBy, IsNear, SetsAttributes, sent_for}
-use Rattle.tw_sparing.specs.KnownRuns.{KnownBatch, batches_of, last_known, sent_for_all, IsShownAs, CanBeSent, AreKnown, IsAlike, LooksTheSame, RunsAreShown}
+use Rattle.tw_sparing.specs.Shown.{first_shown, IsKnownAfter, IsPlayed, IsBegunBy, IsShortMove, SetsAttributes, sent_for}
+use Rattle.tw_sparing.specs.KnownRuns.{KnownBatch, batches_among, last_known, sent_for_all, IsShownAs, CanBeSent, AreKnown, IsAlike, LooksTheSame, RunsAreShown}
 use Rattle.tw_sparing.proofs.KnownScreens.{known_is_shown}
 use Rattle.tw_sparing.proofs.FirstScreens.{first_is_known}
 use Rattle.tw_sparing.proofs.SendableBatches.{follows}
@@ -38,7 +38,7 @@ emptying_kept : (batch rest : Batch) (a b : CellAttributes) → IsBegunBy batch 
 emptying_kept batch rest a b begun =
     by_start begun.1 ∙ ap (kept_after_all styled a) begun.0.3 ∙ set begun.0.0 begun.0.1 begun.0.2 ∙ ap (kept_after_all styled b) (sym begun.0.3)
   where
-    by_start : ((batch ≡ rest) ⊎ ((y : Position) × IsNear y × (batch ≡ CursorPosition (Absolute 0) y ∷ rest))) → kept_after_all styled a batch ≡ kept_after_all styled a rest
+    by_start : ((batch ≡ rest) ⊎ ((y : Position) × IsShortMove y × (batch ≡ CursorPosition (Absolute 0) y ∷ rest))) → kept_after_all styled a batch ≡ kept_after_all styled a rest
     by_start (inl is) = ap (kept_after_all styled a) is
     by_start (inr move) = ap (kept_after_all styled a) move.2
 
@@ -98,7 +98,7 @@ module _ (h w : ℕ) where
   pub runs : (calls : List KnownBatch) (old : Option Shown) (e : Encoder) (t : EcmaScreen StyledCell) (p : PictureOf StyledCell) → 0 < w → w < 2 ^ 64
       → AreKnown h w e p old calls → IsShownAs h w e t p old
       → IsShownAs h w (sent_for_all h old calls e).next (receive_all styled h w (sent_for_all h old calls e).bytes t)
-      (play_sized (Some h) false styled w e.attributes (sized_at w (batches_of calls)) p) (last_known old calls)
+      (play_sized (Some h) false styled w e.attributes (sized_at w (batches_among calls)) p) (last_known old calls)
   runs [] old e t p some small known a = a
   runs (call ∷ more) old e t p some small known a =
       let sent : Sent = sent_batch (sent_for h call.batch old call.known) e in
@@ -106,9 +106,9 @@ module _ (h w : ℕ) where
       let one = goes call.batch old call.known e t p some small known.0 known.1 a in
       let rest : Sent = sent_for_all h call.known more sent.next in
       let after = runs more call.known sent.next (receive_all styled h w sent.bytes t) drawn some small known.2 one.shown in
-      subst (λ u. IsShownAs h w rest.next u (play_sized (Some h) false styled w e.attributes (sized_at w (batches_of (call ∷ more))) p) (last_known call.known more))
+      subst (λ u. IsShownAs h w rest.next u (play_sized (Some h) false styled w e.attributes (sized_at w (batches_among (call ∷ more))) p) (last_known call.known more))
       (sym (received styled h w sent.bytes rest.bytes t))
-      (subst (λ a. IsShownAs h w rest.next (receive_all styled h w rest.bytes (receive_all styled h w sent.bytes t)) (play_sized (Some h) false styled w a (sized_at w (batches_of more)) drawn) (last_known call.known more))
+      (subst (λ a. IsShownAs h w rest.next (receive_all styled h w rest.bytes (receive_all styled h w sent.bytes t)) (play_sized (Some h) false styled w a (sized_at w (batches_among more)) drawn) (last_known call.known more))
       one.attributes after)
 
   -- ---- beside a terminal that is sent the batches themselves
@@ -119,14 +119,14 @@ module _ (h w : ℕ) where
   kept_over a (batch ∷ more) = kept_over (kept_after_all styled a batch) more
 
   runs_keep : (calls : List KnownBatch) (old : Option Shown) (e : Encoder) (t : EcmaScreen StyledCell) (p : PictureOf StyledCell) → 0 < w → w < 2 ^ 64
-      → AreKnown h w e p old calls → IsShownAs h w e t p old → (sent_for_all h old calls e).next.attributes ≡ kept_over e.attributes (batches_of calls)
+      → AreKnown h w e p old calls → IsShownAs h w e t p old → (sent_for_all h old calls e).next.attributes ≡ kept_over e.attributes (batches_among calls)
   runs_keep [] old e t p some small known a = refl
   runs_keep (call ∷ more) old e t p some small known a =
       let sent : Sent = sent_batch (sent_for h call.batch old call.known) e in
       let drawn : PictureOf StyledCell = steps_on (Some h) w (strokes_of styled e.attributes call.batch) p in
       let one = goes call.batch old call.known e t p some small known.0 known.1 a in
       runs_keep more call.known sent.next (receive_all styled h w sent.bytes t) drawn some small known.2 one.shown
-      ∙ ap (λ k. kept_over k (batches_of more)) one.attributes
+      ∙ ap (λ k. kept_over k (batches_among more)) one.attributes
 
   wholes_keep : (batches : List Batch) (f : Encoder) (p : PictureOf StyledCell) → AreAllSendable styled h w f batches p
       → (sent_batches batches f).next.attributes ≡ kept_over f.attributes batches
@@ -148,17 +148,17 @@ module _ (h w : ℕ) where
   }
 
   pub look_alike : (calls : List KnownBatch) (old : Option Shown) (e f : Encoder) (t u : EcmaScreen StyledCell) (p : PictureOf StyledCell) → 0 < w → w < 2 ^ 64
-      → AreKnown h w e p old calls → IsShownAs h w e t p old → AreAllSendable styled h w f (batches_of calls) p → ShowsPicture styled h w f u p → f.attributes ≡ e.attributes
-      → IsAlike h w (receive_all styled h w (sent_for_all h old calls e).bytes t) (receive_all styled h w (sent_batches (batches_of calls) f).bytes u)
+      → AreKnown h w e p old calls → IsShownAs h w e t p old → AreAllSendable styled h w f (batches_among calls) p → ShowsPicture styled h w f u p → f.attributes ≡ e.attributes
+      → IsAlike h w (receive_all styled h w (sent_for_all h old calls e).bytes t) (receive_all styled h w (sent_batches (batches_among calls) f).bytes u)
   look_alike calls old e f t u p some small known a fits b same =
       let mine : Sent = sent_for_all h old calls e in
-      let its : Sent = sent_batches (batches_of calls) f in
-      let end : PictureOf StyledCell = play_sized (Some h) false styled w e.attributes (sized_at w (batches_of calls)) p in
+      let its : Sent = sent_batches (batches_among calls) f in
+      let end : PictureOf StyledCell = play_sized (Some h) false styled w e.attributes (sized_at w (batches_among calls)) p in
       alike mine.next its.next (receive_all styled h w mine.bytes t) (receive_all styled h w its.bytes u) end
-      (runs_keep calls old e t p some small known a ∙ ap (λ k. kept_over k (batches_of calls)) (sym same) ∙ sym (wholes_keep (batches_of calls) f p fits))
+      (runs_keep calls old e t p some small known a ∙ ap (λ k. kept_over k (batches_among calls)) (sym same) ∙ sym (wholes_keep (batches_among calls) f p fits))
       (picture_of mine.next (receive_all styled h w mine.bytes t) end (last_known old calls) (runs calls old e t p some small known a))
-      (subst (λ k. ShowsPicture styled h w its.next (receive_all styled h w its.bytes u) (play_sized (Some h) false styled w k (sized_at w (batches_of calls)) p)) same
-      (batches_are_shown styled h w (batches_of calls) f u p follows some small fits b))
+      (subst (λ k. ShowsPicture styled h w its.next (receive_all styled h w its.bytes u) (play_sized (Some h) false styled w k (sized_at w (batches_among calls)) p)) same
+      (batches_are_shown styled h w (batches_among calls) f u p follows some small fits b))
 
 pub runs_are_shown : RunsAreShown
 runs_are_shown h w calls old e t p some small known a = runs h w calls old e t p some small known a

@@ -23,8 +23,8 @@ pub record KnownBatch : Type 0 where
   pub known : Option Shown
 
 -- the batches alone
-abbrev pub batches_of : List KnownBatch → List Batch
-batches_of calls = map (λ call. call.batch) calls
+abbrev pub batches_among : List KnownBatch → List Batch
+batches_among calls = map (λ call. call.batch) calls
 
 -- what is known after all of them
 abbrev pub last_known : Option Shown → List KnownBatch → Option Shown
@@ -62,7 +62,7 @@ abbrev pub RunsAreShown : Type 0
 RunsAreShown = (h w : ℕ) (calls : List KnownBatch) (old : Option Shown) (e : Encoder) (t : EcmaScreen StyledCell) (p : PictureOf StyledCell)
     → 0 < w → w < 2 ^ 64 → AreKnown h w e p old calls → IsShownAs h w e t p old
     → let sent = sent_for_all h old calls e in
-    IsShownAs h w sent.next (receive_all styled h w sent.bytes t) (play_sized (Some h) false styled w e.attributes (sized_at w (batches_of calls)) p) (last_known old calls)
+    IsShownAs h w sent.next (receive_all styled h w sent.bytes t) (play_sized (Some h) false styled w e.attributes (sized_at w (batches_among calls)) p) (last_known old calls)
 
 -- two terminals of h rows and w columns show the same cells, with the cursor in the same place, and the same attributes are selected
 pub record IsAlike (h w : ℕ) (a b : EcmaScreen StyledCell) : Type 0 where
@@ -75,5 +75,5 @@ pub record IsAlike (h w : ℕ) (a b : EcmaScreen StyledCell) : Type 0 where
 abbrev pub LooksTheSame : Type 0
 LooksTheSame = (h w : ℕ) (calls : List KnownBatch) (old : Option Shown) (e f : Encoder) (t u : EcmaScreen StyledCell) (p : PictureOf StyledCell)
     → 0 < w → w < 2 ^ 64 → AreKnown h w e p old calls → IsShownAs h w e t p old
-    → AreAllSendable styled h w f (batches_of calls) p → ShowsPicture styled h w f u p → f.attributes ≡ e.attributes
-    → IsAlike h w (receive_all styled h w (sent_for_all h old calls e).bytes t) (receive_all styled h w (sent_batches (batches_of calls) f).bytes u)
+    → AreAllSendable styled h w f (batches_among calls) p → ShowsPicture styled h w f u p → f.attributes ≡ e.attributes
+    → IsAlike h w (receive_all styled h w (sent_for_all h old calls e).bytes t) (receive_all styled h w (sent_batches (batches_among calls) f).bytes u)

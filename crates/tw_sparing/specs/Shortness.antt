@@ -20,16 +20,16 @@ abbrev pub hand_below : ℕ → Shown → Hand
 hand_below top shown = hand_of (without_rows top shown.screen)
 
 -- where a batch reaches no new row, and the cells in sight, the cursor and the attributes are as before, nothing is sent
-abbrev pub NothingIsSentForNothing : Type 0
-NothingIsSentForNothing = (rows cols : ℕ) (batch : Batch) (old new : Shown) → IsKnownAfter cols rows batch (Some old) (Some new) → new.reached ≡ old.reached
+abbrev pub NoBatchIsSentForNothing : Type 0
+NoBatchIsSentForNothing = (rows cols : ℕ) (batch : Batch) (old new : Shown) → IsKnownAfter cols rows batch (Some old) (Some new) → new.reached ≡ old.reached
     → let top = left_behind rows new in
     ((i j : ℕ) → i < new.reached - top → j < new.screen.width → cells_below top old i j ≡ cells_below top new i j)
     → hand_below top new ≡ hand_below top old
     → sent_for rows batch (Some old) (Some new) ≡ []
 
 -- and of printable characters that were typed at the cursor, these alone are sent
-abbrev pub TypedIsSentAlone : Type 0
-TypedIsSentAlone = (rows cols n : ℕ) (batch : Batch) (old new : Shown) (e : Encoder) → IsKnownAfter cols rows batch (Some old) (Some new) → new.reached ≡ old.reached
+abbrev pub TypedBatchIsSentAlone : Type 0
+TypedBatchIsSentAlone = (rows cols n : ℕ) (batch : Batch) (old new : Shown) (e : Encoder) → IsKnownAfter cols rows batch (Some old) (Some new) → new.reached ≡ old.reached
     → let top = left_behind rows new in
     let sent = sent_batch (sent_for rows batch (Some old) (Some new)) e in
     IsTypedAt new.screen.width (new.reached - top) n (cells_below top old) (cells_below top new) (hand_below top old) (hand_below top new)

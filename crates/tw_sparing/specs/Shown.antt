@@ -93,14 +93,14 @@ abbrev pub Empties : Batch → Type 0
 Empties batch = (second : ChangeView) × (rest : Batch) × SetsAttributes second × (batch ≡ ClearToEndOfScreen default_color ∷ second ∷ rest)
 
 -- a move by rows that leads as far at any terminal
-abbrev pub IsNear : Position → Type 0
-IsNear (Absolute row) = ⊥
-IsNear (Relative (pos n)) = n ≤ most_rows
-IsNear (Relative (negsuc n)) = n < most_rows
+abbrev pub IsShortMove : Position → Type 0
+IsShortMove (Absolute row) = ⊥
+IsShortMove (Relative (pos n)) = n ≤ most_rows
+IsShortMove (Relative (negsuc n)) = n < most_rows
 
 -- a batch that leads to column 0 first, and what is left of it
 abbrev pub IsMovedBy : Batch → Batch → Type 0
-IsMovedBy batch rest = (y : Position) × IsNear y × (batch ≡ CursorPosition (Absolute 0) y ∷ rest)
+IsMovedBy batch rest = (y : Position) × IsShortMove y × (batch ≡ CursorPosition (Absolute 0) y ∷ rest)
 
 -- a batch that empties what stands from column 0 on, behind a move to that column or not
 abbrev pub IsBegunBy : Batch → Batch → Type 0

@@ -1,7 +1,7 @@
 //! Laws of this crate's definitions: each function does nothing, and its contract is the law.
 
 ghost use Rattle.tw_sparing.specs.KnownRuns.{LooksTheSame, RunsAreShown};
-ghost use Rattle.tw_sparing.specs.Shortness.{NothingIsSentForNothing, TypedIsSentAlone};
+ghost use Rattle.tw_sparing.specs.Shortness.{NoBatchIsSentForNothing, TypedBatchIsSentAlone};
 ghost use Rattle.tw_sparing.specs.ShownTerminals.{FirstIsKnown, KnownIsShown};
 
 /// A terminal after ECMA-48 that shows what is known of it, and is sent what differs after a batch, shows the picture
@@ -25,6 +25,6 @@ pub fn runs()
 /// Where nothing differs nothing is sent for a batch, and of printable characters that were typed at the cursor, under
 /// the attributes that are selected, these alone.
 pub fn shortness()
-    ensures nothing { NothingIsSentForNothing }
-    ensures typed { TypedIsSentAlone }
+    ensures nothing { NoBatchIsSentForNothing }
+    ensures typed { TypedBatchIsSentAlone }
 {}

@@ -5,7 +5,7 @@ ghost use Rattle.tw_ansi.specs.Encoding.{sent_batch};
 ghost use Rattle.tw_surface.specs.ChangeView.{ClearToEndOfScreen, batch_view, change_view};
 ghost use Rattle.tw_surface.specs.Defaults.{default_color};
 ghost use Rattle.tw_changed.specs.Sending.{IsPrintable, screen_cells};
-ghost use Rattle.tw_sparing.specs.Shown.{changes_below, first_shown, Empties, IsBegunBy, FitsTerminal, IsFromStart, IsInSight, IsKnownAfter, IsMovedBy, IsNear, IsPlayable, IsPlayed, IsPlayedOnce, KeepsAbove, LeadsToStart, SetsAttributes};
+ghost use Rattle.tw_sparing.specs.Shown.{changes_below, first_shown, Empties, IsBegunBy, FitsTerminal, IsFromStart, IsInSight, IsKnownAfter, IsMovedBy, IsShortMove, IsPlayable, IsPlayed, IsPlayedOnce, KeepsAbove, LeadsToStart, SetsAttributes};
 
 use std::alloc::{AllocError, Global};
 use styled_screen::StyledScreen;
@@ -196,7 +196,7 @@ fn empties(changes: &[Change]) -> bool
 
 /// Whether a move leads as many rows at any terminal.
 fn is_near(position: Position) -> bool
-    ensures { result ≡ true → IsNear position }
+    ensures { result ≡ true → IsShortMove position }
 {
     match position {
         Position::Absolute(_) => false,
