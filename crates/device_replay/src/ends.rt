@@ -1,6 +1,6 @@
 //! The two ends of a terminal: what is read from it and what is written to it.
 
-use fresh_table::Numbers;
+use fresh_table::RandomNumbers;
 use std::alloc::{AllocError, Global};
 use std::io;
 use std::io::{Read, Write};
@@ -12,12 +12,12 @@ const MOST: u64 = 7;
 #[derive(Drop)]
 pub struct Pieces<'a> {
     bytes: &'a [u8],
-    cuts: Numbers,
+    cuts: RandomNumbers,
 }
 
 impl<'a> Pieces<'a> {
     /// These bytes, in pieces of lengths that the numbers give.
-    pub fn new(bytes: &'a [u8], cuts: Numbers) -> Self {
+    pub fn new(bytes: &'a [u8], cuts: RandomNumbers) -> Self {
         Pieces { bytes, cuts }
     }
 }

@@ -1,6 +1,6 @@
 //! The bytes of keys. What stands more than once in a list is picked more often.
 
-use fresh_table::Numbers;
+use fresh_table::RandomNumbers;
 use std::alloc::{AllocError, Global};
 
 const LETTERS: [&[u8]; 16] = [
@@ -59,7 +59,7 @@ const PASTES: [&[u8]; 4] = [
 const ENDS: [&[u8]; 5] = [b"\r", b"\r", b"\n", b"\x03", b"\x04"];
 
 /// The bytes of one key, most often of a letter.
-fn keystroke(numbers: &mut Numbers) -> &'static [u8] {
+fn keystroke(numbers: &mut RandomNumbers) -> &'static [u8] {
     match numbers.below(40) {
         0 => b"\x0c",
         1..=2 => numbers.pick(&ENDS, b"\r"),
@@ -70,7 +70,11 @@ fn keystroke(numbers: &mut Numbers) -> &'static [u8] {
 }
 
 /// The bytes of so many keys, one after the other.
-pub fn keystrokes(alloc: Global, numbers: &mut Numbers, count: u64) -> Result<Vec<u8>, AllocError> {
+pub fn keystrokes(
+    alloc: Global,
+    numbers: &mut RandomNumbers,
+    count: u64,
+) -> Result<Vec<u8>, AllocError> {
     let mut bytes = Vec::new(alloc);
     for _ in 0..count {
         bytes.extend_from_slice(keystroke(numbers))?;

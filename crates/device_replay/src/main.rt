@@ -21,7 +21,7 @@ mod trial;
 use crate::count::Count;
 use crate::replay::replay;
 use crate::trial::Trial;
-use fresh_table::Numbers;
+use fresh_table::RandomNumbers;
 use std::alloc::Global;
 use std::time::Instant;
 
@@ -34,7 +34,7 @@ const TRIALS: usize = 400;
 
 fn main(rt: HostRuntime) -> Result<(), anyhow::Error> {
     let start = Instant::now(&rt)?;
-    let mut numbers = Numbers::new(SEED);
+    let mut numbers = RandomNumbers::new(SEED);
     let mut all = Count::default();
     for part in 1..=PARTS {
         let count = play_part(&rt, &mut numbers)?;
@@ -49,7 +49,7 @@ fn main(rt: HostRuntime) -> Result<(), anyhow::Error> {
 /// Plays some trials, and shows each one in which something differs.
 fn play_part(
     rt: &(impl Print + Alloc<A = Global>),
-    numbers: &mut Numbers,
+    numbers: &mut RandomNumbers,
 ) -> Result<Count, anyhow::Error> {
     let mut all = Count::default();
     for _ in 0..TRIALS {

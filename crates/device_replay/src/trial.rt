@@ -1,7 +1,7 @@
 //! What is played.
 
 use crate::keystrokes::keystrokes;
-use fresh_table::{Entry, MarkedHost, Numbers};
+use fresh_table::{Entry, MarkedHost, RandomNumbers};
 use std::alloc::{AllocError, Global};
 use tw_lineedit::{BasicHistory, History};
 use tw_terminal::ScreenSize;
@@ -51,13 +51,13 @@ pub struct Trial {
     /// The bytes of the keys.
     pub bytes: Vec<u8>,
     /// How the bytes are cut.
-    pub cuts: Numbers,
+    pub cuts: RandomNumbers,
     preview: &'static str,
     history: Vec<&'static str>,
 }
 
 /// One of the two screens.
-fn entry(numbers: &mut Numbers) -> Entry {
+fn entry(numbers: &mut RandomNumbers) -> Entry {
     if numbers.below(2) == 0 {
         Entry::Blank
     } else {
@@ -66,12 +66,12 @@ fn entry(numbers: &mut Numbers) -> Entry {
 }
 
 /// A number from one up to another.
-fn between(numbers: &mut Numbers, from: u64, to: u64) -> usize {
+fn between(numbers: &mut RandomNumbers, from: u64, to: u64) -> usize {
     let more = numbers.below(to.saturating_sub(from).saturating_add(1));
     from.saturating_add(more) as usize
 }
 
-fn history(alloc: Global, numbers: &mut Numbers) -> Result<Vec<&'static str>, AllocError> {
+fn history(alloc: Global, numbers: &mut RandomNumbers) -> Result<Vec<&'static str>, AllocError> {
     let mut lines = Vec::new(alloc);
     for _ in 0..numbers.below(6) {
         lines.push(numbers.pick(&LINES, ""))?;
@@ -81,7 +81,7 @@ fn history(alloc: Global, numbers: &mut Numbers) -> Result<Vec<&'static str>, Al
 
 impl Trial {
     /// The next trial.
-    pub fn generate(alloc: Global, numbers: &mut Numbers) -> Result<Self, AllocError> {
+    pub fn generate(alloc: Global, numbers: &mut RandomNumbers) -> Result<Self, AllocError> {
         let size = ScreenSize {
             rows: between(numbers, LEAST, MOST_ROWS),
             cols: between(numbers, LEAST, MOST_COLS),
@@ -93,7 +93,7 @@ impl Trial {
             prompt: numbers.pick(&PROMPTS, ""),
             column: numbers.pick(&COLUMNS, None),
             bytes: keystrokes(alloc, numbers, count)?,
-            cuts: Numbers::new(numbers.number() | 1),
+            cuts: RandomNumbers::new(numbers.number() | 1),
             preview: numbers.pick(&PREVIEWS, ""),
             history: history(alloc, numbers)?,
         })

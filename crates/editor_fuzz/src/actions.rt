@@ -1,14 +1,18 @@
 //! Actions from numbers.
 
 use crate::events::{letter, text};
-use fresh_table::Numbers;
+use fresh_table::RandomNumbers;
 use std::alloc::{AllocError, Global};
 use tw_lineedit::{Action, Movement};
 
 const COUNTS: [usize; 8] = [0, 1, 1, 1, 2, 3, 7, usize::MAX];
 
 /// An action of any kind.
-pub fn action(alloc: Global, numbers: &mut Numbers, plain: bool) -> Result<Action, AllocError> {
+pub fn action(
+    alloc: Global,
+    numbers: &mut RandomNumbers,
+    plain: bool,
+) -> Result<Action, AllocError> {
     let count = numbers.pick(&COUNTS, 1);
     Ok(match numbers.below(18) {
         0 => Action::AcceptLine,
@@ -32,7 +36,7 @@ pub fn action(alloc: Global, numbers: &mut Numbers, plain: bool) -> Result<Actio
     })
 }
 
-fn movement(numbers: &mut Numbers) -> Movement {
+fn movement(numbers: &mut RandomNumbers) -> Movement {
     let count = numbers.pick(&COUNTS, 1);
     match numbers.below(7) {
         0 => Movement::BackwardChar(count),

@@ -1,7 +1,7 @@
 //! Events from numbers.
 
 use crate::texts::{LETTERS, PLAIN, WILD, WILD_LETTERS};
-use fresh_table::Numbers;
+use fresh_table::RandomNumbers;
 use std::alloc::{AllocError, Global};
 use tw_input::{InputEvent, KeyCode, KeyEvent, Modifiers};
 use tw_terminal::ScreenSize;
@@ -103,7 +103,7 @@ const HELD: [Modifiers; 5] = [
 ];
 
 /// A text: of printable ASCII where it is to be plain.
-pub fn text(numbers: &mut Numbers, plain: bool) -> &'static str {
+pub fn text(numbers: &mut RandomNumbers, plain: bool) -> &'static str {
     if plain {
         numbers.pick(&PLAIN, "")
     } else {
@@ -112,7 +112,7 @@ pub fn text(numbers: &mut Numbers, plain: bool) -> &'static str {
 }
 
 /// A character: of printable ASCII where it is to be plain.
-pub fn letter(numbers: &mut Numbers, plain: bool) -> char {
+pub fn letter(numbers: &mut RandomNumbers, plain: bool) -> char {
     if plain {
         numbers.pick(&LETTERS, ' ')
     } else {
@@ -121,7 +121,11 @@ pub fn letter(numbers: &mut Numbers, plain: bool) -> char {
 }
 
 /// An event. Where it is to be plain it brings printable ASCII alone, and no size.
-pub fn event(alloc: Global, numbers: &mut Numbers, plain: bool) -> Result<InputEvent, AllocError> {
+pub fn event(
+    alloc: Global,
+    numbers: &mut RandomNumbers,
+    plain: bool,
+) -> Result<InputEvent, AllocError> {
     Ok(match numbers.below(60) {
         0 => InputEvent::Wake,
         1 if !plain => {
@@ -137,7 +141,7 @@ pub fn event(alloc: Global, numbers: &mut Numbers, plain: bool) -> Result<InputE
 }
 
 /// A key: most often a character.
-fn key(numbers: &mut Numbers, plain: bool) -> KeyEvent {
+fn key(numbers: &mut RandomNumbers, plain: bool) -> KeyEvent {
     match numbers.below(60) {
         0..=17 => pressed(numbers.pick(&COMMANDS, KeyCode::Tab), Modifiers::NONE),
         18..=25 => {

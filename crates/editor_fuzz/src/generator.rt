@@ -4,7 +4,7 @@ use crate::actions::action;
 use crate::events::{SIZES, event, text};
 use crate::round::{Round, Step};
 use crate::texts::PREVIEWS;
-use fresh_table::{Entry, Numbers};
+use fresh_table::{Entry, RandomNumbers};
 use std::alloc::{AllocError, Global};
 use tw_input::InputEvent;
 use tw_terminal::ScreenSize;
@@ -37,10 +37,10 @@ const WILD_COLUMNS: [Option<usize>; 12] = [
 ];
 
 /// The numbers of a seed. Seeds beside each other have numbers that are far from each other.
-fn numbers_of(seed: u64) -> Numbers {
+fn numbers_of(seed: u64) -> RandomNumbers {
     let mixed = seed.wrapping_add(1).wrapping_mul(0x9e37_79b9_7f4a_7c15);
     let mixed = (mixed ^ (mixed >> 31)).wrapping_mul(0xbf58_476d_1ce4_e5b9);
-    Numbers::new((mixed ^ (mixed >> 29)) | 1)
+    RandomNumbers::new((mixed ^ (mixed >> 29)) | 1)
 }
 
 /// The round of a seed. Each seed has one, always the same.
@@ -68,7 +68,7 @@ pub fn round_of(alloc: Global, seed: u64) -> Result<Round, AllocError> {
     })
 }
 
-fn size(numbers: &mut Numbers, plain: bool) -> ScreenSize {
+fn size(numbers: &mut RandomNumbers, plain: bool) -> ScreenSize {
     if !plain && numbers.below(2) == 0 {
         return numbers.pick(&SIZES, SIZES[0]);
     }
@@ -79,21 +79,21 @@ fn size(numbers: &mut Numbers, plain: bool) -> ScreenSize {
 }
 
 /// Most often the usual prompt.
-fn prompt(numbers: &mut Numbers, plain: bool) -> &'static str {
+fn prompt(numbers: &mut RandomNumbers, plain: bool) -> &'static str {
     if numbers.below(2) == 0 {
         return "> ";
     }
     text(numbers, plain)
 }
 
-fn preview(numbers: &mut Numbers, plain: bool) -> &'static str {
+fn preview(numbers: &mut RandomNumbers, plain: bool) -> &'static str {
     if !plain && numbers.below(3) == 0 {
         return text(numbers, plain);
     }
     numbers.pick(&PREVIEWS, "")
 }
 
-fn column(numbers: &mut Numbers, plain: bool) -> Option<usize> {
+fn column(numbers: &mut RandomNumbers, plain: bool) -> Option<usize> {
     if plain {
         numbers.pick(&COLUMNS, None)
     } else {
@@ -104,7 +104,7 @@ fn column(numbers: &mut Numbers, plain: bool) -> Option<usize> {
 /// Candidates with small offsets, so that many fit and others do not.
 fn candidates(
     alloc: Global,
-    numbers: &mut Numbers,
+    numbers: &mut RandomNumbers,
     plain: bool,
 ) -> Result<Vec<(usize, usize, &'static str)>, AllocError> {
     let mut candidates = Vec::new(alloc);
@@ -121,7 +121,7 @@ fn candidates(
 
 fn history(
     alloc: Global,
-    numbers: &mut Numbers,
+    numbers: &mut RandomNumbers,
     plain: bool,
 ) -> Result<Vec<&'static str>, AllocError> {
     let mut lines = Vec::new(alloc);
@@ -133,7 +133,7 @@ fn history(
 
 fn events(
     alloc: Global,
-    numbers: &mut Numbers,
+    numbers: &mut RandomNumbers,
     plain: bool,
 ) -> Result<Vec<InputEvent>, AllocError> {
     let mut events = Vec::new(alloc);
@@ -144,7 +144,7 @@ fn events(
 }
 
 /// A call that fails, in one of three rounds that are not plain.
-fn fault(numbers: &mut Numbers, plain: bool) -> Option<(usize, usize)> {
+fn fault(numbers: &mut RandomNumbers, plain: bool) -> Option<(usize, usize)> {
     if plain || numbers.below(3) > 0 {
         return None;
     }
@@ -152,7 +152,7 @@ fn fault(numbers: &mut Numbers, plain: bool) -> Option<(usize, usize)> {
 }
 
 /// Readings, and in one of three rounds other calls between them. The last step is a reading.
-fn steps(alloc: Global, numbers: &mut Numbers, plain: bool) -> Result<Vec<Step>, AllocError> {
+fn steps(alloc: Global, numbers: &mut RandomNumbers, plain: bool) -> Result<Vec<Step>, AllocError> {
     let mut steps = Vec::new(alloc);
     let calls = numbers.below(3) == 0;
     for _ in 0..numbers.below(6) {
@@ -164,7 +164,7 @@ fn steps(alloc: Global, numbers: &mut Numbers, plain: bool) -> Result<Vec<Step>,
 
 fn step(
     alloc: Global,
-    numbers: &mut Numbers,
+    numbers: &mut RandomNumbers,
     plain: bool,
     calls: bool,
 ) -> Result<Step, AllocError> {

@@ -3,19 +3,19 @@
 //!
 //! `table` is what a screen is to hold, and `painted` what a batch shows, as its texts tell; `shows` is what a model
 //! screen plays and holds, and `stage` has the screens on which batches are played, beside their tables. `host` is the
-//! host that marks the cursor, and `numbers` has numbers from a seed.
+//! host that marks the cursor, and `random_numbers` has numbers from a seed.
 #![tactic(auto)]
 
 mod host;
-mod numbers;
 mod painted;
+mod random_numbers;
 mod shows;
 mod stage;
 mod table;
 
 pub use host::MarkedHost;
-pub use numbers::Numbers;
 pub use painted::{Batch, PaintedTexts};
+pub use random_numbers::RandomNumbers;
 pub use shows::{Plays, Shows};
 pub use stage::{ScrollingStage, ScrollingTable, Stage};
 pub use table::{Entry, FILLING, Table};

@@ -1,15 +1,15 @@
-//! Numbers from a seed.
+//! Random numbers from a seed.
 
 /// Numbers in a scattered order, the same for each seed.
 #[derive(Debug, Clone, Copy)]
-pub struct Numbers {
+pub struct RandomNumbers {
     state: u64,
 }
 
-impl Numbers {
+impl RandomNumbers {
     /// The numbers of a seed that is not 0.
     pub fn new(seed: u64) -> Self {
-        Numbers { state: seed }
+        RandomNumbers { state: seed }
     }
 
     /// The next number.

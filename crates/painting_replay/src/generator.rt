@@ -1,7 +1,7 @@
 //! Trials from a seed. What stands more than once in a list is picked more often.
 
 use crate::trial::Trial;
-use fresh_table::{Entry, Numbers};
+use fresh_table::{Entry, RandomNumbers};
 use std::alloc::{AllocError, Global};
 
 const PROMPTS: [&str; 5] = ["> ", "> ", "", "sh$ ", "a longer prompt: "];
@@ -64,14 +64,14 @@ const COMMANDS: [&str; 18] = [
 /// Trials in a scattered order, the same for each seed.
 #[derive(Debug, Clone, Copy)]
 pub struct Generator {
-    numbers: Numbers,
+    numbers: RandomNumbers,
 }
 
 impl Generator {
     /// The trials of a seed that is not 0.
     pub fn new(seed: u64) -> Self {
         Generator {
-            numbers: Numbers::new(seed),
+            numbers: RandomNumbers::new(seed),
         }
     }
 
