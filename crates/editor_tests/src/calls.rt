@@ -4,6 +4,7 @@ ghost use Rattle.std.specs.Prelude.{ℕ, List, refl};
 ghost use Rattle.tw_lineedit.specs.HostRules.{plain_rules};
 ghost use Rattle.editor_tests.specs.AskedHost.{asked_is_plain, shown_overrides};
 
+use crate::expected::{expect, expect_at};
 use case_player::{answer_text, terminal_of};
 use std::alloc::{AllocError, Global};
 use std::cell::Cell;
@@ -72,9 +73,9 @@ fn expect_calls(
         let mut editor = LineEditor::new(alloc, &mut terminal)?;
         let answer = editor.read_line(&mut host);
         let shown = answer_text(alloc, &answer)?;
-        assert_eq!(rt; shown.as_str(), wanted, "{events:?}");
+        expect_at(rt, &events, &shown.as_str(), &wanted);
     }
-    assert_eq!(rt; terminal.calls.as_str(), calls, "{events:?}");
+    expect_at(rt, &events, &terminal.calls.as_str(), &calls);
     Ok(())
 }
 
@@ -127,10 +128,10 @@ fn a_mode_that_was_left_refuses_the_reading(rt: HostRuntime) -> Result<(), Fail>
         editor.apply_action(&mut host, Action::Cancel)?;
         let answer = editor.read_line(&mut host);
         let shown = answer_text(alloc, &answer)?;
-        assert_eq!(rt; shown.as_str(), "refusal 2");
+        expect(&rt, &shown.as_str(), &"refusal 2");
     }
-    assert_eq!(rt; terminal.calls.as_str(), "");
-    assert_eq!(rt; terminal.script.events_left(), 2);
+    expect(&rt, &terminal.calls.as_str(), &"");
+    expect(&rt, &terminal.script.events_left(), &2);
     Ok(())
 }
 
@@ -233,9 +234,9 @@ fn the_host_is_asked_once_for_a_painting(rt: HostRuntime) -> Result<(), Fail> {
             let mut editor = LineEditor::new(alloc, &mut terminal)?;
             let _ = editor.read_line(&mut host);
         }
-        assert_eq!(rt; host.prompts.get(), paintings, "{events}");
-        assert_eq!(rt; host.lines.get(), paintings, "{events}");
-        assert_eq!(rt; host.previews.get(), edited, "{events}");
+        expect_at(&rt, &events, &host.prompts.get(), &paintings);
+        expect_at(&rt, &events, &host.lines.get(), &paintings);
+        expect_at(&rt, &events, &host.previews.get(), &edited);
     }
     Ok(())
 }

@@ -1,6 +1,7 @@
 //! A terminal that fails at one of its calls.
 
 use crate::calls::Listing;
+use crate::expected::{expect, expect_at};
 use crate::support::expect_readings;
 use case_player::{answer_text, batches_text, terminal_of, terminal_text, write_batch};
 use std::alloc::Global;
@@ -88,7 +89,7 @@ CP(A(0), R(1)), ClearToEndOfScreen
 
 #[test]
 fn a_fault_at_each_call_is_the_answer(rt: HostRuntime) -> Result<(), Fail> {
-    assert_eq!(rt; expect_readings(&rt, rt.alloc(), EACH_CALL)?, 10);
+    expect(&rt, &expect_readings(&rt, rt.alloc(), EACH_CALL)?, &10);
     Ok(())
 }
 
@@ -120,7 +121,7 @@ CP(A(0), R(1))
 
 #[test]
 fn a_fault_leaves_a_beginning_of_the_batch(rt: HostRuntime) -> Result<(), Fail> {
-    assert_eq!(rt; expect_readings(&rt, rt.alloc(), IN_PART)?, 3);
+    expect(&rt, &expect_readings(&rt, rt.alloc(), IN_PART)?, &3);
     Ok(())
 }
 
@@ -136,7 +137,7 @@ CP(A(0), R(0)), ClearToEndOfScreen, AllAttributes, Text(\"> \"), AllAttributes, 
 
 #[test]
 fn a_fault_of_the_closing_batch_comes_before_the_line(rt: HostRuntime) -> Result<(), Fail> {
-    assert_eq!(rt; expect_readings(&rt, rt.alloc(), CLOSING)?, 1);
+    expect(&rt, &expect_readings(&rt, rt.alloc(), CLOSING)?, &1);
     Ok(())
 }
 
@@ -152,12 +153,12 @@ fn a_refused_repaint_leaves_the_editor(rt: HostRuntime) -> Result<(), Fail> {
         editor.set_line_and_cursor("ab", 0)?;
         match editor.apply_action(&mut host, Action::Repaint) {
             Ok(()) => assert!(rt; false, "no refusal"),
-            Err(error) => assert_eq!(rt; error.number(), 7),
+            Err(error) => expect(&rt, &error.number(), &7),
         }
-        assert_eq!(rt; editor.get_line_and_cursor(), ("ab", 0));
+        expect(&rt, &editor.get_line_and_cursor(), &("ab", 0));
         let answer = editor.read_line(&mut host);
         let shown = answer_text(alloc, &answer)?;
-        assert_eq!(rt; shown.as_str(), "Some(\"\")");
+        expect(&rt, &shown.as_str(), &"Some(\"\")");
     }
     let told = terminal_text(alloc, &terminal)?;
     assert!(rt; told.as_str().starts_with("0 left, 2 flushed, 1 failed\n"));
@@ -210,7 +211,7 @@ fn expect_fault<A: Drop>(
     wanted: TerminalFault,
 ) {
     match answer {
-        Err(Error::Terminal(fault)) => assert_eq!(rt; fault, wanted, "at {call}"),
+        Err(Error::Terminal(fault)) => expect_at(rt, &call, &fault, &wanted),
         _ => assert!(rt; false, "no fault at {call}"),
     }
 }
@@ -227,7 +228,7 @@ fn the_answer_is_the_very_fault(rt: HostRuntime) -> Result<(), Fail> {
                 let answer = editor.read_line(&mut host);
                 expect_fault(&rt, answer, call, fault);
             }
-            assert_eq!(rt; terminal.listing.script.failures(), 1, "at {call}");
+            expect_at(&rt, &call, &terminal.listing.script.failures(), &1);
         }
     }
     Ok(())
@@ -287,8 +288,8 @@ fn a_fault_ends_the_calls(rt: HostRuntime) -> Result<(), Fail> {
                 expect_fault(&rt, answer, call, fault);
             }
             let listing = &terminal.listing;
-            assert_eq!(rt; listing.calls.as_str(), calls, "at {call}");
-            assert_eq!(rt; listing.script.events_left(), left, "at {call}");
+            expect_at(&rt, &call, &listing.calls.as_str(), &calls);
+            expect_at(&rt, &call, &listing.script.events_left(), &left);
         }
     }
     Ok(())
@@ -319,7 +320,7 @@ fn batches_of(
 fn a_refused_batch_is_taken_up_to_its_fault(rt: HostRuntime) -> Result<(), Fail> {
     let alloc = rt.alloc();
     let whole = batches_of(alloc, None, TerminalFault::Device)?;
-    assert_eq!(rt; whole.batches().len(), 4);
+    expect(&rt, &whole.batches().len(), &4);
     let closing = "CP(A(0), R(1)), ClearToEndOfScreen\n";
     let mut before = String::new(alloc);
     for ((call, behind), batch) in [(1, ""), (4, closing), (7, closing), (8, "")]
@@ -337,7 +338,7 @@ fn a_refused_batch_is_taken_up_to_its_fault(rt: HostRuntime) -> Result<(), Fail>
             for &kind in &[TerminalFault::Device, TerminalFault::Memory] {
                 let terminal = batches_of(alloc, Some((*call, taken)), kind)?;
                 let shown = batches_text(alloc, terminal.batches())?;
-                assert_eq!(rt; shown.as_str(), wanted.as_str(), "{taken} at {call}");
+                expect_at(&rt, &(taken, call), &shown.as_str(), &wanted.as_str());
             }
         }
         write_batch(&mut before, batch.as_slice())?;

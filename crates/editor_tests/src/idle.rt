@@ -1,5 +1,6 @@
 //! Events that have no action.
 
+use crate::expected::{expect, expect_at};
 use case_player::events_named;
 use std::alloc::Global;
 use std::process::Abort;
@@ -88,10 +89,10 @@ fn expect_idle(rt: &impl Abort, alloc: Global, event: InputEvent) -> Result<(), 
         let mut host = NopLineEditorHost::new(alloc);
         let mut editor = LineEditor::new(alloc, &mut terminal)?;
         let line = editor.read_line(&mut host)?.ok_or("no line")?;
-        assert_eq!(rt; line.as_str(), "a", "{name}");
+        expect_at(rt, &name, &line.as_str(), &"a");
     }
     let batches = terminal.batches();
-    assert_eq!(rt; batches.len(), 5, "{name}");
+    expect_at(rt, &name, &batches.len(), &5);
     assert!(rt; batches[2].as_slice() == batches[1].as_slice(), "{name}");
     assert!(rt; batches[3].as_slice() == batches[1].as_slice(), "{name}");
     Ok(())
@@ -120,7 +121,7 @@ fn a_key_without_an_action_is_painted_once(rt: HostRuntime) -> Result<(), Fail> 
             }
         }
     }
-    assert_eq!(rt; count, 496);
+    expect(&rt, &count, &496);
     Ok(())
 }
 

@@ -1,5 +1,6 @@
 //! Lines that are read, with each change that the terminal is sent.
 
+use crate::expected::expect;
 use crate::support::expect_readings;
 use std::test::Fail;
 
@@ -26,7 +27,7 @@ CP(A(0), R(1)), ClearToEndOfScreen
 
 #[test]
 fn keys_edit_the_line(rt: HostRuntime) -> Result<(), Fail> {
-    assert_eq!(rt; expect_readings(&rt, rt.alloc(), TYPED)?, 2);
+    expect(&rt, &expect_readings(&rt, rt.alloc(), TYPED)?, &2);
     Ok(())
 }
 
@@ -41,7 +42,7 @@ CP(A(0), R(1)), ClearToEndOfScreen
 
 #[test]
 fn an_initial_value_is_the_line(rt: HostRuntime) -> Result<(), Fail> {
-    assert_eq!(rt; expect_readings(&rt, rt.alloc(), INITIAL)?, 1);
+    expect(&rt, &expect_readings(&rt, rt.alloc(), INITIAL)?, &1);
     Ok(())
 }
 
@@ -64,7 +65,7 @@ CP(A(0), R(1)), ClearToEndOfScreen
 
 #[test]
 fn a_full_row_is_followed_by_a_space(rt: HostRuntime) -> Result<(), Fail> {
-    assert_eq!(rt; expect_readings(&rt, rt.alloc(), FULL_ROW)?, 2);
+    expect(&rt, &expect_readings(&rt, rt.alloc(), FULL_ROW)?, &2);
     Ok(())
 }
 
@@ -88,7 +89,7 @@ CP(A(0), R(2)), ClearToEndOfScreen
 
 #[test]
 fn a_painting_starts_where_the_one_before_did(rt: HostRuntime) -> Result<(), Fail> {
-    assert_eq!(rt; expect_readings(&rt, rt.alloc(), WRAPPED)?, 1);
+    expect(&rt, &expect_readings(&rt, rt.alloc(), WRAPPED)?, &1);
     Ok(())
 }
 
@@ -117,7 +118,7 @@ CP(A(0), R(1)), ClearToEndOfScreen
 
 #[test]
 fn repaint_clears_the_screen_first(rt: HostRuntime) -> Result<(), Fail> {
-    assert_eq!(rt; expect_readings(&rt, rt.alloc(), CLEARED)?, 1);
+    expect(&rt, &expect_readings(&rt, rt.alloc(), CLEARED)?, &1);
     Ok(())
 }
 
@@ -134,7 +135,7 @@ CP(A(0), R(1)), ClearToEndOfScreen
 
 #[test]
 fn cancel_answers_no_line(rt: HostRuntime) -> Result<(), Fail> {
-    assert_eq!(rt; expect_readings(&rt, rt.alloc(), CANCELLED)?, 1);
+    expect(&rt, &expect_readings(&rt, rt.alloc(), CANCELLED)?, &1);
     Ok(())
 }
 
@@ -150,7 +151,7 @@ CP(A(0), R(1)), ClearToEndOfScreen
 
 #[test]
 fn end_of_file_closes_the_last_painting(rt: HostRuntime) -> Result<(), Fail> {
-    assert_eq!(rt; expect_readings(&rt, rt.alloc(), END_OF_FILE)?, 1);
+    expect(&rt, &expect_readings(&rt, rt.alloc(), END_OF_FILE)?, &1);
     Ok(())
 }
 
@@ -171,7 +172,7 @@ CP(A(0), R(1)), ClearToEndOfScreen
 
 #[test]
 fn a_new_size_is_measured_anew(rt: HostRuntime) -> Result<(), Fail> {
-    assert_eq!(rt; expect_readings(&rt, rt.alloc(), RESIZED)?, 1);
+    expect(&rt, &expect_readings(&rt, rt.alloc(), RESIZED)?, &1);
     Ok(())
 }
 
@@ -216,7 +217,7 @@ CP(A(0), R(1)), ClearToEndOfScreen
 
 #[test]
 fn a_size_out_of_range_is_refused(rt: HostRuntime) -> Result<(), Fail> {
-    assert_eq!(rt; expect_readings(&rt, rt.alloc(), SIZES)?, 7);
+    expect(&rt, &expect_readings(&rt, rt.alloc(), SIZES)?, &7);
     Ok(())
 }
 
@@ -243,7 +244,7 @@ CP(A(0), R(1)), ClearToEndOfScreen
 
 #[test]
 fn a_new_size_at_the_limits_is_painted(rt: HostRuntime) -> Result<(), Fail> {
-    assert_eq!(rt; expect_readings(&rt, rt.alloc(), LIMITS)?, 2);
+    expect(&rt, &expect_readings(&rt, rt.alloc(), LIMITS)?, &2);
     Ok(())
 }
 
@@ -273,11 +274,11 @@ fn a_size_beyond_the_limits_is_refused(rt: HostRuntime) -> Result<(), Fail> {
         let later = format!(in alloc;
             "events a {cols}x{rows} b\n--\nrefusal {number}{BEYOND}==\n"
         )?;
-        assert_eq!(rt; expect_readings(&rt, alloc, later.as_str())?, 1);
+        expect(&rt, &expect_readings(&rt, alloc, later.as_str())?, &1);
         let first = format!(in alloc;
             "size {rows} {cols}\nevents a\n--\nrefusal {number}, 1 left, 0 flushed, 0 failed\n==\n"
         )?;
-        assert_eq!(rt; expect_readings(&rt, alloc, first.as_str())?, 1);
+        expect(&rt, &expect_readings(&rt, alloc, first.as_str())?, &1);
     }
     Ok(())
 }

@@ -2,6 +2,7 @@
 
 ghost use Rattle.std.specs.Prelude.{[]};
 
+use crate::expected::expect;
 use case_player::terminal_of;
 use script_player::ScriptHost;
 use std::alloc::{AllocError, Global};
@@ -20,12 +21,12 @@ fn an_accepted_line_is_added_and_a_cancelled_one_is_not(rt: HostRuntime) -> Resu
     let mut editor = LineEditor::new(alloc, &mut terminal)?;
     for &wanted in &[Some("ab"), None, Some("d"), Some("ab")] {
         let line = editor.read_line_and_remember(&mut host)?;
-        assert_eq!(rt; line.as_deref(), wanted);
+        expect(&rt, &line.as_deref(), &wanted);
     }
     let history = host.history();
-    assert_eq!(rt; history.last(), Some(2));
+    expect(&rt, &history.last(), &Some(2));
     for (at, line) in ["ab", "d", "ab"].iter().enumerate() {
-        assert_eq!(rt; history.get(alloc, at)?, Some(CowStr::Borrowed(line)));
+        expect(&rt, &history.get(alloc, at)?, &Some(CowStr::Borrowed(line)));
     }
     Ok(())
 }
@@ -68,11 +69,11 @@ fn a_line_is_read_before_it_is_refused(rt: HostRuntime) -> Result<(), Fail> {
     let mut terminal = terminal_of(alloc, 80, "a Enter b C-C")?;
     let mut editor = LineEditor::new(alloc, &mut terminal)?;
     let refused = editor.read_line_and_remember(&mut host);
-    assert_eq!(rt; refused.err().map(|error| error.number()), Some(6));
-    assert_eq!(rt; editor.get_line_and_cursor().0, "a");
+    expect(&rt, &refused.err().map(|error| error.number()), &Some(6));
+    expect(&rt, &editor.get_line_and_cursor().0, &"a");
     assert!(rt; editor.read_line_and_remember(&mut host)?.is_none());
     drop(editor);
-    assert_eq!(rt; terminal.events_left(), 0);
-    assert_eq!(rt; terminal.failures(), 0);
+    expect(&rt, &terminal.events_left(), &0);
+    expect(&rt, &terminal.failures(), &0);
     Ok(())
 }

@@ -1,5 +1,6 @@
 //! Cases whose outcome is compared with a text.
 
+use crate::expected::expect_at;
 use case_player::{case_of, readings_of, remember_all, terminal_text};
 use std::alloc::Global;
 use std::process::Abort;
@@ -20,7 +21,7 @@ pub fn expect_readings(rt: &impl Abort, alloc: Global, cases: &str) -> Result<us
         let (answers, terminal) = readings_of(alloc, &case, &mut host)?;
         let told = terminal_text(alloc, &terminal)?;
         let shown = format!(in alloc; "{answers}, {told}")?;
-        assert_eq!(rt; shown.as_str(), wanted, "{lines}");
+        expect_at(rt, &lines, &shown.as_str(), &wanted);
         count = count.saturating_add(1);
     }
     Ok(count)

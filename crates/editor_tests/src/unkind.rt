@@ -4,6 +4,7 @@ ghost use Rattle.std.specs.Prelude.{refl};
 ghost use Rattle.editor_tests.specs.StrayHost.{Stray, stray_rules, stray_overrides, stray_is_plain};
 
 use crate::calls::Listing;
+use crate::expected::{expect, expect_at};
 use case_player::{answer_text, case_of, readings_of, remember_all, terminal_text, told_of};
 use std::alloc::{AllocError, Global};
 use std::process::Abort;
@@ -131,7 +132,7 @@ fn expect_answer(
     let mut host = stray_host(alloc);
     remember_all(&mut host, lines)?;
     let (answer, _) = readings_of(alloc, &case, &mut host)?;
-    assert_eq!(rt; answer.as_str(), wanted, "{events}");
+    expect_at(rt, &events, &answer.as_str(), &wanted);
     Ok(())
 }
 
@@ -188,7 +189,7 @@ fn a_repaint_is_shown_though_its_painting_is_refused(rt: HostRuntime) -> Result<
     let (answer, terminal) = readings_of(alloc, &case, &mut stray_host(alloc))?;
     let told = terminal_text(alloc, &terminal)?;
     let shown = format!(in alloc; "{answer}, {told}")?;
-    assert_eq!(rt; shown.as_str(), AWAY);
+    expect(&rt, &shown.as_str(), &AWAY);
     Ok(())
 }
 
@@ -204,9 +205,9 @@ fn a_search_that_was_left_open_refuses_the_reading(rt: HostRuntime) -> Result<()
         editor.apply_action(&mut host, Action::HistoryIncSearchForwards)?;
         let answer = editor.read_line(&mut host);
         let shown = answer_text(alloc, &answer)?;
-        assert_eq!(rt; shown.as_str(), "refusal 2");
+        expect(&rt, &shown.as_str(), &"refusal 2");
     }
-    assert_eq!(rt; terminal.calls.as_str(), "");
-    assert_eq!(rt; terminal.script.events_left(), 2);
+    expect(&rt, &terminal.calls.as_str(), &"");
+    expect(&rt, &terminal.script.events_left(), &2);
     Ok(())
 }

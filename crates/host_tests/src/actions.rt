@@ -1,5 +1,6 @@
 //! Actions on a line that is set, and several readings with one editor.
 
+use crate::expected::{expect, expect_at};
 use case_player::{answer_text, batches_text, remember_all, terminal_of};
 use std::alloc::Global;
 use std::process::Abort;
@@ -22,8 +23,8 @@ pub fn expect_step<H: LineEditorHost>(
         Err(error) => error.number(),
     };
     let (number, line, cursor) = wanted;
-    assert_eq!(rt; refusal, number, "{line:?} at {cursor}");
-    assert_eq!(rt; editor.get_line_and_cursor(), (line, cursor));
+    expect_at(rt, &(line, cursor), &refusal, &number);
+    expect(rt, &editor.get_line_and_cursor(), &(line, cursor));
 }
 
 /// Applies an action to a line with a new editor, as `expect_step` does.
@@ -113,7 +114,7 @@ fn expect_answer(
     wanted: &str,
 ) -> Result<(), Fail> {
     let shown = answer_text(alloc, answer)?;
-    assert_eq!(rt; shown.as_str(), wanted);
+    expect(rt, &shown.as_str(), &wanted);
     Ok(())
 }
 
@@ -138,9 +139,9 @@ fn one_editor_reads_two_lines(rt: HostRuntime) -> Result<(), Fail> {
         expect_answer(&rt, alloc, &editor.read_line(&mut host), "Some(\"a\")")?;
         expect_answer(&rt, alloc, &editor.read_line(&mut host), "Some(\"b\")")?;
     }
-    assert_eq!(rt; terminal.events_left(), 0);
+    expect(&rt, &terminal.events_left(), &0);
     let shown = batches_text(alloc, terminal.batches())?;
-    assert_eq!(rt; shown.as_str(), TWO_LINES);
+    expect(&rt, &shown.as_str(), &TWO_LINES);
     Ok(())
 }
 
@@ -153,7 +154,7 @@ fn a_reading_leaves_the_events_behind_its_line(rt: HostRuntime) -> Result<(), Fa
         let mut editor = LineEditor::new(alloc, &mut terminal)?;
         expect_answer(&rt, alloc, &editor.read_line(&mut host), "Some(\"a\")")?;
     }
-    assert_eq!(rt; terminal.events_left(), 2);
+    expect(&rt, &terminal.events_left(), &2);
     Ok(())
 }
 
@@ -167,6 +168,6 @@ fn a_refused_size_leaves_the_editor_ready(rt: HostRuntime) -> Result<(), Fail> {
         expect_answer(&rt, alloc, &editor.read_line(&mut host), "refusal 3")?;
         expect_answer(&rt, alloc, &editor.read_line(&mut host), "refusal 3")?;
     }
-    assert_eq!(rt; terminal.batches().len(), 0);
+    expect(&rt, &terminal.batches().len(), &0);
     Ok(())
 }

@@ -1,5 +1,6 @@
 //! A history that forgets its oldest lines, by itself and under an editor.
 
+use crate::expected::{expect, expect_at};
 use crate::histories::expect_histories;
 use case_player::terminal_of;
 use script_player::ScriptHost;
@@ -31,20 +32,12 @@ fn expect_lines(
     lines: &[&str],
 ) -> Result<(), AllocError> {
     history.add(added)?;
-    assert_eq!(rt;
-        history.last(),
-        lines.len().checked_sub(1),
-        "after {added:?}"
-    );
+    expect_at(rt, &added, &history.last(), &lines.len().checked_sub(1));
     for (at, line) in lines.iter().enumerate() {
         let shown = history.get(alloc, at)?;
-        assert_eq!(rt;
-            shown,
-            Some(CowStr::Borrowed(line)),
-            "after {added:?}, at {at}"
-        );
+        expect_at(rt, &(added, at), &shown, &Some(CowStr::Borrowed(line)));
     }
-    assert_eq!(rt; history.get(alloc, lines.len())?, None, "after {added:?}");
+    expect_at(rt, &added, &history.get(alloc, lines.len())?, &None);
     Ok(())
 }
 
@@ -52,8 +45,8 @@ fn expect_lines(
 fn the_oldest_lines_are_forgotten(rt: HostRuntime) -> Result<(), Fail> {
     let alloc = rt.alloc();
     let mut one = one_kept(alloc);
-    assert_eq!(rt; one.limit(), 1);
-    assert_eq!(rt; one.last(), None);
+    expect(&rt, &one.limit(), &1);
+    expect(&rt, &one.last(), &None);
     expect_lines(&rt, alloc, &mut one, "a", &["a"])?;
     expect_lines(&rt, alloc, &mut one, "a", &["a"])?;
     expect_lines(&rt, alloc, &mut one, "b", &["b"])?;
@@ -78,9 +71,17 @@ fn a_forgotten_line_is_not_found(rt: HostRuntime) -> Result<(), Fail> {
     let found = history.search(alloc, 1, style, backwards, "git")?;
     let line = CowStr::Borrowed("git push");
     let (idx, cursor) = (1, 0);
-    assert_eq!(rt; found, Some(SearchResult { line, idx, cursor }));
-    assert_eq!(rt; history.search(alloc, 1, style, backwards, "log")?, None);
-    assert_eq!(rt; history.search(alloc, 2, style, backwards, "git")?, None);
+    expect(&rt, &found, &Some(SearchResult { line, idx, cursor }));
+    expect(
+        &rt,
+        &history.search(alloc, 1, style, backwards, "log")?,
+        &None,
+    );
+    expect(
+        &rt,
+        &history.search(alloc, 2, style, backwards, "git")?,
+        &None,
+    );
     Ok(())
 }
 
@@ -133,8 +134,8 @@ Some(\"git push\")
 #[test]
 fn an_editor_walks_and_searches_through_what_is_kept(rt: HostRuntime) -> Result<(), Fail> {
     let alloc = rt.alloc();
-    assert_eq!(rt; expect_histories(&rt, alloc, one_kept, ONE_KEPT)?, 3);
-    assert_eq!(rt; expect_histories(&rt, alloc, two_kept, TWO_KEPT)?, 3);
+    expect(&rt, &expect_histories(&rt, alloc, one_kept, ONE_KEPT)?, &3);
+    expect(&rt, &expect_histories(&rt, alloc, two_kept, TWO_KEPT)?, &3);
     Ok(())
 }
 
@@ -148,9 +149,9 @@ fn a_position_is_not_told_of_a_forgotten_line(rt: HostRuntime) -> Result<(), Fai
     let mut terminal = terminal_of(alloc, 80, "")?;
     let mut editor = LineEditor::new(alloc, &mut terminal)?;
     editor.apply_action(&mut host, Action::HistoryPrevious)?;
-    assert_eq!(rt; editor.get_line_and_cursor().0, "two");
+    expect(&rt, &editor.get_line_and_cursor().0, &"two");
     host.remember("three")?;
     editor.apply_action(&mut host, Action::HistoryPrevious)?;
-    assert_eq!(rt; editor.get_line_and_cursor().0, "two");
+    expect(&rt, &editor.get_line_and_cursor().0, &"two");
     Ok(())
 }

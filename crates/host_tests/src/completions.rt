@@ -1,6 +1,7 @@
 //! Candidates and previews.
 
 use crate::actions::{expect_action, expect_step};
+use crate::expected::expect;
 use crate::histories::expect_both;
 use case_player::{case_of, host_of, terminal_of, told_of};
 use std::test::Fail;
@@ -101,11 +102,11 @@ fn a_refused_candidate_keeps_the_search(rt: HostRuntime) -> Result<(), Fail> {
     editor.apply_action(&mut host, Action::HistoryIncSearchBackwards)?;
     match editor.apply_action(&mut host, Action::Complete) {
         Ok(()) => assert!(rt; false, "no refusal"),
-        Err(error) => assert_eq!(rt; error.number(), 5),
+        Err(error) => expect(&rt, &error.number(), &5),
     }
     editor.apply_action(&mut host, Action::AcceptLine)?;
     let (line, _) = editor.get_line_and_cursor();
-    assert_eq!(rt; line, "ab");
+    expect(&rt, &line, &"ab");
     Ok(())
 }
 
@@ -132,7 +133,7 @@ Some(\"foooo\")
 #[test]
 fn requests_in_a_row_go_round_the_candidates(rt: HostRuntime) -> Result<(), Fail> {
     let cases = expect_both(&rt, rt.alloc(), ROUNDS)?;
-    assert_eq!(rt; cases, 3);
+    expect(&rt, &cases, &3);
     Ok(())
 }
 

@@ -1,5 +1,6 @@
 //! Histories: how lines are walked through and searched. The cases run over any history.
 
+use crate::expected::{expect, expect_at};
 use case_player::{case_of, host_of, told_of};
 use script_player::ListHistory;
 use std::alloc::Global;
@@ -33,7 +34,7 @@ pub fn expect_histories<L: History + Drop, F: Fn(Global) -> L + Drop>(
         let mut host = host_of(alloc, empty(alloc), &case)?;
         let told = told_of(alloc, &case, &mut host)?;
         let missing = missing_line(wanted, told.as_str());
-        assert_eq!(rt; missing, None, "{lines}in\n{told}");
+        expect_at(rt, &(lines, told), &missing, &None);
         count = count.saturating_add(1);
     }
     Ok(count)
@@ -43,7 +44,7 @@ pub fn expect_histories<L: History + Drop, F: Fn(Global) -> L + Drop>(
 pub fn expect_both(rt: &impl Abort, alloc: Global, cases: &str) -> Result<usize, Fail> {
     let basic = expect_histories(rt, alloc, BasicHistory::new, cases)?;
     let list = expect_histories(rt, alloc, ListHistory::new, cases)?;
-    assert_eq!(rt; list, basic);
+    expect(rt, &list, &basic);
     Ok(basic)
 }
 
@@ -100,7 +101,7 @@ painting CP(A(0), R(0)), ClearToEndOfScreen, AllAttributes, Text(\"$ \"), AllAtt
 #[test]
 fn a_search_shows_the_matching_line_above_its_pattern(rt: HostRuntime) -> Result<(), Fail> {
     let cases = expect_both(&rt, rt.alloc(), SHOWN)?;
-    assert_eq!(rt; cases, 5);
+    expect(&rt, &cases, &5);
     Ok(())
 }
 
@@ -170,7 +171,7 @@ Some(\"git push\")
 #[test]
 fn a_search_goes_through_the_matching_lines(rt: HostRuntime) -> Result<(), Fail> {
     let cases = expect_both(&rt, rt.alloc(), SEARCHES)?;
-    assert_eq!(rt; cases, 9);
+    expect(&rt, &cases, &9);
     Ok(())
 }
 
@@ -243,7 +244,7 @@ Some(\"one\")
 #[test]
 fn steps_walk_through_the_lines(rt: HostRuntime) -> Result<(), Fail> {
     let cases = expect_both(&rt, rt.alloc(), WALKS)?;
-    assert_eq!(rt; cases, 11);
+    expect(&rt, &cases, &11);
     Ok(())
 }
 
@@ -281,7 +282,7 @@ Some(\"git push\")
 #[test]
 fn a_search_is_left_with_the_matching_line(rt: HostRuntime) -> Result<(), Fail> {
     let cases = expect_both(&rt, rt.alloc(), LEFT)?;
-    assert_eq!(rt; cases, 4);
+    expect(&rt, &cases, &4);
     Ok(())
 }
 
@@ -331,7 +332,7 @@ actions C-R g C-C
 #[test]
 fn actions_search_and_leave_the_search(rt: HostRuntime) -> Result<(), Fail> {
     let cases = expect_both(&rt, rt.alloc(), ACTIONS)?;
-    assert_eq!(rt; cases, 7);
+    expect(&rt, &cases, &7);
     Ok(())
 }
 
@@ -369,6 +370,6 @@ Some(\"two\"), Some(\"\")
 #[test]
 fn a_second_reading_begins_without_position(rt: HostRuntime) -> Result<(), Fail> {
     let cases = expect_both(&rt, rt.alloc(), SECOND)?;
-    assert_eq!(rt; cases, 4);
+    expect(&rt, &cases, &4);
     Ok(())
 }

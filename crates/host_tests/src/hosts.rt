@@ -1,6 +1,7 @@
 //! Hosts that answer for themselves.
 
 use crate::actions::expect_action;
+use crate::expected::{expect, expect_at};
 use case_player::{ColumnHost, ResolvingHost, case_of, readings_of, terminal_text, told_of};
 use std::alloc::Global;
 use std::test::Fail;
@@ -32,10 +33,14 @@ CP(A(0), R(-26843544)), ClearToEndOfScreen
 fn a_host_places_the_cursor(rt: HostRuntime) -> Result<(), Fail> {
     let alloc = rt.alloc();
     let refused = "refusal 4, 0 left, 0 flushed, 0 failed\n";
-    assert_eq!(rt; shown_at(alloc, 10, 25)?.as_str(), BELOW);
-    assert_eq!(rt; shown_at(alloc, 80, 2_147_483_645)?.as_str(), FARTHEST);
-    assert_eq!(rt; shown_at(alloc, 80, 2_147_483_646)?.as_str(), refused);
-    assert_eq!(rt; shown_at(alloc, 80, usize::MAX)?.as_str(), refused);
+    expect(&rt, &shown_at(alloc, 10, 25)?.as_str(), &BELOW);
+    expect(
+        &rt,
+        &shown_at(alloc, 80, 2_147_483_645)?.as_str(),
+        &FARTHEST,
+    );
+    expect(&rt, &shown_at(alloc, 80, 2_147_483_646)?.as_str(), &refused);
+    expect(&rt, &shown_at(alloc, 80, usize::MAX)?.as_str(), &refused);
     Ok(())
 }
 
@@ -61,7 +66,7 @@ fn a_host_answers_before_the_key_table(rt: HostRuntime) -> Result<(), Fail> {
         let mut case = case_of(alloc, "")?;
         case.events = events;
         let (answer, _) = readings_of(alloc, &case, &mut ResolvingHost::new(alloc))?;
-        assert_eq!(rt; answer.as_str(), wanted, "{events}");
+        expect_at(&rt, &events, &answer.as_str(), &wanted);
     }
     Ok(())
 }
@@ -82,9 +87,9 @@ fn the_default_answers_know_the_cursor(rt: HostRuntime) -> Result<(), Fail> {
     ] {
         assert!(rt; line.is_char_boundary(cursor), "{line:?} at {cursor}");
         let (elements, shown) = host.highlight_line(alloc, line, cursor)?;
-        assert_eq!(rt; shown, column, "{line:?} at {cursor}");
+        expect_at(&rt, &(line, cursor), &shown, &column);
         match elements.as_slice() {
-            [OutputElement::Text(text)] => assert_eq!(rt; text.as_str(), line),
+            [OutputElement::Text(text)] => expect(&rt, &text.as_str(), &line),
             _ => assert!(rt; false, "{line:?} at {cursor}"),
         }
         let candidates = host.complete(alloc, line, cursor)?;

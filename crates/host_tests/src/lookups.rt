@@ -1,6 +1,7 @@
 //! What histories answer of their lines: the last one, the one at an index, and the nearest match. The cases
 //! run over any history.
 
+use crate::expected::{expect, expect_at};
 use script_player::ListHistory;
 use std::alloc::{AllocError, Global};
 use std::borrow::CowStr;
@@ -31,7 +32,7 @@ fn expect_line<L: History>(
     wanted: Option<&str>,
 ) -> Result<(), AllocError> {
     let wanted = wanted.map(|line| CowStr::Borrowed(line));
-    assert_eq!(rt; history.get(alloc, at)?, wanted, "at {at}");
+    expect_at(rt, &at, &history.get(alloc, at)?, &wanted);
     Ok(())
 }
 
@@ -55,11 +56,11 @@ fn expect_added<L: History>(
     alloc: Global,
     history: &mut L,
 ) -> Result<(), AllocError> {
-    assert_eq!(rt; history.last(), None);
+    expect(rt, &history.last(), &None);
     expect_line(rt, alloc, history, 0, None)?;
     for &(line, last) in &[("a", 0), ("a", 0), ("b", 1), ("c", 2), ("a", 3), ("", 4)] {
         add_all(history, &[line, line])?;
-        assert_eq!(rt; history.last(), Some(last), "at {line:?}");
+        expect_at(rt, &line, &history.last(), &Some(last));
         expect_line(rt, alloc, history, last, Some(line))?;
     }
     expect_lines(rt, alloc, history, &["a", "b", "c", "a", ""])?;
@@ -74,7 +75,7 @@ fn expect_empty_lines<L: History>(
     history: &mut L,
 ) -> Result<(), AllocError> {
     add_all(history, &["", "", "a", ""])?;
-    assert_eq!(rt; history.last(), Some(2));
+    expect(rt, &history.last(), &Some(2));
     expect_lines(rt, alloc, history, &["", "a", ""])
 }
 
@@ -159,11 +160,7 @@ fn expect_searches<L: History + Drop, F: Fn(Global) -> L + Drop>(
             idx,
             cursor,
         });
-        assert_eq!(rt;
-            found,
-            wanted,
-            "{lines:?} at {idx}, {direction:?}, {pattern:?}"
-        );
+        expect_at(rt, &(lines, idx, direction, pattern), &found, &wanted);
     }
     Ok(())
 }

@@ -1,5 +1,6 @@
 //! What a screen shows of paintings, one over the other.
 
+use crate::expected::expect;
 use crate::histories::expect_both;
 use case_player::{case_of, readings_of};
 use script_player::{play_all, show_screen};
@@ -38,7 +39,7 @@ end 2 0
 #[test]
 fn paintings_leave_nothing_stale(rt: HostRuntime) -> Result<(), Fail> {
     let cases = expect_both(&rt, rt.alloc(), PAINTED)?;
-    assert_eq!(rt; cases, 3);
+    expect(&rt, &cases, &3);
     Ok(())
 }
 
@@ -55,7 +56,7 @@ fn a_cleared_screen_is_painted_from_its_first_row(rt: HostRuntime) -> Result<(),
     let case = case_of(alloc, "size 24 10\nevents a b c d e f g h i j C-L Enter\n")?;
     let mut host = NopLineEditorHost::new(alloc);
     let (answers, terminal) = readings_of(alloc, &case, &mut host)?;
-    assert_eq!(rt; answers.as_str(), "Some(\"abcdefghij\")");
+    expect(&rt, &answers.as_str(), &"Some(\"abcdefghij\")");
     let mut screen = Screen::new(alloc, 10)?;
     screen.apply(&Change::CursorPosition {
         x: Position::Absolute(0),
@@ -65,6 +66,6 @@ fn a_cleared_screen_is_painted_from_its_first_row(rt: HostRuntime) -> Result<(),
     let cursor = play_all(&mut screen, paintings, closing.as_slice())?;
     let mut shown = String::new(alloc);
     show_screen(&screen, 10, cursor, &mut shown)?;
-    assert_eq!(rt; shown.as_str(), CLEARED);
+    expect(&rt, &shown.as_str(), &CLEARED);
     Ok(())
 }

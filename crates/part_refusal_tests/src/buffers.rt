@@ -1,5 +1,6 @@
 //! Edits of a line buffer, with each request refused in turn.
 
+use crate::expected::expect;
 use case_player::mark;
 use std::alloc::{AllocError, Global};
 use std::process::Abort;
@@ -30,8 +31,8 @@ impl Call<'_> {
 }
 
 fn assert_cut(rt: &impl Abort, buffer: &LineEditBuffer, line: &str, cursor: usize) {
-    assert_eq!(rt; buffer.get_line(), line);
-    assert_eq!(rt; buffer.get_cursor(), cursor);
+    expect(rt, &buffer.get_line(), &line);
+    expect(rt, &buffer.get_cursor(), &cursor);
 }
 
 /// A buffer that is made between marks, again where it is refused.

@@ -1,5 +1,6 @@
 //! Sequences of changes and screens, with each request refused in turn.
 
+use crate::expected::{expect, expect_at};
 use case_player::mark;
 use std::alloc::{AllocError, Global};
 use std::process::Abort;
@@ -52,16 +53,16 @@ fn added_changes_refused_in_turn(rt: HostRuntime) -> Result<(), Fail> {
         mark(alloc)?;
         if let Err(fault) = added {
             let left = (drawing.current_cursor_position(), drawing.render_height());
-            assert_eq!(rt; fault, AddFault::Memory, "{drawn:?}");
-            assert_eq!(rt; left, before, "{drawn:?}");
+            expect_at(&rt, &drawn, &fault, &AddFault::Memory);
+            expect_at(&rt, &drawn, &left, &before);
             drawing.add(drawn.change(alloc)?)?;
         }
-        assert_eq!(rt; drawing.current_cursor_position(), place, "{drawn:?}");
-        assert_eq!(rt; drawing.render_height(), height, "{drawn:?}");
+        expect_at(&rt, &drawn, &drawing.current_cursor_position(), &place);
+        expect_at(&rt, &drawn, &drawing.render_height(), &height);
         before = (place, height);
     }
     let changes = drawing.consume();
-    assert_eq!(rt; changes.as_slice(), wanted.as_slice());
+    expect(&rt, &changes.as_slice(), &wanted.as_slice());
     Ok(())
 }
 
@@ -83,14 +84,14 @@ fn moves_refused_in_turn(rt: HostRuntime) -> Result<(), Fail> {
         let moved = drawing.move_to(to);
         mark(alloc)?;
         if let Err(fault) = moved {
-            assert_eq!(rt; fault, AddFault::Memory, "{to:?}");
-            assert_eq!(rt; drawing.current_cursor_position(), before, "{to:?}");
+            expect_at(&rt, &to, &fault, &AddFault::Memory);
+            expect_at(&rt, &to, &drawing.current_cursor_position(), &before);
             drawing.move_to(to)?;
         }
-        assert_eq!(rt; drawing.current_cursor_position(), to);
+        expect(&rt, &drawing.current_cursor_position(), &to);
     }
     let changes = drawing.consume();
-    assert_eq!(rt; changes.as_slice(), wanted.as_slice());
+    expect(&rt, &changes.as_slice(), &wanted.as_slice());
     Ok(())
 }
 
@@ -122,12 +123,12 @@ fn expect_played(
     mark(alloc)?;
     if let Err(fault) = played {
         let left = screen_text(alloc, screen)?;
-        assert_eq!(rt; fault, ScreenFault::Memory, "{change:?}");
-        assert_eq!(rt; left.as_str(), before.as_str(), "{change:?}");
+        expect_at(rt, &change, &fault, &ScreenFault::Memory);
+        expect_at(rt, &change, &left.as_str(), &before.as_str());
         screen.apply(change)?;
     }
     let shown = screen_text(alloc, screen)?;
-    assert_eq!(rt; shown.as_str(), wanted, "{change:?}");
+    expect_at(rt, &change, &shown.as_str(), &wanted);
     Ok(())
 }
 
@@ -163,8 +164,8 @@ fn copied_changes_refused_in_turn(rt: HostRuntime) -> Result<(), Fail> {
             Ok(copy) => copy,
             Err(_) => change.try_clone(alloc)?,
         };
-        assert_eq!(rt; copy, change);
-        assert_eq!(rt; change, drawn.change(alloc)?);
+        expect(&rt, &copy, &change);
+        expect(&rt, &change, &drawn.change(alloc)?);
     }
     Ok(())
 }

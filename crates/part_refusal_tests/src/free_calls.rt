@@ -1,5 +1,6 @@
 //! Calls of lines, histories, sequences, screens and terminals that make no request for memory.
 
+use crate::expected::{expect, expect_at};
 use case_player::{mark, terminal_of};
 use std::alloc::Global;
 use std::borrow::CowStr;
@@ -39,10 +40,10 @@ fn expect_moves(rt: &impl Abort, alloc: Global, count: usize) -> Result<(), Fail
         buffer.kill_text(Movement::BackwardWord(1), movement);
         assert!(rt; buffer.get_line().len() <= LINE.len());
         buffer.clear();
-        assert_eq!(rt; buffer.get_line(), "");
+        expect(rt, &buffer.get_line(), &"");
         buffer.kill_text(movement, movement);
         buffer.exec_movement(movement);
-        assert_eq!(rt; buffer.get_cursor(), 0);
+        expect(rt, &buffer.get_cursor(), &0);
         mark(alloc)?;
     }
     Ok(())
@@ -61,24 +62,24 @@ fn empty_values_are_made_without_memory(rt: HostRuntime) -> Result<(), Fail> {
     let alloc = rt.alloc();
     mark(alloc)?;
     let buffer = LineEditBuffer::empty(alloc);
-    assert_eq!(rt; buffer.find_cursor(), (0, 0));
+    expect(&rt, &buffer.find_cursor(), &(0, 0));
     let history = BasicHistory::new(alloc);
-    assert_eq!(rt; history.last(), None);
-    assert_eq!(rt; history.joined().0, "");
+    expect(&rt, &history.last(), &None);
+    expect(&rt, &history.joined().0, &"");
     let _host = NopLineEditorHost::new(alloc);
     let size = ScreenSize { rows: 24, cols: 80 };
     let terminal = ScriptTerminal::new(alloc, size, Vec::new(alloc));
-    assert_eq!(rt; terminal.events_left(), 0);
+    expect(&rt, &terminal.events_left(), &0);
     for &(rows, cols, fault) in &[
         (24, 80, None),
         (0, 80, Some(SizeFault::ZeroSize)),
         (24, 65_536, Some(SizeFault::OutOfRange)),
     ] {
         let made = ChangeSequence::new(alloc, rows, cols);
-        assert_eq!(rt; made.err(), fault, "{cols}");
+        expect_at(&rt, &cols, &made.err(), &fault);
     }
     for &(cols, fault) in &[(80, None), (0, Some(SizeFault::ZeroSize))] {
-        assert_eq!(rt; Screen::new(alloc, cols).err(), fault, "{cols}");
+        expect_at(&rt, &cols, &Screen::new(alloc, cols).err(), &fault);
     }
     mark(alloc)?;
     Ok(())
@@ -93,10 +94,10 @@ fn histories_are_asked_without_memory(rt: HostRuntime) -> Result<(), Fail> {
     }
     mark(alloc)?;
     history.add("git push")?;
-    assert_eq!(rt; history.last(), Some(3));
-    assert_eq!(rt; history.get(alloc, 2)?, Some(CowStr::Borrowed("ls")));
-    assert_eq!(rt; history.get(alloc, 4)?, None);
-    assert_eq!(rt; history.joined().0, "git loglsgit push");
+    expect(&rt, &history.last(), &Some(3));
+    expect(&rt, &history.get(alloc, 2)?, &Some(CowStr::Borrowed("ls")));
+    expect(&rt, &history.get(alloc, 4)?, &None);
+    expect(&rt, &history.joined().0, &"git loglsgit push");
     for &direction in &[SearchDirection::Backwards, SearchDirection::Forwards] {
         for &pattern in &["git", "", "zz", "push"] {
             for &idx in &[0, 1, 3, 4, usize::MAX] {
@@ -107,7 +108,7 @@ fn histories_are_asked_without_memory(rt: HostRuntime) -> Result<(), Fail> {
         }
     }
     let at = SearchStyle::Substring.match_against("\u{e9}", "a\u{e9}");
-    assert_eq!(rt; at, Some(1));
+    expect(&rt, &at, &Some(1));
     mark(alloc)?;
     Ok(())
 }
@@ -118,9 +119,9 @@ fn sequences_are_asked_without_memory(rt: HostRuntime) -> Result<(), Fail> {
     let mut drawing = ChangeSequence::new(alloc, 24, 5)?;
     drawing.add(String::from_str(alloc, "abcdef")?)?;
     mark(alloc)?;
-    assert_eq!(rt; drawing.current_cursor_position(), (1, 1));
-    assert_eq!(rt; drawing.render_height(), 1);
-    assert_eq!(rt; drawing.consume().len(), 1);
+    expect(&rt, &drawing.current_cursor_position(), &(1, 1));
+    expect(&rt, &drawing.render_height(), &1);
+    expect(&rt, &drawing.consume().len(), &1);
     mark(alloc)?;
     Ok(())
 }
@@ -136,7 +137,7 @@ fn texts_are_measured_without_memory(rt: HostRuntime) -> Result<(), Fail> {
         ("e\u{301}", 1),
         ("\u{1f1e9}\u{1f1ea}", 2),
     ] {
-        assert_eq!(rt; unicode_column_width(text), width, "{text:?}");
+        expect_at(&rt, &text, &unicode_column_width(text), &width);
     }
     mark(alloc)?;
     Ok(())
@@ -171,12 +172,12 @@ fn screens_are_asked_without_memory(rt: HostRuntime) -> Result<(), Fail> {
     let y = Position::Relative(1);
     let x = Position::Absolute(2);
     mark(alloc)?;
-    assert_eq!(rt; screen.char_at(1, 0), 'f');
-    assert_eq!(rt; screen.char_at(9, 9), ' ');
-    assert_eq!(rt; screen.cursor(), (1, 1));
-    assert_eq!(rt; screen.last_row(), Some(1));
+    expect(&rt, &screen.char_at(1, 0), &'f');
+    expect(&rt, &screen.char_at(9, 9), &' ');
+    expect(&rt, &screen.cursor(), &(1, 1));
+    expect(&rt, &screen.last_row(), &Some(1));
     screen.apply(&Change::CursorPosition { x, y })?;
-    assert_eq!(rt; screen.cursor(), (2, 2));
+    expect(&rt, &screen.cursor(), &(2, 2));
     mark(alloc)?;
     Ok(())
 }
@@ -187,22 +188,22 @@ fn terminals_are_called_without_memory(rt: HostRuntime) -> Result<(), Fail> {
     let mut terminal = terminal_of(alloc, 80, "a paste:b 5x4")?;
     mark(alloc)?;
     terminal.fail_at(1, 0);
-    assert_eq!(rt; terminal.get_screen_size()?.cols, 80);
+    expect(&rt, &terminal.get_screen_size()?.cols, &80);
     let refused = terminal.poll_input();
-    assert_eq!(rt; refused, Err(TerminalFault::Device));
+    expect(&rt, &refused, &Err(TerminalFault::Device));
     let mut polled = 0u32;
     for _ in 0..4 {
         if terminal.poll_input()?.is_some() {
             polled = polled.saturating_add(1);
         }
     }
-    assert_eq!(rt; polled, 3);
-    assert_eq!(rt; terminal.get_screen_size()?.cols, 5);
+    expect(&rt, &polled, &3);
+    expect(&rt, &terminal.get_screen_size()?.cols, &5);
     terminal.flush()?;
-    assert_eq!(rt; terminal.batches().len(), 0);
-    assert_eq!(rt; terminal.flushed(), 0);
-    assert_eq!(rt; terminal.events_left(), 0);
-    assert_eq!(rt; terminal.failures(), 1);
+    expect(&rt, &terminal.batches().len(), &0);
+    expect(&rt, &terminal.flushed(), &0);
+    expect(&rt, &terminal.events_left(), &0);
+    expect(&rt, &terminal.failures(), &1);
     mark(alloc)?;
     Ok(())
 }

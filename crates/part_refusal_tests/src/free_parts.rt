@@ -1,5 +1,6 @@
 //! Calls of bounded histories, of parts of hosts and of readers of bytes that make no request for memory.
 
+use crate::expected::expect;
 use case_player::{events_named, mark};
 use std::alloc::{AllocError, Global};
 use std::borrow::CowStr;
@@ -20,17 +21,17 @@ fn bounded_histories_are_asked_without_memory(rt: HostRuntime) -> Result<(), Fai
     let alloc = rt.alloc();
     mark(alloc)?;
     let mut history = BoundedHistory::with_limit(alloc, 2);
-    assert_eq!(rt; history.limit(), 2);
-    assert_eq!(rt; history.last(), None);
+    expect(&rt, &history.limit(), &2);
+    expect(&rt, &history.last(), &None);
     mark(alloc)?;
     for &line in &["git log", "ls", "git push"] {
         history.add(line)?;
     }
     mark(alloc)?;
     history.add("git push")?;
-    assert_eq!(rt; history.last(), Some(1));
-    assert_eq!(rt; history.get(alloc, 0)?, Some(CowStr::Borrowed("ls")));
-    assert_eq!(rt; history.get(alloc, 2)?, None);
+    expect(&rt, &history.last(), &Some(1));
+    expect(&rt, &history.get(alloc, 0)?, &Some(CowStr::Borrowed("ls")));
+    expect(&rt, &history.get(alloc, 2)?, &None);
     for &direction in &[SearchDirection::Backwards, SearchDirection::Forwards] {
         for &pattern in &["git", "", "zz"] {
             let found = history.search(alloc, 1, SearchStyle::Substring, direction, pattern);
@@ -51,11 +52,11 @@ fn nothing_is_inserted_without_memory(rt: HostRuntime) -> Result<(), Fail> {
     buffer.insert_text_times(usize::MAX, "")?;
     buffer.insert_text_times(0, "xy")?;
     buffer.insert_char_times(0, 'x')?;
-    assert_eq!(rt; buffer.get_line(), "ab");
-    assert_eq!(rt; buffer.get_cursor(), 1);
+    expect(&rt, &buffer.get_line(), &"ab");
+    expect(&rt, &buffer.get_cursor(), &1);
     buffer.set_line_and_cursor("", 0)?;
-    assert_eq!(rt; buffer.get_line(), "");
-    assert_eq!(rt; LineEditBuffer::new(alloc, "", 0)?.get_line(), "");
+    expect(&rt, &buffer.get_line(), &"");
+    expect(&rt, &LineEditBuffer::new(alloc, "", 0)?.get_line(), &"");
     mark(alloc)?;
     Ok(())
 }
@@ -98,8 +99,8 @@ fn tables_resolve_keys_without_memory(rt: HostRuntime) -> Result<(), Fail> {
             InputEvent::Key(key) => *key == F1,
             _ => false,
         };
-        assert_eq!(rt; action.is_some(), is_f1);
-        assert_eq!(rt; line.get_line(), "");
+        expect(&rt, &action.is_some(), &is_f1);
+        expect(&rt, &line.get_line(), &"");
     }
     assert!(rt; bound(&[], F1).is_none());
     mark(alloc)?;
@@ -111,8 +112,8 @@ fn words_are_found_without_memory(rt: HostRuntime) -> Result<(), Fail> {
     let alloc = rt.alloc();
     let words = vec![in alloc; String::from_str(alloc, "copy")?]?;
     mark(alloc)?;
-    assert_eq!(rt; first_word("copy a b"), "copy");
-    assert_eq!(rt; last_word("copy a b"), "b");
+    expect(&rt, &first_word("copy a b"), &"copy");
+    expect(&rt, &last_word("copy a b"), &"b");
     assert!(rt; is_known(words.as_slice(), "copy") && !is_known(words.as_slice(), "cop"));
     mark(alloc)?;
     Ok(())
@@ -144,18 +145,18 @@ fn scrolling_screens_are_asked_without_memory(rt: HostRuntime) -> Result<(), Fai
     let alloc = rt.alloc();
     mark(alloc)?;
     let made = ScrollingScreen::new(alloc, 0, 5);
-    assert_eq!(rt; made.err(), Some(SizeFault::ZeroSize));
+    expect(&rt, &made.err(), &Some(SizeFault::ZeroSize));
     let mut screen = ScrollingScreen::new(alloc, 2, 5)?;
     mark(alloc)?;
     screen.apply(&Change::Text(String::from_str(alloc, "abcdefghijkl")?))?;
     let x = Position::Absolute(1);
     let y = Position::Relative(1);
     mark(alloc)?;
-    assert_eq!(rt; screen.char_at(1, 0), 'k');
-    assert_eq!(rt; screen.cursor(), (1, 2));
+    expect(&rt, &screen.char_at(1, 0), &'k');
+    expect(&rt, &screen.cursor(), &(1, 2));
     screen.apply(&Change::CursorPosition { x, y })?;
-    assert_eq!(rt; screen.cursor(), (1, 1));
-    assert_eq!(rt; screen.char_at(0, 0), 'k');
+    expect(&rt, &screen.cursor(), &(1, 1));
+    expect(&rt, &screen.char_at(0, 0), &'k');
     mark(alloc)?;
     Ok(())
 }

@@ -1,5 +1,6 @@
 //! Lines that are added to a history, with each request refused in turn.
 
+use crate::expected::expect_at;
 use case_player::mark;
 use script_player::ListHistory;
 use std::alloc::{AllocError, Global};
@@ -17,12 +18,12 @@ fn expect_lines<L: History>(
     history: &L,
     lines: &[&str],
 ) -> Result<(), AllocError> {
-    assert_eq!(rt; history.last(), lines.len().checked_sub(1), "{lines:?}");
+    expect_at(rt, &lines, &history.last(), &lines.len().checked_sub(1));
     for (at, line) in lines.iter().enumerate() {
         let shown = history.get(alloc, at)?;
-        assert_eq!(rt; shown, Some(CowStr::Borrowed(line)), "{lines:?} at {at}");
+        expect_at(rt, &(lines, at), &shown, &Some(CowStr::Borrowed(line)));
     }
-    assert_eq!(rt; history.get(alloc, lines.len())?, None, "{lines:?}");
+    expect_at(rt, &lines, &history.get(alloc, lines.len())?, &None);
     Ok(())
 }
 
@@ -114,7 +115,7 @@ fn searched_lines_refused_in_turn(rt: HostRuntime) -> Result<(), Fail> {
             cursor,
         });
         let found = history.search(alloc, idx, style, backwards, pattern)?;
-        assert_eq!(rt; found, wanted, "{pattern:?} at {idx}");
+        expect_at(&rt, &(pattern, idx), &found, &wanted);
     }
     Ok(())
 }

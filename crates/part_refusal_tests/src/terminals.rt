@@ -1,5 +1,6 @@
 //! Batches that are rendered on a scripted terminal, with each request refused in turn.
 
+use crate::expected::expect;
 use case_player::{batches_text, mark, terminal_of};
 use std::alloc::{AllocError, Global};
 use std::process::Abort;
@@ -32,10 +33,10 @@ fn render(
         return Ok(rendered);
     }
     let left = batches_text(alloc, terminal.batches())?;
-    assert_eq!(rt; left.as_str(), before.as_str());
-    assert_eq!(rt; terminal.flushed(), flushed);
-    assert_eq!(rt; terminal.events_left(), 2);
-    assert_eq!(rt; terminal.failures(), failures.saturating_add(1));
+    expect(rt, &left.as_str(), &before.as_str());
+    expect(rt, &terminal.flushed(), &flushed);
+    expect(rt, &terminal.events_left(), &2);
+    expect(rt, &terminal.failures(), &failures.saturating_add(1));
     Ok(terminal.render(batch))
 }
 
@@ -47,13 +48,13 @@ fn batches_refused_in_turn(rt: HostRuntime) -> Result<(), Fail> {
     for &text in &["a", "bc", "", "d", "e"] {
         let batch = batch_of(alloc, text)?;
         let rendered = render(&rt, alloc, &mut terminal, batch.as_slice())?;
-        assert_eq!(rt; rendered, Ok(()));
+        expect(&rt, &rendered, &Ok(()));
         terminal.flush()?;
         write!(wanted, "ClearScreen, Text({text:?})\n")?;
         let shown = batches_text(alloc, terminal.batches())?;
-        assert_eq!(rt; shown.as_str(), wanted.as_str());
+        expect(&rt, &shown.as_str(), &wanted.as_str());
     }
-    assert_eq!(rt; terminal.flushed(), 5);
+    expect(&rt, &terminal.flushed(), &5);
     Ok(())
 }
 
@@ -72,12 +73,12 @@ fn a_part_of_a_batch_refused_in_turn(rt: HostRuntime) -> Result<(), Fail> {
         let rendered = render(&rt, alloc, &mut terminal, batch.as_slice())?;
         let shown = batches_text(alloc, terminal.batches())?;
         if rendered.is_ok() {
-            assert_eq!(rt; shown.as_str(), "ClearScreen, Text(\"a\")\n");
+            expect(&rt, &shown.as_str(), &"ClearScreen, Text(\"a\")\n");
         } else {
-            assert_eq!(rt; rendered, Err(TerminalFault::Device));
-            assert_eq!(rt; shown.as_str(), wanted);
+            expect(&rt, &rendered, &Err(TerminalFault::Device));
+            expect(&rt, &shown.as_str(), &wanted);
         }
-        assert_eq!(rt; terminal.failures(), 1);
+        expect(&rt, &terminal.failures(), &1);
     }
     Ok(())
 }

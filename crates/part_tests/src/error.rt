@@ -1,5 +1,6 @@
 //! What the editor answers in place of a line.
 
+use crate::expected::{expect, expect_at};
 use std::alloc::{AllocError, AllocFailed, Global};
 use std::process::Abort;
 use std::test::Fail;
@@ -14,9 +15,9 @@ fn expect_error(
     number: u8,
     text: &str,
 ) -> Result<(), Fail> {
-    assert_eq!(rt; error.number(), number, "{error:?}");
+    expect_at(rt, &error, &error.number(), &number);
     let shown = format!(in alloc; "{error}")?;
-    assert_eq!(rt; shown.as_str(), text);
+    expect(rt, &shown.as_str(), &text);
     Ok(())
 }
 

@@ -1,5 +1,6 @@
 //! Histories, and what is found in their lines.
 
+use crate::expected::{expect, expect_at};
 use std::alloc::AllocError;
 use std::borrow::CowStr;
 use std::test::Fail;
@@ -18,15 +19,19 @@ fn filled<H: History + Drop>(mut history: H, lines: &[&str]) -> Result<H, AllocE
 fn lines_are_joined(rt: HostRuntime) -> Result<(), Fail> {
     let history = filled(BasicHistory::new(rt.alloc()), &["", "", "a", ""])?;
     let (text, ends) = history.joined();
-    assert_eq!(rt; text, "a");
-    assert_eq!(rt; ends, [0, 1, 1].as_slice());
-    assert_eq!(rt; history.last(), Some(2));
-    assert_eq!(rt; history.get(rt.alloc(), 1)?, Some(CowStr::Borrowed("a")));
+    expect(&rt, &text, &"a");
+    expect(&rt, &ends, &[0, 1, 1].as_slice());
+    expect(&rt, &history.last(), &Some(2));
+    expect(
+        &rt,
+        &history.get(rt.alloc(), 1)?,
+        &Some(CowStr::Borrowed("a")),
+    );
     let (style, direction) = (SearchStyle::Substring, SearchDirection::Backwards);
     let found = history.search(rt.alloc(), 2, style, direction, "a")?;
     let line = CowStr::Borrowed("a");
     let (idx, cursor) = (1, 0);
-    assert_eq!(rt; found, Some(SearchResult { line, idx, cursor }));
+    expect(&rt, &found, &Some(SearchResult { line, idx, cursor }));
     let empty = BasicHistory::new(rt.alloc());
     assert!(rt; empty.joined().0.is_empty() && empty.joined().1.is_empty());
     Ok(())
@@ -41,7 +46,7 @@ fn next_stops_at_the_ends(rt: HostRuntime) {
         (SearchDirection::Forwards, usize::MAX, None),
     ];
     for &(direction, idx, expected) in cases {
-        assert_eq!(rt; direction.next(idx), expected, "at {direction:?}, {idx}");
+        expect_at(&rt, &(direction, idx), &direction.next(idx), &expected);
     }
 }
 
@@ -59,10 +64,11 @@ fn patterns_are_found_at_their_first_byte_offset(rt: HostRuntime) {
         ("b", "\u{1f600}b", Some(4)),
     ];
     for &(pattern, line, expected) in cases {
-        assert_eq!(rt;
-            SearchStyle::Substring.match_against(pattern, line),
-            expected,
-            "at {pattern:?}, {line:?}"
+        expect_at(
+            &rt,
+            &(pattern, line),
+            &SearchStyle::Substring.match_against(pattern, line),
+            &expected,
         );
     }
 }
@@ -80,12 +86,12 @@ fn results_are_equal_by_their_values(rt: HostRuntime) -> Result<(), Fail> {
         idx: 1,
         cursor: 4,
     };
-    assert_eq!(rt; owned, borrowed("git log", 1, 4));
+    expect(&rt, &owned, &borrowed("git log", 1, 4));
     for &(line, idx, cursor) in &[("git lo", 1, 4), ("git log", 0, 4), ("git log", 1, 0)] {
         let other = borrowed(line, idx, cursor);
         assert!(rt; owned != other, "{other:?}");
     }
-    assert_eq!(rt; SearchStyle::Substring, SearchStyle::Substring);
+    expect(&rt, &SearchStyle::Substring, &SearchStyle::Substring);
     assert!(rt; SearchDirection::Backwards != SearchDirection::Forwards);
     Ok(())
 }

@@ -1,5 +1,6 @@
 //! The parts of hosts, and the host of tables.
 
+use crate::expected::{expect, expect_at};
 use std::alloc::{AllocError, Global};
 use std::test::Fail;
 use tw_history::BasicHistory;
@@ -145,10 +146,10 @@ fn keywords_and_quotes_have_styles(rt: HostRuntime) -> Result<(), Fail> {
         let (elements, column) = host.highlight_line(alloc, line, line.len())?;
         let text = told(alloc, elements.as_slice())?;
         assert!(rt; text.as_str() == shown, "{line:?}: {text}");
-        assert_eq!(rt; column, line.len(), "{line:?}");
+        expect_at(&rt, &line, &column, &line.len());
     }
     let (_, column) = host.highlight_line(alloc, "\u{65e5}\u{672c}x", 6)?;
-    assert_eq!(rt; column, 4);
+    expect(&rt, &column, &4);
     Ok(())
 }
 
@@ -165,8 +166,8 @@ fn the_word_before_the_cursor_is_completed(rt: HostRuntime) -> Result<(), Fail> 
     ] {
         let mut texts = String::new(alloc);
         for candidate in &host.complete(alloc, line, cursor)? {
-            assert_eq!(rt; candidate.range.start, start, "{line:?}");
-            assert_eq!(rt; candidate.range.end, cursor, "{line:?}");
+            expect_at(&rt, &line, &candidate.range.start, &start);
+            expect_at(&rt, &line, &candidate.range.end, &cursor);
             texts.push_str(candidate.text.as_str())?;
             texts.push(',')?;
         }

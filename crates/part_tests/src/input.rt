@@ -4,6 +4,7 @@ ghost use Rattle.std.specs.Prelude.{◌≡◌, ◌↔◌, IfSome, IsSome};
 ghost use Rattle.std.specs.Int.RustNames.{bit_and};
 ghost use Rattle.tw_input.specs.Modifiers.{modifier_bits};
 
+use crate::expected::{expect, expect_at};
 use bitflags::Flags;
 use std::test::Fail;
 use tw_input::{InputEvent, KeyCode, KeyEvent, Modifiers, laws};
@@ -31,40 +32,45 @@ fn bits_make_modifiers(rt: HostRuntime) {
         (32, false),
         (65535, false),
     ] {
-        assert_eq!(rt; known_modifiers(bits).is_some(), known, "at {bits}");
+        expect_at(&rt, &bits, &known_modifiers(bits).is_some(), &known);
     }
-    assert_eq!(rt; Modifiers::from_bits(0), Some(Modifiers::NONE));
-    assert_eq!(rt; Modifiers::from_bits(8), Some(Modifiers::CTRL));
-    assert_eq!(rt; Modifiers::default(), Modifiers::NONE);
+    expect(&rt, &Modifiers::from_bits(0), &Some(Modifiers::NONE));
+    expect(&rt, &Modifiers::from_bits(8), &Some(Modifiers::CTRL));
+    expect(&rt, &Modifiers::default(), &Modifiers::NONE);
 }
 
 #[test]
 fn modifiers_have_names(rt: HostRuntime) {
     for &(name, bits) in &[("SHIFT", 2), ("ALT", 4), ("CTRL", 8), ("SUPER", 16)] {
-        assert_eq!(rt;
-            Modifiers::from_name(name).map(|found| found.bits()),
-            Some(bits),
-            "at {name}"
+        expect_at(
+            &rt,
+            &name,
+            &Modifiers::from_name(name).map(|found| found.bits()),
+            &Some(bits),
         );
     }
     for &name in &["NONE", "ctrl", "CTRL ", ""] {
-        assert_eq!(rt; Modifiers::from_name(name), None, "at {name}");
+        expect_at(&rt, &name, &Modifiers::from_name(name), &None);
     }
 }
 
 #[test]
 fn modifiers_are_sets(rt: HostRuntime) {
     let mut held = Modifiers::CTRL | Modifiers::ALT;
-    assert_eq!(rt; held.bits(), 12);
+    expect(&rt, &held.bits(), &12);
     assert!(rt; held.contains(Modifiers::ALT));
     assert!(rt; !held.contains(Modifiers::ALT | Modifiers::SHIFT));
     held.insert(Modifiers::SUPER);
     held.remove(Modifiers::CTRL);
-    assert_eq!(rt; held, Modifiers::ALT | Modifiers::SUPER);
-    assert_eq!(rt; held & Modifiers::ALT, Modifiers::ALT);
-    assert_eq!(rt; held - Modifiers::ALT, Modifiers::SUPER);
-    assert_eq!(rt; held ^ Modifiers::SHIFT, Modifiers::from_bits_retain(22));
-    assert_eq!(rt; !held, Modifiers::SHIFT | Modifiers::CTRL);
+    expect(&rt, &held, &(Modifiers::ALT | Modifiers::SUPER));
+    expect(&rt, &(held & Modifiers::ALT), &Modifiers::ALT);
+    expect(&rt, &(held - Modifiers::ALT), &Modifiers::SUPER);
+    expect(
+        &rt,
+        &(held ^ Modifiers::SHIFT),
+        &Modifiers::from_bits_retain(22),
+    );
+    expect(&rt, &(!held), &(Modifiers::SHIFT | Modifiers::CTRL));
     assert!(rt; Modifiers::NONE.is_empty());
 }
 
@@ -90,7 +96,7 @@ fn modifiers_are_patterns(rt: HostRuntime) {
         (Modifiers::SUPER, "super"),
         (Modifiers::CTRL | Modifiers::ALT, "several"),
     ] {
-        assert_eq!(rt; held_name(modifiers), name);
+        expect(&rt, &held_name(modifiers), &name);
     }
 }
 

@@ -1,5 +1,6 @@
 //! Movements and edits of a line.
 
+use crate::expected::{expect, expect_at};
 use std::alloc::Global;
 use std::process::Abort;
 use std::test::Fail;
@@ -34,14 +35,14 @@ fn moved(
 ) -> Result<usize, Fail> {
     let mut buffer = buffer_at(rt, alloc, line, cursor)?;
     buffer.exec_movement(movement);
-    assert_eq!(rt; buffer.get_line(), line);
+    expect(rt, &buffer.get_line(), &line);
     Ok(buffer.get_cursor())
 }
 
 // The line and the cursor of a buffer.
 fn assert_cut(rt: &impl Abort, buffer: &LineEditBuffer, line: &str, cursor: usize) {
-    assert_eq!(rt; buffer.get_line(), line);
-    assert_eq!(rt; buffer.get_cursor(), cursor);
+    expect(rt, &buffer.get_line(), &line);
+    expect(rt, &buffer.get_cursor(), &cursor);
 }
 
 #[test]
@@ -67,7 +68,7 @@ fn word_steps_go_by_whitespace(rt: HostRuntime) -> Result<(), Fail> {
     ];
     for &(line, cursor, movement, want) in rows {
         let cursor = moved(&rt, rt.alloc(), line, cursor, movement)?;
-        assert_eq!(rt; cursor, want, "{line:?} {movement:?}");
+        expect_at(&rt, &(line, movement), &cursor, &want);
     }
     Ok(())
 }
@@ -107,9 +108,9 @@ fn character_steps_go_by_legacy_clusters(rt: HostRuntime) -> Result<(), Fail> {
     ];
     for &(line, cursor, ahead, back) in rows {
         let forward = moved(&rt, rt.alloc(), line, cursor, ForwardChar(1))?;
-        assert_eq!(rt; forward, ahead, "ahead in {line:?} at {cursor}");
+        expect_at(&rt, &(line, cursor), &forward, &ahead);
         let backward = moved(&rt, rt.alloc(), line, cursor, BackwardChar(1))?;
-        assert_eq!(rt; backward, back, "back in {line:?} at {cursor}");
+        expect_at(&rt, &(line, cursor), &backward, &back);
     }
     Ok(())
 }
@@ -128,7 +129,7 @@ fn every_count_returns(rt: HostRuntime) -> Result<(), Fail> {
     ];
     for &(movement, want) in rows {
         let cursor = moved(&rt, rt.alloc(), "abc def", 3, movement)?;
-        assert_eq!(rt; cursor, want, "{movement:?}");
+        expect_at(&rt, &movement, &cursor, &want);
     }
     Ok(())
 }
@@ -142,7 +143,7 @@ fn ends_of_the_line_are_byte_offsets(rt: HostRuntime) -> Result<(), Fail> {
     ];
     for &(line, cursor, movement, want) in rows {
         let cursor = moved(&rt, rt.alloc(), line, cursor, movement)?;
-        assert_eq!(rt; cursor, want, "{line:?} {movement:?}");
+        expect_at(&rt, &(line, movement), &cursor, &want);
     }
     Ok(())
 }
@@ -197,7 +198,7 @@ fn a_text_is_inserted_before_the_cursor(rt: HostRuntime) -> Result<(), Fail> {
     let mut buffer = buffer_at(&rt, rt.alloc(), "\u{301}", 0)?;
     buffer.insert_text("e")?;
     assert_cut(&rt, &buffer, "e\u{301}", 1);
-    assert_eq!(rt; before_cursor(&buffer), "e");
+    expect(&rt, &before_cursor(&buffer), &"e");
     Ok(())
 }
 
@@ -298,7 +299,7 @@ fn assert_found(
     let (found, comparisons) = buffer.find_cursor();
     let count = line.chars().count();
     let digits = usize::BITS - count.leading_zeros();
-    assert_eq!(rt; found, index, "{line:?} at {cursor}");
+    expect_at(rt, &(line, cursor), &found, &index);
     assert!(rt;
         comparisons <= digits,
         "{comparisons} comparisons for {count} characters"
@@ -340,20 +341,20 @@ fn the_cursor_is_found_in_short_lines(rt: HostRuntime) -> Result<(), Fail> {
 #[test]
 fn the_cursor_is_found_after_each_edit(rt: HostRuntime) -> Result<(), Fail> {
     let mut buffer = LineEditBuffer::empty(rt.alloc());
-    assert_eq!(rt; buffer.find_cursor(), (0, 0));
+    expect(&rt, &buffer.find_cursor(), &(0, 0));
     buffer.insert_text("a\u{e9}\u{20ac}")?;
-    assert_eq!(rt; buffer.find_cursor().0, 3);
+    expect(&rt, &buffer.find_cursor().0, &3);
     buffer.exec_movement(BackwardChar(2));
     buffer.insert_char_times(2, '\u{1f600}')?;
-    assert_eq!(rt; buffer.find_cursor().0, 3);
+    expect(&rt, &buffer.find_cursor().0, &3);
     buffer.insert_text_times(2, "x\u{e9}")?;
-    assert_eq!(rt; buffer.find_cursor().0, 7);
+    expect(&rt, &buffer.find_cursor().0, &7);
     buffer.kill_text(BackwardChar(3), BackwardChar(3));
     assert_cut(&rt, &buffer, "a\u{1f600}\u{1f600}x\u{e9}\u{20ac}", 10);
-    assert_eq!(rt; buffer.find_cursor().0, 4);
+    expect(&rt, &buffer.find_cursor().0, &4);
     buffer.set_line_and_cursor("\u{e9}", 2)?;
-    assert_eq!(rt; buffer.find_cursor(), (1, 1));
+    expect(&rt, &buffer.find_cursor(), &(1, 1));
     buffer.clear();
-    assert_eq!(rt; buffer.find_cursor(), (0, 0));
+    expect(&rt, &buffer.find_cursor(), &(0, 0));
     Ok(())
 }

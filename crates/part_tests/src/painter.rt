@@ -1,5 +1,6 @@
 //! Paintings, change by change.
 
+use crate::expected::expect;
 use std::alloc::{AllocError, Global};
 use std::process::Abort;
 use std::test::Fail;
@@ -80,9 +81,9 @@ fn batch(
 
 /// The changes are those that are wanted.
 fn assert_changes(rt: &impl Abort, changes: &[Change], wanted: &[Change]) {
-    assert_eq!(rt; changes.len(), wanted.len());
+    expect(rt, &changes.len(), &wanted.len());
     for (change, other) in changes.iter().zip(wanted) {
-        assert_eq!(rt; *change, *other);
+        expect(rt, &*change, &*other);
     }
 }
 
@@ -168,7 +169,7 @@ fn sizes_have_limits(rt: HostRuntime) -> Result<(), Fail> {
     let host = NopLineEditorHost::new(alloc);
     for &(screen_rows, cols, number) in rows {
         let answer = painted(&host, alloc, (screen_rows, cols), "hi", None);
-        assert_eq!(rt; answer.err().map(|e| e.number()), number);
+        expect(&rt, &answer.err().map(|e| e.number()), &number);
     }
     Ok(())
 }
@@ -179,8 +180,8 @@ fn next_painting_goes_back_to_the_first_row(rt: HostRuntime) -> Result<(), Fail>
     let host = NopLineEditorHost::new(alloc);
     let (first, left) = painted(&host, alloc, (24, 10), "abcdefgh", None)?;
     let (second, same) = painted(&host, alloc, (24, 10), "abcdefgh", Some(left))?;
-    assert_eq!(rt; (left.row, left.height), (same.row, same.height));
-    assert_eq!(rt; second.first(), Some(&to_first_column(-1)));
+    expect(&rt, &(left.row, left.height), &(same.row, same.height));
+    expect(&rt, &second.first(), &Some(&to_first_column(-1)));
     assert_changes(&rt, &second[1..], first.as_slice());
     Ok(())
 }

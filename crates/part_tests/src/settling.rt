@@ -1,6 +1,7 @@
 //! The cursor's column where wide characters leave cells empty at the screen's edge. The columns are counted by hand on
 //! what a terminal shows behind the prompt `> `.
 
+use crate::expected::expect;
 use std::test::Fail;
 use tw_host::{LineEditorHost, NopLineEditorHost};
 use tw_hosts::{PromptScreen, SettledHost, settled_column};
@@ -82,16 +83,18 @@ fn a_settled_host_hears_a_new_size(rt: HostRuntime) -> Result<(), Fail> {
         host: NopLineEditorHost::new(alloc),
         screen,
     };
-    assert_eq!(rt;
-        host.highlight_line(alloc, "\u{65e5}\u{672c}\u{8a9e}", 9)?.1,
-        6
+    expect(
+        &rt,
+        &host.highlight_line(alloc, "\u{65e5}\u{672c}\u{8a9e}", 9)?.1,
+        &6,
     );
     let mut line = LineEditBuffer::new(alloc, "\u{65e5}", 0)?;
     let event = InputEvent::Resized { cols: 7, rows: 9 };
     assert!(rt; host.resolve_action(alloc, &event, &mut line)?.is_none());
-    assert_eq!(rt;
-        host.highlight_line(alloc, "\u{65e5}\u{672c}\u{8a9e}", 9)?.1,
-        7
+    expect(
+        &rt,
+        &host.highlight_line(alloc, "\u{65e5}\u{672c}\u{8a9e}", 9)?.1,
+        &7,
     );
     Ok(())
 }

@@ -1,5 +1,6 @@
 //! The terminal that plays a script, its faults, and their texts.
 
+use crate::expected::{expect, expect_at};
 use std::alloc::{AllocError, Global};
 use std::process::Abort;
 use std::test::Fail;
@@ -51,7 +52,7 @@ fn assert_batches(
     changes: &[Change],
     lengths: &[usize],
 ) {
-    assert_eq!(rt; terminal.batches().len(), lengths.len());
+    expect(rt, &terminal.batches().len(), &lengths.len());
     for (batch, length) in terminal.batches().iter().zip(lengths) {
         assert!(rt; *length <= changes.len());
         assert!(rt; batch.as_slice() == &changes[..*length]);
@@ -75,20 +76,21 @@ fn expect_failure(
         let wanted = (at == call).then_some(TerminalFault::Device);
         assert!(rt; *fault == wanted, "{at} at {call}");
     }
-    assert_eq!(rt; terminal.flushed(), flushed, "at {call}");
-    assert_eq!(rt; terminal.events_left(), left, "at {call}");
-    assert_eq!(rt; terminal.failures(), 1, "at {call}");
+    expect_at(rt, &call, &terminal.flushed(), &flushed);
+    expect_at(rt, &call, &terminal.events_left(), &left);
+    expect_at(rt, &call, &terminal.failures(), &1);
     assert!(rt;
         round(&mut terminal, changes.as_slice()) == [None; 4],
         "after {call}"
     );
-    assert_eq!(rt; terminal.flushed(), lengths.len(), "after {call}");
-    assert_eq!(rt;
-        terminal.events_left().checked_add(1),
-        Some(left),
-        "after {call}"
+    expect_at(rt, &call, &terminal.flushed(), &lengths.len());
+    expect_at(
+        rt,
+        &call,
+        &terminal.events_left().checked_add(1),
+        &Some(left),
     );
-    assert_eq!(rt; terminal.failures(), 1, "after {call}");
+    expect_at(rt, &call, &terminal.failures(), &1);
     assert_batches(rt, &terminal, changes.as_slice(), lengths);
     Ok(())
 }
@@ -124,26 +126,27 @@ fn the_last_fault_stands(rt: HostRuntime) -> Result<(), Fail> {
     assert!(rt; terminal.render(&[]) == Ok(()));
     assert!(rt; terminal.render(&[]) == Err(TerminalFault::Device));
     assert_batches(&rt, &terminal, changes.as_slice(), &[3, 1, 3, 0]);
-    assert_eq!(rt; terminal.failures(), 2);
+    expect(&rt, &terminal.failures(), &2);
     Ok(())
 }
 
 #[test]
 fn events_come_in_order(rt: HostRuntime) -> Result<(), Fail> {
     let mut terminal = two_events(rt.alloc())?;
-    assert_eq!(rt; terminal.get_screen_size(), Ok(SIZE));
+    expect(&rt, &terminal.get_screen_size(), &Ok(SIZE));
     assert!(rt; terminal.poll_input() == Ok(Some(key(KeyCode::Enter))));
-    assert_eq!(rt; terminal.get_screen_size(), Ok(SIZE));
+    expect(&rt, &terminal.get_screen_size(), &Ok(SIZE));
     assert!(rt; terminal.poll_input() == Ok(Some(InputEvent::Resized { cols: 5, rows: 3 })));
-    assert_eq!(rt;
-        terminal.get_screen_size(),
-        Ok(ScreenSize { rows: 3, cols: 5 })
+    expect(
+        &rt,
+        &terminal.get_screen_size(),
+        &Ok(ScreenSize { rows: 3, cols: 5 }),
     );
     for _ in 0..2 {
-        assert_eq!(rt; terminal.events_left(), 0);
+        expect(&rt, &terminal.events_left(), &0);
         assert!(rt; terminal.poll_input() == Ok(None));
     }
-    assert_eq!(rt; terminal.failures(), 0);
+    expect(&rt, &terminal.failures(), &0);
     Ok(())
 }
 
@@ -157,9 +160,10 @@ fn a_refused_render_takes_nothing(rt: HostRuntime) -> Result<(), Fail> {
         assert!(rt; refused.is_none() || refused == Some(TerminalFault::Memory));
         assert!(rt; refused.is_none() || terminal.batches().len() == batches);
     }
-    assert_eq!(rt;
-        terminal.batches().len().checked_add(terminal.failures()),
-        Some(3)
+    expect(
+        &rt,
+        &terminal.batches().len().checked_add(terminal.failures()),
+        &Some(3),
     );
     for batch in terminal.batches() {
         assert!(rt; batch.as_slice() == changes.as_slice());
@@ -173,7 +177,7 @@ fn texts_of_faults(rt: HostRuntime) -> Result<(), Fail> {
         (TerminalFault::Device, "device failed"),
         (TerminalFault::Memory, "out of memory"),
     ] {
-        assert_eq!(rt; format!(in rt.alloc(); "{fault}")?.as_str(), text);
+        expect(&rt, &format!(in rt.alloc(); "{fault}")?.as_str(), &text);
     }
     Ok(())
 }

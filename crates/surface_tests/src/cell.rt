@@ -1,5 +1,6 @@
 //! The columns of texts, and the attributes of a cell.
 
+use crate::expected::{expect, expect_at};
 use tw_surface::{
     Blink, CellAttributes, ColorAttribute, Intensity, Underline, unicode_column_width,
 };
@@ -26,22 +27,22 @@ fn columns_of_texts(rt: HostRuntime) {
         ("\t", 1),
         ("ab\u{200b}", 2),
     ] {
-        assert_eq!(rt; unicode_column_width(s), columns, "of {s:?}");
+        expect_at(&rt, &s, &unicode_column_width(s), &columns);
     }
 }
 
 #[test]
 fn defaults(rt: HostRuntime) {
     let attributes = CellAttributes::default();
-    assert_eq!(rt; attributes.intensity, Intensity::Normal);
-    assert_eq!(rt; attributes.underline, Underline::None);
-    assert_eq!(rt; attributes.blink, Blink::None);
+    expect(&rt, &attributes.intensity, &Intensity::Normal);
+    expect(&rt, &attributes.underline, &Underline::None);
+    expect(&rt, &attributes.blink, &Blink::None);
     assert!(rt;
         !attributes.italic
             && !attributes.reverse
             && !attributes.strikethrough
             && !attributes.invisible
     );
-    assert_eq!(rt; attributes.foreground, ColorAttribute::Default);
-    assert_eq!(rt; attributes.background, ColorAttribute::default());
+    expect(&rt, &attributes.foreground, &ColorAttribute::Default);
+    expect(&rt, &attributes.background, &ColorAttribute::default());
 }

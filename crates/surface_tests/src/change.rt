@@ -1,12 +1,13 @@
 //! Changes that are compared and copied.
 
+use crate::expected::expect;
 use std::alloc::Global;
 use std::process::Abort;
 use std::test::Fail;
 use tw_surface::{AttributeChange, CellAttributes, Change, ColorAttribute, Intensity, Position};
 
 fn expect_clone(rt: &impl Abort, alloc: Global, change: Change) -> Result<(), Fail> {
-    assert_eq!(rt; change.try_clone(alloc)?, change);
+    expect(rt, &change.try_clone(alloc)?, &change);
     Ok(())
 }
 
@@ -37,7 +38,7 @@ fn texts_are_compared_by_their_characters(rt: HostRuntime) -> Result<(), Fail> {
     let text = Change::from(String::from_str(rt.alloc(), "ab")?);
     let mut longer = String::with_capacity(rt.alloc(), 64)?;
     longer.push_str("ab")?;
-    assert_eq!(rt; text, Change::Text(longer));
+    expect(&rt, &text, &Change::Text(longer));
     assert_ne!(rt; text, Change::Text(String::from_str(rt.alloc(), "aB")?));
     assert_ne!(rt; text, Change::ClearScreen(ColorAttribute::Default));
     Ok(())

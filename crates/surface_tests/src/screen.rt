@@ -1,5 +1,6 @@
 //! What a screen shows, and how many cells it keeps.
 
+use crate::expected::{expect, expect_at};
 use std::alloc::Global;
 use std::process::Abort;
 use std::test::Fail;
@@ -88,7 +89,7 @@ fn sizes(rt: HostRuntime) {
         (65_535, None),
         (65_536, Some(SizeFault::OutOfRange)),
     ] {
-        assert_eq!(rt; Screen::new(rt.alloc(), width).err(), fault, "at {width}");
+        expect_at(&rt, &width, &Screen::new(rt.alloc(), width).err(), &fault);
     }
 }
 
@@ -117,7 +118,7 @@ clear|Ok(())|0 0#\
 fn cursor_after_each_change(rt: HostRuntime) -> Result<(), Fail> {
     let mut screen = new_screen(rt.alloc(), 5)?;
     let count = expect_played(&rt, rt.alloc(), &mut screen, CURSORS)?;
-    assert_eq!(rt; count, 18);
+    expect(&rt, &count, &18);
     Ok(())
 }
 
@@ -135,7 +136,7 @@ by 4294967295 0|Err(OutOfRange)|1 2|one  /tw   /     /     /#\
 fn refusals_change_nothing(rt: HostRuntime) -> Result<(), Fail> {
     let mut screen = new_screen(rt.alloc(), 5)?;
     let count = expect_played(&rt, rt.alloc(), &mut screen, REFUSALS)?;
-    assert_eq!(rt; count, 7);
+    expect(&rt, &count, &7);
     Ok(())
 }
 
@@ -153,8 +154,8 @@ by 1 0|Err(OutOfRange)|4294967295 5|*|Some(4294967295)#\
 fn last_row_that_a_cursor_reaches(rt: HostRuntime) -> Result<(), Fail> {
     let mut screen = new_screen(rt.alloc(), 5)?;
     let count = expect_played(&rt, rt.alloc(), &mut screen, LAST_ROW)?;
-    assert_eq!(rt; count, 7);
-    assert_eq!(rt; screen.char_at(LAST, 4), 'v');
+    expect(&rt, &count, &7);
+    expect(&rt, &screen.char_at(LAST, 4), &'v');
     Ok(())
 }
 
@@ -182,7 +183,7 @@ clear|Ok(())|*|     /     /     /     /|None#\
 fn what_a_screen_shows(rt: HostRuntime) -> Result<(), Fail> {
     let mut screen = new_screen(rt.alloc(), 5)?;
     let count = expect_played(&rt, rt.alloc(), &mut screen, SHOWN)?;
-    assert_eq!(rt; count, 17);
+    expect(&rt, &count, &17);
     Ok(())
 }
 
@@ -202,7 +203,7 @@ text |Ok(())|4294967295 4|abcde/     /     /     /|Some(0)#\
 fn an_empty_text_changes_nothing(rt: HostRuntime) -> Result<(), Fail> {
     let mut screen = new_screen(rt.alloc(), 5)?;
     let count = expect_played(&rt, rt.alloc(), &mut screen, EMPTY_TEXTS)?;
-    assert_eq!(rt; count, 8);
+    expect(&rt, &count, &8);
     Ok(())
 }
 
@@ -218,7 +219,7 @@ fn beyond_the_width(rt: HostRuntime) -> Result<(), Fail> {
         (0, usize::MAX, ' '),
         (usize::MAX, 0, ' '),
     ] {
-        assert_eq!(rt; screen.char_at(row, col), ch, "at row {row}, column {col}");
+        expect_at(&rt, &(row, col), &screen.char_at(row, col), &ch);
     }
     Ok(())
 }
@@ -232,7 +233,7 @@ fn assert_row(
 ) -> Result<(), Fail> {
     let mut text = String::from_str(alloc, "|")?;
     screen.push_row(row, 7, &mut text)?;
-    assert_eq!(rt; text.as_str(), shown, "in row {row}");
+    expect_at(rt, &row, &text.as_str(), &shown);
     Ok(())
 }
 
@@ -282,10 +283,10 @@ fn far_cells_become_near(rt: HostRuntime) -> Result<(), Fail> {
     let mut screen = new_screen(rt.alloc(), 5)?;
     let far = "to 900 1|Ok(())#text far|Ok(())#to 0 0|Ok(())#";
     expect_played(&rt, rt.alloc(), &mut screen, far)?;
-    assert_eq!(rt; kept(rt.alloc(), &screen)?, (0, 3));
+    expect(&rt, &kept(rt.alloc(), &screen)?, &(0, 3));
     let near = "to 100 0|Ok(())#text abcdefghij|Ok(())|*|*|Some(900)#";
     expect_played(&rt, rt.alloc(), &mut screen, near)?;
-    assert_eq!(rt; kept(rt.alloc(), &screen)?, (4_504, 0));
+    expect(&rt, &kept(rt.alloc(), &screen)?, &(4_504, 0));
     for &(row, shown) in &[
         (100, "|abcde  "),
         (101, "|fghij  "),
@@ -310,19 +311,30 @@ text   |3501#\
 clear|0#\
 ";
 
+/// Plays a change, after which there are so many near cells and no far ones.
+fn expect_near(
+    rt: &impl Abort,
+    alloc: Global,
+    screen: &mut Screen,
+    name: &str,
+    near: usize,
+) -> Result<(), Fail> {
+    screen.apply(&change_named(alloc, name)?)?;
+    let found = kept(alloc, screen)?;
+    expect_at(rt, &name, &found, &(near, 0));
+    Ok(())
+}
+
 #[test]
 fn near_cells_end_in_no_blank(rt: HostRuntime) -> Result<(), Fail> {
-    let alloc = rt.alloc();
-    let mut screen = new_screen(alloc, 5)?;
+    let mut screen = new_screen(rt.alloc(), 5)?;
     let mut count = 0usize;
     for change in BLANKS.split_terminator('#') {
         let (name, near) = change.split_once('|').ok_or("no number")?;
-        let told = played(alloc, &mut screen, name)?;
-        assert!(rt; told.as_str().starts_with("Ok(())|"), "{name}");
-        assert_eq!(rt; kept(alloc, &screen)?, (near.parse()?, 0), "{name}");
+        expect_near(&rt, rt.alloc(), &mut screen, name, near.parse()?)?;
         count = count.saturating_add(1);
     }
-    assert_eq!(rt; count, 9);
+    expect(&rt, &count, &9);
     Ok(())
 }
 
@@ -333,11 +345,11 @@ fn the_widest_screen_keeps_few_cells(rt: HostRuntime) -> Result<(), Fail> {
         let changes = format!(in rt.alloc(); "to {row} 0|Ok(())#text > line|Ok(())#")?;
         expect_played(&rt, rt.alloc(), &mut screen, changes.as_str())?;
     }
-    assert_eq!(rt; kept(rt.alloc(), &screen)?, (6, 495));
-    assert_eq!(rt; screen.last_row(), Some(99));
+    expect(&rt, &kept(rt.alloc(), &screen)?, &(6, 495));
+    expect(&rt, &screen.last_row(), &Some(99));
     let mut shown = String::new(rt.alloc());
     screen.push_row(99, 65_535, &mut shown)?;
-    assert_eq!(rt; shown.len(), 65_535);
-    assert_eq!(rt; shown.trim_end(), "> line");
+    expect(&rt, &shown.len(), &65_535);
+    expect(&rt, &shown.trim_end(), &"> line");
     Ok(())
 }

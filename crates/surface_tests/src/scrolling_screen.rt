@@ -1,5 +1,6 @@
 //! What a screen with a last row shows.
 
+use crate::expected::{expect, expect_at};
 use std::alloc::Global;
 use std::process::Abort;
 use std::test::Fail;
@@ -27,10 +28,11 @@ fn sizes(rt: HostRuntime) {
         (65_536, 1, Some(SizeFault::OutOfRange)),
         (1, 65_536, Some(SizeFault::OutOfRange)),
     ] {
-        assert_eq!(rt;
-            ScrollingScreen::new(rt.alloc(), rows, width).err(),
-            fault,
-            "at {rows} and {width}"
+        expect_at(
+            &rt,
+            &(rows, width),
+            &ScrollingScreen::new(rt.alloc(), rows, width).err(),
+            &fault,
         );
     }
 }
@@ -43,11 +45,24 @@ fn expect_played(
     cursor: (usize, usize),
     (first, below): (char, char),
 ) {
-    assert_eq!(rt; screen.apply(&change), Ok(()));
-    assert_eq!(rt; screen.cursor(), cursor);
-    assert_eq!(rt; screen.char_at(0, 0), first);
-    assert_eq!(rt; screen.char_at(1, 0), below);
-    assert_eq!(rt; screen.char_at(2, 0), ' ');
+    expect(rt, &screen.apply(&change), &Ok(()));
+    expect(rt, &screen.cursor(), &cursor);
+    expect(rt, &screen.char_at(0, 0), &first);
+    expect(rt, &screen.char_at(1, 0), &below);
+    expect(rt, &screen.char_at(2, 0), &' ');
+}
+
+/// Writes a text, as `expect_played` plays a change.
+fn expect_written(
+    rt: &impl Abort,
+    alloc: Global,
+    screen: &mut ScrollingScreen,
+    written: &str,
+    cursor: (usize, usize),
+    shown: (char, char),
+) -> Result<(), Fail> {
+    expect_played(rt, screen, text(alloc, written)?, cursor, shown);
+    Ok(())
 }
 
 #[test]
@@ -55,21 +70,25 @@ fn rows_go_up(rt: HostRuntime) -> Result<(), Fail> {
     let alloc = rt.alloc();
     let mut screen = ScrollingScreen::new(alloc, 2, 3)?;
     let it = &mut screen;
-    expect_played(&rt, it, text(alloc, "abc")?, (0, 3), ('a', ' '));
-    expect_played(&rt, it, text(alloc, "de")?, (1, 2), ('a', 'd'));
-    expect_played(&rt, it, text(alloc, "fg")?, (1, 1), ('d', 'g'));
+    expect_written(&rt, alloc, it, "abc", (0, 3), ('a', ' '))?;
+    expect_written(&rt, alloc, it, "de", (1, 2), ('a', 'd'))?;
+    expect_written(&rt, alloc, it, "fg", (1, 1), ('d', 'g'))?;
     expect_played(&rt, it, move_down(1), (1, 0), ('g', ' '));
-    expect_played(&rt, it, text(alloc, "h")?, (1, 1), ('g', 'h'));
+    expect_written(&rt, alloc, it, "h", (1, 1), ('g', 'h'))?;
     expect_played(&rt, it, move_down(-3), (0, 0), ('g', 'h'));
-    expect_played(&rt, it, text(alloc, "i\n\n\r")?, (1, 0), ('h', ' '));
+    expect_written(&rt, alloc, it, "i\n\n\r", (1, 0), ('h', ' '))?;
     let clear_below = Change::ClearToEndOfScreen(ColorAttribute::Default);
     expect_played(&rt, it, clear_below, (1, 0), ('h', ' '));
     let clear = Change::ClearScreen(ColorAttribute::Default);
     expect_played(&rt, it, clear, (0, 0), (' ', ' '));
-    assert_eq!(rt;
-        screen.apply(&text(alloc, "\u{e9}")?),
-        Err(ScreenFault::NotPlain)
-    );
+    Ok(())
+}
+
+#[test]
+fn texts_that_are_not_plain_are_refused(rt: HostRuntime) -> Result<(), Fail> {
+    let mut screen = ScrollingScreen::new(rt.alloc(), 2, 3)?;
+    let refused = screen.apply(&text(rt.alloc(), "\u{e9}")?);
+    expect(&rt, &refused, &Err(ScreenFault::NotPlain));
     Ok(())
 }
 
@@ -80,10 +99,10 @@ fn of_many_rows_the_last_ones_stay(rt: HostRuntime) -> Result<(), Fail> {
         let line = format!(in rt.alloc(); "{row}\r\n")?;
         screen.apply(&Change::Text(line))?;
     }
-    assert_eq!(rt; screen.cursor(), (23, 0));
+    expect(&rt, &screen.cursor(), &(23, 0));
     for &(row, digits) in &[(0, "9977"), (22, "9999"), (23, "    ")] {
         for (col, digit) in digits.chars().enumerate() {
-            assert_eq!(rt; screen.char_at(row, col), digit, "at {row} and {col}");
+            expect_at(&rt, &(row, col), &screen.char_at(row, col), &digit);
         }
     }
     Ok(())
@@ -94,16 +113,17 @@ fn rows_that_scrolled_off_do_not_count(rt: HostRuntime) -> Result<(), Fail> {
     let mut screen = ScrollingScreen::new(rt.alloc(), 3, 4)?;
     for _ in 0..3 {
         screen.apply(&text(rt.alloc(), "x")?)?;
-        assert_eq!(rt; screen.apply(&move_down(4_000_000_000)), Ok(()));
-        assert_eq!(rt; screen.cursor(), (2, 0));
-        assert_eq!(rt; screen.char_at(0, 0), ' ');
+        expect(&rt, &screen.apply(&move_down(4_000_000_000)), &Ok(()));
+        expect(&rt, &screen.cursor(), &(2, 0));
+        expect(&rt, &screen.char_at(0, 0), &' ');
     }
-    assert_eq!(rt; screen.apply(&move_down(4_294_967_293)), Ok(()));
-    assert_eq!(rt;
-        screen.apply(&move_down(4_294_967_294)),
-        Err(ScreenFault::OutOfRange)
+    expect(&rt, &screen.apply(&move_down(4_294_967_293)), &Ok(()));
+    expect(
+        &rt,
+        &screen.apply(&move_down(4_294_967_294)),
+        &Err(ScreenFault::OutOfRange),
     );
-    assert_eq!(rt; screen.cursor(), (2, 0));
+    expect(&rt, &screen.cursor(), &(2, 0));
     Ok(())
 }
 
@@ -114,7 +134,7 @@ fn far_cells_go_up(rt: HostRuntime) -> Result<(), Fail> {
     screen.apply(&text(rt.alloc(), "ab")?)?;
     screen.apply(&move_down(999))?;
     screen.apply(&text(rt.alloc(), "c\r\n\n")?)?;
-    assert_eq!(rt; screen.cursor(), (59_999, 0));
+    expect(&rt, &screen.cursor(), &(59_999, 0));
     for &(row, col, ch) in &[
         (58_998, 0, 'a'),
         (58_998, 1, 'b'),
@@ -122,7 +142,7 @@ fn far_cells_go_up(rt: HostRuntime) -> Result<(), Fail> {
         (59_997, 0, 'c'),
         (59_999, 0, ' '),
     ] {
-        assert_eq!(rt; screen.char_at(row, col), ch, "at {row} and {col}");
+        expect_at(&rt, &(row, col), &screen.char_at(row, col), &ch);
     }
     Ok(())
 }

@@ -1,5 +1,6 @@
 //! Where texts and moves lead, and what is refused.
 
+use crate::expected::{expect, expect_at};
 use std::alloc::{AllocError, Global};
 use std::process::Abort;
 use std::test::Fail;
@@ -27,14 +28,14 @@ fn expect_place(
     sequence.add(text(alloc, before)?)?;
     sequence.add(text(alloc, s)?)?;
     let found = sequence.current_cursor_position();
-    assert_eq!(rt; found, place, "at {before:?}, {s:?}");
+    expect_at(rt, &(before, s), &found, &place);
     Ok(())
 }
 
 /// Texts one after the other on five columns, each with the place to which it leads.
 #[test]
 fn texts_lead_to_their_places(rt: HostRuntime) -> Result<(), Fail> {
-    let cases: [(&str, &str, (usize, isize)); 19] = [
+    for &(before, s, place) in &[
         ("", "abcde", (5, 0)),
         ("abcde", "f", (1, 1)),
         ("", "abcd", (4, 0)),
@@ -59,8 +60,7 @@ fn texts_lead_to_their_places(rt: HostRuntime) -> Result<(), Fail> {
         // nothing moves
         ("abc", "", (3, 0)),
         ("", "\u{200b}", (0, 0)),
-    ];
-    for (before, s, place) in cases {
+    ] {
         expect_place(&rt, rt.alloc(), before, s, place)?;
     }
     Ok(())
@@ -71,9 +71,9 @@ fn texts_lead_to_their_places(rt: HostRuntime) -> Result<(), Fail> {
 fn wide_cluster_on_one_column(rt: HostRuntime) -> Result<(), Fail> {
     let mut sequence = ChangeSequence::new(rt.alloc(), 24, 1)?;
     sequence.add(text(rt.alloc(), "\u{4e00}")?)?;
-    assert_eq!(rt; sequence.current_cursor_position(), (2, 1));
+    expect(&rt, &sequence.current_cursor_position(), &(2, 1));
     sequence.add(text(rt.alloc(), "a")?)?;
-    assert_eq!(rt; sequence.current_cursor_position(), (1, 2));
+    expect(&rt, &sequence.current_cursor_position(), &(1, 2));
     Ok(())
 }
 
@@ -81,26 +81,29 @@ fn wide_cluster_on_one_column(rt: HostRuntime) -> Result<(), Fail> {
 fn moves_are_relative(rt: HostRuntime) -> Result<(), Fail> {
     let mut sequence = ChangeSequence::new(rt.alloc(), 24, 5)?;
     sequence.add(String::from_str(rt.alloc(), "abc\n")?)?;
-    assert_eq!(rt; sequence.current_cursor_position(), (3, 1));
-    assert_eq!(rt; sequence.render_height(), 1);
+    expect(&rt, &sequence.current_cursor_position(), &(3, 1));
+    expect(&rt, &sequence.render_height(), &1);
     sequence.move_to((0, 0))?;
-    assert_eq!(rt; sequence.current_cursor_position(), (0, 0));
-    assert_eq!(rt; sequence.move_to((5, 0)), Err(AddFault::OutOfRange));
-    assert_eq!(rt;
-        sequence.move_to((0, 2_147_483_648)),
-        Err(AddFault::OutOfRange)
+    expect(&rt, &sequence.current_cursor_position(), &(0, 0));
+    expect(&rt, &sequence.move_to((5, 0)), &Err(AddFault::OutOfRange));
+    expect(
+        &rt,
+        &sequence.move_to((0, 2_147_483_648)),
+        &Err(AddFault::OutOfRange),
     );
-    assert_eq!(rt;
-        sequence.move_to((0, -2_147_483_648)),
-        Err(AddFault::OutOfRange)
+    expect(
+        &rt,
+        &sequence.move_to((0, -2_147_483_648)),
+        &Err(AddFault::OutOfRange),
     );
-    assert_eq!(rt; sequence.current_cursor_position(), (0, 0));
+    expect(&rt, &sequence.current_cursor_position(), &(0, 0));
     let changes = sequence.consume();
-    assert_eq!(rt; changes.len(), 2);
-    assert_eq!(rt; changes[0], text(rt.alloc(), "abc\n")?);
-    assert_eq!(rt;
-        changes[1],
-        at(Position::Relative(-3), Position::Relative(-1))
+    expect(&rt, &changes.len(), &2);
+    expect(&rt, &changes[0], &text(rt.alloc(), "abc\n")?);
+    expect(
+        &rt,
+        &changes[1],
+        &at(Position::Relative(-3), Position::Relative(-1)),
     );
     Ok(())
 }
@@ -113,9 +116,9 @@ fn expect_added(
     place: (usize, isize),
     height: usize,
 ) -> Result<(), Fail> {
-    sequence.add(change)?;
-    assert_eq!(rt; sequence.current_cursor_position(), place);
-    assert_eq!(rt; sequence.render_height(), height);
+    sequence.add_change(change)?;
+    expect(rt, &sequence.current_cursor_position(), &place);
+    expect(rt, &sequence.render_height(), &height);
     Ok(())
 }
 
@@ -140,10 +143,11 @@ fn changes_lead_to_their_places(rt: HostRuntime) -> Result<(), Fail> {
     expect_added(&rt, it, above, (0, -1), 7)?;
     sequence.add(text(rt.alloc(), "abcde")?)?;
     sequence.add(at(Position::Relative(-1), Position::Relative(0)))?;
-    assert_eq!(rt;
-        sequence.current_cursor_position(),
-        (4, -1),
-        "the wrap was pending"
+    expect_at(
+        &rt,
+        &"the wrap was pending",
+        &sequence.current_cursor_position(),
+        &(4, -1),
     );
     Ok(())
 }
@@ -156,13 +160,13 @@ fn expect_row(rt: &impl Abort, alloc: Global, y: Position, row: Option<isize>) -
     let place = sequence.current_cursor_position();
     match row {
         Some(row) => {
-            assert_eq!(rt; added, Ok(()));
-            assert_eq!(rt; place, (2, row));
+            expect(rt, &added, &Ok(()));
+            expect(rt, &place, &(2, row));
         }
         None => {
-            assert_eq!(rt; added, Err(AddFault::OutOfRange));
-            assert_eq!(rt; place, (2, 0));
-            assert_eq!(rt; sequence.consume().len(), 1);
+            expect(rt, &added, &Err(AddFault::OutOfRange));
+            expect(rt, &place, &(2, 0));
+            expect(rt, &sequence.consume().len(), &1);
         }
     }
     Ok(())
@@ -171,9 +175,9 @@ fn expect_row(rt: &impl Abort, alloc: Global, y: Position, row: Option<isize>) -
 /// A text is refused behind the last column of the last row, and leaves all as it was.
 fn expect_no_row(rt: &impl Abort, sequence: &mut ChangeSequence, added: Change) {
     let height = sequence.render_height();
-    assert_eq!(rt; sequence.add(added), Err(AddFault::OutOfRange));
-    assert_eq!(rt; sequence.current_cursor_position(), (5, 2_147_483_647));
-    assert_eq!(rt; sequence.render_height(), height);
+    expect(rt, &sequence.add(added), &Err(AddFault::OutOfRange));
+    expect(rt, &sequence.current_cursor_position(), &(5, 2_147_483_647));
+    expect(rt, &sequence.render_height(), &height);
 }
 
 #[test]
@@ -210,12 +214,12 @@ fn sizes_out_of_range_are_refused(rt: HostRuntime) {
     ] {
         match ChangeSequence::new(rt.alloc(), rows, cols) {
             Ok(sequence) => {
-                assert_eq!(rt; fault, None, "at {rows}, {cols}");
-                assert_eq!(rt; sequence.current_cursor_position(), (0, 0));
-                assert_eq!(rt; sequence.render_height(), 0);
-                assert_eq!(rt; sequence.consume().len(), 0);
+                expect_at(&rt, &(rows, cols), &fault, &None);
+                expect(&rt, &sequence.current_cursor_position(), &(0, 0));
+                expect(&rt, &sequence.render_height(), &0);
+                expect(&rt, &sequence.consume().len(), &0);
             }
-            Err(found) => assert_eq!(rt; fault, Some(found), "at {rows}, {cols}"),
+            Err(found) => expect_at(&rt, &(rows, cols), &fault, &Some(found)),
         }
     }
 }
