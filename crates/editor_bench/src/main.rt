@@ -1,22 +1,31 @@
-//! What keys cost. Each of six workloads is played three ways: by the script player, with its model screen; by the
-//! editor alone on a terminal that keeps what is rendered; and by the editor alone on one that keeps nothing. What
-//! each way came to goes to standard output. With the argument `times` the workloads are also played
-//! at sizes that double, and the time of each way for a key goes to standard error. With a number the program
-//! only reads a line of so many keys, where nothing is kept, and writes nothing: it is run so below a tool that
-//! measures memory.
+//! What keys cost, and what the parts of the editor cost.
+//!
+//! Each of six workloads is played three ways: by the script player, with its model screen; by the editor alone on a
+//! terminal that keeps what is rendered; and by the editor alone on one that keeps nothing. Then searches of a history
+//! and walks through it, edits and steps in a line, and the cells of a screen are timed. What came of all that goes to
+//! standard output, and the times of the parts to standard error.
+//!
+//! The argument `workloads` plays the workloads alone, and `history`, `line` or `screen` times that part alone. With
+//! `times` the workloads are also played at sizes that double, and the time of each way for a key goes to standard
+//! error. With a number the program only reads a line of so many keys, where nothing is kept, and writes nothing: it is
+//! run so below a tool that measures memory.
 #![tactic(auto)]
 
 mod discarding;
+mod parts;
 mod script;
+mod times;
 mod workload;
 
+use crate::parts::{time_histories, time_lines, time_screens};
 use crate::script::{by_discarding_terminal, by_script_player, by_script_terminal};
+use crate::times::each;
 use crate::workload::Workload;
 use anyhow::anyhow;
 use std::alloc::Global;
 use std::env;
 use std::rt::Clock;
-use std::time::{Duration, Instant};
+use std::time::Instant;
 
 /// How many sizes a workload is timed at.
 const SIZES: u32 = 5;
@@ -32,12 +41,32 @@ fn main(rt: HostRuntime) -> Result<(), anyhow::Error> {
         by_discarding_terminal(rt.alloc(), script.as_str())?;
         return Ok(());
     }
-    for workload in Workload::ALL {
-        play(&rt, workload, workload.size(), false)?;
+    if matches!(word, "" | "workloads" | "times") {
+        play_workloads(&rt, word == "times")?;
     }
-    if word == "times" {
+    if matches!(word, "" | "history") {
+        time_histories(&rt)?;
+    }
+    if matches!(word, "" | "line") {
+        time_lines(&rt)?;
+    }
+    if matches!(word, "" | "screen") {
+        time_screens(&rt)?;
+    }
+    Ok(())
+}
+
+/// Plays each workload, and times some of them where the times are asked for.
+fn play_workloads(
+    rt: &(impl Alloc<A = Global> + Clock + Print + Eprint),
+    timed: bool,
+) -> Result<(), anyhow::Error> {
+    for workload in Workload::ALL {
+        play(rt, workload, workload.size(), false)?;
+    }
+    if timed {
         for workload in Workload::SWEPT {
-            sweep(&rt, workload)?;
+            sweep(rt, workload)?;
         }
     }
     Ok(())
@@ -98,13 +127,4 @@ fn play(
         )?;
     }
     Ok(())
-}
-
-/// The nanoseconds of each of several keys.
-fn each(all: Duration, keys: u64) -> u128 {
-    if keys == 0 {
-        0
-    } else {
-        all.as_nanos() / u128::from(keys)
-    }
 }
