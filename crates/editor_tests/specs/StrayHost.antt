@@ -24,18 +24,18 @@ stray_highlight v cut = record {
 }
 
 -- F1 empties the history, F2 makes the line `abc` with the cursor at 1, F3 sends the cursor away and repaints
-abbrev pub on_key : Stray → KeyCode → Cut → Resolution Stray
-on_key v (Function number) cut =
+abbrev pub stray_key : Stray → KeyCode → Cut → Resolution Stray
+stray_key v (Function number) cut =
     if number == 1 then record { value = record v { lines = [] }; cut = cut; action = Some NoAction }
     else if number == 2 then record { value = v; cut = cut_at (codes "abc") 1; action = Some NoAction }
     else if number == 3 then record { value = record v { is_away = true }; cut = cut; action = Some Repaint }
     else no_resolution v cut
-on_key v _ cut = no_resolution v cut
+stray_key v _ cut = no_resolution v cut
 
 -- other events are left to the key table
-abbrev pub on_event : Stray → EventView → Cut → Resolution Stray
-on_event v (Key key) cut = on_key v key.key cut
-on_event v _ cut = no_resolution v cut
+abbrev pub stray_event : Stray → EventView → Cut → Resolution Stray
+stray_event v (Key key) cut = stray_key v key.key cut
+stray_event v _ cut = no_resolution v cut
 
 -- its own keys and its own column, and all else plain
 abbrev pub stray_rules : HostRules Stray
@@ -45,7 +45,7 @@ stray_rules = record {
   preview = λ v line. [];
   highlight = λ v cut. stray_highlight v cut;
   candidates = λ v cut. [];
-  resolve = λ v event cut. on_event v event cut;
+  resolve = λ v event cut. stray_event v event cut;
 }
 
 -- the highlighted line and the resolutions are answers of its own

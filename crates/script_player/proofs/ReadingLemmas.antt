@@ -15,7 +15,7 @@ use Rattle.script_language.specs.declared.directive.Directive.{Directive}
 use Rattle.script_language.specs.declared.directive.Directive.TheVariants.{Read}
 use Rattle.script_language.specs.declared.fault.RunFault.{RunFault}
 use Rattle.script_language.specs.declared.fault.RunFault.TheVariants.{Io}
-use Rattle.script_player.specs.Answers.{IsAnswerTo, IsContinuation, answer_text, text_of}
+use Rattle.script_player.specs.Answers.{IsAnswerTo, IsContinuation, answer_text, text_of_answer}
 use Rattle.script_player.specs.NewEditor.{AnswersLine, ReadsLine, RefusesLine, before}
 use Rattle.script_player.specs.Playback.{FailsToObey, Stage, Stays, Tells}
 use Rattle.script_player.specs.ScriptRules.{Scripted, script_overrides, script_rules}
@@ -53,7 +53,7 @@ answered : (prompt : List ℕ) (v w : Scripted) (old new : TerminalState) (outco
     → old.failures ≡ 0 → new.failures ≡ 0
     → IfOk outcome (AnswersLine script_rules prompt v w old new) → IfErr outcome (RefusesLine script_rules script_overrides prompt v w old new)
     → IsAnswerTo outcome (Ok answer)
-    → ReadsLine script_rules prompt v w old new (outcome_of outcome) × (text_of answer ≡ answer_text (outcome_of outcome))
+    → ReadsLine script_rules prompt v w old new (outcome_of outcome) × (text_of_answer answer ≡ answer_text (outcome_of outcome))
 answered prompt v w old new (Ok line) answer zero none reads refuses told = (reads, told)
 answered prompt v w old new (Err (error.Memory e)) answer zero none reads refuses told = absurd (subst (λ r. IsOkAnd r (λ it. Unit {0})) told tt)
 answered prompt v w old new (Err (error.Terminal e)) answer zero none reads (inl (state, mark, (m, inl (faults, whole, count)))) told = absurd (once _ _ zero none count)
@@ -67,7 +67,7 @@ answered prompt v w old new (Err _) answer zero none reads (inr (memory, same, s
 pub tells : (s : Stage) {prompt : List ℕ} {w : Scripted} {old : TerminalState} (new : TerminalState) (outcome : Result (Option (String Global)) Error)
     (answer : Answer) {first whole : List ℕ}
     → IfOk outcome (AnswersLine script_rules prompt s.host w old new) → IfErr outcome (RefusesLine script_rules script_overrides prompt s.host w old new)
-    → IsAnswerTo outcome (Ok answer) → first ≡ text_of answer ++ (10 ∷ []) → IsContinuation first whole → w ≡ s.host → prompt ≡ s.prompt
+    → IsAnswerTo outcome (Ok answer) → first ≡ text_of_answer answer ++ (10 ∷ []) → IsContinuation first whole → w ≡ s.host → prompt ≡ s.prompt
     → old ≡ fresh_terminal (record { rows = 24; cols = s.cols }) s.events → new.failures ≡ 0 → Tells s whole
 tells s {prompt = prompt} {w = w} {old = old} new outcome answer reads refuses told line (more, is) kept same begins none =
     let (run, text) = answered prompt s.host w old new outcome answer (ap (λ (t : TerminalState). t.failures) begins) none reads refuses told in

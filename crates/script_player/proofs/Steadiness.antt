@@ -9,7 +9,7 @@ use Rattle.tw_lineedit.specs.EditState.{EditState}
 use Rattle.tw_lineedit.specs.Refusal.{Refusal}
 use Rattle.tw_lineedit.specs.Outcomes.{Outcome, is_over}
 use Rattle.tw_lineedit.specs.Painting.{Rendering}
-use Rattle.tw_lineedit.specs.Run.{Progress, Ending, Moment, Cause, painting_at, state_after, after_painting, after_action, at_end, after_event, at_event, run, run_of, CanStop, unmeasured, unpainted, half_painted, unpolled, uncopied, unresolved, unapplied, half_cleared, later}
+use Rattle.tw_lineedit.specs.Run.{Progress, Ending, Moment, Cause, painting_at, state_after, after_painting, after_action, at_no_event, after_event, at_event, run, run_of, CanStop, unmeasured, unpainted, half_painted, unpolled, uncopied, unresolved, unapplied, half_cleared, later}
 use Rattle.tw_lineedit.specs.Reading.{start, Reads, FailsToRead, Starves, Halts, ClosesBadly}
 use Rattle.tw_lineedit.specs.declared.Error.{Error}
 use Rattle.tw_lineedit.specs.declared.Error.TheVariants.{Memory, Terminal}
@@ -18,7 +18,7 @@ use Rattle.script_player.specs.NewEditor.{IsSteady, RefusesLine, before}
 
 module _ {V : Type 0} (rules : HostRules V) (overrides : Overrides) (steady : IsSteady rules) where
   -- where no event is left
-  at_end-value : (s : Progress V) (p : Result Rendering Refusal) → (at_end rules s p).value ≡ s.value
+  at_end-value : (s : Progress V) (p : Result Rendering Refusal) → (at_no_event rules s p).value ≡ s.value
   at_end-value s (Err n) = refl
   at_end-value s (Ok p) = refl
 

@@ -22,12 +22,12 @@ abbrev pub IsContinuation : List ℕ → List ℕ → Type 0
 IsContinuation old new = (more : List ℕ) × (new ≡ old ++ more)
 
 -- the text of an answer
-abbrev pub text_of : Answer → List ℕ
-text_of (Line line) = codes "line " ++ string_bytes line
-text_of Cancelled = codes "cancelled"
-text_of (Refused n) = codes "refused " ++ decimal n
+abbrev pub text_of_answer : Answer → List ℕ
+text_of_answer (Line line) = codes "line " ++ string_bytes line
+text_of_answer Cancelled = codes "cancelled"
+text_of_answer (Refused n) = codes "refused " ++ decimal n
 
 -- want of memory is no answer, and any other outcome has its text
 abbrev pub IsAnswerTo : Result (Option (String Global)) Error → Result Answer RunFault → Type 0
 IsAnswerTo (Err (error.Memory e)) result = result ≡ Err fault.Memory
-IsAnswerTo outcome result = IsOkAnd result (λ answer. text_of answer ≡ answer_text (outcome_of outcome))
+IsAnswerTo outcome result = IsOkAnd result (λ answer. text_of_answer answer ≡ answer_text (outcome_of outcome))

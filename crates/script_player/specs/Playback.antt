@@ -10,7 +10,7 @@ use Rattle.script_player.specs.Answers.{answer_text}
 use Rattle.script_language.specs.Escapes.{unescaped_text}
 use Rattle.script_language.specs.Events.{directive_events}
 use Rattle.script_player.specs.NewEditor.{ReadsLine}
-use Rattle.script_player.specs.ScriptRules.{Scripted, candidate, history_only, script_rules, with_candidate, with_line_added, with_preview}
+use Rattle.script_player.specs.ScriptRules.{Scripted, scripted_candidate, history_only, script_rules, with_last_candidate, with_line_added, with_preview}
 use Rattle.script_language.specs.Written.{Contents, ExtendsInPart}
 use Rattle.script_language.specs.declared.directive.Directive.{Directive}
 use Rattle.script_language.specs.declared.directive.Directive.TheVariants.{Cols, Prompt, Preview, History, Candidate, «Type», Paste, Key, Read}
@@ -54,7 +54,7 @@ obeyed (Cols n) s = record s { cols = n; screen = screen_of n }
 obeyed (Prompt text) s = record s { prompt = text.now }
 obeyed (Preview text) s = record s { host = with_preview (unescaped_text text.now) s.host }
 obeyed (History line) s = record s { host = with_line_added line.now s.host }
-obeyed (Candidate range text) s = record s { host = with_candidate (candidate range.start range.end text.now) s.host }
+obeyed (Candidate range text) s = record s { host = with_last_candidate (scripted_candidate range.start range.end text.now) s.host }
 obeyed Read s = record s { events = [] }
 obeyed directive s = record s { events = s.events ++ directive_events directive }
 

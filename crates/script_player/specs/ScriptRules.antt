@@ -32,12 +32,12 @@ abbrev pub with_line_added : List ℕ → Scripted → Scripted
 with_line_added line v = record v { lines = with_line v.lines line }
 
 -- a text in the place of a part of the line
-abbrev pub candidate : ℕ → ℕ → List ℕ → CandidateView
-candidate start end text = record { start = start; end = end; text = text }
+abbrev pub scripted_candidate : ℕ → ℕ → List ℕ → CandidateView
+scripted_candidate start end text = record { start = start; end = end; text = text }
 
 -- one more candidate, which is the last
-abbrev pub with_candidate : CandidateView → Scripted → Scripted
-with_candidate candidate v = record v { candidates = v.candidates ++ (candidate ∷ []) }
+abbrev pub with_last_candidate : CandidateView → Scripted → Scripted
+with_last_candidate candidate v = record v { candidates = v.candidates ++ (candidate ∷ []) }
 
 -- another preview
 abbrev pub with_preview : List ℕ → Scripted → Scripted

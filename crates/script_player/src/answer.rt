@@ -1,7 +1,7 @@
 //! How the reading of a line ends.
 
 ghost use Rattle.std.specs.Prelude.{IfErr, Some};
-ghost use Rattle.script_player.specs.Answers.{IsAnswerTo, text_of};
+ghost use Rattle.script_player.specs.Answers.{IsAnswerTo, text_of_answer};
 ghost use Rattle.script_language.specs.Written.{IsOutside};
 
 use script_language::RunFault;
@@ -35,7 +35,7 @@ impl Answer {
 }
 
 impl fmt::Display for Answer {
-    ghost output = { λ answer. Some (text_of answer) };
+    ghost output = { λ answer. Some (text_of_answer answer) };
 
     fn fmt<W: fmt::Write>(&self, f: &mut fmt::Formatter<W>) -> fmt::Result {
         match self {

@@ -1,7 +1,7 @@
 //! The host of a script.
 
 ghost use Rattle.std.specs.Prelude.{◌≡◌, OnOk, OnErr, refl};
-ghost use Rattle.script_player.specs.ScriptRules.{Scripted, value_of, candidate, history_only, with_candidate, with_preview, script_rules, script_overrides, script_is_plain};
+ghost use Rattle.script_player.specs.ScriptRules.{Scripted, value_of, scripted_candidate, history_only, with_last_candidate, with_preview, script_rules, script_overrides, script_is_plain};
 
 use std::alloc::{AllocError, Global};
 use std::ops::Range;
@@ -42,7 +42,7 @@ impl<L: History> ScriptHost<L> {
     /// Adds a candidate behind the others. Where it is refused nothing is changed.
     pub fn offer(&mut self, range: Range<usize>, text: &str) -> Result<(), AllocError>
         ensures last { OnOk result (value_of L.lines self.new
-            ≡ with_candidate (candidate range.start range.end text.now) (value_of L.lines self.old)) }
+            ≡ with_last_candidate (scripted_candidate range.start range.end text.now) (value_of L.lines self.old)) }
         ensures refused { OnErr result (value_of L.lines self.new ≡ value_of L.lines self.old) }
     {
         let text = String::from_str(self.alloc, text)?;

@@ -17,7 +17,7 @@ use Rattle.tw_lineedit.specs.Outcomes.{Outcome, outcome_of, answer_at, line_in, 
 use Rattle.tw_lineedit.specs.Refusal.{Refusal, refusal_of}
 use Rattle.tw_lineedit.specs.Feeding.{paint_end, painted_run, fed_run, run_on, CanMiss, CanRefuse, unresolved, unapplied, half_cleared, missed, CanStopAt, refused, later, CanStopOn, uncopied, at_event, Begins, begun_run, WantsToBegin, FaultsToBegin, FailsToBegin, IsFed, event_run, WantsToFeed, FaultsToFeed, FailsToFeed, FailsToFinish, Uncopied}
 use Rattle.tw_lineedit.specs.Reading.{start, Reads, FailsIn, HaltsIn, HaltsRefused, ClosesBadly, final_moment}
-use Rattle.tw_lineedit.specs.Run.{Progress, Ending, Moment, Cause, want, fault, run, ends, ending, at_end, moment, progress_of, painting_at, after_taking, after_resolution, after_action, state_after, after_event, CanStop, Quiet}
+use Rattle.tw_lineedit.specs.Run.{Progress, Ending, Moment, Cause, want, fault, run, ends, ending, at_no_event, moment, progress_of, painting_at, after_taking, after_resolution, after_action, state_after, after_event, CanStop, Quiet}
 use Rattle.tw_lineedit.specs.SessionView.{SessionView}
 use Rattle.tw_lineedit.specs.declared.Error.{Error}
 use Rattle.tw_lineedit.specs.declared.Error.TheVariants.{Memory, Terminal}
@@ -134,7 +134,7 @@ module _ {V : Type 0} (rules : HostRules V) (overrides : Overrides) where
 
   -- a run that is over once its last painting is shown
 
-  painted_last : (s : Progress V) (r : Result Rendering Refusal) → at_end rules s r ≡ paint_end [] s r
+  painted_last : (s : Progress V) (r : Result Rendering Refusal) → at_no_event rules s r ≡ paint_end [] s r
   painted_last s (Ok p) = refl
   painted_last s (Err n) = refl
 

@@ -11,7 +11,7 @@ use Rattle.tw_painter.specs.Refusal.{Refusal}
 use Rattle.tw_session.specs.Outcomes.{is_over, answer_at}
 use Rattle.tw_session.specs.Steps.{clears_if}
 use Rattle.tw_lineedit.specs.Frame.{Frame}
-use Rattle.tw_lineedit.specs.Run.{Progress, Moment, Cause, CanStop, StoppedRunsBegin, run, progress_of, painting_at, after_painting, after_event, at_event, at_end, after_action, chosen_action, state_after, ends}
+use Rattle.tw_lineedit.specs.Run.{Progress, Moment, Cause, CanStop, StoppedRunsBegin, run, progress_of, painting_at, after_painting, after_event, at_event, at_no_event, after_action, chosen_action, state_after, ends}
 use Rattle.tw_lineedit.specs.Run.CanStop.{unmeasured, unpainted, half_painted, unpolled, uncopied, unresolved, unapplied, half_cleared, later}
 use Rattle.tw_lineedit.specs.Stations.{station_batches, stations_of}
 use Rattle.tw_lineedit.proofs.StationLemmas.{batches_by_stations}
@@ -50,7 +50,7 @@ module _ {V : Type 0} (rules : HostRules V) where
   -- behind a painting
   grows_behind_painting : (es : List EventView) (s : Progress V) (p : Rendering) → painting_at rules s ≡ Ok p
       → IsBeginning (after_painting s p).taken (run rules es s).taken
-  grows_behind_painting [] s p h = subst (λ q. IsBeginning (after_painting s p).taken (at_end rules s q).taken) (sym h) (all_of_itself (after_painting s p).taken)
+  grows_behind_painting [] s p h = subst (λ q. IsBeginning (after_painting s p).taken (at_no_event rules s q).taken) (sym h) (all_of_itself (after_painting s p).taken)
   grows_behind_painting (e ∷ es) s p h = subst (λ q. IsBeginning (after_painting s p).taken (at_event rules e es s (run rules es) q).taken) (sym h) (grows_unless e es (after_painting s p) (is_over s.state.mode))
 
   -- what begins the run behind an action begins the run

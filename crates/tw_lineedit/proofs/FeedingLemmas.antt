@@ -19,9 +19,9 @@ use Rattle.tw_session.specs.Outcomes.{Outcome, is_over, is_open, answer_at}
 use Rattle.tw_session.specs.Memory.{TakesMemory}
 use Rattle.tw_session.specs.Steps.{clears_if}
 use Rattle.tw_lineedit.specs.Frame.{Frame}
-use Rattle.tw_lineedit.specs.Run.{Progress, Ending, Moment, Cause, want, fault, run, run_of, ends, ending, at_end, after_event, chosen_action, resolution_of, after_action, state_after, after_resolution, after_taking, after_painting, painting_at, moment, progress_of, CanStop, StandsAt, Quiet, IsRefusedIn}
+use Rattle.tw_lineedit.specs.Run.{Progress, Ending, Moment, Cause, want, fault, run, run_of, ends, ending, at_no_event, after_event, chosen_action, resolution_of, after_action, state_after, after_resolution, after_taking, after_painting, painting_at, moment, progress_of, CanStop, StandsAt, Quiet, IsRefusedIn}
 use Rattle.tw_lineedit.specs.Run as stop
-use Rattle.tw_lineedit.specs.EditorSteps.{Paints, FailsToPaint, Handles, FailsToHandle, Advances, FailsToAdvance, GivesUp, answered_frame}
+use Rattle.tw_lineedit.specs.EditorSteps.{Paints, FailsToPaint, Handles, FailsToHandle, HandlesAndPaints, FailsToHandleOrPaint, GivesUp, answered_frame}
 use Rattle.tw_lineedit.specs.Reading.{start, IsTurnedDown}
 use Rattle.tw_lineedit.specs.Feeding.{paint_end, painted_run, fed_run, run_on, CanMiss, unmeasured, unpainted, half_painted, CanRefuse, unresolved, unapplied, half_cleared, missed, CanStopAt, refused, later, CanStopOn, unpolled, uncopied, at_event, Begins, IsFed, IsNotBegun, begun_run, WantsToBegin, FaultsToBegin, FailsToFeed, event_run, WantsToFeed, FaultsToFeed}
 use Rattle.tw_lineedit.specs.Reading as call
@@ -58,7 +58,7 @@ module _ {V : Type 0} (rules : HostRules V) where
 
   -- where the painting is refused the run ends
   run_unpainted : (es : List EventView) (s : Progress V) (n : Refusal) → painting_at rules s ≡ Err n → run rules es s ≡ ends (Err n) es s
-  run_unpainted [] s n h = ap (at_end rules s) h
+  run_unpainted [] s n h = ap (at_no_event rules s) h
   run_unpainted (e ∷ es) s n h = ap (stop.at_event rules e es s (run rules es)) h
 
   -- the painting is refused, by memory, by the terminal or by itself
@@ -86,7 +86,7 @@ module _ {V : Type 0} (rules : HostRules V) where
 
   -- a run goes on from its first painting
   run_painted : (es : List EventView) (s : Progress V) (p : Rendering) → painting_at rules s ≡ Ok p → run rules es s ≡ run_on rules es (after_painting s p)
-  run_painted [] s p h = ap (at_end rules s) h
+  run_painted [] s p h = ap (at_no_event rules s) h
   run_painted (e ∷ es) s p h = ap (stop.at_event rules e es s (run rules es)) h
 
   -- how far a painted frame has come
@@ -152,7 +152,7 @@ module _ {V : Type 0} (rules : HostRules V) where
       left_handled = ap (λ (t : TerminalState). t.events) a.terminal
 
     -- the run behind an event that is handled and painted
-    pub run_advanced : is_over s.state.mode ≡ false → (g : Frame V) → Advances rules e h g → (es : List EventView) → run_on rules (e ∷ es) s ≡ run_on rules es (progress_of g)
+    pub run_advanced : is_over s.state.mode ≡ false → (g : Frame V) → HandlesAndPaints rules e h g → (es : List EventView) → run_on rules (e ∷ es) s ≡ run_on rules es (progress_of g)
     run_advanced o g (i, a, p) es = run_handled i a o es ∙ run_begun i g p es
 
     -- the frame h stands where the event is taken
@@ -176,15 +176,15 @@ module _ {V : Type 0} (rules : HostRules V) where
     quiet_asked = record { flushed = refl; failures = refl }
 
   -- the handling and the painting of an event are quiet
-  pub quiet_advanced : (e : EventView) (f g : Frame V) → Advances rules e f g → Quiet f g
+  pub quiet_advanced : (e : EventView) (f g : Frame V) → HandlesAndPaints rules e f g → Quiet f g
   quiet_advanced e f g (i, a, p) = quiet_on f i g (quiet_handled f i e a) (quiet_painted i g p)
 
   -- and take no event
-  pub left_advanced : (e : EventView) (f g : Frame V) → Advances rules e f g → g.terminal.events ≡ f.terminal.events
+  pub left_advanced : (e : EventView) (f g : Frame V) → HandlesAndPaints rules e f g → g.terminal.events ≡ f.terminal.events
   left_advanced e f g (i, a, p) = ap (λ (t : TerminalState). t.events) p.picture.3 ∙ ap (λ (t : TerminalState). t.events) a.terminal
 
   -- and don't close the line
-  begun_advanced : (e : EventView) (f g : Frame V) → f.state.mode ≢ Inactive → Advances rules e f g → g.state.mode ≢ Inactive
+  begun_advanced : (e : EventView) (f g : Frame V) → f.state.mode ≢ Inactive → HandlesAndPaints rules e f g → g.state.mode ≢ Inactive
   begun_advanced e f g b (i, a, p) inactive =
       never_inactive rules (answered_frame rules e f).value (chosen_action rules (progress_of f) e) (answered_frame rules e f).state i.state b a.state
       (ap (λ (x : EditState). x.mode) (sym p.state) ∙ inactive)
@@ -207,7 +207,7 @@ module _ {V : Type 0} (rules : HostRules V) where
   not_begun_if A (Err e) initial f g h same p = unbegun_at_start initial f h e (subst (λ (y : Frame V). FailsToPaint rules y h e) same p)
 
   -- the painting behind an event
-  pub advances_if : (A : Type 0) (answer : Result A Error) (e : EventView) (f g h : Frame V) → Handles rules e f g → OnOk answer (Paints rules g h) → OnOk answer (Advances rules e f h)
+  pub advances_if : (A : Type 0) (answer : Result A Error) (e : EventView) (f g h : Frame V) → Handles rules e f g → OnOk answer (Paints rules g h) → OnOk answer (HandlesAndPaints rules e f h)
   advances_if A (Ok x) e f g h a p = (g, a, p)
   advances_if A (Err y) e f g h a p = tt
 
@@ -253,7 +253,7 @@ module _ {V : Type 0} (rules : HostRules V) (overrides : Overrides) where
       stops_behind : (c : Cause) (es : List EventView) (m : Moment V) → CanMiss rules c es (progress_of i) m → CanRefuse rules overrides c e es s m
       stops_behind c es m r = missed (leads rules s e h at i a) (subst (λ (t : Progress V). CanMiss rules c es t m) (comes rules s e h at i a) r)
 
-    pub stops_advanced : (g : Frame V) → Advances rules e h g → (c : Cause) (es : List EventView) (m : Moment V) → CanStopOn rules overrides c es (progress_of g) m → CanStopAt rules overrides c e es s m
+    pub stops_advanced : (g : Frame V) → HandlesAndPaints rules e h g → (c : Cause) (es : List EventView) (m : Moment V) → CanStopOn rules overrides c es (progress_of g) m → CanStopAt rules overrides c e es s m
     stops_advanced g (i, a, p) c es m r = stops_handled i a c es m ((begins i g p).stops c es m r)
 
     -- what a refusal leaves
@@ -307,14 +307,14 @@ module _ {V : Type 0} (rules : HostRules V) (overrides : Overrides) where
         x (paint_refused rules i g x p)
 
     -- the event is not handled, or what came of it is not painted
-    pub refused_advance : (g : Frame V) (x : Error) → FailsToAdvance rules overrides e h g x → Refused g x
+    pub refused_advance : (g : Frame V) (x : Error) → FailsToHandleOrPaint rules overrides e h g x → Refused g x
     refused_advance g x r = elim r [
       | inl fails ↦ unhandled g x fails
       | inr there ↦ refused_behind g x there.0 there.1 there.2
     ]
 
   -- An event that is fed has the size that the terminal has already.
-  pub fed : (e : EventView) (f g : Frame V) → size_after e f.terminal.size ≡ f.terminal.size → is_open f.state.mode ≡ true → Advances rules e f g → IsFed rules overrides e f g
+  pub fed : (e : EventView) (f g : Frame V) → size_after e f.terminal.size ≡ f.terminal.size → is_open f.state.mode ≡ true → HandlesAndPaints rules e f g → IsFed rules overrides e f g
   fed e f g told o a =
       let at : progress_of f ≡ after_taking (progress_of f) e = at_own_size rules f e told in
       let goes : is_over f.state.mode ≡ false = open_goes_on f.state.mode o in
@@ -328,7 +328,7 @@ module _ {V : Type 0} (rules : HostRules V) (overrides : Overrides) where
       }
 
   -- an event is refused, and the line is closed
-  pub fed_given_up : (e : EventView) (f h g : Frame V) (x y : Error) → size_after e f.terminal.size ≡ f.terminal.size → FailsToAdvance rules overrides e f h x → GivesUp x h g y → FailsToFeed rules overrides e f g y
+  pub fed_given_up : (e : EventView) (f h g : Frame V) (x y : Error) → size_after e f.terminal.size ≡ f.terminal.size → FailsToHandleOrPaint rules overrides e f h x → GivesUp x h g y → FailsToFeed rules overrides e f g y
   fed_given_up e f h g x y told r c = gives_up_refused (event_run rules e f) (WantsToFeed rules overrides e f) (FaultsToFeed rules overrides e f) f h g x y
       (refused_advance (progress_of f) e f (at_own_size rules f e told) h x r) c
 
@@ -352,6 +352,6 @@ module _ {V : Type 0} (rules : HostRules V) (overrides : Overrides) where
   begins_if A (Err e) f g h same p = tt
 
   -- it is refused
-  pub stays_if : (A : Type 0) (answer : Result A Error) (e : EventView) (f g h : Frame V) → Handles rules e f g → IfErr answer (FailsToPaint rules g h) → IfErr answer (FailsToAdvance rules overrides e f h)
+  pub stays_if : (A : Type 0) (answer : Result A Error) (e : EventView) (f g h : Frame V) → Handles rules e f g → IfErr answer (FailsToPaint rules g h) → IfErr answer (FailsToHandleOrPaint rules overrides e f h)
   stays_if A (Ok x) e f g h a p = tt
   stays_if A (Err y) e f g h a p = inr (g, a, p)

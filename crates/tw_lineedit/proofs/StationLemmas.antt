@@ -17,8 +17,8 @@ use Rattle.tw_painter.specs.Refusal.{Refusal, ZeroSize, SizeOutOfRange}
 use Rattle.tw_session.specs.Outcomes.{is_over, answer_at}
 use Rattle.tw_session.specs.Steps.{is_repaint}
 use Rattle.tw_lineedit.specs.Frame.{Frame}
-use Rattle.tw_lineedit.specs.Run.{Progress, Ending, progress_of, run, run_of, ends, at_end, at_event, after_event, painting_at, after_painting, chosen_action, state_after, after_action}
-use Rattle.tw_lineedit.specs.Stations.{Station, station_at, painting_of, shots_by, clearing_by, painted_shots, refused_clearing, station_batches, stations_after, stations_unless, stations_by, stations_from, stations_of, BatchesByStations}
+use Rattle.tw_lineedit.specs.Run.{Progress, Ending, progress_of, run, run_of, ends, at_no_event, at_event, after_event, painting_at, after_painting, chosen_action, state_after, after_action}
+use Rattle.tw_lineedit.specs.Stations.{Station, station_at, station_painting, shots_by, clearing_by, painted_shots, refused_clearing, station_batches, stations_after, stations_unless, stations_by, stations_from, stations_of, BatchesByStations}
 use Rattle.tw_lineedit.specs.ScreenRuns.{sized_scene, batches_of, RendersNothing, Comes, RunsTellScenes}
 
 -- a refusal is no painting
@@ -59,12 +59,12 @@ painted-is size scene p h = by_zero ((size.rows == 0) || (size.cols == 0)) h
 
 module _ {V : Type 0} (rules : HostRules V) where
   -- a painting does not depend on whether the screen was cleared
-  same_painting : (s : Progress V) (cleared : Bool) → painting_of rules (station_at cleared s) ≡ painting_of rules (station_at false s)
+  same_painting : (s : Progress V) (cleared : Bool) → station_painting rules (station_at cleared s) ≡ station_painting rules (station_at false s)
   unfolding painted_on
   same_painting s cleared = refl
 
   -- a station's painting as it is rendered
-  pub rendered_at : (s : Progress V) (cleared : Bool) → painting_at rules s ≡ rendering_of s.mark (painting_of rules (station_at cleared s))
+  pub rendered_at : (s : Progress V) (cleared : Bool) → painting_at rules s ≡ rendering_of s.mark (station_painting rules (station_at cleared s))
   rendered_at s cleared = ap (rendering_of s.mark) (sym (same_painting s cleared))
 
   -- ---- what a run takes and leaves
@@ -101,17 +101,17 @@ module _ {V : Type 0} (rules : HostRules V) where
 
   -- the last station
   by_last : (s : Progress V) (base : List Batch) (cleared : Bool) → s.taken ≡ base ++ clearing cleared → (q : Result Painting Refusal)
-      → Tells base s.mark cleared [] q (at_end rules s (rendering_of s.mark q))
+      → Tells base s.mark cleared [] q (at_no_event rules s (rendering_of s.mark q))
   by_last s base cleared h (Err r) = (h, refl)
   by_last s base cleared h (Ok p) = (alone base s.taken s.mark cleared p h, refl)
 
   -- one event more
   by_event : (e : EventView) (es : List EventView) → ToldFrom es → ToldFrom (e ∷ es)
   by_event e es rest cleared s base h =
-      subst Told (sym (rendered_at s cleared)) (by_painting (painting_of rules (station_at cleared s)))
+      subst Told (sym (rendered_at s cleared)) (by_painting (station_painting rules (station_at cleared s)))
     where
       Told : Result Rendering Refusal → Type 0
-      Told r = Tells base s.mark cleared (stations_by rules e s (stations_from rules es) r) (painting_of rules (station_at cleared s)) (at_event rules e es s (run rules es) r)
+      Told r = Tells base s.mark cleared (stations_by rules e s (stations_from rules es) r) (station_painting rules (station_at cleared s)) (at_event rules e es s (run rules es) r)
 
       after : Painting → Progress V
       after p = after_painting s (record { changes = start_of s.mark ++ p.changes; mark = mark_of p })
@@ -137,8 +137,8 @@ module _ {V : Type 0} (rules : HostRules V) where
 
   by_stations : (es : List EventView) → ToldFrom es
   by_stations [] cleared s base h =
-      subst (λ (r : Result Rendering Refusal). Tells base s.mark cleared [] (painting_of rules (station_at cleared s)) (at_end rules s r))
-      (sym (rendered_at s cleared)) (by_last s base cleared h (painting_of rules (station_at cleared s)))
+      subst (λ (r : Result Rendering Refusal). Tells base s.mark cleared [] (station_painting rules (station_at cleared s)) (at_no_event rules s r))
+      (sym (rendered_at s cleared)) (by_last s base cleared h (station_painting rules (station_at cleared s)))
   by_stations (e ∷ es) cleared s base h = by_event e es (by_stations es) cleared s base h
 
   -- the batches of a run that begins at a frame
@@ -153,7 +153,7 @@ module _ {V : Type 0} (rules : HostRules V) where
 
   -- the station's painting is not refused
   abbrev pub IsPainted : Station V → Type 0
-  IsPainted s = (p : Painting) × (painting_of rules s ≡ Ok p)
+  IsPainted s = (p : Painting) × (station_painting rules s ≡ Ok p)
 
   -- all stations are painted
   abbrev pub ArePainted : List (Station V) → Type 0
@@ -196,7 +196,7 @@ module _ {V : Type 0} (rules : HostRules V) where
           → ArePaintedButLast (station_at cleared s ∷ stations_by rules e s (stations_from rules es) q)
       by_painting rest (Err r) h = tt
       by_painting rest (Ok p) h =
-          by_over rest p (rendering_of-ok s.mark (painting_of rules (station_at cleared s)) p (sym (rendered_at s cleared) ∙ h)) (is_over s.state.mode)
+          by_over rest p (rendering_of-ok s.mark (station_painting rules (station_at cleared s)) p (sym (rendered_at s cleared) ∙ h)) (is_over s.state.mode)
 
   -- the stations up to a painted one are painted
   painted_up_to : (earlier : List (Station V)) (station : Station V) (later : List (Station V)) → ArePaintedButLast (earlier ++ station ∷ later)
@@ -206,7 +206,7 @@ module _ {V : Type 0} (rules : HostRules V) where
   painted_up_to (s ∷ next ∷ more) station later h one = (h.0, painted_up_to (next ∷ more) station later h.1 one)
 
   -- a painting that is not refused is that of the scene at the screen's columns
-  painting-is : (s : Station V) (p : Painting) → painting_of rules s ≡ Ok p → p ≡ painting s.size.cols (sized_scene rules s).scene
+  painting-is : (s : Station V) (p : Painting) → station_painting rules s ≡ Ok p → p ≡ painting s.size.cols (sized_scene rules s).scene
   painting-is s p h = painted-is s.size (sized_scene rules s).scene p h
 
   -- their paintings are those of their scenes, and come before those of the stations behind them

@@ -18,7 +18,7 @@ use Rattle.tw_lineedit.specs.EditorSteps.{Paints}
 use Rattle.tw_lineedit.specs.Frame.{Frame}
 use Rattle.tw_lineedit.specs.Run.{Progress, Moment, Cause, CanStop, progress_of, painting_at, after_painting, chosen_action, state_after, after_action}
 use Rattle.tw_lineedit.specs.Run.CanStop.{unmeasured, unpainted, half_painted, unpolled, uncopied, unresolved, unapplied, half_cleared, later}
-use Rattle.tw_lineedit.specs.Stations.{Station, station_at, station_batches, painting_of, painted_shots, stations_by, stations_unless, stations_after, stations_from}
+use Rattle.tw_lineedit.specs.Stations.{Station, station_at, station_batches, station_painting, painted_shots, stations_by, stations_unless, stations_after, stations_from}
 use Rattle.tw_lineedit.specs.ScreenRuns.{batches_of, shots_at, Comes}
 use Rattle.tw_lineedit.proofs.StationLemmas.{IsErrRendered, ArePainted, rendered_at, alone, shots_before, all_painted, played-is}
 
@@ -78,8 +78,8 @@ module _ {V : Type 0} (rules : HostRules V) where
 
   -- the painting of a station
   painted_as : (cleared : Bool) (s : Progress V) (p : Rendering) → painting_at rules s ≡ Ok p
-      → (q : Painting) × (painting_of rules (station_at cleared s) ≡ Ok q) × (p ≡ rendered s.mark q)
-  painted_as cleared s p h = rendered-is s.mark (painting_of rules (station_at cleared s)) p (sym (rendered_at rules s cleared) ∙ h)
+      → (q : Painting) × (station_painting rules (station_at cleared s) ≡ Ok q) × (p ≡ rendered s.mark q)
+  painted_as cleared s p h = rendered-is s.mark (station_painting rules (station_at cleared s)) p (sym (rendered_at rules s cleared) ∙ h)
 
   stations_begin : (es : List EventView) (cleared : Bool) (s : Progress V) → (others : List (Station V)) × (stations_from rules es cleared s ≡ station_at cleared s ∷ others)
   stations_begin [] cleared s = ([], refl)

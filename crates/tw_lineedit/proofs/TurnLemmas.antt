@@ -6,7 +6,7 @@ use Rattle.tw_painter.specs.Refusal.{IsMemory}
 use Rattle.tw_session.specs.Outcomes.{is_over, answer_at, IsLine, Outcome}
 use Rattle.tw_lineedit.specs.Frame.{Frame}
 use Rattle.tw_lineedit.specs.Run.{Progress, Moment, Cause, want, fault, run, ends, after_event, state_after, after_taking, moment, progress_of, CanStopFrom, Quiet, run_of, IsAnswered}
-use Rattle.tw_lineedit.specs.EditorSteps.{CallFails, TakesEvent, HasNoEvent, Advances, FailsToAdvance}
+use Rattle.tw_lineedit.specs.EditorSteps.{CallFails, TakesEvent, HasNoEvent, HandlesAndPaints, FailsToHandleOrPaint}
 use Rattle.tw_painter.specs.declared.error.Error.{Error}
 use Rattle.tw_painter.specs.declared.error.Error.TheVariants.{Memory, Terminal}
 use Rattle.tw_host.specs.HostRules.{HostRules}
@@ -54,7 +54,7 @@ module _ {V : Type 0} (rules : HostRules V) (overrides : Overrides) where
   quiet_taken f g e t = record { flushed = ap (λ (x : TerminalState). x.flushed) t.terminal.rest; failures = ap (λ (x : TerminalState). x.failures) t.terminal.rest }
 
   -- the event is refused
-  pub event_refused : (f g k : Frame V) (e : EventView) (x : Error) → is_over f.state.mode ≡ false → TakesEvent e f g → FailsToAdvance rules overrides e g k x → IsRefusedOn rules overrides f.terminal.events f k x
+  pub event_refused : (f g k : Frame V) (e : EventView) (x : Error) → is_over f.state.mode ≡ false → TakesEvent e f g → FailsToHandleOrPaint rules overrides e g k x → IsRefusedOn rules overrides f.terminal.events f k x
   event_refused f g k e x o t r =
       let taken : f.terminal.events ≡ e ∷ g.terminal.events = t.terminal.events in
       refused_later (run_on rules f.terminal.events (progress_of f)) (fed_run rules e g.terminal.events (progress_of f))
@@ -67,7 +67,7 @@ module _ {V : Type 0} (rules : HostRules V) (overrides : Overrides) where
       x (refused_advance rules overrides (progress_of f) e g (taken_is f g e t) k x r)
 
   -- the run goes on
-  pub continues : (f g k : Frame V) (e : EventView) → is_over f.state.mode ≡ false → TakesEvent e f g → Advances rules e g k → Continues rules overrides f k
+  pub continues : (f g k : Frame V) (e : EventView) → is_over f.state.mode ≡ false → TakesEvent e f g → HandlesAndPaints rules e g k → Continues rules overrides f k
   continues f g k e o t a =
       let left : k.terminal.events ≡ g.terminal.events = left_advanced rules e g k a in
       let taken : f.terminal.events ≡ e ∷ k.terminal.events = t.terminal.events ∙ ap (λ (xs : List EventView). e ∷ xs) (sym left) in

@@ -84,8 +84,8 @@ module _ {V : Type 0} (rules : HostRules V) where
   Handles e f g = Applies (chosen_action rules (progress_of f) e) (answered_frame e f) g
 
   -- the event was handled, and what came of it is painted
-  abbrev pub Advances : EventView → Frame V → Frame V → Type 0
-  Advances e f g = (h : Frame V) × Handles e f h × Paints h g
+  abbrev pub HandlesAndPaints : EventView → Frame V → Frame V → Type 0
+  HandlesAndPaints e f g = (h : Frame V) × Handles e f h × Paints h g
 
 module _ {V : Type 0} (rules : HostRules V) (overrides : Overrides) where
   -- what a refused action leaves: all is as before, and only a Repaint has called the terminal
@@ -101,8 +101,8 @@ module _ {V : Type 0} (rules : HostRules V) (overrides : Overrides) where
   FailsToHandle e f g x = FailsToApply (chosen_action rules (progress_of f) e) (answered_frame rules e f) g x
 
   -- the event was not handled, or what came of it is not painted
-  abbrev pub FailsToAdvance : EventView → Frame V → Frame V → Error → Type 0
-  FailsToAdvance e f g x = FailsToHandle e f g x ⊎ ((h : Frame V) × Handles rules e f h × FailsToPaint rules h g x)
+  abbrev pub FailsToHandleOrPaint : EventView → Frame V → Frame V → Error → Type 0
+  FailsToHandleOrPaint e f g x = FailsToHandle e f g x ⊎ ((h : Frame V) × Handles rules e f h × FailsToPaint rules h g x)
 
 module _ {V : Type 0} where
   -- the editor is closed: its mode is Inactive, nothing is painted any more, and the closing batch is rendered and flushed

@@ -14,7 +14,7 @@ use Rattle.tw_session.specs.Outcomes.{Outcome, answer_at, IsLine, is_over}
 use Rattle.tw_session.specs.Memory.{TakesMemory}
 use Rattle.tw_lineedit.specs.Frame.{Frame}
 use Rattle.tw_lineedit.specs.Run.{Progress, Ending, Moment, Cause, want, fault, ends, ending, after_painting, after_taking, moment, progress_of, painting_at, chosen_action, after_resolution, after_action, state_after, after_event, run, CanStop, Quiet, IsRefusedIn}
-use Rattle.tw_lineedit.specs.EditorSteps.{Paints, Advances}
+use Rattle.tw_lineedit.specs.EditorSteps.{Paints, HandlesAndPaints}
 use Rattle.tw_lineedit.specs.Reading.{start, unbegun, FailsIn, HaltsIn, HaltsRefused}
 use Rattle.tw_lineedit.specs.declared.editor.feeding.LineStatus.{LineStatus}
 use Rattle.tw_lineedit.specs.declared.editor.feeding.LineStatus.TheVariants.{Open, Ended}
@@ -123,7 +123,7 @@ module _ {V : Type 0} (rules : HostRules V) (overrides : Overrides) where
 
   -- The event was handled and painted: whatever comes later, the run over it and what comes later goes on from g over what comes later.
   pub record IsFed (e : EventView) (f g : Frame V) : Type 0 where
-    pub advances : Advances rules e f g
+    pub advances : HandlesAndPaints rules e f g
     pub run : (es : List EventView) → run_on rules (e ∷ es) (progress_of f) ≡ run_on rules es (progress_of g)
     pub stops : (c : Cause) (es : List EventView) (m : Moment V) → CanStopOn c es (progress_of g) m → CanStopAt c e es (progress_of f) m
     pub begun : g.state.mode ≢ Inactive

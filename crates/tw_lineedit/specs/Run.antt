@@ -105,9 +105,9 @@ module _ {V : Type 0} (rules : HostRules V) where
   state_after s e = apply_if rules (after_resolution s e).value (chosen_action s e) (after_resolution s e).state
 
   -- where no event is left, by the painting
-  abbrev pub at_end : Progress V → Result Rendering Refusal → Ending V
-  at_end s (Err n) = ends (Err n) [] s
-  at_end s (Ok p) = ends (answer_at s.state) [] (after_painting s p)
+  abbrev pub at_no_event : Progress V → Result Rendering Refusal → Ending V
+  at_no_event s (Err n) = ends (Err n) [] s
+  at_no_event s (Ok p) = ends (answer_at s.state) [] (after_painting s p)
 
   -- where it is painted, and an event leads to a state or is refused; rest is the run from there on
   abbrev pub after_event : EventView → List EventView → Progress V → (Progress V → Ending V) → Result EditState Refusal → Ending V
@@ -123,7 +123,7 @@ module _ {V : Type 0} (rules : HostRules V) where
 
   -- Each state is painted, and then the next event leads to the next one.
   abbrev pub run : List EventView → Progress V → Ending V
-  run [] s = at_end s (painting_at s)
+  run [] s = at_no_event s (painting_at s)
   run (e ∷ es) s = at_event e es s (run es) (painting_at s)
 
   -- the run that begins at a frame

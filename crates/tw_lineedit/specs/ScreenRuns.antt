@@ -13,7 +13,7 @@ use Rattle.tw_painter.specs.declared.error.Error.{Error}
 use Rattle.tw_painter.specs.declared.error.Error.TheVariants.{Memory, Terminal}
 use Rattle.tw_lineedit.specs.Frame.{Frame}
 use Rattle.tw_lineedit.specs.Run.{run_of}
-use Rattle.tw_lineedit.specs.Stations.{Station, painting_of, station_batches, stations_of}
+use Rattle.tw_lineedit.specs.Stations.{Station, station_painting, station_batches, stations_of}
 
 -- memory or the terminal stopped a call
 abbrev pub IsStopped : {A : Type 0} → Result A Error → Type 0
@@ -39,7 +39,7 @@ module _ {V : Type 0} (rules : HostRules V) where
     pub nothing_painted : f.mark ≡ None
     pub stations : stations_of rules f ≡ earlier ++ station ∷ later
     pub painting : Painting
-    pub painted : painting_of rules station ≡ Ok painting
+    pub painted : station_painting rules station ≡ Ok painting
     pub plain : All (IsPlainAt w) (map sized_scene (earlier ++ station ∷ []))
     pub two_columns : 2 ≤ w
     pub at_start : before.col ≡ 0
@@ -50,7 +50,7 @@ module _ {V : Type 0} (rules : HostRules V) where
 
   -- nothing is rendered at a station: its painting is refused, and the screen was not cleared before it
   pub record RendersNothing (station : Station V) : Type 0 where
-    pub refused : (r : Refusal) × (painting_of rules station ≡ Err r)
+    pub refused : (r : Refusal) × (station_painting rules station ≡ Err r)
     pub not_cleared : station.cleared ≡ false
 
   -- ---- a run
@@ -64,7 +64,7 @@ module _ {V : Type 0} (rules : HostRules V) where
     pub nothing_painted : f.mark ≡ None
     pub stations : stations_of rules f ≡ earlier ++ station ∷ later
     pub painting : Painting
-    pub painted : painting_of rules station ≡ Ok painting
+    pub painted : station_painting rules station ≡ Ok painting
 
   -- The batches up to the station's painting are those that show the scenes so far, and the first of the run. Where nothing is rendered behind it they are all, and the run's closing batch is theirs.
   pub record TellsScenes (f : Frame V) (earlier : List (Station V)) (station : Station V) (later : List (Station V)) : Type 0 where

@@ -42,18 +42,18 @@ stations_unless stations false = stations
 
 module _ {V : Type 0} (rules : HostRules V) where
   -- the painting of a station, or its refusal
-  abbrev pub painting_of : Station V → Result Painting Refusal
-  painting_of s = painted_on s.size (scene_of rules s.value s.state s.cleared)
+  abbrev pub station_painting : Station V → Result Painting Refusal
+  station_painting s = painted_on s.size (scene_of rules s.value s.state s.cleared)
 
   -- the paintings of stations up to the first one that is refused
   abbrev pub painted_shots : List (Station V) → List Shot
   painted_shots [] = []
-  painted_shots (s ∷ stations) = shots_by s.cleared (painted_shots stations) (painting_of s)
+  painted_shots (s ∷ stations) = shots_by s.cleared (painted_shots stations) (station_painting s)
 
   -- the clearing before the first one that is refused
   abbrev pub refused_clearing : List (Station V) → List Batch
   refused_clearing [] = []
-  refused_clearing (s ∷ stations) = clearing_by s.cleared (refused_clearing stations) (painting_of s)
+  refused_clearing (s ∷ stations) = clearing_by s.cleared (refused_clearing stations) (station_painting s)
 
   -- the batches of stations after an earlier painting, if there was one: those of what is painted, and then the clearing before a painting that is refused
   abbrev pub station_batches : Option Mark → List (Station V) → List Batch

@@ -16,7 +16,7 @@ ghost use Rattle.tw_painter.specs.Refusal.{IsMemory};
 ghost use Rattle.tw_lineedit.specs.Frame.{frame, own_frame};
 ghost use Rattle.tw_lineedit.specs.Run.{progress_of, resolution_of, run_of, IsAnswered};
 ghost use Rattle.tw_lineedit.specs.Lent.{EndsAs, editor_row};
-ghost use Rattle.tw_lineedit.specs.EditorSteps.{Closes, FailsToClose, Paints, FailsToPaint, Applies, FailsToApply, Handles, FailsToHandle, answered_frame, Advances, FailsToAdvance, GivesUp};
+ghost use Rattle.tw_lineedit.specs.EditorSteps.{Closes, FailsToClose, Paints, FailsToPaint, Applies, FailsToApply, Handles, FailsToHandle, answered_frame, HandlesAndPaints, FailsToHandleOrPaint, GivesUp};
 ghost use Rattle.tw_lineedit.specs.Feeding.{Begins, IsNotBegun, IsRefusedOn, Continues, IsEnded, IsAnsweredOn};
 ghost use Rattle.tw_lineedit.specs.ScreenRuns.{Shows};
 ghost use Rattle.tw_lineedit.specs.Reading.{initial_text, start, Reads, FailsToRead, IsTurnedDown, FailuresTell};
@@ -234,10 +234,10 @@ impl<'term, T: Terminal> LineEditor<'term, T> {
         ensures used { IsUsed T.follows self.old.terminal.now self.new.terminal.now }
         ensures ok { let before = frame T.state H.value self.old host.old in
             let after = frame T.state H.value self.new host.new in
-            OnOk result (Advances H.rules (event_view event.now) before after) }
+            OnOk result (HandlesAndPaints H.rules (event_view event.now) before after) }
         ensures err { let before = frame T.state H.value self.old host.old in
             let after = frame T.state H.value self.new host.new in
-            IfErr result (FailsToAdvance H.rules H.OVERRIDES (event_view event.now) before after) }
+            IfErr result (FailsToHandleOrPaint H.rules H.OVERRIDES (event_view event.now) before after) }
     {
         self.handle(host, event)?;
         self.paint(host)

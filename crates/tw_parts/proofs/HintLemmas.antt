@@ -9,7 +9,7 @@ use Rattle.std.proofs.lemmas.Slice.Eq.{starts_is}
 use Rattle.std.proofs.lemmas.Str.Pattern.{starts_text}
 use Rattle.tw_extremes.specs.Extremes.{greatest_below}
 use Rattle.tw_history.specs.NearestMatch.{line_at}
-use Rattle.tw_parts.specs.Hint.{is_longer, newest_rest, rest_behind, rest_of}
+use Rattle.tw_parts.specs.Hint.{is_longer, newest_rest, rest_behind, continuation_of}
 use Rattle.tw_parts.proofs.UndoLemmas.{one_more}
 
 -- what `strip_prefix` leaves
@@ -30,7 +30,7 @@ module _ (lines : List (List ℕ)) (text : List ℕ) where
       ap newest_below next ∙ one_more (λ i. is_longer text (line_at lines i)) (at - 1) b e
 
   -- where the line below it is longer it is the newest one
-  pub is_newest : (at : ℕ) (rest : List ℕ) → 0 < at → newest_below at ≡ newest_below (length lines) → Some rest ≡ rest_of text (line_at lines (at - 1)) → Some rest ≡ newest_rest lines text
+  pub is_newest : (at : ℕ) (rest : List ℕ) → 0 < at → newest_below at ≡ newest_below (length lines) → Some rest ≡ continuation_of text (line_at lines (at - 1)) → Some rest ≡ newest_rest lines text
   is_newest at rest some found e = by (is_longer text (line_at lines (at - 1))) refl e
     where
       by : (b : Bool) → is_longer text (line_at lines (at - 1)) ≡ b → Some rest ≡ (if b then Some (drop (length text) (line_at lines (at - 1))) else None) → Some rest ≡ newest_rest lines text
@@ -38,7 +38,7 @@ module _ (lines : List (List ℕ)) (text : List ℕ) where
       by false longer e = cc
 
   -- where it is not the newest one is below
-  pub is_below : (at : ℕ) → 0 < at → newest_below at ≡ newest_below (length lines) → None ≡ rest_of text (line_at lines (at - 1)) → newest_below (at - 1) ≡ newest_below (length lines)
+  pub is_below : (at : ℕ) → 0 < at → newest_below at ≡ newest_below (length lines) → None ≡ continuation_of text (line_at lines (at - 1)) → newest_below (at - 1) ≡ newest_below (length lines)
   is_below at some found e = by (is_longer text (line_at lines (at - 1))) refl e
     where
       by : (b : Bool) → is_longer text (line_at lines (at - 1)) ≡ b → None ≡ (if b then Some (drop (length text) (line_at lines (at - 1))) else None) → newest_below (at - 1) ≡ newest_below (length lines)

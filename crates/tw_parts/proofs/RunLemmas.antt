@@ -9,7 +9,7 @@ use Rattle.tw_painter.specs.EditState.{EditState, ModeView, Inactive, Editing, C
 use Rattle.tw_painter.specs.Painting.{Rendering}
 use Rattle.tw_painter.specs.Refusal.{Refusal}
 use Rattle.tw_session.specs.Outcomes.{is_over, answer_at}
-use Rattle.tw_lineedit.specs.Run.{Progress, Ending, progress_of, run, ends, at_end, at_event, after_event, painting_at, after_painting, chosen_action, after_resolution, state_after, after_action}
+use Rattle.tw_lineedit.specs.Run.{Progress, Ending, progress_of, run, ends, at_no_event, at_event, after_event, painting_at, after_painting, chosen_action, after_resolution, state_after, after_action}
 use Rattle.tw_lineedit.specs.Reading.{start}
 use Rattle.tw_lineedit.specs.Stations.{Station, station_at, stations_after, stations_unless, stations_by, stations_from}
 use Rattle.tw_parts.specs.SearchWatch.{is_searching, has_lines, searches_after}
@@ -71,7 +71,7 @@ module _ {V : Type 0} (rules : HostRules V) (watch : V → Bool) (is : IsWatch r
   off_at : (s : Progress V) → Agrees s → is_over s.state.mode ≡ true → watch s.value ≡ false
   off_at s agrees over = agrees ∙ over_is_still s.state.mode over
 
-  off_end : (s : Progress V) (q : Result Rendering Refusal) → Agrees s → IsOff (at_end rules s q)
+  off_end : (s : Progress V) (q : Result Rendering Refusal) → Agrees s → IsOff (at_no_event rules s q)
   off_end s (Err n) agrees = off_at s agrees
   off_end s (Ok p) agrees = off_at s agrees
 

@@ -21,8 +21,8 @@ abbrev pub is_longer : List ℕ → List ℕ → Bool
 is_longer text line = starts_with eqb line text && nat_lt (length text) (length line)
 
 -- what stands in a line behind a text, if it is longer
-abbrev pub rest_of : List ℕ → List ℕ → Option (List ℕ)
-rest_of text line = if is_longer text line then Some (drop (length text) line) else None
+abbrev pub continuation_of : List ℕ → List ℕ → Option (List ℕ)
+continuation_of text line = if is_longer text line then Some (drop (length text) line) else None
 
 -- what the newest line that is longer has behind a text
 abbrev pub newest_rest : List (List ℕ) → List ℕ → Option (List ℕ)

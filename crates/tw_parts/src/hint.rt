@@ -2,7 +2,7 @@
 
 ghost use Rattle.std.specs.Prelude.{◌≡◌, option_map};
 ghost use Rattle.tw_host.specs.ActionView.{action_view};
-ghost use Rattle.tw_parts.specs.Hint.{hint_of, is_taking, newest_rest, rest_behind, rest_of};
+ghost use Rattle.tw_parts.specs.Hint.{hint_of, is_taking, newest_rest, rest_behind, continuation_of};
 
 use tw_history::LentLines;
 use tw_host::Action;
@@ -16,8 +16,8 @@ fn behind<'line>(text: &str, line: &'line str) -> Option<&'line str>
 }
 
 /// What stands in a line behind a text that it begins with, if there is any.
-fn rest_of<'line>(text: &str, line: &'line str) -> Option<&'line str>
-    ensures { option_map (λ rest. rest.now) result ≡ rest_of text.now line.now }
+fn continuation_of<'line>(text: &str, line: &'line str) -> Option<&'line str>
+    ensures { option_map (λ rest. rest.now) result ≡ continuation_of text.now line.now }
 {
     match behind(text, line) {
         Some(rest) if !rest.is_empty() => Some(rest),
@@ -32,7 +32,7 @@ fn newest_rest<'a, L: LentLines>(lines: &'a L, text: &str) -> Option<&'a str>
     let mut at = lines.line_count();
     while at > 0 {
         at -= 1;
-        if let Some(rest) = rest_of(text, lines.line(at)) {
+        if let Some(rest) = continuation_of(text, lines.line(at)) {
             return Some(rest);
         }
     }

@@ -9,7 +9,7 @@ use Rattle.tw_surface.specs.PaintingBatches.{play_batches, closing_if, clearing}
 use Rattle.tw_host.specs.HostRules.{HostRules}
 use Rattle.tw_lineedit.specs.Frame.{Frame}
 use Rattle.tw_lineedit.specs.Run.{run_of}
-use Rattle.tw_lineedit.specs.Stations.{Station, painting_of}
+use Rattle.tw_lineedit.specs.Stations.{Station, station_painting}
 use Rattle.tw_lineedit.specs.ScreenRuns.{sized_scene, batches_of, ReachesPlainly, first_row, Comes, ShowsFresh}
 use Rattle.tw_lineedit.proofs.StationLemmas.{tells_scenes}
 use Rattle.tw_lineedit.proofs.ScreenRunLemmas.{comes_plainly, first_not_cleared, fresh_there, closed_there, first_row-is}
@@ -88,7 +88,7 @@ module _ {V : Type 0} (rules : HostRules V) where
   some_batch (x ∷ c) rest b = tt
 
   -- a station that is painted takes a batch
-  takes_some : (station : Station V) (rest : List Batch) (p : Painting) → painting_of rules station ≡ Ok p → IsCons (batches_of rules (station ∷ []) ++ rest)
+  takes_some : (station : Station V) (rest : List Batch) (p : Painting) → station_painting rules station ≡ Ok p → IsCons (batches_of rules (station ∷ []) ++ rest)
   takes_some station rest p h = rw h (subst (λ (b : List Batch). IsCons (b ++ rest)) (sym (append-nil (clearing station.cleared ++ p.changes ∷ []))) (some_batch (clearing station.cleared) rest p.changes))
 
   -- a call that paints and takes nothing shows nothing

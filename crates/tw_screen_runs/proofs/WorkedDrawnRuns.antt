@@ -31,7 +31,7 @@ use Rattle.tw_lineedit.specs.Run.{run_of}
 use Rattle.tw_lineedit.specs.ScreenRuns.{sized_scene, RendersNothing}
 use Rattle.tw_session.specs.Search.{searched_again, search_step}
 use Rattle.tw_session.specs.SessionView.{new_state}
-use Rattle.tw_lineedit.specs.Stations.{Station, painting_of, stations_of}
+use Rattle.tw_lineedit.specs.Stations.{Station, station_painting, stations_of}
 use Rattle.tw_session.specs.Steps.{apply}
 use Rattle.tw_screen_runs.specs.DrawnRuns.{ComesSimply, ComesHealed, play_stations, play_since, closed_by}
 use Rattle.tw_screen_runs.proofs.DrawnRunLemmas.{drawn_paintings, drawn_closings, drawn_healings, healed_closings}
@@ -81,7 +81,7 @@ unfolding pieces column_width painted_on apply destination searched_again search
 comes_low = record {
   nothing_painted = refl;
   stations = refl;
-  painting = painting_in (painting_of rules low_last);
+  painting = painting_in (station_painting rules low_last);
   painted = refl;
   simple = All-cons IsSimpleWide (sized_scene rules low_first) (sized_scene rules low_last ∷ []) (simple (sized_scene rules low_first) (omega arith) (record { prompt = refl; line = refl; lower = tt })) (All-cons IsSimpleWide (sized_scene rules low_last) [] (simple (sized_scene rules low_last) (omega arith) (record { prompt = refl; line = refl; lower = tt })) (All-nil IsSimpleWide));
   low = All-cons (HasRoom (Some 4) characters) (sized_scene rules low_first) (sized_scene rules low_last ∷ []) (room (Some 4) (sized_scene rules low_first) (record { prompt = refl; line = refl; lower = tt }) (omega arith)) (All-cons (HasRoom (Some 4) characters) (sized_scene rules low_last) [] (room (Some 4) (sized_scene rules low_last) (record { prompt = refl; line = refl; lower = tt }) (omega arith)) (All-nil (HasRoom (Some 4) characters)));
@@ -126,7 +126,7 @@ unfolding pieces column_width painted_on apply destination searched_again search
 comes_refused = record {
   nothing_painted = refl;
   stations = refl;
-  painting = painting_in (painting_of rules (refused_at 1));
+  painting = painting_in (station_painting rules (refused_at 1));
   painted = refl;
   simple = All-cons IsSimpleWide (sized_scene rules (refused_at 0)) (sized_scene rules (refused_at 1) ∷ []) (simple (sized_scene rules (refused_at 0)) (omega arith) (record { prompt = refl; line = refl; lower = tt })) (All-cons IsSimpleWide (sized_scene rules (refused_at 1)) [] (simple (sized_scene rules (refused_at 1)) (omega arith) (record { prompt = refl; line = refl; lower = tt })) (All-nil IsSimpleWide));
   low = All-cons (HasRoom (Some 4) characters) (sized_scene rules (refused_at 0)) (sized_scene rules (refused_at 1) ∷ []) (room (Some 4) (sized_scene rules (refused_at 0)) (record { prompt = refl; line = refl; lower = tt }) (omega arith)) (All-cons (HasRoom (Some 4) characters) (sized_scene rules (refused_at 1)) [] (room (Some 4) (sized_scene rules (refused_at 1)) (record { prompt = refl; line = refl; lower = tt }) (omega arith)) (All-nil (HasRoom (Some 4) characters)));
@@ -175,7 +175,7 @@ unfolding pieces column_width painted_on apply destination searched_again search
 comes_wild = record {
   nothing_painted = refl;
   stations = refl;
-  painting = painting_in (painting_of wild_rules (wild_at 6));
+  painting = painting_in (station_painting wild_rules (wild_at 6));
   painted = refl;
   cleared = refl;
   simple = All-cons IsSimpleWide (sized_scene wild_rules (wild_at 5)) (sized_scene wild_rules (wild_at 6) ∷ []) (simple (sized_scene wild_rules (wild_at 5)) (omega arith) (record { prompt = refl; line = refl; lower = tt })) (All-cons IsSimpleWide (sized_scene wild_rules (wild_at 6)) [] (simple (sized_scene wild_rules (wild_at 6)) (omega arith) (record { prompt = refl; line = refl; lower = tt })) (All-nil IsSimpleWide));
@@ -217,7 +217,7 @@ unfolding pieces column_width painted_on apply destination searched_again search
 comes_cut = record {
   nothing_painted = refl;
   stations = refl;
-  painting = painting_in (painting_of rules (cut_at 2));
+  painting = painting_in (station_painting rules (cut_at 2));
   painted = refl;
   simple = All-cons IsSimpleWide (sized_scene rules (cut_at 0)) (sized_scene rules (cut_at 1) ∷ sized_scene rules (cut_at 2) ∷ []) (simple (sized_scene rules (cut_at 0)) (omega arith) (record { prompt = refl; line = refl; lower = tt })) (All-cons IsSimpleWide (sized_scene rules (cut_at 1)) (sized_scene rules (cut_at 2) ∷ []) (simple (sized_scene rules (cut_at 1)) (omega arith) (record { prompt = refl; line = refl; lower = tt })) (All-cons IsSimpleWide (sized_scene rules (cut_at 2)) [] (simple (sized_scene rules (cut_at 2)) (omega arith) (record { prompt = refl; line = refl; lower = tt })) (All-nil IsSimpleWide)));
   low = All-cons (HasRoom None characters) (sized_scene rules (cut_at 0)) (sized_scene rules (cut_at 1) ∷ sized_scene rules (cut_at 2) ∷ []) (room None (sized_scene rules (cut_at 0)) (record { prompt = refl; line = refl; lower = tt }) tt) (All-cons (HasRoom None characters) (sized_scene rules (cut_at 1)) (sized_scene rules (cut_at 2) ∷ []) (room None (sized_scene rules (cut_at 1)) (record { prompt = refl; line = refl; lower = tt }) tt) (All-cons (HasRoom None characters) (sized_scene rules (cut_at 2)) [] (room None (sized_scene rules (cut_at 2)) (record { prompt = refl; line = refl; lower = tt }) tt) (All-nil (HasRoom None characters))));

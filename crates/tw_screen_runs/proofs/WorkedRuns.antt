@@ -22,7 +22,7 @@ use Rattle.tw_line.specs.Boundaries.{boundary_below, is_boundary}
 use Rattle.tw_session.specs.Search.{searched_again, search_step}
 use Rattle.tw_session.specs.Steps.{apply}
 use Rattle.tw_painter.specs.Refusal.{Refusal, ZeroSize}
-use Rattle.tw_lineedit.specs.Stations.{Station, painting_of, stations_of}
+use Rattle.tw_lineedit.specs.Stations.{Station, station_painting, stations_of}
 use Rattle.tw_lineedit.specs.ScreenRuns.{ReachesPlainly, RendersNothing, batches_of, sized_scene}
 use Rattle.tw_screen_runs.proofs.PlainRunLemmas.{later_is_fresh, cleared_is_fresh, closes_below}
 
@@ -74,7 +74,7 @@ unfolding pieces column_width painted_on apply destination searched_again search
 comes_kill = record {
   nothing_painted = refl;
   stations = refl;
-  painting = painting_in (painting_of rules (at_kill 3));
+  painting = painting_in (station_painting rules (at_kill 3));
   painted = refl;
   plain = plain_kill;
   two_columns = omega arith;
@@ -116,7 +116,7 @@ unfolding pieces column_width painted_on apply destination searched_again search
 comes_clearing = record {
   nothing_painted = refl;
   stations = refl;
-  painting = painting_in (painting_of rules (at_clearing 2));
+  painting = painting_in (station_painting rules (at_clearing 2));
   painted = refl;
   plain = plain_clearing;
   two_columns = omega arith;
@@ -152,7 +152,7 @@ unfolding pieces column_width painted_on apply destination searched_again search
 comes_refusal = record {
   nothing_painted = refl;
   stations = refl;
-  painting = painting_in (painting_of rules (at_refusal 1));
+  painting = painting_in (station_painting rules (at_refusal 1));
   painted = refl;
   plain = plain_refusal;
   two_columns = omega arith;

@@ -46,7 +46,7 @@ module _ {V A C : Type 0} (rules : HostRules V) (pen : Pen A C) where
     pub nothing_painted : f.mark ≡ None
     pub stations : stations_of rules f ≡ earlier ++ station ∷ later
     pub painting : Painting
-    pub painted : of.painting_of rules station ≡ Ok painting
+    pub painted : of.station_painting rules station ≡ Ok painting
     pub simple : All IsSimpleWide (map (sized_scene rules) (earlier ++ station ∷ []))
     pub low : All (HasRoom rows pen) (map (sized_scene rules) (earlier ++ station ∷ []))
     pub at_start : before.col ≡ 0
@@ -96,7 +96,7 @@ module _ {V A C : Type 0} (rules : HostRules V) (pen : Pen A C) where
     pub nothing_painted : f.mark ≡ None
     pub stations : stations_of rules f ≡ earlier ++ (since ++ station ∷ later)
     pub painting : Painting
-    pub painted : of.painting_of rules station ≡ Ok painting
+    pub painted : of.station_painting rules station ≡ Ok painting
     pub cleared : begins_cleared (map (sized_scene rules) (since ++ station ∷ [])) ≡ true
     pub simple : All IsSimpleWide (map (sized_scene rules) (since ++ station ∷ []))
     pub low : All (HasRoom rows pen) (map (sized_scene rules) (since ++ station ∷ []))

@@ -15,9 +15,9 @@ use Rattle.tw_painter.specs.Painting.{Rendering, rendering_of}
 use Rattle.tw_painter.specs.Refusal.{Refusal}
 use Rattle.tw_session.specs.Outcomes.{Outcome, is_over, answer_at}
 use Rattle.tw_session.specs.Steps.{is_repaint}
-use Rattle.tw_lineedit.specs.Run.{Progress, Ending, run, ends, at_end, at_event, after_event, painting_at, after_painting, chosen_action, state_after, after_action}
+use Rattle.tw_lineedit.specs.Run.{Progress, Ending, run, ends, at_no_event, at_event, after_event, painting_at, after_painting, chosen_action, state_after, after_action}
 use Rattle.tw_lineedit.specs.ScreenRuns.{sized_scene}
-use Rattle.tw_lineedit.specs.Stations.{Station, station_at, painting_of, shots_by, stations_from, stations_by, stations_after, stations_unless}
+use Rattle.tw_lineedit.specs.Stations.{Station, station_at, station_painting, shots_by, stations_from, stations_by, stations_after, stations_unless}
 use Rattle.tw_lineedit.proofs.StationLemmas.{rendered_at, shots_before}
 use Rattle.tw_ansi.specs.declared.encode.Encoder.{Encoder}
 use Rattle.tw_ansi.specs.Encoding.{Sent, sent_then, sent_batch}
@@ -98,7 +98,7 @@ painting_of_first p (shot ∷ more) = shot.painting
 
 module _ {V : Type 0} (rules : HostRules V) where
   -- a painting that is not refused is that of the scene at the screen's columns
-  painting-is : (s : Station V) (p : Painting) → painting_of rules s ≡ Ok p → p ≡ painting s.size.cols (sized_scene rules s).scene
+  painting-is : (s : Station V) (p : Painting) → station_painting rules s ≡ Ok p → p ≡ painting s.size.cols (sized_scene rules s).scene
   painting-is s p h = ap (painting_of_first p) (ap (shots_by s.cleared []) (sym h) ∙ shots_before rules (s ∷ []) [] ((p, h), tt))
 
   -- ---- a run that goes on behind an event
@@ -106,7 +106,7 @@ module _ {V : Type 0} (rules : HostRules V) where
   -- what is painted, and the state to which the event leads
   record GoesOn (event : EventView) (s : Progress V) (cleared : Bool) : Type 0 where
     painting : Painting
-    painted : painting_of rules (station_at cleared s) ≡ Ok painting
+    painted : station_painting rules (station_at cleared s) ≡ Ok painting
     unended : is_over s.state.mode ≡ false
     state : EditState
     leads : state_after rules s event ≡ Ok state
@@ -115,33 +115,33 @@ module _ {V : Type 0} (rules : HostRules V) where
   abbrev rendered : Progress V → Painting → Rendering
   rendered s p = record { changes = start_of s.mark ++ p.changes; mark = mark_of p }
 
-  rendered-is : (s : Progress V) (cleared : Bool) (q : Result Painting Refusal) → painting_of rules (station_at cleared s) ≡ q → painting_at rules s ≡ rendering_of s.mark q
+  rendered-is : (s : Progress V) (cleared : Bool) (q : Result Painting Refusal) → station_painting rules (station_at cleared s) ≡ q → painting_at rules s ≡ rendering_of s.mark q
   rendered-is s cleared q h = rendered_at rules s cleared ∙ ap (rendering_of s.mark) h
 
   goes_on : (event : EventView) (events : List EventView) (s : Progress V) (cleared : Bool) → (run rules (event ∷ events) s).left ≡ [] → IsAnswer (run rules (event ∷ events) s).answer
       → GoesOn event s cleared
-  goes_on event events s cleared left answer = by_painting (painting_of rules (station_at cleared s)) refl
+  goes_on event events s cleared left answer = by_painting (station_painting rules (station_at cleared s)) refl
     where
       -- where the painting is this one
       behind : Painting → Bool → Result EditState Refusal → Ending V
       behind p over a = cond over (ends (answer_at s.state) (event ∷ events) (after_painting s (rendered s p))) (after_event rules event events (after_painting s (rendered s p)) (run rules events) a)
 
-      at : (p : Painting) → painting_of rules (station_at cleared s) ≡ Ok p → (over : Bool) → is_over s.state.mode ≡ over → (a : Result EditState Refusal) → state_after rules s event ≡ a
+      at : (p : Painting) → station_painting rules (station_at cleared s) ≡ Ok p → (over : Bool) → is_over s.state.mode ≡ over → (a : Result EditState Refusal) → state_after rules s event ≡ a
           → run rules (event ∷ events) s ≡ behind p over a
       at p h over o a st = ap (at_event rules event events s (run rules events)) (rendered-is s cleared (Ok p) h) ∙ ap (λ b. behind p b (state_after rules s event)) o ∙ ap (behind p over) st
 
-      by_state : (p : Painting) → painting_of rules (station_at cleared s) ≡ Ok p → is_over s.state.mode ≡ false → (a : Result EditState Refusal) → state_after rules s event ≡ a → GoesOn event s cleared
+      by_state : (p : Painting) → station_painting rules (station_at cleared s) ≡ Ok p → is_over s.state.mode ≡ false → (a : Result EditState Refusal) → state_after rules s event ≡ a → GoesOn event s cleared
       by_state p h o (Err r) st = absurd (subst (λ (end : Ending V). IsAnswer end.answer) (at p h false o (Err r) st) answer)
       by_state p h o (Ok state) st = record { painting = p; painted = h; unended = o; state = state; leads = st }
 
-      by_over : (p : Painting) → painting_of rules (station_at cleared s) ≡ Ok p → (over : Bool) → is_over s.state.mode ≡ over → GoesOn event s cleared
+      by_over : (p : Painting) → station_painting rules (station_at cleared s) ≡ Ok p → (over : Bool) → is_over s.state.mode ≡ over → GoesOn event s cleared
       by_over p h true o =
           let none : event ∷ events ≡ [] = ap (λ (end : Ending V). end.left) (sym (at p h true o (state_after rules s event) refl)) ∙ left in
           let some : length (event ∷ events) ≡ 0 = ap length none in
           absurd (omega arith)
       by_over p h false o = by_state p h o (state_after rules s event) refl
 
-      by_painting : (q : Result Painting Refusal) → painting_of rules (station_at cleared s) ≡ q → GoesOn event s cleared
+      by_painting : (q : Result Painting Refusal) → station_painting rules (station_at cleared s) ≡ q → GoesOn event s cleared
       by_painting (Err r) h = absurd (subst (λ (end : Ending V). IsAnswer end.answer) (ap (at_event rules event events s (run rules events)) (rendered-is s cleared (Err r) h)) answer)
       by_painting (Ok p) h = by_over p h (is_over s.state.mode) refl
 
@@ -170,7 +170,7 @@ module _ {V : Type 0} (rules : HostRules V) where
         ∙ ap (λ a. station_at cleared s ∷ stations_after rules event drawn (stations_from rules more) a) k.leads
 
     painted-next : (run rules [] s).taken ≡ s.taken ++ (start_of s.mark ++ k.painting.changes) ∷ []
-    painted-next = ap (λ r. (at_end rules s r).taken) (rendered-is s cleared (Ok k.painting) k.painted)
+    painted-next = ap (λ r. (at_no_event rules s r).taken) (rendered-is s cleared (Ok k.painting) k.painted)
 
   -- ---- the size at the end
 
@@ -183,7 +183,7 @@ module _ {V : Type 0} (rules : HostRules V) where
   last_size-is z [] station = refl
   last_size-is z (first ∷ more) station = last_size-is first.size more station
 
-  end-size : (s : Progress V) (r : Result Rendering Refusal) → s.size ≡ (at_end rules s r).size
+  end-size : (s : Progress V) (r : Result Rendering Refusal) → s.size ≡ (at_no_event rules s r).size
   end-size s (Ok p) = refl
   end-size s (Err r) = refl
 
@@ -257,13 +257,13 @@ module _ {V : Type 0} (rules : HostRules V) where
     -- the last painting
     sends-last : SendsFrom []
     sends-last cleared s old new end base cols calls kept below =
-        subst (λ r. IsAllTaken (at_end rules s r) end new → SendsStations s.mark (station_at cleared s ∷ []) (at_end rules s r) end old new) (sym (rendered-is s cleared q refl)) (by_painting q refl)
+        subst (λ r. IsAllTaken (at_no_event rules s r) end new → SendsStations s.mark (station_at cleared s ∷ []) (at_no_event rules s r) end old new) (sym (rendered-is s cleared q refl)) (by_painting q refl)
       where
         q : Result Painting Refusal
-        q = painting_of rules (station_at cleared s)
+        q = station_painting rules (station_at cleared s)
 
-        by_painting : (q : Result Painting Refusal) → painting_of rules (station_at cleared s) ≡ q
-            → IsAllTaken (at_end rules s (rendering_of s.mark q)) end new → SendsStations s.mark (station_at cleared s ∷ []) (at_end rules s (rendering_of s.mark q)) end old new
+        by_painting : (q : Result Painting Refusal) → station_painting rules (station_at cleared s) ≡ q
+            → IsAllTaken (at_no_event rules s (rendering_of s.mark q)) end new → SendsStations s.mark (station_at cleared s ∷ []) (at_no_event rules s (rendering_of s.mark q)) end old new
         by_painting (Err r) h whole = absurd whole.2
         by_painting (Ok p) h whole =
             let w : ℕ = s.size.cols in

@@ -29,7 +29,7 @@ use Rattle.tw_lineedit.specs.Frame.{Frame}
 use Rattle.tw_lineedit.specs.Reading.{Reads}
 use Rattle.tw_lineedit.specs.Run.{Ending}
 use Rattle.tw_lineedit.specs.ScreenRuns.{sized_scene, RendersNothing}
-use Rattle.tw_lineedit.specs.Stations.{Station, painting_of, stations_of}
+use Rattle.tw_lineedit.specs.Stations.{Station, station_painting, stations_of}
 use Rattle.tw_ansi.specs.Encoding.{first_known}
 use Rattle.tw_ansi.specs.EcmaBatches.{first_picture}
 use Rattle.tw_ansi.specs.EcmaScreen.{EcmaScreen, receive_all}
@@ -135,7 +135,7 @@ module _ (it : AnsiTerminal Wrote) where
     comes = record {
       nothing_painted = refl;
       stations = refl;
-      painting = painting_in (painting_of rules (at 2));
+      painting = painting_in (station_painting rules (at 2));
       painted = refl;
       simple = All-cons IsSimpleWide (sized_scene rules (at 0)) (sized_scene rules (at 1) ∷ sized_scene rules (at 2) ∷ []) (simple (sized_scene rules (at 0)) (omega arith) plain_at.0)
           (All-cons IsSimpleWide (sized_scene rules (at 1)) (sized_scene rules (at 2) ∷ []) (simple (sized_scene rules (at 1)) (omega arith) plain_at.1)

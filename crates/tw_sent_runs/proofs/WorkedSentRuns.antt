@@ -23,7 +23,7 @@ use Rattle.tw_session.specs.Steps.{apply}
 use Rattle.tw_lineedit.specs.Frame.{Frame}
 use Rattle.tw_lineedit.specs.Reading.{start}
 use Rattle.tw_lineedit.specs.ScreenRuns.{sized_scene, RendersNothing}
-use Rattle.tw_lineedit.specs.Stations.{Station, painting_of, stations_of}
+use Rattle.tw_lineedit.specs.Stations.{Station, station_painting, stations_of}
 use Rattle.tw_screen_runs.specs.DrawnRuns.{ComesSimply}
 use Rattle.tw_ansi.specs.Encoding.{Sent, first_known}
 use Rattle.tw_ansi.specs.EcmaBatches.{first_picture}
@@ -65,7 +65,7 @@ unfolding pieces column_width painted_on apply destination searched_again search
 low_comes = record {
   nothing_painted = refl;
   stations = refl;
-  painting = painting_in (painting_of rules low_last);
+  painting = painting_in (station_painting rules low_last);
   painted = refl;
   simple = All-cons IsSimpleWide (sized_scene rules low_first) (sized_scene rules low_last ∷ []) (simple (sized_scene rules low_first) (omega arith) low_plain.0)
       (All-cons IsSimpleWide (sized_scene rules low_last) [] (simple (sized_scene rules low_last) (omega arith) low_plain.1) (All-nil IsSimpleWide));

@@ -31,7 +31,7 @@ use Rattle.tw_lineedit.specs.EditState.{Inactive}
 use Rattle.tw_lineedit.specs.Reading.{Reads}
 use Rattle.tw_lineedit.specs.Run.{Ending}
 use Rattle.tw_lineedit.specs.ScreenRuns.{sized_scene}
-use Rattle.tw_lineedit.specs.Stations.{Station, painting_of, stations_of}
+use Rattle.tw_lineedit.specs.Stations.{Station, station_painting, stations_of}
 use Rattle.tw_ansi.specs.declared.encode.Encoder.{Encoder}
 use Rattle.tw_ansi.specs.Encoding.{first_known, sent_batch}
 use Rattle.tw_ansi.specs.EcmaBatches.{IsReached}
@@ -237,7 +237,7 @@ module _ (it : AnsiTerminal Wrote) where
       comes = record {
         nothing_painted = refl;
         stations = refl;
-        painting = painting_in (painting_of rules (at 3));
+        painting = painting_in (station_painting rules (at 3));
         painted = refl;
         cleared = refl;
         simple = All-cons IsSimpleWide (sized_scene rules (at 3)) [] (simple (sized_scene rules (at 3)) (omega arith) plain_at.0) (All-nil IsSimpleWide);
@@ -286,7 +286,7 @@ module _ (it : AnsiTerminal Wrote) where
       comes = record {
         nothing_painted = refl;
         stations = refl;
-        painting = painting_in (painting_of rules (at 4));
+        painting = painting_in (station_painting rules (at 4));
         painted = refl;
         cleared = refl;
         simple = All-cons IsSimpleWide (sized_scene rules (at 3)) (sized_scene rules (at 4) ∷ []) (simple (sized_scene rules (at 3)) (omega arith) plain_at.0)
