@@ -295,7 +295,7 @@ fn a_fault_ends_the_calls(rt: HostRuntime) -> Result<(), Fail> {
     Ok(())
 }
 
-/// Reads the line of `a Enter` with a terminal that fails at this call, if at one, behind so many changes.
+/// Reads the line of `a Enter` with a terminal that fails at this call, if at one, after so many changes.
 fn batches_of(
     alloc: Global,
     fault: Option<(usize, usize)>,

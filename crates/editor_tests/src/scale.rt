@@ -81,7 +81,7 @@ fn the_last_of_many_words_is_killed(rt: HostRuntime) -> Result<(), Fail> {
     expect_line(&rt, alloc, &mut host, line, "C-W Enter", wanted.as_str())
 }
 
-/// A long text is pasted before and behind a long line.
+/// A long text is pasted before and after a long line.
 #[test]
 fn long_texts_are_pasted(rt: HostRuntime) -> Result<(), Fail> {
     let alloc = rt.alloc();

@@ -16,7 +16,7 @@ use tw_lineedit::{
 };
 use tw_surface::unicode_column_width;
 
-/// A host with three stray keys: F1 empties its history, F2 makes the line `abc` with the cursor behind the `a`,
+/// A host with three stray keys: F1 empties its history, F2 makes the line `abc` with the cursor after the `a`,
 /// and F3 sends the cursor to the greatest column that there is, and repaints.
 #[derive(Drop)]
 struct StrayHost {

@@ -22,7 +22,7 @@ const FITTING: &[(&str, usize, &str, (u8, &str, usize))] = &[
     ("a\u{4e00}b", 1, "cand 1 4 \u{e9}", (0, "a\u{e9}b", 0)),
 ];
 
-/// Each case is a line and its cursor, and a candidate that misfits: its range ends behind the line, is reversed or
+/// Each case is a line and its cursor, and a candidate that misfits: its range ends after the line, is reversed or
 /// cuts a character, or the cursor would come before the line or into a character.
 const MISFITS: &[(&str, usize, &str)] = &[
     ("ab", 1, "cand 3 3 x"),

@@ -71,7 +71,7 @@ fn a_host_answers_before_the_key_table(rt: HostRuntime) -> Result<(), Fail> {
     Ok(())
 }
 
-/// With the cursor in the middle the default answers show the whole line, its cursor behind the columns before
+/// With the cursor in the middle the default answers show the whole line, its cursor after the columns before
 /// it, and complete nothing.
 #[test]
 fn the_default_answers_know_the_cursor(rt: HostRuntime) -> Result<(), Fail> {

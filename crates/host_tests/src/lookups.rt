@@ -68,7 +68,7 @@ fn expect_added<L: History>(
     expect_line(rt, alloc, history, usize::MAX, None)
 }
 
-/// Adds empty lines before and behind another one.
+/// Adds empty lines before and after another one.
 fn expect_empty_lines<L: History>(
     rt: &impl Abort,
     alloc: Global,

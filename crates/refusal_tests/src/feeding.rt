@@ -195,7 +195,7 @@ fn fed_line<H: LineEditorHost>(
     })
 }
 
-/// Whether a refused line painted what one paints that is finished behind the events that it was fed, and closed
+/// Whether a refused line painted what one paints that is finished after the events that it was fed, and closed
 /// likewise. It may have cleared the screen for the event that was refused. One that was not begun painted nothing,
 /// and one whose closing batch is refused is not flushed.
 fn stops_at(refused: &FedLine, cut: &FedLine) -> bool {

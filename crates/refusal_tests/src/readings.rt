@@ -140,7 +140,7 @@ pub fn last_reading<H: LineEditorHost>(
     Ok(LastReading { end, terminal })
 }
 
-/// The batches without a clearing of the screen behind them.
+/// The batches without a clearing of the screen after them.
 pub fn without_clearing(batches: &[Vec<Change>]) -> &[Vec<Change>] {
     match batches {
         [before @ .., last]

@@ -20,7 +20,7 @@ struct End {
     reads_again: bool,
 }
 
-/// A reading, the lines of the history behind it, and the terminal at last.
+/// A reading, the lines of the history after it, and the terminal at last.
 #[derive(Drop)]
 struct Remembered {
     end: End,
@@ -38,7 +38,7 @@ impl Remembered {
     }
 }
 
-/// The lines of a history, each with a bar behind it.
+/// The lines of a history, each with a bar after it.
 fn lines_of(alloc: Global, history: &BasicHistory) -> Result<String, AllocError> {
     let mut lines = String::new(alloc);
     for at in 0..history.last().map_or(0, |last| last.saturating_add(1)) {
@@ -158,7 +158,7 @@ one|two|one|
 ==
 ";
 
-/// Compares the answer of a reading, and the lines of the history behind it.
+/// Compares the answer of a reading, and the lines of the history after it.
 fn expect_read(
     rt: &impl Abort,
     alloc: Global,

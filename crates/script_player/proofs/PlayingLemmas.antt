@@ -50,7 +50,7 @@ line_behind : (before : List (List ℕ)) (line : List ℕ) (rest : List (List �
 line_behind [] line rest = refl
 line_behind (first ∷ before) line rest = line_behind before line rest
 
--- the bad line behind lines that are played is the first one
+-- the bad line after lines that are played is the first one
 first_bad : {lines rest : List (List ℕ)} {bad : List ℕ} {n : ℕ} {s : Stage} {old held : Contents}
     → PlaysUpTo lines (bad ∷ rest) n s old held → IsBad bad → IsFirstBad lines n
 first_bad {rest = rest} {bad = bad} {n = n} so_far is =

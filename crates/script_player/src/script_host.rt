@@ -39,7 +39,7 @@ impl<L: History> ScriptHost<L> {
         Ok(())
     }
 
-    /// Adds a candidate behind the others. Where it is refused nothing is changed.
+    /// Adds a candidate after the others. Where it is refused nothing is changed.
     pub fn offer(&mut self, range: Range<usize>, text: &str) -> Result<(), AllocError>
         ensures last { OnOk result (value_of L.lines self.new
             ≡ with_last_candidate (scripted_candidate range.start range.end text.now) (value_of L.lines self.old)) }

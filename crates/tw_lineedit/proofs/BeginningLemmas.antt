@@ -33,7 +33,7 @@ module _ {V : Type 0} (rules : HostRules V) where
   grows : (es : List EventView) (s : Progress V) → IsBeginning s.taken (run rules es s).taken
   grows es s = (station_batches rules s.mark (stations_of rules (frame_at es s)), batches_by_stations rules (frame_at es s))
 
-  -- behind an event
+  -- after an event
   grows_behind_event : (e : EventView) (es : List EventView) (s : Progress V) (a : Result EditState Refusal)
       → IsBeginning s.taken (after_event rules e es s (run rules es) a).taken
   grows_behind_event e es s (Err r) = all_of_itself s.taken
@@ -47,13 +47,13 @@ module _ {V : Type 0} (rules : HostRules V) where
   grows_unless e es s true = all_of_itself s.taken
   grows_unless e es s false = grows_behind_event e es s (state_after rules s e)
 
-  -- behind a painting
+  -- after a painting
   grows_behind_painting : (es : List EventView) (s : Progress V) (p : Rendering) → painting_at rules s ≡ Ok p
       → IsBeginning (after_painting s p).taken (run rules es s).taken
   grows_behind_painting [] s p h = subst (λ q. IsBeginning (after_painting s p).taken (at_no_event rules s q).taken) (sym h) (all_of_itself (after_painting s p).taken)
   grows_behind_painting (e ∷ es) s p h = subst (λ q. IsBeginning (after_painting s p).taken (at_event rules e es s (run rules es) q).taken) (sym h) (grows_unless e es (after_painting s p) (is_over s.state.mode))
 
-  -- what begins the run behind an action begins the run
+  -- what begins the run after an action begins the run
   begins_before : (e : EventView) (es : List EventView) (s : Progress V) (p : Rendering) (state : EditState) (taken : List Batch) → painting_at rules s ≡ Ok p → is_over s.state.mode ≡ false
       → state_after rules (after_painting s p) e ≡ Ok state → IsBeginning taken (run rules es (after_action rules (after_painting s p) e state)).taken
       → IsBeginning taken (run rules (e ∷ es) s).taken

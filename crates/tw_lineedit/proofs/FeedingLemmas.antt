@@ -98,7 +98,7 @@ module _ {V : Type 0} (rules : HostRules V) where
   quiet_painted : (f g : Frame V) → Paints rules f g → Quiet f g
   quiet_painted f g p = record { flushed = ap (λ (t : TerminalState). t.flushed) p.picture.3; failures = ap (λ (t : TerminalState). t.failures) p.picture.3 }
 
-  -- the run behind the first painting
+  -- the run after the first painting
   run_begun : (f g : Frame V) → Paints rules f g → (es : List EventView) → run rules es (progress_of f) ≡ run_on rules es (progress_of g)
   run_begun f g h es = run_painted es (progress_of f) h.picture.0 h.picture.1 ∙ ap (run_on rules es) (sym (painted_is f g h))
 
@@ -151,7 +151,7 @@ module _ {V : Type 0} (rules : HostRules V) where
       left_handled : i.terminal.events ≡ h.terminal.events
       left_handled = ap (λ (t : TerminalState). t.events) a.terminal
 
-    -- the run behind an event that is handled and painted
+    -- the run after an event that is handled and painted
     pub run_advanced : is_over s.state.mode ≡ false → (g : Frame V) → HandlesAndPaints rules e h g → (es : List EventView) → run_on rules (e ∷ es) s ≡ run_on rules es (progress_of g)
     run_advanced o g (i, a, p) es = run_handled i a o es ∙ run_begun i g p es
 
@@ -206,7 +206,7 @@ module _ {V : Type 0} (rules : HostRules V) where
   not_begun_if A (Ok x) initial f g h same p = tt
   not_begun_if A (Err e) initial f g h same p = unbegun_at_start initial f h e (subst (λ (y : Frame V). FailsToPaint rules y h e) same p)
 
-  -- the painting behind an event
+  -- the painting after an event
   pub advances_if : (A : Type 0) (answer : Result A Error) (e : EventView) (f g h : Frame V) → Handles rules e f g → OnOk answer (Paints rules g h) → OnOk answer (HandlesAndPaints rules e f h)
   advances_if A (Ok x) e f g h a p = (g, a, p)
   advances_if A (Err y) e f g h a p = tt
@@ -218,14 +218,14 @@ module _ {V : Type 0} (rules : HostRules V) (overrides : Overrides) where
   stops_unpainted c es s m (unpainted sized) = stop.unpainted sized
   stops_unpainted c es s m (half_painted h) = stop.half_painted h
 
-  -- a moment at which an event can be refused, behind a painting
+  -- a moment at which an event can be refused, after a painting
   stops_refused : (c : Cause) (e : EventView) (es : List EventView) (s : Progress V) (p : Rendering) (m : Moment V) → painting_at rules s ≡ Ok p → is_over s.state.mode ≡ false → CanRefuse rules overrides c e es (after_painting s p) m → CanStop rules overrides c (e ∷ es) s m
   stops_refused c e es s p m h o (unresolved own) = stop.unresolved h o own
   stops_refused c e es s p m h o (unapplied t) = stop.unapplied h o t
   stops_refused c e es s p m h o (half_cleared r) = stop.half_cleared h o r
   stops_refused c e es s p m h o (missed st r) = stop.later h o st (stops_unpainted c es _ m r)
 
-  -- a moment at which the run can be stopped behind its first painting
+  -- a moment at which the run can be stopped after its first painting
   stops_painted : (c : Cause) (es : List EventView) (s : Progress V) (p : Rendering) (m : Moment V) → painting_at rules s ≡ Ok p → CanStopOn rules overrides c es (after_painting s p) m → CanStop rules overrides c es s m
   stops_painted c es s p m h (unpolled o) = stop.unpolled h o
   stops_painted c es s p m h (uncopied o l) = stop.uncopied h o l

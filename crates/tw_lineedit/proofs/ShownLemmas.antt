@@ -76,7 +76,7 @@ module _ {V : Type 0} (rules : HostRules V) where
       r.batches ∙ ap (λ (b : List Batch). b ++ closing_if (run_of rules f).mark) (all_taken rules comes none)
       ∙ append_assoc f.terminal.batches (batches_of rules (earlier ++ station ∷ [])) (closing_if (run_of rules f).mark))
 
-  -- up to a moment each station behind which an event was taken was painted
+  -- up to a moment each station after which an event was taken was painted
   abbrev HoldsUpTo : Frame V → Moment V → Type 0
   HoldsUpTo f m = (earlier : List (Station V)) (station : Station V) (later : List (Station V)) → Comes rules f earlier station later → length earlier + length m.left < length f.terminal.events
       → (rest : List Batch) × (m.taken ≡ f.terminal.batches ++ (batches_of rules (earlier ++ station ∷ []) ++ rest))

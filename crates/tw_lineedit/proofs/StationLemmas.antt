@@ -69,7 +69,7 @@ module _ {V : Type 0} (rules : HostRules V) where
 
   -- ---- what a run takes and leaves
 
-  -- the batches of a station, by its painting, and of the stations behind it
+  -- the batches of a station, by its painting, and of the stations after it
   abbrev batches_by : Option Mark → Bool → List (Station V) → Result Painting Refusal → List Batch
   batches_by mark cleared more q = batches_after mark (shots_by cleared (painted_shots rules more) q) ++ clearing_by cleared (refused_clearing rules more) q
 
@@ -78,7 +78,7 @@ module _ {V : Type 0} (rules : HostRules V) where
   Tells base mark cleared more q end =
       (end.taken ≡ base ++ batches_by mark cleared more q) × (end.mark ≡ mark_after mark (shots_by cleared (painted_shots rules more) q))
 
-  -- what a painting and the stations behind it add to a clearing
+  -- what a painting and the stations after it add to a clearing
   joined : (base taken : List Batch) (mark : Option Mark) (cleared : Bool) (p : Painting) (more : List (Station V)) → taken ≡ base ++ clearing cleared
       → (taken ++ (start_of mark ++ p.changes) ∷ []) ++ station_batches rules (Some (mark_of p)) more ≡ base ++ batches_by mark cleared more (Ok p)
   joined base taken mark cleared p more h =
@@ -88,7 +88,7 @@ module _ {V : Type 0} (rules : HostRules V) where
       ∙ append_assoc base (clearing cleared) (batch ∷ station_batches rules (Some (mark_of p)) more)
       ∙ ap (λ (b : List Batch). base ++ b) (sym (append_assoc (clearing cleared) (batch ∷ batches_after (Some (mark_of p)) (painted_shots rules more)) (refused_clearing rules more)))
 
-  -- where no station is behind
+  -- where no station follows
   pub alone : (base taken : List Batch) (mark : Option Mark) (cleared : Bool) (p : Painting) → taken ≡ base ++ clearing cleared
       → taken ++ (start_of mark ++ p.changes) ∷ [] ≡ base ++ batches_by mark cleared [] (Ok p)
   alone base taken mark cleared p h = sym (append-nil (taken ++ (start_of mark ++ p.changes) ∷ [])) ∙ joined base taken mark cleared p [] h
@@ -166,7 +166,7 @@ module _ {V : Type 0} (rules : HostRules V) where
   ArePaintedButLast (s ∷ []) = Unit {0}
   ArePaintedButLast (s ∷ next ∷ more) = IsPainted s × ArePaintedButLast (next ∷ more)
 
-  -- stations behind a painted one
+  -- stations after a painted one
   painted_more : (s : Station V) (more : List (Station V)) → IsPainted s → ArePaintedButLast more → ArePaintedButLast (s ∷ more)
   painted_more s [] one rest = tt
   painted_more s (next ∷ more) one rest = (one, rest)
@@ -209,7 +209,7 @@ module _ {V : Type 0} (rules : HostRules V) where
   painting-is : (s : Station V) (p : Painting) → station_painting rules s ≡ Ok p → p ≡ painting s.size.cols (sized_scene rules s).scene
   painting-is s p h = painted-is s.size (sized_scene rules s).scene p h
 
-  -- their paintings are those of their scenes, and come before those of the stations behind them
+  -- their paintings are those of their scenes, and come before those of the stations after them
   pub shots_before : (stations later : List (Station V)) → ArePainted stations
       → painted_shots rules (stations ++ later) ≡ map shot_of (map (sized_scene rules) stations) ++ painted_shots rules later
   shots_before [] later h = refl

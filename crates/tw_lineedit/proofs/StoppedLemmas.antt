@@ -53,7 +53,7 @@ rendered-is mark (Ok q) p h = (q, refl, sym (ap (rendering_in p) h))
 rendered-is mark (Err r) p h = absurd (subst IsErrRendered h tt)
 
 module _ {V : Type 0} (rules : HostRules V) where
-  -- The stations that were painted before a run was stopped, and what was taken: their batches, and maybe a clearing. Each event that was taken came behind one of them.
+  -- The stations that were painted before a run was stopped, and what was taken: their batches, and maybe a clearing. Each event that was taken came after one of them.
   pub record Stopped (es : List EventView) (cleared : Bool) (s : Progress V) (base : List Batch) (m : Moment V) : Type 0 where
     pub painted : List (Station V)
     pub others : List (Station V)
@@ -101,7 +101,7 @@ module _ {V : Type 0} (rules : HostRules V) where
         enough = enough;
       }
 
-  -- what a painting and the batches behind it add to a clearing
+  -- what a painting and the batches after it add to a clearing
   joined : (base taken c y extra : List Batch) (b : Batch) → taken ≡ base ++ c → (taken ++ b ∷ []) ++ (y ++ extra) ≡ base ++ ((c ++ b ∷ y) ++ extra)
   joined base taken c y extra b h =
       append_assoc taken (b ∷ []) (y ++ extra)

@@ -98,13 +98,13 @@ module _ {V : Type 0} (rules : HostRules V) (overrides : Overrides) where
       ((moment None g.terminal.events (progress_of g), a.stops l, refl, stands_here g), a.quiet)
   not_copied f g h _ a same bad l = absurd bad
 
-  -- behind the first painting
+  -- after the first painting
 
   -- the run goes on from it
   run_behind_first : (f g : Frame V) → Begins rules overrides f g → run_of rules f ≡ run_on rules g.terminal.events (progress_of g)
   run_behind_first f g b = b.run f.terminal.events ∙ ap (λ (xs : List EventView). run_on rules xs (progress_of g)) (sym b.left)
 
-  -- the run can be stopped behind it
+  -- the run can be stopped after it
   stops_behind_first : (f g : Frame V) → Begins rules overrides f g → (c : Cause) (m : Moment V) → CanStopOn rules overrides c g.terminal.events (progress_of g) m → CanStopFrom rules overrides c f m
   stops_behind_first f g b c m h = b.stops c f.terminal.events m (subst (λ (xs : List EventView). CanStopOn rules overrides c xs (progress_of g) m) b.left h)
 

@@ -24,7 +24,7 @@ abbrev pub status_if : Bool → LineStatus
 status_if true = Open
 status_if false = Ended
 
--- the ending behind a painting, or its refusal; no event is taken
+-- the ending after a painting, or its refusal; no event is taken
 abbrev pub paint_end : {V : Type 0} → List EventView → Progress V → Result Rendering Refusal → Ending V
 paint_end es s (Err n) = ends (Err n) es s
 paint_end es s (Ok p) = ends (answer_at s.state) es (after_painting s p)
@@ -38,7 +38,7 @@ module _ {V : Type 0} (rules : HostRules V) where
   abbrev pub fed_run : EventView → List EventView → Progress V → Ending V
   fed_run e es s = after_event rules e es s (painted_run es) (state_after rules s e)
 
-  -- the run from a painting on, over the events behind it
+  -- the run from a painting on, over the events after it
   abbrev pub run_on : List EventView → Progress V → Ending V
   run_on [] s = ends (answer_at s.state) [] s
   run_on (e ∷ es) s = cond (is_over s.state.mode)
@@ -76,7 +76,7 @@ module _ {V : Type 0} (rules : HostRules V) where
     abbrev pub FailsToBegin : Frame V → Error → Type 0
     FailsToBegin g e = FailsIn begun_run WantsToBegin FaultsToBegin (HaltsRefused begun_run WantsToBegin) f g e
 
-  -- the run that takes an event that is fed; those that are left at the terminal come behind it
+  -- the run that takes an event that is fed; those that are left at the terminal come after it
   abbrev pub event_run : EventView → Frame V → Ending V
   event_run e f = fed_run e f.terminal.events (progress_of f)
 
@@ -94,14 +94,14 @@ module _ {V : Type 0} (rules : HostRules V) (overrides : Overrides) where
     unapplied : {e : EventView} {es : List EventView} {s : Progress V} → TakesMemory rules overrides (after_resolution rules s e).value (chosen_action rules s e) (after_resolution rules s e).state → CanRefuse want e es s (moment None es (after_resolution rules s e))
     -- the clearing of the screen was not rendered
     half_cleared : {e : EventView} {es : List EventView} {s : Progress V} → chosen_action rules s e ≡ Some Repaint → CanRefuse fault e es s (moment (Some clear_batch) es (after_resolution rules s e))
-    -- the painting behind it was refused
+    -- the painting after it was refused
     missed : {c : Cause} {e : EventView} {es : List EventView} {s : Progress V} {state : EditState} {m : Moment V} → state_after rules s e ≡ Ok state → CanMiss rules c es (after_action rules s e state) m → CanRefuse c e es s m
 
   -- the moments at which the run that takes an event can be stopped, by the cause
   pub data CanStopAt : Cause → EventView → List EventView → Progress V → Moment V → Type 0 where
     -- at the event
     refused : {c : Cause} {e : EventView} {es : List EventView} {s : Progress V} {m : Moment V} → CanRefuse c e es s m → CanStopAt c e es s m
-    -- behind it
+    -- after it
     later : {c : Cause} {e : EventView} {es : List EventView} {s : Progress V} {state : EditState} {m : Moment V} → state_after rules s e ≡ Ok state → CanStop rules overrides c es (after_action rules s e state) m → CanStopAt c e es s m
 
   -- the moments at which the run from a painting on can be stopped
@@ -110,7 +110,7 @@ module _ {V : Type 0} (rules : HostRules V) (overrides : Overrides) where
     unpolled : {es : List EventView} {s : Progress V} → is_over s.state.mode ≡ false → CanStopOn fault es s (moment None es s)
     -- the run ended with a line, and the line was not copied
     uncopied : {es : List EventView} {s : Progress V} → (is_over s.state.mode ≡ true) ⊎ (es ≡ []) → IsLine (answer_at s.state) → CanStopOn want es s (moment None es s)
-    -- at an event, or behind it
+    -- at an event, or after it
     at_event : {c : Cause} {e : EventView} {es : List EventView} {s : Progress V} {m : Moment V} → is_over s.state.mode ≡ false → CanStopAt c e es s m → CanStopOn c (e ∷ es) s m
 
   -- the run from f over these events, before its first painting, goes on from g as one that is painted
@@ -134,7 +134,7 @@ module _ {V : Type 0} (rules : HostRules V) (overrides : Overrides) where
   abbrev pub IsRefusedOn : List EventView → Frame V → Frame V → Error → Type 0
   IsRefusedOn es f g e = IsRefusedIn (run_on rules es (progress_of f)) (CanStopOn want es (progress_of f)) (CanStopOn fault es (progress_of f)) f g e
 
-  -- An event that is fed to a line at f; those that are left at the terminal come behind it.
+  -- An event that is fed to a line at f; those that are left at the terminal come after it.
   module _ (e : EventView) (f : Frame V) where
     -- where memory can be refused
     abbrev pub WantsToFeed : Moment V → Type 0

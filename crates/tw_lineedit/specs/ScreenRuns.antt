@@ -66,7 +66,7 @@ module _ {V : Type 0} (rules : HostRules V) where
     pub painting : Painting
     pub painted : station_painting rules station ≡ Ok painting
 
-  -- The batches up to the station's painting are those that show the scenes so far, and the first of the run. Where nothing is rendered behind it they are all, and the run's closing batch is theirs.
+  -- The batches up to the station's painting are those that show the scenes so far, and the first of the run. Where nothing is rendered after it they are all, and the run's closing batch is theirs.
   pub record TellsScenes (f : Frame V) (earlier : List (Station V)) (station : Station V) (later : List (Station V)) : Type 0 where
     pub scenes : batches_of (earlier ++ station ∷ []) ≡ batches (shots_at (earlier ++ station ∷ []))
     pub beginning : (rest : List Batch) × ((run_of rules f).taken ≡ f.terminal.batches ++ (batches_of (earlier ++ station ∷ []) ++ rest))
@@ -90,7 +90,7 @@ module _ {V : Type 0} (rules : HostRules V) where
   abbrev pub ShowsFirst : Frame V → Frame V → Type 0
   ShowsFirst f g = (w : ℕ) (station : Station V) (later : List (Station V)) (before : Picture) → ReachesPlainly f w [] station later before → ShowsFresh f g w before.row [] station before
 
-  -- What it took behind them leaves the cursor at column 0 of the row below the fresh painting, all from there on blank, and what is above as it was.
+  -- What it took after them leaves the cursor at column 0 of the row below the fresh painting, all from there on blank, and what is above as it was.
   pub record ClosesBelow (f g : Frame V) (w : ℕ) (earlier : List (Station V)) (station : Station V) (before : Picture) : Type 0 where
     pub end : List Batch
     pub taken : g.terminal.batches ≡ f.terminal.batches ++ (batches_of (earlier ++ station ∷ []) ++ end)
@@ -98,11 +98,11 @@ module _ {V : Type 0} (rules : HostRules V) where
         IsClosed w (last_row w (first_row before.row (earlier ++ station ∷ [])) (sized_scene station).scene) after (play_batches w end after)
 
   module _ {A : Type 0} (f g : Frame V) (result : Result A Error) where
-    -- the call painted the station behind these: where it was stopped, it took an event behind that station
+    -- the call painted the station after these: where it was stopped, it took an event after that station
     abbrev pub HasPainted : List (Station V) → Type 0
     HasPainted earlier = IsStopped result → length earlier + length g.terminal.events < length f.terminal.events
 
-    -- What a screen shows of a call whose run begins at f, and which left g with this answer: for each station that the run reaches plainly the fresh painting, from the row on in which the screen was entered, and from row 0 on once it was cleared. Where nothing stopped the call, and nothing is rendered behind a station, the call ends below it.
+    -- What a screen shows of a call whose run begins at f, and which left g with this answer: for each station that the run reaches plainly the fresh painting, from the row on in which the screen was entered, and from row 0 on once it was cleared. Where nothing stopped the call, and nothing is rendered after a station, the call ends below it.
     pub record Shows : Type 0 where
       pub first : (w : ℕ) (station : Station V) (later : List (Station V)) (before : Picture)
           → ReachesPlainly f w [] station later before → HasPainted []

@@ -25,17 +25,17 @@ pub record Station (V : Type 0) : Type 0 where
 abbrev pub station_at : {V : Type 0} → Bool → Progress V → Station V
 station_at cleared s = record { state = s.state; value = s.value; size = s.size; cleared = cleared }
 
--- a station's painting and those of the stations behind it; where it is refused there are none
+-- a station's painting and those of the stations after it; where it is refused there are none
 abbrev pub shots_by : Bool → List Shot → Result Painting Refusal → List Shot
 shots_by cleared more (Err r) = []
 shots_by cleared more (Ok p) = record { painting = p; cleared = cleared } ∷ more
 
--- the clearing before a station whose painting is refused; else that of the stations behind it
+-- the clearing before a station whose painting is refused; else that of the stations after it
 abbrev pub clearing_by : Bool → List Batch → Result Painting Refusal → List Batch
 clearing_by cleared more (Err r) = clearing cleared
 clearing_by cleared more (Ok p) = more
 
--- the stations behind a painted one: none where the run is over
+-- the stations after a painted one: none where the run is over
 abbrev pub stations_unless : {V : Type 0} → List (Station V) → Bool → List (Station V)
 stations_unless stations true = []
 stations_unless stations false = stations
@@ -59,12 +59,12 @@ module _ {V : Type 0} (rules : HostRules V) where
   abbrev pub station_batches : Option Mark → List (Station V) → List Batch
   station_batches mark stations = batches_after mark (painted_shots stations) ++ refused_clearing stations
 
-  -- the stations behind an event that leads to a state or is refused; rest are those from a station on
+  -- the stations after an event that leads to a state or is refused; rest are those from a station on
   abbrev pub stations_after : EventView → Progress V → (Bool → Progress V → List (Station V)) → Result EditState Refusal → List (Station V)
   stations_after e s rest (Err r) = []
   stations_after e s rest (Ok state) = rest (is_repaint (chosen_action rules s e)) (after_action rules s e state)
 
-  -- the stations behind one, by its painting
+  -- the stations after one, by its painting
   abbrev pub stations_by : EventView → Progress V → (Bool → Progress V → List (Station V)) → Result Rendering Refusal → List (Station V)
   stations_by e s rest (Err r) = []
   stations_by e s rest (Ok p) = stations_unless (stations_after e (after_painting s p) rest (state_after rules s e)) (is_over s.state.mode)

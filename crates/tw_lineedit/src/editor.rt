@@ -256,7 +256,7 @@ impl<'term, T: Terminal> LineEditor<'term, T> {
         self.terminal.poll_input()
     }
 
-    /// Takes an event, handles it, and paints. It answers false where the run ends.
+    /// Takes an event, handles it, and paints. Returns false where the run ends.
     fn turn<H: LineEditorHost>(&mut self, host: &mut H) -> Result<bool, Error>
         ensures same_reference { self.new.terminal.ghost_name ≡ self.old.terminal.ghost_name }
         ensures used { IsUsed T.follows self.old.terminal.now self.new.terminal.now }
@@ -279,7 +279,7 @@ impl<'term, T: Terminal> LineEditor<'term, T> {
         }
     }
 
-    /// Takes events up to the end of the run, and answers with a copy of the line.
+    /// Takes events up to the end of the run, and returns a copy of the line.
     #[tactic(auto, using(crate::proofs::TurnLemmas::ended_later, crate::proofs::TurnLemmas::not_copied_if))]
     fn run_to_end<H: LineEditorHost>(&mut self, host: &mut H) -> Result<Option<String>, Error>
         ensures same_reference { self.new.terminal.ghost_name ≡ self.old.terminal.ghost_name }
@@ -295,7 +295,7 @@ impl<'term, T: Terminal> LineEditor<'term, T> {
         self.answer()
     }
 
-    /// The answer at the end of a run.
+    /// What a run returns at its end.
     fn answer(&self) -> Result<Option<String>, Error>
         ensures ok { IfOk result (λ it. outcome_of (Ok it) ≡ answer_at self.now.session.state) }
         ensures err { IfErr result IsMemory }
@@ -376,7 +376,7 @@ impl<'term, T: Terminal> LineEditor<'term, T> {
         self.run_to_end(host)
     }
 
-    /// Closes after a refusal, and answers it, or else why the closing is refused.
+    /// Closes after a refusal, and returns it, or else why the closing is refused.
     fn give_up(&mut self, refusal: Error) -> Error
         ensures same_reference { self.new.terminal.ghost_name ≡ self.old.terminal.ghost_name }
         ensures used { IsUsed T.follows self.old.terminal.now self.new.terminal.now }
@@ -413,13 +413,13 @@ impl<'term, T: Terminal> LineEditor<'term, T> {
         }
     }
 
-    /// Reads a line that begins with the initial value, its cursor at the end. It answers the line where it was
-    /// accepted or no event is left, and none where it was cancelled. Events behind the one that ended it are
+    /// Reads a line that begins with the initial value, its cursor at the end. Returns the line where it was
+    /// accepted or no event is left, and none where it was cancelled. Events after the one that ended it are
     /// left.
     ///
     /// `Recursive` leaves all as it was. Every other refusal leaves the mode Inactive and the line as it was
     /// when the call was refused; the closing batch is rendered and flushed, unless the terminal refuses that
-    /// too, which is then the answer.
+    /// too, which is then returned.
     pub fn read_line_with_optional_initial_value<H: LineEditorHost>(
         &mut self,
         host: &mut H,

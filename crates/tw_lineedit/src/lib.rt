@@ -4,6 +4,40 @@
 //! as they come; `remembering` the reading of a line that the host then has in its history. `laws` has what follows
 //! from the definitions: what the batches of a run are. What they show on screens is in `tw_screen_runs`. The crates
 //! below hold the rest, and what an application needs of them is passed on.
+//!
+//! # Example
+//!
+//! ```
+//! let events = vec![in alloc; InputEvent::Key(key), InputEvent::Key(enter)]?;
+//! let mut terminal = ScriptTerminal::new(alloc, ScreenSize { rows: 24, cols: 80 }, events);
+//! let mut host = NopLineEditorHost::new(alloc);
+//! let mut editor = LineEditor::new(alloc, &mut terminal)?;
+//! editor.set_prompt("$ ")?;
+//! match editor.read_line(&mut host)? {
+//!     Some(line) => println!(rt; "read {line:?}")?,
+//!     None => println!(rt; "cancelled")?,
+//! }
+//! ```
+//!
+//! At a terminal of one's own, `read_typed_line` of `tw_device` does all of that from bytes.
+//!
+//! # Keys
+//!
+//! A host may give any event another action, or none (`LineEditorHost::resolve_action`). Where it says nothing:
+//!
+//! | Key | What it does |
+//! |---|---|
+//! | Enter, Ctrl-J, Ctrl-M | accepts the line |
+//! | Ctrl-C, Ctrl-D | cancels it; ends the input |
+//! | Left, Right, Ctrl-B, Ctrl-F | moves by a grapheme cluster |
+//! | Alt-Left, Alt-Right, Alt-b, Alt-f | moves by a word |
+//! | Home, End, Ctrl-A, Ctrl-E | moves to the start, to the end |
+//! | Backspace, Ctrl-H, Delete | kills the cluster before, at the cursor |
+//! | Ctrl-W, Ctrl-K | kills the word before, the rest of the line |
+//! | Up, Down, Ctrl-P, Ctrl-N | walks through the history |
+//! | Ctrl-R, Ctrl-S | searches it, backward and forward |
+//! | Tab | completes, and goes on through the candidates |
+//! | Ctrl-L | clears the screen and repaints |
 #![tactic(auto)]
 
 mod editor;

@@ -1,4 +1,4 @@
--- Kills in a row, and a yank behind them.
+-- Kills in a row, and a yank after them.
 use Rattle.std.proofs.Common.{◌≡◌, ◌≤◌, ◌-◌, ◌==◌, ℕ, List, [], ◌∷◌, ◌++◌, length, take, drop, min, max, Some, Bool, true, false, refl, ap, sym, ◌∙◌, if◌then◌else◌, arith, rules, slice_range, eq-eqb, length-append}
 use Rattle.std.specs.Prelude.{IsSomeAnd}
 use Rattle.std.proofs.lemmas.Bool.{and_from, eqb-true}
@@ -21,7 +21,7 @@ use Rattle.tw_parts.proofs.KillLemmas.{parted, put_joined}
 same_cut : (cut : Cut) → is_same_cut cut cut ≡ true
 same_cut cut = and_from _ (cut.cursor == cut.cursor) ((bytes_eq-Decides cut.line cut.line).1 refl) (eq-eqb cut.cursor cut.cursor refl)
 
--- the ring behind a kill in place
+-- the ring after a kill in place
 killed_ring : (lines : Bool) (action : ActionView) (m : Movement) (old : Cut) (r : Ring) → r.searching ≡ false → killing (Some action) ≡ Some m
     → ((ring_after lines (Some action) old old r).latest ≡ (with_killed (leads_onward m old) (killed_by m old) r).latest)
     × ((ring_after lines (Some action) old old r).kills ≡ (with_killed (leads_onward m old) (killed_by m old) r).kills)

@@ -1,4 +1,4 @@
--- What stands behind the beginning of a line, and the newest line that has more.
+-- What stands after the beginning of a line, and the newest line that has more.
 use Rattle.std.proofs.Common.{◌≡◌, ◌<◌, ◌+◌, ◌-◌, ℕ, List, length, drop, eqb, Option, Some, None, Bool, true, false, refl, ap, sym, ◌∙◌, if◌then◌else◌, arith}
 use Rattle.std.specs.Prelude.{MatchOption, option_map}
 use Rattle.std.specs.List.{starts_with}

@@ -24,7 +24,7 @@ put_in l text a b inside =
     ∙ ap (λ rest. (take a l ++ text) ++ rest) (drop_at (take a l) (drop b l) a long)
     ∙ append_assoc (take a l) text (drop b l)
 
--- what was killed behind the cursor, put in behind a text
+-- what was killed after the cursor, put in after a text
 put_behind : (l text : List ℕ) (p d : ℕ) → p ≤ length l → p ≤ d
     → (take p (take p l ++ drop d l) ++ (text ++ slice_range l p d)) ++ drop p (take p l ++ drop d l) ≡ (take p l ++ text) ++ drop p l
 put_behind l text p d inside order =

@@ -16,7 +16,7 @@ not_there text cut none =
     let e : ends_with eqb (take cut.cursor cut.line) text ≡ false = sym (ends_text false text (take cut.cursor cut.line) none) in
     rw e refl
 
--- where it stands there, what is before it comes before what is behind the cursor
+-- where it stands there, what is before it comes before what is after the cursor
 pub there : (text : List ℕ) (cut : Cut) (rest : List ℕ) → cut.cursor ≤ length cut.line → StripsSuffix (FindsTextSuffix text) (take cut.cursor cut.line) rest
     → Some (with_text rest (cut_at (drop cut.cursor cut.line) 0)) ≡ taken_out (Some text) cut
 there text cut rest inside h =

@@ -29,7 +29,7 @@ module _ {V : Type 0} (rules : HostRules V) (watch : V → Bool) (is : IsWatch r
   abbrev Agrees : Progress V → Type 0
   Agrees s = watch s.value ≡ is_searching s.state.mode
 
-  -- so it does behind an event
+  -- so it does after an event
   agrees_after : (s : Progress V) (e : EventView) (state : EditState) → Agrees s → state_after rules s e ≡ Ok state → Agrees (after_action rules s e state)
   agrees_after s e state agrees leads =
       is s.value e s.state.cut

@@ -12,7 +12,7 @@ use Rattle.tw_host.specs.HostRules.{HostRules, Resolution, or_default, plain_tex
 use Rattle.tw_host.specs.KeyTable.{action_of}
 use Rattle.tw_parts.specs.SearchWatch.{has_lines, searches_after}
 
--- what stands in a line behind a text that it begins with
+-- what stands in a line after a text that it begins with
 abbrev pub rest_behind : List ℕ → List ℕ → Option (List ℕ)
 rest_behind text line = if starts_with eqb line text then Some (drop (length text) line) else None
 
@@ -20,11 +20,11 @@ rest_behind text line = if starts_with eqb line text then Some (drop (length tex
 abbrev pub is_longer : List ℕ → List ℕ → Bool
 is_longer text line = starts_with eqb line text && nat_lt (length text) (length line)
 
--- what stands in a line behind a text, if it is longer
+-- what stands in a line after a text, if it is longer
 abbrev pub continuation_of : List ℕ → List ℕ → Option (List ℕ)
 continuation_of text line = if is_longer text line then Some (drop (length text) line) else None
 
--- what the newest line that is longer has behind a text
+-- what the newest line that is longer has after a text
 abbrev pub newest_rest : List (List ℕ) → List ℕ → Option (List ℕ)
 newest_rest lines text =
     option_map (λ i. drop (length text) (line_at lines i)) (greatest_below (λ i. is_longer text (line_at lines i)) (length lines))
@@ -50,11 +50,11 @@ pub record Hinted (V : Type 0) : Type 0 where
   pub lent : List (List ℕ)
   pub searching : Bool
 
--- what an action puts in behind the line, by the lines that are lent and by whether the editor searches
+-- what an action puts in after the line, by the lines that are lent and by whether the editor searches
 abbrev pub hint_taken_by : List (List ℕ) → Bool → Option ActionView → Cut → Option (List ℕ)
 hint_taken_by lent searching action cut = if searching || not (is_taking action cut) then None else hint_of lent cut.line
 
--- what an event puts in behind the line
+-- what an event puts in after the line
 abbrev pub taken : {V : Type 0} → Hinted V → EventView → Cut → Option (List ℕ)
 taken v event cut = hint_taken_by v.lent v.searching (action_of event) cut
 
@@ -65,7 +65,7 @@ shown_under [] (Some rest) = plain_text rest
 shown_under (element ∷ elements) hint = element ∷ elements
 
 module _ {V : Type 0} (rules : HostRules V) where
-  -- the host's answer, and the watch behind the action that comes of it
+  -- the host's answer, and the watch after the action that comes of it
   abbrev pub with_watch_after : EventView → Hinted V → Resolution V → Resolution (Hinted V)
   with_watch_after event v r = record {
     value = record v { host = r.value; searching = searches_after (has_lines v.lines) (or_default r.action event) v.searching };

@@ -59,7 +59,7 @@ killing _ = None
 abbrev pub killed_by : Movement → Cut → List ℕ
 killed_by m cut = slice_range cut.line (min cut.cursor (destination m cut)) (max cut.cursor (destination m cut))
 
--- whether it lies behind the cursor
+-- whether it lies after the cursor
 abbrev pub leads_onward : Movement → Cut → Bool
 leads_onward m cut = nat_lt cut.cursor (destination m cut)
 
@@ -77,7 +77,7 @@ with_room kills = if nat_lt (length kills) most_kills then kills else drop 1 kil
 abbrev pub newest_kill : List (List ℕ) → List ℕ
 newest_kill kills = slice_index_or kills (length kills - 1) []
 
--- the newest kill with more: what lay behind the cursor comes behind it, and else before it
+-- the newest kill with more: what lay after the cursor comes after it, and else before it
 abbrev pub joined : Bool → List ℕ → List ℕ → List ℕ
 joined ahead newest text = if ahead then newest ++ text else text ++ newest
 
@@ -112,7 +112,7 @@ is_same_cut a b = pointwise eqb a.line b.line && (a.cursor == b.cursor)
 abbrev pub kill_of : Bool → Option ActionView → Cut → Cut → Option Movement
 kill_of searching action cut new = if searching || not (is_same_cut cut new) then None else killing action
 
--- the ring behind an action, if there is one, in a history that has lines or none
+-- the ring after an action, if there is one, in a history that has lines or none
 abbrev pub ring_after : Bool → Option ActionView → Cut → Cut → Ring → Ring
 ring_after lines action cut new r =
     record (with_killing (kill_of r.searching action cut new) cut r) { searching = searches_after lines action r.searching }

@@ -42,7 +42,7 @@ abbrev pub KillIsLatest : Type 0
 KillIsLatest = (lines : Bool) (action : ActionView) (m : Movement) (old : Cut) (r : Ring) → r.searching ≡ false
     → killing (Some action) ≡ Some m → killed_by m old ≢ [] → (ring_after lines (Some action) old old r).latest ≡ latest.Kill
 
--- a yank right behind a kill gives the line before the kills back
+-- a yank right after a kill gives the line before the kills back
 abbrev pub YankGivesBack : Type 0
 YankGivesBack = (r : Ring) (cut : Cut) → r.searching ≡ false → r.latest ≡ latest.Kill → 1 ≤ length r.kills
     → IsSomeAnd (yank_by (Key yank_key) r cut) (λ y. (with_text y.text y.cut).line ≡ given_back r cut)

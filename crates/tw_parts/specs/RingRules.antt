@@ -14,7 +14,7 @@ pub record Ringed (V : Type 0) : Type 0 where
   pub ring : Ring
 
 module _ {V : Type 0} (rules : HostRules V) where
-  -- the host's answer, and the ring behind the action that comes of it
+  -- the host's answer, and the ring after the action that comes of it
   abbrev pub with_ring_after : EventView → Cut → Ring → Resolution V → Resolution (Ringed V)
   with_ring_after event cut ring r = record {
     value = record { host = r.value; ring = ring_after (has_lines (rules.lines r.value)) (or_default r.action event) cut r.cut ring };

@@ -58,7 +58,7 @@ if_any test (Some action) = test action
 abbrev pub is_same_line : Cut → Cut → Bool
 is_same_line a b = pointwise eqb a.line b.line
 
--- the typing goes on: a character is typed right behind others, and the host left the line as it was
+-- the typing goes on: a character is typed right after others, and the host left the line as it was
 abbrev pub typing_goes_on : Option ActionView → Cut → Cut → Bool → Bool
 typing_goes_on action cut new typing = typing && (if_any types_character action && is_same_line cut new)
 
@@ -77,14 +77,14 @@ typing_after (Some NoAction) typing = typing
 typing_after (Some Repaint) typing = typing
 typing_after (Some action) typing = types_character action
 
--- the steps behind an action of a line that is edited: a reading that ends leaves none
+-- the steps after an action of a line that is edited: a reading that ends leaves none
 abbrev pub steps_after : Option ActionView → Cut → Cut → Undo → List Cut
 steps_after action cut new u =
     if if_any is_end action then []
     else if u.searching then u.before
     else steps_with action cut new u
 
--- all of it behind an action, if there is one, in a history that has lines or none
+-- all of it after an action, if there is one, in a history that has lines or none
 abbrev pub undo_after : Bool → Option ActionView → Cut → Cut → Undo → Undo
 undo_after lines action cut new u = record {
   before = steps_after action cut new u;
@@ -114,6 +114,6 @@ before_change u cut = option_map (step_at u.before) (last_change cut.line u.befo
 abbrev pub undone : Undo → Cut → Cut
 undone u cut = unwrap_or (before_change u cut) cut
 
--- the steps behind an undo
+-- the steps after an undo
 abbrev pub undo_behind : Undo → Cut → Undo
 undo_behind u cut = record u { before = take (unwrap_or (last_change cut.line u.before) 0) u.before; typing = false }

@@ -12,7 +12,7 @@ abbrev pub oldest_line : List Cut → Cut → List ℕ
 oldest_line [] cut = cut.line
 oldest_line (before ∷ later) cut = before.line
 
--- the steps and the cut text behind one undo
+-- the steps and the cut text after one undo
 abbrev pub undo_once : Undo × Cut → Undo × Cut
 undo_once at = (undo_behind at.0 at.1, undone at.0 at.1)
 

@@ -22,7 +22,7 @@ abbrev pub is_undo : EventView → Undo → Bool
 is_undo event u = is_key undo_key event && not u.searching
 
 module _ {V : Type 0} (rules : HostRules V) where
-  -- the host's answer, and the steps behind the action that comes of it
+  -- the host's answer, and the steps after the action that comes of it
   abbrev pub with_steps_after : EventView → Cut → Undo → Resolution V → Resolution (Undoable V)
   with_steps_after event cut u r = record {
     value = record { host = r.value; undo = undo_after (has_lines (rules.lines r.value)) (or_default r.action event) cut r.cut u };

@@ -34,7 +34,7 @@ module _ {V : Type 0} (rules : HostRules V) (watch : V → Bool) where
   TellsReadings = IsWatch → (initial : Option (List ℕ)) (f : Frame V) → watch f.value ≡ false
       → All IsTold (stations_of rules (start initial f))
 
-  -- and behind a line that was accepted or cancelled it is off again
+  -- and after a line that was accepted or cancelled it is off again
   abbrev pub IsOffBehindLines : Type 0
   IsOffBehindLines = IsWatch → (initial : Option (List ℕ)) (f : Frame V) → watch f.value ≡ false
       → is_over (run_of rules (start initial f)).state.mode ≡ true → watch (run_of rules (start initial f)).value ≡ false

@@ -8,14 +8,14 @@ use tw_history::LentLines;
 use tw_host::Action;
 use tw_line::{LineEditBuffer, Movement};
 
-/// What stands in a line behind a text that it begins with.
+/// What stands in a line after a text that it begins with.
 fn behind<'line>(text: &str, line: &'line str) -> Option<&'line str>
     ensures { option_map (λ rest. rest.now) result ≡ rest_behind text.now line.now }
 {
     line.strip_prefix(text)
 }
 
-/// What stands in a line behind a text that it begins with, if there is any.
+/// What stands in a line after a text that it begins with, if there is any.
 fn continuation_of<'line>(text: &str, line: &'line str) -> Option<&'line str>
     ensures { option_map (λ rest. rest.now) result ≡ continuation_of text.now line.now }
 {
@@ -25,7 +25,7 @@ fn continuation_of<'line>(text: &str, line: &'line str) -> Option<&'line str>
     }
 }
 
-/// What the newest line that begins with a text and is longer has behind it. Takes no memory.
+/// What the newest line that begins with a text and is longer has after it. Takes no memory.
 fn newest_rest<'a, L: LentLines>(lines: &'a L, text: &str) -> Option<&'a str>
     ensures { option_map (λ rest. rest.now) result ≡ newest_rest (L.lines lines.now) text.now }
 {
@@ -39,7 +39,7 @@ fn newest_rest<'a, L: LentLines>(lines: &'a L, text: &str) -> Option<&'a str>
     None
 }
 
-/// What the newest line that begins with a text and is longer has behind it, and nothing for the empty text. Takes no
+/// What the newest line that begins with a text and is longer has after it, and nothing for the empty text. Takes no
 /// memory.
 pub fn history_hint<'a, L: LentLines>(lines: &'a L, text: &str) -> Option<&'a str>
     ensures { option_map (λ rest. rest.now) result ≡ hint_of (L.lines lines.now) text.now }

@@ -17,7 +17,7 @@ pub fn equality()
 {}
 
 /// A watch that follows what comes of a host's answers says at each event of a run whether the editor searches, where it
-/// does at the beginning; so it does in each reading that begins while it is off, and behind one that was accepted or
+/// does at the beginning; so it does in each reading that begins while it is off, and after one that was accepted or
 /// cancelled it is off.
 pub fn watch<H: LineEditorHost>()
     ensures runs { (watch : H.Value → Bool) → TellsRuns H.rules watch }
@@ -25,7 +25,7 @@ pub fn watch<H: LineEditorHost>()
     ensures off { (watch : H.Value → Bool) → IsOffBehindLines H.rules watch }
 {}
 
-/// One kill, or many in a row, each of which leaves the cursor where it killed, and a yank right behind them give back
+/// One kill, or many in a row, each of which leaves the cursor where it killed, and a yank right after them give back
 /// the line that stood before the first.
 pub fn kills()
     ensures kept { KillsKeepLine }

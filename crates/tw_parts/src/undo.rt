@@ -62,7 +62,7 @@ fn is_end(action: Option<&Action>) -> bool
     )
 }
 
-/// Whether the last step is typing that goes on, behind an action.
+/// Whether the last step is typing that goes on, after an action.
 fn typing_after(action: Option<&Action>, typing: bool) -> bool
     ensures { result ≡ typing_after (option_map (λ action. action_view action.now) action.entry) typing }
 {

@@ -18,7 +18,7 @@ use tw_input::InputEvent;
 use tw_line::LineEditBuffer;
 
 /// Another host, with a history of its own and hints from it: under the line stands what the newest line that begins
-/// with it has behind it, where the other host shows nothing there. A movement ahead from the end of the line, as by
+/// with it has after it, where the other host shows nothing there. A movement ahead from the end of the line, as by
 /// Right or End, puts it in, where the other host has no action. Nothing is proposed for the empty line, and during a
 /// search.
 ///
@@ -58,7 +58,7 @@ impl<H: LineEditorHost, L: History + LentLines> WithHint<H, L> {
         self.watch = SearchWatch::new();
     }
 
-    /// What an action would put in behind the line, and the line.
+    /// What an action would put in after the line, and the line.
     fn hint_at(
         &self,
         alloc: Global,

@@ -16,8 +16,8 @@ use tw_host::{
 use tw_input::InputEvent;
 use tw_line::LineEditBuffer;
 
-/// Another host, whose kills come back: Ctrl-Y inserts what was killed last, and Alt-Y right behind it, or behind
-/// another Alt-Y, puts the kill before it in its place, and behind the oldest one the newest.
+/// Another host, whose kills come back: Ctrl-Y inserts what was killed last, and Alt-Y right after it, or after
+/// another Alt-Y, puts the kill before it in its place, and after the oldest one the newest.
 ///
 /// What is kept are kills by words and to an end of the line, whichever key they are on; deleted characters are not.
 /// Kills one right after the other join, so that one Ctrl-Y brings them all back. Ten kills are kept, over all lines

@@ -1,4 +1,4 @@
--- The batches of a run before a clearing of the screen, and behind it.
+-- The batches of a run before a clearing of the screen, and after it.
 use Rattle.std.proofs.Common.{◌≡◌, List, [], ◌∷◌, ◌++◌, true, refl, sym, ◌∙◌, ap, append_assoc, map}
 use Rattle.std.specs.List.{list_all, All}
 use Rattle.std.proofs.lemmas.List.{map-append}

@@ -101,7 +101,7 @@ module _ {V A C : Type 0} (rules : HostRules V) (pen : Pen A C) where
             ∙ ap (λ (x : ℕ). shown.cell x c) (omega (arith, up, down)),
       )
 
-  -- ---- behind a clearing
+  -- ---- after a clearing
 
   comes_healed : {rows : Option ℕ} {f : Frame V} {earlier since : List (Station V)} {station : Station V} {later : List (Station V)}
       → ComesHealed rules pen rows f earlier since station later → Comes rules f (earlier ++ since) station later

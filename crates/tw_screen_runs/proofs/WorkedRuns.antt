@@ -54,7 +54,7 @@ nth [] n = record { state = new_state; value = []; size = record { rows = 0; col
 nth (s ∷ more) zero = s
 nth (s ∷ more) (suc n) = nth more n
 
--- five columns: `abcdef` is pasted, the cursor goes to its start, and all behind it is killed
+-- five columns: `abcdef` is pasted, the cursor goes to its start, and all after it is killed
 abbrev killed : Frame Lines
 killed = reading 5 (Paste (97 ∷ 98 ∷ 99 ∷ 100 ∷ 101 ∷ 102 ∷ []) ∷ Key (key_press 0 Home) ∷ Key (key_press 8 (Char 75)) ∷ [])
 

@@ -122,7 +122,7 @@ module _ {V A C : Type 0} (rules : HostRules V) (pen : Pen A C) where
   DrawnHealings = (f : Frame V) (rows : Option ℕ) (earlier since : List (Station V)) (station : Station V) (later : List (Station V))
       → ComesHealed rows f earlier since station later → ShowsHealed rows f earlier since station
 
-  -- and the closing batch behind the last one, as above
+  -- and the closing batch after the last one, as above
   abbrev pub HealedClosings : Type 0
   HealedClosings = (f : Frame V) (rows : Option ℕ) (earlier since : List (Station V)) (station : Station V) (later : List (Station V))
       → ComesHealed rows f earlier since station later → All (RendersNothing rules) later

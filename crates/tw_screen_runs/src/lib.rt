@@ -24,7 +24,7 @@ pub fn plain_runs<H: LineEditorHost>()
 
 /// What `shows` of `read_line` says of a call that was answered, with the batches of its run, gives these four for its
 /// run. And a call that took no batch breaks it, where its run begins plainly: if it was answered, and also if memory or
-/// the terminal stopped it behind its first event.
+/// the terminal stopped it after its first event.
 pub fn shown_calls<H: LineEditorHost>()
     ensures runs { ShownRuns H.rules (Option (List ℕ)) }
     ensures nothing { PaintsNothing H.rules (Option (List ℕ)) }

@@ -33,7 +33,7 @@ impl<'term, T: Terminal> LineEditor<'term, T> {
     /// Begins a line that is fed its events: it is painted, and takes no event of the terminal. The line begins
     /// with the initial value, its cursor at the end. `Recursive` leaves all as it was. Every other refusal leaves no
     /// line open: the closing batch is rendered and flushed, unless the terminal refuses that too, which is then
-    /// the answer.
+    /// returned.
     ///
     /// A screen shows the first painting as `read_line` says of it. What it shows of the later ones, whatever events the
     /// line is fed, is a law on runs.
@@ -68,11 +68,11 @@ impl<'term, T: Terminal> LineEditor<'term, T> {
     }
 
     /// Handles an event and paints, and says whether the line takes more events. Where no line takes events nothing
-    /// is done, and the answer is `Ended`. A `Resized` has to tell the size that the terminal has already.
+    /// is done, and `Ended` is returned. A `Resized` has to tell the size that the terminal has already.
     ///
     /// A refusal leaves no line open: the host refused the event, or the action was refused, or the clearing of
     /// the screen, or the painting. The closing batch is rendered and flushed, unless the terminal refuses that
-    /// too, which is then the answer.
+    /// too, which is then returned.
     pub fn feed<H: LineEditorHost>(
         &mut self,
         host: &mut H,
@@ -101,9 +101,9 @@ impl<'term, T: Terminal> LineEditor<'term, T> {
         Ok(self.status())
     }
 
-    /// Ends a line that was fed its events: it answers the line, and none where it was cancelled. A line that takes
-    /// more events is answered as it stands. The closing batch is rendered and flushed. No line is open then,
-    /// whether it is refused or not. Where no line was begun nothing is done, and the answer is none.
+    /// Ends a line that was fed its events: returns the line, and none where it was cancelled. A line that takes
+    /// more events is returned as it stands. The closing batch is rendered and flushed. No line is open then,
+    /// whether it is refused or not. Where no line was begun nothing is done, and none is returned.
     pub fn finish_line(&mut self) -> Result<Option<String>, Error>
         ensures same_reference { self.new.terminal.ghost_name ≡ self.old.terminal.ghost_name }
         ensures used { IsUsed T.follows self.old.terminal.now self.new.terminal.now }
