@@ -6,7 +6,7 @@ use Rattle.tw_terminal.specs.Uses.{Uses}
 use Rattle.tw_lineedit.proofs.UseLemmas.{both_uses}
 use Rattle.tw_device.specs.Calls.{all_events, IsCalled}
 use Rattle.tw_device.specs.Told.{answer_events}
-use Rattle.tw_device.specs.Typed.{Held, Tells}
+use Rattle.tw_device.specs.Typed.{Held, TellsTyped}
 use Rattle.tw_device.proofs.TypedLemmas.{tells_nothing, tells_then}
 
 all_and_more : (parts : List (List EventView)) (events : List EventView) → all_events (parts ++ events ∷ []) ≡ all_events parts ++ events
@@ -29,8 +29,8 @@ module _ {S : Type 0} (told : S → List EventView) (Follows : S → S → List 
 
 -- what each call of a reader tells is told by them all
 pub calls_tell : {S : Type 0} (told : S → List EventView) (held : S → Held) (parts : List (List EventView)) (old new : S)
-    → Uses (λ a b events. Tells (held a) (held b) events) parts old new → Tells (held old) (held new) (all_events parts)
-calls_tell told held [] old new same = subst (λ s. Tells (held old) (held s) []) (sym same) (0, tells_nothing (held old))
+    → Uses (λ a b events. TellsTyped (held a) (held b) events) parts old new → TellsTyped (held old) (held new) (all_events parts)
+calls_tell told held [] old new same = subst (λ s. TellsTyped (held old) (held s) []) (sym same) (0, tells_nothing (held old))
 calls_tell told held (events ∷ parts) old new calls =
     let later = calls_tell told held parts calls.0 new calls.2 in
     (calls.1.0 + later.0, tells_then calls.1.0 later.0 (held old) (held calls.0) (held new) events (all_events parts) calls.1.1 later.1)

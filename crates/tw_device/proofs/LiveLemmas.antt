@@ -22,7 +22,7 @@ use Rattle.tw_lineedit.specs.SessionView.{SessionView}
 use Rattle.tw_lineedit.specs.declared.Error.{Error}
 use Rattle.tw_lineedit.specs.declared.Error.TheVariants.{Memory, Terminal}
 use Rattle.tw_lineedit.proofs.FeedingLemmas.{open_goes_on, stops_unpainted}
-use Rattle.tw_device.specs.Live.{resized_frame, frame_of, Opens, Comes, ComesBy, FailsFrom, FailsBy, FailsOver, FailsTold, ReadsTold, run_over, IsRead, IsStopped, answer_from}
+use Rattle.tw_device.specs.Live.{resized_frame, frame_of, Opens, WaitsAfter, ComesBy, FailsFrom, FailsBy, FailsOver, FailsTold, ReadsTold, run_over, IsRead, StopsFeeding, answer_from}
 use Rattle.tw_device.specs.Live as live
 use Rattle.tw_device.specs.declared.keys.SourceState.{SourceState}
 use Rattle.tw_device.specs.declared.reading.Answer.{Answer}
@@ -161,7 +161,7 @@ module _ {V : Type 0} (rules : HostRules V) (overrides : Overrides) where
   opened f g b = record { run = b.run; stops = b.stops; quiet = b.quiet; left = b.left }
 
   -- an event is taken
-  pub comes_one : (e : EventView) (f g : Frame V) → is_over f.state.mode ≡ false → IsFed rules overrides e (resized_frame e f) g → Comes rules overrides (e ∷ []) f g
+  pub comes_one : (e : EventView) (f g : Frame V) → is_over f.state.mode ≡ false → IsFed rules overrides e (resized_frame e f) g → WaitsAfter rules overrides (e ∷ []) f g
   comes_one e f g o t = record {
     run = λ xs. sym (run_twice (progress_of f) e xs o) ∙ t.run xs;
     stops = λ c xs m r. at_event o (stop_twice c e xs (progress_of f) m (t.stops c xs m r));
@@ -170,7 +170,7 @@ module _ {V : Type 0} (rules : HostRules V) (overrides : Overrides) where
   }
 
   -- an event is taken by an open editor
-  pub comes_fed : (e : EventView) (f h k : Frame V) → is_open f.state.mode ≡ true → h ≡ resized_frame e f → (is_open h.state.mode ≡ true → IsFed rules overrides e h k) → Comes rules overrides (e ∷ []) f k
+  pub comes_fed : (e : EventView) (f h k : Frame V) → is_open f.state.mode ≡ true → h ≡ resized_frame e f → (is_open h.state.mode ≡ true → IsFed rules overrides e h k) → WaitsAfter rules overrides (e ∷ []) f k
   comes_fed e f h k o hf t =
       comes_one e f k (open_goes_on f.state.mode o) (subst (λ (y : Frame V). IsFed rules overrides e y k) hf (t (subst (λ (y : Frame V). is_open y.state.mode ≡ true) (sym hf) o)))
 
@@ -209,7 +209,7 @@ module _ {V : Type 0} (rules : HostRules V) (overrides : Overrides) where
       x r
 
   -- it is refused after others
-  pub refused_on : (xs ys : List EventView) (f g h : Frame V) (x : Error) → Comes rules overrides xs f g → FailsFrom rules overrides ys g h x → FailsFrom rules overrides (xs ++ ys) f h x
+  pub refused_on : (xs ys : List EventView) (f g h : Frame V) (x : Error) → WaitsAfter rules overrides xs f g → FailsFrom rules overrides ys g h x → FailsFrom rules overrides (xs ++ ys) f h x
   refused_on xs ys f g h x a r = fails_later (run_on rules (xs ++ ys) (progress_of f)) (run_on rules ys (progress_of g)) (a.run ys) f g h a.quiet
       (CanStopOn rules overrides want (xs ++ ys) (progress_of f)) (CanStopOn rules overrides fault (xs ++ ys) (progress_of f)) (CanStopOn rules overrides want ys (progress_of g)) (CanStopOn rules overrides fault ys (progress_of g))
       (HaltsIn (run_on rules ys (progress_of g)) (CanStopOn rules overrides want ys (progress_of g)))
@@ -229,21 +229,21 @@ module _ {V : Type 0} (rules : HostRules V) (overrides : Overrides) where
   -- the end
 
   -- the run over the events that were taken ends where the line stands
-  ends_here : (events : List EventView) (f g : Frame V) → f.terminal.events ≡ [] → Comes rules overrides events f g → run_on rules events (progress_of f) ≡ ending (answer_at g.state) g
+  ends_here : (events : List EventView) (f g : Frame V) → f.terminal.events ≡ [] → WaitsAfter rules overrides events f g → run_on rules events (progress_of f) ≡ ending (answer_at g.state) g
   ends_here events f g none c =
       ap (λ (es : List EventView). run_on rules es (progress_of f)) (sym (append-nil events))
       ∙ c.run []
       ∙ ap (λ (es : List EventView). ends (answer_at g.state) es (progress_of g)) (sym (c.left ∙ none))
 
   -- where its line is not copied
-  uncopied_at : (events : List EventView) (f g : Frame V) → f.terminal.events ≡ [] → Comes rules overrides events f g → (m : Moment V) → Uncopied g m → CanStopOn rules overrides want events (progress_of f) m
+  uncopied_at : (events : List EventView) (f g : Frame V) → f.terminal.events ≡ [] → WaitsAfter rules overrides events f g → (m : Moment V) → Uncopied g m → CanStopOn rules overrides want events (progress_of f) m
   uncopied_at events f g none c m (line, here) =
       let at : m ≡ moment None [] (progress_of g) = here ∙ ap (λ (es : List EventView). moment None es (progress_of g)) (c.left ∙ none) in
       subst (λ (es : List EventView). CanStopOn rules overrides want es (progress_of f) m) (append-nil events)
       (c.stops want [] m (subst (λ (x : Moment V). CanStopOn rules overrides want [] (progress_of g) x) (sym at) (uncopied (inr refl) line)))
 
   -- the end is refused
-  pub refused_end : (events : List EventView) (f g h : Frame V) (x : Error) → f.terminal.events ≡ [] → Comes rules overrides events f g → FailsToFinish g h x → FailsFrom rules overrides events f h x
+  pub refused_end : (events : List EventView) (f g h : Frame V) (x : Error) → f.terminal.events ≡ [] → WaitsAfter rules overrides events f g → FailsToFinish g h x → FailsFrom rules overrides events f h x
   refused_end events f g h x none c r =
       let here : Ending V = ending (answer_at g.state) g in
       fails_later (run_on rules events (progress_of f)) here (ends_here events f g none c) f g h c.quiet
@@ -254,11 +254,11 @@ module _ {V : Type 0} (rules : HostRules V) (overrides : Overrides) where
       x r
 
   -- a line is read
-  pub reads_open : (events : List EventView) (f g h k : Frame V) (answer : Outcome) → g.terminal.events ≡ [] → Opens rules overrides f g → Comes rules overrides events g h → Reads (ending (answer_at h.state) h) h k answer → Reads (run_over rules events f) f k answer
+  pub reads_open : (events : List EventView) (f g h k : Frame V) (answer : Outcome) → g.terminal.events ≡ [] → Opens rules overrides f g → WaitsAfter rules overrides events g h → Reads (ending (answer_at h.state) h) h k answer → Reads (run_over rules events f) f k answer
   reads_open events f g h k answer none o c r = reads_later (run_over rules events f) (ending (answer_at h.state) h) (o.run events ∙ ends_here events g h none c) f h k (quiet_on f g h o.quiet c.quiet) answer r
 
   -- whether the events ended it
-  pub ended_open : (events : List EventView) (f g h : Frame V) → g.terminal.events ≡ [] → Opens rules overrides f g → Comes rules overrides events g h → is_over (run_over rules events f).state.mode ≡ is_over h.state.mode
+  pub ended_open : (events : List EventView) (f g h : Frame V) → g.terminal.events ≡ [] → Opens rules overrides f g → WaitsAfter rules overrides events g h → is_over (run_over rules events f).state.mode ≡ is_over h.state.mode
   ended_open events f g h none o c = ap (λ (x : Ending V). is_over x.state.mode) (o.run events ∙ ends_here events g h none c)
 
   -- a mode that is neither open nor Inactive ended the line
@@ -285,7 +285,7 @@ module _ {V : Type 0} (rules : HostRules V) (overrides : Overrides) where
   resized_is e f t u tu uf = ap (λ (y : TerminalState). let r : Frame V = record f { terminal = y } in r) (tu ∙ ap (λ (y : TerminalState). let r : TerminalState = record y { size = size_after e y.size } in r) uf)
 
   -- how an event that is fed last is answered
-  pub comes_if : (A : Type 0) (answer : Result A Error) (e : EventView) (f h k : Frame V) → is_open f.state.mode ≡ true → h ≡ resized_frame e f → (is_open h.state.mode ≡ true → OnOk answer (IsFed rules overrides e h k)) → OnOk answer (Comes rules overrides (e ∷ []) f k)
+  pub comes_if : (A : Type 0) (answer : Result A Error) (e : EventView) (f h k : Frame V) → is_open f.state.mode ≡ true → h ≡ resized_frame e f → (is_open h.state.mode ≡ true → OnOk answer (IsFed rules overrides e h k)) → OnOk answer (WaitsAfter rules overrides (e ∷ []) f k)
   comes_if A (Ok x) e f h k o hf t = comes_fed e f h k o hf t
   comes_if A (Err x) e f h k o hf t = tt
 
@@ -302,7 +302,7 @@ module _ {V : Type 0} (rules : HostRules V) (overrides : Overrides) where
 
   -- one event more is fed
   pub comes_by_one : (old mid new : List EventView) (e : EventView) (f g h : Frame V) → ComesBy rules overrides old mid f g → new ≡ mid ++ e ∷ []
-      → Comes rules overrides (e ∷ []) g h → ComesBy rules overrides old new f h
+      → WaitsAfter rules overrides (e ∷ []) g h → ComesBy rules overrides old new f h
   comes_by_one old mid new e f g h (xs, told, a) more b = (
     xs ++ e ∷ [],
     told_one old mid new xs e told more,
@@ -369,7 +369,7 @@ module _ {V : Type 0} (rules : HostRules V) (overrides : Overrides) where
     Closed line = Reads (ending (answer_at h.state) h) h (frame_of s v t) (outcome_of (Ok line))
 
     -- and read
-    read_from : (line : Option (String Global)) (stop : Stop) → IsStopped stop (is_open h.state.mode) state old new → Closed line → IfOk (answer_from line stop) (IsRead rules old new state f v t)
+    read_from : (line : Option (String Global)) (stop : Stop) → StopsFeeding stop (is_open h.state.mode) state old new → Closed line → IfOk (answer_from line stop) (IsRead rules old new state f v t)
     read_from line (source_fault why) at r = tt
     read_from line Endless at r = tt
     read_from None Ended at r = ((s, read_ended old new state f g h (frame_of s v t) none o c b (Ok None) at r), λ open_end. absurd (false≢true (sym open_end)))
@@ -378,7 +378,7 @@ module _ {V : Type 0} (rules : HostRules V) (overrides : Overrides) where
     read_from (Some line) source_end at r = ((s, read_open old new state f g h (frame_of s v t) none o c b (outcome_of (Ok (Some line))) at.0 r), λ same. at.1)
 
     -- or cut off
-    cut_from : (line : Option (String Global)) (stop : Stop) → IsStopped stop (is_open h.state.mode) state old new → Closed line → IfErr (answer_from line stop) (live.FailsToRead rules overrides old new state f v t)
+    cut_from : (line : Option (String Global)) (stop : Stop) → StopsFeeding stop (is_open h.state.mode) state old new → Closed line → IfErr (answer_from line stop) (live.FailsToReadTold rules overrides old new state f v t)
     cut_from line (source_fault why) at r = inr (inl (inl at.1, (s, (outcome_of (Ok line), read_open old new state f g h (frame_of s v t) none o c b (outcome_of (Ok line)) at.0 r))))
     cut_from line Endless at r = inr (inl (inr (refl, at.1), (s, (outcome_of (Ok line), read_open old new state f g h (frame_of s v t) none o c b (outcome_of (Ok line)) at.0 r))))
     cut_from None Ended at r = tt
@@ -387,12 +387,12 @@ module _ {V : Type 0} (rules : HostRules V) (overrides : Overrides) where
     cut_from (Some line) source_end at r = tt
 
     -- the answer
-    pub read_as : (line : Option (String Global)) (stop : Stop) (answer : Result Answer Error) → answer ≡ answer_from line stop → IsStopped stop (is_open h.state.mode) state old new → Closed line → IfOk answer (IsRead rules old new state f v t)
+    pub read_as : (line : Option (String Global)) (stop : Stop) (answer : Result Answer Error) → answer ≡ answer_from line stop → StopsFeeding stop (is_open h.state.mode) state old new → Closed line → IfOk answer (IsRead rules old new state f v t)
     read_as line stop answer same at r = subst (λ (x : Result Answer Error). IfOk x (IsRead rules old new state f v t)) (sym same) (read_from line stop at r)
 
     -- the refusal
-    pub cut_as : (line : Option (String Global)) (stop : Stop) (answer : Result Answer Error) → answer ≡ answer_from line stop → IsStopped stop (is_open h.state.mode) state old new → Closed line → IfErr answer (live.FailsToRead rules overrides old new state f v t)
-    cut_as line stop answer same at r = subst (λ (x : Result Answer Error). IfErr x (live.FailsToRead rules overrides old new state f v t)) (sym same) (cut_from line stop at r)
+    pub cut_as : (line : Option (String Global)) (stop : Stop) (answer : Result Answer Error) → answer ≡ answer_from line stop → StopsFeeding stop (is_open h.state.mode) state old new → Closed line → IfErr answer (live.FailsToReadTold rules overrides old new state f v t)
+    cut_as line stop answer same at r = subst (λ (x : Result Answer Error). IfErr x (live.FailsToReadTold rules overrides old new state f v t)) (sym same) (cut_from line stop at r)
 
   -- the same, where the terminal is given back
 
@@ -402,19 +402,19 @@ module _ {V : Type 0} (rules : HostRules V) (overrides : Overrides) where
 
   module _ (old new : List EventView) (state : SourceState) (f : Frame V) (s : SessionView) (v : V) (t : TerminalState) (k : Frame V) (at : frame_of s v t ≡ k) (x : Error) where
     -- what is told of the last frame
-    back : FailsTold rules overrides old new f k x → live.FailsToRead rules overrides old new state f v t x
+    back : FailsTold rules overrides old new f k x → live.FailsToReadTold rules overrides old new state f v t x
     back r = inl (s, subst (λ (y : Frame V). FailsTold rules overrides old new f y x) (sym at) r)
 
     -- an event was refused
-    pub stopped_at : (g : Frame V) → Opens rules overrides f g → FailsBy rules overrides old new g k x → live.FailsToRead rules overrides old new state f v t x
+    pub stopped_at : (g : Frame V) → Opens rules overrides f g → FailsBy rules overrides old new g k x → live.FailsToReadTold rules overrides old new state f v t x
     stopped_at g o r = back (fails_then old new f g k x o r)
 
     -- the end was refused
-    pub ended_at : (g h : Frame V) → g.terminal.events ≡ [] → Opens rules overrides f g → ComesBy rules overrides old new g h → FailsToFinish h k x → live.FailsToRead rules overrides old new state f v t x
+    pub ended_at : (g h : Frame V) → g.terminal.events ≡ [] → Opens rules overrides f g → ComesBy rules overrides old new g h → FailsToFinish h k x → live.FailsToReadTold rules overrides old new state f v t x
     ended_at g h none o c r = back (fails_last old new f g h k x none o c r)
 
   -- the line was not begun
-  pub unbegun_at : (old : List EventView) (state : SourceState) (f : Frame V) (s : SessionView) (v : V) (t : TerminalState) (k : Frame V) → frame_of s v t ≡ k → (x : Error) (i : Frame V) → i.terminal.events ≡ [] → f ≡ start None i → FailsToBegin rules None i k x → live.FailsToRead rules overrides old old state f v t x
+  pub unbegun_at : (old : List EventView) (state : SourceState) (f : Frame V) (s : SessionView) (v : V) (t : TerminalState) (k : Frame V) → frame_of s v t ≡ k → (x : Error) (i : Frame V) → i.terminal.events ≡ [] → f ≡ start None i → FailsToBegin rules None i k x → live.FailsToReadTold rules overrides old old state f v t x
   unbegun_at old state f s v t k at x i none fi r = back old old state f s v t k at x (fails_first old f k x (unopened_at i f k k x none fi refl r))
 
   -- a line is closed

@@ -7,7 +7,7 @@ use Rattle.tw_ansi.specs.declared.token.Scanned.{Scanned}
 use Rattle.tw_ansi.specs.KeyBytes.{token_at}
 use Rattle.tw_device.specs.Faults.{fault_of}
 use Rattle.tw_device.specs.Told.{token_events}
-use Rattle.tw_device.specs.Typed.{Held, Step, Came, Took, Lead, TellsIn, Tells, next_token, escape_waits, is_lone_escape, held_after_read, held_after_token, given_bytes, taken_by, told_by, taken_bytes, events_of, NoneIsLost, IsHeldUp, IsPasted}
+use Rattle.tw_device.specs.Typed.{Held, Step, Came, Took, Lead, TellsIn, TellsTyped, next_token, escape_waits, is_lone_escape, held_after_read, held_after_token, given_bytes, taken_by, told_by, taken_bytes, events_of, NoneIsLost, IsHeldUp, IsPasted}
 use Rattle.tw_device.specs.declared.escape.Escape.{Escape}
 use Rattle.tw_device.specs.declared.refused.Refused.{Refused}
 use Rattle.tw_device.specs.declared.refused.Refused.TheVariants.{Device, Memory}
@@ -74,13 +74,13 @@ tells_nothing a = ([], refl, (refl, Keeps-refl a.left, refl))
 -- In what follows a reader that has b scanned, which leaves it as m, and then has c.
 
 -- a refusal leaves what there is
-pub tells_kept : (n : ℕ) (a b m c : Held) → TellsIn n a b [] → m ≡ b → c ≡ record m { left = c.left } → Keeps m.left c.left → Tells a c []
+pub tells_kept : (n : ℕ) (a b m c : Held) → TellsIn n a b [] → m ≡ b → c ≡ record m { left = c.left } → Keeps m.left c.left → TellsTyped a c []
 tells_kept n a b m c g scanned same kept =
     let h : TellsIn n a m [] = subst (λ (y : Held). TellsIn n a y []) (sym scanned) g in
     (n + 0, tells_then n 0 a m c [] [] h ([], refl, (same, kept, refl)))
 
 -- nothing was done
-pub tells_same : (n : ℕ) (a b c : Held) → TellsIn n a b [] → c ≡ b → Tells a c []
+pub tells_same : (n : ℕ) (a b c : Held) → TellsIn n a b [] → c ≡ b → TellsTyped a c []
 tells_same n a b c g same = (n, subst (λ (y : Held). TellsIn n a y []) (sym same) g)
 
 -- bytes came

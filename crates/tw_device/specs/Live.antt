@@ -38,11 +38,11 @@ abbrev pub IsEndless : List EventView → List EventView → Type 0
 IsEndless old new = length new ≡ length old + 18446744073709551615
 
 -- why no more events are fed: by whether the line is open, what the source answered last, and what it told
-abbrev pub IsStopped : Stop → Bool → SourceState → List EventView → List EventView → Type 0
-IsStopped Ended is_open state old new = is_open ≡ false
-IsStopped source_end is_open state old new = (is_open ≡ true) × (state ≡ AtEnd)
-IsStopped (source_fault why) is_open state old new = (is_open ≡ true) × (state ≡ Refused why)
-IsStopped Endless is_open state old new = (is_open ≡ true) × IsEndless old new
+abbrev pub StopsFeeding : Stop → Bool → SourceState → List EventView → List EventView → Type 0
+StopsFeeding Ended is_open state old new = is_open ≡ false
+StopsFeeding source_end is_open state old new = (is_open ≡ true) × (state ≡ AtEnd)
+StopsFeeding (source_fault why) is_open state old new = (is_open ≡ true) × (state ≡ Refused why)
+StopsFeeding Endless is_open state old new = (is_open ≡ true) × IsEndless old new
 
 -- what a line that was fed so is
 abbrev pub answer_from : Option (String Global) → Stop → Result Answer Error
@@ -54,9 +54,9 @@ answer_from (Some line) Ended = Ok (Line line)
 answer_from (Some line) source_end = Ok (End line)
 
 -- a refusal that is the source's, or that of its length
-abbrev pub IsCut : List EventView → List EventView → SourceState → Error → Type 0
-IsCut old new state (Terminal why) = (state ≡ Refused why) ⊎ ((why ≡ Device) × IsEndless old new)
-IsCut old new state _ = ⊥
+abbrev pub IsCutShort : List EventView → List EventView → SourceState → Error → Type 0
+IsCutShort old new state (Terminal why) = (state ≡ Refused why) ⊎ ((why ≡ Device) × IsEndless old new)
+IsCutShort old new state _ = ⊥
 
 module _ {V : Type 0} where
   -- an editor's parts
@@ -100,7 +100,7 @@ module _ {V : Type 0} (rules : HostRules V) (overrides : Overrides) where
     pub left : g.terminal.events ≡ f.terminal.events
 
   -- An open line at f has taken these events, and waits at g.
-  pub record Comes (events : List EventView) (f g : Frame V) : Type 0 where
+  pub record WaitsAfter (events : List EventView) (f g : Frame V) : Type 0 where
     pub run : (later : List EventView) → run_on rules (events ++ later) (progress_of f) ≡ run_on rules later (progress_of g)
     pub stops : (c : Cause) (later : List EventView) (m : Moment V) → CanStopOn rules overrides c later (progress_of g) m → CanStopOn rules overrides c (events ++ later) (progress_of f) m
     pub quiet : Quiet f g
@@ -108,7 +108,7 @@ module _ {V : Type 0} (rules : HostRules V) (overrides : Overrides) where
 
   -- these events were told, and an open line has come to g
   abbrev pub ComesBy : List EventView → List EventView → Frame V → Frame V → Type 0
-  ComesBy old new f g = (events : List EventView) × (new ≡ old ++ events) × Comes events f g
+  ComesBy old new f g = (events : List EventView) × (new ≡ old ++ events) × WaitsAfter events f g
 
   -- what a refusal of the run over these events leaves, once it is closed
   abbrev pub FailsOver : List EventView → Frame V → Frame V → Error → Type 0
@@ -129,7 +129,7 @@ module _ {V : Type 0} (rules : HostRules V) (overrides : Overrides) where
   FailsTold old new f g e = (events : List EventView) × (new ≡ old ++ events) × FailsOver events f g e
 
   -- What a refusal leaves: that of the run over the events that were told; or the source refused, and the line that no event had ended is closed; or the prompt was not copied, and nothing was done.
-  abbrev pub FailsToRead : List EventView → List EventView → SourceState → Frame V → V → TerminalState → Error → Type 0
-  FailsToRead old new state f v t e = Left v t (λ g. FailsTold old new f g e)
-      ⊎ ((IsCut old new state e × Left v t (λ g. (answer : Outcome) × ReadsTold rules old new f g answer false))
+  abbrev pub FailsToReadTold : List EventView → List EventView → SourceState → Frame V → V → TerminalState → Error → Type 0
+  FailsToReadTold old new state f v t e = Left v t (λ g. FailsTold old new f g e)
+      ⊎ ((IsCutShort old new state e × Left v t (λ g. (answer : Outcome) × ReadsTold rules old new f g answer false))
       ⊎ (IsMemory e × (new ≡ old) × (v ≡ f.value) × (t ≡ f.terminal)))

@@ -72,8 +72,8 @@ abbrev pub TellsIn : ℕ → Held → Held → List EventView → Type 0
 TellsIn count old new events = (steps : List Step) × (length steps ≡ count) × Lead steps old new events
 
 -- some steps do
-abbrev pub Tells : Held → Held → List EventView → Type 0
-Tells old new events = (count : ℕ) × TellsIn count old new events
+abbrev pub TellsTyped : Held → Held → List EventView → Type 0
+TellsTyped old new events = (count : ℕ) × TellsIn count old new events
 
 -- a pasted text
 abbrev pub IsPasted : Token → Type 0

@@ -6,7 +6,7 @@ ghost use Rattle.tw_input.specs.EventView.{event_view, EventView};
 ghost use Rattle.tw_device.specs.Faults.{fault_of};
 ghost use Rattle.tw_device.specs.Keys.{held_by};
 ghost use Rattle.tw_device.specs.Told.{pasted_text, token_events, events_in_option, answer_events};
-ghost use Rattle.tw_device.specs.Typed.{piece, next_token, IsPasted, Tells, IsHeldUp};
+ghost use Rattle.tw_device.specs.Typed.{piece, next_token, IsPasted, TellsTyped, IsHeldUp};
 ghost use Rattle.tw_device.specs.declared.keys.SourceState.TheVariants.{Going, AtEnd, Refused as HasRefused};
 ghost use Rattle.tw_device.specs.declared.refused.Refused.TheVariants.{Memory};
 ghost use Rattle.tw_device.specs.declared.escape.Escape.TheVariants.{AtOnce};
@@ -113,7 +113,7 @@ impl<R: Read> KeyReader<R> {
     #[tactic(auto, using(crate::proofs::ReadLemmas::none_left))]
     fn find(&mut self) -> Result<Option<InputEvent>, Refused>
         ensures told { self.new.told ≡ self.old.told }
-        ensures tells { Tells (held_by R.remaining self.old) (held_by R.remaining self.new) (answer_events result) }
+        ensures tells { TellsTyped (held_by R.remaining self.old) (held_by R.remaining self.new) (answer_events result) }
         ensures at_end { IfOk result (λ event. MatchOption event
             ((self.new.unread ≡ []) × IsAtEnd (R.remaining self.new.reader))
             (λ _. ⊤)) }
@@ -198,7 +198,7 @@ impl<R: Read> EventSource for KeyReader<R> {
 
     ghost state = { λ it. it.state };
 
-    ghost follows = { λ old new events. Tells (held_by R.remaining old) (held_by R.remaining new) events };
+    ghost follows = { λ old new events. TellsTyped (held_by R.remaining old) (held_by R.remaining new) events };
 
     /// It takes bytes at the front alone, and tells what they are: no byte is lost, and none is told twice. It has no
     /// more events only where the reader has no more bytes and all are taken. Why it refuses is said by `held_up`.
@@ -209,7 +209,7 @@ impl<R: Read> EventSource for KeyReader<R> {
         ensures going { IfOk result (λ event. IfSome event (λ _. self.new.state ≡ Going)) }
         ensures told { OnErr result (self.new.told ≡ self.old.told) }
         ensures refused { IfErr result (λ fault. self.new.state ≡ HasRefused fault) }
-        ensures follows { Tells (held_by R.remaining self.old) (held_by R.remaining self.new) (answer_events result) }
+        ensures follows { TellsTyped (held_by R.remaining self.old) (held_by R.remaining self.new) (answer_events result) }
         ensures at_end { IfOk result (λ event. MatchOption event
             ((self.new.unread ≡ []) × IsAtEnd (R.remaining self.new.reader))
             (λ _. ⊤)) }

@@ -11,7 +11,7 @@ ghost use Rattle.tw_device.specs.Calls.{IsCalled};
 ghost use Rattle.tw_device.specs.Deeds.{IsLedAsTold, IsLedBy};
 ghost use Rattle.tw_device.specs.Led.{taken_on, taken_over, IsLedByEvent, IsSizedBy, IsToldAlong};
 ghost use Rattle.tw_device.specs.Terminal.{terminal_state};
-ghost use Rattle.tw_device.specs.Live.{fresh_frame, Comes, ComesBy, FailsFrom, FailsBy, IsRead, FailsToRead, IsStopped, answer_from};
+ghost use Rattle.tw_device.specs.Live.{fresh_frame, WaitsAfter, ComesBy, FailsFrom, FailsBy, IsRead, FailsToReadTold, StopsFeeding, answer_from};
 
 use crate::keys::EventSource;
 use crate::terminal::AnsiTerminal;
@@ -70,7 +70,7 @@ fn feed<W: Write, H: LineEditorHost>(
     ensures same_reference { editor.new.terminal.ghost_name ≡ editor.old.terminal.ghost_name }
     ensures ok { let before = frame terminal_state H.value editor.old host.old in
         let after = frame terminal_state H.value editor.new host.new in
-        OnOk result (Comes H.rules H.OVERRIDES (event_view event.now ∷ []) before after) }
+        OnOk result (WaitsAfter H.rules H.OVERRIDES (event_view event.now ∷ []) before after) }
     ensures begun { OnOk result (editor.new.session.state.mode ≢ Inactive) }
     ensures status { IfOk result (λ status. status ≡ status_if (is_open editor.new.session.state.mode)) }
     ensures err { let before = frame terminal_state H.value editor.old host.old in
@@ -97,7 +97,7 @@ fn take_events<S: EventSource, W: Write, H: LineEditorHost>(
         OnOk result (ComesBy H.rules H.OVERRIDES (S.told source.old) (S.told source.new) before after) }
     ensures begun { OnOk result (editor.new.session.state.mode ≢ Inactive) }
     ensures stopped { let is_open_after = is_open editor.new.session.state.mode in
-        IfOk result (λ stop. IsStopped stop is_open_after (S.state source.new) (S.told source.old) (S.told source.new)) }
+        IfOk result (λ stop. StopsFeeding stop is_open_after (S.state source.new) (S.told source.old) (S.told source.new)) }
     ensures err { let before = frame terminal_state H.value editor.old host.old in
         let after = frame terminal_state H.value editor.new host.new in
         IfErr result (FailsBy H.rules H.OVERRIDES (S.told source.old) (S.told source.new) before after) }
@@ -153,7 +153,7 @@ pub fn read_line_from<S: EventSource, W: Write, H: LineEditorHost>(
         IfOk result (IsRead H.rules (S.told source.old) (S.told source.new) (S.state source.new) begun
         (H.value host.new) (terminal_state terminal.new)) }
     ensures err { let begun = fresh_frame prompt.now (H.value host.old) (terminal_state terminal.old) in
-        IfErr result (FailsToRead H.rules H.OVERRIDES (S.told source.old) (S.told source.new) (S.state source.new) begun
+        IfErr result (FailsToReadTold H.rules H.OVERRIDES (S.told source.old) (S.told source.new) (S.state source.new) begun
         (H.value host.new) (terminal_state terminal.new)) }
     ensures called { IsCalled S.told S.follows source.old source.new }
     ensures led { IsLedAsTold W.contents (S.told source.old) (S.told source.new) terminal.old terminal.new }

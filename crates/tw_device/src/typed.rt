@@ -5,9 +5,9 @@ ghost use Rattle.tw_input.specs.EventView.{EventView};
 ghost use Rattle.tw_device.specs.Deeds.{IsLedAsTold};
 ghost use Rattle.tw_device.specs.Keys.{held_by};
 ghost use Rattle.tw_device.specs.Led.{taken_over, IsToldAlong};
-ghost use Rattle.tw_device.specs.Live.{fresh_frame, IsRead, FailsToRead};
+ghost use Rattle.tw_device.specs.Live.{fresh_frame, IsRead, FailsToReadTold};
 ghost use Rattle.tw_device.specs.Terminal.{terminal_state};
-ghost use Rattle.tw_device.specs.Typed.{Tells};
+ghost use Rattle.tw_device.specs.Typed.{TellsTyped};
 
 use crate::keys::KeyReader;
 use crate::reading::{Answer, read_line_from};
@@ -29,10 +29,10 @@ pub fn read_typed_line<R: Read, W: Write, H: LineEditorHost>(
         IfOk result (IsRead H.rules keys.old.told keys.new.told keys.new.state begun
         (H.value host.new) (terminal_state terminal.new)) }
     ensures err { let begun = fresh_frame prompt.now (H.value host.old) (terminal_state terminal.old) in
-        IfErr result (FailsToRead H.rules H.OVERRIDES keys.old.told keys.new.told keys.new.state begun
+        IfErr result (FailsToReadTold H.rules H.OVERRIDES keys.old.told keys.new.told keys.new.state begun
         (H.value host.new) (terminal_state terminal.new)) }
     ensures typed { (events : List EventView) × (keys.new.told ≡ keys.old.told ++ events)
-        × Tells (held_by R.remaining keys.old) (held_by R.remaining keys.new) events }
+        × TellsTyped (held_by R.remaining keys.old) (held_by R.remaining keys.new) events }
     ensures led { IsLedAsTold W.contents keys.old.told keys.new.told terminal.old terminal.new }
     ensures along { let begun = fresh_frame prompt.now (H.value host.old) (terminal_state terminal.old) in
         IsToldAlong W.contents (taken_over H.rules begun) keys.old.told keys.new.told terminal.old terminal.new }

@@ -4,8 +4,8 @@ use Rattle.tw_terminal.specs.TerminalState.{TerminalState}
 use Rattle.tw_sparing.specs.declared.terminal.SparingTerminal.{SparingTerminal}
 
 -- a terminal over a writer: no event is left, and the batches are those of its log
-abbrev pub terminal_state : {W : Type 0} → SparingTerminal W → TerminalState
-terminal_state it = record {
+abbrev pub sparing_state : {W : Type 0} → SparingTerminal W → TerminalState
+sparing_state it = record {
   size = it.size;
   events = [];
   batches = it.batches;

@@ -8,7 +8,7 @@ ghost use Rattle.tw_terminal.specs.TerminalState.{fresh_terminal, Fails, Flushes
 ghost use Rattle.tw_ansi.specs.Encoding.{first_known, without_attributes, sent_batch};
 ghost use Rattle.tw_ansi.specs.Sequences.{set_attributes};
 ghost use Rattle.tw_sparing.specs.Shown.{IsFromStart, IsKnownAfter, sent_for};
-ghost use Rattle.tw_sparing.specs.Terminal.{terminal_state};
+ghost use Rattle.tw_sparing.specs.Terminal.{sparing_state};
 
 use crate::shown::{Shown, ends_at_start, send_below, shown_after};
 use std::alloc::{AllocError, Global};
@@ -37,7 +37,7 @@ pub struct SparingTerminal<W> {
 impl<W: Write> SparingTerminal<W> {
     /// A terminal of this size, whose cursor stands in column 0.
     pub fn new(alloc: Global, writer: W, size: ScreenSize) -> Self
-        ensures state { terminal_state result ≡ fresh_terminal size [] }
+        ensures state { sparing_state result ≡ fresh_terminal size [] }
         ensures known { result.encoder ≡ first_known size.cols }
         ensures shown { result.shown ≡ None }
         ensures writer { result.writer ≡ writer }
@@ -59,7 +59,7 @@ impl<W: Write> SparingTerminal<W> {
 
     /// Sets the size, which nothing else changes. What the terminal shows then is not known.
     pub fn set_screen_size(&mut self, size: ScreenSize)
-        ensures state { terminal_state self.new ≡ record (terminal_state self.old) { size = size } }
+        ensures state { sparing_state self.new ≡ record (sparing_state self.old) { size = size } }
         ensures known { self.new.encoder ≡ record self.old.encoder { cols = size.cols } }
         ensures shown { self.new.shown ≡ None }
         ensures writer { self.new.writer ≡ self.old.writer }
@@ -73,7 +73,7 @@ impl<W: Write> SparingTerminal<W> {
     /// has to leave the cursor in column 0, and no attribute set. What the terminal shows then is not known. A refusal
     /// may have sent a beginning.
     pub fn send(&mut self, text: &str) -> Result<(), TerminalFault>
-        ensures kept { terminal_state self.new ≡ terminal_state self.old }
+        ensures kept { sparing_state self.new ≡ sparing_state self.old }
         ensures sent { let bytes = set_attributes default_attributes ++ text.now in
             OnOk result (Appends (W.contents self.old.writer) (W.contents self.new.writer) bytes) }
         ensures next { OnOk result (self.new.encoder ≡ without_attributes self.old.encoder) }
@@ -92,7 +92,7 @@ impl<W: Write> SparingTerminal<W> {
 
     /// Writes a text as it is.
     fn write(&mut self, text: &str) -> Result<(), TerminalFault>
-        ensures kept { terminal_state self.new ≡ terminal_state self.old }
+        ensures kept { sparing_state self.new ≡ sparing_state self.old }
         ensures known { self.new.encoder ≡ self.old.encoder }
         ensures shown { self.new.shown ≡ self.old.shown }
         ensures sent { OnOk result (Appends (W.contents self.old.writer) (W.contents self.new.writer) text.now) }
@@ -144,8 +144,8 @@ impl<W: Write> SparingTerminal<W> {
         ensures next { OnOk result (self.new.encoder ≡ (sent_batch (sent_for self.old.size.rows (batch_view changes.now) self.old.shown self.new.shown) self.old.encoder).next) }
         ensures shown { OnOk result (IsKnownAfter self.old.size.cols self.old.size.rows (batch_view changes.now) self.old.shown self.new.shown) }
         ensures start { OnOk result (IsFromStart self.old.encoder.x (batch_view changes.now) self.old.shown self.new.shown) }
-        ensures ok { OnOk result (Renders (batch_view changes.now) (terminal_state self.old) (terminal_state self.new)) }
-        ensures err { OnErr result (terminal_state self.new ≡ terminal_state self.old) }
+        ensures ok { OnOk result (Renders (batch_view changes.now) (sparing_state self.old) (sparing_state self.new)) }
+        ensures err { OnErr result (sparing_state self.new ≡ sparing_state self.old) }
         ensures known { OnErr result (self.new.encoder ≡ self.old.encoder) }
         ensures lost { OnErr result (self.new.shown ≡ None) }
     {
@@ -170,11 +170,11 @@ impl<W: Write> SparingTerminal<W> {
 }
 
 impl<W: Write> Terminal for SparingTerminal<W> {
-    ghost state = { terminal_state };
+    ghost state = { sparing_state };
 
     /// The size that its owner gave it. It is never refused.
     fn get_screen_size(&mut self) -> Result<ScreenSize, TerminalFault>
-        ensures size { result ≡ Ok (terminal_state self.old).size }
+        ensures size { result ≡ Ok (sparing_state self.old).size }
         ensures kept { self.new ≡ self.old }
     {
         Ok(self.size)
@@ -191,8 +191,8 @@ impl<W: Write> Terminal for SparingTerminal<W> {
     /// Sends at once what differs, or the bytes of the changes where it is not known what the terminal shows. Where the
     /// writer is refused a beginning of them may have been sent, and it is not known what the terminal shows.
     fn render(&mut self, changes: &[Change]) -> Result<(), TerminalFault>
-        ensures ok { OnOk result (Renders (batch_view changes.now) (terminal_state self.old) (terminal_state self.new)) }
-        ensures err { OnErr result (RenderFails (batch_view changes.now) (terminal_state self.old) (terminal_state self.new)) }
+        ensures ok { OnOk result (Renders (batch_view changes.now) (sparing_state self.old) (sparing_state self.new)) }
+        ensures err { OnErr result (RenderFails (batch_view changes.now) (sparing_state self.old) (sparing_state self.new)) }
         ensures sent { let sent = sent_batch (sent_for self.old.size.rows (batch_view changes.now) self.old.shown self.new.shown) self.old.encoder in
             OnOk result (Appends (W.contents self.old.writer) (W.contents self.new.writer) sent.bytes) }
         ensures next { OnOk result (self.new.encoder ≡ (sent_batch (sent_for self.old.size.rows (batch_view changes.now) self.old.shown self.new.shown) self.old.encoder).next) }
@@ -212,8 +212,8 @@ impl<W: Write> Terminal for SparingTerminal<W> {
 
     /// Flushes the writer, to which it adds no byte.
     fn flush(&mut self) -> Result<(), TerminalFault>
-        ensures ok { OnOk result (Flushes (terminal_state self.old) (terminal_state self.new)) }
-        ensures err { OnErr result (Fails (terminal_state self.old) (terminal_state self.new)) }
+        ensures ok { OnOk result (Flushes (sparing_state self.old) (sparing_state self.new)) }
+        ensures err { OnErr result (Fails (sparing_state self.old) (sparing_state self.new)) }
         ensures known { self.new.encoder ≡ self.old.encoder }
         ensures shown { self.new.shown ≡ self.old.shown }
         ensures writer { Keeps (W.contents self.old.writer) (W.contents self.new.writer) }
