@@ -188,26 +188,38 @@ module _ {W : Type 0} (contents : W → Option (List ℕ)) where
     failures = omega arith;
   }
 
+module _ {T : Type 0} (Leads : T → T → Deed → Type 0) where
   -- ---- what leads a terminal
 
-  pub led_by_nothing : (it : AnsiTerminal W) → IsLedBy contents [] it it
+  pub led_by_nothing : (it : T) → IsLedBy Leads [] it it
   led_by_nothing it = ([], refl, refl, refl)
 
+  -- calls that did so besides lead to where they led
+  uses_lead : (Follows : T → T → Call → Type 0) → ((a b : T) (call : Call) → Follows a b call → Leads a b (Called call))
+      → (calls : List Call) (old new : T) → Uses Follows calls old new → Uses (λ a b call. Leads a b (Called call)) calls old new
+  uses_lead Follows leads [] old new same = same
+  uses_lead Follows leads (call ∷ calls) old new (between, follows, uses) =
+      (between, leads old between call follows, uses_lead Follows leads calls between new uses)
+
+  pub used_leads : (Follows : T → T → Call → Type 0) → ((a b : T) (call : Call) → Follows a b call → Leads a b (Called call))
+      → (old new : T) → IsUsed Follows old new → IsUsed (λ a b call. Leads a b (Called call)) old new
+  used_leads Follows leads old new (calls, uses) = (calls, uses_lead Follows leads calls old new uses)
+
   -- calls alone
-  uses-of-calls : (calls : List Call) (old new : AnsiTerminal W) → Uses (λ a b call. Does contents a b (Called call)) calls old new
-      → Uses (Does contents) (map Called calls) old new
+  uses-of-calls : (calls : List Call) (old new : T) → Uses (λ a b call. Leads a b (Called call)) calls old new
+      → Uses Leads (map Called calls) old new
   uses-of-calls [] old new same = same
   uses-of-calls (call ∷ calls) old new (between, does, uses) = (between, does, uses-of-calls calls between new uses)
 
-  pub led_by_calls : (old new : AnsiTerminal W) → IsUsed (λ a b call. Does contents a b (Called call)) old new → IsLedBy contents [] old new
+  pub led_by_calls : (old new : T) → IsUsed (λ a b call. Leads a b (Called call)) old new → IsLedBy Leads [] old new
   led_by_calls old new (calls, uses) = (map Called calls, uses-of-calls calls old new uses, no-sizes calls, no-texts calls)
 
   -- some events, and then others
-  pub led_then : (first then : List EventView) (old between new : AnsiTerminal W) → IsLedBy contents first old between
-      → IsLedBy contents then between new → IsLedBy contents (first ++ then) old new
+  pub led_then : (first then : List EventView) (old between new : T) → IsLedBy Leads first old between
+      → IsLedBy Leads then between new → IsLedBy Leads (first ++ then) old new
   led_then first then old between new (first-deeds, first-uses, first-sizes, first-texts) (then-deeds, then-uses, then-sizes, then-texts) = (
     first-deeds ++ then-deeds,
-    both_uses (Does contents) first-deeds then-deeds old between new first-uses then-uses,
+    both_uses Leads first-deeds then-deeds old between new first-uses then-uses,
     sizes_by-both first-deeds then-deeds ∙ ap (λ sizes. sizes ++ sizes_by then-deeds) first-sizes
         ∙ ap (λ sizes. sizes_in first ++ sizes) then-sizes ∙ sym (sizes_in-both first then),
     texts_by-both first-deeds then-deeds ∙ ap (λ texts. texts ++ texts_by then-deeds) first-texts ∙ then-texts,
@@ -216,38 +228,38 @@ module _ {W : Type 0} (contents : W → Option (List ℕ)) where
   -- ---- what leads a terminal while events are told
 
   -- nothing is told, and the terminal is the same
-  pub led_unmoved : (told : List EventView) (old new : AnsiTerminal W) → new ≡ old → IsLedAsTold contents told told old new
+  pub led_unmoved : (told : List EventView) (old new : T) → new ≡ old → IsLedAsTold Leads told told old new
   led_unmoved told old new same = ([], sym (append-nil told), ([], same, refl, refl))
 
   -- the same terminals
-  pub led_between : (before after : List EventView) (old old-is new new-is : AnsiTerminal W) → old-is ≡ old → new ≡ new-is
-      → IsLedAsTold contents before after old-is new-is → IsLedAsTold contents before after old new
+  pub led_between : (before after : List EventView) (old old-is new new-is : T) → old-is ≡ old → new ≡ new-is
+      → IsLedAsTold Leads before after old-is new-is → IsLedAsTold Leads before after old new
   led_between before after old old-is new new-is same-old same-new led =
-      subst (λ it. IsLedAsTold contents before after old it) (sym same-new) (subst (λ it. IsLedAsTold contents before after it new-is) same-old led)
+      subst (λ it. IsLedAsTold Leads before after old it) (sym same-new) (subst (λ it. IsLedAsTold Leads before after it new-is) same-old led)
 
   -- calls alone
-  pub led_told_nothing : (told : List EventView) (old new : AnsiTerminal W) → IsUsed (λ a b call. Does contents a b (Called call)) old new
-      → IsLedAsTold contents told told old new
+  pub led_told_nothing : (told : List EventView) (old new : T) → IsUsed (λ a b call. Leads a b (Called call)) old new
+      → IsLedAsTold Leads told told old new
   led_told_nothing told old new used = ([], sym (append-nil told), led_by_calls old new used)
 
   -- calls, and then what is told
-  pub led_from_calls : (before after : List EventView) (old between new : AnsiTerminal W) → IsUsed (λ a b call. Does contents a b (Called call)) old between
-      → IsLedAsTold contents before after between new → IsLedAsTold contents before after old new
+  pub led_from_calls : (before after : List EventView) (old between new : T) → IsUsed (λ a b call. Leads a b (Called call)) old between
+      → IsLedAsTold Leads before after between new → IsLedAsTold Leads before after old new
   led_from_calls before after old between new used (events, told, led) =
       (events, told, led_then [] events old between new (led_by_calls old between used) led)
 
   -- what is told, and then calls
-  pub led_to_calls : (before after : List EventView) (old between new : AnsiTerminal W) → IsLedAsTold contents before after old between
-      → IsUsed (λ a b call. Does contents a b (Called call)) between new → IsLedAsTold contents before after old new
+  pub led_to_calls : (before after : List EventView) (old between new : T) → IsLedAsTold Leads before after old between
+      → IsUsed (λ a b call. Leads a b (Called call)) between new → IsLedAsTold Leads before after old new
   led_to_calls before after old between new (events, told, led) used = (
     events,
     told,
-    subst (λ all. IsLedBy contents all old new) (append-nil events) (led_then events [] old between new led (led_by_calls between new used)),
+    subst (λ all. IsLedBy Leads all old new) (append-nil events) (led_then events [] old between new led (led_by_calls between new used)),
   )
 
   -- more is told
-  pub led_on : (before between after events : List EventView) (old middle new : AnsiTerminal W) → IsLedAsTold contents before between old middle
-      → after ≡ between ++ events → IsLedBy contents events middle new → IsLedAsTold contents before after old new
+  pub led_on : (before between after events : List EventView) (old middle new : T) → IsLedAsTold Leads before between old middle
+      → after ≡ between ++ events → IsLedBy Leads events middle new → IsLedAsTold Leads before after old new
   led_on before between after events old middle new (first, told, led) more later = (
     first ++ events,
     more ∙ ap (λ all. all ++ events) told ∙ append_assoc before first events,
@@ -255,15 +267,16 @@ module _ {W : Type 0} (contents : W → Option (List ℕ)) where
   )
 
   -- nothing more is told
-  pub led_still : (before between after : List EventView) (old new : AnsiTerminal W) → IsLedAsTold contents before between old new
-      → after ≡ between → IsLedAsTold contents before after old new
-  led_still before between after old new led same = subst (λ told. IsLedAsTold contents before told old new) (sym same) led
+  pub led_still : (before between after : List EventView) (old new : T) → IsLedAsTold Leads before between old new
+      → after ≡ between → IsLedAsTold Leads before after old new
+  led_still before between after old new led same = subst (λ told. IsLedAsTold Leads before told old new) (sym same) led
 
+module _ {W : Type 0} (contents : W → Option (List ℕ)) where
   -- ---- what is written where no other number of columns is told
 
   pub led_is_sent : LedIsSent contents
   led_is_sent events old new (deeds, uses, sizes, texts) kept below same =
-      let sent = deeds_are_sent deeds old new uses (failures_are_counted deeds old new uses kept below) in
+      let sent = deeds_are_sent contents deeds old new uses (failures_are_counted contents deeds old new uses kept below) in
       let is = sent-batches-of deeds old.encoder texts (subst (λ all. AreOf old.encoder.cols all) (sym sizes) same) in (
         batches_by deeds,
         sent.2,

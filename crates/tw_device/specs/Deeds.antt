@@ -1,4 +1,4 @@
--- What is done to a terminal over a writer, deed by deed, and what it sends for it.
+-- What is done to a terminal at a device, deed by deed, and what a terminal over a writer sends for it.
 use Rattle.std.specs.Prelude.{◌≡◌, ◌≢◌, ◌≤◌, ℕ, Bool, true, false, List, [], ◌∷◌, ◌++◌, Option}
 use Rattle.std.specs.List.{list_all, AllByRecursion}
 use Rattle.std.specs.Io.KnownBytes.{Appends}
@@ -76,6 +76,15 @@ is_whole _ = true
 abbrev pub none_refused : List Deed → Bool
 none_refused deeds = list_all is_whole deeds
 
+module _ {T : Type 0} (Leads : T → T → Deed → Type 0) where
+  -- Calls, and the sizes that these events tell, and nothing else, lead from the one to the other.
+  abbrev pub IsLedBy : List EventView → T → T → Type 0
+  IsLedBy events old new = (deeds : List Deed) × Uses Leads deeds old new × (sizes_by deeds ≡ sizes_in events) × (texts_by deeds ≡ [])
+
+  -- These events were told since, and it was led by them.
+  abbrev pub IsLedAsTold : List EventView → List EventView → T → T → Type 0
+  IsLedAsTold told_before told_after old new = (events : List EventView) × (told_after ≡ told_before ++ events) × IsLedBy events old new
+
 module _ {W : Type 0} (contents : W → Option (List ℕ)) where
   -- The bytes of the deed are appended to what is written, and no other; what is known is what is known after them; and
   -- its batch, if it has one, is the last one taken.
@@ -98,14 +107,6 @@ module _ {W : Type 0} (contents : W → Option (List ℕ)) where
   Does old new (Sized size) = Sends (Sized size) old new
   Does old new (Said text) = Sends (Said text) old new
 
-  -- Calls, and the sizes that these events tell, and nothing else, lead from the one to the other.
-  abbrev pub IsLedBy : List EventView → AnsiTerminal W → AnsiTerminal W → Type 0
-  IsLedBy events old new = (deeds : List Deed) × Uses Does deeds old new × (sizes_by deeds ≡ sizes_in events) × (texts_by deeds ≡ [])
-
-  -- These events were told since, and it was led by them.
-  abbrev pub IsLedAsTold : List EventView → List EventView → AnsiTerminal W → AnsiTerminal W → Type 0
-  IsLedAsTold told_before told_after old new = (events : List EventView) × (told_after ≡ told_before ++ events) × IsLedBy events old new
-
   -- Where no batch was refused, what was written is what was there, and then the bytes of the deeds; what is known is what
   -- is known after them; and the batches are those that were there, and then those that the deeds took.
   abbrev pub DeedsAreSent : Type 0
@@ -122,7 +123,7 @@ module _ {W : Type 0} (contents : W → Option (List ℕ)) where
   -- Where no failure was counted, and one could have been, and no event told another number of columns, what was written is
   -- what was there, and then the bytes of the batches that were taken since.
   abbrev pub LedIsSent : Type 0
-  LedIsSent = (events : List EventView) (old new : AnsiTerminal W) → IsLedBy events old new
+  LedIsSent = (events : List EventView) (old new : AnsiTerminal W) → IsLedBy Does events old new
       → new.failures ≡ old.failures → old.failures ≢ usize_max
       → AllByRecursion (λ size. size.cols ≡ old.encoder.cols) (sizes_in events)
       → (batches : List Batch) × ((terminal_state new).batches ≡ (terminal_state old).batches ++ batches)

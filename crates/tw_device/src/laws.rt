@@ -1,9 +1,10 @@
 //! Laws of the types of this crate, each the contract of a function that does nothing.
 
 ghost use Rattle.tw_input.specs.Equality.{ComparesValues};
-ghost use Rattle.tw_device.specs.Deeds.{DeedsAreSent, FailuresAreCounted, LedIsSent};
+ghost use Rattle.tw_device.specs.Deeds.{DeedsAreSent, Does, FailuresAreCounted, LedIsSent};
 ghost use Rattle.tw_device.specs.Led.{AlongIsLed};
 ghost use Rattle.tw_device.specs.Pieces.{PiecesDoNotMatter};
+ghost use Rattle.tw_device.specs.Terminal.{terminal_state};
 ghost use Rattle.tw_device.specs.Typed.{NoneIsLost};
 
 use crate::escape::Escape;
@@ -35,5 +36,5 @@ pub fn deeds<W: Write>()
     ensures sent { DeedsAreSent W.contents }
     ensures counted { FailuresAreCounted W.contents }
     ensures led { LedIsSent W.contents }
-    ensures along { AlongIsLed W.contents }
+    ensures along { AlongIsLed terminal_state (Does W.contents) }
 {}

@@ -1,11 +1,12 @@
 //! A line editor at a device: a terminal over a writer, events from a reader, and lines that are read as these come.
 //!
-//! `terminal` has the terminal over a writer; `keys` the source of events over a reader, with `unread`, the bytes
-//! that were read and are not yet taken, and `escape`, what an ESC alone is; `reading` the line that is read as the
-//! events come, and `typed` the same from the bytes of a reader. `refused` says why a call to a device is refused, and
-//! `event_log` has the events that a source told, for contracts alone.
+//! `device` says what a terminal at a device is, and `terminal` has the one over a writer; `keys` the source of events
+//! over a reader, with `unread`, the bytes that were read and are not yet taken, and `escape`, what an ESC alone is;
+//! `reading` the line that is read as the events come, and `typed` the same from the bytes of a reader. `refused` says
+//! why a call to a device is refused, and `event_log` has the events that a source told, for contracts alone.
 #![tactic(auto)]
 
+mod device;
 mod escape;
 mod event_log;
 mod keys;
@@ -16,6 +17,7 @@ mod terminal;
 mod typed;
 mod unread;
 
+pub use device::DeviceTerminal;
 pub use escape::Escape;
 pub use event_log::EventLog;
 pub use keys::{EventSource, KeyReader, SourceState};

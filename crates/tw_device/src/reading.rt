@@ -10,16 +10,14 @@ ghost use Rattle.tw_lineedit.specs.Outcomes.{is_open};
 ghost use Rattle.tw_device.specs.Calls.{IsCalled};
 ghost use Rattle.tw_device.specs.Deeds.{IsLedAsTold, IsLedBy};
 ghost use Rattle.tw_device.specs.Led.{taken_on, taken_over, IsLedByEvent, IsSizedBy, IsToldAlong};
-ghost use Rattle.tw_device.specs.Terminal.{terminal_state};
 ghost use Rattle.tw_device.specs.Live.{fresh_frame, WaitsAfter, ComesBy, FailsFrom, FailsBy, IsRead, FailsToReadTold, StopsFeeding, answer_from};
 
+use crate::device::DeviceTerminal;
 use crate::keys::EventSource;
-use crate::terminal::AnsiTerminal;
 use std::alloc::Global;
-use std::io::Write;
 use tw_input::InputEvent;
 use tw_lineedit::{Error, LineEditor, LineEditorHost, LineStatus};
-use tw_terminal::{ScreenSize, Terminal, TerminalFault};
+use tw_terminal::{ScreenSize, TerminalFault};
 
 /// How a reading ended.
 #[derive(Debug, Drop)]
@@ -46,11 +44,11 @@ enum Stop {
 }
 
 /// Gives the terminal the size that an event tells.
-fn resize<W: Write>(terminal: &mut AnsiTerminal<W>, event: &InputEvent)
-    ensures state { let before = terminal_state terminal.old in
-        terminal_state terminal.new ≡ record before { size = size_after (event_view event.now) before.size } }
-    ensures led { IsLedBy W.contents (event_view event.now ∷ []) terminal.old terminal.new }
-    ensures sized { IsSizedBy W.contents (event_view event.now) terminal.old terminal.new }
+fn resize<T: DeviceTerminal>(terminal: &mut T, event: &InputEvent)
+    ensures state { let before = T.state terminal.old in
+        T.state terminal.new ≡ record before { size = size_after (event_view event.now) before.size } }
+    ensures led { IsLedBy T.does (event_view event.now ∷ []) terminal.old terminal.new }
+    ensures sized { IsSizedBy T.does (event_view event.now) terminal.old terminal.new }
 {
     if let InputEvent::Resized { cols, rows } = event {
         terminal.set_screen_size(ScreenSize {
@@ -61,23 +59,23 @@ fn resize<W: Write>(terminal: &mut AnsiTerminal<W>, event: &InputEvent)
 }
 
 /// Feeds an event to an open line, once the terminal has the size that it tells.
-fn feed<W: Write, H: LineEditorHost>(
-    editor: &mut LineEditor<'_, AnsiTerminal<W>>,
+fn feed<T: DeviceTerminal, H: LineEditorHost>(
+    editor: &mut LineEditor<'_, T>,
     host: &mut H,
     event: &InputEvent,
 ) -> Result<LineStatus, Error>
     requires { is_open editor.old.session.state.mode ≡ true }
     ensures same_reference { editor.new.terminal.ghost_name ≡ editor.old.terminal.ghost_name }
-    ensures ok { let before = frame terminal_state H.value editor.old host.old in
-        let after = frame terminal_state H.value editor.new host.new in
+    ensures ok { let before = frame T.state H.value editor.old host.old in
+        let after = frame T.state H.value editor.new host.new in
         OnOk result (WaitsAfter H.rules H.OVERRIDES (event_view event.now ∷ []) before after) }
     ensures begun { OnOk result (editor.new.session.state.mode ≢ Inactive) }
     ensures status { IfOk result (λ status. status ≡ status_if (is_open editor.new.session.state.mode)) }
-    ensures err { let before = frame terminal_state H.value editor.old host.old in
-        let after = frame terminal_state H.value editor.new host.new in
+    ensures err { let before = frame T.state H.value editor.old host.old in
+        let after = frame T.state H.value editor.new host.new in
         IfErr result (FailsFrom H.rules H.OVERRIDES (event_view event.now ∷ []) before after) }
-    ensures led { IsLedBy W.contents (event_view event.now ∷ []) editor.old.terminal.now editor.new.terminal.now }
-    ensures sized { IsLedByEvent W.contents (event_view event.now) editor.old.terminal.now editor.new.terminal.now }
+    ensures led { IsLedBy T.does (event_view event.now ∷ []) editor.old.terminal.now editor.new.terminal.now }
+    ensures sized { IsLedByEvent T.does (event_view event.now) editor.old.terminal.now editor.new.terminal.now }
 {
     resize(editor.terminal(), event);
     editor.feed(host, event)
@@ -85,26 +83,26 @@ fn feed<W: Write, H: LineEditorHost>(
 
 /// Feeds an open line what the source tells, up to the line's end or the source's.
 #[tactic(auto, using(crate::proofs::LiveLemmas::counted))]
-fn take_events<S: EventSource, W: Write, H: LineEditorHost>(
+fn take_events<S: EventSource, T: DeviceTerminal, H: LineEditorHost>(
     source: &mut S,
-    editor: &mut LineEditor<'_, AnsiTerminal<W>>,
+    editor: &mut LineEditor<'_, T>,
     host: &mut H,
 ) -> Result<Stop, Error>
     requires { is_open editor.old.session.state.mode ≡ true }
     ensures same_reference { editor.new.terminal.ghost_name ≡ editor.old.terminal.ghost_name }
-    ensures ok { let before = frame terminal_state H.value editor.old host.old in
-        let after = frame terminal_state H.value editor.new host.new in
+    ensures ok { let before = frame T.state H.value editor.old host.old in
+        let after = frame T.state H.value editor.new host.new in
         OnOk result (ComesBy H.rules H.OVERRIDES (S.told source.old) (S.told source.new) before after) }
     ensures begun { OnOk result (editor.new.session.state.mode ≢ Inactive) }
     ensures stopped { let is_open_after = is_open editor.new.session.state.mode in
         IfOk result (λ stop. StopsFeeding stop is_open_after (S.state source.new) (S.told source.old) (S.told source.new)) }
-    ensures err { let before = frame terminal_state H.value editor.old host.old in
-        let after = frame terminal_state H.value editor.new host.new in
+    ensures err { let before = frame T.state H.value editor.old host.old in
+        let after = frame T.state H.value editor.new host.new in
         IfErr result (FailsBy H.rules H.OVERRIDES (S.told source.old) (S.told source.new) before after) }
     ensures called { IsCalled S.told S.follows source.old source.new }
-    ensures led { IsLedAsTold W.contents (S.told source.old) (S.told source.new) editor.old.terminal.now editor.new.terminal.now }
-    ensures along { let before = frame terminal_state H.value editor.old host.old in
-        IsToldAlong W.contents (taken_on H.rules before) (S.told source.old) (S.told source.new)
+    ensures led { IsLedAsTold T.does (S.told source.old) (S.told source.new) editor.old.terminal.now editor.new.terminal.now }
+    ensures along { let before = frame T.state H.value editor.old host.old in
+        IsToldAlong T.state T.does (taken_on H.rules before) (S.told source.old) (S.told source.new)
         editor.old.terminal.now editor.new.terminal.now }
 {
     for turn in 0..u64::MAX {
@@ -142,23 +140,23 @@ fn answer_of(line: Option<String>, stop: Stop) -> Result<Answer, Error>
 /// Where the source refuses, the line is closed as at the source's end, and the answer is the source's refusal;
 /// so it is, with `Device`, where one call was told 2^64 - 1 events and none of them ended the line. Every other
 /// refusal is as one of `read_line`.
-pub fn read_line_from<S: EventSource, W: Write, H: LineEditorHost>(
+pub fn read_line_from<S: EventSource, T: DeviceTerminal, H: LineEditorHost>(
     alloc: Global,
     source: &mut S,
-    terminal: &mut AnsiTerminal<W>,
+    terminal: &mut T,
     host: &mut H,
     prompt: &str,
 ) -> Result<Answer, Error>
-    ensures ok { let begun = fresh_frame prompt.now (H.value host.old) (terminal_state terminal.old) in
+    ensures ok { let begun = fresh_frame prompt.now (H.value host.old) (T.state terminal.old) in
         IfOk result (IsRead H.rules (S.told source.old) (S.told source.new) (S.state source.new) begun
-        (H.value host.new) (terminal_state terminal.new)) }
-    ensures err { let begun = fresh_frame prompt.now (H.value host.old) (terminal_state terminal.old) in
+        (H.value host.new) (T.state terminal.new)) }
+    ensures err { let begun = fresh_frame prompt.now (H.value host.old) (T.state terminal.old) in
         IfErr result (FailsToReadTold H.rules H.OVERRIDES (S.told source.old) (S.told source.new) (S.state source.new) begun
-        (H.value host.new) (terminal_state terminal.new)) }
+        (H.value host.new) (T.state terminal.new)) }
     ensures called { IsCalled S.told S.follows source.old source.new }
-    ensures led { IsLedAsTold W.contents (S.told source.old) (S.told source.new) terminal.old terminal.new }
-    ensures along { let begun = fresh_frame prompt.now (H.value host.old) (terminal_state terminal.old) in
-        IsToldAlong W.contents (taken_over H.rules begun) (S.told source.old) (S.told source.new)
+    ensures led { IsLedAsTold T.does (S.told source.old) (S.told source.new) terminal.old terminal.new }
+    ensures along { let begun = fresh_frame prompt.now (H.value host.old) (T.state terminal.old) in
+        IsToldAlong T.state T.does (taken_over H.rules begun) (S.told source.old) (S.told source.new)
         terminal.old terminal.new }
 {
     let mut editor = LineEditor::new(alloc, terminal)?;

@@ -1,7 +1,7 @@
 //! A terminal over a writer. Its events are not its own affair: they are fed to the editor.
 
 ghost use Rattle.std.specs.Io.KnownBytes.{Appends, Keeps};
-ghost use Rattle.std.specs.Prelude.{◌≡◌, ◌++◌, [], Ok, None, IfOk, OnOk, OnErr, string_bytes};
+ghost use Rattle.std.specs.Prelude.{◌≡◌, ◌++◌, [], Ok, None, IfOk, OnOk, OnErr, refl, string_bytes};
 ghost use Rattle.tw_surface.specs.ChangeView.{batch_view};
 ghost use Rattle.tw_surface.specs.Defaults.{default_attributes};
 ghost use Rattle.tw_terminal.specs.TerminalState.{fresh_terminal, Fails, Flushes, RenderFails, Renders};
@@ -11,6 +11,7 @@ ghost use Rattle.tw_terminal.specs.Uses.{Other, Refused as BatchRefused, Took};
 ghost use Rattle.tw_device.specs.Deeds.{Called, Does, Said, Sized};
 ghost use Rattle.tw_device.specs.Terminal.{terminal_state};
 
+use crate::device::DeviceTerminal;
 use crate::refused::Refused;
 use std::alloc::{AllocError, Global};
 use std::io::Write;
@@ -182,5 +183,21 @@ impl<W: Write> Terminal for AnsiTerminal<W> {
         }
         self.flushed = Snapshot::of(&self.batches);
         Ok(())
+    }
+}
+
+impl<W: Write> DeviceTerminal for AnsiTerminal<W> {
+    ghost does = { Does W.contents };
+
+    ghost no_event = { λ it. refl };
+
+    ghost call_does = { λ old new call follows. follows };
+
+    fn set_screen_size(&mut self, size: ScreenSize) {
+        AnsiTerminal::set_screen_size(self, size);
+    }
+
+    fn send(&mut self, text: &str) -> Result<(), TerminalFault> {
+        AnsiTerminal::send(self, text)
     }
 }

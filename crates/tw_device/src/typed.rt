@@ -6,36 +6,35 @@ ghost use Rattle.tw_device.specs.Deeds.{IsLedAsTold};
 ghost use Rattle.tw_device.specs.Keys.{held_by};
 ghost use Rattle.tw_device.specs.Led.{taken_over, IsToldAlong};
 ghost use Rattle.tw_device.specs.Live.{fresh_frame, IsRead, FailsToReadTold};
-ghost use Rattle.tw_device.specs.Terminal.{terminal_state};
 ghost use Rattle.tw_device.specs.Typed.{TellsTyped};
 
+use crate::device::DeviceTerminal;
 use crate::keys::KeyReader;
 use crate::reading::{Answer, read_line_from};
-use crate::terminal::AnsiTerminal;
 use std::alloc::Global;
-use std::io::{Read, Write};
+use std::io::Read;
 use tw_lineedit::{Error, LineEditorHost};
 
 /// Reads a line as `read_line_from` does, from the bytes that a reader gives. The events that were told are those of
 /// the bytes that were taken, and no byte is lost (`typed`, by `laws::typing`), whether a line is answered or not.
-pub fn read_typed_line<R: Read, W: Write, H: LineEditorHost>(
+pub fn read_typed_line<R: Read, T: DeviceTerminal, H: LineEditorHost>(
     alloc: Global,
     keys: &mut KeyReader<R>,
-    terminal: &mut AnsiTerminal<W>,
+    terminal: &mut T,
     host: &mut H,
     prompt: &str,
 ) -> Result<Answer, Error>
-    ensures ok { let begun = fresh_frame prompt.now (H.value host.old) (terminal_state terminal.old) in
+    ensures ok { let begun = fresh_frame prompt.now (H.value host.old) (T.state terminal.old) in
         IfOk result (IsRead H.rules keys.old.told keys.new.told keys.new.state begun
-        (H.value host.new) (terminal_state terminal.new)) }
-    ensures err { let begun = fresh_frame prompt.now (H.value host.old) (terminal_state terminal.old) in
+        (H.value host.new) (T.state terminal.new)) }
+    ensures err { let begun = fresh_frame prompt.now (H.value host.old) (T.state terminal.old) in
         IfErr result (FailsToReadTold H.rules H.OVERRIDES keys.old.told keys.new.told keys.new.state begun
-        (H.value host.new) (terminal_state terminal.new)) }
+        (H.value host.new) (T.state terminal.new)) }
     ensures typed { (events : List EventView) × (keys.new.told ≡ keys.old.told ++ events)
         × TellsTyped (held_by R.remaining keys.old) (held_by R.remaining keys.new) events }
-    ensures led { IsLedAsTold W.contents keys.old.told keys.new.told terminal.old terminal.new }
-    ensures along { let begun = fresh_frame prompt.now (H.value host.old) (terminal_state terminal.old) in
-        IsToldAlong W.contents (taken_over H.rules begun) keys.old.told keys.new.told terminal.old terminal.new }
+    ensures led { IsLedAsTold T.does keys.old.told keys.new.told terminal.old terminal.new }
+    ensures along { let begun = fresh_frame prompt.now (H.value host.old) (T.state terminal.old) in
+        IsToldAlong T.state T.does (taken_over H.rules begun) keys.old.told keys.new.told terminal.old terminal.new }
 {
     read_line_from(alloc, keys, terminal, host, prompt)
 }

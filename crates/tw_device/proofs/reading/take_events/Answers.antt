@@ -1,7 +1,6 @@
 use Rattle.std.proofs.Common.{[], ◌∷◌, arith, refl, rules}
 use Rattle.std.proofs.lemmas.Result.{err_from_is_err_and}
 use Rattle.tw_input.specs.EventView.{event_view}
-use Rattle.tw_device.specs.contracts.terminal.AnsiTerminalTerminal.TheImpl as terminal
 use Rattle.tw_device.specs.Told.{answer_events}
 use Rattle.tw_device.proofs.CallLemmas.{called_more, told_answer}
 use Rattle.tw_device.proofs.DeedLemmas.{led_on, led_still}
@@ -14,7 +13,7 @@ use Rattle.tw_lineedit.specs.Frame.{frame}
 pub returns-in_err-feed-in-Ok-Some-clause-err : goal.returns-in_err-feed-in-Ok-Some-clause-err
 returns-in_err-feed-in-Ok-Some-clause-err g c =
     let p = err_from_is_err_and c.from_residual.result c.from_residual.ensures.1 in
-    let state = (terminal.ghosts g.row.W g.W.Write g.W.Write-dict).state in
+    let state = g.T.Terminal.state in
     rw (p.1, p.2) (fails_by_one g.H.LineEditorHost.rules g.H.LineEditorHost.OVERRIDES (g.S.EventSource.told c.args.source.now) (g.S.EventSource.told c.loop-turn.source) _ (event_view c.in-Ok-Some.event)
     (frame state g.H.LineEditorHost.value c.args.editor.now c.args.host.now)
     (frame state g.H.LineEditorHost.value c.loop-turn.editor c.loop-turn.host)
@@ -50,7 +49,7 @@ returns-in-Err-clause-called g c =
 pub returns-in-Ended-clause-ok : goal.returns-in-Ended-clause-ok
 returns-in-Ended-clause-ok g c =
     let source = g.S.EventSource in
-    let state = (terminal.ghosts g.row.W g.W.Write g.W.Write-dict).state in
+    let state = g.T.Terminal.state in
     comes_by_one g.H.LineEditorHost.rules g.H.LineEditorHost.OVERRIDES (source.told c.args.source.now) (source.told c.loop-turn.source) (source.told c.next_event.new.self) (event_view c.in-Ok-Some.event)
     (frame state g.H.LineEditorHost.value c.args.editor.now c.args.host.now) (frame state g.H.LineEditorHost.value c.loop-turn.editor c.loop-turn.host) (frame state g.H.LineEditorHost.value c.feed.new.editor c.feed.new.host)
     c.loop-turn.invariant.comes (rw c.in-Ok-Some.field-0-is at c.in-Ok-Some.ensures.ok) c.in_ok-feed-in-Ok-Some.ensures.ok
@@ -58,27 +57,27 @@ returns-in-Ended-clause-ok g c =
 pub returns-in_err-feed-in-Ok-Some-clause-led : goal.returns-in_err-feed-in-Ok-Some-clause-led
 returns-in_err-feed-in-Ok-Some-clause-led g c =
     let source = g.S.EventSource in
-    led_on g.W.Write.contents (source.told c.args.source.now) (source.told c.loop-turn.source) (source.told c.next_event.new.self) (event_view c.in-Ok-Some.event ∷ [])
+    led_on g.T.DeviceTerminal.does (source.told c.args.source.now) (source.told c.loop-turn.source) (source.told c.next_event.new.self) (event_view c.in-Ok-Some.event ∷ [])
     c.args.editor.now.terminal.now c.loop-turn.editor.terminal.now c.feed.new.editor.terminal.now c.loop-turn.invariant.led
     (rw c.in-Ok-Some.field-0-is at c.in-Ok-Some.ensures.ok) c.in_err-feed-in-Ok-Some.ensures.led
 
 pub returns-in-Ended-clause-led : goal.returns-in-Ended-clause-led
 returns-in-Ended-clause-led g c =
     let source = g.S.EventSource in
-    led_on g.W.Write.contents (source.told c.args.source.now) (source.told c.loop-turn.source) (source.told c.next_event.new.self) (event_view c.in-Ok-Some.event ∷ [])
+    led_on g.T.DeviceTerminal.does (source.told c.args.source.now) (source.told c.loop-turn.source) (source.told c.next_event.new.self) (event_view c.in-Ok-Some.event ∷ [])
     c.args.editor.now.terminal.now c.loop-turn.editor.terminal.now c.feed.new.editor.terminal.now c.loop-turn.invariant.led
     (rw c.in-Ok-Some.field-0-is at c.in-Ok-Some.ensures.ok) c.in_ok-feed-in-Ok-Some.ensures.led
 
 pub returns-in-Ok-None-clause-led : goal.returns-in-Ok-None-clause-led
 returns-in-Ok-None-clause-led g c =
     let source = g.S.EventSource in
-    led_still g.W.Write.contents (source.told c.args.source.now) (source.told c.loop-turn.source) (source.told c.next_event.new.self)
+    led_still g.T.DeviceTerminal.does (source.told c.args.source.now) (source.told c.loop-turn.source) (source.told c.next_event.new.self)
     c.args.editor.now.terminal.now c.loop-turn.editor.terminal.now c.loop-turn.invariant.led (rw c.in-Ok-None.field-0-is at c.in-Ok-None.ensures.ok).0
 
 pub returns-in-Err-clause-led : goal.returns-in-Err-clause-led
 returns-in-Err-clause-led g c =
     let source = g.S.EventSource in
-    led_still g.W.Write.contents (source.told c.args.source.now) (source.told c.loop-turn.source) (source.told c.next_event.new.self)
+    led_still g.T.DeviceTerminal.does (source.told c.args.source.now) (source.told c.loop-turn.source) (source.told c.next_event.new.self)
     c.args.editor.now.terminal.now c.loop-turn.editor.terminal.now c.loop-turn.invariant.led c.in-Err.ensures.told
 
 pub returns-clause-led : goal.returns-clause-led
@@ -87,8 +86,8 @@ returns-clause-led g c = c.loop-turn.invariant.led
 pub returns-in_err-feed-in-Ok-Some-clause-along : goal.returns-in_err-feed-in-Ok-Some-clause-along
 returns-in_err-feed-in-Ok-Some-clause-along g c =
     let source = g.S.EventSource in
-    let state = (terminal.ghosts g.row.W g.W.Write g.W.Write-dict).state in
-    told_along_event g.W.Write.contents g.H.LineEditorHost.rules g.H.LineEditorHost.OVERRIDES (source.told c.args.source.now) (source.told c.loop-turn.source) (source.told c.next_event.new.self) (event_view c.in-Ok-Some.event)
+    let state = g.T.Terminal.state in
+    told_along_event g.T.Terminal.state g.T.DeviceTerminal.does g.H.LineEditorHost.rules g.H.LineEditorHost.OVERRIDES (source.told c.args.source.now) (source.told c.loop-turn.source) (source.told c.next_event.new.self) (event_view c.in-Ok-Some.event)
     (frame state g.H.LineEditorHost.value c.args.editor.now c.args.host.now) (frame state g.H.LineEditorHost.value c.loop-turn.editor c.loop-turn.host)
     c.args.editor.now.terminal.now c.loop-turn.editor.terminal.now c.feed.new.editor.terminal.now c.loop-turn.invariant.along c.loop-turn.invariant.comes refl
     (rw c.in-Ok-Some.field-0-is at c.in-Ok-Some.ensures.ok) c.in_err-feed-in-Ok-Some.ensures.sized
@@ -96,8 +95,8 @@ returns-in_err-feed-in-Ok-Some-clause-along g c =
 pub returns-in-Ended-clause-along : goal.returns-in-Ended-clause-along
 returns-in-Ended-clause-along g c =
     let source = g.S.EventSource in
-    let state = (terminal.ghosts g.row.W g.W.Write g.W.Write-dict).state in
-    told_along_event g.W.Write.contents g.H.LineEditorHost.rules g.H.LineEditorHost.OVERRIDES (source.told c.args.source.now) (source.told c.loop-turn.source) (source.told c.next_event.new.self) (event_view c.in-Ok-Some.event)
+    let state = g.T.Terminal.state in
+    told_along_event g.T.Terminal.state g.T.DeviceTerminal.does g.H.LineEditorHost.rules g.H.LineEditorHost.OVERRIDES (source.told c.args.source.now) (source.told c.loop-turn.source) (source.told c.next_event.new.self) (event_view c.in-Ok-Some.event)
     (frame state g.H.LineEditorHost.value c.args.editor.now c.args.host.now) (frame state g.H.LineEditorHost.value c.loop-turn.editor c.loop-turn.host)
     c.args.editor.now.terminal.now c.loop-turn.editor.terminal.now c.feed.new.editor.terminal.now c.loop-turn.invariant.along c.loop-turn.invariant.comes refl
     (rw c.in-Ok-Some.field-0-is at c.in-Ok-Some.ensures.ok) c.in_ok-feed-in-Ok-Some.ensures.sized
@@ -105,16 +104,16 @@ returns-in-Ended-clause-along g c =
 pub returns-in-Ok-None-clause-along : goal.returns-in-Ok-None-clause-along
 returns-in-Ok-None-clause-along g c =
     let source = g.S.EventSource in
-    let state = (terminal.ghosts g.row.W g.W.Write g.W.Write-dict).state in
-    told_along_still g.W.Write.contents (taken_on g.H.LineEditorHost.rules (frame state g.H.LineEditorHost.value c.args.editor.now c.args.host.now))
+    let state = g.T.Terminal.state in
+    told_along_still g.T.Terminal.state g.T.DeviceTerminal.does (taken_on g.H.LineEditorHost.rules (frame state g.H.LineEditorHost.value c.args.editor.now c.args.host.now))
     (source.told c.args.source.now) (source.told c.loop-turn.source) (source.told c.next_event.new.self)
     c.args.editor.now.terminal.now c.loop-turn.editor.terminal.now c.loop-turn.invariant.along (rw c.in-Ok-None.field-0-is at c.in-Ok-None.ensures.ok).0
 
 pub returns-in-Err-clause-along : goal.returns-in-Err-clause-along
 returns-in-Err-clause-along g c =
     let source = g.S.EventSource in
-    let state = (terminal.ghosts g.row.W g.W.Write g.W.Write-dict).state in
-    told_along_still g.W.Write.contents (taken_on g.H.LineEditorHost.rules (frame state g.H.LineEditorHost.value c.args.editor.now c.args.host.now))
+    let state = g.T.Terminal.state in
+    told_along_still g.T.Terminal.state g.T.DeviceTerminal.does (taken_on g.H.LineEditorHost.rules (frame state g.H.LineEditorHost.value c.args.editor.now c.args.host.now))
     (source.told c.args.source.now) (source.told c.loop-turn.source) (source.told c.next_event.new.self)
     c.args.editor.now.terminal.now c.loop-turn.editor.terminal.now c.loop-turn.invariant.along c.in-Err.ensures.told
 
@@ -124,7 +123,7 @@ returns-clause-along g c = c.loop-turn.invariant.along
 pub loop-turn-preserved : goal.loop-turn-preserved
 loop-turn-preserved g c =
     let source = g.S.EventSource in
-    let state = (terminal.ghosts g.row.W g.W.Write g.W.Write-dict).state in
+    let state = g.T.Terminal.state in
     let rules_of = g.H.LineEditorHost.rules in
     let overrides = g.H.LineEditorHost.OVERRIDES in
     let told = rw c.in-Ok-Some.field-0-is at c.in-Ok-Some.ensures.ok in
@@ -137,10 +136,10 @@ loop-turn-preserved g c =
           c.loop-turn.invariant.count told;
       called = called_more source.told source.follows c.args.source.now c.loop-turn.source c.next_event.new.self (answer_events c.next_event.result) c.loop-turn.invariant.called c.next_event.ensures.follows
           (told_answer _ c.next_event.result (source.told c.loop-turn.source) (source.told c.next_event.new.self) c.next_event.ensures.ok c.next_event.ensures.told);
-      led = led_on g.W.Write.contents (source.told c.args.source.now) (source.told c.loop-turn.source) (source.told c.next_event.new.self) (event_view c.in-Ok-Some.event ∷ [])
+      led = led_on g.T.DeviceTerminal.does (source.told c.args.source.now) (source.told c.loop-turn.source) (source.told c.next_event.new.self) (event_view c.in-Ok-Some.event ∷ [])
           c.args.editor.now.terminal.now c.loop-turn.editor.terminal.now c.feed.new.editor.terminal.now c.loop-turn.invariant.led
           (rw c.in-Ok-Some.field-0-is at c.in-Ok-Some.ensures.ok) c.in_ok-feed-in-Ok-Some.ensures.led;
-      along = told_along_event g.W.Write.contents rules_of overrides (source.told c.args.source.now) (source.told c.loop-turn.source) (source.told c.next_event.new.self) (event_view c.in-Ok-Some.event)
+      along = told_along_event g.T.Terminal.state g.T.DeviceTerminal.does rules_of overrides (source.told c.args.source.now) (source.told c.loop-turn.source) (source.told c.next_event.new.self) (event_view c.in-Ok-Some.event)
           (frame state g.H.LineEditorHost.value c.args.editor.now c.args.host.now) (frame state g.H.LineEditorHost.value c.loop-turn.editor c.loop-turn.host)
           c.args.editor.now.terminal.now c.loop-turn.editor.terminal.now c.feed.new.editor.terminal.now c.loop-turn.invariant.along c.loop-turn.invariant.comes refl
           told c.in_ok-feed-in-Ok-Some.ensures.sized;

@@ -5,20 +5,19 @@ use Rattle.tw_device.specs.Calls.{IsCalled}
 use Rattle.tw_device.specs.Deeds.{IsLedAsTold}
 use Rattle.tw_device.specs.Led.{taken_on, IsToldAlong}
 use Rattle.tw_device.specs.Live.{ComesBy}
-use Rattle.tw_device.specs.contracts.terminal.AnsiTerminalTerminal.TheImpl as terminal
 use Rattle.tw_device.proofs.reading.take_events.Given as goal
 
 abbrev pub invariant-loop-turn : goal.invariant-loop-turn
 invariant-loop-turn g l =
-    let state = (terminal.ghosts g.row.W g.W.Write g.W.Write-dict).state in
+    let state = g.T.Terminal.state in
     record {
       same_reference : l.editor.terminal.ghost_name ≡ l.fn.editor.terminal.ghost_name;
       comes : ComesBy g.H.LineEditorHost.rules g.H.LineEditorHost.OVERRIDES (g.S.EventSource.told l.fn.source) (g.S.EventSource.told l.source)
           (frame state g.H.LineEditorHost.value l.fn.editor l.fn.host) (frame state g.H.LineEditorHost.value l.editor l.host);
       count : length (g.S.EventSource.told l.source) ≡ length (g.S.EventSource.told l.fn.source) + l.turn;
       called : IsCalled g.S.EventSource.told g.S.EventSource.follows l.fn.source l.source;
-      led : IsLedAsTold g.W.Write.contents (g.S.EventSource.told l.fn.source) (g.S.EventSource.told l.source) l.fn.editor.terminal.now l.editor.terminal.now;
-      along : IsToldAlong g.W.Write.contents (taken_on g.H.LineEditorHost.rules (frame state g.H.LineEditorHost.value l.fn.editor l.fn.host))
+      led : IsLedAsTold g.T.DeviceTerminal.does (g.S.EventSource.told l.fn.source) (g.S.EventSource.told l.source) l.fn.editor.terminal.now l.editor.terminal.now;
+      along : IsToldAlong g.T.Terminal.state g.T.DeviceTerminal.does (taken_on g.H.LineEditorHost.rules (frame state g.H.LineEditorHost.value l.fn.editor l.fn.host))
           (g.S.EventSource.told l.fn.source) (g.S.EventSource.told l.source) l.fn.editor.terminal.now l.editor.terminal.now;
       still_open : is_open l.editor.session.state.mode ≡ true;
     }

@@ -1,0 +1,33 @@
+//! A terminal at a device: its events are fed to the editor, its owner gives it its size, and sends what is no line's.
+
+ghost use Rattle.std.specs.Prelude.{◌≡◌, [], OnOk};
+ghost use Rattle.tw_terminal.specs.Uses.{Call};
+ghost use Rattle.tw_device.specs.Deeds.{Called, Said, Sized};
+
+use tw_terminal::{ScreenSize, Terminal, TerminalFault};
+
+/// A terminal at a device, at which a line is read. What is done to it are deeds: the calls of `Terminal`, the sizes
+/// that its owner gives it, and the texts that its owner sends.
+pub trait DeviceTerminal: Terminal {
+    ghost use Rattle.tw_device.specs.Deeds.{Deed};
+
+    // What a deed did: from such a terminal to such a one.
+    ghost does: { Self → Self → Deed → Type 0 };
+
+    /// Sets the size, which nothing else changes.
+    fn set_screen_size(&mut self, size: ScreenSize)
+        ensures state { Self.state self.new ≡ record (Self.state self.old) { size = size } }
+        ensures sized { does self.old self.new (Sized size) };
+
+    /// Sends a text of its owner's as it is, behind a reset of all attributes: a line may have ended in some. The text
+    /// has to leave the cursor in column 0, and no attribute set. A refusal may have sent a beginning.
+    fn send(&mut self, text: &str) -> Result<(), TerminalFault>
+        ensures kept { Self.state self.new ≡ Self.state self.old }
+        ensures said { OnOk result (does self.old self.new (Said text.now)) };
+
+    // It has no event of its own.
+    ghost no_event: { (it : Self) → (Self.state it).events ≡ [] };
+
+    // What a call of `Terminal` did besides is its deed.
+    ghost call_does: { (old new : Self) (call : Call) → Self.follows old new call → does old new (Called call) };
+}
