@@ -2,10 +2,11 @@
 # Starts the prompt at this terminal: in raw mode, with its size, for which the terminal is asked again where it
 # changes. The terminal is as before in the end, whatever ends the prompt.
 #
-#     crates/prompt_demo/prompt.sh [PROGRAM]
+#     crates/prompt_demo/prompt.sh [sparing] [PROGRAM]
 #
-# PROGRAM is out/prompt_demo beside this file where none is given; `rt run` leaves it there. The exit status is that of
-# the prompt, or 128 and the number of the signal that ended this script.
+# With the word `sparing` the terminal is sent what differs, and else all that is painted. PROGRAM is out/prompt_demo
+# beside this file where none is given; `rt run` leaves it there. The exit status is that of the prompt, or 128 and the
+# number of the signal that ended this script.
 set -eu
 
 fail() {
@@ -23,6 +24,11 @@ while [ -L "$file" ]; do
     esac
 done
 folder=$(cd "$(dirname "$file")" && pwd)
+way=''
+if [ "${1:-}" = sparing ]; then
+    way=sparing
+    shift
+fi
 program=${1:-$folder/out/prompt_demo}
 case $program in
     */*) ;;
@@ -70,7 +76,7 @@ ask_size() {
 size=$(stty size <&3)
 trap ask_size WINCH
 stty raw -echo min 0 time 1 <&3
-"$program" "${size#* }" "${size% *}" <&3 3>&- &
+"$program" "${size#* }" "${size% *}" ${way:+"$way"} <&3 3>&- &
 prompt=$!
 
 # From here on no status ends this script by itself: a new size can leave its signal's number at any command.

@@ -1,6 +1,7 @@
 //! A small command prompt at a terminal in raw mode; `prompt.sh` starts it. It keeps the last lines, completes and
 //! shows commands, and has a hint under a line that begins with a question mark. It ends at `quit`, at Ctrl-D on an
-//! empty line, and at the end of what is typed.
+//! empty line, and at the end of what is typed. With the argument `sparing` the terminal is sent what differs, and else
+//! all that is painted.
 //!
 //! `tables` has what the prompt knows, `host` the host over these, `typed` the bytes that are typed, and `events` what
 //! they are to the prompt.
@@ -11,16 +12,18 @@ mod host;
 mod tables;
 mod typed;
 
+use anyhow::anyhow;
 use events::{PromptEvents, usable};
 use host::PromptHost;
 use std::alloc::Global;
 use std::env;
-use std::io::{Read, Write};
+use std::io::Read;
 use std::time::Clock;
 use tables::tables;
-use tw_device::{AnsiTerminal, Answer, read_line_from};
+use tw_device::{AnsiTerminal, Answer, DeviceTerminal, read_line_from};
 use tw_hosts::{PromptScreen, SettledHost};
 use tw_lineedit::{BoundedHistory, Error, LineEditorHost};
+use tw_sparing::SparingTerminal;
 use tw_terminal::ScreenSize;
 
 /// How many lines the history keeps.
@@ -37,14 +40,14 @@ const END: &str = "\x1b[?2004l\x1b[?2048lbye\r\n";
 
 /// What is typed, what shows it, and the host between them.
 #[derive(Drop)]
-struct Prompt<R, C, W> {
+struct Prompt<R, C, T> {
     alloc: Global,
     events: PromptEvents<R, C>,
-    terminal: AnsiTerminal<W>,
+    terminal: T,
     host: SettledHost<PromptHost>,
 }
 
-impl<R: Read, C: Clock, W: Write> Prompt<R, C, W> {
+impl<R: Read, C: Clock, T: DeviceTerminal> Prompt<R, C, T> {
     /// Reads lines up to `quit`, or up to the end of the input.
     fn run(&mut self) -> Result<(), anyhow::Error> {
         self.terminal.send(BEGIN)?;
@@ -97,18 +100,26 @@ fn number_or(argument: Option<String>, other: usize) -> Result<usize, anyhow::Er
     }
 }
 
-/// The columns and the rows of the screen are the arguments, 80 and 24 where there are none or they are 0.
-fn main(rt: HostRuntime) -> Result<(), anyhow::Error> {
+/// Whether a terminal is to be sent what differs: an argument says so.
+fn is_sparing(argument: Option<String>) -> Result<bool, anyhow::Error> {
+    match argument {
+        None => Ok(false),
+        Some(word) if word == "sparing" => Ok(true),
+        Some(word) => Err(anyhow!("no way to send has the name {word}")),
+    }
+}
+
+/// Reads lines at a terminal of this size, up to the end.
+fn prompt_at<T: DeviceTerminal + Drop>(
+    rt: HostRuntime,
+    size: ScreenSize,
+    terminal: T,
+) -> Result<(), anyhow::Error> {
     let alloc = rt.alloc();
-    let mut arguments = env::args(&rt)?;
-    let _name = arguments.next();
-    let cols = number_or(arguments.next(), 0)?;
-    let rows = number_or(arguments.next(), 0)?;
-    let size = usable(ScreenSize { rows, cols });
     let mut prompt = Prompt {
         alloc,
         events: PromptEvents::new(alloc, rt.stdin(), rt),
-        terminal: AnsiTerminal::new(alloc, rt.stdout(), size),
+        terminal,
         host: SettledHost {
             host: PromptHost::new(
                 tables(alloc)?,
@@ -121,4 +132,21 @@ fn main(rt: HostRuntime) -> Result<(), anyhow::Error> {
         },
     };
     prompt.run()
+}
+
+/// The columns and the rows of the screen are the arguments, 80 and 24 where there are none or they are 0. The word
+/// `sparing` behind them is the way to send.
+fn main(rt: HostRuntime) -> Result<(), anyhow::Error> {
+    let alloc = rt.alloc();
+    let mut arguments = env::args(&rt)?;
+    let _name = arguments.next();
+    let cols = number_or(arguments.next(), 0)?;
+    let rows = number_or(arguments.next(), 0)?;
+    let size = usable(ScreenSize { rows, cols });
+    if is_sparing(arguments.next())? {
+        let terminal = SparingTerminal::new(alloc, rt.stdout(), size);
+        return prompt_at(rt, size, terminal);
+    }
+    let terminal = AnsiTerminal::new(alloc, rt.stdout(), size);
+    prompt_at(rt, size, terminal)
 }

@@ -2,4 +2,5 @@ pub mod Shown
 pub mod ShownTerminals
 pub mod KnownRuns
 pub mod Shortness
+pub mod SparingDeeds
 pub mod Terminal

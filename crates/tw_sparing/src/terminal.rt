@@ -1,13 +1,16 @@
 //! A terminal over a writer that is sent what differs.
 
 ghost use Rattle.std.specs.Io.KnownBytes.{Appends, Keeps};
-ghost use Rattle.std.specs.Prelude.{◌≡◌, ◌++◌, [], Ok, None, IfOk, OnOk, OnErr, string_bytes};
+ghost use Rattle.std.specs.Prelude.{◌≡◌, ◌++◌, [], Ok, None, IfOk, OnOk, OnErr, refl, string_bytes};
 ghost use Rattle.tw_surface.specs.ChangeView.{batch_view};
 ghost use Rattle.tw_surface.specs.Defaults.{default_attributes};
 ghost use Rattle.tw_terminal.specs.TerminalState.{fresh_terminal, Fails, Flushes, RenderFails, Renders};
 ghost use Rattle.tw_ansi.specs.Encoding.{first_known, without_attributes, sent_batch};
 ghost use Rattle.tw_ansi.specs.Sequences.{set_attributes};
+ghost use Rattle.tw_terminal.specs.Uses.{Other, Refused, Took};
+ghost use Rattle.tw_device.specs.Deeds.{Called, Said, Sized};
 ghost use Rattle.tw_sparing.specs.Shown.{IsFromStart, IsKnownAfter, sent_for};
+ghost use Rattle.tw_sparing.specs.SparingDeeds.{DoesSparingly};
 ghost use Rattle.tw_sparing.specs.Terminal.{sparing_state};
 
 use crate::shown::{Shown, ends_at_start, send_below, shown_after};
@@ -15,6 +18,7 @@ use std::alloc::{AllocError, Global};
 use std::io::Write;
 use std::snapshot::Snapshot;
 use tw_ansi::Encoder;
+use tw_device::DeviceTerminal;
 use tw_input::InputEvent;
 use tw_surface::Change;
 use tw_terminal::{BatchLog, ScreenSize, Terminal, TerminalFault};
@@ -63,6 +67,7 @@ impl<W: Write> SparingTerminal<W> {
         ensures known { self.new.encoder ≡ record self.old.encoder { cols = size.cols } }
         ensures shown { self.new.shown ≡ None }
         ensures writer { self.new.writer ≡ self.old.writer }
+        ensures sized { DoesSparingly W.contents self.old self.new (Sized size) }
     {
         self.encoder.set_cols(size.cols);
         self.size = size;
@@ -79,6 +84,7 @@ impl<W: Write> SparingTerminal<W> {
         ensures next { OnOk result (self.new.encoder ≡ without_attributes self.old.encoder) }
         ensures known { OnErr result (self.new.encoder ≡ self.old.encoder) }
         ensures shown { self.new.shown ≡ None }
+        ensures said { OnOk result (DoesSparingly W.contents self.old self.new (Said text.now)) }
     {
         self.shown = None;
         self.at_start = false;
@@ -172,10 +178,13 @@ impl<W: Write> SparingTerminal<W> {
 impl<W: Write> Terminal for SparingTerminal<W> {
     ghost state = { sparing_state };
 
+    ghost follows = { λ old new call. DoesSparingly W.contents old new (Called call) };
+
     /// The size that its owner gave it. It is never refused.
     fn get_screen_size(&mut self) -> Result<ScreenSize, TerminalFault>
         ensures size { result ≡ Ok (sparing_state self.old).size }
         ensures kept { self.new ≡ self.old }
+        ensures follows { DoesSparingly W.contents self.old self.new (Called Other) }
     {
         Ok(self.size)
     }
@@ -184,6 +193,7 @@ impl<W: Write> Terminal for SparingTerminal<W> {
     fn poll_input(&mut self) -> Result<Option<InputEvent>, TerminalFault>
         ensures none { result ≡ Ok None }
         ensures kept { self.new ≡ self.old }
+        ensures follows { DoesSparingly W.contents self.old self.new (Called Other) }
     {
         Ok(None)
     }
@@ -200,6 +210,8 @@ impl<W: Write> Terminal for SparingTerminal<W> {
         ensures start { OnOk result (IsFromStart self.old.encoder.x (batch_view changes.now) self.old.shown self.new.shown) }
         ensures known { OnErr result (self.new.encoder ≡ self.old.encoder) }
         ensures lost { OnErr result (self.new.shown ≡ None) }
+        ensures took { OnOk result (DoesSparingly W.contents self.old self.new (Called (Took (batch_view changes.now)))) }
+        ensures refused { OnErr result (DoesSparingly W.contents self.old self.new (Called Refused)) }
     {
         match self.put(changes) {
             Ok(()) => Ok(()),
@@ -217,6 +229,7 @@ impl<W: Write> Terminal for SparingTerminal<W> {
         ensures known { self.new.encoder ≡ self.old.encoder }
         ensures shown { self.new.shown ≡ self.old.shown }
         ensures writer { Keeps (W.contents self.old.writer) (W.contents self.new.writer) }
+        ensures follows { DoesSparingly W.contents self.old self.new (Called Other) }
     {
         if self.writer.flush().is_err() {
             self.failures = self.failures.saturating_add(1);
@@ -224,5 +237,21 @@ impl<W: Write> Terminal for SparingTerminal<W> {
         }
         self.flushed = Snapshot::of(&self.batches);
         Ok(())
+    }
+}
+
+impl<W: Write> DeviceTerminal for SparingTerminal<W> {
+    ghost does = { DoesSparingly W.contents };
+
+    ghost no_event = { λ it. refl };
+
+    ghost call_does = { λ old new call follows. follows };
+
+    fn set_screen_size(&mut self, size: ScreenSize) {
+        SparingTerminal::set_screen_size(self, size);
+    }
+
+    fn send(&mut self, text: &str) -> Result<(), TerminalFault> {
+        SparingTerminal::send(self, text)
     }
 }

@@ -1,0 +1,63 @@
+-- What is done to a terminal that is sent what differs, deed by deed.
+use Rattle.std.specs.Prelude.{◌≡◌, ◌≤◌, ◌++◌, ℕ, List, [], ◌∷◌, Option, None}
+use Rattle.std.specs.Io.KnownBytes.{Appends}
+use Rattle.tw_terminal.specs.TerminalState.{count_up}
+use Rattle.tw_terminal.specs.Uses.{Took, Refused, Other}
+use Rattle.tw_terminal.specs.declared.terminal.ScreenSize.{ScreenSize}
+use Rattle.tw_ansi.specs.declared.encode.Encoder.{Encoder}
+use Rattle.tw_ansi.specs.Encoding.{Sent, sent_batch}
+use Rattle.tw_device.specs.Deeds.{Deed, Called, Sized, Said, batches_by, sent_deed}
+use Rattle.tw_sparing.specs.declared.shown.Shown.{Shown}
+use Rattle.tw_sparing.specs.declared.terminal.SparingTerminal.{SparingTerminal}
+use Rattle.tw_sparing.specs.Shown.{IsFromStart, IsKnownAfter, sent_for}
+use Rattle.tw_sparing.specs.Terminal.{sparing_state}
+
+-- what a deed sends, by what is known of what is shown before it and after it: a batch as what differs, and any other deed as at a terminal that keeps
+-- nothing
+abbrev pub sent_sparingly : Deed → ℕ → Option Shown → Option Shown → Encoder → Sent
+sent_sparingly (Called (Took batch)) rows old new e = sent_batch (sent_for rows batch old new) e
+sent_sparingly (Called Refused) rows old new e = sent_deed (Called Refused) e
+sent_sparingly (Called Other) rows old new e = sent_deed (Called Other) e
+sent_sparingly (Sized size) rows old new e = sent_deed (Sized size) e
+sent_sparingly (Said text) rows old new e = sent_deed (Said text) e
+
+-- What is known after a deed of a terminal of this size, whose cursor stood in column x where that was known: after a batch what follows from it; after a
+-- size, a text or a refused batch nothing; and after another call what was known before.
+abbrev pub IsKnownSince : Deed → ScreenSize → ℕ → Option Shown → Option Shown → Type 0
+IsKnownSince (Called (Took batch)) size x old new = IsKnownAfter size.cols size.rows batch old new × IsFromStart x batch old new
+IsKnownSince (Called Refused) size x old new = new ≡ None
+IsKnownSince (Called Other) size x old new = new ≡ old
+IsKnownSince (Sized to) size x old new = new ≡ None
+IsKnownSince (Said text) size x old new = new ≡ None
+
+-- the size after a deed
+abbrev pub size_since : Deed → ScreenSize → ScreenSize
+size_since (Called call) size = size
+size_since (Sized to) size = to
+size_since (Said text) size = size
+
+module _ {W : Type 0} (contents : W → Option (List ℕ)) where
+  -- The bytes of the deed are appended to what is written, and no other; what is known is what is known after them, and of what is shown what is known
+  -- since; and its batch, if it has one, is the last one taken.
+  pub record SendsSparingly (deed : Deed) (old new : SparingTerminal W) : Type 0 where
+    pub bytes : Appends (contents old.writer) (contents new.writer) (sent_sparingly deed old.size.rows old.shown new.shown old.encoder).bytes
+    pub known : new.encoder ≡ (sent_sparingly deed old.size.rows old.shown new.shown old.encoder).next
+    pub shown : IsKnownSince deed old.size old.encoder.x old.shown new.shown
+    pub size : new.size ≡ size_since deed old.size
+    pub batches : (sparing_state new).batches ≡ (sparing_state old).batches ++ batches_by (deed ∷ [])
+    pub failures : old.failures ≤ new.failures
+
+  -- A batch is refused, which is counted. What is written is not told, and it is not known what is shown.
+  pub record FailsSparingly (old new : SparingTerminal W) : Type 0 where
+    pub known : new.encoder ≡ old.encoder
+    pub shown : new.shown ≡ None
+    pub size : new.size ≡ old.size
+    pub failures : new.failures ≡ count_up old.failures
+
+  -- such a deed leads from the one to the other
+  abbrev pub DoesSparingly : SparingTerminal W → SparingTerminal W → Deed → Type 0
+  DoesSparingly old new (Called Refused) = FailsSparingly old new
+  DoesSparingly old new (Called (Took batch)) = SendsSparingly (Called (Took batch)) old new
+  DoesSparingly old new (Called Other) = SendsSparingly (Called Other) old new
+  DoesSparingly old new (Sized size) = SendsSparingly (Sized size) old new
+  DoesSparingly old new (Said text) = SendsSparingly (Said text) old new
