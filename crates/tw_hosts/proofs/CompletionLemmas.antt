@@ -6,7 +6,7 @@ use Rattle.std.proofs.lemmas.List.{take_more, map-append}
 use Rattle.std.proofs.lemmas.List.Elements.{filter-append}
 use Rattle.tw_host.specs.CandidateView.{CandidateView}
 use Rattle.tw_hosts.specs.Words.{begins_with}
-use Rattle.tw_hosts.specs.WordCompletion.{candidate, word_candidates}
+use Rattle.tw_hosts.specs.WordCompletion.{word_candidate, word_candidates}
 
 -- the candidates among the texts
 abbrev pub offered_of : ℕ → List ℕ → List (String Global) → List CandidateView
@@ -18,9 +18,9 @@ module _ (cursor : ℕ) (word : List ℕ) where
       → offered_of cursor word (take (i + 1) items) ≡ offered_of cursor word (take i items) ++ offered_of cursor word (get_or items i d ∷ [])
   word_candidates-more items i d low =
       ap (offered_of cursor word) (take_more items i d low)
-      ∙ ap (λ texts. map (candidate (cursor - length word) cursor) (filter (begins_with word) texts)) (map-append string_bytes (take i items) _)
-      ∙ ap (map (candidate (cursor - length word) cursor)) (filter-append (begins_with word) (map string_bytes (take i items)) _)
-      ∙ map-append (candidate (cursor - length word) cursor) (filter (begins_with word) (map string_bytes (take i items))) _
+      ∙ ap (λ texts. map (word_candidate (cursor - length word) cursor) (filter (begins_with word) texts)) (map-append string_bytes (take i items) _)
+      ∙ ap (map (word_candidate (cursor - length word) cursor)) (filter-append (begins_with word) (map string_bytes (take i items)) _)
+      ∙ map-append (word_candidate (cursor - length word) cursor) (filter (begins_with word) (map string_bytes (take i items))) _
 
   -- where one more text begins so, or does not
   module _ (items : List (String Global)) (i : ℕ) (item : String Global) (low : i < length items) (there : item ≡ get_or items i item) where
@@ -28,7 +28,7 @@ module _ (cursor : ℕ) (word : List ℕ) where
     step = word_candidates-more items i item low ∙ ap (λ x. offered_of cursor word (take i items) ++ offered_of cursor word (x ∷ [])) (sym there)
 
     pub word_candidates-then : begins_with word (string_bytes item) ≡ true
-        → offered_of cursor word (take (i + 1) items) ≡ offered_of cursor word (take i items) ++ candidate (cursor - length word) cursor (string_bytes item) ∷ []
+        → offered_of cursor word (take (i + 1) items) ≡ offered_of cursor word (take i items) ++ word_candidate (cursor - length word) cursor (string_bytes item) ∷ []
     word_candidates-then begins = step ∙ (rw begins refl)
 
     pub word_candidates-else : begins_with word (string_bytes item) ≡ false

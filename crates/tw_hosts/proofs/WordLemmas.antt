@@ -7,10 +7,10 @@ use Rattle.std.proofs.lemmas.Bool.{eq-eqb, ne_eqb}
 use Rattle.std.proofs.lemmas.List.{get_or-drop, length-drop, length-take-le}
 use Rattle.std.proofs.lemmas.List.Sums.{suffix_len_is, position_or_len_is}
 use Rattle.std.proofs.lemmas.Str.Pattern.{NoCharPasses-char}
-use Rattle.tw_hosts.specs.Words.{first_word, after_word, last_word}
+use Rattle.tw_hosts.specs.Words.{leading_word, after_word, last_word}
 
 -- the first space of a text stands at k, or it has none and k is its length
-pub first-is : (text : List ℕ) (k : ℕ) → k ≤ length text → ((i : ℕ) → i < k → get_or text i 0 ≢ 32) → (k < length text → get_or text k 0 ≡ 32) → first_word text ≡ take k text
+pub first-is : (text : List ℕ) (k : ℕ) → k ≤ length text → ((i : ℕ) → i < k → get_or text i 0 ≢ 32) → (k < length text → get_or text k 0 ≡ 32) → leading_word text ≡ take k text
 first-is text k low before there =
     ap (λ n. take n text) (position_or_len_is (λ byte. byte == 32) text k 0 low (λ i below. ne_eqb _ 32 (before i below)) (λ h. eq-eqb _ _ (there h)))
 

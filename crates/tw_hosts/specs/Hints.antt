@@ -1,7 +1,7 @@
 -- Hints under the line, by its first word.
 use Rattle.std.specs.Prelude.{ℕ, List, [], ◌∷◌, Option, Some, None, if◌then◌else◌, string_bytes}
 use Rattle.tw_host.specs.ElementView.{ElementView, Text}
-use Rattle.tw_hosts.specs.Words.{is_same, first_word}
+use Rattle.tw_hosts.specs.Words.{is_same, leading_word}
 use Rattle.tw_hosts.specs.declared.hints.Hint.{Hint}
 
 -- a first word, and the text that is shown for it
@@ -25,4 +25,4 @@ text_if_some None = []
 
 -- what is shown under a line
 abbrev pub hint_elements : List HintView → List ℕ → List ElementView
-hint_elements hints line = text_if_some (hint_for hints (first_word line))
+hint_elements hints line = text_if_some (hint_for hints (leading_word line))

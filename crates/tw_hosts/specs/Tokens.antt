@@ -29,14 +29,14 @@ abbrev pub token_len : List ℕ → ℕ
 token_len text = if is_quote text then quote_len text else word_len text
 
 -- a text with these attributes, and the default ones behind it
-abbrev pub styled : CellAttributes → List ℕ → List ElementView
-styled attributes text = AllAttributes attributes ∷ Text text ∷ AllAttributes default_attributes ∷ []
+abbrev pub styled_text : CellAttributes → List ℕ → List ElementView
+styled_text attributes text = AllAttributes attributes ∷ Text text ∷ AllAttributes default_attributes ∷ []
 
 -- a quoted text and a keyword in their styles, all else as it is
 abbrev pub styled_token : Styles → List (List ℕ) → List ℕ → List ElementView
 styled_token styles keywords token =
-    if is_quote token then styled styles.quote token
-    else if is_known keywords token then styled styles.keyword token
+    if is_quote token then styled_text styles.quote token
+    else if is_known keywords token then styled_text styles.keyword token
     else Text token ∷ []
 
 -- the first so many tokens of a text

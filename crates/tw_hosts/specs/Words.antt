@@ -21,12 +21,12 @@ abbrev pub begins_with : List ℕ → List ℕ → Bool
 begins_with text word = starts_with eqb word text
 
 -- what stands before the first space of a text, or all of it where it has none
-abbrev pub first_word : List ℕ → List ℕ
-first_word text = before_first (λ byte. byte == 32) text
+abbrev pub leading_word : List ℕ → List ℕ
+leading_word text = before_first (λ byte. byte == 32) text
 
 -- what follows the first word
 abbrev pub after_word : List ℕ → List ℕ
-after_word text = drop (length (first_word text)) text
+after_word text = drop (length (leading_word text)) text
 
 -- what stands behind the last space of a text, or all of it where it has none
 abbrev pub last_word : List ℕ → List ℕ

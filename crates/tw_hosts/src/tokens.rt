@@ -2,7 +2,7 @@
 
 ghost use Rattle.std.specs.Prelude.{◌≡◌, ◌<◌, IfOk, IsCharBoundary, drop, length, map, string_bytes, take};
 ghost use Rattle.tw_host.specs.ElementView.{element_view};
-ghost use Rattle.tw_hosts.specs.Tokens.{is_quote, styled, styled_line, styled_token, token_len, up_to};
+ghost use Rattle.tw_hosts.specs.Tokens.{is_quote, styled_text, styled_line, styled_token, token_len, up_to};
 
 use crate::words::is_known;
 use std::alloc::{AllocError, Global};
@@ -71,7 +71,7 @@ pub fn styled(
     attributes: CellAttributes,
     text: &str,
 ) -> Result<Vec<OutputElement>, AllocError>
-    ensures { IfOk result (λ elements. map element_view elements.items ≡ styled attributes text.now) }
+    ensures { IfOk result (λ elements. map element_view elements.items ≡ styled_text attributes text.now) }
 {
     let elements = vec![in alloc;
         OutputElement::AllAttributes(attributes),

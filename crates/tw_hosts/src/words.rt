@@ -4,7 +4,7 @@ ghost use Rattle.std.specs.Prelude.{◌≡◌, ◌≤◌, IfOk, IsCharBoundary, 
 ghost use Rattle.tw_host.specs.CandidateView.{candidate_view};
 ghost use Rattle.tw_line.specs.Cut.{cut_at};
 ghost use Rattle.tw_hosts.specs.WordCompletion.{completions};
-ghost use Rattle.tw_hosts.specs.Words.{after_word, first_word, is_known, last_word, texts_of};
+ghost use Rattle.tw_hosts.specs.Words.{after_word, leading_word, is_known, last_word, texts_of};
 
 use std::alloc::{AllocError, Global};
 use tw_host::CompletionCandidate;
@@ -18,7 +18,7 @@ pub fn is_known(words: &[String], word: &str) -> bool
 
 /// What stands before the first space of a text, or all of it where it has none, and what follows it.
 pub fn split_first_word(text: &str) -> (&str, &str)
-    ensures word { result.0.now ≡ first_word text.now }
+    ensures word { result.0.now ≡ leading_word text.now }
     ensures rest { result.1.now ≡ after_word text.now }
 {
     match text.find(' ') {
@@ -29,7 +29,7 @@ pub fn split_first_word(text: &str) -> (&str, &str)
 
 /// What stands before the first space of a text, or all of it where it has none.
 pub fn first_word(text: &str) -> &str
-    ensures { result.now ≡ first_word text.now }
+    ensures { result.now ≡ leading_word text.now }
 {
     split_first_word(text).0
 }

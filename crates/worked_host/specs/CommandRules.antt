@@ -12,9 +12,9 @@ use Rattle.tw_lineedit.specs.ElementView.{ElementView}
 use Rattle.tw_lineedit.specs.HostRules.{HostRules, Highlight, plain_text, plain_rules}
 use Rattle.tw_lineedit.specs.KeyTable.{key_press}
 use Rattle.tw_hosts.specs.Bindings.{resolved_event}
-use Rattle.tw_hosts.specs.Tokens.{styled}
+use Rattle.tw_hosts.specs.Tokens.{styled_text}
 use Rattle.tw_hosts.specs.WordCompletion.{completions}
-use Rattle.tw_hosts.specs.Words.{is_known, first_word, after_word}
+use Rattle.tw_hosts.specs.Words.{is_known, leading_word, after_word}
 use Rattle.tw_hosts.specs.declared.bindings.Binding.TheVariants.{Cancel, Kill}
 use Rattle.tw_hosts.specs.declared.bindings.KeyBinding.{KeyBinding}
 use Rattle.worked_host.specs.Commands.{Commands}
@@ -26,7 +26,7 @@ bold = record default_attributes { intensity = Bold }
 -- a line whose first word is bold if it is a command
 abbrev pub shown_line : List (List ℕ) → List ℕ → List ElementView
 shown_line known line =
-    if is_known known (first_word line) then styled bold (first_word line) ++ plain_text (after_word line) else plain_text line
+    if is_known known (leading_word line) then styled_text bold (leading_word line) ++ plain_text (after_word line) else plain_text line
 
 -- the line so, and the columns before the cursor
 abbrev pub highlight_of : Commands → Cut → Highlight
