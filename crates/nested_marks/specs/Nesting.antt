@@ -1,0 +1,62 @@
+-- What a text leaves open, or the first of its marks that is wrong.
+use Rattle.std.specs.Prelude.{ℕ, ◌==◌, ◌+◌, ◌-◌, Bool, true, false, List, [], ◌∷◌, ◌++◌, length, take, Option, Some, None, if◌then◌else◌, slice_get, encode_utf8, chars}
+use Rattle.nested_marks.specs.Marks.{is_closing, opened_pair}
+use Rattle.nested_marks.specs.declared.marks.MarkPair.{MarkPair}
+use Rattle.nested_marks.specs.declared.marks.OpenMark.{OpenMark}
+use Rattle.nested_marks.specs.declared.nesting.Nesting.{Nesting}
+use Rattle.nested_marks.specs.declared.nesting.Nesting.TheVariants as nesting
+
+-- the marks that a text leaves open, in their order, or a mark that closes what is not open, with the bytes before it
+pub data NestingView : Type 0 where
+  Open : List OpenMark → NestingView
+  Wrong : ℕ → ℕ → NestingView
+
+-- the view of an answer
+abbrev pub nesting_view : Nesting → NestingView
+nesting_view (nesting.Open opens) = Open opens.items
+nesting_view (nesting.Wrong c at) = Wrong c at
+
+-- the last of the open marks
+abbrev pub innermost : List OpenMark → Option OpenMark
+innermost opens = slice_get opens (length opens - 1)
+
+-- the open marks but for the last one
+abbrev pub without_innermost : List OpenMark → List OpenMark
+without_innermost opens = take (length opens - 1) opens
+
+-- these open marks, where all was right
+abbrev pub where_right : Bool → List OpenMark → Option (List OpenMark)
+where_right right opens = if right then Some opens else None
+
+-- the open marks behind a character that may open a pair; there are none where it closes a pair that is not open
+abbrev pub behind_opening : List OpenMark → ℕ → Option MarkPair → Bool → Option (List OpenMark)
+behind_opening opens at (Some pair) closing = Some (opens ++ record { pair = pair; at = at } ∷ [])
+behind_opening opens at None true = None
+behind_opening opens at None false = Some opens
+
+module _ (pairs : List MarkPair) where
+  -- outside of a quotation a mark opens, or closes what is not open, or is text
+  abbrev pub opens_behind : List OpenMark → ℕ → ℕ → Option (List OpenMark)
+  opens_behind opens at c = behind_opening opens at (opened_pair pairs c) (is_closing pairs c)
+
+  -- a character closes the last open mark, or is text of its quotation
+  abbrev pub open_behind : Option OpenMark → List OpenMark → ℕ → ℕ → Option (List OpenMark)
+  open_behind None opens at c = opens_behind opens at c
+  open_behind (Some last) opens at c =
+      if last.pair.closing == c then Some (without_innermost opens)
+      else if last.pair.is_quotation then Some opens
+      else opens_behind opens at c
+
+  -- the open marks behind one more character, or none where it is wrong
+  abbrev pub after_character : List OpenMark → ℕ → ℕ → Option (List OpenMark)
+  after_character opens at c = open_behind (innermost opens) opens at c
+
+  -- what characters leave behind open marks, so many bytes into a text
+  abbrev pub nesting_from : List ℕ → List OpenMark → ℕ → NestingView
+  nesting_from [] opens at = Open opens
+  nesting_from (c ∷ rest) opens at =
+      elim (after_character opens at c) [ Some more ↦ nesting_from rest more (at + length (encode_utf8 c)) | None ↦ Wrong c at ]
+
+  -- what a text leaves
+  abbrev pub nesting_of : List ℕ → NestingView
+  nesting_of text = nesting_from (chars text) [] 0
