@@ -1,7 +1,7 @@
 -- What a text leaves, one character after the other.
 use Rattle.std.proofs.Common.{◌≡◌, ◌+◌, ℕ, List, ◌∷◌, length, Some, None, refl}
 use Rattle.std.specs.Prelude.{encode_utf8}
-use Rattle.nested_marks.specs.Nesting.{NestingView, Wrong, after_character, nesting_from}
+use Rattle.nested_marks.specs.Nesting.{Wrong, after_character, nesting_from}
 use Rattle.nested_marks.specs.declared.marks.MarkPair.{MarkPair}
 use Rattle.nested_marks.specs.declared.marks.OpenMark.{OpenMark}
 

@@ -1,5 +1,5 @@
 -- The marks of a language.
-use Rattle.std.specs.Prelude.{ℕ, ◌==◌, ◌||◌, Bool, true, false, List, [], ◌∷◌, Option, Some, None, if◌then◌else◌}
+use Rattle.std.specs.Prelude.{ℕ, ◌==◌, Bool, true, false, List, [], ◌∷◌, Option, Some, None, if◌then◌else◌}
 use Rattle.nested_marks.specs.declared.marks.MarkPair.{MarkPair}
 
 -- the first pair that a character opens
