@@ -1,0 +1,7 @@
+//! Hosts with what a hand expects that comes from readline.
+#![tactic(auto)]
+
+#[cfg(test)]
+mod nesting;
+#[cfg(test)]
+mod validator;

@@ -1,0 +1,2 @@
+pub mod NestedLines
+pub mod Validation

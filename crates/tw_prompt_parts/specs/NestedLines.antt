@@ -1,0 +1,22 @@
+-- What a line with brackets and quotations lacks.
+use Rattle.std.specs.Prelude.{ℕ, List, ◌++◌, Option, Some, option_map, codes, encode_utf8}
+use Rattle.nested_marks.specs.Nesting.{NestingView, Open, Wrong, innermost, nesting_of}
+use Rattle.nested_marks.specs.declared.marks.MarkPair.{MarkPair}
+use Rattle.nested_marks.specs.declared.marks.OpenMark.{OpenMark}
+
+-- a text behind a mark
+abbrev pub marked_text : ℕ → List ℕ → List ℕ
+marked_text mark text = encode_utf8 mark ++ text
+
+-- what is said of the innermost of the open marks
+abbrev pub open_lack : List OpenMark → Option (List ℕ)
+open_lack opens = option_map (λ last. marked_text last.pair.opening (codes " is open")) (innermost opens)
+
+-- what is said of what a line leaves: nothing where no mark is open
+abbrev pub lack_of : NestingView → Option (List ℕ)
+lack_of (Open opens) = open_lack opens
+lack_of (Wrong mark at) = Some (marked_text mark (codes " closes nothing"))
+
+-- what a line lacks by these pairs
+abbrev pub nested_lack : List MarkPair → List ℕ → Option (List ℕ)
+nested_lack pairs line = lack_of (nesting_of pairs line)
