@@ -5,3 +5,5 @@
 mod nesting;
 #[cfg(test)]
 mod validator;
+#[cfg(test)]
+mod word_keys;

@@ -1,2 +1,3 @@
 pub mod NestedLines
 pub mod Validation
+pub mod WordKeys

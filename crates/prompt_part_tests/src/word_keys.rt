@@ -1,0 +1,30 @@
+//! The keys of words and characters, by what readline's manual says of its commands.
+
+use host_testing::script_events;
+use std::test::Fail;
+use tw_lineedit::{LineEditor, LineEditorHost, NopLineEditorHost};
+use tw_prompt_parts::WithWordKeys;
+use tw_terminal::{ScreenSize, ScriptTerminal};
+
+#[test]
+fn words_and_characters_are_edited(rt: HostRuntime) -> Result<(), Fail> {
+    let alloc = rt.alloc();
+    for &(script, answer) in &[
+        ("type ab\nkey C-T\nkey Enter", "ba"),
+        ("type abc\nkey Left\nkey C-T\ntype x\nkey Enter", "acbx"),
+        ("type ab\nkey C-A\nkey C-T\nkey Enter", "ab"),
+        ("type one two\nkey C-A\nkey A-u\nkey Enter", "ONE two"),
+        ("type ONE TWO\nkey C-A\nkey A-l\nkey Enter", "one TWO"),
+        ("type oNE two\nkey C-A\nkey A-c\nkey A-c\nkey Enter", "One Two"),
+        ("type one\nkey A-u\nkey Enter", "one"),
+        ("key C-R\ntype cop\nkey C-T\nkey Enter", "copy"),
+    ] {
+        let mut host = WithWordKeys::new(NopLineEditorHost::new(alloc));
+        host.remember("copy")?;
+        let size = ScreenSize { rows: 24, cols: 80 };
+        let mut terminal = ScriptTerminal::new(alloc, size, script_events(alloc, script)?);
+        let line = LineEditor::new(alloc, &mut terminal)?.read_line(&mut host)?;
+        assert!(rt; line.as_deref() == Some(answer), "{script:?}");
+    }
+    Ok(())
+}
