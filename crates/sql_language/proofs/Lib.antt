@@ -1,0 +1,3 @@
+pub mod LexerLemmas
+pub mod LexemeLemmas
+pub mod StatementLemmas

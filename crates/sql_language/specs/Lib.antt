@@ -1,0 +1,3 @@
+pub mod Lexer
+pub mod Lexemes
+pub mod Statements

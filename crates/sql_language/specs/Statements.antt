@@ -1,0 +1,34 @@
+-- The first statement of an SQL text, and the brackets that are open at its end.
+use Rattle.std.specs.Prelude.{ℕ, suc, ◌+◌, ◌-◌, ◌==◌, Bool, ◌&&◌, List, [], ◌∷◌, Option, Some, None, is_none, option_map, if◌then◌else◌}
+use Rattle.sql_language.specs.declared.lexer.Inside.{Inside}
+use Rattle.sql_language.specs.declared.lexer.Inside.TheVariants.{White}
+use Rattle.sql_language.specs.Lexer.{following, goes_on}
+
+-- whether a byte is this mark, and a token of its own behind one that stands in inside
+abbrev pub begins_mark : ℕ → Inside → ℕ → Bool
+begins_mark mark inside byte = (byte == mark) && is_none (goes_on inside byte)
+
+-- how many bytes lead up to the first semicolon that is a token, and with it
+unfoldable pub end_len : Inside → List ℕ → Option ℕ
+end_len inside [] = None
+end_len inside (byte ∷ bytes) = if begins_mark 59 inside byte then Some 1 else option_map suc (end_len (following inside byte) bytes)
+
+-- the length of the first statement
+abbrev pub statement_len : List ℕ → Option ℕ
+statement_len text = end_len White text
+
+-- how many brackets are open behind a byte
+abbrev pub counted : ℕ → Inside → ℕ → ℕ
+counted count inside byte =
+    if begins_mark 40 inside byte then count + 1
+    else if begins_mark 41 inside byte then count - 1
+    else count
+
+-- how many are open behind more bytes
+unfoldable pub open_behind : ℕ → Inside → List ℕ → ℕ
+open_behind count inside [] = count
+open_behind count inside (byte ∷ bytes) = open_behind (counted count inside byte) (following inside byte) bytes
+
+-- how many are open at the end of a text
+abbrev pub open_brackets : List ℕ → ℕ
+open_brackets text = open_behind 0 White text

@@ -1,0 +1,201 @@
+//! What a byte of a text stands in.
+
+ghost use Rattle.std.specs.Prelude.{◌≡◌};
+ghost use Rattle.sql_language.specs.Lexer.{behind_star, closing, following, fresh, goes_on, if_so, in_block, in_quotes, is_digit, is_letter, is_number_part, is_part, is_white, reopens};
+
+/// What quotes a text or a name.
+#[derive(Clone, Copy, Debug, PartialEq, Eq)]
+pub enum Quote {
+    /// `'`, for texts.
+    Single,
+    /// `"`, for names.
+    Double,
+    /// A grave accent, for names.
+    Grave,
+    /// `[` and `]`, for names.
+    Square,
+}
+
+/// What a byte of a text stands in.
+#[derive(Clone, Copy, Debug, PartialEq, Eq)]
+pub enum Inside {
+    /// White space.
+    White,
+    /// A keyword or a name without quotes.
+    Word,
+    /// A number.
+    Number,
+    /// A mark of one byte.
+    Mark,
+    /// A minus sign, which may begin a comment.
+    Dash,
+    /// A slash, which may begin a comment.
+    Slash,
+    /// A comment that ends with its line.
+    Line,
+    /// A comment that ends at a star and a slash.
+    Block,
+    /// Such a comment, behind a star.
+    Star,
+    /// Such a comment, at its end.
+    BlockEnd,
+    /// A text or a name in quotes.
+    Quoted(Quote),
+    /// The quote that ends it, unless another one follows.
+    Closed(Quote),
+}
+
+impl Quote {
+    /// The byte that ends a text in these quotes.
+    pub fn closing(self) -> u8
+        ensures { result ≡ closing self }
+    {
+        match self {
+            Quote::Single => b'\'',
+            Quote::Double => b'"',
+            Quote::Grave => b'`',
+            Quote::Square => b']',
+        }
+    }
+
+    /// Whether a second such byte goes on with the text.
+    fn reopens(self) -> bool
+        ensures { result ≡ reopens self }
+    {
+        match self {
+            Quote::Square => false,
+            _ => true,
+        }
+    }
+}
+
+/// Whether a byte is white space.
+fn is_white(byte: u8) -> bool
+    ensures { result ≡ is_white byte }
+{
+    byte == b' ' || (9 <= byte && byte <= 13)
+}
+
+/// Whether a byte may begin a word.
+fn is_letter(byte: u8) -> bool
+    ensures { result ≡ is_letter byte }
+{
+    (65 <= byte && byte <= 90) || (97 <= byte && byte <= 122) || byte == b'_' || 128 <= byte
+}
+
+/// Whether a byte is a digit.
+fn is_digit(byte: u8) -> bool
+    ensures { result ≡ is_digit byte }
+{
+    48 <= byte && byte <= 57
+}
+
+/// Whether a word goes on with a byte.
+fn is_part(byte: u8) -> bool
+    ensures { result ≡ is_part byte }
+{
+    is_letter(byte) || is_digit(byte) || byte == b'$'
+}
+
+/// Whether a number goes on with a byte.
+fn is_number_part(byte: u8) -> bool
+    ensures { result ≡ is_number_part byte }
+{
+    is_letter(byte) || is_digit(byte) || byte == b'.'
+}
+
+/// What a byte stands in that begins a token.
+pub fn fresh(byte: u8) -> Inside
+    ensures { result ≡ fresh byte }
+{
+    if is_white(byte) {
+        return Inside::White;
+    }
+    if is_letter(byte) {
+        return Inside::Word;
+    }
+    if is_digit(byte) {
+        return Inside::Number;
+    }
+    match byte {
+        b'\'' => Inside::Quoted(Quote::Single),
+        b'"' => Inside::Quoted(Quote::Double),
+        b'`' => Inside::Quoted(Quote::Grave),
+        b'[' => Inside::Quoted(Quote::Square),
+        b'-' => Inside::Dash,
+        b'/' => Inside::Slash,
+        _ => Inside::Mark,
+    }
+}
+
+/// What a state is where a test passes.
+fn if_so(passes: bool, inside: Inside) -> Option<Inside>
+    ensures { result ≡ if_so passes inside }
+{
+    if passes { Some(inside) } else { None }
+}
+
+/// What a byte stands in behind one that stands in `inside`, where both are of one token; none where a token begins.
+pub fn goes_on(inside: Inside, byte: u8) -> Option<Inside>
+    ensures { result ≡ goes_on inside byte }
+{
+    match inside {
+        Inside::White => if_so(is_white(byte), Inside::White),
+        Inside::Word => if_so(is_part(byte), Inside::Word),
+        Inside::Number => if_so(is_number_part(byte), Inside::Number),
+        Inside::Mark | Inside::BlockEnd => None,
+        Inside::Dash => if_so(byte == b'-', Inside::Line),
+        Inside::Slash => if_so(byte == b'*', Inside::Block),
+        Inside::Line => if_so(byte != b'\n', Inside::Line),
+        Inside::Block => Some(in_block(byte)),
+        Inside::Star => Some(behind_star(byte)),
+        Inside::Quoted(quote) => Some(in_quotes(quote, byte)),
+        Inside::Closed(quote) => if_so(
+            byte == quote.closing() && quote.reopens(),
+            Inside::Quoted(quote),
+        ),
+    }
+}
+
+/// What a byte of a comment stands in.
+fn in_block(byte: u8) -> Inside
+    ensures { result ≡ in_block byte }
+{
+    if byte == b'*' {
+        Inside::Star
+    } else {
+        Inside::Block
+    }
+}
+
+/// What a byte of a comment stands in behind a star.
+fn behind_star(byte: u8) -> Inside
+    ensures { result ≡ behind_star byte }
+{
+    if byte == b'/' {
+        Inside::BlockEnd
+    } else {
+        in_block(byte)
+    }
+}
+
+/// What a byte of a text in quotes stands in.
+fn in_quotes(quote: Quote, byte: u8) -> Inside
+    ensures { result ≡ in_quotes quote byte }
+{
+    if byte == quote.closing() {
+        Inside::Closed(quote)
+    } else {
+        Inside::Quoted(quote)
+    }
+}
+
+/// What a byte stands in behind one that stands in `inside`.
+pub fn following(inside: Inside, byte: u8) -> Inside
+    ensures { result ≡ following inside byte }
+{
+    match goes_on(inside, byte) {
+        Some(next) => next,
+        None => fresh(byte),
+    }
+}

@@ -1,0 +1,16 @@
+//! The language of SQL texts, as far as a prompt reads it: where tokens begin and end, where a statement ends, and
+//! which brackets are open.
+//!
+//! `lexer` has what a byte of a text stands in, and what the next one makes of it; `tokens` the first token of a text;
+//! `statements` the first statement and the open brackets.
+#![tactic(auto)]
+
+mod lexer;
+mod statements;
+#[cfg(test)]
+mod tests;
+mod tokens;
+
+pub use lexer::{Inside, Quote, following, fresh, goes_on};
+pub use statements::{open_brackets, statement_len};
+pub use tokens::{Token, TokenKind, first_token, kind_of};

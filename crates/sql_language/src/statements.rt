@@ -1,0 +1,59 @@
+//! The first statement of a text, and the brackets that it leaves open.
+
+ghost use Rattle.std.specs.Prelude.{◌≡◌, ◌<◌, ◌-◌, ◌^◌, IfSome, IsCharBoundary};
+ghost use Rattle.sql_language.specs.Statements.{begins_mark, counted, open_brackets, statement_len};
+
+use crate::lexer::{Inside, following, goes_on};
+
+/// Whether a byte is a mark of its own behind one that stands in `inside`, and is this one.
+fn begins_mark(mark: u8, inside: Inside, byte: u8) -> bool
+    ensures { result ≡ begins_mark mark inside byte }
+{
+    byte == mark && goes_on(inside, byte).is_none()
+}
+
+/// The length of the first statement in bytes, up to the semicolon that ends it and with it; none where none does. A
+/// semicolon in quotes or in a comment ends nothing.
+pub fn statement_len(text: &str) -> Option<usize>
+    ensures value { result ≡ statement_len text.now }
+    ensures boundary { IfSome result (IsCharBoundary text.now) }
+{
+    let bytes = text.as_bytes();
+    let mut inside = Inside::White;
+    for at in 0..bytes.len() {
+        if begins_mark(b';', inside, bytes[at]) {
+            return Some(at + 1);
+        }
+        inside = following(inside, bytes[at]);
+    }
+    None
+}
+
+/// How many brackets are open behind a byte, where `count` were before it.
+fn counted(count: usize, inside: Inside, byte: u8) -> usize
+    requires { count < 2 ^ 64 - 1 }
+    ensures { result ≡ counted count inside byte }
+{
+    if begins_mark(b'(', inside, byte) {
+        return count + 1;
+    }
+    if begins_mark(b')', inside, byte) {
+        return count.saturating_sub(1);
+    }
+    count
+}
+
+/// How many round brackets of a text are open at its end: those in quotes and in comments are none, and one that
+/// closes nothing is passed over.
+pub fn open_brackets(text: &str) -> usize
+    ensures { result ≡ open_brackets text.now }
+{
+    let bytes = text.as_bytes();
+    let mut inside = Inside::White;
+    let mut count = 0;
+    for at in 0..bytes.len() {
+        count = counted(count, inside, bytes[at]);
+        inside = following(inside, bytes[at]);
+    }
+    count
+}

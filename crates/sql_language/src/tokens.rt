@@ -1,0 +1,95 @@
+//! The first token of a text.
+
+ghost use Rattle.std.specs.Prelude.{◌≡◌, IsCharBoundary, drop, take};
+ghost use Rattle.sql_language.specs.Lexemes.{kind_of, lexeme_inside, lexeme_len, quoted_kind};
+
+use crate::lexer::{Inside, Quote, fresh, goes_on};
+
+/// What a token is.
+#[derive(Clone, Copy, Debug, PartialEq, Eq)]
+pub enum TokenKind {
+    /// White space.
+    White,
+    /// A keyword or a name without quotes: `words` tells them apart.
+    Word,
+    /// A number. The sign of an exponent is a mark of its own.
+    Number,
+    /// A text in quotes.
+    Text,
+    /// A name in quotes.
+    Name,
+    /// A comment.
+    Comment,
+    /// One byte that is nothing else.
+    Mark,
+}
+
+/// A token of a text.
+#[derive(Clone, Copy, Debug, PartialEq, Eq)]
+pub struct Token<'a> {
+    /// What it is.
+    pub kind: TokenKind,
+    /// Its bytes. A comment that ends with its line has no line feed.
+    pub text: &'a str,
+}
+
+/// What a token is whose last byte stands in `inside`.
+pub fn kind_of(inside: Inside) -> TokenKind
+    ensures { result ≡ kind_of inside }
+{
+    match inside {
+        Inside::White => TokenKind::White,
+        Inside::Word => TokenKind::Word,
+        Inside::Number => TokenKind::Number,
+        Inside::Mark | Inside::Dash | Inside::Slash => TokenKind::Mark,
+        Inside::Line | Inside::Block | Inside::Star | Inside::BlockEnd => TokenKind::Comment,
+        Inside::Quoted(quote) | Inside::Closed(quote) => quoted_kind(quote),
+    }
+}
+
+/// What a token in quotes is.
+fn quoted_kind(quote: Quote) -> TokenKind
+    ensures { result ≡ quoted_kind quote }
+{
+    match quote {
+        Quote::Single => TokenKind::Text,
+        _ => TokenKind::Name,
+    }
+}
+
+/// The length of the first token, and what its last byte stands in.
+fn scan(text: &str) -> (usize, Inside)
+    ensures len { result.0 ≡ lexeme_len text.now }
+    ensures inside { result.1 ≡ lexeme_inside text.now }
+    ensures boundary { IsCharBoundary text.now result.0 }
+{
+    let bytes = text.as_bytes();
+    if bytes.is_empty() {
+        return (0, Inside::White);
+    }
+    let mut inside = fresh(bytes[0]);
+    for at in 1..bytes.len() {
+        match goes_on(inside, bytes[at]) {
+            Some(next) => inside = next,
+            None => return (at, inside),
+        }
+    }
+    (bytes.len(), inside)
+}
+
+/// The first token of a text, and what follows it. That of an empty text is white space of no bytes.
+pub fn first_token(text: &str) -> (Token<'_>, &str)
+    ensures kind { result.0.kind ≡ kind_of (lexeme_inside text.now) }
+    ensures token { result.0.text.now ≡ take (lexeme_len text.now) text.now }
+    ensures rest { result.1.now ≡ drop (lexeme_len text.now) text.now }
+{
+    let (len, inside) = scan(text);
+    let (token, rest) = text.split_at(len);
+    (
+        Token {
+            kind: kind_of(inside),
+            text: token,
+        },
+        rest,
+    )
+}
