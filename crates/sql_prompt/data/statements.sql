@@ -1,0 +1,3 @@
+select 1 as one;
+.read other.sql
+select 2 as two;

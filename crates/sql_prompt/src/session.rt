@@ -1,0 +1,228 @@
+//! What a line of input does.
+
+use crate::values::as_results;
+use sql_language::{TokenKind, first_token, statement_len};
+use sql_results::{Results, csv_text, table_text};
+use sqlite::types::ValueRef;
+use sqlite::{Alter, Connection, Error, Row};
+use std::alloc::{AllocError, Global};
+
+/// How many steps a statement may take at first.
+const STEPS: u64 = 100_000_000;
+
+/// How rows are shown.
+#[derive(Clone, Copy, PartialEq, Eq)]
+pub enum Mode {
+    /// As a table.
+    Table,
+    /// As CSV.
+    Csv,
+}
+
+/// What follows a line of input.
+#[derive(Drop)]
+pub enum Next {
+    /// Another line.
+    Line,
+    /// The lines of this file.
+    Read(String),
+    /// The end.
+    Quit,
+}
+
+/// A session with a database: the beginning of a statement that is not whole yet, and what is to be told.
+pub struct Session<S: Alter> {
+    alloc: Global,
+    connection: Connection<S>,
+    begun: String,
+    told: String,
+    mode: Mode,
+    columns: usize,
+    bails: bool,
+    has_failed: bool,
+}
+
+impl<S: Alter + Drop> Drop for Session<S> {
+    fn drop(self) {
+        let Session {
+            alloc: _,
+            connection: _,
+            begun: _,
+            told: _,
+            mode: _,
+            columns: _,
+            bails: _,
+            has_failed: _,
+        } = self;
+    }
+}
+
+/// Whether a text has nothing but white space and comments.
+fn is_blank(text: &str) -> bool {
+    let mut rest = text;
+    for _ in 0..text.len() {
+        let (token, after) = first_token(rest);
+        match token.kind {
+            TokenKind::White | TokenKind::Comment => rest = after,
+            _ => return false,
+        }
+    }
+    true
+}
+
+/// Takes the first statement from a text.
+fn take_statement(alloc: Global, text: &mut String) -> Result<Option<String>, AllocError> {
+    let Some(len) = statement_len(text.as_str()) else {
+        return Ok(None);
+    };
+    let (statement, rest) = text.as_str().split_at(len);
+    let statement = String::from_str(alloc, statement)?;
+    let rest = String::from_str(alloc, rest)?;
+    *text = rest;
+    Ok(Some(statement))
+}
+
+impl<S: Alter> Session<S> {
+    /// A session with a database, which stops at the first error where `bails` says so. It takes no memory.
+    pub fn new(alloc: Global, mut connection: Connection<S>, bails: bool) -> Self {
+        connection.set_step_limit(Some(STEPS));
+        Session {
+            alloc,
+            connection,
+            begun: String::new(alloc),
+            told: String::new(alloc),
+            mode: Mode::Table,
+            columns: usize::MAX,
+            bails,
+            has_failed: false,
+        }
+    }
+
+    /// The allocator.
+    pub fn alloc(&self) -> Global {
+        self.alloc
+    }
+
+    /// Shows rows so from now on.
+    pub fn set_mode(&mut self, mode: Mode) {
+        self.mode = mode;
+    }
+
+    /// Lets a statement take so many steps from now on.
+    pub fn set_limit(&mut self, steps: u64) {
+        self.connection.set_step_limit(Some(steps));
+    }
+
+    /// Whether an error has ended the session.
+    pub fn has_stopped(&self) -> bool {
+        self.bails && self.has_failed
+    }
+
+    /// Adds to what is to be told.
+    pub fn tell(&mut self, text: &str) -> Result<(), anyhow::Error> {
+        self.told.push_str(text)?;
+        Ok(())
+    }
+
+    /// Takes what is to be told.
+    pub fn take_told(&mut self) -> String {
+        let none = String::new(self.alloc);
+        std::mem::replace(&mut self.told, none)
+    }
+
+    /// Tells an error in these words.
+    pub fn refuse(&mut self, words: &str) -> Result<(), anyhow::Error> {
+        self.has_failed = true;
+        let told = format!(in self.alloc; "Error: {words}\n")?;
+        self.tell(told.as_str())
+    }
+
+    /// Tells that a file can't be read.
+    pub fn refuse_file(&mut self, path: &str) -> Result<(), anyhow::Error> {
+        let told = format!(in self.alloc; "{path}: can't be read as a text")?;
+        self.refuse(told.as_str())
+    }
+
+    /// Tells an error of the database.
+    pub fn fail(&mut self, error: Error) -> Result<(), anyhow::Error> {
+        let told = format!(in self.alloc; "{error}")?;
+        self.refuse(told.as_str())
+    }
+
+    /// The rows of an answer.
+    pub fn rows(&mut self, sql: &str, params: &[ValueRef<'_>]) -> Result<Vec<Row>, Error> {
+        self.connection.query_all(sql, params)
+    }
+
+    /// Runs a statement. None is the answer of one that shows no rows.
+    fn answer(&mut self, sql: &str) -> Result<Option<Results>, Error> {
+        let statement = self.connection.prepare(sql)?;
+        if statement.column_count() == 0 {
+            statement.execute(&mut self.connection, &[])?;
+            return Ok(None);
+        }
+        let rows = statement.query_all(&mut self.connection, &[])?;
+        let found = as_results(self.alloc, statement.column_names(), rows.as_slice())?;
+        Ok(Some(found))
+    }
+
+    /// Tells results.
+    fn show(&mut self, found: &Results) -> Result<(), anyhow::Error> {
+        let text = match self.mode {
+            Mode::Table => table_text(self.alloc, found, self.columns)?,
+            Mode::Csv => csv_text(self.alloc, found)?,
+        };
+        self.tell(text.as_str())
+    }
+
+    /// Runs a statement, and tells its results or its error.
+    fn run(&mut self, sql: &str) -> Result<(), anyhow::Error> {
+        match self.answer(sql) {
+            Ok(Some(found)) => self.show(&found),
+            Ok(None) => Ok(()),
+            Err(error) => self.fail(error),
+        }
+    }
+
+    /// Runs the statements that are whole.
+    fn run_whole(&mut self) -> Result<(), anyhow::Error> {
+        for _ in 0..u64::MAX {
+            if self.has_stopped() {
+                break;
+            }
+            let Some(sql) = take_statement(self.alloc, &mut self.begun)? else {
+                break;
+            };
+            self.run(sql.as_str())?;
+        }
+        if is_blank(self.begun.as_str()) {
+            self.begun.clear();
+        }
+        Ok(())
+    }
+
+    /// Whether a statement has begun that is not whole yet.
+    pub fn has_begun(&self) -> bool {
+        !self.begun.is_empty()
+    }
+
+    /// Takes a line of input: a command where none of a statement has begun and a point stands first, and else a part
+    /// of statements, of which those run that are whole.
+    pub fn take_line(&mut self, line: &str) -> Result<Next, anyhow::Error> {
+        if !self.has_begun() && line.starts_with('.') {
+            return self.obey(line);
+        }
+        self.begun.push_str(line)?;
+        self.begun.push('\n')?;
+        self.run_whole()?;
+        Ok(Next::Line)
+    }
+
+    /// Ends the input: a statement that has begun is an error.
+    pub fn finish(&mut self) -> Result<(), anyhow::Error> {
+        if self.has_begun() {
+            return self.refuse("the last statement has no end");
+        }
+        Ok(())
+    }
+}
