@@ -5,7 +5,7 @@ use Rattle.std.specs.Str.{IsUtf8, IsCharBoundary}
 use Rattle.std.proofs.lemmas.Bool.{true≢false, cases_lt}
 use Rattle.std.proofs.lemmas.Str.{IsCharBoundary-after_ascii, IsCharBoundary-before_ascii}
 use Rattle.sql_language.specs.declared.lexer.Inside.{Inside}
-use Rattle.sql_language.specs.Lexer.{fresh, goes_on}
+use Rattle.sql_language.specs.Lexer.{fresh, continued}
 use Rattle.sql_language.specs.Lexemes.{rest_len, last_inside, lexeme_len, lexeme_inside}
 use Rattle.sql_language.proofs.LexerLemmas.{Takes}
 
@@ -14,29 +14,29 @@ pub from-byte : (text : List ℕ) (at : ℕ) → at < length text → drop at te
 from-byte text at low = let next : suc at ≡ at + 1 = omega arith in drop-cons text at 0 low ∙ ap (λ n. get_or text at 0 ∷ drop n text) next
 
 -- the token goes on with a byte, or ends before it
-rest-cases : (inside : Inside) (byte : ℕ) (bytes : List ℕ) (found : Option Inside) → goes_on inside byte ≡ found → rest_len inside (byte ∷ bytes) ≡ elim found [ None ↦ 0 | Some next ↦ suc (rest_len next bytes) ]
+rest-cases : (inside : Inside) (byte : ℕ) (bytes : List ℕ) (found : Option Inside) → continued inside byte ≡ found → rest_len inside (byte ∷ bytes) ≡ elim found [ None ↦ 0 | Some next ↦ suc (rest_len next bytes) ]
 unfolding rest_len
 rest-cases inside byte bytes found e = ap (λ (o : Option Inside). elim o [ None ↦ 0 | Some next ↦ suc (rest_len next bytes) ]) e
 
-last-cases : (inside : Inside) (byte : ℕ) (bytes : List ℕ) (found : Option Inside) → goes_on inside byte ≡ found → last_inside inside (byte ∷ bytes) ≡ elim found [ None ↦ inside | Some next ↦ last_inside next bytes ]
+last-cases : (inside : Inside) (byte : ℕ) (bytes : List ℕ) (found : Option Inside) → continued inside byte ≡ found → last_inside inside (byte ∷ bytes) ≡ elim found [ None ↦ inside | Some next ↦ last_inside next bytes ]
 unfolding last_inside
 last-cases inside byte bytes found e = ap (λ (o : Option Inside). elim o [ None ↦ inside | Some next ↦ last_inside next bytes ]) e
 
 module _ (inside : Inside) (text : List ℕ) (at : ℕ) (low : at < length text) where
-  pub rest-on : (next : Inside) → goes_on inside (get_or text at 0) ≡ Some next → at + rest_len inside (drop at text) ≡ (at + 1) + rest_len next (drop (at + 1) text)
+  pub rest-on : (next : Inside) → continued inside (get_or text at 0) ≡ Some next → at + rest_len inside (drop at text) ≡ (at + 1) + rest_len next (drop (at + 1) text)
   rest-on next e =
       ap (λ bytes. at + rest_len inside bytes) (from-byte text at low) ∙ ap (λ n. at + n) (rest-cases inside _ _ (Some next) e)
       ∙ omega arith
 
-  pub rest-off : goes_on inside (get_or text at 0) ≡ None → at + rest_len inside (drop at text) ≡ at
+  pub rest-off : continued inside (get_or text at 0) ≡ None → at + rest_len inside (drop at text) ≡ at
   rest-off e =
       ap (λ bytes. at + rest_len inside bytes) (from-byte text at low) ∙ ap (λ n. at + n) (rest-cases inside _ _ None e)
       ∙ omega arith
 
-  pub last-on : (next : Inside) → goes_on inside (get_or text at 0) ≡ Some next → last_inside inside (drop at text) ≡ last_inside next (drop (at + 1) text)
+  pub last-on : (next : Inside) → continued inside (get_or text at 0) ≡ Some next → last_inside inside (drop at text) ≡ last_inside next (drop (at + 1) text)
   last-on next e = ap (last_inside inside) (from-byte text at low) ∙ last-cases inside _ _ (Some next) e
 
-  pub last-off : goes_on inside (get_or text at 0) ≡ None → last_inside inside (drop at text) ≡ inside
+  pub last-off : continued inside (get_or text at 0) ≡ None → last_inside inside (drop at text) ≡ inside
   last-off e = ap (last_inside inside) (from-byte text at low) ∙ last-cases inside _ _ None e
 
 -- at the end nothing goes on
@@ -65,7 +65,7 @@ first-inside (byte ∷ bytes) some = refl
 
 -- a token ends at a boundary
 pub token-boundary : (text : List ℕ) (at : ℕ) (inside : Inside) → IsUtf8 text → 1 ≤ at → at < length text
-    → (128 ≤ get_or text (at - 1) 0 → Takes inside) → goes_on inside (get_or text at 0) ≡ None → IsCharBoundary text at
+    → (128 ≤ get_or text (at - 1) 0 → Takes inside) → continued inside (get_or text at 0) ≡ None → IsCharBoundary text at
 token-boundary text at inside utf8 some low takes e = cases (cases_lt (get_or text at 0) 128) where
   before : get_or text (at - 1) 0 < 128 → IsCharBoundary text at
   before h = let same : (at - 1) + 1 ≡ at = omega (arith, some) in subst (IsCharBoundary text) same (IsCharBoundary-after_ascii text (at - 1) utf8 (omega (arith, low, some)) h)

@@ -7,16 +7,16 @@ use Rattle.sql_language.specs.declared.lexer.Quote.{Quote}
 use Rattle.sql_language.specs.declared.lexer.Quote.TheVariants.{Single, Double, Grave, Square}
 use Rattle.sql_language.specs.declared.lexer.Inside.{Inside}
 use Rattle.sql_language.specs.declared.lexer.Inside.TheVariants.{White, Word, Number, Mark, Dash, Slash, Line, Block, Star, BlockEnd, Quoted, Closed}
-use Rattle.sql_language.specs.Lexer.{is_white, is_letter, is_part, is_number_part, closing, reopens, fresh, if_so, in_block, behind_star, in_quotes, goes_on}
+use Rattle.sql_language.specs.Lexer.{is_white, is_word_start, is_part, is_number_part, closing_byte, reopens, fresh, if_so, in_block, behind_star, in_quotes, continued}
 
 -- such a byte goes on with what stands before it
 abbrev pub Takes : Inside → Type 0
-Takes inside = (c : ℕ) → 128 ≤ c → is_none (goes_on inside c) ≡ false
+Takes inside = (c : ℕ) → 128 ≤ c → is_none (continued inside c) ≡ false
 
 high-white : (b : ℕ) → 128 ≤ b → is_white b ≡ false
 high-white b h = grind (arith, nat_tests)
 
-high-letter : (b : ℕ) → 128 ≤ b → is_letter b ≡ true
+high-letter : (b : ℕ) → 128 ≤ b → is_word_start b ≡ true
 high-letter b h = grind (arith, nat_tests)
 
 high-part : (b : ℕ) → 128 ≤ b → is_part b ≡ true
@@ -28,11 +28,11 @@ high-number_part b h = grind (arith, nat_tests)
 high-other : (b k : ℕ) → k < 128 → 128 ≤ b → (b == k) ≡ false
 high-other b k low h = ne_eqb b k (λ e. omega (arith, e))
 
-closing-low : (quote : Quote) → closing quote < 128
-closing-low Single = omega arith
-closing-low Double = omega arith
-closing-low Grave = omega arith
-closing-low Square = omega arith
+closing_byte-low : (quote : Quote) → closing_byte quote < 128
+closing_byte-low Single = omega arith
+closing_byte-low Double = omega arith
+closing_byte-low Grave = omega arith
+closing_byte-low Square = omega arith
 
 takes-word : Takes Word
 takes-word c h = ap (λ passes. is_none (if_so passes Word)) (high-part c h)
@@ -56,7 +56,7 @@ pub fresh-takes : (b : ℕ) → 128 ≤ b → Takes (fresh b)
 fresh-takes b h = let same : fresh b ≡ Word = rw (high-white b h, high-letter b h) in subst Takes (sym same) takes-word
 
 -- and behind one that goes on with it
-pub on-takes : (inside next : Inside) (b : ℕ) → goes_on inside b ≡ Some next → 128 ≤ b → Takes next
+pub on-takes : (inside next : Inside) (b : ℕ) → continued inside b ≡ Some next → 128 ≤ b → Takes next
 on-takes White next b e h = fails _ _ _ (high-white b h) e
 on-takes Word next b e h = subst Takes (passed _ _ _ e).1 takes-word
 on-takes Number next b e h = subst Takes (passed _ _ _ e).1 takes-number
@@ -74,7 +74,7 @@ on-takes Star next b e h =
     let is : behind_star b ≡ next = cc in
     subst Takes (sym same ∙ is) (λ c _. refl)
 on-takes (Quoted quote) next b e h =
-    let same : in_quotes quote b ≡ Quoted quote = rw (high-other b (closing quote) (closing-low quote) h) in
+    let same : in_quotes quote b ≡ Quoted quote = rw (high-other b (closing_byte quote) (closing_byte-low quote) h) in
     let is : in_quotes quote b ≡ next = cc in
     subst Takes (sym same ∙ is) (λ c _. refl)
-on-takes (Closed quote) next b e h = fails _ _ _ (ap (λ same. same && reopens quote) (high-other b (closing quote) (closing-low quote) h)) e
+on-takes (Closed quote) next b e h = fails _ _ _ (ap (λ same. same && reopens quote) (high-other b (closing_byte quote) (closing_byte-low quote) h)) e

@@ -2,8 +2,8 @@
 use Rattle.std.proofs.Common.{◌≡◌, ◌∙◌, ◌+◌, ◌-◌, ◌<◌, ◌≤◌, ℕ, suc, List, ◌∷◌, Option, Some, None, Bool, true, false, cond, ◌&&◌, ◌==◌, length, drop, get_or, refl, ap, arith, eqb-true}
 use Rattle.std.specs.Option.{option_map, is_none}
 use Rattle.sql_language.specs.declared.lexer.Inside.{Inside}
-use Rattle.sql_language.specs.Lexer.{following, goes_on}
-use Rattle.sql_language.specs.Statements.{begins_mark, end_len, counted, open_behind}
+use Rattle.sql_language.specs.Lexer.{following, continued}
+use Rattle.sql_language.specs.Statements.{begins_mark, end_len, counted, open_after}
 use Rattle.sql_language.proofs.LexemeLemmas.{from-byte, nothing}
 
 -- behind so many bytes
@@ -26,18 +26,18 @@ module _ (inside : Inside) (text : List ℕ) (at : ℕ) (low : at < length text)
   pub end-here : begins_mark 59 inside (get_or text at 0) ≡ true → behind at (end_len inside (drop at text)) ≡ Some (at + 1)
   end-here e = ap (λ bytes. behind at (end_len inside bytes)) (from-byte text at low) ∙ ap (behind at) (end-cases inside _ _ true e)
 
-  pub open-on : (count : ℕ) → open_behind count inside (drop at text) ≡ open_behind (counted count inside (get_or text at 0)) (following inside (get_or text at 0)) (drop (at + 1) text)
-  unfolding open_behind
-  open-on count = ap (open_behind count inside) (from-byte text at low)
+  pub open-on : (count : ℕ) → open_after count inside (drop at text) ≡ open_after (counted count inside (get_or text at 0)) (following inside (get_or text at 0)) (drop (at + 1) text)
+  unfolding open_after
+  open-on count = ap (open_after count inside) (from-byte text at low)
 
 -- at the end of the text
 pub end-none : (inside : Inside) (text : List ℕ) (at : ℕ) → at ≡ length text → behind at (end_len inside (drop at text)) ≡ None
 unfolding end_len
 end-none inside text at e = ap (λ bytes. behind at (end_len inside bytes)) (nothing text at e)
 
-pub open-end : (inside : Inside) (text : List ℕ) (at count : ℕ) → at ≡ length text → open_behind count inside (drop at text) ≡ count
-unfolding open_behind
-open-end inside text at count e = ap (open_behind count inside) (nothing text at e)
+pub open-end : (inside : Inside) (text : List ℕ) (at count : ℕ) → at ≡ length text → open_after count inside (drop at text) ≡ count
+unfolding open_after
+open-end inside text at count e = ap (open_after count inside) (nothing text at e)
 
 -- nothing is before the first byte
 pub behind-none : (found : Option ℕ) → behind 0 found ≡ found
@@ -59,4 +59,4 @@ both true b e = refl
 both false b e = e
 
 pub marked : (mark : ℕ) (inside : Inside) (byte : ℕ) → begins_mark mark inside byte ≡ true → byte ≡ mark
-marked mark inside byte e = eqb-true byte mark (both (byte == mark) (is_none (goes_on inside byte)) e)
+marked mark inside byte e = eqb-true byte mark (both (byte == mark) (is_none (continued inside byte)) e)

@@ -6,17 +6,17 @@ use Rattle.sql_language.specs.declared.lexer.Inside.{Inside}
 use Rattle.sql_language.specs.declared.lexer.Inside.TheVariants.{White, Word, Number, Mark, Dash, Slash, Line, Block, Star, BlockEnd, Quoted, Closed}
 use Rattle.sql_language.specs.declared.tokens.TokenKind.{TokenKind}
 use Rattle.sql_language.specs.declared.tokens.TokenKind.TheVariants as kind
-use Rattle.sql_language.specs.Lexer.{fresh, goes_on}
+use Rattle.sql_language.specs.Lexer.{fresh, continued}
 
 -- how many bytes go on with a token whose last byte stands in inside
 unfoldable pub rest_len : Inside → List ℕ → ℕ
 rest_len inside [] = 0
-rest_len inside (byte ∷ bytes) = elim (goes_on inside byte) [ None ↦ 0 | Some next ↦ suc (rest_len next bytes) ]
+rest_len inside (byte ∷ bytes) = elim (continued inside byte) [ None ↦ 0 | Some next ↦ suc (rest_len next bytes) ]
 
 -- what the last one of them stands in
 unfoldable pub last_inside : Inside → List ℕ → Inside
 last_inside inside [] = inside
-last_inside inside (byte ∷ bytes) = elim (goes_on inside byte) [ None ↦ inside | Some next ↦ last_inside next bytes ]
+last_inside inside (byte ∷ bytes) = elim (continued inside byte) [ None ↦ inside | Some next ↦ last_inside next bytes ]
 
 -- the length of the first token
 abbrev pub lexeme_len : List ℕ → ℕ
@@ -36,16 +36,16 @@ quoted_kind Grave = kind.Name
 quoted_kind Square = kind.Name
 
 -- what a token is, by what its last byte stands in
-abbrev pub kind_of : Inside → TokenKind
-kind_of White = kind.White
-kind_of Word = kind.Word
-kind_of Number = kind.Number
-kind_of Mark = kind.Mark
-kind_of Dash = kind.Mark
-kind_of Slash = kind.Mark
-kind_of Line = kind.Comment
-kind_of Block = kind.Comment
-kind_of Star = kind.Comment
-kind_of BlockEnd = kind.Comment
-kind_of (Quoted quote) = quoted_kind quote
-kind_of (Closed quote) = quoted_kind quote
+abbrev pub token_kind : Inside → TokenKind
+token_kind White = kind.White
+token_kind Word = kind.Word
+token_kind Number = kind.Number
+token_kind Mark = kind.Mark
+token_kind Dash = kind.Mark
+token_kind Slash = kind.Mark
+token_kind Line = kind.Comment
+token_kind Block = kind.Comment
+token_kind Star = kind.Comment
+token_kind BlockEnd = kind.Comment
+token_kind (Quoted quote) = quoted_kind quote
+token_kind (Closed quote) = quoted_kind quote

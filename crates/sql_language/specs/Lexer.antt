@@ -11,27 +11,27 @@ abbrev pub is_white : ℕ → Bool
 is_white byte = (byte == 32) || (nat_le 9 byte && nat_le byte 13)
 
 -- whether it may begin a word: a letter, a low line, or a byte of another script
-abbrev pub is_letter : ℕ → Bool
-is_letter byte = (nat_le 65 byte && nat_le byte 90) || ((nat_le 97 byte && nat_le byte 122) || ((byte == 95) || nat_le 128 byte))
+abbrev pub is_word_start : ℕ → Bool
+is_word_start byte = (nat_le 65 byte && nat_le byte 90) || ((nat_le 97 byte && nat_le byte 122) || ((byte == 95) || nat_le 128 byte))
 
 -- whether it is a digit
-abbrev pub is_digit : ℕ → Bool
-is_digit byte = nat_le 48 byte && nat_le byte 57
+abbrev pub is_decimal : ℕ → Bool
+is_decimal byte = nat_le 48 byte && nat_le byte 57
 
 -- whether a word goes on with it: a letter, a digit, a dollar sign
 abbrev pub is_part : ℕ → Bool
-is_part byte = is_letter byte || (is_digit byte || (byte == 36))
+is_part byte = is_word_start byte || (is_decimal byte || (byte == 36))
 
 -- whether a number goes on with it: a letter, as in 0x1f, a digit, a point
 abbrev pub is_number_part : ℕ → Bool
-is_number_part byte = is_letter byte || (is_digit byte || (byte == 46))
+is_number_part byte = is_word_start byte || (is_decimal byte || (byte == 46))
 
 -- the byte that ends a text in quotes
-abbrev pub closing : Quote → ℕ
-closing Single = 39
-closing Double = 34
-closing Grave = 96
-closing Square = 93
+abbrev pub closing_byte : Quote → ℕ
+closing_byte Single = 39
+closing_byte Double = 34
+closing_byte Grave = 96
+closing_byte Square = 93
 
 -- whether two such bytes stand for one in the text
 abbrev pub reopens : Quote → Bool
@@ -44,8 +44,8 @@ reopens Square = false
 abbrev pub fresh : ℕ → Inside
 fresh byte =
     if is_white byte then White
-    else if is_letter byte then Word
-    else if is_digit byte then Number
+    else if is_word_start byte then Word
+    else if is_decimal byte then Number
     else if byte == 39 then Quoted Single
     else if byte == 34 then Quoted Double
     else if byte == 96 then Quoted Grave
@@ -67,23 +67,23 @@ behind_star byte = if byte == 47 then BlockEnd else in_block byte
 
 -- what a byte of a text in quotes stands in
 abbrev pub in_quotes : Quote → ℕ → Inside
-in_quotes quote byte = if byte == closing quote then Closed quote else Quoted quote
+in_quotes quote byte = if byte == closing_byte quote then Closed quote else Quoted quote
 
 -- what a byte stands in behind another one of its token; none where it begins a token
-abbrev pub goes_on : Inside → ℕ → Option Inside
-goes_on White byte = if_so (is_white byte) White
-goes_on Word byte = if_so (is_part byte) Word
-goes_on Number byte = if_so (is_number_part byte) Number
-goes_on Mark byte = None
-goes_on BlockEnd byte = None
-goes_on Dash byte = if_so (byte == 45) Line
-goes_on Slash byte = if_so (byte == 42) Block
-goes_on Line byte = if_so (not (byte == 10)) Line
-goes_on Block byte = Some (in_block byte)
-goes_on Star byte = Some (behind_star byte)
-goes_on (Quoted quote) byte = Some (in_quotes quote byte)
-goes_on (Closed quote) byte = if_so ((byte == closing quote) && reopens quote) (Quoted quote)
+abbrev pub continued : Inside → ℕ → Option Inside
+continued White byte = if_so (is_white byte) White
+continued Word byte = if_so (is_part byte) Word
+continued Number byte = if_so (is_number_part byte) Number
+continued Mark byte = None
+continued BlockEnd byte = None
+continued Dash byte = if_so (byte == 45) Line
+continued Slash byte = if_so (byte == 42) Block
+continued Line byte = if_so (not (byte == 10)) Line
+continued Block byte = Some (in_block byte)
+continued Star byte = Some (behind_star byte)
+continued (Quoted quote) byte = Some (in_quotes quote byte)
+continued (Closed quote) byte = if_so ((byte == closing_byte quote) && reopens quote) (Quoted quote)
 
 -- what a byte stands in behind another one
 abbrev pub following : Inside → ℕ → Inside
-following inside byte = unwrap_or (goes_on inside byte) (fresh byte)
+following inside byte = unwrap_or (continued inside byte) (fresh byte)

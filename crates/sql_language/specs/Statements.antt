@@ -2,11 +2,11 @@
 use Rattle.std.specs.Prelude.{ℕ, suc, ◌+◌, ◌-◌, ◌==◌, Bool, ◌&&◌, List, [], ◌∷◌, Option, Some, None, is_none, option_map, if◌then◌else◌}
 use Rattle.sql_language.specs.declared.lexer.Inside.{Inside}
 use Rattle.sql_language.specs.declared.lexer.Inside.TheVariants.{White}
-use Rattle.sql_language.specs.Lexer.{following, goes_on}
+use Rattle.sql_language.specs.Lexer.{following, continued}
 
 -- whether a byte is this mark, and a token of its own behind one that stands in inside
 abbrev pub begins_mark : ℕ → Inside → ℕ → Bool
-begins_mark mark inside byte = (byte == mark) && is_none (goes_on inside byte)
+begins_mark mark inside byte = (byte == mark) && is_none (continued inside byte)
 
 -- how many bytes lead up to the first semicolon that is a token, and with it
 unfoldable pub end_len : Inside → List ℕ → Option ℕ
@@ -25,10 +25,10 @@ counted count inside byte =
     else count
 
 -- how many are open behind more bytes
-unfoldable pub open_behind : ℕ → Inside → List ℕ → ℕ
-open_behind count inside [] = count
-open_behind count inside (byte ∷ bytes) = open_behind (counted count inside byte) (following inside byte) bytes
+unfoldable pub open_after : ℕ → Inside → List ℕ → ℕ
+open_after count inside [] = count
+open_after count inside (byte ∷ bytes) = open_after (counted count inside byte) (following inside byte) bytes
 
 -- how many are open at the end of a text
 abbrev pub open_brackets : List ℕ → ℕ
-open_brackets text = open_behind 0 White text
+open_brackets text = open_after 0 White text

@@ -1,7 +1,7 @@
 //! What a byte of a text stands in.
 
 ghost use Rattle.std.specs.Prelude.{◌≡◌};
-ghost use Rattle.sql_language.specs.Lexer.{behind_star, closing, following, fresh, goes_on, if_so, in_block, in_quotes, is_digit, is_letter, is_number_part, is_part, is_white, reopens};
+ghost use Rattle.sql_language.specs.Lexer.{behind_star, closing_byte, following, fresh, continued, if_so, in_block, in_quotes, is_decimal, is_word_start, is_number_part, is_part, is_white, reopens};
 
 /// What quotes a text or a name.
 #[derive(Clone, Copy, Debug, PartialEq, Eq)]
@@ -47,8 +47,8 @@ pub enum Inside {
 
 impl Quote {
     /// The byte that ends a text in these quotes.
-    pub fn closing(self) -> u8
-        ensures { result ≡ closing self }
+    pub fn closing_byte(self) -> u8
+        ensures { result ≡ closing_byte self }
     {
         match self {
             Quote::Single => b'\'',
@@ -77,15 +77,15 @@ fn is_white(byte: u8) -> bool
 }
 
 /// Whether a byte may begin a word.
-fn is_letter(byte: u8) -> bool
-    ensures { result ≡ is_letter byte }
+fn is_word_start(byte: u8) -> bool
+    ensures { result ≡ is_word_start byte }
 {
     (65 <= byte && byte <= 90) || (97 <= byte && byte <= 122) || byte == b'_' || 128 <= byte
 }
 
 /// Whether a byte is a digit.
-fn is_digit(byte: u8) -> bool
-    ensures { result ≡ is_digit byte }
+fn is_decimal(byte: u8) -> bool
+    ensures { result ≡ is_decimal byte }
 {
     48 <= byte && byte <= 57
 }
@@ -94,14 +94,14 @@ fn is_digit(byte: u8) -> bool
 fn is_part(byte: u8) -> bool
     ensures { result ≡ is_part byte }
 {
-    is_letter(byte) || is_digit(byte) || byte == b'$'
+    is_word_start(byte) || is_decimal(byte) || byte == b'$'
 }
 
 /// Whether a number goes on with a byte.
 fn is_number_part(byte: u8) -> bool
     ensures { result ≡ is_number_part byte }
 {
-    is_letter(byte) || is_digit(byte) || byte == b'.'
+    is_word_start(byte) || is_decimal(byte) || byte == b'.'
 }
 
 /// What a byte stands in that begins a token.
@@ -111,10 +111,10 @@ pub fn fresh(byte: u8) -> Inside
     if is_white(byte) {
         return Inside::White;
     }
-    if is_letter(byte) {
+    if is_word_start(byte) {
         return Inside::Word;
     }
-    if is_digit(byte) {
+    if is_decimal(byte) {
         return Inside::Number;
     }
     match byte {
@@ -136,8 +136,8 @@ fn if_so(passes: bool, inside: Inside) -> Option<Inside>
 }
 
 /// What a byte stands in behind one that stands in `inside`, where both are of one token; none where a token begins.
-pub fn goes_on(inside: Inside, byte: u8) -> Option<Inside>
-    ensures { result ≡ goes_on inside byte }
+pub fn continued(inside: Inside, byte: u8) -> Option<Inside>
+    ensures { result ≡ continued inside byte }
 {
     match inside {
         Inside::White => if_so(is_white(byte), Inside::White),
@@ -151,7 +151,7 @@ pub fn goes_on(inside: Inside, byte: u8) -> Option<Inside>
         Inside::Star => Some(behind_star(byte)),
         Inside::Quoted(quote) => Some(in_quotes(quote, byte)),
         Inside::Closed(quote) => if_so(
-            byte == quote.closing() && quote.reopens(),
+            byte == quote.closing_byte() && quote.reopens(),
             Inside::Quoted(quote),
         ),
     }
@@ -183,7 +183,7 @@ fn behind_star(byte: u8) -> Inside
 fn in_quotes(quote: Quote, byte: u8) -> Inside
     ensures { result ≡ in_quotes quote byte }
 {
-    if byte == quote.closing() {
+    if byte == quote.closing_byte() {
         Inside::Closed(quote)
     } else {
         Inside::Quoted(quote)
@@ -194,7 +194,7 @@ fn in_quotes(quote: Quote, byte: u8) -> Inside
 pub fn following(inside: Inside, byte: u8) -> Inside
     ensures { result ≡ following inside byte }
 {
-    match goes_on(inside, byte) {
+    match continued(inside, byte) {
         Some(next) => next,
         None => fresh(byte),
     }

@@ -11,6 +11,6 @@ mod statements;
 mod tests;
 mod tokens;
 
-pub use lexer::{Inside, Quote, following, fresh, goes_on};
+pub use lexer::{Inside, Quote, continued, following, fresh};
 pub use statements::{open_brackets, statement_len};
-pub use tokens::{Token, TokenKind, first_token, kind_of};
+pub use tokens::{Token, TokenKind, first_token, token_kind};

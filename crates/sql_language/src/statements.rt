@@ -3,13 +3,13 @@
 ghost use Rattle.std.specs.Prelude.{◌≡◌, ◌<◌, ◌-◌, ◌^◌, IfSome, IsCharBoundary};
 ghost use Rattle.sql_language.specs.Statements.{begins_mark, counted, open_brackets, statement_len};
 
-use crate::lexer::{Inside, following, goes_on};
+use crate::lexer::{Inside, continued, following};
 
 /// Whether a byte is a mark of its own behind one that stands in `inside`, and is this one.
 fn begins_mark(mark: u8, inside: Inside, byte: u8) -> bool
     ensures { result ≡ begins_mark mark inside byte }
 {
-    byte == mark && goes_on(inside, byte).is_none()
+    byte == mark && continued(inside, byte).is_none()
 }
 
 /// The length of the first statement in bytes, up to the semicolon that ends it and with it; none where none does. A

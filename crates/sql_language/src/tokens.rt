@@ -1,9 +1,9 @@
 //! The first token of a text.
 
 ghost use Rattle.std.specs.Prelude.{◌≡◌, IsCharBoundary, drop, take};
-ghost use Rattle.sql_language.specs.Lexemes.{kind_of, lexeme_inside, lexeme_len, quoted_kind};
+ghost use Rattle.sql_language.specs.Lexemes.{token_kind, lexeme_inside, lexeme_len, quoted_kind};
 
-use crate::lexer::{Inside, Quote, fresh, goes_on};
+use crate::lexer::{Inside, Quote, continued, fresh};
 
 /// What a token is.
 #[derive(Clone, Copy, Debug, PartialEq, Eq)]
@@ -34,8 +34,8 @@ pub struct Token<'a> {
 }
 
 /// What a token is whose last byte stands in `inside`.
-pub fn kind_of(inside: Inside) -> TokenKind
-    ensures { result ≡ kind_of inside }
+pub fn token_kind(inside: Inside) -> TokenKind
+    ensures { result ≡ token_kind inside }
 {
     match inside {
         Inside::White => TokenKind::White,
@@ -69,7 +69,7 @@ fn scan(text: &str) -> (usize, Inside)
     }
     let mut inside = fresh(bytes[0]);
     for at in 1..bytes.len() {
-        match goes_on(inside, bytes[at]) {
+        match continued(inside, bytes[at]) {
             Some(next) => inside = next,
             None => return (at, inside),
         }
@@ -79,7 +79,7 @@ fn scan(text: &str) -> (usize, Inside)
 
 /// The first token of a text, and what follows it. That of an empty text is white space of no bytes.
 pub fn first_token(text: &str) -> (Token<'_>, &str)
-    ensures kind { result.0.kind ≡ kind_of (lexeme_inside text.now) }
+    ensures kind { result.0.kind ≡ token_kind (lexeme_inside text.now) }
     ensures token { result.0.text.now ≡ take (lexeme_len text.now) text.now }
     ensures rest { result.1.now ≡ drop (lexeme_len text.now) text.now }
 {
@@ -87,7 +87,7 @@ pub fn first_token(text: &str) -> (Token<'_>, &str)
     let (token, rest) = text.split_at(len);
     (
         Token {
-            kind: kind_of(inside),
+            kind: token_kind(inside),
             text: token,
         },
         rest,

@@ -1,5 +1,5 @@
 use Rattle.std.proofs.Common.{◌≡◌, ◌∙◌, ◌+◌, ◌<◌, ◌≤◌, length, drop, get_or, ap, sym, subst, arith}
-use Rattle.sql_language.specs.Statements.{counted, open_behind, open_brackets}
+use Rattle.sql_language.specs.Statements.{counted, open_after, open_brackets}
 use Rattle.sql_language.proofs.StatementLemmas.{open-on, open-end, counted-few}
 use Rattle.sql_language.proofs.statements.open_brackets.Goals as goal
 
@@ -12,8 +12,8 @@ loop-at-preserved c =
     let rest = drop (at + 1) text in
     record {
       opened =
-          ap (λ n. open_behind n c.following-inside.result rest) c.counted-count.ensures
-          ∙ ap (λ s. open_behind (counted c.loop-at.count inside (get_or text at 0)) s rest) c.following-inside.ensures
+          ap (λ n. open_after n c.following-inside.result rest) c.counted-count.ensures
+          ∙ ap (λ s. open_after (counted c.loop-at.count inside (get_or text at 0)) s rest) c.following-inside.ensures
           ∙ sym (open-on inside text at low c.loop-at.count) ∙ c.loop-at.invariant.opened;
       few = subst (λ n. n ≤ at + 1) (sym c.counted-count.ensures) (counted-few c.loop-at.count at inside (get_or text at 0) c.loop-at.invariant.few);
     }

@@ -9,20 +9,20 @@ pub returns-in-None-clause-len : goal.returns-in-None-clause-len
 returns-in-None-clause-len c =
     let text = c.as_bytes-bytes.result.now in
     let low : c.loop-at.at < length text = omega arith in
-    sym (rest-off c.loop-at.inside text c.loop-at.at low (sym c.goes_on.ensures ∙ c.in-None.is)) ∙ c.loop-at.invariant.len ∙ ap lexeme_len c.as_bytes-bytes.ensures.value
+    sym (rest-off c.loop-at.inside text c.loop-at.at low (sym c.continued.ensures ∙ c.in-None.is)) ∙ c.loop-at.invariant.len ∙ ap lexeme_len c.as_bytes-bytes.ensures.value
 
 pub returns-in-None-clause-inside : goal.returns-in-None-clause-inside
 returns-in-None-clause-inside c =
     let text = c.as_bytes-bytes.result.now in
     let low : c.loop-at.at < length text = omega arith in
-    sym (last-off c.loop-at.inside text c.loop-at.at low (sym c.goes_on.ensures ∙ c.in-None.is)) ∙ c.loop-at.invariant.inside ∙ ap lexeme_inside c.as_bytes-bytes.ensures.value
+    sym (last-off c.loop-at.inside text c.loop-at.at low (sym c.continued.ensures ∙ c.in-None.is)) ∙ c.loop-at.invariant.inside ∙ ap lexeme_inside c.as_bytes-bytes.ensures.value
 
 pub returns-in-None-clause-boundary : goal.returns-in-None-clause-boundary
 returns-in-None-clause-boundary c =
     let text = c.as_bytes-bytes.result.now in
     let low : c.loop-at.at < length text = omega arith in
     subst (λ bytes. IsCharBoundary bytes c.loop-at.at) c.as_bytes-bytes.ensures.value
-    (token-boundary text c.loop-at.at c.loop-at.inside c.as_bytes-bytes.ensures.utf8 c.loop-at.invariant.some low c.loop-at.invariant.takes (sym c.goes_on.ensures ∙ c.in-None.is))
+    (token-boundary text c.loop-at.at c.loop-at.inside c.as_bytes-bytes.ensures.utf8 c.loop-at.invariant.some low c.loop-at.invariant.takes (sym c.continued.ensures ∙ c.in-None.is))
 
 pub loop-at-preserved : goal.loop-at-preserved
 loop-at-preserved c =
@@ -30,7 +30,7 @@ loop-at-preserved c =
     let at = c.loop-at.at in
     let low : at < length text = omega arith in
     let next = c.in-Some.next in
-    let on = sym c.goes_on.ensures ∙ c.in-Some.is in
+    let on = sym c.continued.ensures ∙ c.in-Some.is in
     let back : (at + 1) - 1 ≡ at = omega arith in
     record {
       len = sym (rest-on c.loop-at.inside text at low next on) ∙ c.loop-at.invariant.len;
