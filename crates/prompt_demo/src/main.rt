@@ -104,7 +104,7 @@ fn number_or(argument: Option<String>, other: usize) -> Result<usize, anyhow::Er
 fn is_sparing(argument: Option<String>) -> Result<bool, anyhow::Error> {
     match argument {
         None => Ok(false),
-        Some(word) if word == "sparing" => Ok(true),
+        Some(word) if word.as_str() == "sparing" => Ok(true),
         Some(word) => Err(anyhow!("no way to send has the name {word}")),
     }
 }
