@@ -20,7 +20,7 @@ use Rattle.tw_ansi.specs.EcmaLaws.{IsColor}
 use Rattle.tw_ansi.specs.EcmaPaintings.{sent_batches}
 use Rattle.tw_ansi.specs.EcmaScreen.{receive_all}
 use Rattle.tw_ansi.specs.EcmaTexts.{ShowsPicture}
-use Rattle.tw_device.specs.Deeds.{IsLedBy}
+use Rattle.tw_device.specs.Deeds.{Does, IsLedBy}
 use Rattle.tw_device.specs.Live.{outcome_in, frame_of, fresh_frame, run_over}
 use Rattle.tw_device.specs.Terminal.{terminal_state}
 use Rattle.tw_device.specs.declared.terminal.AnsiTerminal.{AnsiTerminal}
@@ -54,7 +54,7 @@ module _ {V W : Type 0} (rules : HostRules V) (contents : W → Option (List ℕ
       let led-same : k.led.0 ≡ events = append_cancel_left k.before k.led.0 events (sym k.led.1 ∙ k.told) in
       let reads : Reads (run_over rules events begun) begun reached (outcome_in k.answer) =
       subst (λ all. Reads (run_over rules all begun) begun reached (outcome_in k.answer)) same told.3 in
-      let led : IsLedBy contents events old new = subst (λ all. IsLedBy contents all old new) led-same k.led.2 in
+      let led : IsLedBy (Does contents) events old new = subst (λ all. IsLedBy (Does contents) all old new) led-same k.led.2 in
       let sent = led_is_sent contents events old new led reads.failures k.countable k.cols in
       record {
         batches = sent.0;

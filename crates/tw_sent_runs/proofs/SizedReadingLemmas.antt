@@ -23,6 +23,7 @@ use Rattle.tw_ansi.specs.declared.encode.Encoder.{Encoder}
 use Rattle.tw_ansi.specs.Encoding.{Sent, sent_then, sent_batch}
 use Rattle.tw_ansi.specs.EcmaPaintings.{sent_batches}
 use Rattle.tw_ansi.proofs.KnownTerminals.{batch_in}
+use Rattle.tw_device.specs.Deeds.{Does}
 use Rattle.tw_device.specs.Led.{IsLedByCalls, IsLedAlong}
 use Rattle.tw_device.specs.Terminal.{terminal_state}
 use Rattle.tw_device.specs.declared.terminal.AnsiTerminal.{AnsiTerminal}
@@ -207,10 +208,10 @@ module _ {V : Type 0} (rules : HostRules V) where
         × (new.encoder ≡ (sent_sized played old.encoder).next) × (new.encoder.cols ≡ w)
 
     -- calls send the batches that they take, at the columns that are known
-    calls-sent : (w : ℕ) (played : List Batch) (old new : AnsiTerminal W) → IsLedByCalls contents old new → new.failures ≡ old.failures → old.failures ≢ usize_max
+    calls-sent : (w : ℕ) (played : List Batch) (old new : AnsiTerminal W) → IsLedByCalls (Does contents) old new → new.failures ≡ old.failures → old.failures ≢ usize_max
         → (terminal_state new).batches ≡ (terminal_state old).batches ++ played → old.encoder.cols ≡ w → IsSentAs (sized_at w played) w old new
     calls-sent w played old new calls kept below taken same =
-        let sent = led_is_sent contents [] old new (led_by_calls contents old new calls) kept below tt in
+        let sent = led_is_sent contents [] old new (led_by_calls (Does contents) old new calls) kept below tt in
         let are : sent.0 ≡ played = append_cancel_left (terminal_state old).batches sent.0 played (sym sent.1 ∙ taken) in
         let is : sent_batches sent.0 old.encoder ≡ sent_sized (sized_at w played) old.encoder = ap (λ l. sent_batches l old.encoder) are ∙ sym (sized_known w played old.encoder same) in (
           subst (λ (s : Sent). Appends (contents old.writer) (contents new.writer) s.bytes) is sent.2,
@@ -249,7 +250,7 @@ module _ {V : Type 0} (rules : HostRules V) where
     abbrev SendsFrom : List EventView → Type 0
     SendsFrom events = (cleared : Bool) (s : Progress V) (old new : AnsiTerminal W) (end : List Batch)
         → s.taken ≡ (terminal_state old).batches ++ clearing cleared → old.encoder.cols ≡ s.size.cols
-        → IsLedAlong contents (λ seen. (run rules seen s).taken) events old new
+        → IsLedAlong terminal_state (Does contents) (λ seen. (run rules seen s).taken) events old new
         → new.failures ≡ old.failures → old.failures ≢ usize_max
         → IsAllTaken (run rules events s) end new
         → SendsStations s.mark (stations_from rules events cleared s) (run rules events s) end old new
@@ -298,7 +299,7 @@ module _ {V : Type 0} (rules : HostRules V) where
         let r : Ending V = run rules events (next k) in
         let stations : List (Station V) = stations_from rules events (clears k) (next k) in
         let more = rest (clears k) (next k) sized new end (ap (λ b. b ++ clearing (clears k)) (sym (resized.batches ∙ is ∙ painted-next k))) resized.cols
-        (along_same contents (λ more. (run rules (event ∷ more) s).taken) (λ seen. (run rules seen (next k)).taken) events sized new (λ more. ap (λ (end : Ending V). end.taken) (run-next k more)) along)
+        (along_same terminal_state (Does contents) (λ more. (run rules (event ∷ more) s).taken) (λ seen. (run rules seen (next k)).taken) events sized new (λ more. ap (λ (end : Ending V). end.taken) (run-next k more)) along)
         (kept ∙ sym same) (λ full. below (sym same ∙ full)) (subst (λ r. IsAllTaken r end new) (run-next k events) whole) in
         let mark : Option Mark = Some (mark_of k.painting) in
         let both : IsSentAs (sized_at w played ++ (sized_from rules mark stations ++ sized_at r.size.cols end)) r.size.cols old new =

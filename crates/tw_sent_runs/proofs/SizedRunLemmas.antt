@@ -22,6 +22,7 @@ use Rattle.tw_ansi.specs.EcmaPaintings.{sent_batches}
 use Rattle.tw_ansi.specs.EcmaLaws.{IsColor}
 use Rattle.tw_ansi.specs.EcmaScreen.{receive_all}
 use Rattle.tw_ansi.specs.EcmaTexts.{ShowsPicture}
+use Rattle.tw_device.specs.Deeds.{Does}
 use Rattle.tw_device.specs.Led.{taken_over, IsLedAlong}
 use Rattle.tw_device.specs.Live.{outcome_in, frame_of, fresh_frame, run_over}
 use Rattle.tw_device.specs.Terminal.{terminal_state}
@@ -60,7 +61,7 @@ module _ {V W : Type 0} (rules : HostRules V) (contents : W → Option (List ℕ
       let begun : Frame V = fresh_frame prompt value (terminal_state old) in
       let reads = reads_of prompt value old new events held k in
       let along-same : k.along.0 ≡ events = append_cancel_left k.before k.along.0 events (sym k.along.1 ∙ k.told) in
-      let along : IsLedAlong contents (taken_over rules begun) events old new = subst (λ all. IsLedAlong contents (taken_over rules begun) all old new) along-same k.along.2 in
+      let along : IsLedAlong terminal_state (Does contents) (taken_over rules begun) events old new = subst (λ all. IsLedAlong terminal_state (Does contents) (taken_over rules begun) all old new) along-same k.along.2 in
       let f : Frame V = reading_frame prompt value old events in
       let sent = sends_from rules contents events false (progress_of begun) old new (closing_if (run_of rules f).mark) (sym (append-nil (terminal_state old).batches)) k.cols along reads.failures k.countable
       (reads.batches, sym reads.left, subst IsAnswer reads.answer_is (answered k.answer)) in (

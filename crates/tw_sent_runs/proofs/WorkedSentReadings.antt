@@ -35,7 +35,7 @@ use Rattle.tw_ansi.specs.EcmaBatches.{first_picture}
 use Rattle.tw_ansi.specs.EcmaScreen.{EcmaScreen, receive_all}
 use Rattle.tw_ansi.specs.EcmaScreen as terminal
 use Rattle.tw_ansi.proofs.EcmaBatches.{first_is_shown}
-use Rattle.tw_device.specs.Deeds.{Called, IsLedBy}
+use Rattle.tw_device.specs.Deeds.{Does, Called, IsLedBy}
 use Rattle.tw_device.specs.Live.{fresh_frame, frame_of, outcome_in, run_over}
 use Rattle.tw_device.specs.Terminal.{terminal_state}
 use Rattle.tw_device.specs.declared.keys.SourceState.TheVariants.{AtEnd}
@@ -91,7 +91,7 @@ module _ (it : AnsiTerminal Wrote) where
   abbrev new : AnsiTerminal Wrote
   new = flushed_now fourth
 
-  led : IsLedBy Some events old new
+  led : IsLedBy (Does Some) events old new
   led = (
     Called (Took (batch 0)) ∷ Called (Took (batch 1)) ∷ Called (Took (batch 2)) ∷ Called (Took last_batch) ∷ Called Other ∷ [],
     (first, takes (batch 0) old, (second, takes (batch 1) first, (third, takes (batch 2) second, (fourth, takes last_batch third, (new, flushes fourth, refl))))),

@@ -38,6 +38,7 @@ use Rattle.tw_ansi.specs.EcmaBatches.{IsReached}
 use Rattle.tw_ansi.specs.EcmaPaintings.{sent_batches}
 use Rattle.tw_ansi.specs.EcmaScreen.{EcmaScreen, receive_all}
 use Rattle.tw_ansi.specs.EcmaScreen as terminal
+use Rattle.tw_device.specs.Deeds.{Does}
 use Rattle.tw_device.specs.Led.{taken_over, IsLedByCalls, IsSizedBy, IsLedAlong}
 use Rattle.tw_device.specs.Live.{fresh_frame, frame_of, outcome_in, run_over}
 use Rattle.tw_device.specs.Terminal.{terminal_state}
@@ -59,17 +60,17 @@ IsBack (Some m) = IsReached 4 (Relative (neg_ℤ m.row))
 
 -- ---- calls, and a size
 
-one_batch : (batch : Batch) (t : AnsiTerminal Wrote) → IsLedByCalls Some t (with_batch batch t)
+one_batch : (batch : Batch) (t : AnsiTerminal Wrote) → IsLedByCalls (Does Some) t (with_batch batch t)
 one_batch batch t = (Took batch ∷ [], (with_batch batch t, takes batch t, refl))
 
-two_batches : (first second : Batch) (t : AnsiTerminal Wrote) → IsLedByCalls Some t (with_batch second (with_batch first t))
+two_batches : (first second : Batch) (t : AnsiTerminal Wrote) → IsLedByCalls (Does Some) t (with_batch second (with_batch first t))
 two_batches first second t = (Took first ∷ Took second ∷ [], (with_batch first t, takes first t, (with_batch second (with_batch first t), takes second (with_batch first t), refl)))
 
-sizes : (cols rows : ℕ) (t : AnsiTerminal Wrote) → IsSizedBy Some (Resized cols rows) t (with_size (record { rows = rows; cols = cols }) t)
+sizes : (cols rows : ℕ) (t : AnsiTerminal Wrote) → IsSizedBy (Does Some) (Resized cols rows) t (with_size (record { rows = rows; cols = cols }) t)
 sizes cols rows t = (with_size (record { rows = rows; cols = cols }) t, is_sized (record { rows = rows; cols = cols }) t, refl)
 
 -- two batches, and a flush
-last_calls : (first second : Batch) (t : AnsiTerminal Wrote) → IsLedByCalls Some t (flushed_now (with_batch second (with_batch first t)))
+last_calls : (first second : Batch) (t : AnsiTerminal Wrote) → IsLedByCalls (Does Some) t (flushed_now (with_batch second (with_batch first t)))
 last_calls first second t =
     let one = with_batch first t in
     let two = with_batch second one in
@@ -119,7 +120,7 @@ module _ (it : AnsiTerminal Wrote) where
   new = flushed_now (with_batch last_batch (with_batch (batch 5) cleared))
 
   -- event by event the terminal was led so, beside the run
-  led_along : IsLedAlong Some (taken_over rules begun) events old new
+  led_along : IsLedAlong terminal_state (Does Some) (taken_over rules begun) events old new
   unfolding pieces column_width painted_on apply destination searched_again search_step boundary_below is_boundary iterate greatest_below least_from
   led_along = (
     painted,

@@ -17,7 +17,7 @@ use Rattle.tw_ansi.specs.EcmaLaws.{IsColor}
 use Rattle.tw_ansi.specs.EcmaBatches.{CarriesAttributes}
 use Rattle.tw_ansi.specs.EcmaScreen.{EcmaScreen, receive_all}
 use Rattle.tw_ansi.specs.EcmaTexts.{ShowsPicture}
-use Rattle.tw_device.specs.Deeds.{IsLedAsTold, sizes_in}
+use Rattle.tw_device.specs.Deeds.{Does, IsLedAsTold, sizes_in}
 use Rattle.tw_device.specs.Live.{IsRead, fresh_frame}
 use Rattle.tw_device.specs.Terminal.{terminal_state}
 use Rattle.tw_device.specs.declared.keys.SourceState.{SourceState}
@@ -44,7 +44,7 @@ module _ {V W : Type 0} (rules : HostRules V) (contents : W → Option (List ℕ
     pub left : V
     pub answer : Answer
     pub read : IsRead rules before after state (fresh_frame prompt value (terminal_state old)) left (terminal_state new) answer
-    pub led : IsLedAsTold contents before after old new
+    pub led : IsLedAsTold (Does contents) before after old new
     pub countable : old.failures ≢ usize_max
     pub cols : AllByRecursion (λ size. size.cols ≡ old.encoder.cols) (sizes_in events)
     pub holds : contents old.writer ≡ Some held

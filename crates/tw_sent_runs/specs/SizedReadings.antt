@@ -22,6 +22,7 @@ use Rattle.tw_ansi.specs.EcmaBatches.{CarriesAttributes}
 use Rattle.tw_ansi.specs.EcmaPaintings.{sent_batches}
 use Rattle.tw_ansi.specs.EcmaScreen.{EcmaScreen, receive_all}
 use Rattle.tw_ansi.specs.EcmaTexts.{ShowsPicture}
+use Rattle.tw_device.specs.Deeds.{Does}
 use Rattle.tw_device.specs.Led.{taken_over, IsToldAlong}
 use Rattle.tw_device.specs.Live.{IsRead, fresh_frame}
 use Rattle.tw_device.specs.Terminal.{terminal_state}
@@ -60,7 +61,7 @@ module _ {V W : Type 0} (rules : HostRules V) (contents : W → Option (List ℕ
     pub left : V
     pub answer : Answer
     pub read : IsRead rules before after state (fresh_frame prompt value (terminal_state old)) left (terminal_state new) answer
-    pub along : IsToldAlong contents (taken_over rules (fresh_frame prompt value (terminal_state old))) before after old new
+    pub along : IsToldAlong terminal_state (Does contents) (taken_over rules (fresh_frame prompt value (terminal_state old))) before after old new
     pub countable : old.failures ≢ usize_max
     pub cols : old.encoder.cols ≡ old.size.cols
     pub holds : contents old.writer ≡ Some held
