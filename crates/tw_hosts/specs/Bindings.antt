@@ -10,7 +10,7 @@ use Rattle.tw_host.specs.HostRules.{Resolution}
 use Rattle.tw_host.specs.KeyTable.{is_same_key}
 use Rattle.tw_hosts.specs.declared.bindings.KeyBinding.{KeyBinding}
 use Rattle.tw_hosts.specs.declared.bindings.Binding.{Binding}
-use Rattle.tw_hosts.specs.declared.bindings.Binding.TheVariants.{Clear, Cancel, Accept, Move, Kill, Complete, Ignore}
+use Rattle.tw_hosts.specs.declared.bindings.Binding.TheVariants.{Clear, Cancel, Accept, EndOfFile, InsertChar, Repaint, Move, Kill, KillAndMove, HistoryPrevious, HistoryNext, SearchBackwards, SearchForwards, Complete, Ignore}
 
 -- what the first row with this key says
 abbrev pub bound : List KeyBinding → KeyEvent → Option Binding
@@ -22,20 +22,23 @@ abbrev pub binding_action : Binding → ActionView
 binding_action Clear = view.Kill EndOfLine
 binding_action Cancel = view.Cancel
 binding_action Accept = view.AcceptLine
+binding_action EndOfFile = view.EndOfFile
+binding_action (InsertChar count c) = view.InsertChar count c
+binding_action Repaint = view.Repaint
 binding_action (Move movement) = view.Move movement
 binding_action (Kill movement) = view.Kill movement
+binding_action (KillAndMove kill movement) = view.KillAndMove kill movement
+binding_action HistoryPrevious = view.HistoryPrevious
+binding_action HistoryNext = view.HistoryNext
+binding_action SearchBackwards = view.HistoryIncSearchBackwards
+binding_action SearchForwards = view.HistoryIncSearchForwards
 binding_action Complete = view.Complete
 binding_action Ignore = view.NoAction
 
 -- the line before that action: empty where it is to be cleared
 abbrev pub binding_cut : Binding → Cut → Cut
 binding_cut Clear cut = empty_cut
-binding_cut Cancel cut = cut
-binding_cut Accept cut = cut
-binding_cut (Move movement) cut = cut
-binding_cut (Kill movement) cut = cut
-binding_cut Complete cut = cut
-binding_cut Ignore cut = cut
+binding_cut _ cut = cut
 
 -- what a binding makes of the line, if there is one
 abbrev pub cut_by : Option Binding → Cut → Cut

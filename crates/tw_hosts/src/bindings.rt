@@ -8,9 +8,9 @@ ghost use Rattle.tw_hosts.specs.Bindings.{binding_action, binding_cut, bound, bo
 
 use tw_host::Action;
 use tw_input::{InputEvent, KeyEvent};
-use tw_line::{LineEditBuffer, Movement};
+use tw_line::{LineEditBuffer, Movement, RepeatCount};
 
-/// What a key does.
+/// What a key does: each action of the editor but the one that inserts a text, and two of its own.
 #[derive(Clone, Copy, Debug)]
 pub enum Binding {
     /// Clears the line, and ends a completion.
@@ -19,10 +19,26 @@ pub enum Binding {
     Cancel,
     /// Ends the editing, with the line.
     Accept,
+    /// Ends the input.
+    EndOfFile,
+    /// Inserts a character so many times at the cursor.
+    InsertChar(RepeatCount, char),
+    /// Clears the screen, and paints the editor anew.
+    Repaint,
     /// Moves the cursor.
     Move(Movement),
     /// Removes what lies up to where the movement leads.
     Kill(Movement),
+    /// Removes what lies up to where the first movement leads, with the cursor where the second one leads.
+    KillAndMove(Movement, Movement),
+    /// Takes the line before in the history.
+    HistoryPrevious,
+    /// Takes the line after in the history.
+    HistoryNext,
+    /// Searches the history, to older lines.
+    SearchBackwards,
+    /// Searches the history, to newer lines.
+    SearchForwards,
     /// Completes.
     Complete,
     /// Nothing, also where the editor's key table has an action.
@@ -64,8 +80,16 @@ pub fn binding_action(binding: Binding) -> Action
         Binding::Clear => Action::Kill(Movement::EndOfLine),
         Binding::Cancel => Action::Cancel,
         Binding::Accept => Action::AcceptLine,
+        Binding::EndOfFile => Action::EndOfFile,
+        Binding::InsertChar(count, c) => Action::InsertChar(count, c),
+        Binding::Repaint => Action::Repaint,
         Binding::Move(movement) => Action::Move(movement),
         Binding::Kill(movement) => Action::Kill(movement),
+        Binding::KillAndMove(kill, movement) => Action::KillAndMove(kill, movement),
+        Binding::HistoryPrevious => Action::HistoryPrevious,
+        Binding::HistoryNext => Action::HistoryNext,
+        Binding::SearchBackwards => Action::HistoryIncSearchBackwards,
+        Binding::SearchForwards => Action::HistoryIncSearchForwards,
         Binding::Complete => Action::Complete,
         Binding::Ignore => Action::NoAction,
     }

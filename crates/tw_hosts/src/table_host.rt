@@ -47,6 +47,29 @@ impl<H: History> TableHost<H> {
     {
         TableHost { tables, history }
     }
+
+    /// Puts other tables in the place of those that the host has. The history stays. It takes no memory.
+    pub fn set_tables(&mut self, tables: Tables)
+        ensures value { ⟦<TableHost<H> as LineEditorHost>⟧.value self.new ≡ tables_view tables (H.lines self.old.history) }
+        ensures history { self.new.history ≡ self.old.history }
+    {
+        self.tables = tables;
+    }
+
+    /// The history, which is lent to be read. `history` of `LineEditorHost` lends it to be changed.
+    pub fn history_kept(&self) -> &H
+        ensures { result.now ≡ self.now.history }
+    {
+        &self.history
+    }
+
+    /// The history, for another host. The tables are given up.
+    pub fn into_history(self) -> H
+        ensures { result ≡ self.history }
+    {
+        let TableHost { tables: _, history } = self;
+        history
+    }
 }
 
 impl<H: History> LineEditorHost for TableHost<H> {
