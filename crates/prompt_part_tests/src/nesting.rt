@@ -54,7 +54,12 @@ fn open_marks_are_told_in_their_order(rt: HostRuntime) -> Result<(), Fail> {
 #[test]
 fn the_first_wrong_mark_is_told(rt: HostRuntime) -> Result<(), Fail> {
     let alloc = rt.alloc();
-    for &(text, left) in &[(")", "!)0"), ("(]", "!]1"), ("())]", "!)2"), ("[(])", "!]2")] {
+    for &(text, left) in &[
+        (")", "!)0"),
+        ("(]", "!]1"),
+        ("())]", "!)2"),
+        ("[(])", "!]2"),
+    ] {
         expect_left(&rt, alloc, text, left)?;
     }
     Ok(())

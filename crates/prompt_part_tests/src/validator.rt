@@ -34,7 +34,10 @@ fn expect_line(
     assert!(rt; line.as_deref() == Some(answer), "{script:?}");
     let painting = last_painting(&terminal).ok_or("no painting")?;
     let marked = marked_text(alloc, painting)?;
-    assert!(rt; marked.as_str().ends_with(shown), "{script:?} showed {marked:?}");
+    assert!(rt;
+        marked.as_str().ends_with(shown),
+        "{script:?} showed {marked:?}"
+    );
     Ok(())
 }
 
@@ -44,7 +47,11 @@ fn enter_stays_in_a_line_that_is_open(rt: HostRuntime) -> Result<(), Fail> {
     for &(script, answer, shown) in &[
         ("type f(x\nkey Enter", "f(x", "( is open"),
         ("type f(x\nkey Enter\nkey Enter", "f(x", "( is open"),
-        ("type f(x\nkey Enter\ntype )\nkey Enter\ntype z", "f(x)", "f(x)"),
+        (
+            "type f(x\nkey Enter\ntype )\nkey Enter\ntype z",
+            "f(x)",
+            "f(x)",
+        ),
         ("type 'a\nkey C-J", "'a", "' is open"),
         ("type a)\nkey Enter", "a)", ") closes nothing"),
         ("type f(x", "f(x", "f(x"),
@@ -58,5 +65,11 @@ fn enter_stays_in_a_line_that_is_open(rt: HostRuntime) -> Result<(), Fail> {
 #[test]
 fn a_search_is_left_alone(rt: HostRuntime) -> Result<(), Fail> {
     let alloc = rt.alloc();
-    expect_line(&rt, alloc, "key C-R\ntype op\nkey Enter\ntype z", "open(", "open(")
+    expect_line(
+        &rt,
+        alloc,
+        "key C-R\ntype op\nkey Enter\ntype z",
+        "open(",
+        "open(",
+    )
 }

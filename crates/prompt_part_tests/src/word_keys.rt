@@ -15,7 +15,10 @@ fn words_and_characters_are_edited(rt: HostRuntime) -> Result<(), Fail> {
         ("type ab\nkey C-A\nkey C-T\nkey Enter", "ab"),
         ("type one two\nkey C-A\nkey A-u\nkey Enter", "ONE two"),
         ("type ONE TWO\nkey C-A\nkey A-l\nkey Enter", "one TWO"),
-        ("type oNE two\nkey C-A\nkey A-c\nkey A-c\nkey Enter", "One Two"),
+        (
+            "type oNE two\nkey C-A\nkey A-c\nkey A-c\nkey Enter",
+            "One Two",
+        ),
         ("type one\nkey A-u\nkey Enter", "one"),
         ("key C-R\ntype cop\nkey C-T\nkey Enter", "copy"),
     ] {
