@@ -14,10 +14,10 @@ pub record Validated (V : Type 0) : Type 0 where
   pub searching : Bool
 
 -- a line that lacks this is kept, but during a search
-abbrev pub is_held_back : Bool → Option (List ℕ) → Bool
-is_held_back true lack = false
-is_held_back false (Some text) = true
-is_held_back false None = false
+abbrev pub keeps_line : Bool → Option (List ℕ) → Bool
+keeps_line true lack = false
+keeps_line false (Some text) = true
+keeps_line false None = false
 
 -- the action accepts the line
 abbrev pub is_accepting : Option ActionView → Bool
@@ -51,7 +51,7 @@ module _ {V : Type 0} (rules : HostRules V) where
   -- what comes of an event by a host's answer, and of the action that it stands for
   abbrev pub judged : Validated V → Cut → Resolution V → Option ActionView → Resolution (Validated V)
   judged v cut r action =
-      if is_held_back v.searching (v.lacks cut.line) && is_accepting action then keeping v r else passing v r action
+      if keeps_line v.searching (v.lacks cut.line) && is_accepting action then keeping v r else passing v r action
 
   -- the host's answers, but that a line is accepted where it lacks nothing
   abbrev pub validator_rules : HostRules (Validated V)

@@ -3,7 +3,7 @@
 ghost use Rattle.std.specs.Prelude.{◌≡◌, false, IfOk};
 ghost use Rattle.std.proofs.Common.{ap};
 ghost use Rattle.tw_host.specs.PlainAnswers.{all_overrides, no_plain_left};
-ghost use Rattle.tw_prompt_parts.specs.Validation.{Validated, is_held_back, validator_rules};
+ghost use Rattle.tw_prompt_parts.specs.Validation.{Validated, keeps_line, validator_rules};
 
 use crate::validator::Validator;
 use std::alloc::{AllocError, Global};
@@ -62,7 +62,7 @@ impl<H: LineEditorHost, V: Validator> WithValidator<H, V> {
 
     /// Whether a line would be kept from being accepted: the editor does not search, and the line is not whole.
     fn keeps(&self, alloc: Global, line: &str) -> Result<bool, AllocError>
-        ensures { IfOk result (λ keeps. keeps ≡ is_held_back self.now.watch (V.lacks self.now.validator line.now)) }
+        ensures { IfOk result (λ keeps. keeps ≡ keeps_line self.now.watch (V.lacks self.now.validator line.now)) }
     {
         if self.watch.is_on() {
             return Ok(false);
