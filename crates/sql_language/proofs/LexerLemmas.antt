@@ -19,7 +19,7 @@ high-white b h = grind (arith, nat_tests)
 high-letter : (b : ℕ) → 128 ≤ b → is_word_start b ≡ true
 high-letter b h = grind (arith, nat_tests)
 
-high-part : (b : ℕ) → 128 ≤ b → is_part b ≡ true
+pub high-part : (b : ℕ) → 128 ≤ b → is_part b ≡ true
 high-part b h = grind (arith, nat_tests)
 
 high-number_part : (b : ℕ) → 128 ≤ b → is_number_part b ≡ true

@@ -1,3 +1,5 @@
 pub mod LexerLemmas
 pub mod LexemeLemmas
 pub mod StatementLemmas
+pub mod WordLemmas
+pub mod NameLemmas

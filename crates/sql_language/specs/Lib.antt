@@ -1,3 +1,4 @@
 pub mod Lexer
 pub mod Lexemes
 pub mod Statements
+pub mod SqlWords

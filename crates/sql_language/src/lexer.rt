@@ -91,7 +91,7 @@ fn is_decimal(byte: u8) -> bool
 }
 
 /// Whether a word goes on with a byte.
-fn is_part(byte: u8) -> bool
+pub fn is_part(byte: u8) -> bool
     ensures { result ≡ is_part byte }
 {
     is_word_start(byte) || is_decimal(byte) || byte == b'$'

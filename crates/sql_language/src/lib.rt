@@ -2,7 +2,7 @@
 //! which brackets are open.
 //!
 //! `lexer` has what a byte of a text stands in, and what the next one makes of it; `tokens` the first token of a text;
-//! `statements` the first statement and the open brackets.
+//! `statements` the first statement and the open brackets; `words` keywords, and the word at the end of a text.
 #![tactic(auto)]
 
 mod lexer;
@@ -10,7 +10,9 @@ mod statements;
 #[cfg(test)]
 mod tests;
 mod tokens;
+mod words;
 
-pub use lexer::{Inside, Quote, continued, following, fresh};
+pub use lexer::{Inside, Quote, continued, following, fresh, is_part};
 pub use statements::{open_brackets, statement_len};
 pub use tokens::{Token, TokenKind, first_token, token_kind};
+pub use words::{begins_but_case, is_keyword, name_start};

@@ -1,17 +1,13 @@
 //! A prompt of a database: `sql_prompt [-bail] FILE` runs the statements and the commands that it reads, on the
 //! database in FILE, or on a new one in memory where that is `:memory:`. docs/SQL_PROMPT.md is for its users.
 //!
-//! `values` has the cells of a row, `session` what a line of input does, `commands` the commands, and `options` the
-//! arguments.
+//! `options` has the arguments.
 #![tactic(auto)]
 
-mod commands;
 mod options;
-mod session;
-mod values;
 
 use options::{Options, read_options};
-use session::{Next, Session};
+use sql_session::{Next, Session};
 use sqlite::{Alter, Connection};
 use std::fs;
 use std::io::{BufRead, BufReader, Write};

@@ -5,15 +5,12 @@ use sqlite::types::{Bytes, ValueRef};
 use sqlite::{Error, Row};
 use std::alloc::{AllocError, Global};
 
-/// The digits of a byte.
-const DIGITS: &[u8; 16] = b"0123456789ABCDEF";
-
 /// Bytes as SQL writes them.
 fn hex(alloc: Global, bytes: &[u8]) -> Result<String, AllocError> {
     let mut text = String::from_str(alloc, "X'")?;
     for byte in bytes {
-        text.push(DIGITS[(*byte >> 4) as usize] as char)?;
-        text.push(DIGITS[(*byte & 15) as usize] as char)?;
+        let digits = format!(in alloc; "{byte:02X}")?;
+        text.push_str(digits.as_str())?;
     }
     text.push('\'')?;
     Ok(text)

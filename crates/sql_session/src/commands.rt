@@ -3,6 +3,7 @@
 use crate::session::{Mode, Next, Session};
 use sqlite::types::ValueRef;
 use sqlite::{Alter, Error, params};
+use std::alloc::AllocError;
 
 /// What `.help` tells.
 const HELP: &str = ".help           this text
@@ -22,7 +23,8 @@ const TABLES: &str = "SELECT name FROM sqlite_schema WHERE type IN ('table', 'vi
 const SCHEMA: &str = "SELECT sql || ';' FROM sqlite_schema WHERE sql IS NOT NULL";
 
 /// Those that made one table.
-const SCHEMA_OF: &str = "SELECT sql || ';' FROM sqlite_schema WHERE sql IS NOT NULL AND lower(tbl_name) = lower(?1)";
+const SCHEMA_OF: &str =
+    "SELECT sql || ';' FROM sqlite_schema WHERE sql IS NOT NULL AND lower(tbl_name) = lower(?1)";
 
 /// The word that a line begins with, and what follows it.
 fn split_command(line: &str) -> (&str, &str) {
@@ -44,7 +46,7 @@ impl<S: Alter> Session<S> {
     }
 
     /// Tells the texts of the first column of an answer, each on a line.
-    fn list(&mut self, sql: &str, params: &[ValueRef<'_>]) -> Result<(), anyhow::Error> {
+    fn list(&mut self, sql: &str, params: &[ValueRef<'_>]) -> Result<(), AllocError> {
         match self.texts(sql, params) {
             Ok(texts) => self.tell_lines(texts.as_slice()),
             Err(error) => self.fail(error),
@@ -52,7 +54,7 @@ impl<S: Alter> Session<S> {
     }
 
     /// Tells lines.
-    fn tell_lines(&mut self, lines: &[String]) -> Result<(), anyhow::Error> {
+    fn tell_lines(&mut self, lines: &[String]) -> Result<(), AllocError> {
         for line in lines {
             self.tell(line.as_str())?;
             self.tell("\n")?;
@@ -61,7 +63,7 @@ impl<S: Alter> Session<S> {
     }
 
     /// `.schema`
-    fn list_schema(&mut self, name: &str) -> Result<(), anyhow::Error> {
+    fn list_schema(&mut self, name: &str) -> Result<(), AllocError> {
         if name.is_empty() {
             self.list(SCHEMA, &[])
         } else {
@@ -70,7 +72,7 @@ impl<S: Alter> Session<S> {
     }
 
     /// `.mode`
-    fn choose_mode(&mut self, name: &str) -> Result<(), anyhow::Error> {
+    fn choose_mode(&mut self, name: &str) -> Result<(), AllocError> {
         match name {
             "table" => self.set_mode(Mode::Table),
             "csv" => self.set_mode(Mode::Csv),
@@ -80,7 +82,7 @@ impl<S: Alter> Session<S> {
     }
 
     /// `.limit`
-    fn choose_limit(&mut self, steps: &str) -> Result<(), anyhow::Error> {
+    fn choose_limit(&mut self, steps: &str) -> Result<(), AllocError> {
         match steps.parse() {
             Ok(steps) => {
                 self.set_limit(steps);
@@ -91,7 +93,7 @@ impl<S: Alter> Session<S> {
     }
 
     /// Obeys a command that neither ends the session nor reads a file.
-    fn obey_word(&mut self, word: &str, argument: &str) -> Result<(), anyhow::Error> {
+    fn obey_word(&mut self, word: &str, argument: &str) -> Result<(), AllocError> {
         match word {
             ".help" => self.tell(HELP),
             ".limit" => self.choose_limit(argument),
@@ -103,7 +105,7 @@ impl<S: Alter> Session<S> {
     }
 
     /// Obeys a command.
-    pub fn obey(&mut self, line: &str) -> Result<Next, anyhow::Error> {
+    pub fn obey(&mut self, line: &str) -> Result<Next, AllocError> {
         let (word, argument) = split_command(line.trim());
         match word {
             ".quit" => Ok(Next::Quit),

@@ -113,15 +113,29 @@ impl<S: Alter> Session<S> {
         self.connection.set_step_limit(Some(steps));
     }
 
+    /// Shows no line of a table in more than so many columns from now on.
+    pub fn set_columns(&mut self, columns: usize) {
+        self.columns = columns;
+    }
+
+    /// Forgets what has begun of a statement.
+    pub fn abandon(&mut self) {
+        self.begun.clear();
+    }
+
+    /// The database.
+    pub fn connection(&self) -> &Connection<S> {
+        &self.connection
+    }
+
     /// Whether an error has ended the session.
     pub fn has_stopped(&self) -> bool {
         self.bails && self.has_failed
     }
 
     /// Adds to what is to be told.
-    pub fn tell(&mut self, text: &str) -> Result<(), anyhow::Error> {
-        self.told.push_str(text)?;
-        Ok(())
+    pub fn tell(&mut self, text: &str) -> Result<(), AllocError> {
+        self.told.push_str(text)
     }
 
     /// Takes what is to be told.
@@ -131,20 +145,20 @@ impl<S: Alter> Session<S> {
     }
 
     /// Tells an error in these words.
-    pub fn refuse(&mut self, words: &str) -> Result<(), anyhow::Error> {
+    pub fn refuse(&mut self, words: &str) -> Result<(), AllocError> {
         self.has_failed = true;
         let told = format!(in self.alloc; "Error: {words}\n")?;
         self.tell(told.as_str())
     }
 
     /// Tells that a file can't be read.
-    pub fn refuse_file(&mut self, path: &str) -> Result<(), anyhow::Error> {
+    pub fn refuse_file(&mut self, path: &str) -> Result<(), AllocError> {
         let told = format!(in self.alloc; "{path}: can't be read as a text")?;
         self.refuse(told.as_str())
     }
 
     /// Tells an error of the database.
-    pub fn fail(&mut self, error: Error) -> Result<(), anyhow::Error> {
+    pub fn fail(&mut self, error: Error) -> Result<(), AllocError> {
         let told = format!(in self.alloc; "{error}")?;
         self.refuse(told.as_str())
     }
@@ -167,7 +181,7 @@ impl<S: Alter> Session<S> {
     }
 
     /// Tells results.
-    fn show(&mut self, found: &Results) -> Result<(), anyhow::Error> {
+    fn show(&mut self, found: &Results) -> Result<(), AllocError> {
         let text = match self.mode {
             Mode::Table => table_text(self.alloc, found, self.columns)?,
             Mode::Csv => csv_text(self.alloc, found)?,
@@ -176,7 +190,7 @@ impl<S: Alter> Session<S> {
     }
 
     /// Runs a statement, and tells its results or its error.
-    fn run(&mut self, sql: &str) -> Result<(), anyhow::Error> {
+    fn run(&mut self, sql: &str) -> Result<(), AllocError> {
         match self.answer(sql) {
             Ok(Some(found)) => self.show(&found),
             Ok(None) => Ok(()),
@@ -185,7 +199,7 @@ impl<S: Alter> Session<S> {
     }
 
     /// Runs the statements that are whole.
-    fn run_whole(&mut self) -> Result<(), anyhow::Error> {
+    fn run_whole(&mut self) -> Result<(), AllocError> {
         for _ in 0..u64::MAX {
             if self.has_stopped() {
                 break;
@@ -208,7 +222,7 @@ impl<S: Alter> Session<S> {
 
     /// Takes a line of input: a command where none of a statement has begun and a point stands first, and else a part
     /// of statements, of which those run that are whole.
-    pub fn take_line(&mut self, line: &str) -> Result<Next, anyhow::Error> {
+    pub fn take_line(&mut self, line: &str) -> Result<Next, AllocError> {
         if !self.has_begun() && line.starts_with('.') {
             return self.obey(line);
         }
@@ -219,7 +233,7 @@ impl<S: Alter> Session<S> {
     }
 
     /// Ends the input: a statement that has begun is an error.
-    pub fn finish(&mut self) -> Result<(), anyhow::Error> {
+    pub fn finish(&mut self) -> Result<(), AllocError> {
         if self.has_begun() {
             return self.refuse("the last statement has no end");
         }

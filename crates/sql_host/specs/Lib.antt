@@ -1,0 +1,3 @@
+pub mod SqlShown
+pub mod SqlCompletion
+pub mod SqlRules

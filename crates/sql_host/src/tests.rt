@@ -1,0 +1,79 @@
+use crate::{SqlStyles, complete_name, show_sql};
+use std::alloc::{AllocError, Global};
+use std::test::Fail;
+use tw_host::OutputElement;
+use tw_surface::{CellAttributes, ColorAttribute};
+
+/// The words of a text, which spaces part.
+fn words(alloc: Global, text: &str) -> Result<Vec<String>, AllocError> {
+    let mut words = Vec::new(alloc);
+    for word in text.split(' ') {
+        words.push(String::from_str(alloc, word)?)?;
+    }
+    Ok(words)
+}
+
+/// A colour of the palette.
+fn coloured(index: u8) -> CellAttributes {
+    let mut attributes = CellAttributes::default();
+    attributes.foreground = ColorAttribute::PaletteIndex(index);
+    attributes
+}
+
+/// The texts of elements, with a number before each that has a colour.
+fn marked(alloc: Global, elements: &[OutputElement]) -> Result<String, Fail> {
+    let mut text = String::new(alloc);
+    for element in elements {
+        match element {
+            OutputElement::Text(part) => text.push_str(part.as_str())?,
+            OutputElement::AllAttributes(attributes) => match attributes.foreground {
+                ColorAttribute::PaletteIndex(index) => text.push_str(format!(in alloc;
+                    "{{{index}}}"
+                )?.as_str())?,
+                _ => text.push_str("{}")?,
+            },
+            _ => text.push_str("?")?,
+        }
+    }
+    Ok(text)
+}
+
+#[test]
+fn parts_are_shown_in_their_styles(rt: HostRuntime) -> Result<(), Fail> {
+    let alloc = rt.alloc();
+    let styles = SqlStyles {
+        keyword: coloured(1),
+        text: coloured(2),
+        number: coloured(3),
+        comment: coloured(4),
+    };
+    let keywords = words(alloc, "SELECT FROM")?;
+    let line = "select 'it''s', \"from\", x1 From t -- 7";
+    let elements = show_sql(alloc, styles, keywords.as_slice(), line)?;
+    let shown = marked(alloc, elements.as_slice())?;
+    let wanted = "{1}select{} {2}'it''s'{}, \"from\", x1 {1}From{} t {4}-- 7{}";
+    assert!(rt; shown.as_str() == wanted, "{shown}");
+    Ok(())
+}
+
+#[test]
+fn names_are_completed_in_either_case(rt: HostRuntime) -> Result<(), Fail> {
+    let alloc = rt.alloc();
+    let names = words(alloc, "people name NULL height")?;
+    for (line, completed) in [
+        ("select NA", "7name "),
+        ("where(n", "6name 6NULL "),
+        ("x=größe,he", "10height "),
+        ("select z", ""),
+    ] {
+        let found = complete_name(alloc, names.as_slice(), line, line.len())?;
+        let mut told = String::new(alloc);
+        for candidate in &found {
+            let start = candidate.range.start;
+            let text = candidate.text.as_str();
+            told.push_str(format!(in alloc; "{start}{text} ")?.as_str())?;
+        }
+        assert!(rt; told.as_str() == completed, "{line}: {told}");
+    }
+    Ok(())
+}
