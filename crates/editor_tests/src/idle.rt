@@ -92,7 +92,7 @@ fn expect_idle(rt: &impl Abort, alloc: Global, event: InputEvent) -> Result<(), 
         expect_at(rt, &name, &line.as_str(), &"a");
     }
     let batches = terminal.batches();
-    expect_at(rt, &name, &batches.len(), &5);
+    assert_eq!(rt; batches.len(), 5, "{name}");
     assert!(rt; batches[2].as_slice() == batches[1].as_slice(), "{name}");
     assert!(rt; batches[3].as_slice() == batches[1].as_slice(), "{name}");
     Ok(())

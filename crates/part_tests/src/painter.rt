@@ -181,7 +181,7 @@ fn next_painting_goes_back_to_the_first_row(rt: HostRuntime) -> Result<(), Fail>
     let (first, left) = painted(&host, alloc, (24, 10), "abcdefgh", None)?;
     let (second, same) = painted(&host, alloc, (24, 10), "abcdefgh", Some(left))?;
     expect(&rt, &(left.row, left.height), &(same.row, same.height));
-    expect(&rt, &second.first(), &Some(&to_first_column(-1)));
+    assert_eq!(rt; second.first(), Some(&to_first_column(-1)));
     assert_changes(&rt, &second[1..], first.as_slice());
     Ok(())
 }

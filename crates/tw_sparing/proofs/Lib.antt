@@ -9,3 +9,4 @@ pub mod SendableBatches
 pub mod FirstScreens
 pub mod ShortBatches
 pub mod RunLemmas
+pub mod SparingDeedLemmas

@@ -3,4 +3,5 @@ pub mod ShownTerminals
 pub mod KnownRuns
 pub mod Shortness
 pub mod SparingDeeds
+pub mod SparingRuns
 pub mod Terminal

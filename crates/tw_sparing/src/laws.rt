@@ -3,6 +3,9 @@
 ghost use Rattle.tw_sparing.specs.KnownRuns.{LooksTheSame, RunsAreShown};
 ghost use Rattle.tw_sparing.specs.Shortness.{NoBatchIsSentForNothing, TypedBatchIsSentAlone};
 ghost use Rattle.tw_sparing.specs.ShownTerminals.{FirstIsKnown, KnownIsShown};
+ghost use Rattle.tw_sparing.specs.SparingRuns.{SparinglyLedIsSent};
+
+use std::io::Write;
 
 /// A terminal after ECMA-48 that shows what is known of it, and is sent what differs after a batch, shows the picture
 /// on which the batch was drawn, and what is then known stands in it.
@@ -27,4 +30,10 @@ pub fn runs()
 pub fn shortness()
     ensures nothing { NoBatchIsSentForNothing }
     ensures typed { TypedBatchIsSentAlone }
+{}
+
+/// What a reading has written at such a terminal is what is sent for its batches, each as what differs or as it is, by
+/// what is known before it and after it. No failure was counted in it, and no event told a size.
+pub fn readings<W: Write>()
+    ensures { SparinglyLedIsSent W.contents }
 {}
