@@ -2,7 +2,7 @@
 use Rattle.std.specs.Prelude.{ℕ, zero, suc, List, [], ◌∷◌, ◌++◌, Option, Some, None, length, take, drop, if◌then◌else◌}
 use Rattle.tw_surface.specs.declared.cell.CellAttributes.{CellAttributes}
 use Rattle.tw_host.specs.ElementView.{ElementView, Text}
-use Rattle.tw_hosts.specs.Tokens.{styled}
+use Rattle.tw_hosts.specs.Tokens.{styled_text}
 use Rattle.sql_language.specs.declared.tokens.TokenKind.{TokenKind}
 use Rattle.sql_language.specs.declared.tokens.TokenKind.TheVariants as kind
 use Rattle.sql_language.specs.Lexemes.{token_kind, lexeme_inside, lexeme_len}
@@ -21,7 +21,7 @@ look styles keywords kind.Mark token = None
 
 -- a text in such attributes, or as it is
 abbrev pub in_look : Option CellAttributes → List ℕ → List ElementView
-in_look (Some attributes) token = styled attributes token
+in_look (Some attributes) token = styled_text attributes token
 in_look None token = Text token ∷ []
 
 -- a token as it is shown
