@@ -37,7 +37,6 @@ pub struct Session<S: Alter> {
     begun: String,
     told: String,
     mode: Mode,
-    columns: usize,
     bails: bool,
     has_failed: bool,
 }
@@ -50,7 +49,6 @@ impl<S: Alter + Drop> Drop for Session<S> {
             begun: _,
             told: _,
             mode: _,
-            columns: _,
             bails: _,
             has_failed: _,
         } = self;
@@ -92,7 +90,6 @@ impl<S: Alter> Session<S> {
             begun: String::new(alloc),
             told: String::new(alloc),
             mode: Mode::Table,
-            columns: usize::MAX,
             bails,
             has_failed: false,
         }
@@ -111,21 +108,6 @@ impl<S: Alter> Session<S> {
     /// Lets a statement take so many steps from now on.
     pub fn set_limit(&mut self, steps: u64) {
         self.connection.set_step_limit(Some(steps));
-    }
-
-    /// Shows no line of a table in more than so many columns from now on.
-    pub fn set_columns(&mut self, columns: usize) {
-        self.columns = columns;
-    }
-
-    /// Forgets what has begun of a statement.
-    pub fn abandon(&mut self) {
-        self.begun.clear();
-    }
-
-    /// The database.
-    pub fn connection(&self) -> &Connection<S> {
-        &self.connection
     }
 
     /// Whether an error has ended the session.
@@ -183,7 +165,7 @@ impl<S: Alter> Session<S> {
     /// Tells results.
     fn show(&mut self, found: &Results) -> Result<(), AllocError> {
         let text = match self.mode {
-            Mode::Table => table_text(self.alloc, found, self.columns)?,
+            Mode::Table => table_text(self.alloc, found, usize::MAX)?,
             Mode::Csv => csv_text(self.alloc, found)?,
         };
         self.tell(text.as_str())
