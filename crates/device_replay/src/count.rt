@@ -17,7 +17,7 @@ pub struct Count {
     pub bytes: u64,
     /// The cells compared.
     pub cells: u64,
-    /// The batches behind which the cells were not, since a painting has more rows than the screen.
+    /// The batches after which the cells were not, since a painting has more rows than the screen.
     pub skipped: u64,
     /// The batches of other bytes, the batches that are missing or too many, the cells that hold something else, the
     /// cursors that stand elsewhere, and the lines that ended in another way.

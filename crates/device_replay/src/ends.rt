@@ -82,7 +82,7 @@ impl Writes {
         self.ends.len()
     }
 
-    /// The bytes of a write, counted from 0, or none behind the last one.
+    /// The bytes of a write, counted from 0, or none after the last one.
     pub fn get(&self, index: usize) -> Option<&[u8]> {
         let end = *self.ends.get(index)?;
         let start = match index.checked_sub(1) {

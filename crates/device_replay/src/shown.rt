@@ -16,7 +16,7 @@ pub struct Shown {
     table: ScrollingTable,
 }
 
-/// What was found behind a batch.
+/// What was found after a batch.
 #[derive(Debug, Clone, Copy)]
 pub enum Found {
     /// So many cells were compared, and so many hold something else.

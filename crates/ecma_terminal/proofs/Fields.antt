@@ -46,7 +46,7 @@ fields_more (b ∷ bytes) at x more e split = elim (cases_Bool (eqb b 59)) [
 
 -- ---- what the parameters select
 
--- the attributes behind some parameters where all numbers of colours are below 256
+-- the attributes after some parameters where all numbers of colours are below 256
 abbrev pub outcome : List (List ℕ) → Selection → Option CellAttributes
 outcome fs s = if all_fit fs s then Some (selected_by fs s).attributes else None
 
@@ -60,7 +60,7 @@ pub outcome_none : (field : List ℕ) (more : List (List ℕ)) (s : Selection) �
 outcome_none field more s fit =
     ap (λ b. if b && all_fit more (select s.awaited field s.attributes) then Some (selected_by more (select s.awaited field s.attributes)).attributes else None) fit
 
--- none are told where the first parameter does not fit, whether others stand behind it or not
+-- none are told where the first parameter does not fit, whether others stand after it or not
 pub outcome_refused : {A : Type 0} (view : A → List ℕ) (Q : A → Type 0) (more : Option A) (bytes field : List ℕ) (s : Selection)
     → MatchOption more (fields bytes ≡ field ∷ []) (λ m. (fields bytes ≡ field ∷ fields (view m)) × Q m) → fits_awaited s.awaited field ≡ false → outcome (fields bytes) s ≡ None
 outcome_refused view Q None bytes field s parts fit = ap (λ fs. outcome fs s) parts ∙ outcome_none field [] s fit

@@ -133,7 +133,7 @@ row_test w row col r c inner within = elim (cases_eq row r) [
         let next : (r + 1) * w + 0 ≡ r * w + w + 0 = next_row r w 0 in
         rw (lt-leb (row * w + col) (r * w + c) (omega (arith, rows, next, within))) refl
 
--- a place behind a cell, of all places
+-- a place after a cell, of all places
 pub behind_test : (h w row col r c : ℕ) → col < w → r < h → c < w → (ltb row r || (eqb row r && leb col c)) ≡ (leb (row * w + col) (r * w + c) && ltb (r * w + c) (h * w))
 behind_test h w row col r c inner below within =
     rw (lt-ltb (r * w + c) (h * w) (below_row w r c h below within), and_true (leb (row * w + col) (r * w + c))) (behind_cell w row col r c inner within)

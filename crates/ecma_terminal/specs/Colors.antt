@@ -20,7 +20,7 @@ abbrev pub fits_awaited : Awaited → List ℕ → Bool
 fits_awaited NoColor field = true
 fits_awaited (Color kind numbers) field = ltb (value_after 0 field) 256
 
--- so are all numbers of colours among some parameters, behind what was selected so far
+-- so are all numbers of colours among some parameters, after what was selected so far
 abbrev pub all_fit : List (List ℕ) → Selection → Bool
 all_fit [] s = true
 all_fit (field ∷ more) s = fits_awaited s.awaited field && all_fit more (select s.awaited field s.attributes)
@@ -60,7 +60,7 @@ awaited_of (awaited_variants.Color purpose read) = Color (kind_of purpose) (numb
 abbrev pub selection_of : selection.Selection → Selection
 selection_of s = record { attributes = s.attributes; awaited = awaited_of s.awaited }
 
--- the attributes behind a change, if there is one
+-- the attributes after a change, if there is one
 abbrev pub changed_by : Option AttributeChange → CellAttributes → CellAttributes
 changed_by None a = a
 changed_by (Some change) a = with_attribute change a

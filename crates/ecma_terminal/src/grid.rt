@@ -88,7 +88,7 @@ impl Grid {
         self.cols
     }
 
-    /// The cell at a row and a column, or none behind the last ones.
+    /// The cell at a row and a column, or none after the last ones.
     pub(crate) fn cell(&self, row: usize, col: usize) -> Option<ScreenCell>
         ensures inside { row < self.now.rows → col < self.now.cols → result ≡ Some (grid_cell self.now row col) }
         ensures below { self.now.rows ≤ row → result ≡ None }

@@ -16,7 +16,7 @@ use tw_surface::{AttributeChange, Blink, CellAttributes, ColorAttribute, Intensi
 pub(crate) enum Ground {
     /// The text.
     Text,
-    /// What is behind it.
+    /// What is after it.
     Paper,
 }
 
@@ -109,7 +109,7 @@ fn semicolon_at(bytes: &[u8]) -> usize
     bytes.len()
 }
 
-/// The first of some parameters, and those behind its semicolon, if there is one.
+/// The first of some parameters, and those after its semicolon, if there is one.
 fn first_field(parameters: &[u8]) -> (&[u8], Option<&[u8]>)
     ensures { MatchOption result.1 (fields parameters.now ≡ result.0.now ∷ [])
         (λ more. (fields parameters.now ≡ result.0.now ∷ fields more.now) × (length more.now < length parameters.now)) }
@@ -139,7 +139,7 @@ fn digit_change(digit: u8) -> Option<AttributeChange>
     })
 }
 
-/// The change that a 2 and a digit behind it select.
+/// The change that a 2 and a digit after it select.
 fn change_in_twenties(digit: u8) -> Option<AttributeChange>
     ensures { (a : CellAttributes) → changed_by result a ≡ underlined (50 ∷ digit ∷ []) a }
 {
@@ -168,7 +168,7 @@ fn two_digit_change(first: u8, second: u8) -> Option<AttributeChange>
     }
 }
 
-/// The underline that a byte selects behind 4 and a colon.
+/// The underline that a byte selects after 4 and a colon.
 fn underline_change(kind: u8) -> Option<AttributeChange>
     ensures { (a : CellAttributes) → changed_by result a ≡ underlined (52 ∷ 58 ∷ kind ∷ []) a }
 {
@@ -192,7 +192,7 @@ fn change_of(field: &[u8]) -> Option<AttributeChange>
     }
 }
 
-/// The attributes behind such a parameter.
+/// The attributes after such a parameter.
 fn changed(field: &[u8], attributes: CellAttributes) -> CellAttributes
     ensures { result ≡ underlined field.now attributes }
 {
@@ -253,7 +253,7 @@ fn select(selection: Selection, field: &[u8]) -> Option<Selection>
     }
 }
 
-/// The attributes behind SGR with these parameters, or none where a number of a colour is above 255.
+/// The attributes after SGR with these parameters, or none where a number of a colour is above 255.
 pub(crate) fn selected(parameters: &[u8], attributes: CellAttributes) -> Option<CellAttributes>
     ensures { result ≡ selected_if_fit parameters.now attributes }
 {

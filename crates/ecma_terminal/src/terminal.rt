@@ -105,7 +105,7 @@ impl EcmaTerminal {
         self.grid.cols()
     }
 
-    /// What stands at a row and a column, or none behind the last ones.
+    /// What stands at a row and a column, or none after the last ones.
     pub fn cell(&self, row: usize, col: usize) -> Option<ScreenCell>
         ensures inside { row < self.now.grid.rows → col < self.now.grid.cols → result ≡ Some (grid_cell self.now.grid row col) }
         ensures below { self.now.grid.rows ≤ row → result ≡ None }
@@ -114,7 +114,7 @@ impl EcmaTerminal {
         self.grid.cell(row, col)
     }
 
-    /// The cursor's row and column. Where it waits behind the last column, the column is the last one.
+    /// The cursor's row and column. Where it waits after the last column, the column is the last one.
     pub fn cursor(&self) -> (usize, usize)
         ensures row { result.0 ≡ self.now.row }
         ensures col { result.1 ≡ self.now.col }
@@ -124,7 +124,7 @@ impl EcmaTerminal {
         (self.row, self.col)
     }
 
-    /// Whether the cursor waits behind the last column.
+    /// Whether the cursor waits after the last column.
     pub fn waits(&self) -> bool
         ensures { result ≡ self.now.waits }
     {
@@ -259,7 +259,7 @@ impl EcmaTerminal {
         }
     }
 
-    /// Receives a byte behind ESC [ and these parameters.
+    /// Receives a byte after ESC [ and these parameters.
     fn receive_behind(&mut self, mut parameters: Vec<u8>, byte: u8) -> Result<(), EcmaFault>
         requires { self.old.reading ≡ terminal.Text }
         ensures ok { let before = record self.old { reading = terminal.Parameters parameters.items } in

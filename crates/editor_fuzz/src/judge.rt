@@ -17,7 +17,7 @@ const MANY_LINES: usize = 1_000;
 /// The greatest number of rows and of columns.
 const MOST: usize = 65_535;
 
-/// Plays the round of a seed, and answers what was counted and which laws do not hold.
+/// Plays the round of a seed, and returns what was counted and which laws do not hold.
 pub fn judge(alloc: Global, seed: u64) -> Result<(Count, String), anyhow::Error> {
     let round = round_of(alloc, seed)?;
     let (mut notes, terminal) = play(alloc, round_of(alloc, seed)?, BasicHistory::new(alloc))?;

@@ -130,7 +130,7 @@ impl Notes {
     }
 }
 
-/// Plays a round over a history, which is empty at first, and answers the terminal too.
+/// Plays a round over a history, which is empty at first, and returns the terminal too.
 pub fn play<L: History + Drop>(
     alloc: Global,
     round: Round,

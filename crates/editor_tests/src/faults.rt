@@ -314,7 +314,7 @@ fn batches_of(
     Ok(terminal.listing.script)
 }
 
-/// A refused batch is taken up to its fault, as a batch of its own if anything of it was taken. Behind it stands the
+/// A refused batch is taken up to its fault, as a batch of its own if anything of it was taken. After it stands the
 /// closing batch of the painting before, if there was one.
 #[test]
 fn a_refused_batch_is_taken_up_to_its_fault(rt: HostRuntime) -> Result<(), Fail> {

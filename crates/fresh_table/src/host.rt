@@ -37,7 +37,7 @@ impl<L: History + Drop> MarkedHost<L> {
         })
     }
 
-    /// Adds a candidate behind the others.
+    /// Adds a candidate after the others.
     pub fn offer(
         &mut self,
         alloc: Global,

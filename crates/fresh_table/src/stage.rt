@@ -33,7 +33,7 @@ impl Stage {
         })
     }
 
-    /// Plays a batch, and answers how many cells differ from what they are to hold, where the host gives this
+    /// Plays a batch, and returns how many cells differ from what they are to hold, where the host gives this
     /// column of the cursor, if any. A batch of no known form counts as one cell.
     pub fn take(
         &mut self,
@@ -73,7 +73,7 @@ impl ScrollingTable {
         })
     }
 
-    /// What the screen is to hold, or none behind a painting that has more rows than it, until it is cleared.
+    /// What the screen is to hold, or none after a painting that has more rows than it, until it is cleared.
     pub fn known(&self) -> Option<&Table> {
         if self.is_known {
             Some(&self.table)
@@ -82,7 +82,7 @@ impl ScrollingTable {
         }
     }
 
-    /// Plays a batch, where the host gives this column of the cursor, if any. It answers false for one of no known
+    /// Plays a batch, where the host gives this column of the cursor, if any. It returns false for one of no known
     /// form, and leaves all as it was.
     pub fn take(&mut self, batch: &[Change], column: Option<usize>) -> bool {
         match Batch::read(batch) {
@@ -140,8 +140,8 @@ impl ScrollingStage {
         Ok(ScrollingStage { screen, table })
     }
 
-    /// Plays a batch, and answers how many cells differ from what they are to hold, as a stage without a bottom
-    /// does. Behind a painting that has more rows than the screen nothing is known until the screen is cleared.
+    /// Plays a batch, and returns how many cells differ from what they are to hold, as a stage without a bottom
+    /// does. After a painting that has more rows than the screen nothing is known until the screen is cleared.
     pub fn take(
         &mut self,
         batch: &[Change],

@@ -142,7 +142,7 @@ impl Table {
         self.cursor.0 = self.cursor.0.saturating_sub(count);
     }
 
-    /// The texts are painted from the row on where the screen was entered, and a blank behind the line where it fills
+    /// The texts are painted from the row on where the screen was entered, and a blank after the line where it fills
     /// its last row. The column of the cursor is the one given, or else the number of characters before the cursor.
     pub fn paint(&mut self, texts: &PaintedTexts<'_>, column: Option<usize>) {
         let row = self.first_row;

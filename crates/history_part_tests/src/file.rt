@@ -7,7 +7,7 @@ use std::test::Fail;
 use tw_history::{BasicHistory, History, LentLines};
 use tw_history_parts::{ReadFault, UniqueHistory, WrittenHistory, read_history};
 
-/// A writer to memory that refuses all that comes behind so many calls.
+/// A writer to memory that refuses all that comes after so many calls.
 #[derive(Drop)]
 struct Full {
     bytes: Vec<u8>,

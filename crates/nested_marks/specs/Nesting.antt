@@ -28,7 +28,7 @@ without_innermost opens = take (length opens - 1) opens
 abbrev pub where_right : Bool → List OpenMark → Option (List OpenMark)
 where_right right opens = if right then Some opens else None
 
--- the open marks behind a character that may open a pair; there are none where it closes a pair that is not open
+-- the open marks after a character that may open a pair; there are none where it closes a pair that is not open
 abbrev pub behind_opening : List OpenMark → ℕ → Option MarkPair → Bool → Option (List OpenMark)
 behind_opening opens at (Some pair) closing = Some (opens ++ record { pair = pair; at = at } ∷ [])
 behind_opening opens at None true = None
@@ -47,11 +47,11 @@ module _ (pairs : List MarkPair) where
       else if last.pair.is_quotation then Some opens
       else opens_behind opens at c
 
-  -- the open marks behind one more character, or none where it is wrong
+  -- the open marks after one more character, or none where it is wrong
   abbrev pub after_character : List OpenMark → ℕ → ℕ → Option (List OpenMark)
   after_character opens at c = open_behind (innermost opens) opens at c
 
-  -- what characters leave behind open marks, so many bytes into a text
+  -- what characters leave after open marks, so many bytes into a text
   abbrev pub nesting_from : List ℕ → List OpenMark → ℕ → NestingView
   nesting_from [] opens at = Open opens
   nesting_from (c ∷ rest) opens at =

@@ -20,7 +20,7 @@ pub struct Count {
     pub batches: u64,
     /// The batches after which the screens with a bottom row were compared.
     pub scrolled: u64,
-    /// The batches after which they were not, behind a painting that has more rows.
+    /// The batches after which they were not, after a painting that has more rows.
     pub skipped: u64,
     /// The cells that differed.
     pub differences: u64,

@@ -212,7 +212,7 @@ fn counted_insertions_repeat_the_insertion(rt: HostRuntime) -> Result<(), Fail> 
     Ok(())
 }
 
-// Two regional indicators make a flag, counted from where their run begins. Each round inserts behind the flag that the
+// Two regional indicators make a flag, counted from where their run begins. Each round inserts after the flag that the
 // round before made with what stood there.
 #[test]
 fn counted_flags_pair_up(rt: HostRuntime) -> Result<(), Fail> {

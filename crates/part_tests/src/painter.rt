@@ -11,7 +11,7 @@ use tw_painter::{Below, Error, Mark, painting};
 use tw_surface::{CellAttributes, Change, ColorAttribute, Position};
 use tw_terminal::ScreenSize;
 
-/// The line with its cursor at the end, painted behind the prompt `> `.
+/// The line with its cursor at the end, painted after the prompt `> `.
 fn painted<H: LineEditorHost>(
     host: &H,
     alloc: Global,
@@ -64,7 +64,7 @@ fn shown(alloc: Global, line: &str) -> Result<Vec<Change>, AllocError> {
     Ok(changes)
 }
 
-/// The changes of a painting of the line, with a space behind it or none, and with the last move.
+/// The changes of a painting of the line, with a space after it or none, and with the last move.
 fn batch(
     alloc: Global,
     line: &str,
@@ -108,7 +108,7 @@ fn assert_painting(
 #[test]
 fn lines_are_painted(rt: HostRuntime) -> Result<(), Fail> {
     let rows = &[
-        // columns, line, whether a space stands behind it, the last move, the closing move
+        // columns, line, whether a space stands after it, the last move, the closing move
         (80, "hi", false, (0, 0), 1),
         (10, "abcdefgh", true, (-1, 0), 1),
         (1, "a", true, (-1, 0), 1),

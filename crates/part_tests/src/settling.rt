@@ -1,5 +1,5 @@
 //! The cursor's column where wide characters leave cells empty at the screen's edge. The columns are counted by hand on
-//! what a terminal shows behind the prompt `> `.
+//! what a terminal shows after the prompt `> `.
 
 use crate::expected::expect;
 use std::test::Fail;
@@ -61,7 +61,7 @@ fn without_an_edge_the_column_is_the_plain_one(rt: HostRuntime) -> Result<(), Fa
         (0, "\u{65e5}\u{672c}x", 6, 4),
         (65_536, "\u{65e5}\u{672c}x", 6, 4),
         (3, "abcdef", 5, 5),
-        // Behind the carriage return the cell stands before the line.
+        // After the carriage return the cell stands before the line.
         (4, "a\r\u{e9}", 4, 3),
     ] {
         assert!(rt;

@@ -1,4 +1,4 @@
--- The first line of a script, and the lines behind it.
+-- The first line of a script, and the lines after it.
 use Rattle.std.proofs.Common.{◌≡◌, ℕ, suc, ◌<◌, eqb, false, List, [], ◌∷◌, ◌++◌, length, Contains, refl, sym, ap, subst, ◌∙◌, inl, inr, arith}
 use Rattle.std.proofs.lemmas.Bool.{eqb-true, false_from_ne_true}
 use Rattle.script_language.specs.Lines.{IsFirstLine, script_lines, with_first_byte}

@@ -10,7 +10,7 @@ use Rattle.script_language.specs.declared.directive.Directive.TheVariants.{Cols,
 abbrev pub first_word : List ℕ → List ℕ
 first_word line = before_first (λ b. eqb b 32) line
 
--- what stands behind the first space of a line, or nothing
+-- what stands after the first space of a line, or nothing
 abbrev pub behind_word : List ℕ → List ℕ
 behind_word line = after_first (λ b. eqb b 32) line
 
@@ -18,7 +18,7 @@ behind_word line = after_first (λ b. eqb b 32) line
 abbrev pub IsNumber : List ℕ → ℕ → Type 0
 IsNumber text n = IsNumeral 10 text × (length text ≤ 9) × (n ≡ digits_value 10 text)
 
--- two numbers, and behind a space a text
+-- two numbers, and after a space a text
 abbrev pub IsRangeAndText : List ℕ → ℕ → ℕ → List ℕ → Type 0
 IsRangeAndText line start end text =
     IsNumber (first_word line) start × IsNumber (first_word (behind_word line)) end × (text ≡ behind_word (behind_word line))

@@ -27,7 +27,7 @@ directive_events (directive.Paste text) = Paste text.now ∷ []
 directive_events (directive.Key key) = Key key ∷ []
 directive_events _ = []
 
--- a number in digits, behind a plus sign or not
+-- a number in digits, after a plus sign or not
 abbrev pub IsWholeNumber : List ℕ → ℕ → Type 0
 IsWholeNumber text n = let digits = without_leading_plus text in IsNumeral 10 digits × (n ≡ digits_value 10 digits)
 

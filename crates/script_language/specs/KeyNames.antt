@@ -43,7 +43,7 @@ alt_name ApplicationRightArrow = Some (codes "A-AppRight")
 alt_name (Char c) = Some (codes "A-" ++ encode_utf8 c)
 alt_name _ = None
 
--- a character, behind the letter of its modifier and a hyphen
+-- a character, after the letter of its modifier and a hyphen
 abbrev pub character_name : List ℕ → KeyCode → Option (List ℕ)
 character_name letter (Char c) = Some (letter ++ encode_utf8 c)
 character_name letter _ = None

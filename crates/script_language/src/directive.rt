@@ -67,7 +67,7 @@ fn parse_candidate(text: &str) -> Option<(Range<usize>, &str)>
     Some((parse_number(start)?..parse_number(end)?, text))
 }
 
-/// The word that a line begins with, and the text behind the space that follows it. Without a space the whole
+/// The word that a line begins with, and the text after the space that follows it. Without a space the whole
 /// line is the word, and the text is empty.
 fn split_word(line: &str) -> (&str, &str)
     ensures word { result.0.now ≡ first_word line.now }

@@ -75,7 +75,7 @@ put_shows width row col place new_row new_col kept cells rest x s some most at i
           col = omega (arith, h.col, is_col);
         }
 
--- a cell is behind the cursor in its row or below where its place is, also where the cursor waits behind the last column
+-- a cell is after the cursor in its row or below where its place is, also where the cursor waits after the last column
 behind_cursor : (w r c i j : ℕ) → c ≤ w → j < w → (ltb r i || (eqb r i && leb c j)) ≡ leb (r * w + c) (i * w + j)
 behind_cursor w r c i j most low = elim (cases_lt c w) [
   | inl inner ↦ behind_cell w r c i j inner low

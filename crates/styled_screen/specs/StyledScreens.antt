@@ -36,7 +36,7 @@ blank_styled width = record { width = width; row = 0; col = 0; kept = default_at
 abbrev pub without_rows : ℕ → StyledView → StyledView
 without_rows count screen = record screen { row = screen.row - count; cells = drop (count * screen.width) screen.cells }
 
--- the width is one to 65,535, the cursor is in a row up to 4,294,967,295, and its column within the width or behind it
+-- the width is one to 65,535, the cursor is in a row up to 4,294,967,295, and its column within the width or after it
 pub record IsInReach (screen : StyledView) : Type 0 where
   pub width_above : 0 < screen.width
   pub width_most : screen.width ≤ 65535

@@ -21,7 +21,7 @@ const MAX_WIDTH: usize = 65_535;
 const LAST_ROW: usize = 4_294_967_295;
 
 /// A screen without a bottom: a character under its attributes in each cell, and a cursor. Rows and columns are
-/// numbered from 0, and the cursor's column is the width where it waits behind the last column. It keeps the cells of
+/// numbered from 0, and the cursor's column is the width where it waits after the last column. It keeps the cells of
 /// all rows down to the last one that was written, and each character takes one of them.
 #[derive(Debug, Drop)]
 pub struct StyledScreen {
@@ -101,7 +101,7 @@ impl StyledScreen {
         Some(*self.cells.get(place).unwrap_or(&self.rest))
     }
 
-    /// The cursor's row and column. The column is the width where the cursor waits behind the last.
+    /// The cursor's row and column. The column is the width where the cursor waits after the last.
     pub fn cursor(&self) -> (usize, usize)
         ensures row { result.0 ≡ self.now.row }
         ensures col { result.1 ≡ self.now.col }
@@ -175,7 +175,7 @@ impl StyledScreen {
         }
     }
 
-    /// Adds cells up to a place, each as all others behind: nothing else is shown then.
+    /// Adds cells up to a place, each as the one after all others: nothing else is shown then.
     fn fill_to(&mut self, place: usize) -> Result<(), ScreenFault>
         ensures same { IsSameBut self.old self.new }
         ensures shown { AreDrawn self.old [] self.new }
@@ -189,7 +189,7 @@ impl StyledScreen {
         Ok(())
     }
 
-    /// Puts a character where the cursor stands, from behind the last column to the first column of the next row.
+    /// Puts a character where the cursor stands, from after the last column to the first column of the next row.
     fn put(&mut self, character: char) -> Result<(), ScreenFault>
         ensures same { IsSameBut self.old self.new }
         ensures shown { OnOk result (AreDrawn self.old (Put (styled_cell record { character = character; attributes = self.old.kept }) ∷ []) self.new) }

@@ -40,7 +40,7 @@ fn change_named(alloc: Global, name: &str) -> Result<Change, Fail> {
 }
 
 /// Plays a change, and tells the answer, the cursor, the first five columns of the first four rows, each with a `/`
-/// behind it, and the last row, with bars between them.
+/// after it, and the last row, with bars between them.
 fn played(alloc: Global, screen: &mut Screen, name: &str) -> Result<String, Fail> {
     let change = change_named(alloc, name)?;
     let answer = screen.apply(&change);
@@ -57,7 +57,7 @@ fn played(alloc: Global, screen: &mut Screen, name: &str) -> Result<String, Fail
     Ok(told)
 }
 
-/// Plays changes one after the other, and says how many there were. Each is a name with what is told of it behind a
+/// Plays changes one after the other, and says how many there were. Each is a name with what is told of it after a
 /// bar, up to the part that is wanted, and ends with `#`. What is wanted as `*` is not compared.
 fn expect_played(
     rt: &impl Abort,

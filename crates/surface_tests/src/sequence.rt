@@ -47,7 +47,7 @@ fn texts_lead_to_their_places(rt: HostRuntime) -> Result<(), Fail> {
         ("abc", "\r\nx", (1, 1)),
         ("", "\u{e9}\nx", (2, 1)),
         ("", "\u{e9}a\rx", (1, 0)),
-        // a base and its combining mark, and a mark alone behind the last column
+        // a base and its combining mark, and a mark alone after the last column
         ("abcd", "e\u{301}", (5, 0)),
         ("abcde", "\u{301}", (5, 0)),
         // three emoji that are joined into one, and a flag
@@ -66,7 +66,7 @@ fn texts_lead_to_their_places(rt: HostRuntime) -> Result<(), Fail> {
     Ok(())
 }
 
-/// A cluster that is wider than the screen begins a row and waits behind its last column.
+/// A cluster that is wider than the screen begins a row and waits after its last column.
 #[test]
 fn wide_cluster_on_one_column(rt: HostRuntime) -> Result<(), Fail> {
     let mut sequence = ChangeSequence::new(rt.alloc(), 24, 1)?;
@@ -172,7 +172,7 @@ fn expect_row(rt: &impl Abort, alloc: Global, y: Position, row: Option<isize>) -
     Ok(())
 }
 
-/// A text is refused behind the last column of the last row, and leaves all as it was.
+/// A text is refused after the last column of the last row, and leaves all as it was.
 fn expect_no_row(rt: &impl Abort, sequence: &mut ChangeSequence, added: Change) {
     let height = sequence.render_height();
     expect(rt, &sequence.add(added), &Err(AddFault::OutOfRange));

@@ -69,7 +69,7 @@ next_row_on m r c (inr above) other =
     ap (λ x. x || (eqb (m + 1) r && leb 0 c)) (le-ltb (m + 1) r (omega (arith, above)))
     ∙ ap (λ x. false || (x && leb 0 c)) (ne_eqb (m + 1) r (λ e. omega (arith, e, above))) ∙ sym (le-ltb m r above)
 
--- clearing from the next row on clears what clearing from behind the last column does
+-- clearing from the next row on clears what clearing from after the last column does
 edge_cleared : {C : Type 0} (w r0 r1 edge i j : ℕ) (p : C) (f g : ℕ → ℕ → C) → r0 ≡ r1 → edge ≡ w → j < w → f i j ≡ g i j
     → cleared_in f (r0 + 1) 0 p i j ≡ cleared_in g r1 edge p i j
 edge_cleared w r0 r1 edge i j p f g rows at left same =
@@ -219,7 +219,7 @@ module _ {A C : Type 0} (pen : Pen A C) where
   abbrev Then : ℕ → ℕ → EcmaScreen C → Sent → PictureOf C → Type 0
   Then h w t x s = ShowsPicture pen h w x.next (receive_all pen h w x.bytes t) s
 
-  -- what is sent for a clearing, where that colour is set behind the text: by rows, from the cursor on, and from the next row on
+  -- what is sent for a clearing, where that colour is set after the text: by rows, from the cursor on, and from the next row on
   abbrev by_rows : ColorAttribute → ColorAttribute → Encoder → Sent
   by_rows color set e = record { bytes = clear_with clear_rows color set; next = e }
 
@@ -232,7 +232,7 @@ module _ {A C : Type 0} (pen : Pen A C) where
 
   module _ (h w : ℕ) (color : ColorAttribute) (e : Encoder) (t : EcmaScreen C) (s : PictureOf C) (some : 0 < w) (small : w < 2 ^ 64)
       (p : IsColor color) (q : IsColor t.rendition.background) (is : pen.paper color ≡ blank_of pen) (a : ShowsPicture pen h w e t s) where
-    -- the colour that is set behind the text
+    -- the colour that is set after the text
     abbrev set : ColorAttribute
     set = t.rendition.background
 
@@ -302,7 +302,7 @@ module _ {A C : Type 0} (pen : Pen A C) where
 
   -- ---- batches
 
-  -- what the pen keeps behind a change is what the encoder then knows
+  -- what the pen keeps after a change is what the encoder then knows
   pub keeps_change : (h w : ℕ) (change : ChangeView) (e : Encoder) (s : PictureOf C) → CarriesAttributes pen → IsSendable pen h w e change s
       → kept_after pen (pen.attributes e.attributes) change ≡ pen.attributes (sent_change change e).next.attributes
   keeps_change h w (Text text) e s carries fits = ap pen.attributes (sym (keeps_text text e fits))

@@ -30,7 +30,7 @@ same_color (TrueColorWithDefaultFallback r g b) (TrueColorWithDefaultFallback s 
     ∙ ap (λ x. TrueColorWithDefaultFallback s i x) (eqb-true b c first.1)
 
 module _ {A C : Type 0} (pen : Pen A C) where
-  -- the terminal with a colour behind the text
+  -- the terminal with a colour after the text
   abbrev over : ColorAttribute → EcmaScreen C → EcmaScreen C
   over color t = record t { rendition = record t.rendition { background = color } }
 

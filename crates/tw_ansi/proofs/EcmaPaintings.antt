@@ -43,7 +43,7 @@ lower_typed NoLower h = tt
 lower_typed (Preview elements) h = (refl, ((tt, tt), h))
 lower_typed (Search text) h = ((tt, tt), (h, tt))
 
--- what a painting shows behind its clearing and the first attributes
+-- what a painting shows after its clearing and the first attributes
 abbrev pub shown : ℕ → Scene → Batch
 shown w scene =
     ((scene.prompt ++ AllAttributes default_attributes ∷ []) ++ scene.line)
@@ -140,7 +140,7 @@ module _ {A C : Type 0} (pen : Pen A C) where
         behind h w (painting w scene).changes rest d r (painting_is_sendable h w scene d r p.typed p.near color inside) (painting_knows_color w scene d p.typed) on
 
     module _ (more : List Batch) (end : (d : Encoder) (r : PictureOf C) → IsColor d.attributes.background → AreAllSendable pen h w d more r) where
-      -- paintings behind another one
+      -- paintings after another one
       pub later_sendable : (before : Scene) (scenes : List Scene) → IsShowable h w before → AllByRecursion (IsShowable h w) scenes
           → (d : Encoder) (r : PictureOf C) → IsColor d.attributes.background
           → AreAllSendable pen h w d (batches_after (Some (mark_of (painting w before))) (shots w scenes) ++ more) r
@@ -177,7 +177,7 @@ module _ {A C : Type 0} (pen : Pen A C) where
   run_is_sendable h w (scene ∷ scenes) e s some a color inside =
       first_sendable h w some (closing_of w (scene ∷ scenes)) (end_sendable h w (scene ∷ scenes) some a) scene scenes a.0 a.1 e s color inside
 
-  -- what the pen keeps behind a batch is what the encoder then knows
+  -- what the pen keeps after a batch is what the encoder then knows
   keeps_batch : (h w : ℕ) (batch : Batch) (e : Encoder) (s : PictureOf C) → CarriesAttributes pen → AreSendable pen h w e batch s
       → kept_after_all pen (pen.attributes e.attributes) batch ≡ pen.attributes (sent_batch batch e).next.attributes
   keeps_batch h w [] e s carries a = refl

@@ -71,7 +71,7 @@ three_more xs r g b p q s =
 byte_value : (n : ℕ) → n < 256 → value_after 0 (decimal n) ≡ n
 byte_value n small = decimal_value n (omega (arith, small))
 
--- a colour of a kind is selected by its parameters, where the digit before them and what stands behind it lead to that kind
+-- a colour of a kind is selected by its parameters, where the digit before them and what stands after it lead to that kind
 color_selected : (kind : ColorAttribute → AttributeChange) (digit : ℕ) (a : CellAttributes)
     → selected (digit ∷ codes "9") a ≡ with_attribute (kind Default) a
     → ((index : List ℕ) → (selected_by (fields (digit ∷ codes "8;5") ++ index ∷ []) (selects a)).attributes ≡ with_attribute (kind (PaletteIndex (value_after 0 index))) a)
@@ -90,7 +90,7 @@ color_selected kind digit a default indexed mixed (TrueColorWithDefaultFallback 
     ∙ ap (λ n. with_attribute (kind (TrueColorWithDefaultFallback r n (value_after 0 (decimal b)))) a) (byte_value g fits.1)
     ∙ ap (λ n. with_attribute (kind (TrueColorWithDefaultFallback r g n)) a) (byte_value b fits.2)
 
--- the number of a byte, behind other parameters
+-- the number of a byte, after other parameters
 byte_parameters : (xs ys : List ℕ) (n : ℕ) → n < 256 → list_all is_parameter xs ≡ true → list_all is_parameter ys ≡ true → list_all is_parameter (xs ++ ys ++ decimal n) ≡ true
 byte_parameters xs ys n small a b =
     list_all-append is_parameter (xs ++ ys) (decimal n)

@@ -44,7 +44,7 @@ decimal_parameters n small = passes is_digit is_parameter (λ b h. parameter_if 
 
 -- ---- numbers that saturate
 
--- digits behind a number make it no less
+-- digits after a number make it no less
 pub value_after_le : (n : ℕ) (ds : List ℕ) → n ≤ value_after n ds
 value_after_le n [] = omega arith
 value_after_le n (d ∷ ds) = omega (arith, value_after_le (n * 10 + (d - 48)) ds)

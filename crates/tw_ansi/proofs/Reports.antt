@@ -64,7 +64,7 @@ alone_is col small =
     whole_take [] = refl
     whole_take (x ∷ xs) = ap (λ ys. x ∷ ys) (whole_take xs)
 
--- and what stands behind it
+-- and what stands after it
 second_of : (row : ℕ) (back : List ℕ) → row < 2 ^ 64 → second_number (decimal row ++ 59 ∷ back) ≡ first_number back
 second_of row back small =
     ap (λ n. first_number (drop (n + 1) (decimal row ++ 59 ∷ back))) (semicolon_at row back small)
@@ -105,7 +105,7 @@ cursor_reports row col more small some fits l rest =
 
 -- sizes
 
--- the digits of a number, and more behind a semicolon
+-- the digits of a number, and more after a semicolon
 numeric_behind : (n : ℕ) (more : List ℕ) → n < 2 ^ 64 → list_all is_numeric more ≡ true → list_all is_numeric (decimal n ++ 59 ∷ more) ≡ true
 numeric_behind n more small all = list_all-append is_numeric (decimal n) (59 ∷ more) ∙ and_from _ _ (passes is_digit is_numeric numeric_if (decimal n) (decimal_digits n small)) all
 
@@ -132,7 +132,7 @@ size_reports rows cols more some small wide fits all l rest =
 
 -- pasted texts
 
--- an end of a pasted text that begins within a text and ends behind it is none
+-- an end of a pasted text that begins within a text and ends after it is none
 starts_within : (text rest : List ℕ) → 0 < length text → ((back : List ℕ) → text ≢ paste_end ++ back) → starts_with eqb (text ++ paste_end ++ rest) paste_end ≡ true → ⊥
 starts_within [] rest some apart h = absurd (omega arith)
 starts_within (a ∷ []) rest some apart h = let parts = and_parts (eqb 27 a) false h in absurd (cc parts.1)
@@ -153,7 +153,7 @@ starts_within (a ∷ b ∷ c ∷ d ∷ e ∷ f ∷ text) rest some apart h =
     let same : paste_end ≡ a ∷ b ∷ c ∷ d ∷ e ∷ f ∷ [] = (bytes_decides paste_end (a ∷ b ∷ c ∷ d ∷ e ∷ f ∷ [])).0 h in
     absurd (apart text (ap (λ xs. xs ++ text) (sym same)))
 
--- the first end behind a text that has none inside
+-- the first end after a text that has none inside
 first_end : (text rest : List ℕ) → ((front back : List ℕ) → text ≢ front ++ paste_end ++ back) → paste_len (text ++ paste_end ++ rest) ≡ Some (length text)
 first_end [] rest none_in = refl
 first_end (b ∷ text) rest none_in =

@@ -54,7 +54,7 @@ skipped (b ∷ text) more (suc n) none fits =
     ∙ twice 1 n _
     ∙ ap (λ m. option_map (λ (k : ℕ). k + m) (paste_len (drop n (text ++ more)))) count
 
--- the search goes on behind the bytes that are passed
+-- the search goes on after the bytes that are passed
 paste_further : (l : Bool) (from s n : ℕ) (text more : List ℕ) → s ≤ length text → paste_len (drop s text) ≡ None → n ≤ length text - s - 5
     → paste_on l from (s + n) (text ++ more) ≡ paste_on l from s (text ++ more)
 paste_further l from s n text more inside none fits =
@@ -68,7 +68,7 @@ paste_further l from s n text more inside none fits =
     ap (λ o. paste_of l from (length all) o)
     (sym (ap (λ o. option_map (λ (k : ℕ). k + s) o) skips ∙ twice s n _ ∙ ap (λ m. option_map (λ (k : ℕ). k + m) (paste_len (drop (s + n) all))) sum))
 
--- bytes that pass go on behind those that are there
+-- bytes that pass go on after those that are there
 prefix_on : (p : ℕ → Bool) (n : ℕ) (xs : List ℕ) → n ≤ prefix_len p xs → n + prefix_len p (drop n xs) ≡ prefix_len p xs
 prefix_on p zero xs fits = omega arith
 prefix_on p (suc n) [] fits = absurd (omega arith)
@@ -87,7 +87,7 @@ prefix_grows p (x ∷ xs) ys = next (p x) (prefix_len p xs) (prefix_len p (xs ++
     next true few all h = omega (arith, h)
     next false few all h = omega arith
 
--- nor adds one, where another byte stands behind them
+-- nor adds one, where another byte stands after them
 prefix_stops : (xs ys : List ℕ) → prefix_len is_parameter xs < length xs → prefix_len is_parameter (xs ++ ys) ≡ prefix_len is_parameter xs
 prefix_stops xs ys inside =
     let n = prefix_len is_parameter xs in
@@ -131,7 +131,7 @@ none_unless : (t : Bool) (o p : Option Scanned) → cond t o p ≡ None → (p �
 none_unless true o p h there = (refl, h)
 none_unless false o p h there = absurd (there h)
 
--- no more is wanted of a mouse's report where four bytes stand behind ESC [
+-- no more is wanted of a mouse's report where four bytes stand after ESC [
 mouse_there : (l : Bool) (letter left : ℕ) (parameters : List ℕ) (s : Scanned) → 4 ≤ length parameters + (1 + left)
     → cond (eqb letter 77 && eqb (length parameters) 0) (mouse_report l left) (Some s) ≡ None → ⊥
 mouse_there l letter left parameters s long none =
@@ -141,7 +141,7 @@ mouse_there l letter left parameters s long none =
     let both : scanned_as Unknown 6 ≡ None = sym told ∙ mouse.1 in
     absurd (cc both)
 
--- behind parameters and a letter, and four bytes in all, more is wanted of a pasted text alone
+-- after parameters and a letter, and four bytes in all, more is wanted of a pasted text alone
 ended_begins : (l m : Bool) (parameters ys more : List ℕ) → 0 < length ys → 4 ≤ length parameters + length ys → ended_at l parameters ys ≡ None
     → ended_at m parameters (ys ++ more) ≡ paste_on m (3 + length parameters) (searched_to 0 (length ys - 1)) (drop 1 (ys ++ more))
 ended_begins l m parameters [] more some long none = absurd (omega arith)
@@ -188,14 +188,14 @@ paste_begins l m len rest more inside short long none =
     ∙ ap (λ n. paste_on m (3 + all) (searched_to 0 (n - 1)) (drop 1 (left ++ more))) some
     ∙ ap (λ ys. paste_on m (3 + all) (searched_to 0 (length rest - all - 1)) ys) text)
 
--- ESC [ and what stands behind it
+-- ESC [ and what stands after it
 begins_sequence : (l : Bool) (rest : List ℕ) → parameters_on l 0 rest ≡ token_at l (27 ∷ 91 ∷ rest)
 unfolding token_at
 begins_sequence l rest =
     let all : 0 + prefix_len is_parameter rest ≡ prefix_len is_parameter rest = omega arith in
     ap (λ n. ended_at l (take n rest) (drop n rest)) all
 
--- the bytes behind ESC [ were read so far
+-- the bytes after ESC [ were read so far
 behind_fits : (l : Bool) (len : ℕ) (bytes : List ℕ) → 2 + len ≤ length bytes → (all : ℕ) → all ≡ len + prefix_len is_parameter (drop len (drop 2 bytes))
     → ((m : Bool) (more : List ℕ) → parameters_on m len (drop 2 bytes ++ more) ≡ token_at m (bytes ++ more))
     → parameters_on l len (drop 2 bytes) ≡ None
@@ -255,7 +255,7 @@ behind_fits l len bytes inside all is goes none = next (cases_Bool (eqb all (len
               ∙ goes m more;
         })
 
--- the bytes of a string behind ESC ] or ESC P were read so far
+-- the bytes of a string after ESC ] or ESC P were read so far
 string_fits : (len : ℕ) (bytes : List ℕ) → 2 + len ≤ length bytes
     → ((l : Bool) (more : List ℕ) → string_on l len (drop 2 bytes ++ more) ≡ token_at l (bytes ++ more))
     → Fits (behind_string len (drop 2 bytes)) bytes

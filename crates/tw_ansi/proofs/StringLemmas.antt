@@ -9,7 +9,7 @@ use Rattle.tw_ansi.specs.KeyBytes.{token_at, string_at, string_of, string_before
 use Rattle.tw_ansi.specs.KeyLaws.{AltOpenings, IsStringFront, EndedStrings, CutStrings, OpenStrings}
 use Rattle.tw_ansi.proofs.Reports.{prefix_all}
 
--- what stands behind ESC ] and ESC P
+-- what stands after ESC ] and ESC P
 pub opened : (l : Bool) (opening : ℕ) (bytes : List ℕ) → opens_string opening ≡ true → token_at l (27 ∷ opening ∷ bytes) ≡ string_at l opening bytes
 unfolding token_at
 opened l opening bytes opens = by_byte (or_cases (eqb opening 93) (eqb opening 80) opens)
@@ -30,7 +30,7 @@ alt_openings opening opens = (
 can_stand : (b : ℕ) → begins_answer b ≡ true → is_string_byte b ≡ true
 can_stand b h = grind arith
 
--- a string, and what stands behind its bytes
+-- a string, and what stands after its bytes
 behind_front : (l : Bool) (front rest : List ℕ) → IsStringFront front → prefix_len is_string_byte rest ≡ 0 → token_at l (front ++ rest) ≡ string_of l (length front) rest
 behind_front l front rest f stops =
     let bytes = f.first ∷ f.text in

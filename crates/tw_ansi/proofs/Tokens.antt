@@ -92,7 +92,7 @@ ended_within n l parameters [] fits = either n l _ _ (taken n 2 (key_token (Char
 ended_within n l parameters (b ∷ bytes) fits =
     either n _ _ _ (sequence_within n l parameters b bytes (omega arith)) (taken n (2 + length parameters) Unknown (omega arith) (omega arith))
 
--- the parameters and what stands behind them are all the bytes
+-- the parameters and what stands after them are all the bytes
 pub parameters_split : (bytes : List ℕ) → length (take (prefix_len is_parameter bytes) bytes) + length (drop (prefix_len is_parameter bytes) bytes) ≡ length bytes
 parameters_split bytes =
     let k = prefix_len is_parameter bytes in

@@ -172,7 +172,7 @@ control_only l bytes =
     subst (λ xs. OnlyUnknown (27 ∷ 91 ∷ xs) (control_at l bytes)) (take-append-drop k bytes)
     (ended_only l (take k bytes) (drop k bytes) (front_all is_parameter bytes))
 
--- strings, behind ESC and a byte that opens them
+-- strings, after ESC and a byte that opens them
 module _ (opening : ℕ) (opens : opens_string opening ≡ true) where
   -- a string with what ends it, or without an end
   string_is : (text final rest : List ℕ) (used : ℕ) → list_all is_string_byte text ≡ true → (final ≡ []) ⊎ ((final ≡ 7 ∷ []) ⊎ (final ≡ 27 ∷ 92 ∷ []))

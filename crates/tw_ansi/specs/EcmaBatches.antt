@@ -33,7 +33,7 @@ IsReached h (Relative (pos n)) = n ≤ most_rows
 IsReached h (Relative (negsuc n)) = n < most_rows
 
 -- a change whose bytes do at a terminal of h rows and w columns what the change draws: any but a text that is not plain, a move to a row that is not
--- reached, and a clearing from behind the last column of the last row on; the colours, and the one that is known to be set behind the text where it
+-- reached, and a clearing from after the last column of the last row on; the colours, and the one that is known to be set after the text where it
 -- clears, are by bytes, and a clearing leaves blanks
 abbrev pub IsSendable : {A C : Type 0} → Pen A C → ℕ → ℕ → Encoder → ChangeView → PictureOf C → Type 0
 IsSendable pen h w e (Text text) s = list_all is_plain text ≡ true

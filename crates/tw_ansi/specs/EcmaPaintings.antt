@@ -46,13 +46,13 @@ pub record IsTypedScene (scene : Scene) : Type 0 where
 abbrev pub IsNear : ℕ → ℕ → Scene → Type 0
 IsNear h w scene = IsReached h (Relative ((cursor_place w scene).y -ℤ (place_after_all w (shown_part w scene) origin).y))
 
--- such a painting is sendable where the cursor does not stand behind the last column and the known colour is by bytes
+-- such a painting is sendable where the cursor does not stand after the last column and the known colour is by bytes
 abbrev pub PaintingIsSendable : {A C : Type 0} → Pen A C → Type 0
 PaintingIsSendable {A} {C} pen = (h w : ℕ) (scene : Scene) (e : Encoder) (s : PictureOf C)
     → IsTypedScene scene → IsNear h w scene → IsColor e.attributes.background → s.col < w
     → AreSendable pen h w e (painting w scene).changes s
 
--- and behind the move to the first row of the painting before, wherever the cursor stands
+-- and after the move to the first row of the painting before, wherever the cursor stands
 abbrev pub RepaintingIsSendable : {A C : Type 0} → Pen A C → Type 0
 RepaintingIsSendable {A} {C} pen = (h w : ℕ) (before : Mark) (scene : Scene) (e : Encoder) (s : PictureOf C)
     → 0 < w → IsTypedScene scene → IsNear h w scene → IsReached h (Relative (neg_ℤ before.row)) → IsColor e.attributes.background
@@ -64,7 +64,7 @@ ClosingIsSendable {A} {C} pen = (h w : ℕ) (m : Mark) (e : Encoder) (s : Pictur
     → 0 < w → IsReached h (Relative (pos (1 + m.height) -ℤ m.row)) → IsColor e.attributes.background
     → AreSendable pen h w e (closing m) s
 
--- the colour that is known behind such a painting is by bytes
+-- the colour that is known after such a painting is by bytes
 abbrev pub PaintingKnowsColor : Type 0
 PaintingKnowsColor = (w : ℕ) (scene : Scene) (e : Encoder) → IsTypedScene scene
     → IsColor (sent_batch (painting w scene).changes e).next.attributes.background
@@ -88,7 +88,7 @@ pub record IsShowable (h w : ℕ) (scene : Scene) : Type 0 where
   pub back : IsReached h (Relative (neg_ℤ (painting w scene).row))
   pub under : IsReached h (Relative (pos (1 + (painting w scene).height) -ℤ (painting w scene).row))
 
--- all batches of a run that paints such scenes are sendable, where the cursor does not stand behind the last column at first
+-- all batches of a run that paints such scenes are sendable, where the cursor does not stand after the last column at first
 abbrev pub RunIsSendable : {A C : Type 0} → Pen A C → Type 0
 RunIsSendable {A} {C} pen = (h w : ℕ) (scenes : List Scene) (e : Encoder) (s : PictureOf C)
     → 0 < w → AllByRecursion (IsShowable h w) scenes → IsColor e.attributes.background → s.col < w

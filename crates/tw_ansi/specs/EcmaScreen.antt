@@ -15,7 +15,7 @@ pub data Reading : Type 0 where
   Escaped : Reading
   Parameters : List ℕ → Reading
 
--- the cells shown, the cursor, whether it waits behind the last column, the attributes that are selected, and how far a sequence was read
+-- the cells shown, the cursor, whether it waits after the last column, the attributes that are selected, and how far a sequence was read
 pub record EcmaScreen (C : Type 0) : Type 0 where
   pub cell : ℕ → ℕ → C
   pub row : ℕ

@@ -15,7 +15,7 @@ pub record IsOfRows {C : Type 0} (blank : C) (h : ℕ) (s : PictureOf C) : Type 
   pub row : s.row < h
   pub below : (r c : ℕ) → h ≤ r → s.cell r c ≡ blank
 
--- the terminal shows the picture of a screen of h rows and w columns: the same cells and the same row; behind the last column it waits there, or
+-- the terminal shows the picture of a screen of h rows and w columns: the same cells and the same row; after the last column it waits there, or
 -- stands in it without waiting and the encoder knows that; and those attributes are selected that the encoder knows
 pub record ShowsPicture {A C : Type 0} (pen : Pen A C) (h w : ℕ) (e : Encoder) (t : EcmaScreen C) (s : PictureOf C) : Type 0 where
   pub within : IsOfRows (blank_of pen) h s

@@ -17,8 +17,8 @@ use Rattle.tw_ansi.specs.declared.encode.Encoder.{Encoder}
 use Rattle.tw_ansi.specs.Sequences.{to_column, to_row, clear_below, clear_rows, clear_all, to_first_cell, set_attribute, set_attributes, clear_with, up_a_row}
 
 -- the old bytes stay, and more follow them
-abbrev pub Extends : List ℕ → List ℕ → Type 0
-Extends old new = (more : List ℕ) × (new ≡ old ++ more)
+abbrev pub ExtendsBytes : List ℕ → List ℕ → Type 0
+ExtendsBytes old new = (more : List ℕ) × (new ≡ old ++ more)
 
 -- the bytes that are sent, and what is known of the terminal then
 pub record Sent : Type 0 where

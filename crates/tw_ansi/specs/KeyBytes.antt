@@ -73,7 +73,7 @@ code_of b (c ∷ d ∷ []) = b % 16 * 4096 + c % 64 * 64 + d % 64
 code_of b (c ∷ d ∷ e ∷ []) = b % 8 * 262144 + c % 64 * 4096 + d % 64 * 64 + e % 64
 code_of b _ = 0
 
--- the least code that takes so many bytes behind the first one
+-- the least code that takes so many bytes after the first one
 abbrev pub least_code : ℕ → ℕ
 least_code following = if eqb following 1 then 128 else if eqb following 2 then 2048 else 65536
 
@@ -94,7 +94,7 @@ wide_character is_last b following =
     else if ltb (length following) (following_len b) then unless_last is_last replacement
     else whole_character b following
 
--- a character that is no control character, by its first byte and what stands behind it
+-- a character that is no control character, by its first byte and what stands after it
 abbrev pub typed_at : Bool → ℕ → List ℕ → Option Scanned
 typed_at is_last b bytes =
     if ltb b 127 then scanned_as (key_token (Char b) none) 1
@@ -110,12 +110,12 @@ abbrev pub key_or : Option KeyCode → Option Scanned → Option Scanned
 key_or (Some key) other = scanned_as (key_token key none) 1
 key_or None other = other
 
--- a character or a control key, by its first byte and what stands behind it
+-- a character or a control key, by its first byte and what stands after it
 abbrev pub character_at : Bool → ℕ → List ℕ → Option Scanned
 character_at is_last b bytes =
     key_or (key_in control_characters b) (if ltb b 32 then with_control b else typed_at is_last b bytes)
 
--- the same key, with ALT held too, behind an ESC
+-- the same key, with ALT held too, after an ESC
 abbrev pub with_alt : Token → Token
 with_alt (Key event) = key_token event.key (bit_or (modifier_bits event.modifiers) alt)
 with_alt other = other
@@ -124,7 +124,7 @@ abbrev pub behind_escape : Option Scanned → Option Scanned
 behind_escape (Some s) = scanned_as (with_alt s.token) (s.used + 1)
 behind_escape None = None
 
--- behind ESC O: a key of the application mode, or ALT and O
+-- after ESC O: a key of the application mode, or ALT and O
 abbrev pub application_key : Option KeyCode → Option Scanned
 application_key (Some key) = scanned_as (key_token key none) 3
 application_key None = scanned_as (key_token (Char 79) alt) 2
@@ -156,7 +156,7 @@ is_semicolon b = eqb b 59
 abbrev pub most : ℕ
 most = 2 ^ 32 - 1
 
--- the number that digits write behind those of n
+-- the number that digits write after those of n
 abbrev pub value_after : ℕ → List ℕ → ℕ
 value_after n [] = n
 value_after n (digit ∷ digits) = value_after (n * 10 + (digit - 48)) digits
@@ -200,7 +200,7 @@ numbers_token first second letter =
 abbrev pub size_token : ℕ → ℕ → Token
 size_token rows cols = if ltb 0 rows && ltb 0 cols then Size cols rows else Unknown
 
--- what some parameters and a letter say: a size behind 48 and before t, as terminals tell it in mode 2048
+-- what some parameters and a letter say: a size after 48 and before t, as terminals tell it in mode 2048
 unfoldable pub parameters_token : List ℕ → ℕ → Token
 parameters_token parameters letter =
     if eqb letter 116 && eqb (first_number parameters) 48 then size_token (second_number parameters) (third_number parameters)
@@ -215,7 +215,7 @@ abbrev pub paste_len : List ℕ → Option ℕ
 paste_len [] = None
 paste_len (b ∷ bytes) = if starts_with eqb (b ∷ bytes) paste_end then Some 0 else option_map (λ n. n + 1) (paste_len bytes)
 
--- a pasted text behind a sequence of so many bytes: all up to its first end, or to the last byte
+-- a pasted text after a sequence of so many bytes: all up to its first end, or to the last byte
 abbrev pub paste_of : Bool → ℕ → ℕ → Option ℕ → Option Scanned
 paste_of is_last from left (Some len) = scanned_as (Paste from len) (from + len + 6)
 paste_of is_last from left None = unless_last is_last (scanned_as (Paste from left) (from + left))
@@ -223,12 +223,12 @@ paste_of is_last from left None = unless_last is_last (scanned_as (Paste from le
 abbrev pub paste_at : Bool → ℕ → List ℕ → Option Scanned
 paste_at is_last from bytes = paste_of is_last from (length bytes) (paste_len bytes)
 
--- a mouse's report behind ESC [ M: three bytes, of which so many are there
+-- a mouse's report after ESC [ M: three bytes, of which so many are there
 abbrev pub mouse_report : Bool → ℕ → Option Scanned
 mouse_report is_last left =
     if ltb left 3 then unless_last is_last (scanned_as Unknown (3 + left)) else scanned_as Unknown 6
 
--- a sequence with these parameters and this letter, and what stands behind it
+-- a sequence with these parameters and this letter, and what stands after it
 abbrev pub sequence_at : Bool → List ℕ → ℕ → List ℕ → Option Scanned
 sequence_at is_last parameters letter bytes =
     if not (list_all is_numeric parameters) then scanned_as Unknown (3 + length parameters)
@@ -236,18 +236,18 @@ sequence_at is_last parameters letter bytes =
     else if eqb letter 77 && eqb (length parameters) 0 then mouse_report is_last (length bytes)
     else scanned_as (parameters_token parameters letter) (3 + length parameters)
 
--- parameters, and the byte behind them: where it ends no sequence it is not taken
+-- parameters, and the byte after them: where it ends no sequence it is not taken
 abbrev pub ended_at : Bool → List ℕ → List ℕ → Option Scanned
 ended_at is_last parameters [] = unless_last is_last (scanned_as (key_token (Char 91) alt) 2)
 ended_at is_last parameters (b ∷ bytes) =
     if is_letter b then sequence_at is_last parameters b bytes else scanned_as Unknown (2 + length parameters)
 
--- behind ESC [: parameters, a letter and what stands behind it
+-- after ESC [: parameters, a letter and what stands after it
 abbrev pub control_at : Bool → List ℕ → Option Scanned
 control_at is_last bytes =
     ended_at is_last (take (prefix_len is_parameter bytes) bytes) (drop (prefix_len is_parameter bytes) bytes)
 
--- whether a byte begins a control string behind ESC: ] or P
+-- whether a byte begins a control string after ESC: ] or P
 abbrev pub opens_string : ℕ → Bool
 opens_string b = eqb b 93 || eqb b 80
 
@@ -259,13 +259,13 @@ begins_answer b = is_digit b || (eqb b 33 || eqb b 62)
 abbrev pub is_string_byte : ℕ → Bool
 is_string_byte b = leb 32 b && not (eqb b 127)
 
--- a string of so many bytes before an ESC, by what stands behind that: with \ it ends the string, else it is not taken
+-- a string of so many bytes before an ESC, by what stands after that: with \ it ends the string, else it is not taken
 abbrev pub string_before_escape : Bool → ℕ → List ℕ → Option Scanned
 string_before_escape is_last used [] = unless_last is_last (scanned_as Unknown used)
 string_before_escape is_last used (b ∷ bytes) =
     if eqb b 92 then scanned_as Unknown (used + 2) else scanned_as Unknown used
 
--- a string of so many bytes, by what stands behind them: BEL ends it, and so does ESC \, and no other byte is taken
+-- a string of so many bytes, by what stands after them: BEL ends it, and so does ESC \, and no other byte is taken
 abbrev pub string_of : Bool → ℕ → List ℕ → Option Scanned
 string_of is_last used [] = unless_last is_last (scanned_as Unknown used)
 string_of is_last used (b ∷ bytes) =
@@ -273,12 +273,12 @@ string_of is_last used (b ∷ bytes) =
     else if eqb b 7 then scanned_as Unknown (used + 1)
     else scanned_as Unknown used
 
--- behind ESC ] or ESC P: all up to the first control character, and what ends the string
+-- after ESC ] or ESC P: all up to the first control character, and what ends the string
 abbrev pub whole_string : Bool → List ℕ → Option Scanned
 whole_string is_last bytes =
     let len = prefix_len is_string_byte bytes in string_of is_last (2 + len) (drop len bytes)
 
--- behind ESC ] or ESC P: a string, where a byte stands there that begins an answer, or else that character with ALT
+-- after ESC ] or ESC P: a string, where a byte stands there that begins an answer, or else that character with ALT
 abbrev pub string_at : Bool → ℕ → List ℕ → Option Scanned
 string_at is_last opening [] = unless_last is_last (scanned_as (key_token (Char opening) alt) 2)
 string_at is_last opening (b ∷ bytes) =
@@ -288,7 +288,7 @@ string_at is_last opening (b ∷ bytes) =
 abbrev pub escape_alone : Option Scanned
 escape_alone = scanned_as (key_token Escape none) 1
 
--- the key of a letter behind ESC ESC [ or ESC ESC O, with ALT, or an ESC that stands for itself
+-- the key of a letter after ESC ESC [ or ESC ESC O, with ALT, or an ESC that stands for itself
 abbrev pub alt_key : Option KeyCode → Option Scanned
 alt_key (Some key) = scanned_as (key_token key alt) 4
 alt_key None = escape_alone
@@ -297,7 +297,7 @@ abbrev pub alt_key_at : Bool → KeyRows → List ℕ → Option Scanned
 alt_key_at is_last rows [] = unless_last is_last escape_alone
 alt_key_at is_last rows (letter ∷ bytes) = alt_key (key_in rows letter)
 
--- behind ESC ESC: the bytes of an arrow or of another key with a letter, whose ALT some terminals tell so
+-- after ESC ESC: the bytes of an arrow or of another key with a letter, whose ALT some terminals tell so
 abbrev pub second_escape_at : Bool → List ℕ → Option Scanned
 second_escape_at is_last [] = unless_last is_last escape_alone
 second_escape_at is_last (b ∷ bytes) =
@@ -305,7 +305,7 @@ second_escape_at is_last (b ∷ bytes) =
     else if eqb b 79 then alt_key_at is_last application_keys bytes
     else escape_alone
 
--- behind ESC: nothing or another ESC, a sequence, a string, or a key with ALT
+-- after ESC: nothing or another ESC, a sequence, a string, or a key with ALT
 abbrev pub escape_at : Bool → List ℕ → Option Scanned
 escape_at is_last [] = escape_alone
 escape_at is_last (b ∷ bytes) =

@@ -123,7 +123,7 @@ abbrev pub CursorReports : Type 0
 CursorReports = (row col : ℕ) → 1 < row → row < 2 ^ 64 → 0 < col → col < 2 ^ 64
     → IsTaken (sequence (decimal row ++ 59 ∷ decimal col) (82 ∷ [])) (Size (min col most) (min row most))
 
--- a size that a terminal tells by itself: ESC [ 48, its rows and its columns behind a semicolon each, and more numbers before t
+-- a size that a terminal tells by itself: ESC [ 48, its rows and its columns after a semicolon each, and more numbers before t
 abbrev pub SizeReports : Type 0
 SizeReports = (rows cols : ℕ) (more : List ℕ) → 0 < rows → rows < 2 ^ 64 → 0 < cols → cols < 2 ^ 64 → list_all is_numeric more ≡ true
     → IsTaken (sequence (codes "48;" ++ decimal rows ++ 59 ∷ (decimal cols ++ 59 ∷ more)) (116 ∷ [])) (Size (min cols most) (min rows most))
@@ -132,7 +132,7 @@ SizeReports = (rows cols : ℕ) (more : List ℕ) → 0 < rows → rows < 2 ^ 64
 abbrev pub paste_start : List ℕ
 paste_start = 27 ∷ 91 ∷ 50 ∷ 48 ∷ 48 ∷ 126 ∷ []
 
--- a pasted text stands behind ESC [ 200 ~ and before the first ESC [ 201 ~
+-- a pasted text stands after ESC [ 200 ~ and before the first ESC [ 201 ~
 abbrev pub PastedTexts : Type 0
 PastedTexts = (text : List ℕ) → ((front back : List ℕ) → text ≢ front ++ paste_end ++ back)
     → IsTaken (paste_start ++ text ++ paste_end) (Paste (length paste_start) (length text))
@@ -162,7 +162,7 @@ pub record IsMouseReport (bytes : List ℕ) : Type 0 where
   pub parts : bytes ≡ 27 ∷ 91 ∷ 77 ∷ told
   pub at_most_three : length told ≤ 3
 
--- what is not known is a control sequence, a control string or a mouse's report, and no byte behind it
+-- what is not known is a control sequence, a control string or a mouse's report, and no byte after it
 abbrev pub UnknownSequences : Type 0
 UnknownSequences = (is_last : Bool) (bytes : List ℕ) (used : ℕ) → token_at is_last bytes ≡ scanned_as Unknown used
     → IsControlSequence (take used bytes) ⊎ (IsControlString (take used bytes) ⊎ IsMouseReport (take used bytes))
@@ -171,7 +171,7 @@ UnknownSequences = (is_last : Bool) (bytes : List ℕ) (used : ℕ) → token_at
 abbrev pub MouseReports : Type 0
 MouseReports = (a b c : ℕ) → IsTaken (27 ∷ 91 ∷ 77 ∷ a ∷ b ∷ c ∷ []) Unknown
 
--- where fewer than three bytes stand behind ESC [ M more are wanted, unless these are the last ones
+-- where fewer than three bytes stand after ESC [ M more are wanted, unless these are the last ones
 abbrev pub OpenMouseReports : Type 0
 OpenMouseReports = (is_last : Bool) (told : List ℕ) → length told < 3
     → token_at is_last (27 ∷ 91 ∷ 77 ∷ told) ≡ unless_last is_last (scanned_as Unknown (3 + length told))
@@ -186,17 +186,17 @@ pub record IsStringFront (bytes : List ℕ) : Type 0 where
   pub answers : begins_answer first ≡ true
   pub between : list_all is_string_byte text ≡ true
 
--- such bytes are taken whole with BEL or ESC \ behind them, whatever follows
+-- such bytes are taken whole with BEL or ESC \ after them, whatever follows
 abbrev pub EndedStrings : Type 0
 EndedStrings = (front : List ℕ) → IsStringFront front → IsTaken (front ++ 7 ∷ []) Unknown × IsTaken (front ++ 27 ∷ 92 ∷ []) Unknown
 
--- and without another control character that stands behind them: so a string without an end swallows no key
+-- and without another control character that stands after them: so a string without an end swallows no key
 abbrev pub CutStrings : Type 0
 CutStrings = (front : List ℕ) → IsStringFront front → (is_last : Bool) (b : ℕ) (rest : List ℕ)
     → (is_string_byte b ≡ false → b ≢ 7 → b ≢ 27 → token_at is_last (front ++ b ∷ rest) ≡ scanned_as Unknown (length front))
     × (b ≢ 92 → token_at is_last (front ++ 27 ∷ b ∷ rest) ≡ scanned_as Unknown (length front))
 
--- where nothing stands behind them more bytes are wanted, unless these are the last ones
+-- where nothing stands after them more bytes are wanted, unless these are the last ones
 abbrev pub OpenStrings : Type 0
 OpenStrings = (front : List ℕ) → IsStringFront front → (is_last : Bool)
     → token_at is_last front ≡ unless_last is_last (scanned_as Unknown (length front))
@@ -215,6 +215,6 @@ abbrev pub CutCharacters : Type 0
 CutCharacters = (is_last : Bool) (b d : ℕ) (front rest : List ℕ) → 128 ≤ b → length front < following_len b → is_continuation d ≡ false
     → token_at is_last (b ∷ front ++ d ∷ rest) ≡ replacement
 
--- more bytes are wanted behind such a byte only where fewer stand there than should, and each of them can follow
+-- more bytes are wanted after such a byte only where fewer stand there than should, and each of them can follow
 abbrev pub WaitsForCharacter : Type 0
 WaitsForCharacter = (b : ℕ) (bytes : List ℕ) → 128 ≤ b → token_at false (b ∷ bytes) ≡ None → (length bytes < following_len b) × (list_all is_continuation bytes ≡ true)

@@ -34,14 +34,14 @@ renditions =
     ∷ record { number = 49; change = Background Default }
     ∷ []
 
--- what is sent behind 22, since a terminal may show bold and faint at once
+-- what is sent after 22, since a terminal may show bold and faint at once
 abbrev pub intensities : List Rendition
 intensities =
     record { number = 1; change = Intensity intensity.Bold }
     ∷ record { number = 2; change = Intensity intensity.Half }
     ∷ []
 
--- what is sent behind 25, likewise
+-- what is sent after 25, likewise
 abbrev pub blinks : List Rendition
 blinks =
     record { number = 5; change = Blink blink.Slow }

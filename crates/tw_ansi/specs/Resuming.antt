@@ -7,19 +7,19 @@ use Rattle.tw_ansi.specs.declared.resume.Progress.{Progress}
 use Rattle.tw_ansi.specs.declared.resume.Progress.TheVariants.{Start, Parameters, ControlString, Paste}
 use Rattle.tw_ansi.specs.KeyBytes.{token_at, ended_at, string_of, paste_of, paste_len, is_parameter, is_string_byte, opens_string, begins_answer}
 
--- behind ESC [, the first so many bytes being parameters
+-- after ESC [, the first so many bytes being parameters
 abbrev pub parameters_on : Bool → ℕ → List ℕ → Option Scanned
 parameters_on is_last len bytes =
     let all = len + prefix_len is_parameter (drop len bytes) in
     ended_at is_last (take all bytes) (drop all bytes)
 
--- behind ESC ] or ESC P, the first so many bytes being a string's
+-- after ESC ] or ESC P, the first so many bytes being a string's
 abbrev pub string_on : Bool → ℕ → List ℕ → Option Scanned
 string_on is_last len bytes =
     let all = len + prefix_len is_string_byte (drop len bytes) in
     string_of is_last (2 + all) (drop all bytes)
 
--- a pasted text, whose end is sought behind its first so many bytes
+-- a pasted text, whose end is sought after its first so many bytes
 abbrev pub paste_on : Bool → ℕ → ℕ → List ℕ → Option Scanned
 paste_on is_last from searched bytes =
     paste_of is_last from (length bytes) (option_map (λ n. n + searched) (paste_len (drop searched bytes)))
@@ -47,14 +47,14 @@ pub record Fits (p : Progress) (bytes : List ℕ) : Type 0 where
 abbrev pub searched_to : ℕ → ℕ → ℕ
 searched_to searched len = searched + (len - searched - 5)
 
--- how far the bytes behind ESC [ were read, where they are no token yet: fewer than four do not hold 200 ~
+-- how far the bytes after ESC [ were read, where they are no token yet: fewer than four do not hold 200 ~
 abbrev pub behind_parameters : ℕ → List ℕ → Progress
 behind_parameters len bytes =
     let all = len + prefix_len is_parameter (drop len bytes) in
     if eqb all (length bytes) || ltb (length bytes) 4 then Parameters all
     else Paste (3 + all) (searched_to 0 (length bytes - all - 1))
 
--- how far the bytes behind ESC ] or ESC P were read, where they are a string without an end yet
+-- how far the bytes after ESC ] or ESC P were read, where they are a string without an end yet
 abbrev pub behind_string : ℕ → List ℕ → Progress
 behind_string len bytes = ControlString (len + prefix_len is_string_byte (drop len bytes))
 

@@ -21,7 +21,7 @@ abbrev pub fields : List ℕ → List (List ℕ)
 fields [] = [] ∷ []
 fields (b ∷ bytes) = if eqb b 59 then [] ∷ fields bytes else onto_first b (fields bytes)
 
--- the attributes behind a parameter that is the number of a row
+-- the attributes after a parameter that is the number of a row
 abbrev pub selected_in : List Rendition → List ℕ → CellAttributes → CellAttributes
 selected_in [] field a = a
 selected_in (row ∷ rows) field a =
@@ -35,7 +35,7 @@ underlined field a =
     else if pointwise eqb field (codes "4:5") then with_attribute (Underline underline.Dashed) a
     else selected_in (renditions ++ intensities ++ blinks) field a
 
--- a colour is awaited for the text or behind it, and these numbers stand behind its 38 or 48
+-- a colour is awaited for the text or after it, and these numbers stand after its 38 or 48
 pub data Awaited : Type 0 where
   NoColor : Awaited
   Color : (ColorAttribute → AttributeChange) → List ℕ → Awaited
@@ -48,7 +48,7 @@ pub record Selection : Type 0 where
 abbrev pub selects : CellAttributes → Selection
 selects a = record { attributes = a; awaited = NoColor }
 
--- the numbers of a colour: behind 5 its index, and behind any other one red, green and blue
+-- the numbers of a colour: after 5 its index, and after any other one red, green and blue
 abbrev pub colored : (ColorAttribute → AttributeChange) → List ℕ → CellAttributes → Selection
 colored kind (m ∷ index ∷ []) a =
     if eqb m 5 then selects (with_attribute (kind (PaletteIndex index)) a) else record { attributes = a; awaited = Color kind (m ∷ index ∷ []) }
@@ -68,6 +68,6 @@ abbrev pub selected_by : List (List ℕ) → Selection → Selection
 selected_by [] s = s
 selected_by (field ∷ more) s = selected_by more (select s.awaited field s.attributes)
 
--- the attributes behind an SGR sequence of these parameters
+-- the attributes after an SGR sequence of these parameters
 abbrev pub selected : List ℕ → CellAttributes → CellAttributes
 selected parameters a = (selected_by (fields parameters) (selects a)).attributes

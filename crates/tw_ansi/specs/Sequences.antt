@@ -57,7 +57,7 @@ clear_all = sequence (codes "2") (codes "J")
 abbrev pub to_first_cell : List ℕ
 to_first_cell = sequence [] (codes "H")
 
--- the parameters of a colour, where 3 is the text's own and 4 the one behind it
+-- the parameters of a colour, where 3 is the text's own and 4 the one after it
 abbrev pub color_parameters : List ℕ → ColorAttribute → List ℕ
 color_parameters kind Default = kind ++ codes "9"
 color_parameters kind (PaletteIndex index) = kind ++ codes "8;5;" ++ decimal index
@@ -133,7 +133,7 @@ is_same_color (PaletteIndex a) (PaletteIndex b) = eqb a b
 is_same_color (TrueColorWithDefaultFallback a b c) (TrueColorWithDefaultFallback d e f) = eqb a d && eqb b e && eqb c f
 is_same_color _ _ = false
 
--- clears by a sequence, with this colour behind the text; the colour that is set there stays set
+-- clears by a sequence, with this colour after the text; the colour that is set there stays set
 abbrev pub clear_with : List ℕ → ColorAttribute → ColorAttribute → List ℕ
 clear_with clear color set =
     if is_same_color color set then clear

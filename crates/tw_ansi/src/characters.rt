@@ -22,7 +22,7 @@ fn code_of(first: u8, following: &[u8]) -> u32
     }
 }
 
-/// The least code that takes so many bytes behind the first one.
+/// The least code that takes so many bytes after the first one.
 fn least_code(following: usize) -> u32
     ensures { result ≡ least_code following }
 {
@@ -73,7 +73,7 @@ fn first_bytes(bytes: &[u8], len: usize) -> &[u8]
     &bytes[..len.min(bytes.len())]
 }
 
-/// Whether all bytes can stand behind the first one of a character.
+/// Whether all bytes can stand after the first one of a character.
 fn all_follow(bytes: &[u8]) -> bool
     ensures { result ≡ list_all is_continuation bytes.now }
 {
@@ -119,7 +119,7 @@ fn typed_at(first: u8, bytes: &[u8], is_last: bool) -> Option<Scanned>
     }
 }
 
-/// A character or a control key, by its first byte and what stands behind it.
+/// A character or a control key, by its first byte and what stands after it.
 pub fn character_at(first: u8, bytes: &[u8], is_last: bool) -> Option<Scanned>
     ensures value { result ≡ character_at is_last first bytes.now }
     ensures bound { IfSome result (λ s. s.used ≤ 4) }

@@ -178,7 +178,7 @@ fn size_token(rows: u32, cols: u32) -> Token
     Token::Unknown
 }
 
-/// What some parameters and a letter say: a size behind 48 and before `t`, as terminals tell it in mode 2048.
+/// What some parameters and a letter say: a size after 48 and before `t`, as terminals tell it in mode 2048.
 #[tactic(auto, unfolding(crate::specs::KeyBytes::parameters_token))]
 fn parameters_token(parameters: &[u8], letter: u8) -> Token
     ensures { result ≡ parameters_token parameters.now letter }
@@ -204,7 +204,7 @@ pub fn paste_len(bytes: &[u8]) -> Option<usize>
     None
 }
 
-/// A pasted text behind a sequence of so many bytes, by where its end begins.
+/// A pasted text after a sequence of so many bytes, by where its end begins.
 pub fn paste_of(from: usize, left: usize, len: Option<usize>, is_last: bool) -> Option<Scanned>
     requires all { from + left < 2 ^ 64 }
     requires within { IfSome len (λ len. len + 6 ≤ left) }
@@ -223,7 +223,7 @@ pub fn paste_of(from: usize, left: usize, len: Option<usize>, is_last: bool) -> 
     }
 }
 
-/// A mouse's report behind ESC [ M: three bytes, of which so many are there.
+/// A mouse's report after ESC [ M: three bytes, of which so many are there.
 fn mouse_report(left: usize, is_last: bool) -> Option<Scanned>
     ensures { result ≡ mouse_report is_last left }
 {
@@ -245,7 +245,7 @@ fn all_numeric(bytes: &[u8]) -> bool
         .all(|byte| (b'0'..=b'9').contains(byte) || *byte == b';')
 }
 
-/// A sequence with these parameters and this letter, and what stands behind it.
+/// A sequence with these parameters and this letter, and what stands after it.
 fn sequence_at(parameters: &[u8], letter: u8, bytes: &[u8], is_last: bool) -> Option<Scanned>
     requires { length parameters.now + length bytes.now + 3 < 2 ^ 64 }
     ensures { result ≡ sequence_at is_last parameters.now letter bytes.now }
@@ -270,7 +270,7 @@ fn sequence_at(parameters: &[u8], letter: u8, bytes: &[u8], is_last: bool) -> Op
     })
 }
 
-/// Parameters, and what stands behind them.
+/// Parameters, and what stands after them.
 pub fn ended_at(parameters: &[u8], bytes: &[u8], is_last: bool) -> Option<Scanned>
     requires { length parameters.now + length bytes.now + 3 < 2 ^ 64 }
     ensures { result ≡ ended_at is_last parameters.now bytes.now }
@@ -286,7 +286,7 @@ pub fn ended_at(parameters: &[u8], bytes: &[u8], is_last: bool) -> Option<Scanne
     }
 }
 
-/// What stands behind ESC [.
+/// What stands after ESC [.
 pub fn control_at(bytes: &[u8], is_last: bool) -> Option<Scanned>
     requires { length bytes.now + 3 < 2 ^ 64 }
     ensures { result ≡ control_at is_last bytes.now }

@@ -41,7 +41,7 @@ fn escape_alone() -> Option<Scanned>
     key(KeyCode::Escape, Modifiers::NONE, 1)
 }
 
-/// What stands behind ESC ESC: the bytes of a key that has a letter, which is told with ALT so.
+/// What stands after ESC ESC: the bytes of a key that has a letter, which is told with ALT so.
 fn second_escape_at(bytes: &[u8], is_last: bool) -> Option<Scanned>
     ensures { result ≡ second_escape_at is_last bytes.now }
 {
@@ -57,7 +57,7 @@ fn second_escape_at(bytes: &[u8], is_last: bool) -> Option<Scanned>
     }
 }
 
-/// What stands behind an ESC.
+/// What stands after an ESC.
 fn escape_at(bytes: &[u8], is_last: bool) -> Option<Scanned>
     ensures { result ≡ escape_at is_last bytes.now }
 {
@@ -97,7 +97,7 @@ fn application_key(letter: u8) -> Option<KeyCode>
     })
 }
 
-/// What stands behind ESC O: a key of the application mode, or ALT and O were pressed.
+/// What stands after ESC O: a key of the application mode, or ALT and O were pressed.
 fn application_at(bytes: &[u8], is_last: bool) -> Option<Scanned>
     ensures { result ≡ application_at is_last bytes.now }
 {

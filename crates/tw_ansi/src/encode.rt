@@ -6,7 +6,7 @@ ghost use Rattle.std.specs.List.{list_all, list_any};
 ghost use Rattle.unicode_segmentation.specs.Grapheme.{graphemes};
 ghost use Rattle.tw_surface.specs.ChangeView.{change_view};
 ghost use Rattle.tw_surface.specs.Characters.{is_plain};
-ghost use Rattle.tw_ansi.specs.Encoding.{Extends, first_known, without_attributes, at_column, column_of, sent_change, sent_return, sent_feed, sent_return_feed, sent_beginning, sent_byte, shown_as, sent_cluster, sent_plain, sent_clusters, sent_text, sent_clear};
+ghost use Rattle.tw_ansi.specs.Encoding.{ExtendsBytes, first_known, without_attributes, at_column, column_of, sent_change, sent_return, sent_feed, sent_return_feed, sent_beginning, sent_byte, shown_as, sent_cluster, sent_plain, sent_clusters, sent_text, sent_clear};
 ghost use Rattle.tw_surface.specs.Attributes.{with_attribute};
 ghost use Rattle.tw_surface.specs.Defaults.{default_attributes};
 ghost use Rattle.tw_ansi.specs.Sequences.{set_attribute, set_attributes, to_row, to_column, to_first_cell, clear_all, clear_with};
@@ -97,7 +97,7 @@ impl Encoder {
         requires { is_plain byte ≡ true }
         ensures bytes { OnOk result (string_bytes out.new ≡ string_bytes out.old ++ (sent_byte self.old byte).bytes) }
         ensures next { OnOk result (self.new ≡ (sent_byte self.old byte).next) }
-        ensures err { OnErr result (Extends (string_bytes out.old) (string_bytes out.new)) }
+        ensures err { OnErr result (ExtendsBytes (string_bytes out.old) (string_bytes out.new)) }
     {
         self.write_byte(byte, out)
     }
@@ -106,7 +106,7 @@ impl Encoder {
     fn send(&mut self, change: &Change, out: &mut String) -> Result<(), AllocError>
         ensures bytes { OnOk result (string_bytes out.new ≡ string_bytes out.old ++ (sent_change (change_view change.now) self.old).bytes) }
         ensures next { OnOk result (self.new ≡ (sent_change (change_view change.now) self.old).next) }
-        ensures err { OnErr result (Extends (string_bytes out.old) (string_bytes out.new)) }
+        ensures err { OnErr result (ExtendsBytes (string_bytes out.old) (string_bytes out.new)) }
     {
         match change {
             Change::Attribute(change) => self.set_attribute(*change, out),
@@ -124,7 +124,7 @@ impl Encoder {
     fn set_attribute(&mut self, change: AttributeChange, out: &mut String) -> Result<(), AllocError>
         ensures bytes { OnOk result (string_bytes out.new ≡ string_bytes out.old ++ set_attribute change) }
         ensures next { self.new ≡ record self.old { attributes = with_attribute change self.old.attributes } }
-        ensures err { OnErr result (Extends (string_bytes out.old) (string_bytes out.new)) }
+        ensures err { OnErr result (ExtendsBytes (string_bytes out.old) (string_bytes out.new)) }
     {
         match change {
             AttributeChange::Intensity(to) => self.attributes.intensity = to,
@@ -144,7 +144,7 @@ impl Encoder {
     fn write(&mut self, text: &str, out: &mut String) -> Result<(), AllocError>
         ensures bytes { OnOk result (string_bytes out.new ≡ string_bytes out.old ++ (sent_text text.now self.old).bytes) }
         ensures next { OnOk result (self.new ≡ (sent_text text.now self.old).next) }
-        ensures err { OnErr result (Extends (string_bytes out.old) (string_bytes out.new)) }
+        ensures err { OnErr result (ExtendsBytes (string_bytes out.old) (string_bytes out.new)) }
     {
         if is_plain_text(text.as_bytes()) {
             self.write_plain(text.as_bytes(), out)
@@ -157,7 +157,7 @@ impl Encoder {
         requires { list_all is_plain text.now ≡ true }
         ensures bytes { OnOk result (string_bytes out.new ≡ string_bytes out.old ++ (sent_plain text.now self.old).bytes) }
         ensures next { OnOk result (self.new ≡ (sent_plain text.now self.old).next) }
-        ensures err { OnErr result (Extends (string_bytes out.old) (string_bytes out.new)) }
+        ensures err { OnErr result (ExtendsBytes (string_bytes out.old) (string_bytes out.new)) }
     {
         for byte in text {
             self.write_byte(*byte, out)?;
@@ -169,7 +169,7 @@ impl Encoder {
         ensures bytes { OnOk result (string_bytes out.new
             ≡ string_bytes out.old ++ (sent_clusters (graphemes true text.now) self.old).bytes) }
         ensures next { OnOk result (self.new ≡ (sent_clusters (graphemes true text.now) self.old).next) }
-        ensures err { OnErr result (Extends (string_bytes out.old) (string_bytes out.new)) }
+        ensures err { OnErr result (ExtendsBytes (string_bytes out.old) (string_bytes out.new)) }
     {
         for cluster in text.graphemes(true) {
             self.write_cluster(cluster, out)?;
@@ -182,7 +182,7 @@ impl Encoder {
         requires { byte < 128 }
         ensures bytes { OnOk result (string_bytes out.new ≡ string_bytes out.old ++ (sent_byte self.old byte).bytes) }
         ensures next { OnOk result (self.new ≡ (sent_byte self.old byte).next) }
-        ensures err { OnErr result (Extends (string_bytes out.old) (string_bytes out.new)) }
+        ensures err { OnErr result (ExtendsBytes (string_bytes out.old) (string_bytes out.new)) }
     {
         match byte {
             b'\r' => self.return_to_start(out),
@@ -198,7 +198,7 @@ impl Encoder {
     fn write_cluster(&mut self, cluster: &str, out: &mut String) -> Result<(), AllocError>
         ensures bytes { OnOk result (string_bytes out.new ≡ string_bytes out.old ++ (sent_cluster self.old cluster.now).bytes) }
         ensures next { OnOk result (self.new ≡ (sent_cluster self.old cluster.now).next) }
-        ensures err { OnErr result (Extends (string_bytes out.old) (string_bytes out.new)) }
+        ensures err { OnErr result (ExtendsBytes (string_bytes out.old) (string_bytes out.new)) }
     {
         match cluster.as_bytes() {
             [b'\r'] => self.return_to_start(out),
@@ -214,7 +214,7 @@ impl Encoder {
     fn return_to_start(&mut self, out: &mut String) -> Result<(), AllocError>
         ensures bytes { OnOk result (string_bytes out.new ≡ string_bytes out.old ++ (sent_return self.old).bytes) }
         ensures next { OnOk result (self.new ≡ (sent_return self.old).next) }
-        ensures err { OnErr result (Extends (string_bytes out.old) (string_bytes out.new)) }
+        ensures err { OnErr result (ExtendsBytes (string_bytes out.old) (string_bytes out.new)) }
     {
         self.stand_at(0);
         out.push('\r')
@@ -223,18 +223,18 @@ impl Encoder {
     fn return_and_feed(&mut self, out: &mut String) -> Result<(), AllocError>
         ensures bytes { OnOk result (string_bytes out.new ≡ string_bytes out.old ++ (sent_return_feed self.old).bytes) }
         ensures next { OnOk result (self.new ≡ (sent_return_feed self.old).next) }
-        ensures err { OnErr result (Extends (string_bytes out.old) (string_bytes out.new)) }
+        ensures err { OnErr result (ExtendsBytes (string_bytes out.old) (string_bytes out.new)) }
     {
         self.stand_at(0);
         out.push_str("\r\n")
     }
 
-    /// What a terminal that waits behind the last column does at a line feed is not known: so the column is gone
+    /// What a terminal that waits after the last column does at a line feed is not known: so the column is gone
     /// to again.
     fn feed_line(&mut self, out: &mut String) -> Result<(), AllocError>
         ensures bytes { OnOk result (string_bytes out.new ≡ string_bytes out.old ++ (sent_feed self.old).bytes) }
         ensures next { OnOk result (self.new ≡ (sent_feed self.old).next) }
-        ensures err { OnErr result (Extends (string_bytes out.old) (string_bytes out.new)) }
+        ensures err { OnErr result (ExtendsBytes (string_bytes out.old) (string_bytes out.new)) }
     {
         out.push('\n')?;
         if self.x < self.cols || self.parted {
@@ -248,7 +248,7 @@ impl Encoder {
     fn begin_columns(&mut self, width: usize, out: &mut String) -> Result<(), AllocError>
         ensures bytes { OnOk result (string_bytes out.new ≡ string_bytes out.old ++ (sent_beginning self.old width).bytes) }
         ensures next { OnOk result (self.new ≡ (sent_beginning self.old width).next) }
-        ensures err { OnErr result (Extends (string_bytes out.old) (string_bytes out.new)) }
+        ensures err { OnErr result (ExtendsBytes (string_bytes out.old) (string_bytes out.new)) }
     {
         if self.x <= self.cols && width <= self.cols - self.x {
             self.stand_at(self.x + width);
@@ -275,7 +275,7 @@ impl Encoder {
         ensures bytes { OnOk result (string_bytes out.new
             ≡ string_bytes out.old ++ (to_first_cell ++ clear_with clear_all color self.old.attributes.background)) }
         ensures next { self.new ≡ at_column 0 self.old }
-        ensures err { OnErr result (Extends (string_bytes out.old) (string_bytes out.new)) }
+        ensures err { OnErr result (ExtendsBytes (string_bytes out.old) (string_bytes out.new)) }
     {
         self.stand_at(0);
         out.push_str("\x1b[H")?;
@@ -283,11 +283,11 @@ impl Encoder {
     }
 
     /// Clears from the cursor on: from column 0 on by rows. Where the last column is written and the cursor stands
-    /// behind it, that column is kept.
+    /// after it, that column is kept.
     fn clear_to_end(&mut self, color: ColorAttribute, out: &mut String) -> Result<(), AllocError>
         ensures bytes { OnOk result (string_bytes out.new ≡ string_bytes out.old ++ (sent_clear color self.old).bytes) }
         ensures next { OnOk result (self.new ≡ (sent_clear color self.old).next) }
-        ensures err { OnErr result (Extends (string_bytes out.old) (string_bytes out.new)) }
+        ensures err { OnErr result (ExtendsBytes (string_bytes out.old) (string_bytes out.new)) }
     {
         let set = self.attributes.background;
         if self.x < self.cols {
@@ -307,7 +307,7 @@ impl Encoder {
     fn move_cursor(&mut self, x: Position, y: Position, out: &mut String) -> Result<(), AllocError>
         ensures bytes { OnOk result (string_bytes out.new ≡ string_bytes out.old ++ (to_row y ++ to_column (column_of x self.old))) }
         ensures next { OnOk result (self.new ≡ at_column (column_of x self.old) self.old) }
-        ensures err { OnErr result (Extends (string_bytes out.old) (string_bytes out.new)) }
+        ensures err { OnErr result (ExtendsBytes (string_bytes out.old) (string_bytes out.new)) }
     {
         let col = self.column_of(x);
         self.stand_at(col);

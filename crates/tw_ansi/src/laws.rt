@@ -127,7 +127,7 @@ pub fn pens()
 {}
 
 /// A painting of plain texts and of colours by bytes is one whose bytes do what it does, alone where the cursor does not
-/// stand behind the last column, and else behind the move to its first row; so is the closing batch. So are all batches
+/// stand after the last column, and else after the move to its first row; so is the closing batch. So are all batches
 /// of a run that paints such scenes, and a terminal that is sent their bytes shows what they leave on the model screen.
 #[tactic(auto, using(crate::proofs::EcmaPaintings::painting_is_sendable, crate::proofs::EcmaPaintings::repainting_is_sendable, crate::proofs::EcmaPaintings::closing_is_sendable, crate::proofs::EcmaPaintings::painting_knows_color, crate::proofs::EcmaPaintings::run_is_sendable, crate::proofs::EcmaPaintings::batches_are_shown))]
 pub fn paintings<A, C>()

@@ -14,7 +14,7 @@ use crate::token::Scanned;
 /// What begins a control sequence.
 const SEQUENCE: [u8; 2] = [ESC, b'['];
 
-/// How many bytes stand at least behind ESC [ where a pasted text begins.
+/// How many bytes stand at least after ESC [ where a pasted text begins.
 const PASTE_MARK_LEN: usize = 4;
 
 /// How far the bytes at the front were read, where they are no token yet.
@@ -70,7 +70,7 @@ fn begin(bytes: &[u8], is_last: bool) -> Result<Scanned, Progress>
     }
 }
 
-/// Goes on behind ESC [ and so many bytes of parameters.
+/// Goes on after ESC [ and so many bytes of parameters.
 fn parameters_on(len: usize, bytes: &[u8], is_last: bool) -> Result<Scanned, Progress>
     requires within { len ≤ length bytes.now }
     requires room { length bytes.now + 3 < 2 ^ 64 }
@@ -88,7 +88,7 @@ fn parameters_on(len: usize, bytes: &[u8], is_last: bool) -> Result<Scanned, Pro
     ended_at(&bytes[..all], &bytes[all..], is_last).ok_or(progress)
 }
 
-/// Goes on behind ESC ] or ESC P and so many bytes of a control string.
+/// Goes on after ESC ] or ESC P and so many bytes of a control string.
 fn string_on(len: usize, bytes: &[u8], is_last: bool) -> Result<Scanned, Progress>
     requires within { len ≤ length bytes.now }
     requires room { length bytes.now + 4 < 2 ^ 64 }
@@ -106,7 +106,7 @@ fn searched_to(searched: usize, len: usize) -> usize
     searched + (len - searched).saturating_sub(PASTE_END.len() - 1)
 }
 
-/// Goes on in a pasted text that begins behind so many bytes.
+/// Goes on in a pasted text that begins after so many bytes.
 fn paste_on(from: usize, searched: usize, bytes: &[u8], is_last: bool) -> Result<Scanned, Progress>
     requires within { searched ≤ length bytes.now }
     requires room { from + length bytes.now < 2 ^ 64 }

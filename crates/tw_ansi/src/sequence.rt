@@ -4,7 +4,7 @@ ghost use Rattle.std.specs.Prelude.{◌≡◌, ◌++◌, false, OnOk, OnErr, str
 ghost use Rattle.std.specs.Fmt.{decimal};
 ghost use Rattle.std.specs.List.{flat_map};
 ghost use Rattle.tw_surface.specs.Characters.{lf};
-ghost use Rattle.tw_ansi.specs.Encoding.{Extends};
+ghost use Rattle.tw_ansi.specs.Encoding.{ExtendsBytes};
 ghost use Rattle.tw_ansi.specs.Sequences.{sequence, to_column, to_row, attribute_parameters, color_parameters, set_attribute, set_attributes, set_unless_off, is_color, is_off, is_same_color, clear_with};
 
 use itoa::Buffer;
@@ -19,7 +19,7 @@ const MOST_ROWS: usize = 65_535;
 /// Adds texts, one after the other.
 pub fn push_all(out: &mut String, texts: &[&str]) -> Result<(), AllocError>
     ensures ok { OnOk result (string_bytes out.new ≡ string_bytes out.old ++ flat_map (λ text. text.now) texts.now) }
-    ensures err { OnErr result (Extends (string_bytes out.old) (string_bytes out.new)) }
+    ensures err { OnErr result (ExtendsBytes (string_bytes out.old) (string_bytes out.new)) }
 {
     for text in texts {
         out.push_str(text)?;
@@ -30,7 +30,7 @@ pub fn push_all(out: &mut String, texts: &[&str]) -> Result<(), AllocError>
 /// Adds a control sequence of one number.
 fn push_number(out: &mut String, number: usize, letter: &str) -> Result<(), AllocError>
     ensures ok { OnOk result (string_bytes out.new ≡ string_bytes out.old ++ sequence (decimal number) letter.now) }
-    ensures err { OnErr result (Extends (string_bytes out.old) (string_bytes out.new)) }
+    ensures err { OnErr result (ExtendsBytes (string_bytes out.old) (string_bytes out.new)) }
 {
     push_all(out, &["\x1b[", Buffer::new().format(number), letter])
 }
@@ -38,7 +38,7 @@ fn push_number(out: &mut String, number: usize, letter: &str) -> Result<(), Allo
 /// Goes to a column of the row.
 pub fn go_to_column(col: usize, out: &mut String) -> Result<(), AllocError>
     ensures ok { OnOk result (string_bytes out.new ≡ string_bytes out.old ++ to_column col) }
-    ensures err { OnErr result (Extends (string_bytes out.old) (string_bytes out.new)) }
+    ensures err { OnErr result (ExtendsBytes (string_bytes out.old) (string_bytes out.new)) }
 {
     out.push('\r')?;
     if col == 0 {
@@ -50,7 +50,7 @@ pub fn go_to_column(col: usize, out: &mut String) -> Result<(), AllocError>
 /// Goes down by line feeds.
 fn feed_lines(count: usize, out: &mut String) -> Result<(), AllocError>
     ensures ok { OnOk result (string_bytes out.new ≡ string_bytes out.old ++ replicate count lf) }
-    ensures err { OnErr result (Extends (string_bytes out.old) (string_bytes out.new)) }
+    ensures err { OnErr result (ExtendsBytes (string_bytes out.old) (string_bytes out.new)) }
 {
     for _row in 0..count {
         out.push('\n')?;
@@ -61,7 +61,7 @@ fn feed_lines(count: usize, out: &mut String) -> Result<(), AllocError>
 /// Goes to a row: up by one sequence, and down by line feeds. A move down below the last row scrolls.
 pub fn go_to_row(to: Position, out: &mut String) -> Result<(), AllocError>
     ensures ok { OnOk result (string_bytes out.new ≡ string_bytes out.old ++ to_row to) }
-    ensures err { OnErr result (Extends (string_bytes out.old) (string_bytes out.new)) }
+    ensures err { OnErr result (ExtendsBytes (string_bytes out.old) (string_bytes out.new)) }
 {
     match to {
         Position::Absolute(row) => push_number(out, row.min(MOST_ROWS) + 1, "d"),
@@ -105,10 +105,10 @@ fn plain_parameters(change: AttributeChange) -> &'static str
     }
 }
 
-/// Sets a colour, the text's own one by 3 or the one behind it by 4.
+/// Sets a colour, the text's own one by 3 or the one after it by 4.
 fn send_color(kind: &str, color: ColorAttribute, out: &mut String) -> Result<(), AllocError>
     ensures ok { OnOk result (string_bytes out.new ≡ string_bytes out.old ++ sequence (color_parameters kind.now color) (codes "m")) }
-    ensures err { OnErr result (Extends (string_bytes out.old) (string_bytes out.new)) }
+    ensures err { OnErr result (ExtendsBytes (string_bytes out.old) (string_bytes out.new)) }
 {
     match color {
         ColorAttribute::Default => push_all(out, &["\x1b[", kind, "9m"]),
@@ -136,7 +136,7 @@ fn send_color(kind: &str, color: ColorAttribute, out: &mut String) -> Result<(),
 /// Sets one attribute.
 pub fn send_attribute(change: AttributeChange, out: &mut String) -> Result<(), AllocError>
     ensures ok { OnOk result (string_bytes out.new ≡ string_bytes out.old ++ set_attribute change) }
-    ensures err { OnErr result (Extends (string_bytes out.old) (string_bytes out.new)) }
+    ensures err { OnErr result (ExtendsBytes (string_bytes out.old) (string_bytes out.new)) }
 {
     match change {
         AttributeChange::Foreground(color) => send_color("3", color, out),
@@ -166,7 +166,7 @@ fn is_off(change: AttributeChange) -> bool
 /// Sets an attribute that has not its first value.
 fn send_if_on(change: AttributeChange, out: &mut String) -> Result<(), AllocError>
     ensures ok { OnOk result (string_bytes out.new ≡ string_bytes out.old ++ set_unless_off change) }
-    ensures err { OnErr result (Extends (string_bytes out.old) (string_bytes out.new)) }
+    ensures err { OnErr result (ExtendsBytes (string_bytes out.old) (string_bytes out.new)) }
 {
     if is_off(change) {
         return Ok(());
@@ -177,7 +177,7 @@ fn send_if_on(change: AttributeChange, out: &mut String) -> Result<(), AllocErro
 /// Sets those attributes that have not their first values.
 fn send_those_on(changes: &[AttributeChange], out: &mut String) -> Result<(), AllocError>
     ensures ok { OnOk result (string_bytes out.new ≡ string_bytes out.old ++ flat_map set_unless_off changes.now) }
-    ensures err { OnErr result (Extends (string_bytes out.old) (string_bytes out.new)) }
+    ensures err { OnErr result (ExtendsBytes (string_bytes out.old) (string_bytes out.new)) }
 {
     for change in changes {
         send_if_on(*change, out)?;
@@ -188,7 +188,7 @@ fn send_those_on(changes: &[AttributeChange], out: &mut String) -> Result<(), Al
 /// Sets all attributes.
 pub fn send_attributes(to: CellAttributes, out: &mut String) -> Result<(), AllocError>
     ensures ok { OnOk result (string_bytes out.new ≡ string_bytes out.old ++ set_attributes to) }
-    ensures err { OnErr result (Extends (string_bytes out.old) (string_bytes out.new)) }
+    ensures err { OnErr result (ExtendsBytes (string_bytes out.old) (string_bytes out.new)) }
 {
     out.push_str("\x1b[0m")?;
     let changes = [
@@ -220,7 +220,7 @@ fn is_same_color(a: ColorAttribute, b: ColorAttribute) -> bool
     }
 }
 
-/// Clears by a sequence, with this colour behind the text. The colour that is set there stays set.
+/// Clears by a sequence, with this colour after the text. The colour that is set there stays set.
 pub fn clear_with(
     clear: &str,
     color: ColorAttribute,
@@ -228,7 +228,7 @@ pub fn clear_with(
     out: &mut String,
 ) -> Result<(), AllocError>
     ensures ok { OnOk result (string_bytes out.new ≡ string_bytes out.old ++ clear_with clear.now color set) }
-    ensures err { OnErr result (Extends (string_bytes out.old) (string_bytes out.new)) }
+    ensures err { OnErr result (ExtendsBytes (string_bytes out.old) (string_bytes out.new)) }
 {
     if is_same_color(color, set) {
         return out.push_str(clear);

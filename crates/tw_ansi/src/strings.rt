@@ -12,7 +12,7 @@ use tw_input::{KeyCode, Modifiers};
 
 const BEL: u8 = 0x07;
 
-/// Whether a byte begins a control string behind ESC.
+/// Whether a byte begins a control string after ESC.
 fn opens_string(byte: u8) -> bool
     ensures { result ≡ opens_string byte }
 {
@@ -59,7 +59,7 @@ fn string(used: usize) -> Option<Scanned>
     })
 }
 
-/// A string of so many bytes, by what stands behind them: BEL ends it, and so do ESC and a backslash. No other byte is
+/// A string of so many bytes, by what stands after them: BEL ends it, and so do ESC and a backslash. No other byte is
 /// taken.
 pub fn string_of(used: usize, bytes: &[u8], is_last: bool) -> Option<Scanned>
     requires { used + 2 < 2 ^ 64 }
@@ -73,7 +73,7 @@ pub fn string_of(used: usize, bytes: &[u8], is_last: bool) -> Option<Scanned>
     }
 }
 
-/// What stands behind ESC ] or ESC P: a string, or that character and ALT were pressed.
+/// What stands after ESC ] or ESC P: a string, or that character and ALT were pressed.
 pub fn string_at(opening: u8, bytes: &[u8], is_last: bool) -> Option<Scanned>
     requires { opening < 127 }
     ensures { result ≡ string_at is_last opening bytes.now }

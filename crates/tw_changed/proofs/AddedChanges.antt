@@ -5,7 +5,7 @@ use Rattle.unicode_segmentation.specs.Grapheme.{graphemes}
 use Rattle.tw_surface.specs.Characters.{is_plain, is_printable}
 use Rattle.tw_surface.specs.ChangeView.{Batch, Text}
 use Rattle.tw_ansi.specs.declared.encode.Encoder.{Encoder}
-use Rattle.tw_ansi.specs.Encoding.{Sent, sent_byte, sent_batch, sent_plain, sent_clusters, Extends}
+use Rattle.tw_ansi.specs.Encoding.{Sent, sent_byte, sent_batch, sent_plain, sent_clusters, ExtendsBytes}
 use Rattle.tw_changed.specs.declared.hand.Hand.{Hand}
 use Rattle.tw_changed.specs.declared.redrawer.Redrawer.{Redrawer}
 use Rattle.tw_screens.specs.StyledCells.{StyledCell}
@@ -83,7 +83,7 @@ typed_added b a next x y printable bytes is =
 
 -- ---- runs and rows
 
-pub extends_more : (before x y more : List ℕ) → Extends before x → y ≡ x ++ more → Extends before y
+pub extends_more : (before x y more : List ℕ) → ExtendsBytes before x → y ≡ x ++ more → ExtendsBytes before y
 extends_more before x y more (first, e) then = (first ++ more, then ∙ ap (λ v. v ++ more) e ∙ append_assoc before first more)
 
 pub run_step : (line : ℕ → StyledCell) (cell : StyledCell) (col to : ℕ) (a b old : Redrawer) (x y before : List ℕ) (all : Redrawing) → col < to → cell ≡ line col

@@ -37,7 +37,7 @@ cleared_above f r c i j x up =
     ap (λ b. cond (b || (eqb r i && leb c j)) x (f i j)) (le-ltb r i (omega (arith, up)))
     ∙ ap (λ b. cond (b && leb c j) x (f i j)) (ne_eqb r i (λ e. omega (arith, e, up)))
 
--- the end of some rows is in them, or behind them
+-- the end of some rows is in them, or after them
 pub end_within : (w rows : ℕ) (cells : ℕ → ℕ → StyledCell) → end_of w rows cells ≤ rows * w
 end_within w rows cells = elim (greatest_cases (is_used w cells) (rows * w)) [
   | inl none ↦ rw none.0 (omega arith)

@@ -29,11 +29,11 @@ blank_cell = blank_of styled
 abbrev pub is_used : ℕ → (ℕ → ℕ → StyledCell) → ℕ → Bool
 is_used w cells k = not (is_same_cell (cells (k / w) (k % w)) blank_cell)
 
--- behind an index, or at the start where there is none
+-- after an index, or at the start where there is none
 abbrev pub behind_index : Option ℕ → ℕ
 behind_index None = 0
 behind_index (Some k) = k + 1
 
--- where the cells of some rows end: the index behind the last one that is not blank
+-- where the cells of some rows end: the index after the last one that is not blank
 abbrev pub end_of : ℕ → ℕ → (ℕ → ℕ → StyledCell) → ℕ
 end_of w rows cells = behind_index (greatest_below (is_used w cells) (rows * w))

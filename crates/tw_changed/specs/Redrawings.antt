@@ -73,7 +73,7 @@ emptied_here hand = record { changes = ClearToEndOfScreen default_color ∷ []; 
 abbrev pub emptied : ℕ → ℕ → Hand → Redrawing
 emptied w from hand = redraw_then (led_to (from / w) (from % w) hand) emptied_here
 
--- where the old cells go on behind the end of the new ones, the rest begins there
+-- where the old cells go on after the end of the new ones, the rest begins there
 abbrev pub rest_of : ℕ → ℕ → (ℕ → ℕ → StyledCell) → (ℕ → ℕ → StyledCell) → Option ℕ
 rest_of w rows old new = if ltb (end_of w rows new) (end_of w rows old) then Some (end_of w rows new) else None
 

@@ -29,7 +29,7 @@ IsPrintable rows screen = (i : ℕ) → i < rows → ArePrintable screen.width (
 abbrev pub changes_between : ℕ → ℕ → StyledView → StyledView → Batch
 changes_between reached rows old new = (redrawn new.width reached rows (screen_cells old) (screen_cells new) (hand_of new) (hand_of old)).changes
 
--- what a redrawing is sent as stands behind a text, and the hand and what is known are as they are behind it
+-- what a redrawing is sent as stands after a text, and the hand and what is known are as they are after it
 pub record IsAdded (d : Redrawing) (old : Redrawer) (before : List ℕ) (new : Redrawer) (after : List ℕ) : Type 0 where
   pub bytes : after ≡ before ++ (sent_batch d.changes old.encoder).bytes
   pub next : new.encoder ≡ (sent_batch d.changes old.encoder).next

@@ -20,7 +20,7 @@ characters_from line col zero = []
 characters_from line col (suc n) = (line col).ch ∷ characters_from line (suc col) n
 
 -- the n cells at the cursor differ, the first and the last of them at least, and no others; those of the new screen are printable characters under the
--- attributes that are selected, it does not end before the old one, and its cursor stands behind them
+-- attributes that are selected, it does not end before the old one, and its cursor stands after them
 pub record IsTypedAt (w rows n : ℕ) (old new : ℕ → ℕ → StyledCell) (hand to : Hand) : Type 0 where
   pub some : 0 < n
   pub row : hand.row < rows

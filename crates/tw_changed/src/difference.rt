@@ -100,7 +100,7 @@ fn is_used(screen: &StyledScreen, index: usize) -> bool
     cell_at(screen, index / width, index % width) != ScreenCell::blank(ColorAttribute::Default)
 }
 
-/// Where the cells of some rows end: the index behind the last one that is not blank.
+/// Where the cells of some rows end: the index after the last one that is not blank.
 pub fn end_of(screen: &StyledScreen, rows: usize) -> usize
     requires { rows ≤ 65535 }
     ensures value { result ≡ end_of screen.now.width rows (screen_cells screen.now) }
@@ -116,7 +116,7 @@ pub fn end_of(screen: &StyledScreen, rows: usize) -> usize
     0
 }
 
-/// The index from which on the old screen is to be emptied: the end of the new one, where the old one goes on behind it.
+/// The index from which on the old screen is to be emptied: the end of the new one, where the old one goes on after it.
 pub fn rest_of(old: &StyledScreen, new: &StyledScreen, rows: usize) -> Option<usize>
     requires width { old.now.width ≡ new.now.width }
     requires rows { rows ≤ 65535 }

@@ -3,7 +3,7 @@
 ghost use Rattle.std.specs.Prelude.{◌≡◌, ℕ, true, ◌<◌, ◌≤◌, ◌+◌, ◌-◌, ◌++◌, OnOk, OnErr, IfOk, IfSome, Option, string_bytes};
 ghost use Rattle.tw_surface.specs.Characters.{is_printable};
 ghost use Rattle.styled_screen.specs.StyledScreens.{styled_cell};
-ghost use Rattle.tw_ansi.specs.Encoding.{Extends, sent_batch};
+ghost use Rattle.tw_ansi.specs.Encoding.{ExtendsBytes, sent_batch};
 ghost use Rattle.tw_changed.specs.Redrawings.{led_to, under, cell_redrawn, run_redrawn, row_redrawn, rows_redrawn, handed_to, emptied_here, rest_emptied, rest_of, left_of, lowered, redrawn};
 ghost use Rattle.tw_changed.specs.Sending.{IsAdded, IsPrintable, screen_cells, changes_between, hand_of};
 
@@ -29,7 +29,7 @@ impl Redrawer {
         ensures ok { OnOk result (IsAdded (led_to row col self.old.hand) self.old (string_bytes out.old) self.new (string_bytes out.new)) }
         ensures row { OnOk result (self.new.hand.row ≡ row) }
         ensures col { OnOk result (self.new.hand.col ≡ col) }
-        ensures err { OnErr result (Extends (string_bytes out.old) (string_bytes out.new)) }
+        ensures err { OnErr result (ExtendsBytes (string_bytes out.old) (string_bytes out.new)) }
     {
         if self.hand.row == row && self.hand.col == col {
             return Ok(());
@@ -50,7 +50,7 @@ impl Redrawer {
         ensures ok { OnOk result (IsAdded (under to self.old.hand) self.old (string_bytes out.old) self.new (string_bytes out.new)) }
         ensures col { self.new.hand.col ≡ self.old.hand.col }
         ensures row { self.new.hand.row ≡ self.old.hand.row }
-        ensures err { OnErr result (Extends (string_bytes out.old) (string_bytes out.new)) }
+        ensures err { OnErr result (ExtendsBytes (string_bytes out.old) (string_bytes out.new)) }
     {
         if self.hand.attributes == to {
             return Ok(());
@@ -67,7 +67,7 @@ impl Redrawer {
         ensures ok { OnOk result (IsAdded (cell_redrawn (styled_cell cell) self.old.hand) self.old (string_bytes out.old) self.new (string_bytes out.new)) }
         ensures col { OnOk result (self.new.hand.col ≡ self.old.hand.col + 1) }
         ensures row { self.new.hand.row ≡ self.old.hand.row }
-        ensures err { OnErr result (Extends (string_bytes out.old) (string_bytes out.new)) }
+        ensures err { OnErr result (ExtendsBytes (string_bytes out.old) (string_bytes out.new)) }
     {
         self.select(cell.attributes, out)?;
         self.encoder.encode_byte(cell.character as u8, out)?;
@@ -90,7 +90,7 @@ impl Redrawer {
         requires at { self.old.hand.col ≡ from }
         ensures ok { OnOk result (IsAdded (run_redrawn (screen_cells screen.now row) from (to - from) self.old.hand) self.old (string_bytes out.old) self.new (string_bytes out.new)) }
         ensures row { self.new.hand.row ≡ self.old.hand.row }
-        ensures err { OnErr result (Extends (string_bytes out.old) (string_bytes out.new)) }
+        ensures err { OnErr result (ExtendsBytes (string_bytes out.old) (string_bytes out.new)) }
     {
         for col in from..to {
             self.write_cell(cell_at(screen, row, col), out)?;
@@ -113,7 +113,7 @@ impl Redrawer {
         requires held { self.old.hand.row ≤ 4294967295 }
         ensures ok { OnOk result (IsAdded (row_redrawn new.now.width (left_of old.now.width from (screen_cells old.now)) (screen_cells new.now) row self.old.hand) self.old (string_bytes out.old) self.new (string_bytes out.new)) }
         ensures held { OnOk result (self.new.hand.row ≤ 4294967295) }
-        ensures err { OnErr result (Extends (string_bytes out.old) (string_bytes out.new)) }
+        ensures err { OnErr result (ExtendsBytes (string_bytes out.old) (string_bytes out.new)) }
     {
         let first = first_changed(old, from, new, row);
         let last = last_changed(old, from, new, row);
@@ -141,7 +141,7 @@ impl Redrawer {
         requires held { self.old.hand.row ≤ 4294967295 }
         ensures ok { OnOk result (IsAdded (rows_redrawn new.now.width (left_of old.now.width from (screen_cells old.now)) (screen_cells new.now) 0 rows self.old.hand) self.old (string_bytes out.old) self.new (string_bytes out.new)) }
         ensures held { OnOk result (self.new.hand.row ≤ 4294967295) }
-        ensures err { OnErr result (Extends (string_bytes out.old) (string_bytes out.new)) }
+        ensures err { OnErr result (ExtendsBytes (string_bytes out.old) (string_bytes out.new)) }
     {
         for row in 0..rows {
             self.draw_row(old, from, new, row, out)?;
@@ -154,7 +154,7 @@ impl Redrawer {
         requires to { to.row ≤ 4294967295 }
         requires held { self.old.hand.row ≤ 4294967295 }
         ensures ok { OnOk result (IsAdded (handed_to to self.old.hand) self.old (string_bytes out.old) self.new (string_bytes out.new)) }
-        ensures err { OnErr result (Extends (string_bytes out.old) (string_bytes out.new)) }
+        ensures err { OnErr result (ExtendsBytes (string_bytes out.old) (string_bytes out.new)) }
     {
         self.lead_to(to.row, to.col, out)?;
         self.select(to.attributes, out)
@@ -164,7 +164,7 @@ impl Redrawer {
     fn empty_here(&mut self, out: &mut String) -> Result<(), AllocError>
         ensures ok { OnOk result (IsAdded (emptied_here self.old.hand) self.old (string_bytes out.old) self.new (string_bytes out.new)) }
         ensures row { self.new.hand.row ≡ self.old.hand.row }
-        ensures err { OnErr result (Extends (string_bytes out.old) (string_bytes out.new)) }
+        ensures err { OnErr result (ExtendsBytes (string_bytes out.old) (string_bytes out.new)) }
     {
         let change = Change::ClearToEndOfScreen(ColorAttribute::Default);
         self.encoder.encode(&change, out)
@@ -182,7 +182,7 @@ impl Redrawer {
         requires held { self.old.hand.row ≤ 4294967295 }
         ensures ok { OnOk result (IsAdded (rest_emptied width from self.old.hand) self.old (string_bytes out.old) self.new (string_bytes out.new)) }
         ensures held { OnOk result (self.new.hand.row ≤ 4294967295) }
-        ensures err { OnErr result (Extends (string_bytes out.old) (string_bytes out.new)) }
+        ensures err { OnErr result (ExtendsBytes (string_bytes out.old) (string_bytes out.new)) }
     {
         match from {
             Some(from) => {
@@ -199,7 +199,7 @@ impl Redrawer {
         requires held { self.old.hand.row ≤ 4294967295 }
         ensures ok { OnOk result (IsAdded (lowered reached rows self.old.hand) self.old (string_bytes out.old) self.new (string_bytes out.new)) }
         ensures held { OnOk result (self.new.hand.row ≤ 4294967295) }
-        ensures err { OnErr result (Extends (string_bytes out.old) (string_bytes out.new)) }
+        ensures err { OnErr result (ExtendsBytes (string_bytes out.old) (string_bytes out.new)) }
     {
         if rows <= reached {
             return Ok(());
@@ -207,7 +207,7 @@ impl Redrawer {
         self.lead_to(rows - 1, 0, out)
     }
 
-    /// Makes one screen of another: its last row comes into sight, what stands behind the end of the new one is
+    /// Makes one screen of another: its last row comes into sight, what stands after the end of the new one is
     /// emptied, and the rows that differ are typed.
     fn redraw(
         &mut self,
@@ -224,7 +224,7 @@ impl Redrawer {
         requires to { to.row ≤ 4294967295 }
         requires held { self.old.hand.row ≤ 4294967295 }
         ensures ok { OnOk result (IsAdded (redrawn new.now.width reached rows (screen_cells old.now) (screen_cells new.now) to self.old.hand) self.old (string_bytes out.old) self.new (string_bytes out.new)) }
-        ensures err { OnErr result (Extends (string_bytes out.old) (string_bytes out.new)) }
+        ensures err { OnErr result (ExtendsBytes (string_bytes out.old) (string_bytes out.new)) }
     {
         let rest = rest_of(old, new, rows);
         self.lower(reached, rows, out)?;
@@ -247,7 +247,7 @@ fn hand_of(screen: &StyledScreen) -> Hand
     }
 }
 
-/// Adds what a terminal is sent that shows an old screen, and is to show a new one of as many columns, and answers what
+/// Adds what a terminal is sent that shows an old screen, and is to show a new one of as many columns, and returns what
 /// is then known of it. No more than the first `rows` rows may differ, and the terminal has reached the first `reached`
 /// of them before. A refusal may have added a part of it.
 pub fn send_changed(
@@ -263,7 +263,7 @@ pub fn send_changed(
     requires rows { rows ≤ 65535 }
     ensures bytes { OnOk result (string_bytes out.new ≡ string_bytes out.old ++ (sent_batch (changes_between reached rows old.now new.now) encoder).bytes) }
     ensures next { IfOk result (λ next. next ≡ (sent_batch (changes_between reached rows old.now new.now) encoder).next) }
-    ensures err { OnErr result (Extends (string_bytes out.old) (string_bytes out.new)) }
+    ensures err { OnErr result (ExtendsBytes (string_bytes out.old) (string_bytes out.new)) }
 {
     let mut redrawer = Redrawer {
         hand: hand_of(old),

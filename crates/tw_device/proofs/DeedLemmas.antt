@@ -23,7 +23,7 @@ pub appends_nothing : (known : Option (List ℕ)) → Appends known known []
 appends_nothing None = tt
 appends_nothing (Some bytes) = sym (append-nil bytes)
 
--- bytes behind bytes
+-- bytes after bytes
 pub appends_then : (a b c : Option (List ℕ)) (xs ys : List ℕ) → Appends a b xs → Appends b c ys → Appends a c (xs ++ ys)
 appends_then None b c xs ys first then = tt
 appends_then (Some old) None c xs ys first then = absurd first

@@ -142,7 +142,7 @@ module _ {V : Type 0} (rules : HostRules V) (overrides : Overrides) where
   run_none : (es : List EventView) (s : Progress V) → es ≡ [] → run rules [] s ≡ painted_run rules es s
   run_none es s none = painted_last s (painting_at rules s) ∙ ap (λ (xs : List EventView). painted_run rules xs s) (sym none)
 
-  -- behind an event at the size that it tells
+  -- after an event at the size that it tells
   after_last : (s : Progress V) (e : EventView) (r : Result EditState Refusal) → after_event rules e [] s (run rules []) r ≡ after_event rules e [] (after_taking s e) (painted_run rules []) r
   after_last s e (Ok state) = ap (run rules []) (sym (handled_twice s e state)) ∙ run_none [] (after_action rules (after_taking s e) e state) refl
   after_last s e (Err n) = ap (ends (Err n) []) (sym (answered_twice s e))

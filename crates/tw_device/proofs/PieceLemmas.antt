@@ -165,7 +165,7 @@ unfolding token_at
 token_at_inside l [] = nothing
 token_at_inside l (b ∷ bytes) = either (eqb b 27) _ _ (escape_inside l bytes) (character_inside l b bytes)
 
--- so what it tells does not depend on the bytes behind it
+-- so what it tells does not depend on the bytes after it
 
 text_kept : (bytes more : List ℕ) (from len : ℕ) → from + len ≤ length bytes → take len (drop from (bytes ++ more)) ≡ take len (drop from bytes)
 text_kept bytes more from len fits =
@@ -198,7 +198,7 @@ known_then None new bytes known consumed = absurd known
 known_then (Some xs) None bytes known consumed = absurd consumed
 known_then (Some xs) (Some ys) bytes known consumed = tt
 
--- behind the end no byte comes
+-- after the end no byte comes
 none_comes : (old new : Option (List ℕ)) (bytes : List ℕ) → IsKnown old → IsAtEnd old → Consumes old new bytes → bytes ≡ []
 none_comes None new bytes known end consumed = absurd known
 none_comes (Some xs) None bytes known end consumed = absurd consumed

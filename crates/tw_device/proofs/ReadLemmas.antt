@@ -1,4 +1,4 @@
--- What a read leaves behind the bytes of a buffer.
+-- What a read leaves after the bytes of a buffer.
 use Rattle.std.proofs.Common.{◌≡◌, ◌≤◌, ◌+◌, ℕ, true, List, [], ◌∷◌, ◌++◌, None, IsSome, take, length, arith, ap, subst, ◌∙◌, sym, refl}
 use Rattle.std.proofs.lemmas.Bool.{false≢true}
 use Rattle.std.proofs.lemmas.List.{append_assoc, take-append-le, take_all}
@@ -6,7 +6,7 @@ use Rattle.std.proofs.Math.Seq.{take-append-add, take-take}
 use Rattle.tw_ansi.specs.KeyBytes.{token_at}
 use Rattle.tw_ansi.proofs.Tokens.{token_ends}
 
--- of room behind some bytes, into which fewer were read, these are kept
+-- of room after some bytes, into which fewer were read, these are kept
 kept_read : (front buf post more : List ℕ) (h count : ℕ) → length front ≡ h → count ≤ length buf
     → take (h + count) ((front ++ (buf ++ post)) ++ more) ≡ front ++ take count buf
 kept_read front buf post more h count long fits =
@@ -16,7 +16,7 @@ kept_read front buf post more h count long fits =
     ∙ ap (λ xs. front ++ take count xs) (append_assoc buf post more)
     ∙ ap (λ xs. front ++ xs) (take-append-le count buf (post ++ more) fits)
 
--- and the room stands behind all bytes that were there
+-- and the room stands after all bytes that were there
 first_kept : (old zeros : List ℕ) (h n : ℕ) → h ≡ length old → h ≤ n → take h (take n old ++ zeros) ≡ old
 first_kept old zeros h n long room =
     ap (λ xs. take h (xs ++ zeros)) (take_all n old (omega (arith, long, room)))

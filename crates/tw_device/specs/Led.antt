@@ -34,7 +34,7 @@ module _ {T : Type 0} (Leads : T → T → Deed → Type 0) where
 
 module _ {T : Type 0} (state : T → TerminalState) (Leads : T → T → Deed → Type 0) where
   -- Calls lead to where the batches are those that the run takes before the next event. There the size that this event
-  -- tells is set; and so on from there, event by event. Behind the last event calls lead to the end.
+  -- tells is set; and so on from there, event by event. After the last event calls lead to the end.
   abbrev pub IsLedAlong : (List EventView → List Batch) → List EventView → T → T → Type 0
   IsLedAlong taken [] old new = IsLedByCalls Leads old new
   IsLedAlong taken (event ∷ events) old new = (reached : T) × (sized : T)

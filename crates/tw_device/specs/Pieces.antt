@@ -18,7 +18,7 @@ abbrev pub IsKnown : Option (List ℕ) → Type 0
 IsKnown None = ⊥
 IsKnown (Some bytes) = ⊤
 
--- A reader that waits behind an ESC, and takes all bytes that came, tells what they tell at once, wherever it paused.
+-- A reader that waits after an ESC, and takes all bytes that came, tells what they tell at once, wherever it paused.
 abbrev pub PiecesDoNotMatter : Type 0
 PiecesDoNotMatter = (steps : List Step) (old new : Held) (events : List EventView) → Lead steps old new events
     → old.escape ≡ Waits → IsKnown old.left → new.unread ≡ []

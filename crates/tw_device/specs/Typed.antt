@@ -24,13 +24,13 @@ pub record Held : Type 0 where
 abbrev pub piece : ℕ
 piece = 1024
 
--- an ESC, and nothing behind it
+-- an ESC, and nothing after it
 abbrev pub is_lone_escape : List ℕ → Bool
 is_lone_escape [] = false
 is_lone_escape (b ∷ []) = eqb b 27
 is_lone_escape (b ∷ c ∷ more) = false
 
--- whether an ESC alone waits for what follows it: where its owner chose so, and behind a full read
+-- whether an ESC alone waits for what follows it: where its owner chose so, and after a full read
 abbrev pub escape_waits : Escape → Bool → Bool
 escape_waits Waits was_full = true
 escape_waits AtOnce was_full = was_full
@@ -99,12 +99,12 @@ given_bytes [] = []
 given_bytes (Came more ∷ steps) = more ++ given_bytes steps
 given_bytes (Took is_last ∷ steps) = given_bytes steps
 
--- the bytes of a token at the front of these, and then what is taken of those behind it
+-- the bytes of a token at the front of these, and then what is taken of those after it
 abbrev pub taken_by : Option Scanned → List ℕ → (List ℕ → List ℕ) → List ℕ
 taken_by (Some s) bytes taken_behind = take s.used bytes ++ taken_behind (drop s.used bytes)
 taken_by None bytes taken_behind = []
 
--- the events of a token at the front of these bytes, and then those of the bytes behind it
+-- the events of a token at the front of these bytes, and then those of the bytes after it
 abbrev pub told_by : Option Scanned → List ℕ → (List ℕ → List EventView) → List EventView
 told_by (Some s) bytes told_behind = token_events s.token bytes ++ told_behind (drop s.used bytes)
 told_by None bytes told_behind = []

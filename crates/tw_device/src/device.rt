@@ -19,7 +19,7 @@ pub trait DeviceTerminal: Terminal {
         ensures state { Self.state self.new ≡ record (Self.state self.old) { size = size } }
         ensures sized { does self.old self.new (Sized size) };
 
-    /// Sends a text of its owner's as it is, behind a reset of all attributes: a line may have ended in some. The text
+    /// Sends a text of its owner's as it is, after a reset of all attributes: a line may have ended in some. The text
     /// has to leave the cursor in column 0, and no attribute set. A refusal may have sent a beginning.
     fn send(&mut self, text: &str) -> Result<(), TerminalFault>
         ensures kept { Self.state self.new ≡ Self.state self.old }

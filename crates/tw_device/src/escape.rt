@@ -1,9 +1,9 @@
-//! What an ESC is behind which no byte has come yet.
+//! What an ESC is after which no byte has come yet.
 
 ghost use Rattle.std.specs.Prelude.{◌≡◌};
 ghost use Rattle.tw_device.specs.Typed.{escape_waits};
 
-/// What an ESC is behind which no byte has come yet. Its owner chooses.
+/// What an ESC is after which no byte has come yet. Its owner chooses.
 #[derive(Debug, Clone, Copy, PartialEq, Eq)]
 pub enum Escape {
     /// It waits for what follows it, so that the keys do not depend on how the bytes come. The key Escape alone is told
@@ -14,7 +14,7 @@ pub enum Escape {
 }
 
 impl Escape {
-    /// Whether it waits behind a read that was full or not.
+    /// Whether it waits after a read that was full or not.
     pub(crate) fn waits(self, was_full: bool) -> bool
         ensures { result ≡ escape_waits self was_full }
     {

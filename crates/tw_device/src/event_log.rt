@@ -48,7 +48,7 @@ impl EventLog {
         }
     }
 
-    /// These events, and one more behind them.
+    /// These events, and one more after them.
     pub fn with_event(&self, event: &InputEvent) -> Self
         ensures { result ≡ self.now ++ event_view event.now ∷ [] }
     {

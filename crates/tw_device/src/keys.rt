@@ -149,7 +149,7 @@ impl<R: Read> KeyReader<R> {
         self.unread.scan(is_last)
     }
 
-    /// Reads what there is, and waits where there is nothing. It answers false at the end. A refusal loses no byte.
+    /// Reads what there is, and waits where there is nothing. It returns false at the end. A refusal loses no byte.
     fn read(&mut self) -> Result<bool, Refused>
         ensures ok { OnOk result ((more : List ℕ) × (self.new.unread ≡ self.old.unread ++ more)
             × (self.new.was_full ≡ (length more == piece))
@@ -165,7 +165,7 @@ impl<R: Read> KeyReader<R> {
         Ok(count > 0)
     }
 
-    /// Takes a token. Bytes that mean nothing are taken and answer none. A refusal takes none, so that the next call
+    /// Takes a token. Bytes that mean nothing are taken and return none. A refusal takes none, so that the next call
     /// finds the token again.
     fn take(&mut self, found: Scanned) -> Result<Option<InputEvent>, Refused>
         requires { found.used ≤ length self.old.unread }

@@ -135,7 +135,7 @@ fn answer_of(line: Option<String>, stop: Stop) -> Result<Answer, Error>
 /// Reads a line with a new editor from the events of a source, up to that which ends the line or the end of the
 /// source. The answer, the batches, the screen's size and the host's value are those of the abstract editor's run
 /// over exactly the events that the source told, by calls of `next_event` and nothing else (`called`). A `Resized` sets
-/// the terminal's size, before the batches of its own and behind those of the events before it (`along`).
+/// the terminal's size, before the batches of its own and after those of the events before it (`along`).
 ///
 /// Where the source refuses, the line is closed as at the source's end, and the answer is the source's refusal;
 /// so it is, with `Device`, where one call was told 2^64 - 1 events and none of them ended the line. Every other

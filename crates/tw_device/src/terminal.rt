@@ -64,7 +64,7 @@ impl<W: Write> AnsiTerminal<W> {
         self.size = size;
     }
 
-    /// Sends a text of its owner's as it is, behind a reset of all attributes: a line may have ended in some. The text
+    /// Sends a text of its owner's as it is, after a reset of all attributes: a line may have ended in some. The text
     /// has to leave the cursor in column 0, and no attribute set. A refusal may have sent a beginning.
     pub fn send(&mut self, text: &str) -> Result<(), TerminalFault>
         ensures kept { terminal_state self.new ≡ terminal_state self.old }
@@ -93,7 +93,7 @@ impl<W: Write> AnsiTerminal<W> {
         }
     }
 
-    /// Adds what a batch is sent as, and answers what is then known.
+    /// Adds what a batch is sent as, and returns what is then known.
     fn encode(&self, changes: &[Change], text: &mut String) -> Result<Encoder, AllocError>
         ensures bytes { let sent = sent_batch (batch_view changes.now) self.now.encoder in
             OnOk result (string_bytes text.new ≡ string_bytes text.old ++ sent.bytes) }

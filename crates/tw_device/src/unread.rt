@@ -23,7 +23,7 @@ pub(crate) struct Unread {
     buffer: Vec<u8>,
     /// How many bytes of the buffer are taken.
     taken: usize,
-    /// How far those behind them were read.
+    /// How far those after them were read.
     progress: Progress,
 }
 
@@ -54,7 +54,7 @@ impl Unread {
         &self.buffer.as_slice()[self.taken..]
     }
 
-    /// Whether they are an ESC, and nothing behind it.
+    /// Whether they are an ESC, and nothing after it.
     pub(crate) fn is_lone_escape(&self) -> bool
         ensures { result ≡ is_lone_escape self.now }
     {
@@ -101,7 +101,7 @@ impl Unread {
         self.taken = 0;
     }
 
-    /// Reads what there is, and waits where there is nothing. It answers how many bytes came, none at the end. It finds
+    /// Reads what there is, and waits where there is nothing. It returns how many bytes came, none at the end. It finds
     /// room for the bytes before it reads, so that none is lost for want of memory.
     pub(crate) fn read_from<R: Read>(&mut self, reader: &mut R) -> Result<usize, Refused>
         ensures ok { IfOk result (λ count. (more : List ℕ) × (self.new ≡ self.old ++ more) × (length more ≡ count)
@@ -115,7 +115,7 @@ impl Unread {
     }
 }
 
-/// Reads what there is behind the bytes of a buffer, and answers how many came. Room is found before bytes are read.
+/// Reads what there is after the bytes of a buffer, and returns how many came. Room is found before bytes are read.
 fn read_more<R: Read>(reader: &mut R, buffer: &mut Vec<u8>) -> Result<usize, Refused>
     ensures ok { IfOk result (λ count. (more : List ℕ) × (buffer.new.items ≡ buffer.old.items ++ more)
         × (length more ≡ count) × Consumes (R.remaining reader.old) (R.remaining reader.new) more) }

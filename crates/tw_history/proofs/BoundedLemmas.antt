@@ -18,6 +18,6 @@ last_line-drop zero xs x low = last_line-push xs x
 last_line-drop (suc k) [] x low = absurd (omega (arith, low))
 last_line-drop (suc k) (y ∷ xs) x low = last_line-drop k xs x (omega (arith, low))
 
--- a line that is put behind others is the last of the newest
+-- a line that is put after others is the last of the newest
 pub last_line_newest : (limit : ℕ) (xs : List (List ℕ)) (x : List ℕ) → 0 < limit → last_line (newest limit (xs ++ x ∷ [])) ≡ Some x
 last_line_newest limit xs x some = last_line-drop _ xs x (omega (arith, some, length-append xs (x ∷ [])))

@@ -73,7 +73,7 @@ module _ (text line : List ℕ) where
       ap (take (end - start)) (drop-append-le start text line (omega arith))
       ∙ take-append-le (end - start) (drop start text) line (omega (arith, length-drop start text))
 
-  -- a line that is put behind the text is the last one
+  -- a line that is put after the text is the last one
   pub lines_from-push : (start : ℕ) (ends : List ℕ) → AreEnds text start ends
       → lines_from (text ++ line) start (ends ++ length (text ++ line) ∷ []) ≡ lines_from text start ends ++ line ∷ []
   lines_from-push start [] are =

@@ -73,7 +73,7 @@ stands_at-false : (pattern line : List ℕ) (at : ℕ) → LacksTextAt pattern l
 stands_at-false pattern line at lacks =
     false_from_ne_true _ (λ e. lacks (drop (length pattern) (drop at line)) ((starts_is Decides-eqb (drop at line) pattern _ refl).0 e))
 
--- what `find` answers is the first offset
+-- what `find` returns is the first offset
 pub find_gives_first : (pattern line : List ℕ) (o : Option ℕ)
     → MatchOption o (FindsText pattern line None) (MatchBeginsAt (FindsText pattern) line) → o ≡ first pattern line
 unfolding first

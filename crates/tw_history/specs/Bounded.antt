@@ -10,8 +10,8 @@ pub record Bounded : Type 0 where
   pub limit : ℕ
 
 -- the lines that these entries are
-abbrev pub lines_of : List (String Global) → List (List ℕ)
-lines_of entries = map string_bytes entries
+abbrev pub lines_of_entries : List (String Global) → List (List ℕ)
+lines_of_entries entries = map string_bytes entries
 
 -- the history of no lines
 abbrev pub no_lines : ℕ → Bounded

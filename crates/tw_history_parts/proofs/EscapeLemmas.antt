@@ -7,7 +7,7 @@ use Rattle.std.proofs.lemmas.Bool.{eqb-true, false_from_ne_true}
 use Rattle.std.proofs.lemmas.Str.{IsUtf8-from_is_utf8, is_utf8-from_IsUtf8}
 use Rattle.tw_history_parts.specs.HistoryFile.{escape_of, if_text, understood, unescaped_behind, with_byte}
 
--- a byte that is added to those before, or stands in front of those behind
+-- a byte that is added to those before, or stands in front of those after it
 pub pushed : (bytes : List ℕ) (b : ℕ) (rest : Option (List ℕ)) → option_map (λ more. (bytes ++ b ∷ []) ++ more) rest ≡ option_map (λ more. bytes ++ more) (with_byte (Some b) rest)
 pushed bytes b None = refl
 pushed bytes b (Some more) = ap (λ all. Some all) (append_assoc bytes (b ∷ []) more)

@@ -49,7 +49,7 @@ unescaped_escaped (b ∷ line) = stands_for b (escaped line) (b == 92) (b == 10)
 line_of_escaped : (line : List ℕ) → is_utf8 line ≡ true → line_of (escaped line) ≡ Some line
 line_of_escaped line text = rw (unescaped_escaped line, text) refl
 
--- a written line, and those behind it
+-- a written line, and those after it
 lines_in-cons : (line rest : List ℕ) → is_utf8 line ≡ true → lines_in (written_line line ++ rest) ≡ line ∷ lines_in rest
 lines_in-cons line rest text =
     ap lines_in (append_assoc (escaped line) (10 ∷ []) rest)
@@ -146,7 +146,7 @@ some_whole : (before : List ℕ) → HasWhole (before ++ 10 ∷ [])
 some_whole [] = ([], [], refl)
 some_whole (b ∷ before) = some_whole-cons b (before ++ 10 ∷ []) (b == 10) refl (some_whole before)
 
--- what stands behind a line feed is read by itself
+-- what stands after a line feed is read by itself
 behind_feed-cons : (b : ℕ) (bytes rest : List ℕ) (x : Bool) → (b == 10) ≡ x → HasWhole bytes → whole_lines (bytes ++ rest) ≡ whole_lines bytes ++ whole_lines rest
     → whole_lines ((b ∷ bytes) ++ rest) ≡ whole_lines (b ∷ bytes) ++ whole_lines rest
 behind_feed-cons b bytes rest true is some e = rw (is, e) refl

@@ -14,7 +14,7 @@ first_no_feed b text free = false_from_ne_true (eqb b 10) (λ e. free (0, omega 
 rest_no_feed : (b : ℕ) (text : List ℕ) → ¬ (Contains (b ∷ text) 10) → ¬ (Contains text 10)
 rest_no_feed b text free (k, low, is) = free (suc k, omega (arith, low), is)
 
--- a text that a line feed ends, and those behind it
+-- a text that a line feed ends, and those after it
 pub ended_line : (text after : List ℕ) → ¬ (Contains text 10) → whole_lines (text ++ (10 ∷ after)) ≡ text ∷ whole_lines after
 ended_line [] after free = refl
 ended_line (b ∷ text) after free = rw (first_no_feed b text free, ended_line text after (rest_no_feed b text free)) refl
@@ -28,7 +28,7 @@ unended_line (b ∷ text) free = rw (first_no_feed b text free, unended_line tex
 pub lines_cut : (bytes text after : List ℕ) → IsCutAtFeed bytes text after → lines_in bytes ≡ cons_option (line_of text) (lines_in after)
 lines_cut bytes text after (free, cut) = ap lines_in cut ∙ ap (filter_map line_of) (ended_line text after free)
 
--- bytes that are read behind others
+-- bytes that are read after others
 pub consumes_more : (a b c : Option (List ℕ)) (xs ys : List ℕ) → Consumes a b xs → Consumes b c ys → Consumes a c (xs ++ ys)
 consumes_more None b c xs ys first then = tt
 consumes_more (Some l) None c xs ys first then = absurd first
@@ -49,7 +49,7 @@ module _ {L : Type 0} (lines_of : L → List (List ℕ)) (gives : L → List ℕ
   pub passes_nothing : (bytes : List ℕ) (old : L) → Passes bytes bytes old old
   passes_nothing bytes old = record { all = λ new adds. adds; some = λ new adds. adds }
 
-  -- behind a text that is no line
+  -- after a text that is no line
   pub passes_text : (whole bytes text after : List ℕ) (old between : L) → Passes whole bytes old between → IsCutAtFeed bytes text after → None ≡ line_of text
       → Passes whole after old between
   passes_text whole bytes text after old between passes cut none =
@@ -59,7 +59,7 @@ module _ {L : Type 0} (lines_of : L → List (List ℕ)) (gives : L → List ℕ
         some = λ new adds. passes.some new (subst (λ lines. AddsSome lines_of gives lines between new) (sym same) adds);
       }
 
-  -- and behind one that is
+  -- and after one that is
   pub passes_line : (whole bytes text after line : List ℕ) (old between next : L) → Passes whole bytes old between → IsCutAtFeed bytes text after → Some line ≡ line_of text
       → gives between line next → Passes whole after old next
   passes_line whole bytes text after line old between next passes cut is adds_one =

@@ -12,7 +12,7 @@ use Rattle.tw_history.proofs.BoundedLemmas.{last_line_newest}
 use Rattle.tw_history_parts.specs.Unique.{AreUnique, UniqueLines, is_double, is_spaced, stays_beside, with_unique}
 use Rattle.tw_history_parts.specs.UniqueLaws.{SpacedIsLast, StaysUnique}
 
--- a line that is put behind others is the last one
+-- a line that is put after others is the last one
 pub last_is_added : (older : List (List ℕ)) (line : List ℕ) → last_line (older ++ line ∷ []) ≡ Some line
 last_is_added older line =
     let none : length (older ++ line ∷ []) - (length older + 1) ≡ 0 = omega (arith, length-append older (line ∷ [])) in
@@ -21,7 +21,7 @@ last_is_added older line =
 -- ---- lines that stay
 
 module _ {X : Type 0} (R : X → X → Type 0) where
-  -- an element behind others, to each of which it is related
+  -- an element after others, to each of which it is related
   AllPairs-push : (xs : List X) (x : X) → AllPairs R xs → All (λ y. R y x) xs → AllPairs R (xs ++ x ∷ [])
   AllPairs-push [] x pairs all = λ i j d lt within. absurd (omega (arith, lt, within))
   AllPairs-push (y ∷ xs) x pairs all =
@@ -107,6 +107,6 @@ front_dropped : (older : List (List ℕ)) (line : List ℕ) → drop (length old
 front_dropped [] line = refl
 front_dropped (y ∷ older) line = front_dropped older line
 
--- what is left of lines and one more behind them
+-- what is left of lines and one more after them
 pub left_added : (p : List ℕ → Bool) (older : List (List ℕ)) (line : List ℕ) → left_from p (older ++ line ∷ []) (length older) 0 ≡ filter p older ++ line ∷ []
 left_added p older line = rw (front_taken older line, front_dropped older line) refl

@@ -28,7 +28,7 @@ abbrev pub with_byte : Option ℕ → Option (List ℕ) → Option (List ℕ)
 with_byte (Some b) (Some bytes) = Some (b ∷ bytes)
 with_byte _ _ = None
 
--- what a text stands for, behind a backslash or not; none where a backslash stands before another byte, or at the end
+-- what a text stands for, after a backslash or not; none where a backslash stands before another byte, or at the end
 abbrev pub unescaped_behind : Bool → List ℕ → Option (List ℕ)
 unescaped_behind true [] = None
 unescaped_behind false [] = Some []
@@ -38,7 +38,7 @@ unescaped_behind false (b ∷ text) = if b == 92 then unescaped_behind true text
 abbrev pub unescaped : List ℕ → Option (List ℕ)
 unescaped text = unescaped_behind false text
 
--- the bytes that were understood so far, and then what the text behind them stands for, behind a backslash or not; none where a backslash stood before another byte
+-- the bytes that were understood so far, and then what the text after them stands for, after a backslash or not; none where a backslash stood before another byte
 abbrev pub understood : List ℕ → Option Bool → List ℕ → Option (List ℕ)
 understood bytes None text = None
 understood bytes (Some behind) text = option_map (λ rest. bytes ++ rest) (unescaped_behind behind text)

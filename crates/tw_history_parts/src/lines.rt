@@ -41,7 +41,7 @@ pub fn split_line(bytes: &[u8]) -> Option<(&[u8], &[u8])>
     }
 }
 
-/// Adds a byte that is itself: the next one does not stand behind a backslash.
+/// Adds a byte that is itself: the next one does not stand after a backslash.
 fn push_plain(bytes: &mut Vec<u8>, byte: u8) -> Result<Option<bool>, AllocError>
     ensures behind { IfOk result (λ behind. behind ≡ Some false) }
     ensures bytes { OnOk result (bytes.new.items ≡ bytes.old.items ++ byte ∷ []) }
@@ -50,7 +50,7 @@ fn push_plain(bytes: &mut Vec<u8>, byte: u8) -> Result<Option<bool>, AllocError>
     Ok(Some(false))
 }
 
-/// Adds what a byte stands for, behind a backslash or not, and tells whether the next one stands behind a backslash;
+/// Adds what a byte stands for, after a backslash or not, and tells whether the next one stands after a backslash;
 /// none where a backslash stands before another byte.
 fn push_meant(bytes: &mut Vec<u8>, escapes: bool, byte: u8) -> Result<Option<bool>, AllocError>
     ensures { (text : List ℕ) → IfOk result (λ behind. understood bytes.new.items behind text ≡ understood bytes.old.items (Some escapes) (byte ∷ text)) }

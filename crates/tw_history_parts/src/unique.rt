@@ -3,7 +3,7 @@
 ghost use Rattle.std.specs.Cow.{IsBorrowedStr, cow_str_bytes};
 ghost use Rattle.std.specs.List.{filter};
 ghost use Rattle.std.specs.Prelude.{◌≡◌, ◌≤◌, ◌<◌, ◌++◌, ◌∷◌, [], IfOk, IfSome, IsCharBoundary, IsOkAnd, OnErr, OnOk, Some, drop, length, false, option_map, slice_get, take, true};
-ghost use Rattle.tw_history.specs.Bounded.{lines_of};
+ghost use Rattle.tw_history.specs.Bounded.{lines_of_entries};
 ghost use Rattle.tw_history.specs.HistoryAdditions.{match_view};
 ghost use Rattle.tw_history.specs.NearestMatch.{last_line, line_at, nearest_match};
 ghost use Rattle.tw_history_parts.specs.Unique.{is_double, is_spaced, no_unique_lines, stays_beside, with_unique};
@@ -60,7 +60,7 @@ fn stays_beside(line: &str, forgets_spaced: bool, older: &str) -> bool
 /// Whether the entry at an index stays where a line is added.
 fn stays_at(entries: &[String], at: HistoryIndex, line: &str, forgets_spaced: bool) -> bool
     requires { at < length entries.now }
-    ensures { result ≡ stays_beside line.now forgets_spaced (line_at (lines_of entries.now) at) }
+    ensures { result ≡ stays_beside line.now forgets_spaced (line_at (lines_of_entries entries.now) at) }
 {
     stays_beside(line, forgets_spaced, entries[at].as_str())
 }
@@ -68,8 +68,8 @@ fn stays_at(entries: &[String], at: HistoryIndex, line: &str, forgets_spaced: bo
 /// Takes those of the first entries away that do not stay where a line is added.
 fn keep_beside(entries: &mut Vec<String>, count: usize, line: &str, forgets_spaced: bool)
     requires { count ≤ length entries.old.items }
-    ensures { lines_of entries.new.items
-        ≡ filter (stays_beside line.now forgets_spaced) (take count (lines_of entries.old.items)) ++ drop count (lines_of entries.old.items) }
+    ensures { lines_of_entries entries.new.items
+        ≡ filter (stays_beside line.now forgets_spaced) (take count (lines_of_entries entries.old.items)) ++ drop count (lines_of_entries entries.old.items) }
 {
     let mut at = count;
     while at > 0 {
@@ -80,16 +80,16 @@ fn keep_beside(entries: &mut Vec<String>, count: usize, line: &str, forgets_spac
     }
 }
 
-/// Puts a line behind the entries that stay where it is added.
+/// Puts a line after the entries that stay where it is added.
 fn push_beside(
     alloc: Global,
     entries: &mut Vec<String>,
     line: &str,
     forgets_spaced: bool,
 ) -> Result<(), AllocError>
-    ensures ok { OnOk result (lines_of entries.new.items
-        ≡ filter (stays_beside line.now forgets_spaced) (lines_of entries.old.items) ++ line.now ∷ []) }
-    ensures err { OnErr result (lines_of entries.new.items ≡ lines_of entries.old.items) }
+    ensures ok { OnOk result (lines_of_entries entries.new.items
+        ≡ filter (stays_beside line.now forgets_spaced) (lines_of_entries entries.old.items) ++ line.now ∷ []) }
+    ensures err { OnErr result (lines_of_entries entries.new.items ≡ lines_of_entries entries.old.items) }
 {
     let count = entries.len();
     entries.push(String::from_str(alloc, line)?)?;

@@ -27,7 +27,7 @@ pub enum Action {
     KillAndMove(Movement, Movement),
     /// Takes the line before in the history, and keeps the typed line; while searching, searches backwards.
     HistoryPrevious,
-    /// Takes the line after in the history, and behind the last one the typed line; while searching, searches
+    /// Takes the next line of the history, and after the last one the typed line; while searching, searches
     /// forwards.
     HistoryNext,
     /// Puts in the host's first completion candidate, or instead of one that was put in the next one; leaves a

@@ -3,7 +3,7 @@ use Rattle.std.proofs.Common.{◌≡◌, ℕ, zero, suc, ◌<◌, ◌≤◌, ◌
 use Rattle.std.proofs.lemmas.Bool.{true≢false}
 use Rattle.std.proofs.lemmas.List.{append_assoc, length-drop}
 use Rattle.tw_host.specs.ElementView.{ElementView, Attribute, AllAttributes, Text}
-use Rattle.tw_host.specs.Faithful.{text_of, IsFaithful}
+use Rattle.tw_host.specs.Faithful.{text_of_elements, IsFaithful}
 use Rattle.tw_hosts.specs.FaithfulParts.{StyledIsText, TokensAreLine}
 use Rattle.tw_hosts.specs.TableRules.{table_rules}
 use Rattle.tw_hosts.specs.Tokens.{is_quote, quote_len, word_len, token_len, styled_token, styled_tokens, up_to}
@@ -11,24 +11,24 @@ use Rattle.tw_hosts.specs.Words.{is_known}
 use Rattle.tw_hosts.specs.declared.tokens.Styles.{Styles}
 
 -- the texts of two lists of elements
-text-append : (elements more : List ElementView) → text_of (elements ++ more) ≡ text_of elements ++ text_of more
+text-append : (elements more : List ElementView) → text_of_elements (elements ++ more) ≡ text_of_elements elements ++ text_of_elements more
 text-append [] more = refl
 text-append (Attribute a ∷ elements) more = text-append elements more
 text-append (AllAttributes a ∷ elements) more = text-append elements more
-text-append (Text text ∷ elements) more = ap (λ t. text ++ t) (text-append elements more) ∙ sym (append_assoc text (text_of elements) (text_of more))
+text-append (Text text ∷ elements) more = ap (λ t. text ++ t) (text-append elements more) ∙ sym (append_assoc text (text_of_elements elements) (text_of_elements more))
 
 pub styled_is_text : StyledIsText
 styled_is_text attributes text = append-nil text
 
 -- a token's elements are the token
-token-text : (styles : Styles) (keywords : List (List ℕ)) (token : List ℕ) → text_of (styled_token styles keywords token) ≡ token
+token-text : (styles : Styles) (keywords : List (List ℕ)) (token : List ℕ) → text_of_elements (styled_token styles keywords token) ≡ token
 token-text styles keywords token = by_quote (is_quote token) refl
   where
-    by_word : (known : Bool) → is_known keywords token ≡ known → is_quote token ≡ false → text_of (styled_token styles keywords token) ≡ token
+    by_word : (known : Bool) → is_known keywords token ≡ known → is_quote token ≡ false → text_of_elements (styled_token styles keywords token) ≡ token
     by_word true k q = rw q (rw k (append-nil token))
     by_word false k q = rw q (rw k (append-nil token))
 
-    by_quote : (quote : Bool) → is_quote token ≡ quote → text_of (styled_token styles keywords token) ≡ token
+    by_quote : (quote : Bool) → is_quote token ≡ quote → text_of_elements (styled_token styles keywords token) ≡ token
     by_quote true q = rw q (append-nil token)
     by_quote false q = by_word (is_known keywords token) refl q
 
@@ -57,7 +57,7 @@ some-token byte rest =
     some-either (is_quote text) (quote_len text) (word_len text) (some-quote byte rest) (some-word (min (up_to 32 text) (up_to 39 text)))
 
 -- enough tokens are the whole text
-tokens-text : (count : ℕ) (styles : Styles) (keywords : List (List ℕ)) (text : List ℕ) → length text ≤ count → text_of (styled_tokens count styles keywords text) ≡ text
+tokens-text : (count : ℕ) (styles : Styles) (keywords : List (List ℕ)) (text : List ℕ) → length text ≤ count → text_of_elements (styled_tokens count styles keywords text) ≡ text
 unfolding styled_tokens
 tokens-text zero styles keywords [] low = refl
 tokens-text zero styles keywords (byte ∷ rest) low = absurd (omega (arith, low))
@@ -68,7 +68,7 @@ tokens-text (suc count) styles keywords (byte ∷ rest) low =
     let some : 0 < len = some-token byte rest in
     let left : length (drop len text) ≤ count = omega (arith, length-drop len text, some, low) in
     text-append (styled_token styles keywords (take len text)) (styled_tokens count styles keywords (drop len text))
-    ∙ ap (λ t. t ++ text_of (styled_tokens count styles keywords (drop len text))) (token-text styles keywords (take len text))
+    ∙ ap (λ t. t ++ text_of_elements (styled_tokens count styles keywords (drop len text))) (token-text styles keywords (take len text))
     ∙ ap (λ t. take len text ++ t) (tokens-text count styles keywords (drop len text) left)
     ∙ take-append-drop len text
 

@@ -130,7 +130,7 @@ rows-suc : (a b : ℤ) (z : ℤ) → b -ℤ a ≡ z → a ≤ℤ b → at_least_
 rows-suc a b (pos n) e h = ap at_least_0 (let f : b +ℤ pos 1 -ℤ a ≡ pos (n + 1) = omega (arith, ints, e) in f)
 rows-suc a b (negsuc n) e h = absurd (omega (arith, ints, e, h))
 
--- so many columns behind a place, by division
+-- so many columns after a place, by division
 pub record IsBehind (cols n : ℕ) (p q : Place) : Type 0 where
   pub columns : rows_between p q * cols + q.x ≡ p.x + n
   pub below : p.y ≤ℤ q.y
@@ -162,7 +162,7 @@ no-rows y = ap at_least_0 (let e : y -ℤ y ≡ pos 0 = omega (arith, ints) in e
 behind-itself : (cols : ℕ) (p : Place) → p.x ≤ cols → IsBehind cols 0 p p
 behind-itself cols p h = record { columns = ap (λ r. r * cols + p.x) (no-rows p.y) ∙ omega arith; below = omega (arith, ints); within = h }
 
--- the cell for one column more is as many columns behind
+-- the cell for one column more is as many columns later
 begins-behind : (cols n : ℕ) (p q : Place) → 0 < cols → IsBehind cols n p q → rows_between p (begins_at cols 1 q) * cols + (begins_at cols 1 q).x ≡ p.x + n
 begins-behind cols n p q some h = by (leb (q.x + 1) cols) refl
   where

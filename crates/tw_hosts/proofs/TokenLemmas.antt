@@ -22,7 +22,7 @@ same-byte byte mark passes = cases (eqb_tells byte mark) where
   cases (inl (e, same)) = same
   cases (inr (e, differs)) = absurd (true≢false (sym passes ∙ e))
 
--- where a text may be cut: behind a mark
+-- where a text may be cut: after a mark
 module _ (text : List ℕ) (utf8 : IsUtf8 text) where
   mark-there : (mark : ℕ) (s : List ℕ) → up_to mark s < length s → get_or s (up_to mark s) 0 ≡ mark
   mark-there mark s low = same-byte _ mark (passes_at_first (λ byte. byte == mark) s 0 low)

@@ -56,7 +56,7 @@ needed_by_first (cluster ∷ more) = needed (cell_pieces cluster)
 unfoldable pub needed_by_text : List ℕ → ℕ
 needed_by_text text = if list_all is_plain text then 1 else needed_by_first (graphemes true text)
 
--- the cell in which something of so many columns begins behind a place: there, or where it does not fit the first cell of the next row
+-- the cell in which something of so many columns begins after a place: there, or where it does not fit the first cell of the next row
 abbrev pub begins_at : ℕ → ℕ → Place → Place
 begins_at cols width p = if leb (p.x + width) cols then p else record { x = 0; y = p.y +ℤ pos 1 }
 
@@ -64,7 +64,7 @@ begins_at cols width p = if leb (p.x + width) cols then p else record { x = 0; y
 abbrev pub line_start : ℕ → List ℕ → Place
 line_start cols prompt = end_of_pieces cols (pieces prompt) origin
 
--- the cell of the cursor: the one in which what stands behind it begins
+-- the cell of the cursor: the one in which what stands after it begins
 abbrev pub settled_place : ℕ → List ℕ → Cut → Place
 settled_place cols prompt cut =
     begins_at cols (needed_by_text (drop cut.cursor cut.line)) (place_after_text cols (take cut.cursor cut.line) (line_start cols prompt))

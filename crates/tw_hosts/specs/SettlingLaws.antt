@@ -39,7 +39,7 @@ goes_on cols Lf = true
 goes_on cols CrLf = true
 goes_on cols (Wide width) = leb width cols
 
--- behind such pieces, all measured, some column leads there where the prompt ends within the screen
+-- after such pieces, all measured, some column leads there where the prompt ends within the screen
 abbrev pub SomeColumn : Type 0
 SomeColumn = (cols : ℕ) (prompt : List ℕ) (cut : Cut) → is_measured cols prompt (take cut.cursor cut.line) ≡ true
     → leb (line_start cols prompt).x cols ≡ true

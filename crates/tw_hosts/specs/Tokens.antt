@@ -28,7 +28,7 @@ word_len text = let end = min (up_to 32 text) (up_to 39 text) in if end == 0 the
 abbrev pub token_len : List ℕ → ℕ
 token_len text = if is_quote text then quote_len text else word_len text
 
--- a text with these attributes, and the default ones behind it
+-- a text with these attributes, and the default ones after it
 abbrev pub styled_text : CellAttributes → List ℕ → List ElementView
 styled_text attributes text = AllAttributes attributes ∷ Text text ∷ AllAttributes default_attributes ∷ []
 

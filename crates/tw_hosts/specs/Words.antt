@@ -28,6 +28,6 @@ leading_word text = before_first (λ byte. byte == 32) text
 abbrev pub after_word : List ℕ → List ℕ
 after_word text = drop (length (leading_word text)) text
 
--- what stands behind the last space of a text, or all of it where it has none
+-- what stands after the last space of a text, or all of it where it has none
 abbrev pub last_word : List ℕ → List ℕ
 last_word text = after_last (λ byte. byte == 32) text

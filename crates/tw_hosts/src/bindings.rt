@@ -33,7 +33,7 @@ pub enum Binding {
     KillAndMove(Movement, Movement),
     /// Takes the line before in the history.
     HistoryPrevious,
-    /// Takes the line after in the history.
+    /// Takes the next line of the history.
     HistoryNext,
     /// Searches the history, to older lines.
     SearchBackwards,

@@ -22,8 +22,8 @@ pub fn faithful()
     ensures tables { IsFaithful table_rules }
 {}
 
-/// The settled column leads to the cell in which the text behind the cursor begins, and no other one does. There is one
-/// behind a text without a carriage return, no piece of which is wider than the screen. In a printable line it is the
+/// The settled column leads to the cell in which the text after the cursor begins, and no other one does. There is one
+/// after a text without a carriage return, no piece of which is wider than the screen. In a printable line it is the
 /// plain one. Where no cluster is parted, the text before the cursor leads where the editor measures it.
 pub fn settling()
     ensures column { ColumnLeadsThere }

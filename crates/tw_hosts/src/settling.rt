@@ -160,7 +160,7 @@ fn needed_by_text(text: &str) -> usize
     }
 }
 
-/// The cell in which something of so many columns begins behind a place.
+/// The cell in which something of so many columns begins after a place.
 fn begins_at(cols: usize, width: usize, end: Extent) -> (usize, isize)
     requires cols { cols ≤ 65535 }
     requires range { is_in_range (place_of end) ≡ true }
@@ -264,9 +264,9 @@ fn settled(cols: usize, prompt: &str, line: &str, cursor: usize) -> Option<usize
     columns_between(cols, start, begins_at(cols, needed_by_text(rest), end))
 }
 
-/// The column to answer for the cursor, which is a boundary of the line, behind this prompt on a screen of so many
-/// columns: the one by which the editor finds the cell in which the text behind the cursor begins. Where no column
-/// leads there, as behind a carriage return, it is the plain one. It takes no memory.
+/// The column to answer for the cursor, which is a boundary of the line, after this prompt on a screen of so many
+/// columns: the one by which the editor finds the cell in which the text after the cursor begins. Where no column
+/// leads there, as after a carriage return, it is the plain one. It takes no memory.
 pub fn settled_column(cols: usize, prompt: &str, line: &str, cursor: usize) -> usize
     requires { IsCharBoundary line.now cursor }
     ensures { result ≡ settled_column cols prompt.now (cut_at line.now cursor) }

@@ -65,7 +65,7 @@ pub fn split_token(text: &str) -> (&str, &str)
     text.split_at(token_len(text))
 }
 
-/// A text with these attributes: they are set before it, and the default ones behind it.
+/// A text with these attributes: they are set before it, and the default ones after it.
 pub fn styled(
     alloc: Global,
     attributes: CellAttributes,

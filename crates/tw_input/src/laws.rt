@@ -18,7 +18,7 @@ pub fn equality()
     ensures input_event { ComparesViews event_view ⟦<InputEvent as PartialEq>⟧.eq }
 {}
 
-/// The bits of each modifier, and those that `Modifiers::from_bits` knows: it answers `Some` exactly where
+/// The bits of each modifier, and those that `Modifiers::from_bits` knows: it returns `Some` exactly where
 /// no other bit is set.
 #[tactic(auto, unfolding(bitflags::specs::Sets::known_from))]
 pub fn modifiers()

@@ -6,7 +6,7 @@ use Rattle.tw_line.specs.Edits.{with_text}
 use Rattle.tw_extremes.specs.Extremes.{iterate}
 use Rattle.tw_line.proofs.EditLemmas.{length-insert_slice, with_text-nil}
 
--- a text inserted behind one that was inserted
+-- a text inserted after one that was inserted
 with_text-twice : (s t : List ℕ) (c : Cut) → c.cursor ≤ length c.line → with_text t (with_text s c) ≡ with_text (s ++ t) c
 with_text-twice s t c within =
     let front = take c.cursor c.line in

@@ -1,4 +1,4 @@
--- What stands before a cluster boundary decides nothing behind it, where clusters are not extended.
+-- What stands before a cluster boundary decides nothing after it, where clusters are not extended.
 use Rattle.std.proofs.Common.{◌≡◌, ℕ, ◌+◌, ◌-◌, ◌<◌, ◌≤◌, Bool, true, false, not, ◌&&◌, ◌||◌, List, [], ◌∷◌, ◌++◌, length, take, drop, reverse, unwrap_or, refl, sym, ap, ap₂, subst, ◌∙◌, arith, ⊎_elim, append_assoc, length-append, length-drop, length-take-le, take_at, drop_at}
 use Rattle.std.proofs.lemmas.Bool.{cases_Bool, cases_eq, cases_lt, not-true, false≢true}
 use Rattle.std.proofs.lemmas.List.{reverse-append, drop-drop, take-append-drop}
@@ -48,7 +48,7 @@ unfolding is_control
 control_no_extend Extend h = absurd (false≢true h)
 control_no_extend _ h = refl
 
--- only behind one of them does a character that extends begin a cluster
+-- only after one of them does a character that extends begin a cluster
 control_before : (left right : GraphemeClusterBreak) (rest : Bool) → (is_extend right || is_zwj right) ≡ true
     → unwrap_or (break_by_pair false left right) rest ≡ true → is_control left ≡ true
 unfolding is_control
@@ -131,7 +131,7 @@ module _ (text : List ℕ) (u : IsUtf8 text) (from : ℕ) (cut : IsCharBoundary 
       ap (λ t. reverse (chars t)) (take-add from k text) ∙ ap reverse (chars-append (take from text) (take k (drop from text)) (IsUtf8-take text from u cut))
       ∙ reverse-append (chars (take from text)) (chars (take k (drop from text)))
 
-  -- a first character of it, seen from a boundary behind it
+  -- a first character of it, seen from a boundary after it
   breaks_from_first : (k c : ℕ) (cs : List ℕ) → IsCharBoundary (drop from text) k → chars (take k (drop from text)) ≡ c ∷ cs
       → breaks_at (is_grapheme_break false) text (from + k) ≡ breaks_at (is_grapheme_break false) (drop from text) k
   breaks_from_first k c cs cut_k e =
@@ -195,7 +195,7 @@ unfolding is_grapheme_break
 next_alone [] c a b = refl
 next_alone (last ∷ before) c a b = refl
 
--- a boundary of a text before another one, behind which the text may change
+-- a boundary of a text before another one, after which the text may change
 module _ (text : List ℕ) (u : IsUtf8 text) (from at : ℕ) (cut_from : IsCharBoundary text from) (cut_at : IsCharBoundary text at) (low : from < at) where
   front_width : length (take from text) ≡ from
   front_width = length-take-le from text cut_from.0
@@ -225,7 +225,7 @@ module _ (text : List ℕ) (u : IsUtf8 text) (from at : ℕ) (cut_from : IsCharB
   breaks_still : (rest other : List ℕ) → breaks_at (is_grapheme_break false) (take at text ++ rest) from ≡ breaks_at (is_grapheme_break false) (take at text ++ other) from
   breaks_still rest other = breaks_before _ rest refl ∙ sym (breaks_before _ other refl)
 
-  -- an insertion behind it leaves it a cluster boundary
+  -- an insertion after it leaves it a cluster boundary
   begins_before : (t : List ℕ) → IsUtf8 (insert_slice text at t) → is_cluster_boundary text from ≡ true
       → IsCharBoundary (insert_slice text at t) from × (is_cluster_boundary (insert_slice text at t) from ≡ true)
   begins_before t v begins =

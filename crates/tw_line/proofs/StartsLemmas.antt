@@ -33,7 +33,7 @@ starts_from-nil : (at : ℕ) → starts_from at [] ≡ []
 unfolding starts_from
 starts_from-nil at = refl
 
--- the first character starts at `at`, and the others behind it
+-- the first character starts at `at`, and the others after it
 starts_from-cons : (at c : ℕ) (cs : List ℕ) → starts_from at (c ∷ cs) ≡ at ∷ starts_from (at + length (encode_utf8 c)) cs
 unfolding starts_from
 starts_from-cons at c cs =
@@ -53,7 +53,7 @@ pub slice_index-starts_from : (at : ℕ) (cs : List ℕ) (k : ℕ) → k < lengt
 unfolding starts_from
 slice_index-starts_from at cs k low = get_or-map-range_with_len _ 0 (length cs) k k 0 low (omega arith)
 
--- some characters stand behind the others
+-- some characters stand after the others
 pub starts_from-append : (at : ℕ) (cs ds : List ℕ) → starts_from at (cs ++ ds) ≡ starts_from at cs ++ starts_from (at + length (encode_utf8_all cs)) ds
 starts_from-append at [] ds =
     let e : at ≡ at + 0 = omega arith in
@@ -105,7 +105,7 @@ encodes_rise (c ∷ cs) (suc i) (suc j) low within =
       length-append (encode_utf8 c) (encode_utf8_all (take j cs)),
     )
 
--- each character starts behind the one before
+-- each character starts after the one before
 pub IsStrictlyIncreasing-starts_from : (at : ℕ) (cs : List ℕ) → IsStrictlyIncreasing (starts_from at cs)
 IsStrictlyIncreasing-starts_from at cs k h =
     let inside : k + 1 < length cs = omega (arith, length-starts_from at cs) in
@@ -116,7 +116,7 @@ IsStrictlyIncreasing-starts_from at cs k h =
       encodes_rise cs k (k + 1) (omega arith) (omega arith),
     )
 
--- rising numbers, cut before and behind one of them
+-- rising numbers, cut before and after one of them
 module _ (starts front later : List ℕ) (middle at : ℕ) (whole : starts ≡ front ++ middle ∷ later) (rises : IsStrictlyIncreasing starts) where
   -- how many there are
   parts : length starts ≡ length front + 1 + length later
@@ -126,7 +126,7 @@ module _ (starts front later : List ℕ) (middle at : ℕ) (whole : starts ≡ f
   at_middle : slice_index starts (length front) ≡ middle
   at_middle = ap (λ s. slice_index s (length front)) whole ∙ get_or-append_seam front middle later 0
 
-  -- those behind it
+  -- those after it
   at_later : (i k : ℕ) → i ≡ length front + 1 + k → slice_index starts i ≡ slice_index later k
   at_later i k e =
       let place : i ≡ length front + suc k = omega arith in
@@ -136,13 +136,13 @@ module _ (starts front later : List ℕ) (middle at : ℕ) (whole : starts ≡ f
   less_before : (i j : ℕ) → i < j → j < length starts → slice_index starts i < slice_index starts j
   less_before i j low inside = AllPairs-from_increasing starts rises i j 0 low inside
 
-  -- those behind the middle rise
+  -- those after the middle rise
   pub later_rises : IsStrictlyIncreasing later
   later_rises k h =
       let step = less_before (length front + 1 + k) (length front + 1 + (k + 1)) (omega arith) (omega (arith, parts)) in
       omega (arith, at_later (length front + 1 + k) k (omega arith), at_later (length front + 1 + (k + 1)) (k + 1) (omega arith))
 
-  -- where the middle is below a number, all up to it are, and so many behind it
+  -- where the middle is below a number, all up to it are, and so many after it
   pub below_later : middle < at → (count : ℕ) → ((k : ℕ) → k < count → slice_index later k < at) → (k : ℕ) → k < length front + 1 + count → slice_index starts k < at
   below_later low count below k h =
       ⊎_elim
@@ -156,7 +156,7 @@ module _ (starts front later : List ℕ) (middle at : ℕ) (whole : starts ≡ f
   rest_later count rest k low inside =
       omega (arith, at_later k (k - (length front + 1)) (omega arith), rest (k - (length front + 1)) (omega arith) (omega (arith, parts)))
 
-  -- where the middle is not below it, none behind is
+  -- where the middle is not below it, none after is
   pub rest_front : at ≤ middle → (count : ℕ) → ((k : ℕ) → count ≤ k → k < length front → at ≤ slice_index front k)
       → (k : ℕ) → count ≤ k → k < length starts → at ≤ slice_index starts k
   rest_front high count rest k low inside =

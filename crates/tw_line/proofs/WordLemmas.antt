@@ -96,11 +96,11 @@ pub kind_from-end : (space : Bool) (cs : List ℕ) (q : ℕ) → q ≡ length cs
 kind_from-end true cs q e = space_from-end cs q e
 kind_from-end false cs q e = word_from-end cs q e
 
--- an index behind a character that is no whitespace
+-- an index after a character that is no whitespace
 follows_space-false : (cs : List ℕ) (i q : ℕ) → q ≡ i + 1 → is_space cs i ≡ false → follows_space cs q ≡ false
 follows_space-false cs i q e fails = let same : q - 1 ≡ i = omega arith in and_right _ _ (ap (is_space cs) same ∙ fails)
 
--- an index behind whitespace
+-- an index after whitespace
 follows_space-true : (cs : List ℕ) (i q : ℕ) → q ≡ i + 1 → is_space cs i ≡ true → follows_space cs q ≡ true
 follows_space-true cs i q e passes = let same : q - 1 ≡ i = omega arith in and_from _ _ (lt-ltb 0 q (omega arith)) (ap (is_space cs) same ∙ passes)
 
@@ -110,7 +110,7 @@ unfolding word_before
 word_before-skip cs i q e fails =
     ap (λ o. unwrap_or o 0) (sym (greatest_below-skip (follows_space cs) q (follows_space-false cs i q e fails) ∙ ap (greatest_below (follows_space cs)) e))
 
--- it ends behind whitespace
+-- it ends after whitespace
 pub word_before-here : (cs : List ℕ) (i q : ℕ) → q ≡ i + 1 → is_space cs i ≡ true → word_before cs (q + 1) ≡ q
 unfolding word_before
 word_before-here cs i q e passes = ap (λ o. unwrap_or o 0) (greatest_below-here (follows_space cs) q (follows_space-true cs i q e passes))

@@ -11,7 +11,7 @@ use Rattle.tw_line.specs.declared.movements.Movement.{Movement}
 abbrev pub with_char : ℕ → Cut → Cut
 with_char x c = let line = insert_slice c.line c.cursor (encode_utf8 x) in cut_at line (cluster_after line c.cursor)
 
--- the text is inserted at the cursor, which goes behind it
+-- the text is inserted at the cursor, which goes after it
 abbrev pub with_text : List ℕ → Cut → Cut
 with_text s c = cut_at (insert_slice c.line c.cursor s) (c.cursor + length s)
 

@@ -4,7 +4,7 @@ use Rattle.std.specs.List.{range_with_len}
 use Rattle.std.specs.Str.{chars}
 use Rattle.tw_extremes.specs.Extremes.{least_from}
 
--- the offsets at which these characters start where they stand one after the other from `at` on: each stands behind those before it
+-- the offsets at which these characters start where they stand one after the other from `at` on: each stands after those before it
 unfoldable pub starts_from : ℕ → List ℕ → List ℕ
 starts_from at cs = map (λ k. at + length (encode_utf8_all (take k cs))) (range_with_len 0 (length cs))
 

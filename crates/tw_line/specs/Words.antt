@@ -32,6 +32,6 @@ abbrev pub kind_from : Bool → List ℕ → ℕ → ℕ
 kind_from true = space_from
 kind_from false = word_from
 
--- behind the whitespace that ends the word at q
+-- after the whitespace that ends the word at q
 abbrev pub word_after : List ℕ → ℕ → ℕ
 word_after cs q = word_from cs (space_from cs q)

@@ -115,7 +115,7 @@ impl LineEditBuffer {
         Ok(())
     }
 
-    /// Inserts the text at the cursor, which goes behind it and so may stand inside a cluster.
+    /// Inserts the text at the cursor, which goes after it and so may stand inside a cluster.
     /// Where it is refused the buffer is as it was. The empty text takes no memory.
     pub fn insert_text(&mut self, text: &str) -> Result<(), AllocError>
         ensures ok { OnOk result (self.new ≡ with_text text.now self.old) }

@@ -24,7 +24,7 @@ pub enum Movement {
     BackwardWord(RepeatCount),
     /// So many grapheme clusters ahead.
     ForwardChar(RepeatCount),
-    /// So many words ahead, with the whitespace behind each.
+    /// So many words ahead, with the whitespace after each.
     ForwardWord(RepeatCount),
     /// To the start of the line.
     StartOfLine,

@@ -6,7 +6,7 @@ use mir.Syntax.{named}
 use Rattle.tw_lineedit.specs.contracts.editor.EditorOver as editor
 use Rattle.tw_session.specs.contracts.session.Session as session
 
--- what is behind the reference is this value, once all that was lent of it is given back
+-- what is after the reference is this value, once all that was lent of it is given back
 abbrev pub EndsAs : (R : RattleType) → MutBor R.Denot → R.Denot → Fml
 EndsAs R reference value = follows_so R R reference.ghost_name none (λ _ _. ⊤) (λ last. last ≡ value)
 
@@ -18,6 +18,6 @@ editor_row terminal = editor.the_row (record { mir = named 1; lft = [] }) termin
 abbrev pub with_terminal : (terminal : RattleType) → (editor_row terminal).Denot → terminal.Denot → (editor_row terminal).Denot
 with_terminal terminal e left = record e { terminal = record e.terminal { now = left } }
 
--- the editor ends with its terminal as it was left behind the reference
+-- the editor ends with its terminal as it was left after the reference
 abbrev pub LendsTerminal : (terminal : RattleType) → MutBor (editor_row terminal).Denot → MutBor terminal.Denot → Fml
 LendsTerminal terminal editor lent = Lends (editor_row terminal) terminal editor lent (with_terminal terminal editor.now)

@@ -73,7 +73,7 @@ changes-push elements element =
     ap changes_of (map-append element_view elements (element ∷ []))
     ∙ map-append element_change (map element_view elements) (element_view element ∷ [])
 
--- the changes of the elements before one, of that one and of those behind it
+-- the changes of the elements before one, of that one and of those after it
 changes-around : (all elements rest : List OutputElement) (element : OutputElement) → all ≡ elements ++ element ∷ rest
     → changes_of (map element_view all) ≡ changes_of (map element_view elements) ++ (element_change (element_view element) ∷ changes_of (map element_view rest))
 changes-around all elements rest element e =

@@ -157,7 +157,7 @@ cell-in_range cols mid column cell h =
     row-in_range cell
     (ap is_in_range h.is_cell ∙ (and_parts (nat_le ((place mid).x + column) 2147483647) (is_in_range (place_at cols (place mid) column)) h.fits).1)
 
--- the line is drawn, behind what stands before it
+-- the line is drawn, after what stands before it
 pub drawn-line : (cols : ℕ) (prompt line : Batch) (mid end : Drawing) → Drawn (before_line prompt) (empty cols) mid → Drawn (with_edge mid line) mid end
     → Drawn (line_part cols prompt line) (empty cols) end
 drawn-line cols prompt line mid end first second =

@@ -58,7 +58,7 @@ abbrev pub Draws : Batch → Drawing → Drawing → Result Unit Error → Type 
 Draws changes old new (Ok done) = Drawn changes old new
 Draws changes old new (Err e) = IsStepRefusal (stay_in_range old changes) e
 
--- a line, and the space behind it where it ends at the edge
+-- a line, and the space after it where it ends at the edge
 abbrev pub with_edge : Drawing → Batch → Batch
 with_edge d line = line ++ edge_space d.cols (place (with_all d line))
 
@@ -67,8 +67,8 @@ abbrev pub has_cell : ℕ → Place → ℕ → Bool
 has_cell cols p column = nat_le (p.x + column) 2147483647 && is_in_range (place_at cols p column)
 
 -- a column and a row, as a place
-abbrev pub place_of : ℕ × ℤ → Place
-place_of p = record { x = p.0; y = p.1 }
+abbrev pub place_of_pair : ℕ × ℤ → Place
+place_of_pair p = record { x = p.0; y = p.1 }
 
 -- the cell some columns after a place is this one, and can be the cursor's
 abbrev pub IsCellAfter : ℕ → Place → ℕ → Place → Type 0

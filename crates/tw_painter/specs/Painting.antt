@@ -74,7 +74,7 @@ pub record IsInLimits (m : Mark) : Type 0 where
   pub near : nat_abs m.row ≤ 2147483647
   pub low : m.height ≤ 4294967294
 
--- a painting as it is rendered, behind its start move, and its mark
+-- a painting as it is rendered, after its start move, and its mark
 pub record Rendering : Type 0 where
   pub changes : Batch
   pub mark : Mark

@@ -8,7 +8,7 @@ ghost use Rattle.tw_surface.specs.PaintingBatches.{start_of};
 ghost use Rattle.tw_surface.specs.Paintings.{before_line, edge_space, lower_changes, start_move, closing};
 ghost use Rattle.tw_host.specs.ElementView.{element_view, changes_of};
 ghost use Rattle.tw_painter.specs.Painting.{preview_of, label, search_text};
-ghost use Rattle.tw_painter.specs.DrawSteps.{Draws, DrawsScene, with_edge, lower_of, scene_of_line, has_cell, place_of, IsCellAfter, IsPainted, IsUnpainted};
+ghost use Rattle.tw_painter.specs.DrawSteps.{Draws, DrawsScene, with_edge, lower_of, scene_of_line, has_cell, place_of_pair, IsCellAfter, IsPainted, IsUnpainted};
 
 use crate::error::Error;
 use std::alloc::{AllocError, Global};
@@ -112,7 +112,7 @@ fn draw_prompt<H: LineEditorHost>(
     draw(drawing, Change::AllAttributes(CellAttributes::default()))
 }
 
-/// Draws a space where the cursor waits behind the last column, so that it is in the next row.
+/// Draws a space where the cursor waits after the last column, so that it is in the next row.
 fn draw_edge_space(drawing: &mut ChangeSequence, alloc: Global, cols: usize) -> Result<(), Error>
     requires { drawing.old.cols ≡ cols }
     ensures { Draws (edge_space cols (place drawing.old)) drawing.old drawing.new result }
@@ -207,8 +207,8 @@ fn cursor_cell(cols: usize, start: (usize, isize), column: usize) -> Option<(usi
     requires some_columns { 0 < cols }
     requires columns { cols ≤ 65535 }
     requires row { nat_abs start.1 ≤ 2147483647 }
-    ensures { let from = place_of start in
-        MatchOption result (has_cell cols from column ≡ false) (λ cell. IsCellAfter cols from column (place_of cell)) }
+    ensures { let from = place_of_pair start in
+        MatchOption result (has_cell cols from column ≡ false) (λ cell. IsCellAfter cols from column (place_of_pair cell)) }
 {
     let (x, y) = start;
     let reach = x.checked_add(column)?;
@@ -266,7 +266,7 @@ fn draw_scene<H: LineEditorHost>(
     })
 }
 
-/// A batch, behind the start move of the painting before, if there was one.
+/// A batch, after the start move of the painting before, if there was one.
 fn from_start(before: Option<Mark>, batch: Vec<Change>) -> Result<Vec<Change>, AllocError>
     ensures { IfOk result (λ all. batch_view all.items ≡ start_of before ++ batch_view batch.items) }
 {
@@ -277,7 +277,7 @@ fn from_start(before: Option<Mark>, batch: Vec<Change>) -> Result<Vec<Change>, A
     Ok(all)
 }
 
-/// The painting of a line behind its prompt, with what stands under it: its batch and its mark. The batch goes back
+/// The painting of a line after its prompt, with what stands under it: its batch and its mark. The batch goes back
 /// to the first row of the painting before, if there was one. A size that no screen can have is refused before the
 /// host is asked.
 pub fn painting<H: LineEditorHost>(

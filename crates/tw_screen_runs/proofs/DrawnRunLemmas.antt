@@ -11,8 +11,8 @@ use Rattle.tw_screens.specs.SizedBatches.{sized_after, spelled_sized}
 use Rattle.tw_screens.proofs.SizedBatchLemmas.{sized_are, sized_batches_are}
 use Rattle.tw_screens.proofs.StationMarks.{closing_is}
 use Rattle.tw_surface.specs.ChangeView.{Batch}
-use Rattle.tw_strokes.specs.Sheets.{IsFresh, last_row, cursor_row}
-use Rattle.tw_strokes.specs.Paintings.{Painting, IsClosed, cols_of, top_row, seen_row}
+use Rattle.tw_strokes.specs.Sheets.{IsFreshSheet, sheet_last_row, sheet_cursor_row}
+use Rattle.tw_strokes.specs.Paintings.{SheetPainting, IsClosedSheet, cols_of, top_row, seen_row}
 use Rattle.tw_strokes.proofs.PaintedLists.{top-le}
 use Rattle.tw_screen_runs.proofs.ClearedRunLemmas.{text_prompts, up_to-is, played_since, first_since}
 use Rattle.tw_screens.specs.SceneSheets.{painting_of}
@@ -57,8 +57,8 @@ module _ {V A C : Type 0} (rules : HostRules V) (pen : Pen A C) where
   -- the closing batch of a run whose last painting is that of a station, on a screen whose cursor stands where it left it
   closes : (f : Frame V) (rows : Option ℕ) (cuts : Bool) (w s : ℕ) (kept : A) (station : Station V) (shown : PictureOf C)
       → closing_if (run_of rules f).mark ≡ closing (mark_of (painting station.size.cols (sized_scene rules station).scene)) ∷ []
-      → 2 ≤ w → InSight rows 0 → IsSimpleWide (sized_scene rules station) → shown.row ≡ s + cursor_row station.size.cols (painted_at rules pen station).sheet
-      → IsClosed rows w (blank_of pen) (s + last_row station.size.cols (painted_at rules pen station).sheet) (resized cuts (blank_of pen) station.size.cols w shown)
+      → 2 ≤ w → InSight rows 0 → IsSimpleWide (sized_scene rules station) → shown.row ≡ s + sheet_cursor_row station.size.cols (painted_at rules pen station).sheet
+      → IsClosedSheet rows w (blank_of pen) (s + sheet_last_row station.size.cols (painted_at rules pen station).sheet) (resized cuts (blank_of pen) station.size.cols w shown)
       (closed_by rules pen rows cuts station.size.cols w kept f shown)
   closes f rows cuts w s kept station shown closing wide some simple row =
       rw closing (closes_stations pen rows w s kept (sized_scene rules station) (resized cuts (blank_of pen) station.size.cols w shown) wide some simple
@@ -88,10 +88,10 @@ module _ {V A C : Type 0} (rules : HostRules V) (pen : Pen A C) where
   drawn_calls_stack f g rows cuts v w a kept again earlier station none others second later before h nothing wide k =
       let shown : PictureOf C = resized cuts (blank_of pen) station.size.cols w (play_stations rules pen rows cuts v a (earlier ++ station ∷ []) before) in
       let entered : PictureOf C = closed_by rules pen rows cuts station.size.cols w kept f (play_stations rules pen rows cuts v a (earlier ++ station ∷ []) before) in
-      let last : ℕ = top_row rows before.row (paintings_at rules pen (earlier ++ station ∷ [])) + last_row station.size.cols (painted_at rules pen station).sheet in
-      let paintings : List (Painting C) = paintings_at rules pen (others ++ second ∷ []) in
+      let last : ℕ = top_row rows before.row (paintings_at rules pen (earlier ++ station ∷ [])) + sheet_last_row station.size.cols (painted_at rules pen station).sheet in
+      let paintings : List (SheetPainting C) = paintings_at rules pen (others ++ second ∷ []) in
       let s : ℕ = top_row rows entered.row paintings in
-      let closed : IsClosed rows w (blank_of pen) last shown entered = (drawn_closings f rows cuts v w a kept earlier station none before h nothing wide).1 in
+      let closed : IsClosedSheet rows w (blank_of pen) last shown entered = (drawn_closings f rows cuts v w a kept earlier station none before h nothing wide).1 in
       let fresh : ShowsDrawn rules pen rows cuts w again g others second entered = drawn_paintings g rows cuts w again others second later entered k in
       let up : s ≤ entered.row = top-le rows entered.row paintings in
       let down : entered.row ≤ last + 1 = omega (arith, closed.row, seen-le rows (last + 1)) in (
@@ -115,7 +115,7 @@ module _ {V A C : Type 0} (rules : HostRules V) (pen : Pen A C) where
   healed : (rows : Option ℕ) (cuts : Bool) (v : ℕ) (a : A) (earlier since : List SizedScene) (station : SizedScene) (before : PictureOf C)
       → InSight rows 0 → All HasTextPrompt earlier → begins_cleared (since ++ station ∷ []) ≡ true
       → All IsSimpleWide (since ++ station ∷ []) → All (HasRoom rows pen) (since ++ station ∷ [])
-      → IsFresh station.cols 0 (blank_of pen) (painting_of pen station).sheet (play_sized rows cuts pen v a (spelled_sized (sized_after (mark_after None (map shot_of earlier)) (since ++ station ∷ []))) before)
+      → IsFreshSheet station.cols 0 (blank_of pen) (painting_of pen station).sheet (play_sized rows cuts pen v a (spelled_sized (sized_after (mark_after None (map shot_of earlier)) (since ++ station ∷ []))) before)
   healed rows cuts v a earlier [] station before some texts cleared simple low = heals_stations pen rows cuts v a earlier station [] before some texts cleared simple low
   healed rows cuts v a earlier (first ∷ more) station before some texts cleared simple low =
       rw (last_is pen first more station) at (heals_stations pen rows cuts v a earlier first (more ++ station ∷ []) before some texts cleared simple low)
@@ -143,7 +143,7 @@ module _ {V A C : Type 0} (rules : HostRules V) (pen : Pen A C) where
       let scenes = map-append (sized_scene rules) since (station ∷ []) in
       let q = drawn_healings f rows earlier since station later h in
       let simple : IsSimpleWide (sized_scene rules station) = last-wide (map (sized_scene rules) since) (sized_scene rules station) (rw scenes at h.simple) in
-      let from_0 : 0 + last_row station.size.cols (painted_at rules pen station).sheet ≡ last_row station.size.cols (painted_at rules pen station).sheet = omega arith in
+      let from_0 : 0 + sheet_last_row station.size.cols (painted_at rules pen station).sheet ≡ sheet_last_row station.size.cols (painted_at rules pen station).sheet = omega arith in
       let closing = closing-is rules comes none ∙ ap (λ l. closing_batch (map shot_of l)) (map-append (sized_scene rules) (earlier ++ since) (station ∷ []))
       ∙ closing_is (map (sized_scene rules) (earlier ++ since)) (sized_scene rules station) in (
         all_taken rules comes none ∙ ap (λ (stations : List (Station V)). f.terminal.batches ++ batches_of rules stations) (up_to-is rules earlier since station),

@@ -2,9 +2,9 @@
 use Rattle.std.specs.Prelude.{◌≡◌, ℕ, ◌+◌, ◌-◌, ◌<◌, ◌≤◌, Bool, true, false, List, [], ◌∷◌, ◌++◌, map, None, Option, Ok}
 use Rattle.std.specs.List.{All}
 use Rattle.tw_strokes.specs.Strokes.{PictureOf, InSight, narrowest, resized}
-use Rattle.tw_strokes.specs.Sheets.{IsFresh, last_row}
+use Rattle.tw_strokes.specs.Sheets.{IsFreshSheet, sheet_last_row}
 use Rattle.tw_strokes.specs.Paintings as drawn
-use Rattle.tw_strokes.specs.Paintings.{AreShownOver, IsClosed, cols_of, top_row}
+use Rattle.tw_strokes.specs.Paintings.{AreShownOver, IsClosedSheet, cols_of, top_row}
 use Rattle.tw_surface.specs.ChangeView.{Batch}
 use Rattle.tw_surface.specs.Paintings.{Painting}
 use Rattle.tw_surface.specs.PaintingBatches.{SizedScene, shot_of, mark_after, closing_if}
@@ -27,10 +27,10 @@ begins_cleared (station ∷ more) = station.scene.cleared
 
 module _ {V A C : Type 0} (rules : HostRules V) (pen : Pen A C) where
   -- what is painted at a station, and at each of some stations
-  abbrev pub painted_at : Station V → drawn.Painting C
+  abbrev pub painted_at : Station V → drawn.SheetPainting C
   painted_at station = painting_of pen (sized_scene rules station)
 
-  abbrev pub paintings_at : List (Station V) → List (drawn.Painting C)
+  abbrev pub paintings_at : List (Station V) → List (drawn.SheetPainting C)
   paintings_at stations = map (painting_of pen) (map (sized_scene rules) stations)
 
   -- the batches of stations, each with the columns of its station, are played on a screen of v columns
@@ -70,10 +70,10 @@ module _ {V A C : Type 0} (rules : HostRules V) (pen : Pen A C) where
   DrawnClosings = (f : Frame V) (rows : Option ℕ) (cuts : Bool) (v w : ℕ) (a kept : A) (earlier : List (Station V)) (station : Station V) (later : List (Station V)) (before : PictureOf C)
       → ComesSimply rows f earlier station later before → All (RendersNothing rules) later → 2 ≤ w
       → let cols = station.size.cols in
-      let last = top_row rows before.row (paintings_at (earlier ++ station ∷ [])) + last_row cols (painted_at station).sheet in
+      let last = top_row rows before.row (paintings_at (earlier ++ station ∷ [])) + sheet_last_row cols (painted_at station).sheet in
       let shown = play_stations rows cuts v a (earlier ++ station ∷ []) before in
       ((run_of rules f).taken ≡ f.terminal.batches ++ batches_of rules (earlier ++ station ∷ []))
-      × IsClosed rows w (blank_of pen) last (resized cuts (blank_of pen) cols w shown) (closed_by rows cuts cols w kept f shown)
+      × IsClosedSheet rows w (blank_of pen) last (resized cuts (blank_of pen) cols w shown) (closed_by rows cuts cols w kept f shown)
 
   -- Two calls stack: a second run that enters the screen where the closing batch of a first one left it is fresh, and what the first one showed is as it was, moved up, in the columns that the screen had since then.
   abbrev pub DrawnCallsStack : Type 0
@@ -81,7 +81,7 @@ module _ {V A C : Type 0} (rules : HostRules V) (pen : Pen A C) where
       (earlier : List (Station V)) (station : Station V) (none : List (Station V)) (others : List (Station V)) (second : Station V) (later : List (Station V)) (before : PictureOf C)
       → ComesSimply rows f earlier station none before → All (RendersNothing rules) none → 2 ≤ w
       → let cols = station.size.cols in
-      let under = top_row rows before.row (paintings_at (earlier ++ station ∷ [])) + last_row cols (painted_at station).sheet + 1 in
+      let under = top_row rows before.row (paintings_at (earlier ++ station ∷ [])) + sheet_last_row cols (painted_at station).sheet + 1 in
       let shown = play_stations rows cuts v a (earlier ++ station ∷ []) before in
       let entered = closed_by rows cuts cols w kept f shown in
       let paintings = paintings_at (others ++ second ∷ []) in
@@ -115,7 +115,7 @@ module _ {V A C : Type 0} (rules : HostRules V) (pen : Pen A C) where
     pub batches : batches_of rules (earlier ++ (since ++ station ∷ [])) ≡ batches_of rules earlier ++ map (λ sized. sized.batch) (since_batches earlier (since ++ station ∷ []))
     pub beginning : (rest : List Batch) × ((run_of rules f).taken ≡ f.terminal.batches ++ (batches_of rules (earlier ++ (since ++ station ∷ [])) ++ rest))
     pub fresh : (cuts : Bool) (v : ℕ) (a : A) (before : PictureOf C)
-        → IsFresh station.size.cols 0 (blank_of pen) (painted_at station).sheet (play_since rows cuts v a earlier (since ++ station ∷ []) before)
+        → IsFreshSheet station.size.cols 0 (blank_of pen) (painted_at station).sheet (play_since rows cuts v a earlier (since ++ station ∷ []) before)
 
   -- each painting since a clearing
   abbrev pub DrawnHealings : Type 0
@@ -130,4 +130,4 @@ module _ {V A C : Type 0} (rules : HostRules V) (pen : Pen A C) where
       × ((cuts : Bool) (v w : ℕ) (a kept : A) (before : PictureOf C) → 2 ≤ w
       → let cols = station.size.cols in
       let shown = play_since rows cuts v a earlier (since ++ station ∷ []) before in
-      IsClosed rows w (blank_of pen) (last_row cols (painted_at station).sheet) (resized cuts (blank_of pen) cols w shown) (closed_by rows cuts cols w kept f shown))
+      IsClosedSheet rows w (blank_of pen) (sheet_last_row cols (painted_at station).sheet) (resized cuts (blank_of pen) cols w shown) (closed_by rows cuts cols w kept f shown))

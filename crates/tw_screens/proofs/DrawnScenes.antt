@@ -9,7 +9,7 @@ use Rattle.std.proofs.lemmas.List.{append-nil, append_assoc, map-append, length-
 use Rattle.std.proofs.Math.Nat.{add-mul, one-mul}
 use Rattle.tw_strokes.specs.Strokes.{PictureOf, filled, step, steps}
 use Rattle.tw_strokes.specs.Strokes.Stroke.{Return, Feed, ClearBehind, Move}
-use Rattle.tw_strokes.specs.Sheets.{Sheet, last_row, cursor_row, last_length, behind, end_col, typed, broken, drawing}
+use Rattle.tw_strokes.specs.Sheets.{Sheet, sheet_last_row, sheet_cursor_row, last_length, behind, end_col, typed, broken, drawing}
 use Rattle.tw_strokes.specs.Paintings.{IsLed}
 use Rattle.tw_strokes.proofs.LineOfCells.{at_row, at_col, typed-stands}
 use Rattle.tw_strokes.proofs.DrawnSheets.{Drawn, typed-ends, drawn, all_cells}
@@ -44,7 +44,7 @@ less_one n = omega arith
 reached : (z : ℤ) (n : ℕ) → z ≡ pos n → at_least_0 z ≡ n
 reached z n e = ap at_least_0 e
 
--- n cells from column 0 on end behind the last column where they fill their last row
+-- n cells from column 0 on end after the last column where they fill their last row
 behind_edge : (w n : ℕ) → 2 ≤ w → eqb (behind w n) w ≡ (ltb 0 n && eqb (n % w) 0)
 behind_edge w zero two = rw (ne_eqb 0 w (λ e. omega (arith, e))) refl
 behind_edge w (suc n) two = elim (cases_eq (n % w + 1) w) [
@@ -126,7 +126,7 @@ module _ {A C : Type 0} (pen : Pen A C) (w : ℕ) (scene : Scene) (two : 2 ≤ w
       ∙ strokes-append pen start spelled.prompt (AllAttributes default_attributes ∷ []) ∙ append-nil (strokes_of pen start spelled.prompt)
       ∙ simple_typed start scene.prompt simple.prompt
 
-  -- behind the prompt default attributes are set again, and behind the line those that it leaves
+  -- after the prompt default attributes are set again, and after the line those that it leaves
   kept_prompt : (a : A) → kept_after_all pen a (spelled_all (AllAttributes default_attributes ∷ scene.prompt ++ AllAttributes default_attributes ∷ [])) ≡ start
   kept_prompt a =
       ap (kept_after_all pen start) (map-append spelled_change scene.prompt (AllAttributes default_attributes ∷ []))
@@ -194,7 +194,7 @@ module _ {A C : Type 0} (pen : Pen A C) (w : ℕ) (scene : Scene) (two : 2 ≤ w
       by_behind true = refl
       by_behind false = refl
 
-  -- a blank is typed behind the line just where it fills its last row
+  -- a blank is typed after the line just where it fills its last row
   edge_is : eqb (place_after_all w head origin).x w ≡ (ltb 0 (length (text_of spelled)) && eqb (length (text_of spelled) % w) 0)
   edge_is =
       let q = typed-ends w 0 head_cells (λ i. b) clear (omega (arith, two)) refl refl (λ i c h. all-blank i c) in
@@ -307,13 +307,13 @@ module _ {A C : Type 0} (pen : Pen A C) (w : ℕ) (scene : Scene) (two : 2 ≤ w
             | inr none ↦ omega (arith, same, none)
           ]
 
-  drawn_all : Drawn w (0 + last_row w sheet) (last_length (length sheet.text) sheet.lower) (all_cells b w 0 sheet (filled b)) (steps w (drawing b sheet) (filled b))
+  drawn_all : Drawn w (0 + sheet_last_row w sheet) (last_length (length sheet.text) sheet.lower) (all_cells b w 0 sheet (filled b)) (steps w (drawing b sheet) (filled b))
   drawn_all = drawn b w 0 sheet (filled b) two refl refl off_edge
 
   end_x : (place_after_all w (shown_part w scene) origin).x ≡ end_col w sheet
   end_x = sym tracks-all.x ∙ drawn_all.col
 
-  end_y : (place_after_all w (shown_part w scene) origin).y ≡ pos (last_row w sheet)
+  end_y : (place_after_all w (shown_part w scene) origin).y ≡ pos (sheet_last_row w sheet)
   end_y = omega (arith, ints, tracks-all.y, drawn_all.row)
 
   -- the cursor's place
@@ -321,7 +321,7 @@ module _ {A C : Type 0} (pen : Pen A C) (w : ℕ) (scene : Scene) (two : 2 ≤ w
   prompt_place =
       (typed-stands w prompt_cells clear 0 (λ i. b) (omega (arith, two)) (record { at = λ r c h. all-blank r c; place = omega arith; within = omega arith })).place ∙ omega arith
 
-  pub cursor_y : (cursor_place w scene).y ≡ pos (cursor_row w sheet)
+  pub cursor_y : (cursor_place w scene).y ≡ pos (sheet_cursor_row w sheet)
   cursor_y =
       let t : PictureOf C = steps w (typed prompt_cells) clear in
       let e : t.row * w + (t.col + scene.column) ≡ sheet.at = omega (arith, prompt_place, prompt_length) in
@@ -335,18 +335,18 @@ module _ {A C : Type 0} (pen : Pen A C) (w : ℕ) (scene : Scene) (two : 2 ≤ w
       let e : t.row * w + (t.col + scene.column) ≡ sheet.at = omega (arith, prompt_place, prompt_length) in
       ap (λ i. (i + scene.column) % w) (sym tracks-prompt.x) ∙ sym (at_col w t.row (t.col + scene.column)) ∙ ap (λ i. i % w) e
 
-  pub height_is : height w (shown_part w scene) ≡ last_row w sheet
-  height_is = measured_height w scene (prompt_counted, (line_counted, low_counted scene.lower simple.lower)) (last_row w sheet) end_y
+  pub height_is : height w (shown_part w scene) ≡ sheet_last_row w sheet
+  height_is = measured_height w scene (prompt_counted, (line_counted, low_counted scene.lower simple.lower)) (sheet_last_row w sheet) end_y
 
   pub is_led : (cleared : Bool) → IsLed (painting_of pen (record { scene = record scene { cleared = cleared }; cols = w }))
   is_led cleared = record {
     wide = two;
     off_edge = off_edge;
-    to_row = λ r. clipped (pos r +ℤ ((cursor_place w scene).y -ℤ (place_after_all w (shown_part w scene) origin).y)) (r + cursor_row w sheet) (last_row w sheet)
+    to_row = λ r. clipped (pos r +ℤ ((cursor_place w scene).y -ℤ (place_after_all w (shown_part w scene) origin).y)) (r + sheet_cursor_row w sheet) (sheet_last_row w sheet)
         (omega (arith, ints, cursor_y, end_y));
     to_col = reached (pos (end_col w sheet) +ℤ (pos (cursor_place w scene).x -ℤ pos (place_after_all w (shown_part w scene) origin).x)) (sheet.at % w)
         (omega (arith, ints, end_x, cursor_x));
-    back = λ r. clipped (pos r +ℤ neg_ℤ (cursor_place w scene).y) r (cursor_row w sheet) (omega (arith, ints, cursor_y));
-    under = λ r. clipped (pos r +ℤ (pos (1 + height w (shown_part w scene)) -ℤ (cursor_place w scene).y)) (r + (last_row w sheet + 1)) (cursor_row w sheet)
+    back = λ r. clipped (pos r +ℤ neg_ℤ (cursor_place w scene).y) r (sheet_cursor_row w sheet) (omega (arith, ints, cursor_y));
+    under = λ r. clipped (pos r +ℤ (pos (1 + height w (shown_part w scene)) -ℤ (cursor_place w scene).y)) (r + (sheet_last_row w sheet + 1)) (sheet_cursor_row w sheet)
         (omega (arith, ints, cursor_y, height_is));
   }

@@ -6,8 +6,8 @@ use Rattle.tw_surface.specs.Positions.{at_least_0}
 use Rattle.tw_screens.proofs.StationMarks.{IsDown, stations-down, none_above}
 use Rattle.tw_strokes.specs.Strokes.{PictureOf, filled, scrolled, steps_on, InSight, resized, narrowest}
 use Rattle.tw_strokes.specs.Strokes.Stroke.{Move}
-use Rattle.tw_strokes.specs.Sheets.{IsFresh}
-use Rattle.tw_strokes.specs.Paintings.{Painting, IsFit, painting_strokes, paint_all, top_row, cols_of, last_painting, AreShownOver}
+use Rattle.tw_strokes.specs.Sheets.{IsFreshSheet}
+use Rattle.tw_strokes.specs.Paintings.{SheetPainting, IsFit, painting_strokes, paint_all, top_row, cols_of, last_painting, AreShownOver}
 use Rattle.tw_strokes.proofs.PaintedLists.{AreFit, IsBefore, top-le, painted_all}
 use Rattle.tw_strokes.proofs.PaintedSheets.{closed}
 use Rattle.tw_surface.specs.declared.change.Position.TheVariants.{Relative}
@@ -84,7 +84,7 @@ module _ {A C : Type 0} (pen : Pen A C) where
   are_wide [] a = tt
   are_wide (station ∷ more) a = (a 0 station (omega arith), are_wide more (λ i d h. a (suc i) d (omega arith)))
 
-  -- stations behind any painting, where the first one begins as it should
+  -- stations after any painting, where the first one begins as it should
   pub shown_stations : (rows : Option ℕ) (cuts : Bool) (v e : ℕ) (a : A) (mark : Option Mark) (first : SizedScene) (more : List SizedScene) (t : PictureOf C)
       → InSight rows e → InSight rows 0 → AreWide (first ∷ more) → All (HasRoom rows pen) (first ∷ more) → IsBefore first.scene.cleared e (back_of mark) t
       → let paintings = map (painting_of pen) (first ∷ more) in
@@ -94,7 +94,7 @@ module _ {A C : Type 0} (pen : Pen A C) where
       rw (drawn_stations rows cuts v a mark (first ∷ more) t some k)
       (painted_all rows cuts b v e (back_of mark) (painting_of pen first) (map (painting_of pen) more) t (fit_all rows (first ∷ more) k room) low before)
 
-  -- behind a clearing, whatever was painted before
+  -- after a clearing, whatever was painted before
   back_to_top : (mark : Option Mark) (e : ℕ) (t : PictureOf C) → IsDown mark → IsBefore true e (back_of mark) t
   back_to_top None e t down = tt
   back_to_top (Some m) e t down = top_of m.row down
@@ -105,14 +105,14 @@ module _ {A C : Type 0} (pen : Pen A C) where
   pub heals_stations : HealsStations pen
   heals_stations rows cuts v a earlier first more before some texts cleared wide room =
       let mark : Option Mark = mark_after None (map shot_of earlier) in
-      let paintings : List (Painting C) = map (painting_of pen) (first ∷ more) in
+      let paintings : List (SheetPainting C) = map (painting_of pen) (first ∷ more) in
       let start : IsBefore first.scene.cleared 0 (back_of mark) before =
       subst (λ x. IsBefore x 0 (back_of mark) before) (sym cleared) (back_to_top mark 0 before (stations-down None earlier tt texts)) in
       let q = shown_stations rows cuts v 0 a mark first more before some some (are_wide (first ∷ more) wide) room start in
       let top : top_row rows 0 paintings ≡ 0 = omega (arith, top-le rows 0 paintings) in
-      let last : Painting C = last_painting (painting_of pen first) (map (painting_of pen) more) in
+      let last : SheetPainting C = last_painting (painting_of pen first) (map (painting_of pen) more) in
       let after : PictureOf C = play_sized rows cuts pen v a (spelled_sized (sized_after mark (first ∷ more))) before in
-      subst (λ s. IsFresh last.cols s b last.sheet after) top q.fresh
+      subst (λ s. IsFreshSheet last.cols s b last.sheet after) top q.fresh
 
   pub closes_stations : ClosesStations pen
   closes_stations rows w s a station before two some k row =

@@ -27,16 +27,16 @@ index-same [] k d h = absurd (omega arith)
 index-same (x ∷ a) zero d h = refl
 index-same (x ∷ a) (suc k) d h = index-same a k d (omega arith)
 
--- the index behind the first of two texts
+-- the index after the first of two texts
 index-behind : (a : List ℕ) (d : ℕ) → slice_index_or (a ++ d ∷ []) (length a) d ≡ d
 index-behind [] d = refl
 index-behind (x ∷ a) d = index-behind a d
 
-lines-same : (w from : ℕ) (lines : List (List ℕ)) (t : Picture) → sheets.AreShown w from blank lines (cells_of t) → AreShown w from lines t
+lines-same : (w from : ℕ) (lines : List (List ℕ)) (t : Picture) → sheets.AreLinesShown w from blank lines (cells_of t) → AreShown w from lines t
 lines-same w from [] t h = tt
 lines-same w from (line ∷ more) t h = ((λ k i. h.0 k i ∙ index-same line k blank i), lines-same w (from + rows_of w line) more t h.1)
 
-no-lines : (w from : ℕ) (lines : List (List ℕ)) (r c : ℕ) → (IsInLines w from lines r c → ⊥) → sheets.IsInLines w from lines r c → ⊥
+no-lines : (w from : ℕ) (lines : List (List ℕ)) (r c : ℕ) → (IsInLines w from lines r c → ⊥) → sheets.IsInLowerLines w from lines r c → ⊥
 no-lines w from [] r c h i = i
 no-lines w from (line ∷ more) r c h (inl i) = h (inl i)
 no-lines w from (line ∷ more) r c h (inr i) = no-lines w (from + rows_of w line) more r c (λ j. h (inr j)) i
@@ -82,11 +82,11 @@ module _ (w s : ℕ) (scene : Scene) (two : 2 ≤ w) where
           ap (λ i. i / w) full ∙ div-mul-add (n / w) w 1 (omega (arith, two))
 
   -- the cell of an index of the sheet's text is that of one of the scene's, or is blank
-  rest_of : (t : Picture) (r c : ℕ) → sheets.IsShown w s blank (text_of scene ++ edge_if edged) (cells_of t) → (IsIn w s (text_of scene) r c → ⊥)
-      → (t.cell r c ≡ blank) ⊎ (sheets.IsIn w s (text_of scene ++ edge_if edged) r c → ⊥)
+  rest_of : (t : Picture) (r c : ℕ) → sheets.IsTextShown w s blank (text_of scene ++ edge_if edged) (cells_of t) → (IsIn w s (text_of scene) r c → ⊥)
+      → (t.cell r c ≡ blank) ⊎ (sheets.IsInText w s (text_of scene ++ edge_if edged) r c → ⊥)
   rest_of t r c shown none = by_edge edged shown
     where
-      by_edge : (b : Bool) → sheets.IsShown w s blank (text_of scene ++ edge_if b) (cells_of t) → (t.cell r c ≡ blank) ⊎ (sheets.IsIn w s (text_of scene ++ edge_if b) r c → ⊥)
+      by_edge : (b : Bool) → sheets.IsTextShown w s blank (text_of scene ++ edge_if b) (cells_of t) → (t.cell r c ≡ blank) ⊎ (sheets.IsInText w s (text_of scene ++ edge_if b) r c → ⊥)
       by_edge false shown = inr (λ i. none (i.0, omega (arith, i.1, length-append (text_of scene) []), i.2))
       by_edge true shown = elim (cases_eq r (s + n / w)) [
         | inr other ↦ inr (λ i. elsewhere i (λ e. other (i.2.0 ∙ ap (λ k. s + k / w) e)))
@@ -97,20 +97,20 @@ module _ (w s : ℕ) (scene : Scene) (two : 2 ≤ w) where
         ]
       ]
         where
-          elsewhere : (i : sheets.IsIn w s (text_of scene ++ blank ∷ []) r c) → (i.0 ≡ n → ⊥) → ⊥
+          elsewhere : (i : sheets.IsInText w s (text_of scene ++ blank ∷ []) r c) → (i.0 ≡ n → ⊥) → ⊥
           elsewhere i not = none (i.0, omega (arith, i.1, not, length-append (text_of scene) (blank ∷ [])), i.2)
 
-  pub fresh_characters : (t : Picture) → sheets.IsFresh w s blank (sheet_of characters w scene) (cells_of t) → IsFresh w s scene t
+  pub fresh_characters : (t : Picture) → sheets.IsFreshSheet w s blank (sheet_of characters w scene) (cells_of t) → IsFresh w s scene t
   fresh_characters t f =
-      let shown : sheets.IsShown w s blank (text_of scene ++ edge_if edged) (cells_of t) = rw text_is at f.shown in
+      let shown : sheets.IsTextShown w s blank (text_of scene ++ edge_if edged) (cells_of t) = rw text_is at f.shown in
       let low : s + length (sheet_of characters w scene).text / w + 1 ≡ s + line_row w scene + 1 = ap (λ l. s + length l / w + 1) text_is ∙ ap (λ i. s + i + 1) row_is in
-      let lines : sheets.AreShown w (s + line_row w scene + 1) blank (lower_lines scene.lower) (cells_of t) = rw (low, lower_is scene.lower) at f.below in
+      let lines : sheets.AreLinesShown w (s + line_row w scene + 1) blank (lower_lines scene.lower) (cells_of t) = rw (low, lower_is scene.lower) at f.below in
       record {
         shown = λ k h. shown k (omega (arith, h, length-append (text_of scene) (edge_if edged))) ∙ index-before (text_of scene) (edge_if edged) k blank h;
         below = lines-same w (s + line_row w scene + 1) (lower_lines scene.lower) t lines;
         rest = λ r c from in_width none1 none2. elim (rest_of t r c shown none1) [
           | inl e ↦ e
-          | inr outside ↦ f.rest r c from in_width (subst (λ l. sheets.IsIn w s l r c → ⊥) (sym text_is) outside)
+          | inr outside ↦ f.rest r c from in_width (subst (λ l. sheets.IsInText w s l r c → ⊥) (sym text_is) outside)
               (λ i. no-lines w (s + line_row w scene + 1) (lower_lines scene.lower) r c none2 (rw (low, lower_is scene.lower) at i))
         ];
         row = f.row;

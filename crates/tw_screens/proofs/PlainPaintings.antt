@@ -107,7 +107,7 @@ sheet_is w scene plain = ap (sheet_of characters w) (plain_is_simple scene plain
 painted_from : (w e s : ℕ) (scene : Scene) (t u : Picture) → 2 ≤ w → IsPlain scene → (s ≡ 0) ⊎ (s ≡ e)
     → AreShownOver false blank w e s (painting_of characters (station_at w scene)) (cells_of t) (cells_of u) → Painted w s scene t u
 painted_from w e s scene t u two plain from shown =
-    let fresh : sheets.IsFresh w s blank (sheet_of characters w scene) (cells_of u) = subst (λ x. sheets.IsFresh w s blank x (cells_of u)) (sheet_is w scene plain) shown.fresh in
+    let fresh : sheets.IsFreshSheet w s blank (sheet_of characters w scene) (cells_of u) = subst (λ x. sheets.IsFreshSheet w s blank x (cells_of u)) (sheet_is w scene plain) shown.fresh in
     record {
       fresh = fresh_characters w s scene two u fresh;
       above = λ r c h k. shown.above r c h k k ∙ elim from [
@@ -133,13 +133,13 @@ pub closed_painting : (w s : ℕ) (scene : Scene) (t : Picture) → 2 ≤ w → 
 closed_painting w s scene t two plain row =
     let sheet = sheet_of characters w scene in
     let batch : Batch = closing (mark_of (painting w scene)) in
-    let at : t.row ≡ s + sheets.cursor_row w (painting_of characters (station_at w scene)).sheet = row ∙ ap (λ x. s + sheets.cursor_row w x) (sym (sheet_is w scene plain)) in
+    let at : t.row ≡ s + sheets.sheet_cursor_row w (painting_of characters (station_at w scene)).sheet = row ∙ ap (λ x. s + sheets.sheet_cursor_row w x) (sym (sheet_is w scene plain)) in
     let q = closes_stations characters None w s tt (station_at w scene) (cells_of t) two tt (two, (plain_is_simple scene plain).0) at in
-    let last : s + sheets.last_row w (painting_of characters (station_at w scene)).sheet ≡ last_row w s scene =
-    ap (λ x. s + sheets.last_row w x) (sheet_is w scene plain)
+    let last : s + sheets.sheet_last_row w (painting_of characters (station_at w scene)).sheet ≡ last_row w s scene =
+    ap (λ x. s + sheets.sheet_last_row w x) (sheet_is w scene plain)
     ∙ omega (arith, ap (λ l. length l / w) (text_is w s scene two) ∙ row_is w s scene two, ap (sum_by (rows_of w)) (lower_is w s scene two scene.lower)) in
     let played : steps_on None w (strokes_of characters tt batch) (cells_of t) ≡ cells_of (play_all w batch t) = steps_on-none w (strokes_of characters tt batch) (cells_of t) ∙ sym (plays_strokes w batch t) in
-    let c : paintings.IsClosed None w blank (last_row w s scene) (cells_of t) (cells_of (play_all w batch t)) = rw (last, played) at q in
+    let c : paintings.IsClosedSheet None w blank (last_row w s scene) (cells_of t) (cells_of (play_all w batch t)) = rw (last, played) at q in
     record {
       row = c.row;
       col = c.col;
@@ -152,7 +152,7 @@ pub counted_rows : (w s : ℕ) (scene : Scene) → 2 ≤ w → IsPlain scene →
 counted_rows w s scene two plain =
     let simple = (plain_is_simple scene plain).0 in
     let sheet = sheet_is w scene plain in (
-      cursor_y characters w scene two simple ∙ ap (λ x. pos (sheets.cursor_row w x)) sheet,
-      ap (λ n. s + n) (height_is characters w scene two simple ∙ ap (sheets.last_row w) sheet)
+      cursor_y characters w scene two simple ∙ ap (λ x. pos (sheets.sheet_cursor_row w x)) sheet,
+      ap (λ n. s + n) (height_is characters w scene two simple ∙ ap (sheets.sheet_last_row w) sheet)
           ∙ omega (arith, ap (λ l. length l / w) (text_is w s scene two) ∙ row_is w s scene two, ap (sum_by (rows_of w)) (lower_is w s scene two scene.lower)),
     )

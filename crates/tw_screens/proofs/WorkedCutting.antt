@@ -20,7 +20,7 @@ full = record { cell = λ r c. 65 + r; row = 1; col = 0 }
 abbrev rows_in : PictureOf ℕ → List (List ℕ)
 rows_in s = map (λ r. map (λ c. s.cell r c) (0 ∷ 1 ∷ 2 ∷ 3 ∷ 4 ∷ [])) (0 ∷ 1 ∷ 2 ∷ 3 ∷ [])
 
--- the prompt and "abcdef", the cursor behind it
+-- the prompt and "abcdef", the cursor after it
 abbrev a_to_f : Scene
 a_to_f = scene_of (97 ∷ 98 ∷ 99 ∷ 100 ∷ 101 ∷ 102 ∷ []) 6 NoLower false
 

@@ -27,7 +27,7 @@ at_the_edge : run_batches 10 (scene_of a_to_h 8 NoLower false ∷ [])
 unfolding pieces
 at_the_edge = refl
 
--- a cursor far behind an empty line
+-- a cursor far after an empty line
 behind_the_line : run_batches 10 (scene_of [] 25 NoLower false ∷ [])
     ≡ (head ++ Text [] ∷ CursorPosition (Relative (pos 5)) (Relative (pos 2)) ∷ [])
     ∷ (CursorPosition (Absolute 0) (Relative (negsuc 0)) ∷ ClearToEndOfScreen default_color ∷ []) ∷ []

@@ -28,4 +28,4 @@ PlaysBatchesOn = (h w : ℕ) (played : List Batch) (s : Picture) → s.row < h
 
 -- A painting that is fresh by its sheet of characters is fresh.
 abbrev pub FreshCharacters : Type 0
-FreshCharacters = (w s : ℕ) (scene : Scene) (t : Picture) → 2 ≤ w → sheets.IsFresh w s blank (sheet_of characters w scene) (cells_of t) → IsFresh w s scene t
+FreshCharacters = (w s : ℕ) (scene : Scene) (t : Picture) → 2 ≤ w → sheets.IsFreshSheet w s blank (sheet_of characters w scene) (cells_of t) → IsFresh w s scene t

@@ -1,7 +1,7 @@
 -- What a scene is to show, as a sheet of cells, and its painting as strokes.
 use Rattle.std.specs.Prelude.{ℕ, ◌+◌, ◌-ℤ◌, pos, neg_ℤ, ◌%◌, ◌&&◌, eqb, ltb, if◌then◌else◌, List, [], ◌∷◌, ◌++◌, length, map}
 use Rattle.tw_strokes.specs.Sheets.{Sheet}
-use Rattle.tw_strokes.specs.Paintings.{Painting}
+use Rattle.tw_strokes.specs.Paintings.{SheetPainting}
 use Rattle.tw_surface.specs.declared.change.Position.TheVariants.{Relative}
 use Rattle.tw_surface.specs.Defaults.{default_attributes}
 use Rattle.tw_surface.specs.Fresh.{text_of}
@@ -18,7 +18,7 @@ use Rattle.tw_screens.specs.Pens.{Pen, Letter, kept_after_all, letters_of, lette
 abbrev pub letters_under : {A : Type 0} → A → List ℕ → List (Letter A)
 letters_under a text = map (λ ch. record { kept = a; ch = ch }) text
 
--- behind a text that fills its last row, a blank under the last attributes of the line
+-- after a text that fills its last row, a blank under the last attributes of the line
 abbrev pub edge_letters : {A C : Type 0} → Pen A C → ℕ → Scene → List (Letter A)
 edge_letters pen width scene =
     if ltb 0 (length (text_of scene)) && eqb (length (text_of scene) % width) 0
@@ -46,7 +46,7 @@ sheet_of pen width scene = record {
 }
 
 -- the painting of a simple scene, as strokes
-abbrev pub painting_of : {A C : Type 0} → Pen A C → SizedScene → Painting C
+abbrev pub painting_of : {A C : Type 0} → Pen A C → SizedScene → SheetPainting C
 painting_of pen station =
     let w = station.cols in
     let m = mark_of (painting w station.scene) in

@@ -2,8 +2,8 @@
 use Rattle.std.specs.Prelude.{ℕ, ◌≡◌, ◌+◌, ◌≤◌, Bool, true, Option, None, List, [], ◌∷◌, ◌++◌, map}
 use Rattle.std.specs.List.{list_all, All}
 use Rattle.tw_strokes.specs.Strokes.{PictureOf, InSight, steps_on, resized, narrowest}
-use Rattle.tw_strokes.specs.Sheets.{IsFresh, IsLow, last_row, cursor_row}
-use Rattle.tw_strokes.specs.Paintings.{top_row, cols_of, last_painting, AreShownOver, IsClosed}
+use Rattle.tw_strokes.specs.Sheets.{IsFreshSheet, IsLow, sheet_last_row, sheet_cursor_row}
+use Rattle.tw_strokes.specs.Paintings.{top_row, cols_of, last_painting, AreShownOver, IsClosedSheet}
 use Rattle.tw_surface.specs.Defaults.{default_color}
 use Rattle.tw_surface.specs.Paintings.{painting, mark_of, closing}
 use Rattle.tw_surface.specs.PaintingBatches.{SizedScene, shot_of, mark_after}
@@ -49,11 +49,11 @@ HealsStations {A} {C} pen = (rows : Option ℕ) (cuts : Bool) (v : ℕ) (a : A) 
     → All IsSimpleWide (first ∷ more) → All (HasRoom rows pen) (first ∷ more)
     → let mark = mark_after None (map shot_of earlier) in
     let last = last_painting (painting_of pen first) (map (painting_of pen) more) in
-    IsFresh last.cols 0 (blank_of pen) last.sheet (play_sized rows cuts pen v a (spelled_sized (sized_after mark (first ∷ more))) before)
+    IsFreshSheet last.cols 0 (blank_of pen) last.sheet (play_sized rows cuts pen v a (spelled_sized (sized_after mark (first ∷ more))) before)
 
 -- The closing batch of a station, played where its cursor stands and at whatever columns the screen then has, leaves the cursor in the row under it, blank from there on, and the rows above as they were, moved up.
 abbrev pub ClosesStations : {A C : Type 0} → Pen A C → Type 0
 ClosesStations {A} {C} pen = (rows : Option ℕ) (w s : ℕ) (a : A) (station : SizedScene) (before : PictureOf C)
-    → 2 ≤ w → InSight rows 0 → IsSimpleWide station → before.row ≡ s + cursor_row station.cols (painting_of pen station).sheet
-    → IsClosed rows w (blank_of pen) (s + last_row station.cols (painting_of pen station).sheet) before
+    → 2 ≤ w → InSight rows 0 → IsSimpleWide station → before.row ≡ s + sheet_cursor_row station.cols (painting_of pen station).sheet
+    → IsClosedSheet rows w (blank_of pen) (s + sheet_last_row station.cols (painting_of pen station).sheet) before
     (steps_on rows w (strokes_of pen a (spelled_all (closing (mark_of (painting station.cols station.scene))))) before)

@@ -3,8 +3,8 @@ use Rattle.std.proofs.Common.{◌≡◌, ◌≤◌, ◌<◌, ◌+◌, ◌-ℤ◌
 use Rattle.std.specs.List.{All, AllByRecursion}
 use Rattle.std.proofs.lemmas.List.{map-append}
 use Rattle.tw_strokes.specs.Strokes.{PictureOf}
-use Rattle.tw_strokes.specs.Sheets.{last_row}
-use Rattle.tw_strokes.specs.Paintings.{IsClosed, top_row}
+use Rattle.tw_strokes.specs.Sheets.{sheet_last_row}
+use Rattle.tw_strokes.specs.Paintings.{IsClosedSheet, top_row}
 use Rattle.tw_surface.specs.declared.cell.CellAttributes.{CellAttributes}
 use Rattle.tw_surface.specs.declared.change.Position.TheVariants.{Absolute, Relative}
 use Rattle.tw_surface.specs.ChangeView.{Batch}
@@ -51,13 +51,13 @@ sent_both (x ∷ xs) ys e =
 
 -- ---- the colour that is known
 
--- behind a painting
+-- after a painting
 begun_color : (mark : Option Mark) (w : ℕ) (scene : Scene) (e : Encoder) → IsTypedScene scene
     → IsColor (sent_batch (start_of mark ++ (painting w scene).changes) e).next.attributes.background
 begun_color None w scene e t = painting_knows_color w scene e t
 begun_color (Some m) w scene e t = painting_knows_color w scene (sent_change (start_move m) e).next t
 
--- behind a list of paintings
+-- after a list of paintings
 pub known_color : (h w : ℕ) (mark : Option Mark) (xs : List SizedScene) (e : Encoder) → AllByRecursion (IsSentAt h w) xs → IsColor e.attributes.background
     → IsColor (sent_batches (batches_after mark (map shot_of xs)) e).next.attributes.background
 known_color h w mark [] e a color = color
@@ -72,7 +72,7 @@ known_color h w mark (x ∷ xs) e a color =
 
 -- ---- the closing batch
 
--- behind the closing batch
+-- after the closing batch
 pub closing_color : (taken : List Batch) (m : Mark) (e : Encoder) → IsColor (sent_batches taken e).next.attributes.background
     → IsColor (sent_batches (taken ++ closing m ∷ []) e).next.attributes.background
 closing_color taken m e color = subst (λ (s : Sent). IsColor s.next.attributes.background) (sym (sent_both taken (closing m ∷ []) e))
@@ -84,7 +84,7 @@ last_of_all P view [] last a = a.0
 last_of_all P view (first ∷ more) last a = last_of_all P view more last a.1
 
 module _ {A C : Type 0} (pen : Pen A C) where
-  -- a terminal that is sent a closing batch behind some bytes
+  -- a terminal that is sent a closing batch after some bytes
   pub closing_shown : (h w : ℕ) (taken : List Batch) (m : Mark) (e : Encoder) (t : EcmaScreen C) (shown : PictureOf C) → CarriesAttributes pen → 0 < w → w < 2 ^ 64
       → IsReached h (Relative (pos (1 + m.height) -ℤ m.row)) → IsColor (sent_batches taken e).next.attributes.background
       → ShowsPicture pen h w (sent_batches taken e).next (receive_all pen h w (sent_batches taken e).bytes t) shown
@@ -129,6 +129,6 @@ module _ {A C : Type 0} (pen : Pen A C) where
         let drawn = drawn_closings rules pen f (Some h) false w w (pen.attributes e.attributes) kept earlier station later before k.comes none two in (
           drawn.0,
           rw is (closing_shown h w (batches_of rules stations) m e t shown carries (omega (arith, two)) k.narrow under color painted.0),
-          subst (λ n. IsClosed (Some h) w (blank_of pen) (top + last_row n (painted_at rules pen station).sheet) shown (closed_by rules pen (Some h) false n w kept f shown)) here.cols drawn.1,
+          subst (λ n. IsClosedSheet (Some h) w (blank_of pen) (top + sheet_last_row n (painted_at rules pen station).sheet) shown (closed_by rules pen (Some h) false n w kept f shown)) here.cols drawn.1,
           rw is (closing_color (batches_of rules stations) m e color),
         )

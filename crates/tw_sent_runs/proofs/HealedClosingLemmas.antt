@@ -1,10 +1,10 @@
--- A terminal that showed a fresh painting behind a clearing shows what the closing batch left.
+-- A terminal that showed a fresh painting after a clearing shows what the closing batch left.
 use Rattle.std.proofs.Common.{◌≡◌, ◌≤◌, ◌+◌, ◌-ℤ◌, ℕ, suc, pos, false, Option, Some, None, List, [], ◌∷◌, ◌++◌, map, ap, subst, ◌∙◌, sym, append_assoc, arith}
 use Rattle.std.specs.List.{All}
 use Rattle.std.proofs.lemmas.List.{map-append}
 use Rattle.tw_strokes.specs.Strokes.{PictureOf}
-use Rattle.tw_strokes.specs.Sheets.{IsFresh, last_row, cursor_row}
-use Rattle.tw_strokes.specs.Paintings.{IsClosed}
+use Rattle.tw_strokes.specs.Sheets.{IsFreshSheet, sheet_last_row, sheet_cursor_row}
+use Rattle.tw_strokes.specs.Paintings.{IsClosedSheet}
 use Rattle.tw_surface.specs.declared.change.Position.TheVariants.{Relative}
 use Rattle.tw_surface.specs.ChangeView.{Batch}
 use Rattle.tw_surface.specs.Paintings.{Mark, painting, mark_of, closing}
@@ -43,9 +43,9 @@ module _ {A C V : Type 0} (pen : Pen A C) (rules : HostRules V) where
       → CarriesAttributes pen → HealsSent rules pen h w f earlier since station later e t → All (RendersNothing rules) later
       → let taken = map (λ sized. sized.batch) (since_batches rules pen earlier (since ++ station ∷ [])) in
       let sent = sent_batches (taken ++ closing_if (run_of rules f).mark) e in
-      (shown : PictureOf C) × (closed : PictureOf C) × IsFresh w 0 (blank_of pen) (painted_at rules pen station).sheet shown
+      (shown : PictureOf C) × (closed : PictureOf C) × IsFreshSheet w 0 (blank_of pen) (painted_at rules pen station).sheet shown
       × ShowsPicture pen h w sent.next (receive_all pen h w sent.bytes t) closed
-      × IsClosed (Some h) w (blank_of pen) (last_row w (painted_at rules pen station).sheet) shown closed
+      × IsClosedSheet (Some h) w (blank_of pen) (sheet_last_row w (painted_at rules pen station).sheet) shown closed
       × IsColor sent.next.attributes.background
   heals_closed f h w earlier since station later e t carries k none =
       let scenes = map-append (sized_scene rules) since (station ∷ []) in
@@ -54,7 +54,7 @@ module _ {A C V : Type 0} (pen : Pen A C) (rules : HostRules V) where
       let taken : List Batch = map (λ sized. sized.batch) (since_batches rules pen earlier (since ++ station ∷ [])) in
       let healed = healings_are_shown pen rules f h w earlier since station later e t carries k in
       let shown : PictureOf C = healed.0 in
-      let fresh : IsFresh w 0 (blank_of pen) (painted_at rules pen station).sheet shown = healed.2 in
+      let fresh : IsFreshSheet w 0 (blank_of pen) (painted_at rules pen station).sheet shown = healed.2 in
       let here : IsSentAt h w (sized_scene rules station) = last_of_all (IsSentAt h w) (sized_scene rules) since station k.sent in
       let simple : IsSimpleWide (sized_scene rules station) = last-simple (map (sized_scene rules) since) (sized_scene rules station) (rw scenes at k.comes.simple) in
       let two : 2 ≤ w = subst (λ n. 2 ≤ n) here.cols simple.0 in
@@ -74,16 +74,16 @@ module _ {A C V : Type 0} (pen : Pen A C) (rules : HostRules V) where
       subst (λ l. IsColor (sent_batches l e).next.attributes.background) (sym (sized_are mark xs)) (known_color h w mark xs e k.sent k.color) in
       let kept = pen.attributes (sent_batches taken e).next.attributes in
       let closed : PictureOf C = play_sized (Some h) false pen w kept (sized_at w (closing m ∷ [])) shown in
-      let row : shown.row ≡ 0 + cursor_row station.size.cols (painted_at rules pen station).sheet =
-      subst (λ n. shown.row ≡ 0 + cursor_row n (painted_at rules pen station).sheet) (sym here.cols) fresh.row in
-      let below : IsClosed (Some h) w (blank_of pen) (0 + last_row station.size.cols (painted_at rules pen station).sheet) shown closed =
+      let row : shown.row ≡ 0 + sheet_cursor_row station.size.cols (painted_at rules pen station).sheet =
+      subst (λ n. shown.row ≡ 0 + sheet_cursor_row n (painted_at rules pen station).sheet) (sym here.cols) fresh.row in
+      let below : IsClosedSheet (Some h) w (blank_of pen) (0 + sheet_last_row station.size.cols (painted_at rules pen station).sheet) shown closed =
       closes_stations pen (Some h) w 0 kept (sized_scene rules station) shown two k.comes.in_sight simple row in
-      let last : 0 + last_row station.size.cols (painted_at rules pen station).sheet ≡ last_row w (painted_at rules pen station).sheet =
-      omega (arith, ap (λ n. last_row n (painted_at rules pen station).sheet) here.cols) in (
+      let last : 0 + sheet_last_row station.size.cols (painted_at rules pen station).sheet ≡ sheet_last_row w (painted_at rules pen station).sheet =
+      omega (arith, ap (λ n. sheet_last_row n (painted_at rules pen station).sheet) here.cols) in (
         shown,
         closed,
         fresh,
         rw is (closing_shown pen h w taken m e t shown carries (omega (arith, two)) k.narrow under color healed.1),
-        subst (λ n. IsClosed (Some h) w (blank_of pen) n shown closed) last below,
+        subst (λ n. IsClosedSheet (Some h) w (blank_of pen) n shown closed) last below,
         rw is (closing_color taken m e color),
       )

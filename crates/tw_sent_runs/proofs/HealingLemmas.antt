@@ -1,10 +1,10 @@
--- A terminal that may show anything shows a fresh painting behind a clearing.
+-- A terminal that may show anything shows a fresh painting after a clearing.
 use Rattle.std.proofs.Common.{◌≡◌, ◌≤◌, ◌<◌, neg_ℤ, ℕ, true, false, ◌&&◌, Option, Some, None, List, [], ◌∷◌, ◌++◌, map, ap, subst, ◌∙◌, sym, refl, append-nil, arith}
 use Rattle.std.specs.List.{AllByRecursion}
 use Rattle.std.proofs.lemmas.List.{map-append}
 use Rattle.std.proofs.lemmas.Bool.{ne_eqb, false≢true}
 use Rattle.tw_strokes.specs.Strokes.{PictureOf, steps_on, filled}
-use Rattle.tw_strokes.specs.Sheets.{IsFresh}
+use Rattle.tw_strokes.specs.Sheets.{IsFreshSheet}
 use Rattle.tw_surface.specs.declared.change.Position.TheVariants.{Relative}
 use Rattle.tw_surface.specs.ChangeView.{Batch}
 use Rattle.tw_surface.specs.ChangeView.{ClearScreen}
@@ -66,7 +66,7 @@ module _ {A C : Type 0} (pen : Pen A C) where
     x = refl;
   }
 
-  -- stations behind a mark, from a clearing on, are sendable
+  -- stations after a mark, from a clearing on, are sendable
   since_sendable : (h w : ℕ) (mark : Option Mark) (xs : List SizedScene) (e : Encoder) (s : PictureOf C) → 0 < w → AllByRecursion (IsSentAt h w) xs → begins_cleared xs ≡ true
       → ((m : Mark) → mark ≡ Some m → IsReached h (Relative (neg_ℤ m.row))) → IsColor e.attributes.background → s.col < w
       → AreAllSendable pen h w e (batches_after mark (map shot_of xs)) s
@@ -132,6 +132,6 @@ module _ {A C : Type 0} (pen : Pen A C) where
           picture,
           subst (λ l. ShowsPicture pen h w (sent_batches l e).next (receive_all pen h w (sent_batches l e).bytes t) picture) (sym (sized_are mark xs))
               (from_anything h w mark xs e t picture k.comes.cleared k.color k.reading k.rendition shown),
-          subst (λ l. IsFresh w 0 (blank_of pen) (painted_at rules pen station).sheet (play_sized (Some h) false pen w (pen.attributes e.attributes) l empty)) (sized_is h w mark xs k.sent)
-              (subst (λ n. IsFresh n 0 (blank_of pen) (painted_at rules pen station).sheet (play_sized (Some h) false pen w (pen.attributes e.attributes) (spelled_sized (sized_after mark xs)) empty)) here.cols fresh),
+          subst (λ l. IsFreshSheet w 0 (blank_of pen) (painted_at rules pen station).sheet (play_sized (Some h) false pen w (pen.attributes e.attributes) l empty)) (sized_is h w mark xs k.sent)
+              (subst (λ n. IsFreshSheet n 0 (blank_of pen) (painted_at rules pen station).sheet (play_sized (Some h) false pen w (pen.attributes e.attributes) (spelled_sized (sized_after mark xs)) empty)) here.cols fresh),
         )

@@ -30,7 +30,7 @@ use Rattle.tw_sent_runs.specs.SentRuns.{sent_paintings, shown_by}
 use Rattle.tw_sent_runs.proofs.ClosingLemmas.{sent_both, closings_are_shown}
 use Rattle.tw_sent_runs.proofs.SentLemmas.{paintings_are_shown}
 
--- known bytes behind known ones
+-- known bytes after known ones
 pub appended : (old new : Option (List ℕ)) (held bytes : List ℕ) → old ≡ Some held → Appends old new bytes → new ≡ Some (held ++ bytes)
 appended None new held bytes is grows = absurd (subst (λ known. MatchOption known ⊤ (λ _. ⊥)) is tt)
 appended (Some xs) None held bytes is grows = absurd grows

@@ -39,7 +39,7 @@ typed-restful (ClearScreen color ∷ xs) a = absurd a.0
 typed-restful (ClearToEndOfScreen color ∷ xs) a = absurd a.0
 typed-restful (CursorPosition x y ∷ xs) a = absurd a.0
 
--- the colour that is known behind a painting and its start move
+-- the colour that is known after a painting and its start move
 begun-color : (mark : Option Mark) (w : ℕ) (scene : Scene) (e : Encoder) → IsTypedScene scene
     → IsColor (sent_batch (start_of mark ++ (painting w scene).changes) e).next.attributes.background
 begun-color None w scene e t = painting_knows_color w scene e t

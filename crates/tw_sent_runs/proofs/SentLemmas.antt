@@ -50,7 +50,7 @@ spelled_painting w scene t =
     ap (λ l. ClearToEndOfScreen default_color ∷ AllAttributes default_attributes ∷ l)
     (map-append spelled_change (shown w scene) (move ∷ []) ∙ ap (λ l. l ++ move ∷ []) (spelled_typed (shown w scene) (shown_typed w scene t)))
 
--- and behind the move to the first row of the painting before
+-- and after the move to the first row of the painting before
 spelled_begun : (mark : Option Mark) (w : ℕ) (scene : Scene) → IsTypedScene scene
     → spelled_all (start_of mark ++ (painting w scene).changes) ≡ start_of mark ++ (painting w scene).changes
 spelled_begun None w scene t = spelled_painting w scene t
@@ -66,7 +66,7 @@ sized_first cols w batch more rest same spelled later =
     ∙ ap (λ b. record { cols = w; batch = b } ∷ spelled_sized more) spelled
     ∙ ap (λ l. record { cols = w; batch = batch } ∷ l) later
 
--- and behind a clearing, where there is one
+-- and after a clearing, where there is one
 sized_cleared : (cleared : Bool) (cols w : ℕ) (batch : Batch) (more : List _) (rest : List Batch) → cols ≡ w → spelled_all batch ≡ batch → spelled_sized more ≡ sized_at w rest
     → spelled_sized (sized_at cols (clearing cleared ++ batch ∷ []) ++ more) ≡ sized_at w (clearing cleared ++ batch ∷ rest)
 sized_cleared false cols w batch more rest same spelled later = sized_first cols w batch more rest same spelled later

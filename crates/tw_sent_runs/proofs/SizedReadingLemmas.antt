@@ -102,7 +102,7 @@ module _ {V : Type 0} (rules : HostRules V) where
   painting-is : (s : Station V) (p : Painting) → station_painting rules s ≡ Ok p → p ≡ painting s.size.cols (sized_scene rules s).scene
   painting-is s p h = ap (painting_of_first p) (ap (shots_by s.cleared []) (sym h) ∙ shots_before rules (s ∷ []) [] ((p, h), tt))
 
-  -- ---- a run that goes on behind an event
+  -- ---- a run that goes on after an event
 
   -- what is painted, and the state to which the event leads
   record GoesOn (event : EventView) (s : Progress V) (cleared : Bool) : Type 0 where
@@ -147,11 +147,11 @@ module _ {V : Type 0} (rules : HostRules V) where
       by_painting (Ok p) h = by_over p h (is_over s.state.mode) refl
 
   module _ {event : EventView} {s : Progress V} {cleared : Bool} (k : GoesOn event s cleared) where
-    -- behind the painting
+    -- after the painting
     abbrev drawn : Progress V
     drawn = after_painting s (rendered s k.painting)
 
-    -- behind the event
+    -- after the event
     abbrev next : Progress V
     next = after_action rules drawn event k.state
 
@@ -242,7 +242,7 @@ module _ {V : Type 0} (rules : HostRules V) where
     abbrev IsAllTaken : Ending V → List Batch → AnsiTerminal W → Type 0
     IsAllTaken r end new = ((terminal_state new).batches ≡ r.taken ++ end) × (r.left ≡ []) × IsAnswer r.answer
 
-    -- the batches of stations were sent, and then those behind the end of the run
+    -- the batches of stations were sent, and then those after the end of the run
     abbrev SendsStations : Option Mark → List (Station V) → Ending V → List Batch → AnsiTerminal W → AnsiTerminal W → Type 0
     SendsStations mark stations r end old new = IsSentAs (sized_from rules mark stations ++ sized_at r.size.cols end) r.size.cols old new
 

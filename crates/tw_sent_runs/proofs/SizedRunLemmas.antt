@@ -1,4 +1,4 @@
--- A reading whose events tell other numbers of columns: what it has written, and what is shown of it behind a clearing.
+-- A reading whose events tell other numbers of columns: what it has written, and what is shown of it after a clearing.
 use Rattle.std.proofs.Common.{◌≡◌, ℕ, Some, None, Option, Bool, true, false, List, [], ◌∷◌, ◌++◌, map, ap, subst, ◌∙◌, sym, refl, append_assoc, append-nil}
 use Rattle.std.specs.List.{AllByRecursion}
 use Rattle.std.proofs.lemmas.List.Elements.{All-nil}
@@ -70,7 +70,7 @@ module _ {V W : Type 0} (rules : HostRules V) (contents : W → Option (List ℕ
         sent.2 ∙ ap (λ size. size.cols) (sym reads.size),
       )
 
--- ---- stations behind others
+-- ---- stations after others
 
 -- the sized batches of stations, and then of others
 sized_after-both : (mark : Option Mark) (xs ys : List SizedScene) → sized_after mark (xs ++ ys) ≡ sized_after mark xs ++ sized_after (mark_after mark (map shot_of xs)) ys
@@ -100,7 +100,7 @@ uniform h w mark (x ∷ xs) a = by_cleared (uniform h w (Some (mark_of shot)) xs
     by_cleared later false = ap (λ cols. sized_at cols (batch ∷ []) ++ rest) a.0.cols ∙ ap (λ l. sized_at w (batch ∷ []) ++ l) later
 
 module _ {V : Type 0} (rules : HostRules V) where
-  -- the stations since some, and whatever comes behind them, set their columns
+  -- the stations since some, and whatever comes after them, set their columns
   since_set : (mark : Option Mark) (since : List (Station V)) (station : Station V) (end : List SizedBatch) (e : Encoder) (w : ℕ)
       → sent_sized (sized_from rules mark (since ++ station ∷ []) ++ end) (record e { cols = w }) ≡ sent_sized (sized_from rules mark (since ++ station ∷ []) ++ end) e
   since_set mark [] station end e w = station_sets rules mark station [] end e w

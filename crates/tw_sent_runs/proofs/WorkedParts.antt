@@ -65,7 +65,7 @@ csi letters more = 27 ∷ 91 ∷ letters ++ more
 abbrev pub cleared_rows : List ℕ → List ℕ
 cleared_rows more = csi (codes "K") (csi (codes "C") (csi (codes "J") (13 ∷ more)))
 
--- then the prompt, behind no attribute and before none
+-- then the prompt, after no attribute and before none
 abbrev pub prompted : List ℕ → List ℕ
 prompted more = cleared_rows (csi (codes "0m") (codes "> " ++ csi (codes "0m") more))
 

@@ -124,7 +124,7 @@ low_by_bytes : (low_terminal.row ≡ 3) × (low_terminal.col ≡ 3) × (low_term
 unfolding pieces column_width painted_on apply destination searched_again search_step boundary_below is_boundary iterate greatest_below least_from unicode_segmentation digits
 low_by_bytes = (refl, refl, refl, refl, refl, refl)
 
--- not with a byte less, not a row higher, and no stale D stands behind the line
+-- not with a byte less, not a row higher, and no stale D stands after the line
 low_is_whole : length low_bytes.bytes ≡ 56 → ⊥
 unfolding pieces column_width painted_on apply destination searched_again search_step boundary_below is_boundary iterate greatest_below least_from unicode_segmentation digits
 low_is_whole less = let off : 57 ≡ 56 = less in omega (arith, off)

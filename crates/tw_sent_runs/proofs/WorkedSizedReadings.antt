@@ -173,7 +173,7 @@ module _ (it : AnsiTerminal Wrote) where
   abbrev before_clearing : List ℕ
   before_clearing = prompted (to_right (codes "2C") (13 ∷ prompted (codes "abcd" ++ to_right (codes "1C") (csi (codes "1A") (13 ∷ prompted (codes "abcd" ++ to_right (codes "6C") []))))))
 
-  -- those of the clearing and of the painting behind it
+  -- those of the clearing and of the painting after it
   abbrev clearing_on : List ℕ
   clearing_on = csi (codes "H") (csi (codes "2J") (13 ∷ prompted (codes "abcd" ++ to_right (codes "6C") [])))
 
@@ -205,7 +205,7 @@ module _ (it : AnsiTerminal Wrote) where
       let no : 54 ≡ 49 = off in
       omega (arith, no)
 
-  -- ---- behind the clearing
+  -- ---- after the clearing
 
   abbrev frame : Frame Lines
   frame = reading_frame prompt [] old events
@@ -333,7 +333,7 @@ module _ (it : AnsiTerminal Wrote) where
     ended_is_below : (ended (clearing_on ++ cancelled_on)).row ≡ 0 → ⊥
     ended_is_below stays = let no : 1 ≡ 0 = stays in omega (arith, no)
 
-    -- ---- so it is where the terminal was at rest at five columns, and takes any shape before the painting at ten columns and again behind it
+    -- ---- so it is where the terminal was at rest at five columns, and takes any shape before the painting at ten columns and again after it
 
     abbrev fresh : EcmaScreen ℕ
     fresh = record { cell = λ r c. 65 + r; row = 1; col = 0; waits = false; rendition = default_attributes; reading = terminal.Text }

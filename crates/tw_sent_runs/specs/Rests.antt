@@ -41,7 +41,7 @@ pub record IsTypedStation (station : SizedScene) : Type 0 where
   pub narrow : station.cols < 2 ^ 64
 
 module _ {V A C : Type 0} (rules : HostRules V) (pen : Pen A C) where
-  -- What is sent of such stations leaves it at rest under the attributes that are known then, and the colour behind its text is by bytes.
+  -- What is sent of such stations leaves it at rest under the attributes that are known then, and the colour after its text is by bytes.
   abbrev pub RestIsKept : Type 0
   RestIsKept = (stations : List (Station V)) (e : Encoder) (t u : EcmaScreen C) → AllByRecursion IsTypedStation (map (sized_scene rules) stations)
       → IsColor e.attributes.background → Rests e.attributes t → Receives pen (stations_sized rules stations) e t u

@@ -1,9 +1,9 @@
--- From bytes to cells: what a terminal shows behind the bytes that a reading has written.
+-- From bytes to cells: what a terminal shows after the bytes that a reading has written.
 use Rattle.std.specs.Prelude.{◌≡◌, ◌≢◌, ◌+◌, ℕ, Some, false, Option, List, [], ◌∷◌, ◌++◌}
 use Rattle.std.specs.List.{All, AllByRecursion}
 use Rattle.tw_strokes.specs.Strokes.{PictureOf}
-use Rattle.tw_strokes.specs.Sheets.{last_row}
-use Rattle.tw_strokes.specs.Paintings.{IsClosed, top_row}
+use Rattle.tw_strokes.specs.Sheets.{sheet_last_row}
+use Rattle.tw_strokes.specs.Paintings.{IsClosedSheet, top_row}
 use Rattle.tw_screens.specs.Pens.{Pen}
 use Rattle.tw_screens.specs.Screens.{blank_of}
 use Rattle.tw_input.specs.EventView.{EventView}
@@ -50,7 +50,7 @@ module _ {V W : Type 0} (rules : HostRules V) (contents : W → Option (List ℕ
     pub holds : contents old.writer ≡ Some held
 
 module _ {V W A C : Type 0} (rules : HostRules V) (contents : W → Option (List ℕ)) (pen : Pen A C) where
-  -- Behind the bytes up to each of its paintings a terminal that showed a picture before shows the fresh painting, and what stood above, moved up.
+  -- After the bytes up to each of its paintings a terminal that showed a picture before shows the fresh painting, and what stood above, moved up.
   abbrev pub ReadingPaintingsAreShown : Type 0
   ReadingPaintingsAreShown = (prompt : List ℕ) (value : V) (old new : AnsiTerminal W) (events : List EventView) (held : List ℕ)
       (h w : ℕ) (earlier : List (Station V)) (station : Station V) (later : List (Station V)) (t : EcmaScreen C) (before : PictureOf C)
@@ -63,7 +63,7 @@ module _ {V W A C : Type 0} (rules : HostRules V) (contents : W → Option (List
       × ShowsPicture pen h w sent.next (receive_all pen h w sent.bytes t) (shown_by rules pen h w old.encoder stations before)
       × ShowsDrawn rules pen (Some h) false w (pen.attributes old.encoder.attributes) f earlier station before
 
-  -- Behind all bytes that it has written it shows what the closing batch left: the cursor in column 0 of the row below the last painting, and blanks from
+  -- After all bytes that it has written it shows what the closing batch left: the cursor in column 0 of the row below the last painting, and blanks from
   -- there on; the colour that is known is by bytes. So the next reading begins at such a terminal, and lines stack.
   abbrev pub ReadingClosingsAreShown : Type 0
   ReadingClosingsAreShown = (prompt : List ℕ) (value : V) (old new : AnsiTerminal W) (events : List EventView) (held : List ℕ)
@@ -73,9 +73,9 @@ module _ {V W A C : Type 0} (rules : HostRules V) (contents : W → Option (List
       let stations = earlier ++ station ∷ [] in
       let shown = shown_by rules pen h w old.encoder stations before in
       let closed = closed_by rules pen (Some h) false w w (pen.attributes (sent_paintings rules pen stations old.encoder).next.attributes) f shown in
-      let last = top_row (Some h) before.row (paintings_at rules pen stations) + last_row w (painted_at rules pen station).sheet in
+      let last = top_row (Some h) before.row (paintings_at rules pen stations) + sheet_last_row w (painted_at rules pen station).sheet in
       ComesSent rules pen h w f earlier station later old.encoder t before → All (RendersNothing rules) later
       → (bytes : List ℕ) × (contents new.writer ≡ Some (held ++ bytes))
       × ShowsPicture pen h w new.encoder (receive_all pen h w bytes t) closed
-      × IsClosed (Some h) w (blank_of pen) last shown closed
+      × IsClosedSheet (Some h) w (blank_of pen) last shown closed
       × IsColor new.encoder.attributes.background

@@ -2,8 +2,8 @@
 use Rattle.std.specs.Prelude.{◌≡◌, ◌<◌, ◌+◌, ◌^◌, neg_ℤ, ℕ, Some, None, false, List, [], ◌∷◌, ◌++◌, map}
 use Rattle.std.specs.List.{All, AllByRecursion}
 use Rattle.tw_strokes.specs.Strokes.{PictureOf}
-use Rattle.tw_strokes.specs.Sheets.{IsFresh, last_row}
-use Rattle.tw_strokes.specs.Paintings.{IsClosed, top_row}
+use Rattle.tw_strokes.specs.Sheets.{IsFreshSheet, sheet_last_row}
+use Rattle.tw_strokes.specs.Paintings.{IsClosedSheet, top_row}
 use Rattle.tw_surface.specs.declared.change.Position.TheVariants.{Relative}
 use Rattle.tw_surface.specs.Paintings.{Mark}
 use Rattle.tw_surface.specs.PaintingBatches.{SizedScene, shot_of, mark_after, closing_if}
@@ -31,7 +31,7 @@ pub record IsSentAt (h w : ℕ) (station : SizedScene) : Type 0 where
 
 module _ {V A C : Type 0} (rules : HostRules V) (pen : Pen A C) where
   -- The run from a frame comes to a station and paints it, and so far every station was such a one. A terminal of h rows
-  -- and w columns shows a picture, and the colour that is known behind its text is by bytes.
+  -- and w columns shows a picture, and the colour that is known after its text is by bytes.
   pub record ComesSent (h w : ℕ) (f : Frame V) (earlier : List (Station V)) (station : Station V) (later : List (Station V)) (e : Encoder) (t : EcmaScreen C) (before : PictureOf C) : Type 0 where
     pub comes : ComesSimply rules pen (Some h) f earlier station later before
     pub sent : AllByRecursion (IsSentAt h w) (map (sized_scene rules) (earlier ++ station ∷ []))
@@ -60,22 +60,22 @@ module _ {V A C : Type 0} (rules : HostRules V) (pen : Pen A C) where
       ShowsPicture pen h w sent.next (receive_all pen h w sent.bytes t) (shown_by h w e stations before)
       × ShowsDrawn rules pen (Some h) false w (pen.attributes e.attributes) f earlier station before
 
-  -- Behind the last painting of a run it shows what the closing batch left: the cursor in the row below, and blanks from there on. The colour that is
+  -- After the last painting of a run it shows what the closing batch left: the cursor in the row below, and blanks from there on. The colour that is
   -- known is by bytes, so that another run can follow.
   abbrev pub ClosingsAreShown : Type 0
   ClosingsAreShown = (f : Frame V) (h w : ℕ) (earlier : List (Station V)) (station : Station V) (later : List (Station V)) (e : Encoder) (t : EcmaScreen C) (before : PictureOf C)
       → CarriesAttributes pen → ComesSent h w f earlier station later e t before → All (RendersNothing rules) later
       → let stations = earlier ++ station ∷ [] in
       let sent = sent_run f stations e in
-      let last = top_row (Some h) before.row (paintings_at rules pen stations) + last_row w (painted_at rules pen station).sheet in
+      let last = top_row (Some h) before.row (paintings_at rules pen stations) + sheet_last_row w (painted_at rules pen station).sheet in
       let shown = shown_by h w e stations before in
       let closed = closed_by rules pen (Some h) false w w (pen.attributes (sent_paintings stations e).next.attributes) f shown in
       ((run_of rules f).taken ≡ f.terminal.batches ++ batches_of rules stations)
       × ShowsPicture pen h w sent.next (receive_all pen h w sent.bytes t) closed
-      × IsClosed (Some h) w (blank_of pen) last shown closed
+      × IsClosedSheet (Some h) w (blank_of pen) last shown closed
       × IsColor sent.next.attributes.background
 
-  -- ---- behind a clearing
+  -- ---- after a clearing
 
   -- The run from a frame comes to a station and paints it. The screen was cleared before the first of the stations since then, and these are sent at w columns; a
   -- move back from the painting before them leads no further than a move can. Of the terminal it is known that it has read no part of a sequence, and
@@ -96,4 +96,4 @@ module _ {V A C : Type 0} (rules : HostRules V) (pen : Pen A C) where
       → CarriesAttributes pen → HealsSent h w f earlier since station later e t
       → let sent = sent_batches (map (λ sized. sized.batch) (since_batches rules pen earlier (since ++ station ∷ []))) e in
       (picture : PictureOf C) × ShowsPicture pen h w sent.next (receive_all pen h w sent.bytes t) picture
-      × IsFresh w 0 (blank_of pen) (painted_at rules pen station).sheet picture
+      × IsFreshSheet w 0 (blank_of pen) (painted_at rules pen station).sheet picture

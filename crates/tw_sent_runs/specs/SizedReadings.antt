@@ -1,8 +1,8 @@
--- What a reading has written whose events tell other numbers of columns, and what a terminal shows of it behind a clearing.
+-- What a reading has written whose events tell other numbers of columns, and what a terminal shows of it after a clearing.
 use Rattle.std.specs.Prelude.{◌≡◌, ◌≢◌, ℕ, Some, false, Option, List, [], ◌∷◌, ◌++◌, map}
 use Rattle.tw_strokes.specs.Strokes.{PictureOf}
-use Rattle.tw_strokes.specs.Sheets.{IsFresh, last_row}
-use Rattle.tw_strokes.specs.Paintings.{IsClosed}
+use Rattle.tw_strokes.specs.Sheets.{IsFreshSheet, sheet_last_row}
+use Rattle.tw_strokes.specs.Paintings.{IsClosedSheet}
 use Rattle.tw_surface.specs.PaintingBatches.{closing_if}
 use Rattle.tw_screens.specs.Pens.{Pen}
 use Rattle.tw_screens.specs.Screens.{blank_of}
@@ -101,7 +101,7 @@ module _ {V W A C : Type 0} (rules : HostRules V) (contents : W → Option (List
       → let sent = sent_batches (map (λ sized. sized.batch) (since_batches rules pen earlier (since ++ station ∷ []))) e in
       (rest : List ℕ) × (contents new.writer ≡ Some (held ++ (before.bytes ++ (sent.bytes ++ rest))))
       × ((picture : PictureOf C) × ShowsPicture pen h w sent.next (receive_all pen h w sent.bytes t) picture
-      × IsFresh w 0 (blank_of pen) (painted_at rules pen station).sheet picture)
+      × IsFreshSheet w 0 (blank_of pen) (painted_at rules pen station).sheet picture)
 
   -- Where that station is the last one, all bytes from the clearing on leave the cursor in column 0 of the row below it, and blanks from there on, and the
   -- colour that is known is by bytes. So the next reading begins at such a terminal, at the new size, and lines stack.
@@ -113,7 +113,7 @@ module _ {V W A C : Type 0} (rules : HostRules V) (contents : W → Option (List
       let before = sent_sized (stations_sized rules earlier) old.encoder in
       HealsSent rules pen h w f earlier since station [] (record before.next { cols = w }) t
       → (bytes : List ℕ) × (contents new.writer ≡ Some (held ++ (before.bytes ++ bytes)))
-      × ((shown : PictureOf C) × (closed : PictureOf C) × IsFresh w 0 (blank_of pen) (painted_at rules pen station).sheet shown
+      × ((shown : PictureOf C) × (closed : PictureOf C) × IsFreshSheet w 0 (blank_of pen) (painted_at rules pen station).sheet shown
       × ShowsPicture pen h w new.encoder (receive_all pen h w bytes t) closed
-      × IsClosed (Some h) w (blank_of pen) (last_row w (painted_at rules pen station).sheet) shown closed
+      × IsClosedSheet (Some h) w (blank_of pen) (sheet_last_row w (painted_at rules pen station).sheet) shown closed
       × IsColor new.encoder.attributes.background)

@@ -17,7 +17,7 @@ use tw_host::LineEditorHost;
 /// A terminal that shows a picture, its cursor in column 0, and is sent the bytes of a run's batches up to a painting,
 /// shows that station's fresh painting, and what stood above it, moved up; and after those of the closing batch its
 /// cursor is in column 0 of the row below, with blanks from there on. One that may show anything shows a fresh painting
-/// behind a clearing.
+/// after a clearing.
 pub fn sent_runs<H: LineEditorHost, A, C>()
     ensures paintings { (pen : Pen A C) → PaintingsAreShown H.rules pen }
     ensures closings { (pen : Pen A C) → ClosingsAreShown H.rules pen }

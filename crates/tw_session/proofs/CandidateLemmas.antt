@@ -66,7 +66,7 @@ module _ (line text : List ℕ) (start end cursor : ℕ) where
         let same : cursor + length text + start - end ≡ at = omega arith in
         fits-false cut candidate (λ f. none (rw same at f.lands))
 
-    -- the cursor stands behind the range, or at its end
+    -- the cursor stands after the range, or at its end
     pub fits_behind : end ≤ cursor → IsCharBoundary line cursor → fits cut candidate ≡ true
     fits_behind low stands = fits_landing (cursor + length text + start - end) (omega arith) (boundary_behind line text start end ordered to.0 cursor low stands)
 

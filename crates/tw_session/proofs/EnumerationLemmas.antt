@@ -13,7 +13,7 @@ use Rattle.tw_painter.specs.EditState.{EditState, Searching}
 use Rattle.tw_line.specs.Edits.{with_char, with_text}
 use Rattle.tw_session.specs.Search.{nearest_match_from, shown_match, searched_again, search_step}
 use Rattle.tw_session.specs.Steps.{apply, edit_step, without_cycle}
-use Rattle.tw_session.specs.HistoryLaws.{newest, match_in, apply_all, Enumerates}
+use Rattle.tw_session.specs.HistoryLaws.{newest_matches, match_in, apply_all, Enumerates}
 use Rattle.tw_history.specs.declared.history.SearchStyle.{SearchStyle}
 use Rattle.tw_history.specs.declared.history.SearchDirection.TheVariants.{Backwards}
 use Rattle.tw_session.proofs.WalkLemmas.{IsOkAnd-step}
@@ -53,7 +53,7 @@ older-filter lines pattern (suc i) low =
     rw (last, reverse-append (take i lines) (line_at lines i ∷ []), older-filter lines pattern i (omega arith)) refl
 
 -- the matching lines are those below the number of lines
-newest-older : (lines : List (List ℕ)) (pattern : List ℕ) → newest lines pattern ≡ older lines pattern (length lines)
+newest-older : (lines : List (List ℕ)) (pattern : List ℕ) → newest_matches lines pattern ≡ older lines pattern (length lines)
 newest-older lines pattern =
     ap (λ ls. filter (contains pattern) (reverse ls)) (sym (take_all (length lines) lines (omega arith))) ∙ older-filter lines pattern (length lines) (omega arith)
 
@@ -153,17 +153,17 @@ module _ {V : Type 0} (rules : HostRules V) (v : V) where
 
   -- what the law says of the state after the insertion
   abbrev ShowsNewest : ℕ → EditState → Type 0
-  ShowsNewest k t = 1 ≤ length (newest lines t.cut.line) → Shows t k (newest lines t.cut.line) (min k (length (newest lines t.cut.line) - 1))
+  ShowsNewest k t = 1 ≤ length (newest_matches lines t.cut.line) → Shows t k (newest_matches lines t.cut.line) (min k (length (newest_matches lines t.cut.line) - 1))
 
   -- the first match is the newest, where there is one
   newest-shown : (s : EditState) (style : SearchStyle) (match : Cut) (k : ℕ) (o : Option ℕ) → greatest_below (matches lines s.cut.line) (length lines) ≡ o
       → ShowsNewest k (shown_match style Backwards match (without_cycle s) (option_map (match_at lines s.cut.line) o))
   newest-shown s style match k None none some =
-      let e : newest lines s.cut.line ≡ [] = newest-older lines s.cut.line ∙ older-found lines s.cut.line (length lines) ∙ ap (from_found lines s.cut.line) none in
+      let e : newest_matches lines s.cut.line ≡ [] = newest-older lines s.cut.line ∙ older-found lines s.cut.line (length lines) ∙ ap (from_found lines s.cut.line) none in
       let few : 1 ≤ 0 = rw e at some in
       absurd (omega arith)
   newest-shown s style match k (Some i) hit some =
-      let e : newest lines s.cut.line ≡ line_at lines i ∷ older lines s.cut.line i = newest-older lines s.cut.line ∙ older-found lines s.cut.line (length lines) ∙ ap (from_found lines s.cut.line) hit in
+      let e : newest_matches lines s.cut.line ≡ line_at lines i ∷ older lines s.cut.line i = newest-older lines s.cut.line ∙ older-found lines s.cut.line (length lines) ∙ ap (from_found lines s.cut.line) hit in
       let low = greatest_below-lt (matches lines s.cut.line) (length lines) i hit in
       let less : suc (length (older lines s.cut.line i)) - 1 ≡ length (older lines s.cut.line i) = omega arith in
       rw (e, less) (shows_older s style k i (shown_at lines s.cut.line i) low)

@@ -22,14 +22,14 @@ module _ (line text : List ℕ) (start end : ℕ) (ordered : start ≤ end) (wit
       get_or-append_right (take start line) _ start at 0 (length-take-le start line (omega arith)) low
       ∙ get_or_append_left text _ 0 (at - start) (omega arith)
 
-  -- a byte behind the text is the line's, as far behind the range
+  -- a byte after the text is the line's, as far after the range
   byte_behind : (k : ℕ) → get_or new_line (start + length text + k) 0 ≡ get_or line (end + k) 0
   byte_behind k =
       get_or-append_right (take start line) _ start (start + length text + k) 0 (length-take-le start line (omega arith)) (omega arith)
       ∙ get_or-append_right text _ (length text) (start + length text + k - start) 0 refl (omega arith)
       ∙ get_or-drop end line _ 0 ∙ ap (λ i. get_or line i 0) (omega arith)
 
-  -- behind the range a boundary goes along
+  -- after the range a boundary goes along
   pub boundary_behind : (cursor : ℕ) → end ≤ cursor → IsCharBoundary line cursor → IsCharBoundary new_line (cursor + length text + start - end)
   boundary_behind cursor low cut =
       let place : cursor + length text + start - end ≡ start + length text + (cursor - end) = omega arith in

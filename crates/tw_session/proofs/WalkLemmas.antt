@@ -26,7 +26,7 @@ last_index-some : (lines : List (List ℕ)) → 1 ≤ length lines → last_inde
 last_index-some [] some = absurd (omega arith)
 last_index-some (x ∷ lines) some = refl
 
--- and behind it there is no line
+-- and after it there is no line
 pub length-last : (lines : List (List ℕ)) (last : ℕ) → last_index lines ≡ Some last → length lines ≡ last + 1
 length-last [] last e = absurd cc
 length-last (x ∷ lines) last e =
@@ -66,7 +66,7 @@ next_step-held lines s cut i low =
 abbrev move_step : EditState → EditState
 move_step s = record s { cut = at_end s.cut.line; history_index = None; typed_line = None; cycle = None }
 
--- the step forth behind the last line leaves the history
+-- the step forth after the last line leaves the history
 next_step-last : (lines : List (List ℕ)) (s : EditState) (cut : Cut) (i : ℕ) → length lines ≤ suc i → without_cycle (next_step lines (held s cut i)) ≡ move_step s
 unfolding next_step
 next_step-last lines s cut i high =

@@ -23,8 +23,8 @@ match_in (Searching style direction matching) = Some matching.line
 match_in _ = None
 
 -- the lines that contain a pattern, the newest first
-abbrev pub newest : List (List ℕ) → List ℕ → List (List ℕ)
-newest lines pattern = filter (contains pattern) (reverse lines)
+abbrev pub newest_matches : List (List ℕ) → List ℕ → List (List ℕ)
+newest_matches lines pattern = filter (contains pattern) (reverse lines)
 
 -- the action inserts a character or a text
 abbrev pub IsInsertion : ActionView → Type 0
@@ -53,6 +53,6 @@ module _ {V : Type 0} (rules : HostRules V) (v : V) where
   abbrev pub Enumerates : Type 0
   Enumerates = (s t : EditState) (style : SearchStyle) (matching : Cut) (a : ActionView) (k : ℕ)
       → s.mode ≡ Searching style Backwards matching → IsInsertion a → apply rules v a s ≡ Ok t
-      → 1 ≤ length (newest (rules.lines v) t.cut.line)
+      → 1 ≤ length (newest_matches (rules.lines v) t.cut.line)
       → IsOkAnd (apply_all (replicate k HistoryIncSearchBackwards) t) (λ u.
-      match_in u.mode ≡ slice_get (newest (rules.lines v) t.cut.line) (min k (length (newest (rules.lines v) t.cut.line) - 1)))
+      match_in u.mode ≡ slice_get (newest_matches (rules.lines v) t.cut.line) (min k (length (newest_matches (rules.lines v) t.cut.line) - 1)))

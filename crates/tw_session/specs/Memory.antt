@@ -27,7 +27,7 @@ abbrev pub index_before : List (List ℕ) → Option ℕ → Option ℕ
 index_before lines None = last_index lines
 index_before lines (Some p) = Some (p - 1)
 
--- a step forth takes the line behind the index, or the text that was kept; without an index nothing
+-- a step forth takes the line after the index, or the text that was kept; without an index nothing
 abbrev pub TakesMemoryForth : List (List ℕ) → Option (List ℕ) → Option ℕ → Type 0
 TakesMemoryForth lines typed None = ⊥
 TakesMemoryForth lines typed (Some p) = HasLine lines (Some (p + 1)) ⊎ KeepsText typed

@@ -12,7 +12,7 @@ pub fn walk<H: LineEditorHost>()
     ensures history_left { (v : H.Value) → LeavesHistory H.rules v }
 {}
 
-/// An insertion into a pattern that some line contains, and backward searches behind it, show the lines that
+/// An insertion into a pattern that some line contains, and backward searches after it, show the lines that
 /// contain the pattern from the newest on, and then the oldest.
 pub fn enumeration<H: LineEditorHost>()
     ensures { (v : H.Value) → Enumerates H.rules v }

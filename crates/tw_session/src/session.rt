@@ -170,7 +170,7 @@ impl Session {
         self.mark = None;
     }
 
-    /// Ends a run, and forgets its last painting, which it answers.
+    /// Ends a run, and forgets its last painting, which it returns.
     pub fn end(&mut self) -> Option<Mark>
         ensures session { self.new ≡ record { state = record self.old.state { mode = InactiveView }; mark = None } }
         ensures painted { result ≡ self.old.mark }
@@ -255,7 +255,7 @@ impl Session {
         host.resolve_action(self.alloc, event, &mut self.line)
     }
 
-    /// The batch that paints this state at a size, behind its start move, and its mark.
+    /// The batch that paints this state at a size, after its start move, and its mark.
     pub fn painting<H: LineEditorHost>(
         &self,
         host: &H,

@@ -119,7 +119,7 @@ module _ (h w s : ℕ) (first : PictureOf StyledCell) (new : Shown) (q : Picture
     below = λ r c far. a.seen.cell r c ∙ a.bottom (r + seen_row h s new) c (omega (arith, far));
   }
 
-  -- a column behind the last one is a column of a row below
+  -- a column after the last one is a column of a row below
   pub span_blank : 0 < w → IsBlankFrom new.reached (screen_cells new.screen)
   span_blank some i j far =
       let q : ℕ = j / w in

@@ -54,7 +54,7 @@ IsInSight above (Relative (pos n)) = ⊤
 IsInSight above (Relative (negsuc n)) = n < above
 
 -- a change that does on a terminal of so many rows what it does on a screen without a bottom: a plain text, attributes, a move in sight, and a
--- clearing to blanks from a cursor on that does not wait behind the last column
+-- clearing to blanks from a cursor on that does not wait after the last column
 abbrev pub IsPlayable : ℕ → Shown → ChangeView → Type 0
 IsPlayable rows shown (Text text) = list_all is_plain text ≡ true
 IsPlayable rows shown (Attribute change) = IsAttribute change
@@ -74,7 +74,7 @@ abbrev pub IsPlayed : ℕ → Batch → Shown → Shown → Type 0
 IsPlayed rows [] old new = new ≡ old
 IsPlayed rows (change ∷ changes) old new = (between : Shown) × IsPlayedOnce rows change old between × IsPlayed rows changes between new
 
--- the first rows of two screens show the same, and the cursor of the old one is behind them
+-- the first rows of two screens show the same, and the cursor of the old one is after them
 pub record KeepsAbove (top : ℕ) (old new : StyledView) : Type 0 where
   pub row : top ≤ old.row
   pub cell : (i j : ℕ) → i < top → j < new.width → screen_cells old i j ≡ screen_cells new i j
@@ -102,7 +102,7 @@ IsShortMove (Relative (negsuc n)) = n < most_rows
 abbrev pub IsMovedBy : Batch → Batch → Type 0
 IsMovedBy batch rest = (y : Position) × IsShortMove y × (batch ≡ CursorPosition (Absolute 0) y ∷ rest)
 
--- a batch that empties what stands from column 0 on, behind a move to that column or not
+-- a batch that empties what stands from column 0 on, after a move to that column or not
 abbrev pub IsBegunBy : Batch → Batch → Type 0
 IsBegunBy batch rest = Empties rest × ((batch ≡ rest) ⊎ IsMovedBy batch rest)
 
@@ -128,7 +128,7 @@ sent_for rows batch None new = batch
 sent_for rows batch (Some old) None = batch
 sent_for rows batch (Some old) (Some new) = changes_below (left_behind rows new) old new
 
--- what is known after a batch: on what was known before the batch was played, or else on an empty screen what came behind its beginning
+-- what is known after a batch: on what was known before the batch was played, or else on an empty screen what came after its beginning
 abbrev pub IsKnownAfter : ℕ → ℕ → Batch → Option Shown → Option Shown → Type 0
 IsKnownAfter cols rows batch old None = Unit {0}
 IsKnownAfter cols rows batch (Some old) (Some new) =

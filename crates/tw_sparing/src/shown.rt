@@ -63,7 +63,7 @@ impl Shown {
         }
     }
 
-    /// Plays a change. It answers false where it is not known what the terminal shows then.
+    /// Plays a change. It returns false where it is not known what the terminal shows then.
     fn play(&mut self, change: &Change, rows: usize) -> bool
         ensures { result ≡ true → IsPlayedOnce rows (change_view change.now) self.old self.new }
     {
@@ -75,7 +75,7 @@ impl Shown {
         true
     }
 
-    /// Plays a batch. It answers false where it is not known what the terminal shows then.
+    /// Plays a batch. It returns false where it is not known what the terminal shows then.
     fn play_all(&mut self, changes: &[Change], rows: usize) -> bool
         ensures { result ≡ true → IsPlayed rows (batch_view changes.now) self.old self.new }
     {
@@ -137,7 +137,7 @@ fn is_same_row(old: &StyledScreen, new: &StyledScreen, row: usize) -> bool
     true
 }
 
-/// Whether the first rows of two screens show the same, and the cursor of the old one is behind them.
+/// Whether the first rows of two screens show the same, and the cursor of the old one is after them.
 fn is_same_above(old: &StyledScreen, new: &StyledScreen, top: usize) -> bool
     requires { old.now.width ≡ new.now.width }
     ensures { result ≡ true → KeepsAbove top old.now new.now }
@@ -204,7 +204,7 @@ fn is_near(position: Position) -> bool
     }
 }
 
-/// What is left of a batch behind a move to column 0.
+/// What is left of a batch after a move to column 0.
 fn behind_move(changes: &[Change]) -> Option<&[Change]>
     ensures { IfSome result (λ rest. IsMovedBy (batch_view changes.now) (batch_view rest.now)) }
 {
@@ -220,7 +220,7 @@ fn behind_move(changes: &[Change]) -> Option<&[Change]>
     }
 }
 
-/// What is left of a batch that empties the terminal from column 0 on: where it begins there, or behind its move.
+/// What is left of a batch that empties the terminal from column 0 on: where it begins there, or after its move.
 fn begun(changes: &[Change], at_start: bool) -> Option<&[Change]>
     ensures begun { IfSome result (λ rest. IsBegunBy (batch_view changes.now) (batch_view rest.now)) }
     ensures start { IfSome result (λ rest. (at_start ≡ true) ⊎ LeadsToStart (batch_view changes.now)) }
@@ -270,7 +270,7 @@ pub fn ends_at_start(changes: &[Change]) -> bool {
     )
 }
 
-/// Adds what differs of two screens below their first rows, and answers what is then known of the terminal.
+/// Adds what differs of two screens below their first rows, and returns what is then known of the terminal.
 pub fn send_below(
     alloc: Global,
     old: &Shown,

@@ -74,7 +74,7 @@ impl<W: Write> SparingTerminal<W> {
         self.shown = None;
     }
 
-    /// Sends a text of its owner's as it is, behind a reset of all attributes: a line may have ended in some. The text
+    /// Sends a text of its owner's as it is, after a reset of all attributes: a line may have ended in some. The text
     /// has to leave the cursor in column 0, and no attribute set. What the terminal shows then is not known. A refusal
     /// may have sent a beginning.
     pub fn send(&mut self, text: &str) -> Result<(), TerminalFault>
@@ -109,7 +109,7 @@ impl<W: Write> SparingTerminal<W> {
         }
     }
 
-    /// Adds what a batch is sent as by its changes, and answers what is then known.
+    /// Adds what a batch is sent as by its changes, and returns what is then known.
     fn encode(&self, changes: &[Change], text: &mut String) -> Result<Encoder, AllocError>
         ensures bytes { let sent = sent_batch (batch_view changes.now) self.now.encoder in
             OnOk result (string_bytes text.new ≡ string_bytes text.old ++ sent.bytes) }
@@ -122,7 +122,7 @@ impl<W: Write> SparingTerminal<W> {
         Ok(encoder)
     }
 
-    /// Adds what a batch is sent as, by what is shown before it and after it, and answers what is then known.
+    /// Adds what a batch is sent as, by what is shown before it and after it, and returns what is then known.
     fn encode_for(
         &self,
         changes: &[Change],

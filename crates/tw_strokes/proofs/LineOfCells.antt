@@ -44,7 +44,7 @@ leb_past a c j =
 pub next_row : (r w x : ℕ) → (r + 1) * w + x ≡ r * w + w + x
 next_row r w x = omega (arith, add-mul r 1 w, one-mul w)
 
--- a cell is behind another in its row or below where its place is
+-- a cell is after another in its row or below where its place is
 pub behind_cell : (w r c i j : ℕ) → c < w → j < w → (ltb r i || (eqb r i && leb c j)) ≡ leb (r * w + c) (i * w + j)
 behind_cell w r c i j h k =
     elim (cases_lt r i) [
@@ -132,7 +132,7 @@ module _ {C : Type 0} where
       let e : p + suc (length t) ≡ p + 1 + length t = omega arith in
       rw e (typed-stands w t (put w x s) (p + 1) (point p x f) h (put-stands w x s p f h st))
 
-  -- behind a cell the column is not 0
+  -- after a cell the column is not 0
   put-col : (w : ℕ) (x : C) (s : PictureOf C) → 0 < (put w x s).col
   put-col w x s = elim (cases_eq s.col w) [
     | inl e ↦ rw (eq-eqb s.col w e) (omega arith)

@@ -4,8 +4,8 @@ use Rattle.std.proofs.lemmas.Bool.{cases_lt, lt-ltb, le-ltb}
 use Rattle.std.proofs.Math.Nat.{min-eq_right}
 use Rattle.tw_strokes.specs.Strokes.{PictureOf, filled, step, scrolled, steps_on, InSight, resized, narrowest}
 use Rattle.tw_strokes.specs.Strokes.Stroke.{Move}
-use Rattle.tw_strokes.specs.Sheets.{Sheet, cursor_row, IsFresh, raised_row}
-use Rattle.tw_strokes.specs.Paintings.{Painting, IsLed, IsFit, painting_strokes, begun, paint_all, top_row, cols_of, last_painting, AreShownOver}
+use Rattle.tw_strokes.specs.Sheets.{Sheet, sheet_cursor_row, IsFreshSheet, raised_row}
+use Rattle.tw_strokes.specs.Paintings.{SheetPainting, IsLed, IsFit, painting_strokes, begun, paint_all, top_row, cols_of, last_painting, AreShownOver}
 use Rattle.tw_strokes.proofs.PaintedSheets.{Painted, painted}
 
 in-sight : (rows : Option ℕ) (s : ℕ) → InSight rows s → InSight rows 0
@@ -22,13 +22,13 @@ in-sight-below (Some h) s s' le low = omega (arith, le, low)
 
 module _ {C : Type 0} where
   -- each painting of a list is fit
-  abbrev pub AreFit : Option ℕ → List (Painting C) → Type 0
+  abbrev pub AreFit : Option ℕ → List (SheetPainting C) → Type 0
   AreFit rows [] = Unit {0}
   AreFit rows (p ∷ more) = IsFit rows p × AreFit rows more
 
   -- ---- where a painting begins
 
-  -- the cursor is at column 0 of row s, or where the move of the painting before leads it back to row s; behind a clearing that move leads to row 0
+  -- the cursor is at column 0 of row s, or where the move of the painting before leads it back to row s; after a clearing that move leads to row 0
   abbrev pub IsBefore : Bool → ℕ → Option (ℕ → ℕ) → PictureOf C → Type 0
   IsBefore true s None t = Unit {0}
   IsBefore true s (Some back) t = back 0 ≡ 0
@@ -36,7 +36,7 @@ module _ {C : Type 0} where
   IsBefore false s (Some back) t = back t.row ≡ s
 
   -- from a screen whose cursor is where the painting before left it, or at column 0
-  painted_from : (rows : Option ℕ) (b : C) (p : Painting C) (s : ℕ) (before : Option (ℕ → ℕ)) (t : PictureOf C) → IsFit rows p → InSight rows s → IsBefore false s before t
+  painted_from : (rows : Option ℕ) (b : C) (p : SheetPainting C) (s : ℕ) (before : Option (ℕ → ℕ)) (t : PictureOf C) → IsFit rows p → InSight rows s → IsBefore false s before t
       → Painted p.cols b s (raised_row rows p.cols s p.sheet) p.sheet t (steps_on rows p.cols (painting_strokes b before p) t)
   painted_from rows b p s None t fit inside k = painted rows b p s t fit inside k.0 k.1
   painted_from rows b p s (Some back) t fit inside k =
@@ -76,7 +76,7 @@ module _ {C : Type 0} where
   raised-le (Some h) w s sheet = omega arith
 
   -- one painting, its screen cleared or not
-  painted_begun : (rows : Option ℕ) (cuts : Bool) (b : C) (v : ℕ) (p : Painting C) (s : ℕ) (before : Option (ℕ → ℕ)) (t : PictureOf C) → IsFit rows p → InSight rows s → IsBefore p.cleared s before t
+  painted_begun : (rows : Option ℕ) (cuts : Bool) (b : C) (v : ℕ) (p : SheetPainting C) (s : ℕ) (before : Option (ℕ → ℕ)) (t : PictureOf C) → IsFit rows p → InSight rows s → IsBefore p.cleared s before t
       → Painted p.cols b s (raised_row rows p.cols (if p.cleared then 0 else s) p.sheet) p.sheet (resized cuts b v p.cols t)
       (steps_on rows p.cols (painting_strokes b before p) (begun cuts b v p t))
   painted_begun rows cuts b v p s before t fit inside k = by_cleared p.cleared k
@@ -91,7 +91,7 @@ module _ {C : Type 0} where
 
   -- ---- a painting, and those over it
 
-  pub top-le : (rows : Option ℕ) (s : ℕ) (paintings : List (Painting C)) → top_row rows s paintings ≤ s
+  pub top-le : (rows : Option ℕ) (s : ℕ) (paintings : List (SheetPainting C)) → top_row rows s paintings ≤ s
   top-le rows s [] = omega arith
   top-le rows s (p ∷ more) = omega (arith, first p.cleared, top-le rows (raised_row rows p.cols (if p.cleared then 0 else s) p.sheet) more)
     where
@@ -107,7 +107,7 @@ module _ {C : Type 0} where
   resized-cut b v w t r c h = rw (le-ltb c (min v w) (omega arith)) refl
 
   -- from row e to row s by the first one, and to row s' by the others
-  joined : (cuts : Bool) (b : C) (v e s s' : ℕ) (p last : Painting C) (cols : List ℕ) (t u after : PictureOf C) → s ≤ e → s' ≤ s
+  joined : (cuts : Bool) (b : C) (v e s s' : ℕ) (p last : SheetPainting C) (cols : List ℕ) (t u after : PictureOf C) → s ≤ e → s' ≤ s
       → Painted p.cols b e s p.sheet (resized cuts b v p.cols t) u
       → AreShownOver cuts b (narrowest p.cols cols) s s' last u after → AreShownOver cuts b (narrowest v (p.cols ∷ cols)) e s' last t after
   joined cuts b v e s s' p last cols t u after le le' one rest = record {
@@ -127,12 +127,12 @@ module _ {C : Type 0} where
   }
 
   -- where the painting before left the cursor, the next one begins
-  left-before : (s : ℕ) (p : Painting C) (cleared : Bool) (t : PictureOf C) → IsLed p → t.row ≡ s + cursor_row p.cols p.sheet → IsBefore cleared s (Some p.back) t
+  left-before : (s : ℕ) (p : SheetPainting C) (cleared : Bool) (t : PictureOf C) → IsLed p → t.row ≡ s + sheet_cursor_row p.cols p.sheet → IsBefore cleared s (Some p.back) t
   left-before s p true t led row = led.back 0 ∙ omega arith
   left-before s p false t led row = led.back t.row ∙ omega (arith, row)
 
   -- the paintings over a fresh one
-  painted_over : (rows : Option ℕ) (cuts : Bool) (b : C) (s : ℕ) (p : Painting C) (more : List (Painting C)) (t : PictureOf C) → IsLed p → AreFit rows more → InSight rows s → IsFresh p.cols s b p.sheet t
+  painted_over : (rows : Option ℕ) (cuts : Bool) (b : C) (s : ℕ) (p : SheetPainting C) (more : List (SheetPainting C)) (t : PictureOf C) → IsLed p → AreFit rows more → InSight rows s → IsFreshSheet p.cols s b p.sheet t
       → AreShownOver cuts b (narrowest p.cols (cols_of more)) s (top_row rows s more) (last_painting p more) t (paint_all rows cuts b p.cols (Some p.back) more t)
   painted_over rows cuts b s p [] t led fit inside fresh = record {
     fresh = fresh;
@@ -148,7 +148,7 @@ module _ {C : Type 0} where
       joined cuts b p.cols s s1 (top_row rows s1 more) next (last_painting next more) (cols_of more) t u _ le (top-le rows s1 more) one rest
 
   -- After a list of paintings the screen shows the last one fresh.
-  pub painted_all : (rows : Option ℕ) (cuts : Bool) (b : C) (v s : ℕ) (before : Option (ℕ → ℕ)) (first : Painting C) (more : List (Painting C)) (t : PictureOf C)
+  pub painted_all : (rows : Option ℕ) (cuts : Bool) (b : C) (v s : ℕ) (before : Option (ℕ → ℕ)) (first : SheetPainting C) (more : List (SheetPainting C)) (t : PictureOf C)
       → AreFit rows (first ∷ more) → InSight rows s → IsBefore first.cleared s before t
       → AreShownOver cuts b (narrowest v (cols_of (first ∷ more))) s (top_row rows s (first ∷ more)) (last_painting first more) t (paint_all rows cuts b v before (first ∷ more) t)
   painted_all rows cuts b v s before first more t fit inside k =

@@ -7,8 +7,8 @@ use Rattle.std.proofs.lemmas.List.Folds.{list_all-append}
 use Rattle.std.proofs.Math.Nat.{min-eq_right}
 use Rattle.tw_strokes.specs.Strokes.{PictureOf, Stroke, cleared_in, step, steps, excess, scrolled, steps_on, InSight}
 use Rattle.tw_strokes.specs.Strokes.Stroke.{Move}
-use Rattle.tw_strokes.specs.Sheets.{Sheet, rows_of, line_row, last_row, cursor_row, last_length, IsIn, IsInLines, AreShown, IsFresh, typed, broken, drawing, IsLow, raised_row}
-use Rattle.tw_strokes.specs.Paintings.{Painting, IsLed, IsFit, closing_strokes, seen_row, IsClosed}
+use Rattle.tw_strokes.specs.Sheets.{Sheet, rows_of_line, sheet_text_row, sheet_last_row, sheet_cursor_row, last_length, IsInText, IsInLowerLines, AreLinesShown, IsFreshSheet, typed, broken, drawing, IsLow, raised_row}
+use Rattle.tw_strokes.specs.Paintings.{SheetPainting, IsLed, IsFit, closing_strokes, seen_row, IsClosedSheet}
 use Rattle.tw_strokes.proofs.DrawnSheets.{Drawn, drawn, all_cells, above-cells, fresh}
 use Rattle.tw_strokes.proofs.SeenRows.{seen_from, Sees, sees-same, sees-scrolled, is_typing, typed-types, broken-types, sees-typing, sees-clear, sees-still, steps_on-append}
 
@@ -27,35 +27,35 @@ excess-le (Some h) r some = omega (arith, some)
 module _ {C : Type 0} where
   -- ---- a window of a fresh painting
 
-  lines_seen : (b : C) (w from t : ℕ) (lines : List (List C)) (x u : PictureOf C) → Sees t x u → AreShown w (from + t) b lines u → AreShown w from b lines x
+  lines_seen : (b : C) (w from t : ℕ) (lines : List (List C)) (x u : PictureOf C) → Sees t x u → AreLinesShown w (from + t) b lines u → AreLinesShown w from b lines x
   lines_seen b w from t [] x u s h = tt
   lines_seen b w from t (line ∷ more) x u s h =
-      let e : from + t + rows_of w line ≡ from + rows_of w line + t = omega arith in (
+      let e : from + t + rows_of_line w line ≡ from + rows_of_line w line + t = omega arith in (
         λ k q. s.cell (from + k / w) (k % w) ∙ ap (λ r. u.cell r (k % w)) (omega arith) ∙ h.0 k q,
-        lines_seen b w (from + rows_of w line) t more x u s (subst (λ r. AreShown w r b more u) e h.1),
+        lines_seen b w (from + rows_of_line w line) t more x u s (subst (λ r. AreLinesShown w r b more u) e h.1),
       )
 
-  in_seen : (w from t : ℕ) (text : List C) (r c : ℕ) → IsIn w (from + t) text (r + t) c → IsIn w from text r c
+  in_seen : (w from t : ℕ) (text : List C) (r c : ℕ) → IsInText w (from + t) text (r + t) c → IsInText w from text r c
   in_seen w from t text r c i = (i.0, i.1, (omega (arith, i.2.0), i.2.1))
 
-  in_lines_seen : (w from t : ℕ) (lines : List (List C)) (r c : ℕ) → IsInLines w (from + t) lines (r + t) c → IsInLines w from lines r c
+  in_lines_seen : (w from t : ℕ) (lines : List (List C)) (r c : ℕ) → IsInLowerLines w (from + t) lines (r + t) c → IsInLowerLines w from lines r c
   in_lines_seen w from t [] r c i = i
   in_lines_seen w from t (line ∷ more) r c (inl i) = inl (in_seen w from t line r c i)
   in_lines_seen w from t (line ∷ more) r c (inr i) =
-      let e : from + t + rows_of w line ≡ from + rows_of w line + t = omega arith in
-      inr (in_lines_seen w (from + rows_of w line) t more r c (subst (λ k. IsInLines w k more (r + t) c) e i))
+      let e : from + t + rows_of_line w line ≡ from + rows_of_line w line + t = omega arith in
+      inr (in_lines_seen w (from + rows_of_line w line) t more r c (subst (λ k. IsInLowerLines w k more (r + t) c) e i))
 
   -- a window of a fresh painting that holds its first row
-  fresh_seen : (b : C) (w s t : ℕ) (sheet : Sheet C) (x u : PictureOf C) → Sees t x u → IsFresh w (s + t) b sheet u → IsFresh w s b sheet x
+  fresh_seen : (b : C) (w s t : ℕ) (sheet : Sheet C) (x u : PictureOf C) → Sees t x u → IsFreshSheet w (s + t) b sheet u → IsFreshSheet w s b sheet x
   fresh_seen b w s t sheet x u k f =
-      let low : ℕ = s + line_row w sheet + 1 in
-      let e : s + t + line_row w sheet + 1 ≡ low + t = omega arith in
+      let low : ℕ = s + sheet_text_row w sheet + 1 in
+      let e : s + t + sheet_text_row w sheet + 1 ≡ low + t = omega arith in
       record {
         shown = λ i h. k.cell (s + i / w) (i % w) ∙ ap (λ r. u.cell r (i % w)) (omega arith) ∙ f.shown i h;
-        below = lines_seen b w low t sheet.lower x u k (subst (λ r. AreShown w r b sheet.lower u) e f.below);
+        below = lines_seen b w low t sheet.lower x u k (subst (λ r. AreLinesShown w r b sheet.lower u) e f.below);
         rest = λ r c h i p q. k.cell r c ∙ f.rest (r + t) c (omega arith) i
             (λ y. p (in_seen w s t sheet.text r c y))
-            (λ y. q (in_lines_seen w low t sheet.lower r c (subst (λ z. IsInLines w z sheet.lower (r + t) c) e y)));
+            (λ y. q (in_lines_seen w low t sheet.lower r c (subst (λ z. IsInLowerLines w z sheet.lower (r + t) c) e y)));
         row = omega (arith, k.row, f.row);
         col = sym k.col ∙ f.col;
       }
@@ -64,7 +64,7 @@ module _ {C : Type 0} where
 
   -- a fresh painting from row s' on, the rows above moved up from row s to row s'
   pub record Painted (w : ℕ) (b : C) (s s' : ℕ) (sheet : Sheet C) (before after : PictureOf C) : Type 0 where
-    pub fresh : IsFresh w s' b sheet after
+    pub fresh : IsFreshSheet w s' b sheet after
     pub above : (r c : ℕ) → r < s' → c < w → after.cell r c ≡ before.cell (r + (s - s')) c
 
   typing : (sheet : Sheet C) → list_all is_typing (typed sheet.text ++ broken sheet.lower) ≡ true
@@ -87,24 +87,24 @@ module _ {C : Type 0} where
       still-low (Some h) s low = omega (arith, low)
 
   up-is : (rows : Option ℕ) (w s : ℕ) (sheet : Sheet C) → InSight rows s → IsLow rows w sheet
-      → raised_row rows w s sheet + rows_up rows (s + last_row w sheet) (s + cursor_row w sheet) ≡ s
+      → raised_row rows w s sheet + rows_up rows (s + sheet_last_row w sheet) (s + sheet_cursor_row w sheet) ≡ s
   up-is None w s sheet inside low = omega arith
   up-is (Some h) w s sheet inside low = omega (arith, inside, low)
 
-  up-le : (rows : Option ℕ) (w s : ℕ) (sheet : Sheet C) → InSight rows s → IsLow rows w sheet → seen_from rows 0 (s + last_row w sheet) ≤ s
+  up-le : (rows : Option ℕ) (w s : ℕ) (sheet : Sheet C) → InSight rows s → IsLow rows w sheet → seen_from rows 0 (s + sheet_last_row w sheet) ≤ s
   up-le None w s sheet inside low = omega arith
   up-le (Some h) w s sheet inside low = omega (arith, inside, low)
 
   -- the last move leads within what is seen
-  module _ (rows : Option ℕ) (b : C) (p : Painting C) (s : ℕ) (before : PictureOf C) (fit : IsFit rows p) (inside : InSight rows s) (row : before.row ≡ s) (col : before.col ≡ 0) where
+  module _ (rows : Option ℕ) (b : C) (p : SheetPainting C) (s : ℕ) (before : PictureOf C) (fit : IsFit rows p) (inside : InSight rows s) (row : before.row ≡ s) (col : before.col ≡ 0) where
     abbrev w : ℕ
     w = p.cols
 
     abbrev last : ℕ
-    last = s + last_row w p.sheet
+    last = s + sheet_last_row w p.sheet
 
     abbrev at : ℕ
-    at = s + cursor_row w p.sheet
+    at = s + sheet_cursor_row w p.sheet
 
     abbrev t : ℕ
     t = seen_from rows 0 last
@@ -156,9 +156,9 @@ module _ {C : Type 0} where
     pub painted : Painted w b s s' p.sheet before (steps_on rows w (drawing b p.sheet ++ Move p.to_row p.to_col ∷ []) before)
     painted =
         let e : steps_on rows w (drawing b p.sheet ++ Move p.to_row p.to_col ∷ []) before ≡ scrolled rows (moved x) = steps_on-append rows w (drawing b p.sheet) (Move p.to_row p.to_col ∷ []) before in
-        let q : IsFresh w s b p.sheet (moved u) = fresh b w s p.sheet before fit.led.wide (moved u) all.cells row-is col-is in
+        let q : IsFreshSheet w s b p.sheet (moved u) = fresh b w s p.sheet before fit.led.wide (moved u) all.cells row-is col-is in
         rw e (record {
-          fresh = fresh_seen b w s' up p.sheet (scrolled rows (moved x)) (moved u) sees (subst (λ r. IsFresh w r b p.sheet (moved u)) (sym is) q);
+          fresh = fresh_seen b w s' up p.sheet (scrolled rows (moved x)) (moved u) sees (subst (λ r. IsFreshSheet w r b p.sheet (moved u)) (sym is) q);
           above = λ r c k i. sees.cell r c ∙ all.cells (r + up) c i ∙ above-cells b w s p.sheet before fit.led.wide (r + up) c (omega (arith, is)) i
               ∙ ap (λ y. before.cell y c) (omega (arith, is));
         })
@@ -180,10 +180,10 @@ module _ {C : Type 0} where
   low-again (Some h) s some = omega (arith, some)
 
   -- at whatever number of columns
-  pub closed : (rows : Option ℕ) (b : C) (w s : ℕ) (p : Painting C) (before : PictureOf C) → 2 ≤ w → IsLed p → InSight rows 0 → before.row ≡ s + cursor_row p.cols p.sheet
-      → IsClosed rows w b (s + last_row p.cols p.sheet) before (steps_on rows w (closing_strokes b p) before)
+  pub closed : (rows : Option ℕ) (b : C) (w s : ℕ) (p : SheetPainting C) (before : PictureOf C) → 2 ≤ w → IsLed p → InSight rows 0 → before.row ≡ s + sheet_cursor_row p.cols p.sheet
+      → IsClosedSheet rows w b (s + sheet_last_row p.cols p.sheet) before (steps_on rows w (closing_strokes b p) before)
   closed rows b w s p before two led some row =
-      let last : ℕ = s + last_row p.cols p.sheet in
+      let last : ℕ = s + sheet_last_row p.cols p.sheet in
       let m : PictureOf C = step w (Move p.under (λ c. 0)) before in
       let at : m.row ≡ last + 1 = led.under before.row ∙ omega (arith, row) in
       let left : m.col ≡ 0 = min-eq_right (omega arith) in

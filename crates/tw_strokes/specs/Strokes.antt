@@ -1,7 +1,7 @@
 -- Screens of any kind of cells, and what is done to them, stroke by stroke.
 use Rattle.std.specs.Prelude.{ℕ, ◌+◌, ◌-◌, ◌<◌, ◌&&◌, ◌||◌, eqb, ltb, leb, min, Bool, if◌then◌else◌, Option, Some, None, List, [], ◌∷◌}
 
--- the cell at each row and column, and the cursor, which waits behind the last column at col = width
+-- the cell at each row and column, and the cursor, which waits after the last column at col = width
 pub record PictureOf (C : Type 0) : Type 0 where
   pub cell : ℕ → ℕ → C
   pub row : ℕ
@@ -24,7 +24,7 @@ put_in cell r c x i j = if eqb i r && eqb j c then x else cell i j
 abbrev pub cleared_in : {C : Type 0} → (ℕ → ℕ → C) → ℕ → ℕ → C → ℕ → ℕ → C
 cleared_in cell r c x i j = if ltb r i || (eqb r i && leb c j) then x else cell i j
 
--- a cell goes where the cursor stands, from behind the last column to the first column of the next row
+-- a cell goes where the cursor stands, from after the last column to the first column of the next row
 abbrev pub put : {C : Type 0} → ℕ → C → PictureOf C → PictureOf C
 put width x s =
     if eqb s.col width
@@ -64,7 +64,7 @@ abbrev pub scrolled : {C : Type 0} → Option ℕ → PictureOf C → PictureOf 
 scrolled None s = s
 scrolled (Some h) s = raised_by (s.row + 1 - h) s
 
--- strokes on a screen of some rows, or without a bottom: it scrolls behind each
+-- strokes on a screen of some rows, or without a bottom: it scrolls after each
 abbrev pub steps_on : {C : Type 0} → Option ℕ → ℕ → List (Stroke C) → PictureOf C → PictureOf C
 steps_on rows width [] s = s
 steps_on rows width (stroke ∷ more) s = steps_on rows width more (scrolled rows (step width stroke s))
@@ -76,7 +76,7 @@ InSight (Some h) r = r < h
 
 -- ---- a screen whose number of columns changes
 
--- a screen of v columns has w from now on: the columns that it had and has are as they were, the others are b, and a cursor behind the last column stands in it
+-- a screen of v columns has w from now on: the columns that it had and has are as they were, the others are b, and a cursor after the last column stands in it
 abbrev pub cut_to : {C : Type 0} → C → ℕ → ℕ → PictureOf C → PictureOf C
 cut_to b v w s = record {
   cell = λ r c. if ltb c (min v w) then s.cell r c else b;

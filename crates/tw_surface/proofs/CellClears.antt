@@ -7,7 +7,7 @@ use Rattle.std.proofs.lemmas.List.{get_or-take, get_or-drop, length-take-le, len
 use Rattle.std.proofs.lemmas.List.Elements.{All-take}
 use Rattle.tw_surface.specs.declared.screen.far.Cell.{Cell}
 use Rattle.tw_surface.specs.Pictures.{blank, cells_cleared_from}
-use Rattle.tw_surface.specs.Cells.{cell_in, cell_at, IsBefore, IsInOrder, IsAt, IsGapFor, IsCut, IsSparse, IsLastRow}
+use Rattle.tw_surface.specs.Cells.{cell_in, cell_at, IsBefore, IsInOrder, IsAt, IsGapFor, IsCountBefore, IsSparse, IsLastRow}
 use Rattle.tw_surface.proofs.CellLookups.{StandsAt, cell_in-none, cell_in-same_front, before_found, behind_found, cell_in_at}
 
 -- two places do not stand before each other
@@ -17,7 +17,7 @@ not_both_before r c row col one other =
     omega (arith, one.columns same, other.columns (sym same))
 
 -- the cells are cut at a cell that stands there
-pub cut_at : (cells : List Cell) → IsInOrder cells → (row col i : ℕ) → IsAt cells row col i → IsCut cells row col i
+pub cut_at : (cells : List Cell) → IsInOrder cells → (row col i : ℕ) → IsAt cells row col i → IsCountBefore cells row col i
 cut_at cells ordered row col i at = record {
   in_range = omega (arith, at.in_range);
   before = before_found cells ordered row col i at;
@@ -29,14 +29,14 @@ cut_at cells ordered row col i at = record {
 }
 
 -- and at a gap
-pub cut_at_gap : (cells : List Cell) (row col i : ℕ) → IsGapFor cells row col i → IsCut cells row col i
+pub cut_at_gap : (cells : List Cell) (row col i : ℕ) → IsGapFor cells row col i → IsCountBefore cells row col i
 cut_at_gap cells row col i gap = record {
   in_range = gap.in_range;
   before = gap.before;
   from = λ k le below earlier. not_both_before _ _ row col earlier (gap.behind k le below);
 }
 
-module _ (cells : List Cell) (row col i : ℕ) (cut : IsCut cells row col i) where
+module _ (cells : List Cell) (row col i : ℕ) (cut : IsCountBefore cells row col i) where
   -- before the place, the cells show what they showed
   shows_before : (r c : ℕ) → IsBefore r c row col → cell_in (take i cells) r c ≡ cell_in cells r c
   shows_before r c earlier =
@@ -49,7 +49,7 @@ module _ (cells : List Cell) (row col i : ℕ) (cut : IsCut cells row col i) whe
       ∙ cell_in-same_front (take i cells) (drop i cells) [] r c rest
       ∙ ap (λ l. cell_in l r c) (append-nil (take i cells)))
 
-  -- at the place and behind it, a blank
+  -- at the place and after it, a blank
   blank_from : (r c : ℕ) → (IsBefore r c row col → ⊥) → cell_in (take i cells) r c ≡ blank
   blank_from r c later = cell_in-none (take i cells) r c (λ k below there.
       let size : length (take i cells) ≡ i = length-take-le i cells cut.in_range in
@@ -104,8 +104,8 @@ last_row_is cells ordered visible some =
           ]),
     )
 
--- in a row, all behind the last cell before the width is blank
-pub blank_behind : (width first : ℕ) (cells : List Cell) (row col end : ℕ) → IsSparse width first cells → IsCut cells row width end
+-- in a row, all after the last cell before the width is blank
+pub blank_behind : (width first : ℕ) (cells : List Cell) (row col end : ℕ) → IsSparse width first cells → IsCountBefore cells row width end
     → ((0 < end) → (cell_at cells (end - 1)).row ≡ row → (cell_at cells (end - 1)).col < col) → cell_in cells row col ≡ blank
 blank_behind width first cells row col end sparse cut last = cell_in-none cells row col (λ k within there.
     let inside : (cell_at cells k).col < width = sparse.inside k (record { row = 0; col = 0; ch = 0 }) within in

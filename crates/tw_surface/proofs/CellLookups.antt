@@ -63,7 +63,7 @@ module _ (cells : List Cell) (ordered : IsInOrder cells) (row col i : ℕ) where
       let earlier = before_found at k below in
       omega (arith, earlier.columns, there.row_is, there.col_is)
 
-  -- the cells above it stand behind it
+  -- the cells above it stand after it
   pub behind_found : IsAt cells row col i → (k : ℕ) → i < k → k < length cells → IsBefore row col (cell_at cells k).row (cell_at cells k).col
   behind_found at k above below =
       let later : IsBefore (cell_at cells i).row (cell_at cells i).col (cell_at cells k).row (cell_at cells k).col = ordered i k _ above below in

@@ -1,4 +1,4 @@
--- A text cut behind its first extended grapheme cluster.
+-- A text cut after its first extended grapheme cluster.
 use Rattle.std.proofs.Common.{◌≡◌, ℕ, ◌<◌, true, List, [], ◌∷◌, ◌++◌, map, length, get_or, take, drop, take_at, drop_at, append_assoc, refl, sym, ap, ap₂, subst, ◌∙◌, arith, ⊎_elim}
 use Rattle.std.proofs.lemmas.Bool.{cases_Bool}
 use Rattle.std.proofs.lemmas.Str.{chars-nil, encodes-chars, encodes-append, chars_from_encodes, IsUtf8-past_char, IsCharBoundary-at_seam}
@@ -11,7 +11,7 @@ use Rattle.unicode_segmentation.proofs.SegmentsLemmas.{AllPieces, segments_nonem
 use Rattle.tw_surface.specs.Clusters.{IsFirstCluster}
 use Rattle.tw_surface.proofs.ClusterSeams.{cut-from_boundary}
 
--- the first cluster of some characters behind others, and the characters after it, which are cut as a text of their own
+-- the first cluster of some characters after others, and the characters after it, which are cut as a text of their own
 record FirstCut (before cs : List ℕ) : Type 0 where
   cluster : List ℕ
   rest : List ℕ
@@ -56,7 +56,7 @@ pub no_clusters : (text : List ℕ) → length text ≡ 0 → graphemes true tex
 no_clusters [] e = no_cluster [] chars-nil
 no_clusters (b ∷ bs) e = absurd (omega arith)
 
--- a text with a first cluster, whose others are those of the text behind it
+-- a text with a first cluster, whose others are those of the text after it
 module _ (text : List ℕ) (u : IsUtf8 text) where
   by_characters : (p : List ℕ) (ps : List (List ℕ)) → graphemes true text ≡ p ∷ ps → (cs : List ℕ) → chars text ≡ cs → IsFirstCluster text (length p)
   by_characters p ps e [] none = let empty : 0 ≡ length (p ∷ ps) = ap length (sym (no_cluster text none) ∙ e) in absurd (omega arith)

@@ -1,4 +1,4 @@
--- What stands before a boundary of extended grapheme clusters decides nothing behind it.
+-- What stands before a boundary of extended grapheme clusters decides nothing after it.
 use Rattle.std.proofs.Common.{◌≡◌, ℕ, Bool, true, false, not, ◌&&◌, ◌||◌, List, [], ◌∷◌, ◌++◌, map, unwrap_or, refl, sym, ap, ap₂, ◌∙◌, arith, ⊎_elim}
 use Rattle.std.proofs.lemmas.Bool.{cases_Bool, not-true, false≢true}
 use Rattle.ucd_table.proofs.Facts.{Stepped-everywhere}
@@ -29,7 +29,7 @@ is_control Cr = true
 is_control Lf = true
 is_control _ = false
 
--- a mark that may stand behind the linker of a conjunct
+-- a mark that may stand after the linker of a conjunct
 abbrev pub is_mark : IndicConjunctBreak → Bool
 is_mark conjuncts.Extend = true
 is_mark _ = false
@@ -73,7 +73,7 @@ joined-from_extend Zwj h = refl
 joined-from_extend SpacingMark h = refl
 joined-from_extend _ h = h
 
--- only behind a control character does a character that joins begin a cluster
+-- only after a control character does a character that joins begin a cluster
 control_before : (left right : GraphemeClusterBreak) (rest : Bool) → is_joined right ≡ true
     → unwrap_or (break_by_pair true left right) rest ≡ true → is_control left ≡ true
 unfolding is_control

@@ -61,7 +61,7 @@ leb_past a c j =
 pub next_row : (r w x : ℕ) → (r + 1) * w + x ≡ r * w + w + x
 next_row r w x = omega (arith, add-mul r 1 w, one-mul w)
 
--- a cell is behind another in its row or below where its place is
+-- a cell is after another in its row or below where its place is
 pub behind : (w r c i j : ℕ) → c < w → j < w → (ltb r i || (eqb r i && leb c j)) ≡ leb (r * w + c) (i * w + j)
 behind w r c i j h k =
     elim (cases_lt r i) [

@@ -198,7 +198,7 @@ no_pair Zwj rest h = sym h
 no_pair SpacingMark rest h = sym h
 no_pair _ rest h = refl
 
--- so a cluster ends behind it
+-- so a cluster ends after it
 breaks_behind : (c d : ℕ) (after : List ℕ) → StandsAlone c → is_joined (grapheme_cluster_break d) ≡ false → is_grapheme_break true (c ∷ []) (d ∷ after) ≡ true
 unfolding is_grapheme_break ends_in_half_flag
 breaks_behind c d after h apart =
@@ -237,12 +237,12 @@ module _ (text : List ℕ) (u : IsUtf8 text) (some : 0 < length text) (width : �
       subst (IsFirstCluster text) (length-append (encode_utf8 begins.character) [] ∙ omega (arith, bytes))
       (IsFirstCluster-from text u (encode_utf8_all (begins.character ∷ [])) ps e)
 
-  -- where the text ends behind such a character, its cluster does
+  -- where the text ends after such a character, its cluster does
   pub first_alone : length text ≤ width → IsFirstCluster text width
   unfolding cut is_grapheme_break
   first_alone end = first_piece [] (clusters_of text (begins.character ∷ []) (alone_is end))
 
-  -- and where none that joins it stands behind it
+  -- and where none that joins it stands after it
   pub first_before : width < length text → starts_apart (chars (drop width text)) ≡ true → IsFirstCluster text width
   unfolding cut
   first_before inside apart =
@@ -263,7 +263,7 @@ module _ (text : List ℕ) (u : IsUtf8 text) (some : 0 < length text) (width : �
           ap (λ b. map encode_utf8_all (if b then (c ∷ []) ∷ after else prepend (c ∷ []) after)) breaks in
           first_piece (map encode_utf8_all after) (clusters_of text (c ∷ d ∷ cs) is ∙ cut_there)
 
-  -- behind it begins a character
+  -- after it begins a character
   pub boundary_behind : IsCharBoundary text width
   boundary_behind = subst (IsCharBoundary text) bytes (IsCharBoundary-at_seam text (encode_utf8 begins.character) begins.rest begins.whole begins.utf8)
 

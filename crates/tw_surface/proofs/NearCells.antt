@@ -10,7 +10,7 @@ use Rattle.std.proofs.lemmas.Nat.{mod_below, div-add-mod'}
 use Rattle.std.proofs.Math.Nat.{min-eq_left, min-eq_right, min-le_left, min-le_right, le-min}
 use Rattle.tw_surface.specs.declared.screen.far.Cell.{Cell}
 use Rattle.tw_surface.specs.Pictures.{blank, cells_with, cells_cleared_from}
-use Rattle.tw_surface.specs.Cells.{cell_in, cell_at, shown_at, row_of, IsSparse, IsSound, IsGrown, IsLastRow}
+use Rattle.tw_surface.specs.Cells.{cell_in, cell_at, shown_at, row_of, IsSparse, AreSoundCells, IsGrown, IsLastRow}
 use Rattle.tw_surface.proofs.LineOfCells.{same_cell, behind, next_row, below_row}
 use Rattle.tw_surface.proofs.CellLookups.{cell_in-none, cell_in_at, cell_ascii}
 use Rattle.tw_surface.proofs.CellClears.{blank_outside, last_row_is}
@@ -134,7 +134,7 @@ grown_cell width more near far r c sparse =
       ]
     ]
 
--- blanks behind the near cells show what was shown, where the far ones stand behind them
+-- blanks after the near cells show what was shown, where the far ones stand after them
 pub shown_grown : (width : ℕ) (old new : List ℕ) (far : List Cell) → IsGrown old new → IsSparse width (length new) far → shown_at width new far ≡ shown_at width old far
 shown_grown width old new far grown sparse =
     let size : length new ≡ length old + grown.more = rw grown.grown (length-append old (replicate grown.more blank) ∙ ap (λ n. length old + n) (length-replicate grown.more blank)) in
@@ -163,7 +163,7 @@ trimmed_at near end within blanks =
 
 -- ---- a clear
 
--- a cell is behind the cursor's, which may wait behind the last column
+-- a cell is after the cursor's, which may wait after the last column
 behind_cursor : (w row col r c : ℕ) → col ≤ w → c < w → (ltb row r || (eqb row r && leb col c)) ≡ leb (row * w + col) (r * w + c)
 behind_cursor w row col r c most inside =
     elim (cases_lt col w) [
@@ -215,7 +215,7 @@ module _ (width : ℕ) (near : List ℕ) (far new : List Cell) (row col : ℕ) (
   pub cleared_kept : shown_at width kept new ≡ cells_cleared_from (shown_at width near far) row col
   cleared_kept = fun_ext (λ r. fun_ext (λ c. elim (cases_lt c width) [ inl inside ↦ cleared_inside r c inside | inr outside ↦ cleared_outside r c outside ]))
 
--- with fewer near cells, the far ones stand behind them still
+-- with fewer near cells, the far ones stand after them still
 pub sparse_behind : (width first less : ℕ) (far : List Cell) → less ≤ first → IsSparse width first far → IsSparse width less far
 sparse_behind width first less far fewer sparse = record {
   ordered = sparse.ordered;
@@ -229,7 +229,7 @@ pub sparse_kept : (width : ℕ) (near : List ℕ) (far : List Cell) (n : ℕ) �
 sparse_kept width near far n sparse = sparse_behind width (length near) (length (take n near)) far (omega (arith, length-take n near, min-le_right n (length near))) sparse
 
 -- a screen without the blanks that its near cells end in
-pub sound_trimmed : (width row col : ℕ) (near new : List ℕ) (far : List Cell) → IsGrown new near → IsSound width row col near far → IsSound width row col new far
+pub sound_trimmed : (width row col : ℕ) (near new : List ℕ) (far : List Cell) → IsGrown new near → AreSoundCells width row col near far → AreSoundCells width row col new far
 sound_trimmed width row col near new far grown sound = record {
   width_above = sound.width_above;
   width_most = sound.width_most;

@@ -72,7 +72,7 @@ in_row cols (suc more) left all start t most fits low high under =
     } in
     rw (← col) (in_row cols more left all start next most (λ some. omega arith) low high went)
 
--- behind the first one, wherever it stands
+-- after the first one, wherever it stands
 pub row_step : (cols more left : ℕ) (all : List Place) (start t r : Extent) → cols ≤ 65535
     → IsUnderWay all start (places_after cols (replicate (suc (more + left)) (Wide 1)) (place_of t)) t
     → r ≡ reach t (next_place cols (Wide 1) (place_of t)) → is_in_range (next_place cols (Wide 1) (place_of t)) ≡ true → (0 < more → r.x + more ≤ cols)

@@ -62,7 +62,7 @@ run_char w near far row col ch most positive printable within =
       | inr inside ↦ rw (ne_eqb col w inside) (ap (λ cell. record { cell = cell; row = row; col = col + 1 }) (sym (written_near w near far row col ch (omega arith) within)))
     ])
 
--- the rest of a run is written behind its first character
+-- the rest of a run is written after its first character
 rest_overwritten : (near new : List ℕ) (p ch : ℕ) (run : List ℕ) → p < length near → IsOverwritten near new p (ch ∷ run) → IsOverwritten (set near p ch) new (p + 1) run
 rest_overwritten near new p ch run within over = record {
   within = λ k below. let e : p + suc k ≡ p + 1 + k = omega arith in rw e at (over.within (suc k) (omega arith));
@@ -111,7 +111,7 @@ run_ascii near new place run printable size room over ascii =
       ]
     ])
 
--- ---- a character behind the near cells
+-- ---- a character after the near cells
 
 -- the cell that it is written to
 pub far_place : (w row col ch next_row next_col : ℕ) → 0 < w → col ≤ w → is_printable ch ≡ true
@@ -149,7 +149,7 @@ pub play_text-append : (w : ℕ) (a b : List ℕ) (s : Picture) → play_text w 
 play_text-append w [] b s = refl
 play_text-append w (ch ∷ a) b s = play_text-append w a b (play_char w ch s)
 
--- what is behind a part of a text is reached from behind that part
+-- what is after a part of a text is reached from after that part
 pub reach_behind : (w : ℕ) (a b : List ℕ) → length a + reach_of w b ≤ reach_of w (a ++ b)
 reach_behind w a b =
     omega (arith, length-append a b, ap (λ n. n * w) (sum_by-append (λ c. cond (eqb c lf) 1 0) a b), add-mul (count_by (λ c. eqb c lf) a) (count_by (λ c. eqb c lf) b) w)

@@ -1,4 +1,4 @@
--- A screen of some rows scrolls behind each change.
+-- A screen of some rows scrolls after each change.
 use Rattle.std.proofs.Common.{◌≡◌, ℕ, ◌+◌, ◌-◌, ◌<◌, refl, sym, ap, ◌∙◌, arith}
 use Rattle.std.proofs.Math.Path.{fun_ext}
 use Rattle.tw_surface.specs.ChangeView.{ChangeView}

@@ -7,7 +7,7 @@ use Rattle.std.proofs.lemmas.List.{length-append, get_or_append_left, get_or-app
 use Rattle.std.proofs.lemmas.List.Elements.{All-head, All-tail, All-cons, All-weaker, All-from_get_or}
 use Rattle.tw_surface.specs.declared.screen.far.Cell.{Cell}
 use Rattle.tw_surface.specs.Pictures.{blank}
-use Rattle.tw_surface.specs.Cells.{cell_at, shown_at, IsBefore, IsSparse, IsGrown, IsWithin}
+use Rattle.tw_surface.specs.Cells.{cell_at, shown_at, IsBefore, IsSparse, IsGrown, AreCellsBefore}
 use Rattle.tw_surface.proofs.LineOfCells.{below_row}
 use Rattle.tw_surface.proofs.CellLookups.{cell_in-past, cell_in-first}
 use Rattle.tw_surface.proofs.NearCells.{shown_near, shown_far, shown_grown}
@@ -27,8 +27,8 @@ place_rises width first cells sparse i j below within =
       | inr other ↦ let low : place width (cell_at cells i) < (cell_at cells j).row * width = below_row width (cell_at cells i).row (cell_at cells i).col (cell_at cells j).row (omega (arith, before.rows)) inside in omega arith
     ]
 
--- so all stand before the place behind the last
-pub within_end : (width first : ℕ) (cells : List Cell) → IsSparse width first cells → IsWithin width (place width (cell_at cells (length cells - 1)) + 1) cells
+-- so all stand before the place after the last
+pub within_end : (width first : ℕ) (cells : List Cell) → IsSparse width first cells → AreCellsBefore width (place width (cell_at cells (length cells - 1)) + 1) cells
 within_end width first cells sparse =
     All-from_get_or (λ x. x.row * width + x.col < place width (cell_at cells (length cells - 1)) + 1) cells (record { row = 0; col = 0; ch = 0 }) (λ k within.
     elim (cases_eq k (length cells - 1)) [
@@ -36,7 +36,7 @@ within_end width first cells sparse =
       | inr other ↦ let rises = place_rises width first cells sparse k (length cells - 1) (omega arith) (omega arith) in omega arith
     ])
 
--- the cells behind the first one stand behind its place
+-- the cells after the first one stand after its place
 pub sparse_rest : (width first : ℕ) (cell : Cell) (cells : List Cell) → IsSparse width first (cell ∷ cells) → IsSparse width (place width cell + 1) cells
 sparse_rest width first cell cells sparse = record {
   ordered = λ i j d below within. sparse.ordered (suc i) (suc j) d (omega arith) (omega arith);
@@ -86,7 +86,7 @@ module _ (width : ℕ) (near : List ℕ) (cell : Cell) (cells : List Cell) (insi
   pub shown_settled : shown_at width with_one cells ≡ shown_at width near (cell ∷ cells)
   shown_settled = fun_ext (λ r. fun_ext (λ c. one_settled r c))
 
--- the first of the far cells becomes a near one, behind blanks up to its place
+-- the first of the far cells becomes a near one, after blanks up to its place
 pub settle_first : (width : ℕ) (near grown : List ℕ) (cell : Cell) (cells : List Cell) → IsSparse width (length near) (cell ∷ cells) → IsGrown near grown → length grown ≡ place width cell
     → (shown_at width (grown ++ cell.ch ∷ []) cells ≡ shown_at width near (cell ∷ cells)) × IsSparse width (length (grown ++ cell.ch ∷ [])) cells
 settle_first width near grown cell cells sparse more at =
@@ -96,7 +96,7 @@ settle_first width near grown cell cells sparse more at =
       rw size (sparse_rest width (length near) cell cells sparse),
     )
 
--- which stands behind the near ones
+-- which stands after the near ones
 pub first_behind : (width : ℕ) (near : List ℕ) (cells : List Cell) (i : ℕ) → i < length cells → IsSparse width (length near) (drop i cells) → length near ≤ place width (cell_at cells i)
 first_behind width near cells i within sparse =
     let split : drop i cells ≡ cell_at cells i ∷ drop (i + 1) cells = drop_more cells i (record { row = 0; col = 0; ch = 0 }) within in

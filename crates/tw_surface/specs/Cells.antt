@@ -62,14 +62,14 @@ pub record IsAt (cells : List Cell) (row col i : ℕ) : Type 0 where
   pub row_is : (cell_at cells i).row ≡ row
   pub col_is : (cell_at cells i).col ≡ col
 
--- a row and a column stand behind the cells below index i, and before the others
+-- a row and a column stand after the cells below index i, and before the others
 pub record IsGapFor (cells : List Cell) (row col i : ℕ) : Type 0 where
   pub in_range : i ≤ length cells
   pub before : (k : ℕ) → k < i → IsBefore (cell_at cells k).row (cell_at cells k).col row col
   pub behind : (k : ℕ) → i ≤ k → k < length cells → IsBefore row col (cell_at cells k).row (cell_at cells k).col
 
 -- the cells below index i stand before a row and a column, and the others do not
-pub record IsCut (cells : List Cell) (row col i : ℕ) : Type 0 where
+pub record IsCountBefore (cells : List Cell) (row col i : ℕ) : Type 0 where
   pub in_range : i ≤ length cells
   pub before : (k : ℕ) → k < i → IsBefore (cell_at cells k).row (cell_at cells k).col row col
   pub from : (k : ℕ) → i ≤ k → k < length cells → IsBefore (cell_at cells k).row (cell_at cells k).col row col → ⊥
@@ -83,7 +83,7 @@ pub record IsSparse (width first : ℕ) (cells : List Cell) : Type 0 where
   pub behind : All (λ x. first ≤ x.row * width + x.col) cells
 
 -- what is true while a text is played
-pub record IsSound (width row col : ℕ) (near : List ℕ) (far : List Cell) : Type 0 where
+pub record AreSoundCells (width row col : ℕ) (near : List ℕ) (far : List Cell) : Type 0 where
   pub width_above : 0 < width
   pub width_most : width ≤ 65535
   pub row_most : row ≤ 4294967295
@@ -97,12 +97,12 @@ IsTrimmed near = 0 < length near → slice_index near (length near - 1) ≢ blan
 
 -- what is true of every screen
 pub record IsSettled (width row col : ℕ) (near : List ℕ) (far : List Cell) : Type 0 where
-  pub sound : IsSound width row col near far
+  pub sound : AreSoundCells width row col near far
   pub trimmed : IsTrimmed near
 
 -- the far cells stand before a place
-abbrev pub IsWithin : ℕ → ℕ → List Cell → Type 0
-IsWithin width end cells = All (λ x. x.row * width + x.col < end) cells
+abbrev pub AreCellsBefore : ℕ → ℕ → List Cell → Type 0
+AreCellsBefore width end cells = All (λ x. x.row * width + x.col < end) cells
 
 -- the greatest row with a character that is not blank, None where there is none
 abbrev pub IsLastRow : (ℕ → ℕ → ℕ) → Option ℕ → Type 0
@@ -110,7 +110,7 @@ IsLastRow cell None = (row col : ℕ) → cell row col ≡ blank
 IsLastRow cell (Some last) =
     ((col : ℕ) × (cell last col ≢ blank)) × ((row col : ℕ) → last < row → cell row col ≡ blank)
 
--- near cells with blanks added behind them
+-- near cells with blanks added after them
 pub record IsGrown (old new : List ℕ) : Type 0 where
   pub more : ℕ
   pub grown : new ≡ old ++ replicate more blank

@@ -19,12 +19,12 @@ abbrev pub rows : ℕ → Batch → List ℤ
 rows cols changes = pos 0 ∷ map (λ p. p.y) (places_of_all cols changes origin)
 
 -- y is a row of the list, and none is below it
-pub record IsGreatest (y : ℤ) (ys : List ℤ) : Type 0 where
+pub record IsGreatestRow (y : ℤ) (ys : List ℤ) : Type 0 where
   pub among : Contains ys y
   pub bound : All (λ z. z ≤ℤ y) ys
 
 -- y is a row of the list, and none is above it
-pub record IsLeast (y : ℤ) (ys : List ℤ) : Type 0 where
+pub record IsLeastRow (y : ℤ) (ys : List ℤ) : Type 0 where
   pub among : Contains ys y
   pub bound : All (λ z. y ≤ℤ z) ys
 

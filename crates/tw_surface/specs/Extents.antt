@@ -39,7 +39,7 @@ pub record IsSound (t : Extent) : Type 0 where
   pub high : nat_abs t.greatest ≤ 2147483647
   pub order : t.least ≤ℤ t.greatest
 
--- what a measure answers: the extent once these places are reached, or None where one of them is out of range
+-- what a measure returns: the extent once these places are reached, or None where one of them is out of range
 abbrev pub Measures : Extent → List Place → Option Extent → Type 0
 Measures t ps result =
     MatchOption result

@@ -3,7 +3,7 @@ use Rattle.std.specs.Prelude.{ℕ, ℤ, ◌+◌, ◌-ℤ◌, ◌≡◌, ◌↔�
 use Rattle.tw_surface.specs.declared.measure.Piece.{Piece}
 use Rattle.tw_surface.specs.ChangeView.{Batch}
 use Rattle.tw_surface.specs.Places.{Place, ArePlaces, places_after, end_of_pieces}
-use Rattle.tw_surface.specs.Drawings.{rows, height, IsGreatest, IsLeast}
+use Rattle.tw_surface.specs.Drawings.{rows, height, IsGreatestRow, IsLeastRow}
 
 -- the places that are computed are the ones that the relation between neighbours allows, and no others
 abbrev pub PlacesByRelation : Type 0
@@ -20,4 +20,4 @@ LastPlace = (cols : ℕ) (pieces : List Piece) (p : Place) → slice_get (p ∷ 
 -- the height is the greatest row minus the least one, row 0 counted in both
 abbrev pub HeightByExtremes : Type 0
 HeightByExtremes = (cols : ℕ) (changes : Batch)
-    → (top : ℤ) × (bottom : ℤ) × IsGreatest top (rows cols changes) × IsLeast bottom (rows cols changes) × (height cols changes ≡ nat_abs (top -ℤ bottom))
+    → (top : ℤ) × (bottom : ℤ) × IsGreatestRow top (rows cols changes) × IsLeastRow bottom (rows cols changes) × (height cols changes ≡ nat_abs (top -ℤ bottom))

@@ -6,7 +6,7 @@ use Rattle.tw_surface.specs.ChangeView.{Attribute, AllAttributes, Text, ClearScr
 use Rattle.tw_surface.specs.Characters.{is_plain, cr, lf}
 use Rattle.tw_surface.specs.Positions.{position_after, at_least_0}
 
--- a screen without a bottom: the character at each row and column, and the cursor, which waits behind the last column at col = width
+-- a screen without a bottom: the character at each row and column, and the cursor, which waits after the last column at col = width
 pub record Picture : Type 0 where
   pub cell : ℕ → ℕ → ℕ
   pub row : ℕ
@@ -32,7 +32,7 @@ cells_with cell r c ch i j = if eqb i r && eqb j c then ch else cell i j
 abbrev pub cells_cleared_from : (ℕ → ℕ → ℕ) → ℕ → ℕ → ℕ → ℕ → ℕ
 cells_cleared_from cell r c i j = if ltb r i || (eqb r i && leb c j) then blank else cell i j
 
--- a printable character goes into the cursor's cell, from behind the last column into the first cell of the next row
+-- a printable character goes into the cursor's cell, from after the last column into the first cell of the next row
 abbrev pub picture_with : ℕ → ℕ → Picture → Picture
 picture_with width ch s =
     if eqb s.col width

@@ -34,7 +34,7 @@ unfoldable pub pieces : List ℕ → List Piece
 pieces text = if list_all is_plain text then map plain_piece text else map cluster_piece (graphemes true text)
 
 -- a piece of v columns that fits stays in its row
-pub record Fits (cols v : ℕ) (p q : Place) : Type 0 where
+pub record FitsAt (cols v : ℕ) (p q : Place) : Type 0 where
   pub room : p.x + v ≤ cols
   pub x : q.x ≡ p.x + v
   pub y : q.y ≡ p.y
@@ -50,7 +50,7 @@ abbrev pub LeadsTo : ℕ → Piece → Place → Place → Type 0
 LeadsTo cols Cr p q = (q.x ≡ 0) × (q.y ≡ p.y)
 LeadsTo cols Lf p q = (q.x ≡ p.x) × (q.y ≡ p.y +ℤ pos 1)
 LeadsTo cols CrLf p q = (q.x ≡ 0) × (q.y ≡ p.y +ℤ pos 1)
-LeadsTo cols (Wide v) p q = Fits cols v p q ⊎ Wraps cols v p q
+LeadsTo cols (Wide v) p q = FitsAt cols v p q ⊎ Wraps cols v p q
 
 -- the places of a list of pieces: one more than the pieces, and each piece leads from the place before it to the place after it
 abbrev pub ArePlaces : ℕ → List Piece → List Place → Type 0

@@ -33,16 +33,16 @@ abbrev pub AreNearFrom : ℕ → List ℕ → List ℕ → Type 0
 AreNearFrom place near cells = (k : ℕ) → k < length cells
     → (place + k < length near) × (slice_index cells k ≡ slice_index near (place + k))
 
--- the far cells stay sparse, where a character is put at a row and a column behind the near ones
+-- the far cells stay sparse, where a character is put at a row and a column after the near ones
 abbrev pub StaysSparse : ℕ → ℕ → List Cell → List Cell → Type 0
 StaysSparse row col old new =
     (width first : ℕ) → IsSparse width first old → col < width → first ≤ row * width + col → IsSparse width first new
 
--- a place is behind so many near cells, if the character takes one
+-- a place is after so many near cells, if the character takes one
 abbrev pub IsBehind : ℕ → ℕ → ℕ → Type 0
 IsBehind byte near place = is_printable byte ≡ true → near ≤ place
 
--- the picture of these cells behind a text that is played from a cursor on
+-- the picture of these cells after a text that is played from a cursor on
 abbrev pub played_at : ℕ → List ℕ → List ℕ → List Cell → ℕ → ℕ → Picture
 played_at width text near far row col = play_text width text (picture_of width near far row col)
 
@@ -51,7 +51,7 @@ abbrev pub IsPlayedFar : ℕ → ℕ → List Cell → ℕ → ℕ → List Cell
 IsPlayedFar width byte old row col new new_row new_col = (near : List ℕ) → IsBehind byte (length near) (row * width + col)
     → picture_of width near new new_row new_col ≡ play_char width byte (picture_of width near old row col)
 
--- there is room for as many far cells as the text has characters, if it can reach behind the near ones from a place on
+-- there is room for as many far cells as the text has characters, if it can reach after the near ones from a place on
 abbrev pub HasRoomFor : ℕ → List ℕ → ℕ → List ℕ → Vec Cell → Type 0
 HasRoomFor width text place near far =
     length near < place + reach_of width text → vec_len far + length text ≤ vec_capacity far

@@ -17,12 +17,12 @@ from_row k s = record { cell = λ r c. s.cell (r + k) c; row = s.row - k; col = 
 abbrev pub scroll : ℕ → Picture → Picture
 scroll h s = from_row (s.row + 1 - h) s
 
--- a text is played on h rows: the screen scrolls behind each character
+-- a text is played on h rows: the screen scrolls after each character
 abbrev pub play_text_on : ℕ → ℕ → List ℕ → Picture → Picture
 play_text_on h width [] s = s
 play_text_on h width (ch ∷ text) s = play_text_on h width text (scroll h (play_char width ch s))
 
--- a change is played on h rows: the screen scrolls behind a move too
+-- a change is played on h rows: the screen scrolls after a move too
 abbrev pub play_on : ℕ → ℕ → ChangeView → Picture → Picture
 play_on h width (Text text) s = play_text_on h width text s
 play_on h width (CursorPosition x y) s = scroll h (play width (CursorPosition x y) s)

@@ -37,7 +37,7 @@ pub enum Change {
     Attribute(AttributeChange),
     /// Sets all attributes of the text that follows.
     AllAttributes(CellAttributes),
-    /// Writes a text at the cursor, which moves behind it.
+    /// Writes a text at the cursor, which moves after it.
     Text(String),
     /// Clears the whole screen to a colour and moves the cursor to row 0, column 0.
     ClearScreen(ColorAttribute),

@@ -1,4 +1,4 @@
-//! Texts cut behind their first extended grapheme cluster.
+//! Texts cut after their first extended grapheme cluster.
 
 ghost use Rattle.std.specs.Prelude.{◌≡◌, ◌<◌, ◌≤◌, [], length, true, MatchOption};
 ghost use Rattle.std.specs.Str.{chars};

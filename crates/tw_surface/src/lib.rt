@@ -2,7 +2,7 @@
 //!
 //! `change` has the changes and the positions that they move to; `color` and `cell` the attributes of a cell, and
 //! the columns that a text takes. `sequence` has a sequence of changes, measured as it grows: `measure` says where
-//! texts lead, by `clusters`, which cuts them behind their first grapheme cluster, and `characters`, which knows
+//! texts lead, by `clusters`, which cuts them after their first grapheme cluster, and `characters`, which knows
 //! plain ones; `size` says which numbers of rows and columns are refused. `screen` has the model screen without a
 //! bottom, and `scrolling_screen` the one with a last row. `laws` has what follows from the definitions of all of
 //! them.

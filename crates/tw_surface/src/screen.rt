@@ -76,7 +76,7 @@ fn last_row_of(near: &[u8], far: &[Cell], width: usize) -> Option<usize>
 }
 
 /// A screen without a bottom: a character in each cell, blank at first, and a cursor. Rows and
-/// columns are numbered from 0, and the cursor's column is the width where it waits behind the last
+/// columns are numbered from 0, and the cursor's column is the width where it waits after the last
 /// column. Of the rows far below all others a screen keeps only the cells that are not blank, so a
 /// far row costs no memory.
 #[derive(Debug, Drop)]
@@ -145,7 +145,7 @@ impl Screen {
         push_blanks(shown, cols - end)
     }
 
-    /// The cursor's row and column. The column is the width where the cursor waits behind the last.
+    /// The cursor's row and column. The column is the width where the cursor waits after the last.
     pub fn cursor(&self) -> (usize, usize)
         ensures row { result.0 ≡ (picture self.now).row }
         ensures col { result.1 ≡ (picture self.now).col }

@@ -60,7 +60,7 @@ impl ScrollingScreen {
         self.screen.char_at(row, col)
     }
 
-    /// The cursor's row and column. The column is the width where the cursor waits behind the last.
+    /// The cursor's row and column. The column is the width where the cursor waits after the last.
     pub fn cursor(&self) -> (usize, usize)
         ensures row { result.0 ≡ (picture self.now.screen).row }
         ensures col { result.1 ≡ (picture self.now.screen).col }

@@ -108,7 +108,7 @@ impl BatchLog {
         }
     }
 
-    /// These batches, and one more behind them.
+    /// These batches, and one more after them.
     pub fn with_batch(&self, changes: &[Change]) -> Self
         ensures { result ≡ self.now ++ batch_view changes.now ∷ [] }
     {

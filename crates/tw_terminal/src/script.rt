@@ -224,7 +224,7 @@ impl Terminal for ScriptTerminal {
     }
 
     /// Records the changes as a batch. The call that is to fail records those that its fault takes, if there are
-    /// any, and answers `Device`. Where memory for what it records is refused, nothing is recorded, and the
+    /// any, and returns `Device`. Where memory for what it records is refused, nothing is recorded, and the
     /// answer is `Memory`.
     #[tactic(auto, using(crate::proofs::Parts::parts))]
     fn render(&mut self, changes: &[Change]) -> Result<(), TerminalFault>

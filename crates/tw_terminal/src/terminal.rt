@@ -71,7 +71,7 @@ pub trait Terminal {
         ensures err { OnErr result (Fails (state self.old) (state self.new)) }
         ensures follows { follows self.old self.new Other };
 
-    /// Takes the first event left, and answers none exactly where none is left. A `Resized` sets the size. A
+    /// Takes the first event left, and returns none exactly where none is left. A `Resized` sets the size. A
     /// refused call takes no event.
     fn poll_input(&mut self) -> Result<Option<InputEvent>, TerminalFault>
         ensures ok { let before = state self.old in

@@ -3,7 +3,7 @@
 ghost use Rattle.std.specs.Cow.{IsBorrowedStr, cow_str_bytes};
 ghost use Rattle.std.specs.Prelude.{◌≡◌, ◌<◌, ◌≤◌, ◌++◌, ◌∷◌, [], IfOk, IfSome, IsCharBoundary, IsOk, IsOkAnd, OnErr, OnOk, Some, length, map, option_map, slice_get, string_bytes};
 ghost use Rattle.tw_history.specs.HistoryAdditions.{is_line, match_view};
-ghost use Rattle.tw_history.specs.Bounded.{lines_of, newest, no_lines, with_newest};
+ghost use Rattle.tw_history.specs.Bounded.{lines_of_entries, newest, no_lines, with_newest};
 ghost use Rattle.tw_history.specs.NearestMatch.{last_line, nearest_match};
 
 use crate::history::{
@@ -66,16 +66,16 @@ impl BoundedHistory {
     }
 }
 
-/// Puts an entry behind the others, and takes the first one away where there are more than `limit` then.
+/// Puts an entry after the others, and takes the first one away where there are more than `limit` then.
 fn push_newest(
     entries: &mut VecDeque<String>,
     entry: String,
     limit: usize,
 ) -> Result<(), AllocError>
     requires { length entries.old.items ≤ limit }
-    ensures ok { OnOk result (lines_of entries.new.items ≡ newest limit (lines_of entries.old.items ++ string_bytes entry ∷ [])) }
+    ensures ok { OnOk result (lines_of_entries entries.new.items ≡ newest limit (lines_of_entries entries.old.items ++ string_bytes entry ∷ [])) }
     ensures fits { length entries.new.items ≤ limit }
-    ensures err { OnErr result (lines_of entries.new.items ≡ lines_of entries.old.items) }
+    ensures err { OnErr result (lines_of_entries entries.new.items ≡ lines_of_entries entries.old.items) }
 {
     entries.push_back(entry)?;
     if entries.len() > limit {

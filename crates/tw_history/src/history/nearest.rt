@@ -22,7 +22,7 @@ pub trait LentLines {
         ensures { result.now ≡ line_at (lines self.now) at };
 }
 
-/// The nearest line from `idx` on, as `History::search` answers it. Each line on the side is read once at
+/// The nearest line from `idx` on, as `History::search` returns it. Each line on the side is read once at
 /// most, and none is copied. Takes no memory.
 pub fn nearest_line<'a, L: LentLines>(
     lines: &'a L,

@@ -29,7 +29,7 @@ fn line_at<L: History>(
     }
 }
 
-/// The line behind an index, if there is one. Where there is none the history is not asked.
+/// The line after an index, if there is one. Where there is none the history is not asked.
 fn line_after<L: History>(
     history: &L,
     alloc: Global,

@@ -1,8 +1,8 @@
-//! Far cells: behind the near ones a screen keeps the cells that are not blank, in order, and so no others.
+//! Far cells: after the near ones a screen keeps the cells that are not blank, in order, and so no others.
 
 ghost use Rattle.std.specs.Prelude.{◌≡◌, ◌≢◌, ℕ, ◌+◌, ◌<◌, ◌≤◌, vec_len, vec_capacity, IfOk, IfErr};
 ghost use Rattle.tw_surface.specs.Pictures.{blank, cells_with, cells_cleared_from};
-ghost use Rattle.tw_surface.specs.Cells.{cell_in, IsInOrder, IsAt, IsGapFor, IsCut, IsSparse};
+ghost use Rattle.tw_surface.specs.Cells.{cell_in, IsInOrder, IsAt, IsGapFor, IsCountBefore, IsSparse};
 ghost use Rattle.tw_surface.specs.ScreenSteps.{StaysSparse};
 
 // A cell that is not blank.
@@ -85,7 +85,7 @@ pub fn write_cell(cells: &mut Vec<Cell>, row: usize, col: usize, ch: char)
 // How many cells stand before a row and a column.
 fn count_before(cells: &[Cell], row: usize, col: usize) -> usize
     requires { IsInOrder cells.now }
-    ensures { IsCut cells.now row col result }
+    ensures { IsCountBefore cells.now row col result }
 {
     match find_cell(cells, row, col) {
         Ok(at) => at,
@@ -93,7 +93,7 @@ fn count_before(cells: &[Cell], row: usize, col: usize) -> usize
     }
 }
 
-// Removes the cells at a row and a column and behind.
+// Removes the cells at a row and a column and after it.
 pub fn clear_from(cells: &mut Vec<Cell>, row: usize, col: usize)
     requires { IsInOrder cells.old.items }
     ensures cleared { cell_in cells.new.items ≡ cells_cleared_from (cell_in cells.old.items) row col }
@@ -102,7 +102,7 @@ pub fn clear_from(cells: &mut Vec<Cell>, row: usize, col: usize)
     cells.truncate(count_before(cells, row, col));
 }
 
-// The column behind the last cell of a row, 0 where there is none.
+// The column after the last cell of a row, 0 where there is none.
 pub fn row_end(cells: &[Cell], width: usize, row: usize) -> usize
     requires { (first : ℕ) × IsSparse width first cells.now }
     ensures { (col : ℕ) → result ≤ col → cell_in cells.now row col ≡ blank }

@@ -64,7 +64,7 @@ fn overwrite(near: &mut [u8], place: usize, run: &[u8])
     near[place..place + run.len()].copy_from_slice(run);
 }
 
-// Writes printable characters over near cells, and returns the cursor behind them.
+// Writes printable characters over near cells, and returns the cursor after them.
 pub fn write_run(
     near: &mut [u8],
     width: usize,

@@ -4,7 +4,7 @@ ghost use Rattle.std.specs.Prelude.{◌≡◌, ℕ, ◌+◌, ◌-◌, ◌*◌, �
 ghost use Rattle.std.specs.List.{All, list_all};
 ghost use Rattle.tw_surface.specs.Characters.{is_plain, is_printable};
 ghost use Rattle.tw_surface.specs.Pictures.{cursor_at, play_char, play_text};
-ghost use Rattle.tw_surface.specs.Cells.{picture_of, reach_of, IsInOrder, IsSparse, IsSound};
+ghost use Rattle.tw_surface.specs.Cells.{picture_of, reach_of, IsInOrder, IsSparse, AreSoundCells};
 ghost use Rattle.tw_surface.specs.ScreenSteps.{played_at, HasRoomFor, IsBehind, IsPlayedFar};
 
 use crate::characters::is_printable;
@@ -63,7 +63,7 @@ pub fn ends_in_range(width: usize, start_row: usize, start_col: usize, text: &[u
     true
 }
 
-// Plays a character that stands behind the near cells, or moves the cursor alone, and returns the cursor behind it.
+// Plays a character that stands after the near cells, or moves the cursor alone, and returns the cursor after it.
 fn play_far(far: &mut Vec<Cell>, width: usize, row: usize, col: usize, byte: u8) -> (usize, usize)
     requires width_above { 0 < width }
     requires width_most { width ≤ 65535 }
@@ -88,7 +88,7 @@ fn play_far(far: &mut Vec<Cell>, width: usize, row: usize, col: usize, byte: u8)
 }
 
 // Plays a run of printable characters on near cells, or one character, and returns how many these are and the
-// cursor behind them.
+// cursor after them.
 fn play_front(
     near: &mut [u8],
     far: &mut Vec<Cell>,
@@ -97,7 +97,7 @@ fn play_front(
     col: usize,
     text: &[u8],
 ) -> (usize, usize, usize)
-    requires sound { IsSound width row col near.old far.old.items }
+    requires sound { AreSoundCells width row col near.old far.old.items }
     requires some { 0 < length text.now }
     requires plain { list_all is_plain text.now ≡ true }
     requires room { HasRoomFor width text.now (row * width + col) near.old far.old }
@@ -124,7 +124,7 @@ fn play_front(
     (run, new_row, new_col)
 }
 
-// Plays a text, and returns the cursor behind it.
+// Plays a text, and returns the cursor after it.
 pub fn play_bytes(
     near: &mut [u8],
     far: &mut Vec<Cell>,
@@ -133,13 +133,13 @@ pub fn play_bytes(
     start_col: usize,
     text: &[u8],
 ) -> (usize, usize)
-    requires sound { IsSound width start_row start_col near.old far.old.items }
+    requires sound { AreSoundCells width start_row start_col near.old far.old.items }
     requires row { (played_at width text.now near.old far.old.items start_row start_col).row ≤ 4294967295 }
     requires plain { list_all is_plain text.now ≡ true }
     requires room { HasRoomFor width text.now (start_row * width + start_col) near.old far.old }
     ensures played { let after = picture_of width near.new far.new.items result.0 result.1 in
         after ≡ played_at width text.now near.old far.old.items start_row start_col }
-    ensures sound { IsSound width result.0 result.1 near.new far.new.items }
+    ensures sound { AreSoundCells width result.0 result.1 near.new far.new.items }
 {
     let mut row = start_row;
     let mut col = start_col;

@@ -2,7 +2,7 @@
 
 ghost use Rattle.std.specs.Prelude.{◌≡◌, ℕ, ◌+◌, ◌-◌, ◌*◌, ◌^◌, [], length, ◌<◌, ◌≤◌, vec_len, vec_capacity, OnOk, OnErr, IfSome};
 ghost use Rattle.std.specs.List.{All};
-ghost use Rattle.tw_surface.specs.Cells.{shown_at, IsSparse, IsWithin};
+ghost use Rattle.tw_surface.specs.Cells.{shown_at, IsSparse, AreCellsBefore};
 
 use crate::screen::far::Cell;
 use crate::screen::near::{blank_to, place_of};
@@ -14,7 +14,7 @@ const MAX_GAP: usize = 4_096;
 const MAX_SPREAD: usize = 32;
 
 // Makes room for so many characters before a place, and shows what was shown. Where that place and all far cells
-// stand not far behind the near ones, all become near cells; else there is room for so many more far ones.
+// stand not far after the near ones, all become near cells; else there is room for so many more far ones.
 pub fn make_room(
     near: &mut Vec<u8>,
     far: &mut Vec<Cell>,
@@ -43,11 +43,11 @@ pub fn make_room(
     Ok(())
 }
 
-// The greater of a place and that behind all far cells, where it is not far behind the near ones.
+// The greater of a place and that after all far cells, where it is not far after the near ones.
 fn close_end(near: usize, far: &[Cell], width: usize, end: usize, count: usize) -> Option<usize>
     requires { IsSparse width near far.now }
     ensures text { IfSome result (λ last. end ≤ last) }
-    ensures cells { IfSome result (λ last. last < 2 ^ 64 - 1 → IsWithin width last far.now) }
+    ensures cells { IfSome result (λ last. last < 2 ^ 64 - 1 → AreCellsBefore width last far.now) }
 {
     let last = end.max(end_of(far, width));
     let gap = last.saturating_sub(near);
@@ -58,10 +58,10 @@ fn close_end(near: usize, far: &[Cell], width: usize, end: usize, count: usize) 
     Some(last)
 }
 
-// The place behind all cells, or the greatest number where that is less.
+// The place after all cells, or the greatest number where that is less.
 fn end_of(far: &[Cell], width: usize) -> usize
     requires { (first : ℕ) × IsSparse width first far.now }
-    ensures { result < 2 ^ 64 - 1 → IsWithin width result far.now }
+    ensures { result < 2 ^ 64 - 1 → AreCellsBefore width result far.now }
 {
     match far {
         [] => 0,
@@ -73,7 +73,7 @@ fn end_of(far: &[Cell], width: usize) -> usize
 fn settle(near: &mut Vec<u8>, far: &mut Vec<Cell>, width: usize)
     requires ascii { All (λ b. b < 128) near.old.items }
     requires sparse { IsSparse width (length near.old.items) far.old.items }
-    requires room { IsWithin width (vec_capacity near.old) far.old.items }
+    requires room { AreCellsBefore width (vec_capacity near.old) far.old.items }
     ensures far { far.new.items ≡ [] }
     ensures shown { shown_at width near.new.items far.new.items ≡ shown_at width near.old.items far.old.items }
     ensures ascii { All (λ b. b < 128) near.new.items }

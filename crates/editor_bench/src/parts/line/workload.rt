@@ -7,7 +7,7 @@ use tw_lineedit::{Action, LineEditBuffer, Movement};
 /// How often each operation is done. It is even, so that each step ahead has its step back.
 pub const ROUNDS: u32 = 50;
 
-/// How many characters a word has, with the space behind it.
+/// How many characters a word has, with the space after it.
 const WORD: usize = 8;
 
 /// What a line is made of. A line of flags is one word, and one run of regional indicators.

@@ -1,4 +1,4 @@
--- What is left of the text leaves behind the marks that are open so far what the text leaves.
+-- What is left of the text leaves after the marks that are open so far what the text leaves.
 use Rattle.std.proofs.Common.{◌≡◌, ◌+◌, length}
 use Rattle.std.specs.Str.{chars, IsUtf8}
 use Rattle.std.specs.Str.Iter.{chars_rest}

@@ -3,7 +3,7 @@ use Rattle.std.proofs.lemmas.Bool.{and_parts}
 use Rattle.tw_surface.proofs.RowLemmas.{row_step}
 use Rattle.tw_surface.proofs.measure.measure_printable.Goals as goal
 
--- the first character is measured alone, and those that fit behind it are one step
+-- the first character is measured alone, and those that fit after it are one step
 pub loop-left-preserved : goal.loop-left-preserved
 loop-left-preserved c =
     let left : ℕ = c.loop-left.left - (1 + c.min-more.result) in

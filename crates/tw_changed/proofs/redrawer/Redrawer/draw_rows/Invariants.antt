@@ -1,6 +1,6 @@
 -- What is left of the rows ends where all of them do.
 use Rattle.std.proofs.Common.{◌≤◌, ◌-◌, string_bytes}
-use Rattle.tw_ansi.specs.Encoding.{Extends}
+use Rattle.tw_ansi.specs.Encoding.{ExtendsBytes}
 use Rattle.tw_changed.specs.Redrawings.{left_of, rows_redrawn}
 use Rattle.tw_changed.specs.Sending.{screen_cells}
 use Rattle.tw_changed.proofs.AddedChanges.{SameEnd}
@@ -13,5 +13,5 @@ invariant-loop-row l =
       same : SameEnd (rows_redrawn l.new.width left (screen_cells l.new) l.row (l.rows - l.row) l.self.hand) l.self (string_bytes l.out)
           (rows_redrawn l.new.width left (screen_cells l.new) 0 l.rows l.fn.self.hand) l.fn.self (string_bytes l.fn.out);
       held : l.self.hand.row ≤ 4294967295;
-      extends : Extends (string_bytes l.fn.out) (string_bytes l.out);
+      extends : ExtendsBytes (string_bytes l.fn.out) (string_bytes l.out);
     }

@@ -3,7 +3,7 @@ use Rattle.std.specs.String.{string_bytes}
 use Rattle.tw_history.proofs.JoinedLemmas.{lines_from-push, AreEnds-push}
 use Rattle.tw_history.proofs.history.BasicHistory.append.Goals as goal
 
--- the text with the line behind it
+-- the text with the line after it
 text_is : (c : goal.In-Ok-push) → string_bytes c.push_str.new.self ≡ string_bytes c.self.inside.text ++ c.args.line.now
 text_is c = rw (c.in-Ok.ensures.bytes, c.in_ok-reserve.ensures.bytes) refl
 

@@ -2,7 +2,7 @@ use Rattle.std.proofs.Common.{◌++◌, ◌∙◌, ap, subst, append_assoc, ℕ,
 use Rattle.std.specs.Io.KnownBytes.{Appends}
 use Rattle.tw_sparing.proofs.terminal.SparingTerminal.send.Goals as goal
 
--- bytes behind bytes
+-- bytes after bytes
 appends_then : (a b c : Option (List ℕ)) (xs ys : List ℕ) → Appends a b xs → Appends b c ys → Appends a c (xs ++ ys)
 appends_then None b c xs ys first then = tt
 appends_then (Some old) None c xs ys first then = absurd first

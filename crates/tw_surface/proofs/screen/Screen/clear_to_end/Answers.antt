@@ -1,6 +1,6 @@
 use Rattle.std.proofs.Common.{◌≡◌, ◌<◌, ◌+◌, ◌*◌, take, length, sym, ap, ◌∙◌, arith}
 use Rattle.std.proofs.lemmas.List.Elements.{All-take}
-use Rattle.tw_surface.specs.Cells.{IsSound, IsSparse}
+use Rattle.tw_surface.specs.Cells.{AreSoundCells, IsSparse}
 use Rattle.tw_surface.proofs.NearCells.{take_within, cleared_kept, sparse_kept, sound_trimmed, shown_grown}
 use Rattle.tw_surface.proofs.screen.Screen.clear_to_end.Goals as goal
 
@@ -14,7 +14,7 @@ sparse c = rw c.truncate.ensures.items (sparse_kept c.self.inside.width c.self.i
 pub invariant_of-self : goal.invariant_of-self
 invariant_of-self c =
     let was = c.self.invariant.sound in
-    let whole : IsSound c.self.inside.width c.self.inside.row c.self.inside.col c.truncate.new.self.items c.clear_from.new.cells.items = record {
+    let whole : AreSoundCells c.self.inside.width c.self.inside.row c.self.inside.col c.truncate.new.self.items c.clear_from.new.cells.items = record {
       width_above = was.width_above;
       width_most = was.width_most;
       row_most = was.row_most;

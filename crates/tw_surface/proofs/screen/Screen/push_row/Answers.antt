@@ -43,7 +43,7 @@ returns-in_err-push-clause-refused c =
     rw (c.char_at.ensures.shown, ← c.self.view_is) (shown_ascii now.width now.near.items now.far.items c.args.row here.col c.self.invariant.sound.ascii c.self.invariant.sound.sparse) in
     absurd (omega (arith, c.in_err-push.ensures.full, ap length (c.push.ensures.ascii low), here.invariant.room))
 
--- behind the row's near cells and its last far cell all is blank
+-- after the row's near cells and its last far cell all is blank
 blank_from : (c : goal.After-push_blanks) (k : ℕ) → c.max-end.result ≤ k → k < c.args.cols → (picture c.args.self.now).cell c.args.row k ≡ blank
 blank_from c k from below =
     let now = c.self.inside in

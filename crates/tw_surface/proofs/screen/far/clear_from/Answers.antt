@@ -1,9 +1,9 @@
-use Rattle.tw_surface.specs.Cells.{IsCut}
+use Rattle.tw_surface.specs.Cells.{IsCountBefore}
 use Rattle.tw_surface.proofs.CellClears.{cleared_take, sparse_take}
 use Rattle.tw_surface.proofs.screen.far.clear_from.Goals as goal
 
 -- the cells are cut where the search ends
-cut : (c : goal.After-truncate) → IsCut c.args.cells.now.items c.args.row c.args.col c.count_before.result
+cut : (c : goal.After-truncate) → IsCountBefore c.args.cells.now.items c.args.row c.args.col c.count_before.result
 cut c = rw c.deref.ensures.value at c.count_before.ensures
 
 pub returns-clause-cleared : goal.returns-clause-cleared

@@ -13,7 +13,7 @@ use Rattle.tw_surface.proofs.screen.play.play_front.Goals as goal
 
 -- ---- one character
 
--- a printable one stands behind the near cells, since there is no run on them
+-- a printable one stands after the near cells, since there is no run on them
 from_near : (c : goal.After-play_far-new_row) → c.printable_run-run.result ≡ 0 → is_printable (get_or c.args.text.now 0 0) ≡ true → length c.args.near.now ≤ c.args.row * c.args.width + c.args.col
 from_near c none printable =
     elim (cases_lt (c.args.row * c.args.width + c.args.col) (length c.args.near.now)) [

@@ -4,7 +4,7 @@ use Rattle.tw_surface.proofs.NearCells.{place_within}
 use Rattle.tw_surface.proofs.SettledCells.{place, within_end}
 use Rattle.tw_surface.proofs.screen.room.end_of.Goals as goal
 
--- all cells stand before the place behind the last
+-- all cells stand before the place after the last
 pub returns-in-len1-up : goal.returns-in-len1-up
 returns-in-len1-up c = λ below.
     let last = cell_at c.args.far.now (length c.args.far.now - 1) in
