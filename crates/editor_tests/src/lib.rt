@@ -4,8 +4,6 @@
 #[cfg(test)]
 mod calls;
 #[cfg(test)]
-mod expected;
-#[cfg(test)]
 mod faults;
 #[cfg(test)]
 mod idle;

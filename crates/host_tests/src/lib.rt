@@ -8,8 +8,6 @@ mod bounded;
 #[cfg(test)]
 mod completions;
 #[cfg(test)]
-mod expected;
-#[cfg(test)]
 mod histories;
 #[cfg(test)]
 mod hosts;

@@ -7,8 +7,6 @@ mod buffers;
 #[cfg(test)]
 mod drawings;
 #[cfg(test)]
-mod expected;
-#[cfg(test)]
 mod free_calls;
 #[cfg(test)]
 mod free_parts;

@@ -4,8 +4,6 @@
 #[cfg(test)]
 mod error;
 #[cfg(test)]
-mod expected;
-#[cfg(test)]
 mod history;
 #[cfg(test)]
 mod hosts;

@@ -1,6 +1,6 @@
 //! Changes that are compared and copied.
 
-use crate::expected::expect;
+use expectations::expect;
 use std::alloc::Global;
 use std::process::Abort;
 use std::test::Fail;

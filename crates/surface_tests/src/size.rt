@@ -1,6 +1,6 @@
 //! The texts of the faults of sizes, sequences and screens.
 
-use crate::expected::expect;
+use expectations::expect;
 use std::test::Fail;
 use tw_surface::{AddFault, ScreenFault, SizeFault};
 

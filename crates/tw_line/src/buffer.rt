@@ -57,6 +57,14 @@ impl LineEditBuffer {
         Ok(LineEditBuffer { line, cursor })
     }
 
+    /// The same line with the same cursor. The empty line takes no memory, and a refusal leaves nothing.
+    pub fn try_clone(&self, alloc: Global) -> Result<Self, AllocError>
+        ensures equal { IfOk result (λ copy. copy ≡ self.now) }
+        ensures empty { self.now.line ≡ [] → IsOk result }
+    {
+        LineEditBuffer::new(alloc, self.get_line(), self.cursor)
+    }
+
     /// Replaces the line, and sets the cursor to the byte offset `cursor`, a boundary of the new
     /// line. Where it is refused the buffer is as it was. The empty line takes no memory.
     pub fn set_line_and_cursor(&mut self, line: &str, cursor: usize) -> Result<(), AllocError>

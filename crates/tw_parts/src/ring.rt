@@ -9,7 +9,7 @@ ghost use Rattle.tw_host.specs.ActionView.{action_view};
 ghost use Rattle.tw_parts.specs.declared.ring.Latest.TheVariants as Latest;
 ghost use Rattle.tw_parts.specs.Ring.{index_below, leads_onward, is_kept, joined, kept_movement, kill_of, killed_by, killing, newest_kill, ring_after, ring_view, rotated, taken_out, with_killed, with_killing, with_room, yank_by, yank_into, yank_of, yank_view};
 
-use crate::cuts::{copy_of, is_same};
+use crate::cuts::is_same;
 use crate::keys::{ROTATE, YANK, is_key};
 use crate::watch::SearchWatch;
 use std::alloc::{AllocError, Global};
@@ -145,7 +145,7 @@ impl KillRing {
         ensures kills { OnOk result (vec_len self.new.kills < vec_capacity self.new.kills) }
     {
         self.kills.reserve(1)?;
-        let line = copy_of(alloc, editor)?;
+        let line = editor.try_clone(alloc)?;
         let newest = match self.kills.last() {
             Some(newest) => newest.len(),
             None => 0,
@@ -326,7 +326,7 @@ impl KillRing {
             return self.yank(
                 alloc,
                 self.kills.len().saturating_sub(1),
-                copy_of(alloc, editor)?,
+                editor.try_clone(alloc)?,
             );
         }
         if is_key(ROTATE, event) {

@@ -5,7 +5,6 @@ ghost use Rattle.tw_host.specs.ActionView.{action_view};
 ghost use Rattle.tw_host.specs.PlainAnswers.{all_overrides, no_plain_left};
 ghost use Rattle.tw_parts.specs.Hint.{Hinted, hint_rules, hint_taken_by};
 
-use crate::cuts::copy_of;
 use crate::hint::{history_hint, is_taking};
 use crate::watch::{SearchWatch, is_filled};
 use std::alloc::{AllocError, Global};
@@ -75,7 +74,7 @@ impl<H: LineEditorHost, L: History + LentLines> WithHint<H, L> {
         match history_hint(&self.history, editor.get_line()) {
             Some(rest) => {
                 let rest = String::from_str(alloc, rest)?;
-                Ok(Some((copy_of(alloc, editor)?, rest)))
+                Ok(Some((editor.try_clone(alloc)?, rest)))
             }
             None => Ok(None),
         }

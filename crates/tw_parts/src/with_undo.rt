@@ -6,7 +6,6 @@ ghost use Rattle.tw_host.specs.PlainAnswers.{all_overrides, no_plain_left};
 ghost use Rattle.tw_parts.specs.Undo.{no_steps, undo_view};
 ghost use Rattle.tw_parts.specs.UndoRules.{Undoable, undo_rules};
 
-use crate::cuts::copy_of;
 use crate::keys::{UNDO, is_key};
 use crate::undo::UndoSteps;
 use crate::watch::has_lines;
@@ -109,7 +108,7 @@ impl<H: LineEditorHost> LineEditorHost for WithUndo<H> {
         editor: &mut LineEditBuffer,
     ) -> Result<Option<Action>, AllocError> {
         let default = default_action(alloc, event)?;
-        let line = copy_of(alloc, editor)?;
+        let line = editor.try_clone(alloc)?;
         self.steps.reserve()?;
         let own = self.host.resolve_action(alloc, event, editor)?;
         let lines = has_lines(&mut self.host);

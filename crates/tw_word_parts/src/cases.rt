@@ -4,7 +4,7 @@ ghost use Rattle.std.specs.Prelude.{◌≡◌, IfOk, IsCharBoundary, string_byte
 ghost use Rattle.tw_word_parts.specs.declared.cases.WordCase.TheVariants.{Capitalized};
 ghost use Rattle.tw_word_parts.specs.WordEdits.{first_cluster_len, in_case, with_word_in};
 
-use crate::passed::{copy_of, passed_text};
+use crate::passed::passed_text;
 use std::alloc::{AllocError, Global};
 use tw_line::{LineEditBuffer, Movement};
 
@@ -61,7 +61,7 @@ pub fn with_word_in(
 {
     let word = passed_text(alloc, editor, Movement::ForwardWord(1))?;
     let written = in_case(alloc, case, word.as_str())?;
-    let mut changed = copy_of(alloc, editor)?;
+    let mut changed = editor.try_clone(alloc)?;
     changed.kill_text(Movement::ForwardWord(1), Movement::None);
     changed.insert_text(written.as_str())?;
     Ok(changed)

@@ -8,5 +8,5 @@ mod passed;
 mod swaps;
 
 pub use cases::{WordCase, in_case, with_word_in};
-pub use passed::{copy_of, passed_text};
+pub use passed::passed_text;
 pub use swaps::with_swapped_clusters;

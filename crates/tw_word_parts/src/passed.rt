@@ -6,13 +6,6 @@ ghost use Rattle.tw_word_parts.specs.WordEdits.{passed_text, text_between};
 use std::alloc::{AllocError, Global};
 use tw_line::{LineEditBuffer, Movement};
 
-/// A line with its cursor once more.
-pub fn copy_of(alloc: Global, editor: &LineEditBuffer) -> Result<LineEditBuffer, AllocError>
-    ensures { IfOk result (λ copy. copy ≡ editor.now) }
-{
-    LineEditBuffer::new(alloc, editor.get_line(), editor.get_cursor())
-}
-
 /// The text between two offsets that are boundaries of it, whichever is the lower one.
 fn text_between(line: &str, a: usize, b: usize) -> &str
     requires first { IsCharBoundary line.now a }
@@ -30,7 +23,7 @@ pub fn passed_text(
 ) -> Result<String, AllocError>
     ensures { IfOk result (λ text. string_bytes text ≡ passed_text movement editor.now) }
 {
-    let mut moved = copy_of(alloc, editor)?;
+    let mut moved = editor.try_clone(alloc)?;
     moved.exec_movement(movement);
     let text = text_between(editor.get_line(), editor.get_cursor(), moved.get_cursor());
     String::from_str(alloc, text)

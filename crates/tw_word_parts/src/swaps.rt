@@ -3,7 +3,7 @@
 ghost use Rattle.std.specs.Prelude.{◌≡◌, IfOk};
 ghost use Rattle.tw_word_parts.specs.WordEdits.{swapping_place, with_swapped_clusters};
 
-use crate::passed::{copy_of, passed_text};
+use crate::passed::passed_text;
 use std::alloc::{AllocError, Global};
 use tw_line::{LineEditBuffer, Movement};
 
@@ -11,7 +11,7 @@ use tw_line::{LineEditBuffer, Movement};
 fn swapping_place(alloc: Global, editor: &LineEditBuffer) -> Result<LineEditBuffer, AllocError>
     ensures { IfOk result (λ place. place ≡ swapping_place editor.now) }
 {
-    let mut place = copy_of(alloc, editor)?;
+    let mut place = editor.try_clone(alloc)?;
     if editor.get_cursor() == editor.get_line().len() {
         place.exec_movement(Movement::BackwardChar(1));
     }
@@ -28,7 +28,7 @@ pub fn with_swapped_clusters(
 {
     let mut changed = swapping_place(alloc, editor)?;
     if changed.get_cursor() == 0 {
-        return copy_of(alloc, editor);
+        return editor.try_clone(alloc);
     }
     let cluster = passed_text(alloc, &changed, Movement::BackwardChar(1))?;
     changed.kill_text(Movement::BackwardChar(1), Movement::BackwardChar(1));

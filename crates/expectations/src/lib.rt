@@ -1,4 +1,6 @@
-//! Comparisons. A test that calls them is proved faster than one that asserts by itself.
+//! Comparisons for tests, told where they fail. A test that calls them is proved faster than one that asserts by
+//! itself.
+#![tactic(auto)]
 
 use std::fmt::Debug;
 use std::process::Abort;
