@@ -4,8 +4,8 @@ ghost use Rattle.std.specs.Prelude.{ℕ, List, refl};
 ghost use Rattle.tw_lineedit.specs.HostRules.{plain_rules};
 ghost use Rattle.editor_tests.specs.AskedHost.{asked_is_plain, shown_overrides};
 
+use crate::expected::{expect, expect_at};
 use case_player::{answer_text, terminal_of};
-use expectations::{expect, expect_at};
 use std::alloc::{AllocError, Global};
 use std::cell::Cell;
 use std::process::Abort;

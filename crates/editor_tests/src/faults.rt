@@ -1,9 +1,9 @@
 //! A terminal that fails at one of its calls.
 
 use crate::calls::Listing;
+use crate::expected::{expect, expect_at};
 use crate::support::expect_readings;
 use case_player::{answer_text, batches_text, terminal_of, terminal_text, write_batch};
-use expectations::{expect, expect_at};
 use std::alloc::Global;
 use std::process::Abort;
 use std::test::Fail;

@@ -1,7 +1,7 @@
 //! Events that have no action.
 
+use crate::expected::{expect, expect_at};
 use case_player::events_named;
-use expectations::{expect, expect_at};
 use std::alloc::Global;
 use std::process::Abort;
 use std::test::Fail;

@@ -4,6 +4,8 @@
 #[cfg(test)]
 mod calls;
 #[cfg(test)]
+mod expected;
+#[cfg(test)]
 mod faults;
 #[cfg(test)]
 mod idle;

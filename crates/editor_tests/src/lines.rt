@@ -1,7 +1,7 @@
 //! Lines that are read, with each change that the terminal is sent.
 
+use crate::expected::expect;
 use crate::support::expect_readings;
-use expectations::expect;
 use std::test::Fail;
 
 const TYPED: &str = "\

@@ -2,8 +2,8 @@
 
 ghost use Rattle.std.specs.Prelude.{[]};
 
+use crate::expected::expect;
 use case_player::terminal_of;
-use expectations::expect;
 use script_player::ScriptHost;
 use std::alloc::{AllocError, Global};
 use std::borrow::CowStr;

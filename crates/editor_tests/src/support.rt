@@ -1,7 +1,7 @@
 //! Cases whose outcome is compared with a text.
 
+use crate::expected::expect_at;
 use case_player::{case_of, readings_of, remember_all, terminal_text};
-use expectations::expect_at;
 use std::alloc::Global;
 use std::process::Abort;
 use std::test::Fail;

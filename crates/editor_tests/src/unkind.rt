@@ -4,8 +4,8 @@ ghost use Rattle.std.specs.Prelude.{refl};
 ghost use Rattle.editor_tests.specs.StrayHost.{Stray, stray_rules, stray_overrides, stray_is_plain};
 
 use crate::calls::Listing;
+use crate::expected::{expect, expect_at};
 use case_player::{answer_text, case_of, readings_of, remember_all, terminal_text, told_of};
-use expectations::{expect, expect_at};
 use std::alloc::{AllocError, Global};
 use std::process::Abort;
 use std::test::Fail;

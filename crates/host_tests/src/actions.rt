@@ -1,7 +1,7 @@
 //! Actions on a line that is set, and several readings with one editor.
 
+use crate::expected::{expect, expect_at};
 use case_player::{answer_text, batches_text, remember_all, terminal_of};
-use expectations::{expect, expect_at};
 use std::alloc::Global;
 use std::process::Abort;
 use std::test::Fail;

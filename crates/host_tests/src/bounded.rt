@@ -1,8 +1,8 @@
 //! A history that forgets its oldest lines, by itself and under an editor.
 
+use crate::expected::{expect, expect_at};
 use crate::histories::expect_histories;
 use case_player::terminal_of;
-use expectations::{expect, expect_at};
 use script_player::ScriptHost;
 use std::alloc::{AllocError, Global};
 use std::borrow::CowStr;

@@ -1,9 +1,9 @@
 //! Candidates and previews.
 
 use crate::actions::{expect_action, expect_step};
+use crate::expected::expect;
 use crate::histories::expect_both;
 use case_player::{case_of, host_of, terminal_of, told_of};
-use expectations::expect;
 use std::test::Fail;
 use tw_lineedit::{Action, BasicHistory, LineEditor, Movement};
 

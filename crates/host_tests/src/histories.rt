@@ -1,7 +1,7 @@
 //! Histories: how lines are walked through and searched. The cases run over any history.
 
+use crate::expected::{expect, expect_at};
 use case_player::{case_of, host_of, told_of};
-use expectations::{expect, expect_at};
 use script_player::ListHistory;
 use std::alloc::Global;
 use std::process::Abort;

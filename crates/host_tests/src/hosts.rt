@@ -1,8 +1,8 @@
 //! Hosts that answer for themselves.
 
 use crate::actions::expect_action;
+use crate::expected::{expect, expect_at};
 use case_player::{ColumnHost, ResolvingHost, case_of, readings_of, terminal_text, told_of};
-use expectations::{expect, expect_at};
 use std::alloc::Global;
 use std::test::Fail;
 use tw_lineedit::{Action, LineEditorHost, NopLineEditorHost, OutputElement};

@@ -8,6 +8,8 @@ mod bounded;
 #[cfg(test)]
 mod completions;
 #[cfg(test)]
+mod expected;
+#[cfg(test)]
 mod histories;
 #[cfg(test)]
 mod hosts;

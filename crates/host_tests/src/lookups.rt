@@ -1,7 +1,7 @@
 //! What histories answer of their lines: the last one, the one at an index, and the nearest match. The cases
 //! run over any history.
 
-use expectations::{expect, expect_at};
+use crate::expected::{expect, expect_at};
 use script_player::ListHistory;
 use std::alloc::{AllocError, Global};
 use std::borrow::CowStr;

@@ -1,8 +1,8 @@
 //! What a screen shows of paintings, one over the other.
 
+use crate::expected::expect;
 use crate::histories::expect_both;
 use case_player::{case_of, readings_of};
-use expectations::expect;
 use script_player::{play_all, show_screen};
 use std::test::Fail;
 use tw_lineedit::NopLineEditorHost;

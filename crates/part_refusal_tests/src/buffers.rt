@@ -1,7 +1,7 @@
 //! Edits of a line buffer, with each request refused in turn.
 
+use crate::expected::expect;
 use case_player::mark;
-use expectations::expect;
 use std::alloc::{AllocError, Global};
 use std::process::Abort;
 use std::test::Fail;

@@ -1,7 +1,7 @@
 //! Sequences of changes and screens, with each request refused in turn.
 
+use crate::expected::{expect, expect_at};
 use case_player::mark;
-use expectations::{expect, expect_at};
 use std::alloc::{AllocError, Global};
 use std::process::Abort;
 use std::test::Fail;

@@ -1,7 +1,7 @@
 //! Calls of lines, histories, sequences, screens and terminals that make no request for memory.
 
+use crate::expected::{expect, expect_at};
 use case_player::{mark, terminal_of};
-use expectations::{expect, expect_at};
 use std::alloc::Global;
 use std::borrow::CowStr;
 use std::process::Abort;

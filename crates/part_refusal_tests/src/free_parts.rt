@@ -1,7 +1,7 @@
 //! Calls of bounded histories, of parts of hosts and of readers of bytes that make no request for memory.
 
+use crate::expected::expect;
 use case_player::{events_named, mark};
-use expectations::expect;
 use std::alloc::{AllocError, Global};
 use std::borrow::CowStr;
 use std::test::Fail;

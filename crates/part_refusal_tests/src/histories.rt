@@ -1,7 +1,7 @@
 //! Lines that are added to a history, with each request refused in turn.
 
+use crate::expected::expect_at;
 use case_player::mark;
-use expectations::expect_at;
 use script_player::ListHistory;
 use std::alloc::{AllocError, Global};
 use std::borrow::CowStr;

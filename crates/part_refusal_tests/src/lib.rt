@@ -7,6 +7,8 @@ mod buffers;
 #[cfg(test)]
 mod drawings;
 #[cfg(test)]
+mod expected;
+#[cfg(test)]
 mod free_calls;
 #[cfg(test)]
 mod free_parts;

@@ -1,7 +1,7 @@
 //! Batches that are rendered on a scripted terminal, with each request refused in turn.
 
+use crate::expected::expect;
 use case_player::{batches_text, mark, terminal_of};
-use expectations::expect;
 use std::alloc::{AllocError, Global};
 use std::process::Abort;
 use std::test::Fail;

@@ -1,6 +1,6 @@
 //! What the editor answers in place of a line.
 
-use expectations::{expect, expect_at};
+use crate::expected::{expect, expect_at};
 use std::alloc::{AllocError, AllocFailed, Global};
 use std::process::Abort;
 use std::test::Fail;

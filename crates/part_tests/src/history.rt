@@ -1,6 +1,6 @@
 //! Histories, and what is found in their lines.
 
-use expectations::{expect, expect_at};
+use crate::expected::{expect, expect_at};
 use std::alloc::AllocError;
 use std::borrow::CowStr;
 use std::test::Fail;

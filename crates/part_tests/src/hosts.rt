@@ -1,6 +1,6 @@
 //! The parts of hosts, and the host of tables.
 
-use expectations::{expect, expect_at};
+use crate::expected::{expect, expect_at};
 use std::alloc::{AllocError, Global};
 use std::test::Fail;
 use tw_history::BasicHistory;

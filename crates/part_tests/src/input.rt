@@ -4,8 +4,8 @@ ghost use Rattle.std.specs.Prelude.{◌≡◌, ◌↔◌, IfSome, IsSome};
 ghost use Rattle.std.specs.Int.RustNames.{bit_and};
 ghost use Rattle.tw_input.specs.Modifiers.{modifier_bits};
 
+use crate::expected::{expect, expect_at};
 use bitflags::Flags;
-use expectations::{expect, expect_at};
 use std::test::Fail;
 use tw_input::{InputEvent, KeyCode, KeyEvent, Modifiers, laws};
 

@@ -4,6 +4,8 @@
 #[cfg(test)]
 mod error;
 #[cfg(test)]
+mod expected;
+#[cfg(test)]
 mod history;
 #[cfg(test)]
 mod hosts;

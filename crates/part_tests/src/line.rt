@@ -1,6 +1,6 @@
 //! Movements and edits of a line.
 
-use expectations::{expect, expect_at};
+use crate::expected::{expect, expect_at};
 use std::alloc::Global;
 use std::process::Abort;
 use std::test::Fail;

@@ -1,6 +1,6 @@
 //! Paintings, change by change.
 
-use expectations::expect;
+use crate::expected::expect;
 use std::alloc::{AllocError, Global};
 use std::process::Abort;
 use std::test::Fail;

@@ -1,7 +1,7 @@
 //! The cursor's column where wide characters leave cells empty at the screen's edge. The columns are counted by hand on
 //! what a terminal shows after the prompt `> `.
 
-use expectations::expect;
+use crate::expected::expect;
 use std::test::Fail;
 use tw_host::{LineEditorHost, NopLineEditorHost};
 use tw_hosts::{PromptScreen, SettledHost, settled_column};

@@ -1,6 +1,6 @@
 //! The terminal that plays a script, its faults, and their texts.
 
-use expectations::{expect, expect_at};
+use crate::expected::{expect, expect_at};
 use std::alloc::{AllocError, Global};
 use std::process::Abort;
 use std::test::Fail;

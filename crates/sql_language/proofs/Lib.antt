@@ -1,5 +1,6 @@
 pub mod LexerLemmas
 pub mod LexemeLemmas
 pub mod StatementLemmas
+pub mod PieceLemmas
 pub mod WordLemmas
 pub mod NameLemmas

@@ -3,10 +3,10 @@ use Rattle.std.proofs.Common.{◌≡◌, ◌∙◌, ◌+◌, ◌-◌, ◌<◌, �
 use Rattle.std.specs.Option.{option_map, is_none}
 use Rattle.sql_language.specs.declared.lexer.Inside.{Inside}
 use Rattle.sql_language.specs.Lexer.{following, continued}
-use Rattle.sql_language.specs.Statements.{begins_mark, end_len, counted, open_after}
+use Rattle.sql_language.specs.Statements.{begins_mark, end_len, inside_after, counted, open_after}
 use Rattle.sql_language.proofs.LexemeLemmas.{from-byte, nothing}
 
--- behind so many bytes
+-- after so many bytes
 abbrev pub behind : ℕ → Option ℕ → Option ℕ
 behind at found = option_map (λ n. at + n) found
 
@@ -26,6 +26,10 @@ module _ (inside : Inside) (text : List ℕ) (at : ℕ) (low : at < length text)
   pub end-here : begins_mark 59 inside (get_or text at 0) ≡ true → behind at (end_len inside (drop at text)) ≡ Some (at + 1)
   end-here e = ap (λ bytes. behind at (end_len inside bytes)) (from-byte text at low) ∙ ap (behind at) (end-cases inside _ _ true e)
 
+  pub stands-on : inside_after inside (drop at text) ≡ inside_after (following inside (get_or text at 0)) (drop (at + 1) text)
+  unfolding inside_after
+  stands-on = ap (inside_after inside) (from-byte text at low)
+
   pub open-on : (count : ℕ) → open_after count inside (drop at text) ≡ open_after (counted count inside (get_or text at 0)) (following inside (get_or text at 0)) (drop (at + 1) text)
   unfolding open_after
   open-on count = ap (open_after count inside) (from-byte text at low)
@@ -34,6 +38,10 @@ module _ (inside : Inside) (text : List ℕ) (at : ℕ) (low : at < length text)
 pub end-none : (inside : Inside) (text : List ℕ) (at : ℕ) → at ≡ length text → behind at (end_len inside (drop at text)) ≡ None
 unfolding end_len
 end-none inside text at e = ap (λ bytes. behind at (end_len inside bytes)) (nothing text at e)
+
+pub stands-end : (inside : Inside) (text : List ℕ) (at : ℕ) → at ≡ length text → inside_after inside (drop at text) ≡ inside
+unfolding inside_after
+stands-end inside text at e = ap (inside_after inside) (nothing text at e)
 
 pub open-end : (inside : Inside) (text : List ℕ) (at count : ℕ) → at ≡ length text → open_after count inside (drop at text) ≡ count
 unfolding open_after

@@ -5,24 +5,89 @@ use crate::columns::{CUT, fitting_len, padding};
 use std::alloc::{AllocError, Global};
 use unicode_width::UnicodeWidthStr;
 
-/// The width of each column: that of the widest text in it.
-fn column_widths(alloc: Global, results: &Results) -> Result<Vec<usize>, AllocError> {
-    let mut widths = Vec::new(alloc);
-    for name in &results.names {
-        widths.push(visible(alloc, name.as_str())?.as_str().width())?;
-    }
-    for row in &results.rows {
-        widen(alloc, widths.as_mut_slice(), row.as_slice())?;
-    }
-    Ok(widths)
+/// What stands between two columns.
+const BETWEEN: &str = " | ";
+
+/// What stands between two columns of the line under the names.
+const CROSSING: &str = "-+-";
+
+/// A text in its column.
+#[derive(Drop)]
+struct Field {
+    text: String,
+    /// Whether the text stands at the right of the column.
+    is_right: bool,
 }
 
-/// Widens columns for a row.
-fn widen(alloc: Global, widths: &mut [usize], row: &[Cell]) -> Result<(), AllocError> {
-    for (width, cell) in widths.iter_mut().zip(row.iter()) {
-        *width = cell.shown(alloc)?.as_str().width().max(*width);
+/// The fields of the line of the names.
+fn name_fields(alloc: Global, names: &[String]) -> Result<Vec<Field>, AllocError> {
+    let mut fields = Vec::new(alloc);
+    for name in names {
+        fields.push(Field {
+            text: visible(alloc, name.as_str())?,
+            is_right: false,
+        })?;
     }
-    Ok(())
+    Ok(fields)
+}
+
+/// The fields of the line of a row.
+fn row_fields(alloc: Global, row: &[Cell]) -> Result<Vec<Field>, AllocError> {
+    let mut fields = Vec::new(alloc);
+    for cell in row {
+        fields.push(Field {
+            text: cell.shown(alloc)?,
+            is_right: cell.is_number(),
+        })?;
+    }
+    Ok(fields)
+}
+
+/// The fields of the line under the names.
+fn rule_fields(alloc: Global, widths: &[usize]) -> Result<Vec<Field>, AllocError> {
+    let mut fields = Vec::new(alloc);
+    for width in widths {
+        let mut text = String::new(alloc);
+        push_times(&mut text, '-', *width)?;
+        fields.push(Field {
+            text,
+            is_right: false,
+        })?;
+    }
+    Ok(fields)
+}
+
+/// The fields of the names and of all rows.
+fn all_fields(alloc: Global, results: &Results) -> Result<Vec<Vec<Field>>, AllocError> {
+    let mut lines = Vec::new(alloc);
+    lines.push(name_fields(alloc, results.names.as_slice())?)?;
+    for row in &results.rows {
+        lines.push(row_fields(alloc, row.as_slice())?)?;
+    }
+    Ok(lines)
+}
+
+/// Widens columns for the fields of a line. Fields after the last column are left out.
+fn widen(widths: &mut [usize], fields: &[Field]) {
+    for (width, field) in widths.iter_mut().zip(fields.iter()) {
+        *width = field.text.as_str().width().max(*width);
+    }
+}
+
+/// The width of so many columns: that of the widest text in each of them.
+fn column_widths(
+    alloc: Global,
+    count: usize,
+    lines: &[Vec<Field>],
+) -> Result<Vec<usize>, AllocError> {
+    let mut widths = Vec::new(alloc);
+    for _ in 0..count {
+        widths.push(0)?;
+    }
+    for fields in lines {
+        widen(widths.as_mut_slice(), fields.as_slice());
+    }
+    Ok(widths)
 }
 
 /// Adds one character so many times.
@@ -33,15 +98,11 @@ fn push_times(line: &mut String, character: char, count: usize) -> Result<(), Al
     Ok(())
 }
 
-/// Adds a text with the spaces that fill its column, before it or behind it.
-fn push_padded(
-    line: &mut String,
-    text: &str,
-    width: usize,
-    at_right: bool,
-) -> Result<(), AllocError> {
+/// Adds a field with the spaces that fill its column.
+fn push_field(line: &mut String, field: &Field, width: usize) -> Result<(), AllocError> {
+    let text = field.text.as_str();
     let spaces = padding(text, width);
-    if at_right {
+    if field.is_right {
         push_times(line, ' ', spaces)?;
         return line.push_str(text);
     }
@@ -49,107 +110,73 @@ fn push_padded(
     push_times(line, ' ', spaces)
 }
 
-/// Adds a line without the spaces at its end, cut where it takes more than `most` columns.
-fn push_line(out: &mut String, line: &str, most: usize) -> Result<(), AllocError> {
-    let line = line.trim_end();
-    let len = fitting_len(line, most);
-    if len < line.len() {
-        let len = fitting_len(line, most.saturating_sub(1));
-        out.push_str(&line[..len])?;
-        out.push(CUT)?;
-    } else {
-        out.push_str(line)?;
-    }
-    out.push('\n')
-}
-
-/// Adds the line of the names.
-fn push_names(
+/// A table that is being written.
+#[derive(Drop)]
+struct Table {
     alloc: Global,
-    out: &mut String,
-    names: &[String],
-    widths: &[usize],
+    /// The width of each column.
+    widths: Vec<usize>,
+    /// The most columns of the screen that a line may take.
     most: usize,
-) -> Result<(), AllocError> {
-    let mut line = String::new(alloc);
-    for (name, width) in names.iter().zip(widths.iter()) {
-        if !line.is_empty() {
-            line.push_str(" | ")?;
-        }
-        push_padded(
-            &mut line,
-            visible(alloc, name.as_str())?.as_str(),
-            *width,
-            false,
-        )?;
-    }
-    push_line(out, line.as_str(), most)
+    text: String,
 }
 
-/// Adds the line under the names.
-fn push_rule(
-    alloc: Global,
-    out: &mut String,
-    widths: &[usize],
-    most: usize,
-) -> Result<(), AllocError> {
-    let mut line = String::new(alloc);
-    for width in widths {
-        if !line.is_empty() {
-            line.push_str("-+-")?;
+impl Table {
+    /// Adds a line without the spaces at its end, cut where it takes more than `most` columns.
+    fn push_line(&mut self, line: &str) -> Result<(), AllocError> {
+        let line = line.trim_end();
+        let len = fitting_len(line, self.most);
+        if len < line.len() {
+            let len = fitting_len(line, self.most.saturating_sub(1));
+            self.text.push_str(&line[..len])?;
+            self.text.push(CUT)?;
+        } else {
+            self.text.push_str(line)?;
         }
-        push_times(&mut line, '-', *width)?;
+        self.text.push('\n')
     }
-    push_line(out, line.as_str(), most)
-}
 
-/// Adds the line of a row.
-fn push_row(
-    alloc: Global,
-    out: &mut String,
-    row: &[Cell],
-    widths: &[usize],
-    most: usize,
-) -> Result<(), AllocError> {
-    let mut line = String::new(alloc);
-    let mut is_first = true;
-    for (cell, width) in row.iter().zip(widths.iter()) {
-        if !is_first {
-            line.push_str(" | ")?;
+    /// Adds the line of these fields, with a text between each two.
+    fn push_fields(&mut self, fields: &[Field], between: &str) -> Result<(), AllocError> {
+        let mut line = String::new(self.alloc);
+        for (index, (field, width)) in fields.iter().zip(self.widths.iter()).enumerate() {
+            if index > 0 {
+                line.push_str(between)?;
+            }
+            push_field(&mut line, field, *width)?;
         }
-        is_first = false;
-        push_padded(
-            &mut line,
-            cell.shown(alloc)?.as_str(),
-            *width,
-            cell.is_number(),
-        )?;
+        self.push_line(line.as_str())
     }
-    push_line(out, line.as_str(), most)
-}
 
-/// Adds the count of rows.
-fn push_count(alloc: Global, out: &mut String, count: usize) -> Result<(), AllocError> {
-    let told = if count == 1 {
-        String::from_str(alloc, "(1 row)\n")?
-    } else {
-        format!(in alloc; "({count} rows)\n")?
-    };
-    out.push_str(told.as_str())
+    /// Adds the count of rows.
+    fn push_count(&mut self, count: usize) -> Result<(), AllocError> {
+        if count == 1 {
+            return self.text.push_str("(1 row)\n");
+        }
+        let told = format!(in self.alloc; "({count} rows)\n")?;
+        self.text.push_str(told.as_str())
+    }
 }
 
 /// The results as a table: the names, a line under them, the rows, and how many these are. Columns go by the columns
 /// that a terminal shows; numbers stand at the right. A line that would take more than `most` columns is cut there,
 /// with a mark in its last column.
 pub fn table_text(alloc: Global, results: &Results, most: usize) -> Result<String, AllocError> {
-    let widths = column_widths(alloc, results)?;
-    let widths = widths.as_slice();
-    let mut out = String::new(alloc);
-    push_names(alloc, &mut out, results.names.as_slice(), widths, most)?;
-    push_rule(alloc, &mut out, widths, most)?;
-    for row in &results.rows {
-        push_row(alloc, &mut out, row.as_slice(), widths, most)?;
+    let lines = all_fields(alloc, results)?;
+    let widths = column_widths(alloc, results.names.len(), lines.as_slice())?;
+    let rule = rule_fields(alloc, widths.as_slice())?;
+    let mut table = Table {
+        alloc,
+        widths,
+        most,
+        text: String::new(alloc),
+    };
+    for (index, fields) in lines.iter().enumerate() {
+        table.push_fields(fields.as_slice(), BETWEEN)?;
+        if index == 0 {
+            table.push_fields(rule.as_slice(), CROSSING)?;
+        }
     }
-    push_count(alloc, &mut out, results.rows.len())?;
-    Ok(out)
+    table.push_count(results.rows.len())?;
+    Ok(table.text)
 }

@@ -1,7 +1,7 @@
 //! What a line of input does.
 
+use crate::begun::Begun;
 use crate::values::as_results;
-use sql_language::{TokenKind, first_token, statement_len};
 use sql_results::{Results, csv_text, table_text};
 use sqlite::types::ValueRef;
 use sqlite::{Alter, Connection, Error, Row};
@@ -34,7 +34,7 @@ pub enum Next {
 pub struct Session<S: Alter> {
     alloc: Global,
     connection: Connection<S>,
-    begun: String,
+    begun: Begun,
     told: String,
     mode: Mode,
     bails: bool,
@@ -55,31 +55,6 @@ impl<S: Alter + Drop> Drop for Session<S> {
     }
 }
 
-/// Whether a text has nothing but white space and comments.
-fn is_blank(text: &str) -> bool {
-    let mut rest = text;
-    for _ in 0..text.len() {
-        let (token, after) = first_token(rest);
-        match token.kind {
-            TokenKind::White | TokenKind::Comment => rest = after,
-            _ => return false,
-        }
-    }
-    true
-}
-
-/// Takes the first statement from a text.
-fn take_statement(alloc: Global, text: &mut String) -> Result<Option<String>, AllocError> {
-    let Some(len) = statement_len(text.as_str()) else {
-        return Ok(None);
-    };
-    let (statement, rest) = text.as_str().split_at(len);
-    let statement = String::from_str(alloc, statement)?;
-    let rest = String::from_str(alloc, rest)?;
-    *text = rest;
-    Ok(Some(statement))
-}
-
 impl<S: Alter> Session<S> {
     /// A session with a database, which stops at the first error where `bails` says so. It takes no memory.
     pub fn new(alloc: Global, mut connection: Connection<S>, bails: bool) -> Self {
@@ -87,7 +62,7 @@ impl<S: Alter> Session<S> {
         Session {
             alloc,
             connection,
-            begun: String::new(alloc),
+            begun: Begun::new(alloc),
             told: String::new(alloc),
             mode: Mode::Table,
             bails,
@@ -180,21 +155,20 @@ impl<S: Alter> Session<S> {
         }
     }
 
-    /// Runs the statements that are whole.
-    fn run_whole(&mut self) -> Result<(), AllocError> {
+    /// Runs the statements that a line ends, and keeps the beginning of another one.
+    fn run_line(&mut self, line: &str) -> Result<(), AllocError> {
+        let mut rest = line;
         for _ in 0..u64::MAX {
             if self.has_stopped() {
                 break;
             }
-            let Some(sql) = take_statement(self.alloc, &mut self.begun)? else {
+            let Some((sql, after)) = self.begun.take_statement(self.alloc, rest)? else {
                 break;
             };
+            rest = after;
             self.run(sql.as_str())?;
         }
-        if is_blank(self.begun.as_str()) {
-            self.begun.clear();
-        }
-        Ok(())
+        self.begun.push_line(rest)
     }
 
     /// Whether a statement has begun that is not whole yet.
@@ -208,9 +182,7 @@ impl<S: Alter> Session<S> {
         if !self.has_begun() && line.starts_with('.') {
             return self.obey(line);
         }
-        self.begun.push_str(line)?;
-        self.begun.push('\n')?;
-        self.run_whole()?;
+        self.run_line(line)?;
         Ok(Next::Line)
     }
 

@@ -1,6 +1,6 @@
 //! The columns of texts, and the attributes of a cell.
 
-use expectations::{expect, expect_at};
+use crate::expected::{expect, expect_at};
 use tw_surface::{
     Blink, CellAttributes, ColorAttribute, Intensity, Underline, unicode_column_width,
 };

@@ -1,6 +1,6 @@
 //! Changes that are compared and copied.
 
-use expectations::expect;
+use crate::expected::expect;
 use std::alloc::Global;
 use std::process::Abort;
 use std::test::Fail;

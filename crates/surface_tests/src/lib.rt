@@ -6,6 +6,8 @@ mod cell;
 #[cfg(test)]
 mod change;
 #[cfg(test)]
+mod expected;
+#[cfg(test)]
 mod screen;
 #[cfg(test)]
 mod scrolling_screen;

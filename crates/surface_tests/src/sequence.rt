@@ -1,6 +1,6 @@
 //! Where texts and moves lead, and what is refused.
 
-use expectations::{expect, expect_at};
+use crate::expected::{expect, expect_at};
 use std::alloc::{AllocError, Global};
 use std::process::Abort;
 use std::test::Fail;

@@ -1,6 +1,6 @@
 //! The texts of the faults of sizes, sequences and screens.
 
-use expectations::expect;
+use crate::expected::expect;
 use std::test::Fail;
 use tw_surface::{AddFault, ScreenFault, SizeFault};
 

@@ -1,6 +1,4 @@
-//! Comparisons for tests, told where they fail. A test that calls them is proved faster than one that asserts by
-//! itself.
-#![tactic(auto)]
+//! Comparisons. A test that calls them is proved faster than one that asserts by itself.
 
 use std::fmt::Debug;
 use std::process::Abort;

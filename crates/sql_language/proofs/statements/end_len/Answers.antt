@@ -1,16 +1,16 @@
 use Rattle.std.proofs.Common.{◌≡◌, ◌∙◌, ◌+◌, ◌<◌, length, drop, get_or, ap, sym, subst, arith}
 use Rattle.std.specs.Str.{IsCharBoundary}
 use Rattle.std.proofs.lemmas.Str.{IsCharBoundary-after_ascii}
-use Rattle.sql_language.specs.Statements.{end_len, statement_len}
+use Rattle.sql_language.specs.Statements.{end_len}
 use Rattle.sql_language.proofs.StatementLemmas.{behind, end-on, end-here, end-none, marked}
-use Rattle.sql_language.proofs.statements.statement_len.Goals as goal
+use Rattle.sql_language.proofs.statements.end_len.Goals as goal
 
 pub returns-then-begins_mark-clause-value : goal.returns-then-begins_mark-clause-value
 returns-then-begins_mark-clause-value c =
     let text = c.as_bytes-bytes.result.now in
     let low : c.loop-at.at < length text = omega arith in
     sym (end-here c.loop-at.inside text c.loop-at.at low (sym c.begins_mark.ensures ∙ c.if-begins_mark.true))
-    ∙ c.loop-at.invariant ∙ ap statement_len c.as_bytes-bytes.ensures.value
+    ∙ c.loop-at.invariant ∙ ap (end_len c.args.before) c.as_bytes-bytes.ensures.value
 
 pub returns-then-begins_mark-clause-boundary : goal.returns-then-begins_mark-clause-boundary
 returns-then-begins_mark-clause-boundary c =
@@ -32,4 +32,4 @@ pub returns-clause-value : goal.returns-clause-value
 returns-clause-value c =
     let text = c.as_bytes-bytes.result.now in
     let end : c.loop-at.at ≡ length text = omega arith in
-    sym (end-none c.loop-at.inside text c.loop-at.at end) ∙ c.loop-at.invariant ∙ ap statement_len c.as_bytes-bytes.ensures.value
+    sym (end-none c.loop-at.inside text c.loop-at.at end) ∙ c.loop-at.invariant ∙ ap (end_len c.args.before) c.as_bytes-bytes.ensures.value

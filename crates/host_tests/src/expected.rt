@@ -1,0 +1,14 @@
+//! Comparisons. A test that calls them is proved faster than one that asserts by itself.
+
+use std::fmt::Debug;
+use std::process::Abort;
+
+/// Compares two values.
+pub fn expect<T: Debug + PartialEq>(rt: &impl Abort, found: &T, wanted: &T) {
+    assert_eq!(rt; found, wanted);
+}
+
+/// Compares two values of a case, which is told where they differ.
+pub fn expect_at<C: Debug, T: Debug + PartialEq>(rt: &impl Abort, case: &C, found: &T, wanted: &T) {
+    assert_eq!(rt; found, wanted, "at {case:?}");
+}
