@@ -3,26 +3,24 @@
 //! empty line, and at the end of what is typed. With the argument `sparing` the terminal is sent what differs, and else
 //! all that is painted.
 //!
-//! `tables` has what the prompt knows, `host` the host over these, `typed` the bytes that are typed, and `events` what
-//! they are to the prompt.
+//! `tables` has what the prompt knows, `host` the host over these, and `options` the arguments. `tw_prompt` has what is
+//! typed, as events.
 #![tactic(auto)]
 
-mod events;
 mod host;
+mod options;
 mod tables;
-mod typed;
 
-use anyhow::anyhow;
-use events::{PromptEvents, usable};
 use host::PromptHost;
+use options::{Options, read_options};
 use std::alloc::Global;
-use std::env;
 use std::io::Read;
 use std::time::Clock;
 use tables::tables;
 use tw_device::{AnsiTerminal, Answer, DeviceTerminal, read_line_from};
 use tw_hosts::{PromptScreen, SettledHost};
 use tw_lineedit::{BoundedHistory, Error, LineEditorHost};
+use tw_prompt::{BEGIN, END, PromptEvents, usable};
 use tw_sparing::SparingTerminal;
 use tw_terminal::ScreenSize;
 
@@ -31,12 +29,6 @@ const LINES_KEPT: usize = 100;
 
 /// What stands before the line.
 const PROMPT: &str = "> ";
-
-/// What a terminal is sent at first: it is to mark pasted texts, and to tell its size by itself where that changes.
-const BEGIN: &str = "\x1b[?2004h\x1b[?2048h";
-
-/// What a terminal is sent at the end.
-const END: &str = "\x1b[?2004l\x1b[?2048lbye\r\n";
 
 /// What is typed, what shows it, and the host between them.
 #[derive(Drop)]
@@ -56,7 +48,8 @@ impl<R: Read, C: Clock, T: DeviceTerminal> Prompt<R, C, T> {
                 break;
             }
         }
-        self.terminal.send(END)?;
+        let end = format!(in self.alloc; "{END}bye\r\n")?;
+        self.terminal.send(end.as_str())?;
         Ok(())
     }
 
@@ -92,23 +85,6 @@ impl<R: Read, C: Clock, T: DeviceTerminal> Prompt<R, C, T> {
     }
 }
 
-/// The number that an argument writes, or another one where there is none.
-fn number_or(argument: Option<String>, other: usize) -> Result<usize, anyhow::Error> {
-    match argument {
-        Some(text) => Ok(text.as_str().parse()?),
-        None => Ok(other),
-    }
-}
-
-/// Whether a terminal is to be sent what differs: an argument says so.
-fn is_sparing(argument: Option<String>) -> Result<bool, anyhow::Error> {
-    match argument {
-        None => Ok(false),
-        Some(word) if word.as_str() == "sparing" => Ok(true),
-        Some(word) => Err(anyhow!("no way to send has the name {word}")),
-    }
-}
-
 /// Reads lines at a terminal of this size, up to the end.
 fn prompt_at<T: DeviceTerminal + Drop>(
     rt: HostRuntime,
@@ -134,16 +110,10 @@ fn prompt_at<T: DeviceTerminal + Drop>(
     prompt.run()
 }
 
-/// The columns and the rows of the screen are the arguments, 80 and 24 where there are none or they are 0. The word
-/// `sparing` behind them is the way to send.
 fn main(rt: HostRuntime) -> Result<(), anyhow::Error> {
     let alloc = rt.alloc();
-    let mut arguments = env::args(&rt)?;
-    let _name = arguments.next();
-    let cols = number_or(arguments.next(), 0)?;
-    let rows = number_or(arguments.next(), 0)?;
-    let size = usable(ScreenSize { rows, cols });
-    if is_sparing(arguments.next())? {
+    let Options { size, is_sparing } = read_options(rt)?;
+    if is_sparing {
         let terminal = SparingTerminal::new(alloc, rt.stdout(), size);
         return prompt_at(rt, size, terminal);
     }

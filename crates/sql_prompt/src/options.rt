@@ -1,6 +1,8 @@
 //! The arguments.
 
 use std::env;
+use tw_prompt::usable;
+use tw_terminal::ScreenSize;
 
 /// What the arguments ask for.
 #[derive(Drop)]
@@ -9,23 +11,39 @@ pub struct Options {
     pub path: String,
     /// Whether the first error ends the session.
     pub bails: bool,
+    /// The size of the terminal where it is a prompt at one.
+    pub screen: Option<ScreenSize>,
 }
 
-/// What the arguments ask for, and none where they are wrong.
+/// The number that an argument writes, and none where it writes none.
+fn number(argument: Option<String>) -> Option<usize> {
+    argument?.as_str().parse().ok()
+}
+
+/// What the arguments ask for, `[-at COLS ROWS] [-bail] FILE`, and none where they are wrong.
 pub fn read_options(rt: HostRuntime) -> Result<Option<Options>, anyhow::Error> {
     let mut arguments = env::args(&rt)?;
     let _name = arguments.next();
-    let Some(first) = arguments.next() else {
-        return Ok(None);
-    };
-    if first.as_str() != "-bail" {
-        return Ok(Some(Options {
-            path: first,
-            bails: false,
-        }));
+    let mut bails = false;
+    let mut screen = None;
+    for _ in 0..u64::MAX {
+        let Some(word) = arguments.next() else {
+            break;
+        };
+        match word.as_str() {
+            "-bail" => bails = true,
+            "-at" => match (number(arguments.next()), number(arguments.next())) {
+                (Some(cols), Some(rows)) => screen = Some(usable(ScreenSize { rows, cols })),
+                _ => break,
+            },
+            _ => {
+                return Ok(Some(Options {
+                    path: word,
+                    bails,
+                    screen,
+                }));
+            }
+        }
     }
-    let Some(path) = arguments.next() else {
-        return Ok(None);
-    };
-    Ok(Some(Options { path, bails: true }))
+    Ok(None)
 }

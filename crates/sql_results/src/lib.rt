@@ -10,7 +10,7 @@ mod table;
 #[cfg(test)]
 mod tests;
 
-pub use cells::{Cell, Results};
+pub use cells::{Cell, Results, visible};
 pub use columns::{CUT, fitting_len, padding};
 pub use comma::{csv_text, needs_quotes};
 pub use table::table_text;

@@ -1,6 +1,7 @@
 //! What a line of input does.
 
 use crate::begun::Begun;
+use crate::names::names_in;
 use crate::values::as_results;
 use sql_results::{Results, csv_text, table_text};
 use sqlite::types::ValueRef;
@@ -37,6 +38,7 @@ pub struct Session<S: Alter> {
     begun: Begun,
     told: String,
     mode: Mode,
+    columns: usize,
     bails: bool,
     has_failed: bool,
 }
@@ -49,6 +51,7 @@ impl<S: Alter + Drop> Drop for Session<S> {
             begun: _,
             told: _,
             mode: _,
+            columns: _,
             bails: _,
             has_failed: _,
         } = self;
@@ -65,6 +68,7 @@ impl<S: Alter> Session<S> {
             begun: Begun::new(alloc),
             told: String::new(alloc),
             mode: Mode::Table,
+            columns: usize::MAX,
             bails,
             has_failed: false,
         }
@@ -83,6 +87,22 @@ impl<S: Alter> Session<S> {
     /// Lets a statement take so many steps from now on.
     pub fn set_limit(&mut self, steps: u64) {
         self.connection.set_step_limit(Some(steps));
+    }
+
+    /// Shows no line of a table in more than so many columns from now on.
+    pub fn set_columns(&mut self, columns: usize) {
+        self.columns = columns;
+    }
+
+    /// Forgets what has begun of a statement.
+    pub fn abandon(&mut self) {
+        self.begun = Begun::new(self.alloc);
+    }
+
+    /// The names of the tables of the database, each with those of its columns after it, and then those of its views.
+    /// Each name stands there once.
+    pub fn names(&self) -> Result<Vec<String>, AllocError> {
+        names_in(self.alloc, self.connection.schema())
     }
 
     /// Whether an error has ended the session.
@@ -140,7 +160,7 @@ impl<S: Alter> Session<S> {
     /// Tells results.
     fn show(&mut self, found: &Results) -> Result<(), AllocError> {
         let text = match self.mode {
-            Mode::Table => table_text(self.alloc, found, usize::MAX)?,
+            Mode::Table => table_text(self.alloc, found, self.columns)?,
             Mode::Csv => csv_text(self.alloc, found)?,
         };
         self.tell(text.as_str())

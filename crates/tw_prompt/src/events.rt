@@ -1,8 +1,6 @@
 //! What is typed, as events for the prompt.
 
-ghost use Rattle.std.specs.Prelude.{◌≡◌};
-ghost use Rattle.prompt_demo.specs.Sizes.{fitting, usable};
-
+use crate::sizes::fitting;
 use crate::typed::Typed;
 use std::alloc::Global;
 use std::io::Read;
@@ -10,29 +8,6 @@ use std::time::Clock;
 use tw_device::{EventLog, EventSource, KeyReader, SourceState};
 use tw_input::InputEvent;
 use tw_terminal::{ScreenSize, TerminalFault};
-
-/// The most columns or rows that a screen can have here.
-const MOST: usize = 65_535;
-
-/// The size to take where a terminal tells this one: one that knows none tells zeros, and has 80 columns and 24 rows.
-pub fn usable(size: ScreenSize) -> ScreenSize
-    ensures { result ≡ usable size }
-{
-    ScreenSize {
-        rows: if size.rows == 0 { 24 } else { size.rows },
-        cols: if size.cols == 0 { 80 } else { size.cols },
-    }
-}
-
-/// The usable size, or none where no screen is so large.
-pub fn fitting(size: ScreenSize) -> Option<ScreenSize>
-    ensures { result ≡ fitting size }
-{
-    if size.rows > MOST || size.cols > MOST {
-        return None;
-    }
-    Some(usable(size))
-}
 
 /// The events of what is typed. A report of a size that no screen has is none.
 #[derive(Drop)]
