@@ -1,0 +1,181 @@
+"""What people do at sql_prompt's terminal, for tools/prompt_checks."""
+import os
+import re
+import signal
+import sqlite3
+import tempfile
+
+from prompt_session import ROOT, Session, want
+
+START = f"{ROOT}/tools/at_terminal"
+PROGRAM = f"{ROOT}/crates/sql_prompt/out/sql_prompt"
+PROMPT, GOES_ON = b"sql> ", b"   ...> "
+UP, CTRL_A, CTRL_C, CTRL_D, CTRL_F = b"\x1b[A", b"\x01", b"\x03", b"\x04", b"\x06"
+PEOPLE = b"create table people (id integer primary key, name text);\rinsert into people (name) values ('Ann');\r"
+STYLES = re.compile(rb"\x1b\[[0-9;]*m")
+
+
+class Database(Session):
+    """sql_prompt at a terminal of its own, over a file."""
+
+    def __init__(self, path, cols=80):
+        super().__init__((START, PROGRAM, path), PROGRAM, cols=cols, ready=PROMPT)
+
+    def ask(self, keys, shown):
+        """Types keys, wants this text to be shown, and answers all that was shown up to the next prompt."""
+        since = len(self.shown)
+        self.type(keys)
+        self.wait_for(shown, since)
+        self.wait_for(PROMPT, self.shown.index(shown, since))
+        return self.shown[since:]
+
+    def quit(self):
+        """Ends it as people do."""
+        self.type(b".quit\r")
+        self.end(0)
+
+
+def rows_of(path, query):
+    """The rows that Python's sqlite3 finds in a file, which has to be whole."""
+    connection = sqlite3.connect(path)
+    try:
+        want(connection.execute("PRAGMA integrity_check").fetchall() == [("ok",)], "the file is not whole")
+        return connection.execute(query).fetchall()
+    finally:
+        connection.close()
+
+
+def with_file(check):
+    """A check of sessions over one file, which begins with none."""
+    def run():
+        with tempfile.TemporaryDirectory() as room:
+            check(f"{room}/some.db")
+    run.__name__ = check.__name__
+    return run
+
+
+@with_file
+def sql_of_several_lines(path):
+    with Database(path) as session:
+        session.type(b"create table people (\r")
+        session.wait_for(GOES_ON)
+        session.type(b"id integer primary key,\rname text);\r")
+        session.ask(b"insert into people (name) -- one of them\rvalues ('Ann'),\r('Bo'); select * from people;\r",
+                    b"id | name\r\n---+-----\r\n 1 | Ann\r\n 2 | Bo\r\n(2 rows)\r\n")
+        shown = session.ask(b"select id, name -- all\r from people\rwhere id = 2;\r", b" 2 | Bo\r\n(1 row)\r\n")
+        shown = session.ask(UP + b"\r", b" 2 | Bo\r\n(1 row)\r\n")
+        one_line = b"sql> select id, name   from people where id = 2;"
+        want(one_line in STYLES.sub(b"", shown), f"the statement is not one line in {shown}")
+        session.quit()
+    want(rows_of(path, "SELECT * FROM people") == [(1, "Ann"), (2, "Bo")], "the rows are not in the file")
+
+
+@with_file
+def sql_quotes_over_lines(path):
+    with Database(path) as session:
+        session.ask(b"select 'a\rb' as text;\r", b"a\xe2\x90\x8ab\r\n(1 row)\r\n")
+        shown = session.ask(UP + UP + b"\x15select 7;\r", b"7\r\n(1 row)\r\n")
+        want(b"sql> select 'a" in STYLES.sub(b"", shown), f"the first line is not kept: {shown}")
+        session.quit()
+
+
+@with_file
+def sql_names_are_completed(path):
+    with Database(path) as session:
+        session.type(PEOPLE)
+        session.ask(b"SELECT NA\t FROM peo\t;\r", b"name\r\n----\r\nAnn\r\n(1 row)\r\n")
+        session.ask(b"create table cities (town text);\rsel\t town from cit\t;\r", b"(0 rows)\r\n")
+        session.ask(b"drop table cities;\r.tables\r", b"people\r\n")
+        session.quit()
+    with Database(path) as session:
+        session.ask(b"select count(*) as n from peo\t;\r", b"1\r\n(1 row)\r\n")
+        session.quit()
+
+
+@with_file
+def sql_error_is_edited(path):
+    with Database(path) as session:
+        session.tells_errors = True
+        session.type(PEOPLE)
+        session.ask(b"selct name from people;\r", b"Error: ")
+        session.ask(UP + CTRL_A + CTRL_F * 3 + b"e\r", b"Ann\r\n(1 row)\r\n")
+        session.quit()
+
+
+@with_file
+def sql_statement_is_abandoned(path):
+    with Database(path) as session:
+        session.type(PEOPLE + b"delete from people\r")
+        session.wait_for(GOES_ON)
+        session.type(b"where id" + CTRL_C)
+        session.ask(b"select count(*) as n from people;\r", b"n\r\n-\r\n1\r\n(1 row)\r\n")
+        shown = session.ask(UP + UP + b" where id = 7;\r" + b"select count(*) as n from people;\r", b"1\r\n(1 row)\r\n")
+        want(b"sql> delete from people where id = 7;" in STYLES.sub(b"", shown), f"it is not kept: {shown}")
+        session.quit()
+
+
+@with_file
+def sql_size_within_a_line(path):
+    with Database(path) as session:
+        session.type(b"select 'abcdefghij'")
+        session.wait_for(b"abcdefghij")
+        session.resize(24, 20)
+        session.wait_for_size()
+        session.ask(b" as a, 'klmnopqrst' as b;\r", "abcdefghij | klmnop…\r\n(1 row)\r\n".encode())
+        session.quit()
+
+
+@with_file
+def sql_end_of_input(path):
+    with Database(path) as session:
+        session.ask(b"selec\x01\x04\x04elect 1 as one;" + b"\x01s" + b"\r", b"Error: ")
+        session.tells_errors = True
+        session.type(CTRL_D)
+        session.end(0)
+    with Database(path) as session:
+        session.tells_errors = True
+        session.type(b"select 1\r")
+        session.wait_for(GOES_ON)
+        session.type(CTRL_D)
+        session.wait_for(b"Error: the last statement has no end\r\n")
+        session.end(0)
+
+
+@with_file
+def sql_controls_are_pictures(path):
+    connection = sqlite3.connect(path)
+    connection.execute("CREATE TABLE t (a /* \x1b]0;title\x07 */)")
+    connection.commit()
+    connection.close()
+    with Database(path) as session:
+        shown = session.ask(b".schema\r", b"title")
+        want(b"\x1b]" not in shown and b"\x07" not in shown, f"a control character is sent: {shown}")
+        session.quit()
+
+
+@with_file
+def sql_signal(path):
+    with Database(path) as session:
+        session.ask(PEOPLE + b"select * from people;\r", b"(1 row)\r\n")
+        session.type(b"insert into people")
+        session.wait_for(b"people")
+        os.kill(session.child, signal.SIGTERM)
+        session.end(143)
+    want(rows_of(path, "SELECT name FROM people") == [("Ann",)], "the rows are not in the file")
+
+
+@with_file
+def sql_no_database(path):
+    with open(path, "w", encoding="utf-8") as file:
+        file.write("no database " * 100)
+    session = Session((START, PROGRAM, path), PROGRAM, ready=None)
+    with session:
+        session.end(1)
+        want(path.encode() in session.shown, f"it says {session.shown}")
+
+
+SQL_CHECKS = [
+    sql_of_several_lines, sql_quotes_over_lines, sql_names_are_completed, sql_error_is_edited,
+    sql_statement_is_abandoned, sql_size_within_a_line, sql_end_of_input, sql_controls_are_pictures, sql_signal,
+    sql_no_database,
+]
