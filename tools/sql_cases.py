@@ -22,7 +22,7 @@ class Database(Session):
         super().__init__((START, PROGRAM, path), PROGRAM, cols=cols, ready=PROMPT)
 
     def ask(self, keys, shown):
-        """Types keys, wants this text to be shown, and answers all that was shown up to the next prompt."""
+        """Types keys, wants this text to be shown, and returns all that was shown up to the next prompt."""
         since = len(self.shown)
         self.type(keys)
         self.wait_for(shown, since)
