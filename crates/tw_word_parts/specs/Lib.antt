@@ -1,1 +1,2 @@
 pub mod WordEdits
+pub mod WordSwaps

@@ -1,12 +1,15 @@
 //! Edits of the words and the characters around the cursor, as readline has them.
 //!
-//! `passed` has the text that a movement goes over, `cases` the case of words, and `swaps` characters that change places.
+//! `passed` has the text that a movement goes over, `cases` the case of words, `swaps` characters that change places, and
+//! `word_swaps` words that do.
 #![tactic(auto)]
 
 mod cases;
 mod passed;
 mod swaps;
+mod word_swaps;
 
 pub use cases::{WordCase, in_case, with_word_in};
 pub use passed::passed_text;
 pub use swaps::with_swapped_clusters;
+pub use word_swaps::with_swapped_words;
