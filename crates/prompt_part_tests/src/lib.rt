@@ -2,8 +2,12 @@
 #![tactic(auto)]
 
 #[cfg(test)]
+mod beginnings;
+#[cfg(test)]
 mod nesting;
 #[cfg(test)]
 mod validator;
 #[cfg(test)]
 mod word_keys;
+#[cfg(test)]
+mod word_swaps;
