@@ -13,6 +13,8 @@ fn words_and_characters_are_edited(rt: HostRuntime) -> Result<(), Fail> {
         ("type ab\nkey C-T\nkey Enter", "ba"),
         ("type abc\nkey Left\nkey C-T\ntype x\nkey Enter", "acbx"),
         ("type ab\nkey C-A\nkey C-T\nkey Enter", "ab"),
+        ("type one two\nkey A-t\ntype x\nkey Enter", "two onex"),
+        ("type one two\nkey C-A\nkey A-t\nkey Enter", "one two"),
         ("type one two\nkey C-A\nkey A-u\nkey Enter", "ONE two"),
         ("type ONE TWO\nkey C-A\nkey A-l\nkey Enter", "one TWO"),
         (

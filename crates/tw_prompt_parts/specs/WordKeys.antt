@@ -9,14 +9,16 @@ use Rattle.tw_host.specs.HostRules.{HostRules, Resolution, or_default}
 use Rattle.tw_host.specs.KeyTable.{is_same_key, key_press, letter}
 use Rattle.tw_parts.specs.SearchWatch.{has_lines, searches_after}
 use Rattle.tw_word_parts.specs.WordEdits.{with_swapped_clusters, with_word_in}
+use Rattle.tw_word_parts.specs.WordSwaps.{with_swapped_words}
 use Rattle.tw_word_parts.specs.declared.cases.WordCase.TheVariants.{Upper, Lower, Capitalized}
 use Rattle.tw_prompt_parts.specs.declared.word_keys.WordEdit.{WordEdit}
-use Rattle.tw_prompt_parts.specs.declared.word_keys.WordEdit.TheVariants.{SwapClusters, Write}
+use Rattle.tw_prompt_parts.specs.declared.word_keys.WordEdit.TheVariants.{SwapClusters, SwapWords, Write}
 
 -- the keys with their edits
 abbrev pub word_keys : List (KeyEvent × WordEdit)
 word_keys =
     (key_press ctrl (letter (codes "T")), SwapClusters)
+    ∷ (key_press alt (letter (codes "t")), SwapWords)
     ∷ (key_press alt (letter (codes "u")), Write Upper)
     ∷ (key_press alt (letter (codes "l")), Write Lower)
     ∷ (key_press alt (letter (codes "c")), Write Capitalized)
@@ -37,6 +39,7 @@ word_edit Wake = None
 -- what an edit makes of a line
 abbrev pub edited_cut : WordEdit → Cut → Cut
 edited_cut SwapClusters cut = with_swapped_clusters cut
+edited_cut SwapWords cut = with_swapped_words cut
 edited_cut (Write case) cut = with_word_in case cut
 
 -- what another host holds, and whether the editor searches

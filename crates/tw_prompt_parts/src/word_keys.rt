@@ -9,13 +9,15 @@ ghost use Rattle.tw_prompt_parts.specs.WordKeys.{edit_in, edited_cut, word_edit,
 use std::alloc::{AllocError, Global};
 use tw_input::{InputEvent, KeyCode, KeyEvent, Modifiers};
 use tw_line::LineEditBuffer;
-use tw_word_parts::{WordCase, with_swapped_clusters, with_word_in};
+use tw_word_parts::{WordCase, with_swapped_clusters, with_swapped_words, with_word_in};
 
 /// What a key makes of the line.
 #[derive(Clone, Copy, Debug, PartialEq, Eq)]
 pub enum WordEdit {
     /// The grapheme clusters around the cursor change places.
     SwapClusters,
+    /// The word at the cursor, or the next one, and the word before it change places.
+    SwapWords,
     /// The word ahead is written in a case.
     Write(WordCase),
 }
@@ -35,6 +37,7 @@ fn alt_edit(key: KeyCode) -> Option<WordEdit>
     ensures { result ≡ edit_in word_keys (key_press alt key) }
 {
     match key {
+        KeyCode::Char('t') => Some(WordEdit::SwapWords),
         KeyCode::Char('u') => Some(WordEdit::Write(WordCase::Upper)),
         KeyCode::Char('l') => Some(WordEdit::Write(WordCase::Lower)),
         KeyCode::Char('c') => Some(WordEdit::Write(WordCase::Capitalized)),
@@ -53,7 +56,7 @@ fn key_edit(key: KeyEvent) -> Option<WordEdit>
     }
 }
 
-/// The edit of an event, if it has one: of Ctrl-T, Alt-u, Alt-l and Alt-c. It takes no memory.
+/// The edit of an event, if it has one: of Ctrl-T, Alt-t, Alt-u, Alt-l and Alt-c. It takes no memory.
 pub fn word_edit(event: &InputEvent) -> Option<WordEdit>
     ensures { result ≡ word_edit (event_view event.now) }
 {
@@ -73,6 +76,7 @@ pub fn edited_line(
 {
     match edit {
         WordEdit::SwapClusters => with_swapped_clusters(alloc, editor),
+        WordEdit::SwapWords => with_swapped_words(alloc, editor),
         WordEdit::Write(case) => with_word_in(alloc, case, editor),
     }
 }
