@@ -4,7 +4,7 @@ use sqlite::types::Bytes;
 use sqlite_schema::schema::{Column, Schema, Table, View};
 use std::alloc::{AllocError, Global};
 
-/// Names, each once.
+/// Names, in the order in which they are found.
 #[derive(Drop)]
 struct Names {
     alloc: Global,
@@ -12,12 +12,9 @@ struct Names {
 }
 
 impl Names {
-    /// Adds a name, if it is not there yet.
+    /// Adds a name.
     fn add(&mut self, name: &Bytes) -> Result<(), AllocError> {
         let name = String::from_utf8_lossy(self.alloc, name.as_slice())?;
-        if self.names.contains(&name) {
-            return Ok(());
-        }
         self.names.push(name)?;
         Ok(())
     }
@@ -30,7 +27,7 @@ impl Names {
         Ok(())
     }
 
-    /// Adds the names of tables, each with those of its columns after it.
+    /// Adds the names of tables and of their columns.
     fn add_tables(&mut self, tables: &[Table]) -> Result<(), AllocError> {
         for table in tables {
             self.add(&table.name)?;
@@ -50,14 +47,16 @@ impl Names {
     }
 }
 
-/// The names of the tables of a database, each with those of its columns after it, and then those of its views. Each
-/// name stands there once.
+/// The names of the tables of a database, of their columns and of its views, sorted. Each stands there once.
 pub fn names_in(alloc: Global, schema: &Schema) -> Result<Vec<String>, AllocError> {
-    let mut names = Names {
+    let mut found = Names {
         alloc,
         names: Vec::new(alloc),
     };
-    names.add_tables(schema.tables.as_slice())?;
-    names.add_views(schema.views.as_slice())?;
-    Ok(names.names)
+    found.add_tables(schema.tables.as_slice())?;
+    found.add_views(schema.views.as_slice())?;
+    let mut names = found.names;
+    names.sort_unstable();
+    names.dedup();
+    Ok(names)
 }
