@@ -5,7 +5,7 @@ use std::alloc::Global;
 use std::process::Abort;
 use std::test::Fail;
 
-/// Compares what a text leaves with the marks that are open, or with the one that is wrong behind an exclamation mark.
+/// Compares what a text leaves with the marks that are open, or with the one that is wrong after an exclamation mark.
 fn expect_left(rt: &impl Abort, alloc: Global, text: &str, left: &str) -> Result<(), Fail> {
     let pairs = common_pairs(alloc)?;
     let mut told = String::new(alloc);
