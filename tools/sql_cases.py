@@ -10,16 +10,17 @@ from prompt_session import ROOT, Session, want
 START = f"{ROOT}/tools/at_terminal"
 PROGRAM = f"{ROOT}/crates/sql_prompt/out/sql_prompt"
 PROMPT, GOES_ON = b"sql> ", b"   ...> "
-UP, CTRL_A, CTRL_C, CTRL_D, CTRL_F = b"\x1b[A", b"\x01", b"\x03", b"\x04", b"\x06"
+UP, RIGHT, CTRL_A, CTRL_C, CTRL_D, CTRL_F = b"\x1b[A", b"\x1b[C", b"\x01", b"\x03", b"\x04", b"\x06"
 PEOPLE = b"create table people (id integer primary key, name text);\rinsert into people (name) values ('Ann');\r"
 STYLES = re.compile(rb"\x1b\[[0-9;]*m")
 
 
 class Database(Session):
-    """sql_prompt at a terminal of its own, over a file."""
+    """sql_prompt at a terminal of its own, over a file, with a file of its history where one is named."""
 
-    def __init__(self, path, cols=80):
-        super().__init__((START, PROGRAM, path), PROGRAM, cols=cols, ready=PROMPT)
+    def __init__(self, path, cols=80, history=None):
+        options = ("-history", history) if history else ()
+        super().__init__((START, PROGRAM, *options, path), PROGRAM, cols=cols, ready=PROMPT)
 
     def ask(self, keys, shown):
         """Types keys, wants this text to be shown, and returns all that was shown up to the next prompt."""
@@ -93,6 +94,83 @@ def sql_names_are_completed(path):
 
 
 @with_file
+def sql_columns_of_the_tables_that_are_named(path):
+    with Database(path) as session:
+        session.type(PEOPLE + b"create table pets (id integer, \"nick name\" text);\r")
+        session.ask(b"insert into pets values (1, 'Tom');\r.tables\r", b"people\r\npets\r\n")
+        session.ask(b"select  from pets;" + CTRL_A + CTRL_F * 7 + b"n\t\r", b"nick name\r\n---------\r\nTom\r\n")
+        session.type(b"select id\r")
+        session.wait_for(GOES_ON)
+        session.ask(b"from people where na\t = 'Ann';\r", b" 1\r\n(1 row)\r\n")
+        session.ask(b"select 'na\tn' as text;\r", b"text\r\n")
+        session.quit()
+
+
+@with_file
+def sql_columns_stand_under_the_line(path):
+    with Database(path) as session:
+        session.type(PEOPLE)
+        session.ask(b".tables\r", b"people\r\n")
+        since = len(session.shown)
+        session.type(b"INSERT INTO people (")
+        session.wait_for(b"people (id, name)", since)
+        session.type(b"name)\r")
+        session.wait_for(GOES_ON, since)
+        session.wait_for(b"people (id, name)", session.shown.rindex(GOES_ON))
+        session.ask(b"values ('Bo');\r", PROMPT)
+        since = len(session.shown)
+        session.type(b"create table t (")
+        session.wait_for(b"a bracket is open", since)
+        session.ask(b"a);\r.tables\r", b"people\r\nt\r\n")
+        session.quit()
+    want(rows_of(path, "SELECT count(*) FROM people") == [(2,)], "the row is not in the file")
+
+
+@with_file
+def sql_hint_is_taken(path):
+    with Database(path) as session:
+        session.type(PEOPLE)
+        session.ask(b"select name from people;\r", b"Ann\r\n(1 row)\r\n")
+        since = len(session.shown)
+        session.type(b"sel")
+        session.wait_for(b"ect name from people;", since)
+        session.ask(RIGHT + b"\r", b"Ann\r\n(1 row)\r\n")
+        session.quit()
+
+
+@with_file
+def sql_history_is_kept(path):
+    history = f"{path}-history"
+    with Database(path, history=history) as session:
+        session.type(PEOPLE)
+        session.type(b"select name\rfrom people;\r")
+        session.ask(b"select 'a\\b' as text;\r", b"a\\b\r\n(1 row)\r\n")
+        session.quit()
+    with open(history, "ab") as file:
+        file.write(b"select 'cut off")
+    with Database(path, history=history) as session:
+        shown = session.ask(UP + UP + UP + b"\r", b"Ann\r\n(1 row)\r\n")
+        want(b"sql> select name from people;" in STYLES.sub(b"", shown), f"it is not one line in {shown}")
+        session.quit()
+    with open(history, "rb") as file:
+        kept = file.read().splitlines()
+    want(kept == PEOPLE.split(b"\r")[:2] + [b"select name from people;", b"select 'a\\\\b' as text;", b".quit",
+                                            b"select 'cut off", b"select name from people;", b".quit"],
+         f"the file has {kept}")
+
+
+@with_file
+def sql_history_that_is_not_written(path):
+    with Database(path, history=f"{path}-none/history") as session:
+        want(session.shown.count(b"the history can't be written") == 1, f"it says {session.shown}")
+        session.type(PEOPLE)
+        session.ask(b"select name from people;\r", b"Ann\r\n(1 row)\r\n")
+        session.ask(UP + b"\r", b"Ann\r\n(1 row)\r\n")
+        want(session.shown.count(b"the history can't be written") == 1, "it says so twice")
+        session.quit()
+
+
+@with_file
 def sql_error_is_edited(path):
     with Database(path) as session:
         session.tells_errors = True
@@ -143,12 +221,14 @@ def sql_end_of_input(path):
 @with_file
 def sql_controls_are_pictures(path):
     connection = sqlite3.connect(path)
-    connection.execute("CREATE TABLE t (a /* \x1b]0;title\x07 */)")
+    connection.execute("CREATE TABLE t (a /* \x1b]0;title\x07 */, \"nasty\x1b]0;column\x07\")")
+    connection.execute("CREATE TABLE \"name\x1b]0;table\x07\" (c)")
     connection.commit()
     connection.close()
     with Database(path) as session:
-        shown = session.ask(b".schema\r", b"title")
-        want(b"\x1b]" not in shown and b"\x07" not in shown, f"a control character is sent: {shown}")
+        session.ask(b".schema\r", b"title")
+        session.ask(b"select * from na\t\x15select c from t where na\t\x15.tables\r", b"t\r\n")
+        want(b"\x1b]" not in session.shown and b"\x07" not in session.shown, f"a control is sent: {session.shown}")
         session.quit()
 
 
@@ -174,7 +254,8 @@ def sql_no_database(path):
 
 
 SQL_CHECKS = [
-    sql_of_several_lines, sql_quotes_over_lines, sql_names_are_completed, sql_error_is_edited,
-    sql_statement_is_abandoned, sql_size_within_a_line, sql_end_of_input, sql_controls_are_pictures, sql_signal,
-    sql_no_database,
+    sql_of_several_lines, sql_quotes_over_lines, sql_names_are_completed,
+    sql_columns_of_the_tables_that_are_named, sql_columns_stand_under_the_line, sql_hint_is_taken,
+    sql_history_is_kept, sql_history_that_is_not_written, sql_error_is_edited, sql_statement_is_abandoned,
+    sql_size_within_a_line, sql_end_of_input, sql_controls_are_pictures, sql_signal, sql_no_database,
 ]

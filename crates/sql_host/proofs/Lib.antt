@@ -1,2 +1,1 @@
 pub mod ShownLemmas
-pub mod NameCandidates

@@ -1,3 +1,4 @@
 pub mod SqlShown
 pub mod SqlCompletion
+pub mod SqlPreview
 pub mod SqlRules

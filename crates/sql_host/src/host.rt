@@ -1,74 +1,72 @@
 //! The host.
 
-ghost use Rattle.std.specs.Prelude.{◌≡◌, refl};
+ghost use Rattle.std.specs.Prelude.{◌≡◌, map, string_bytes};
+ghost use Rattle.std.proofs.Common.{ap};
 ghost use Rattle.tw_host.specs.PlainAnswers.{all_overrides, no_plain_left};
-ghost use Rattle.sql_host.specs.SqlRules.{SqlView, sql_rules, sql_view};
+ghost use Rattle.sql_language.specs.Catalog.{catalog_view};
+ghost use Rattle.sql_host.specs.SqlRules.{SqlView, sql_rules};
 
-use crate::completion::complete_name;
+use crate::completion::{complete_sql, whole_statement};
+use crate::preview::preview_sql;
 use crate::shown::{SqlStyles, show_sql};
+use sql_language::Catalog;
 use std::alloc::{AllocError, Global};
-use tw_history::History;
-use tw_host::{
-    Action, CompletionCandidate, LineEditorHost, OutputElement, Overrides, plain_element,
-};
+use tw_host::{Action, CompletionCandidate, LineEditorHost, OutputElement, Overrides};
 use tw_input::InputEvent;
 use tw_line::LineEditBuffer;
 use tw_surface::unicode_column_width;
 
-/// A host for lines of SQL, over any history.
+/// Another host, for lines of SQL. Keywords, texts, numbers and comments are shown in styles. Tab completes names of
+/// the database and keywords. Under the line, where the other host shows nothing there, stands the last table that the
+/// statement names, with its columns, or else that a bracket is open.
+///
+/// The history, the prompt and the keys are the other host's.
 #[derive(Debug, Drop)]
 pub struct SqlHost<H> {
-    /// Words that are shown as keywords.
+    /// The other host.
+    pub host: H,
+    /// Words that are shown as keywords, and completed.
     pub keywords: Vec<String>,
-    /// Words that Tab completes.
-    pub names: Vec<String>,
+    /// The names of the database.
+    pub catalog: Catalog,
+    /// What has begun of the statement before the line, each line with its line feed.
+    pub begun: String,
     /// How parts of a line are shown.
     pub styles: SqlStyles,
-    history: H,
 }
 
-impl<H: History> SqlHost<H> {
-    /// The host of these words and this history. It takes no memory.
-    pub fn new(keywords: Vec<String>, names: Vec<String>, styles: SqlStyles, history: H) -> Self
-        ensures rules { ⟦<SqlHost<H> as LineEditorHost>⟧.rules ≡ sql_rules }
-        ensures value { ⟦<SqlHost<H> as LineEditorHost>⟧.value result ≡ sql_view keywords names styles (H.lines history) }
-    {
-        SqlHost {
-            keywords,
-            names,
-            styles,
-            history,
-        }
-    }
-}
+impl<H: LineEditorHost> LineEditorHost for SqlHost<H> {
+    type Hist = H::Hist;
 
-impl<H: History> LineEditorHost for SqlHost<H> {
-    type Hist = H;
+    ghost Value = { SqlView H.Value };
 
-    ghost Value = { SqlView };
+    ghost value = { λ it. record { host = H.value it.host; keywords = map string_bytes it.keywords.items; catalog = catalog_view it.catalog; begun = string_bytes it.begun; styles = it.styles } };
 
-    ghost value = { λ host. sql_view host.keywords host.names host.styles (H.lines host.history) };
+    ghost rules = { sql_rules H.rules };
 
-    ghost rules = { sql_rules };
+    ghost history_of = { λ it. H.history_of it.host };
 
-    ghost history_of = { λ host. host.history };
-
-    ghost with_history = { λ host history. record host { history = history } };
+    ghost with_history = { λ it history. record it { host = H.with_history it.host history } };
 
     ghost OVERRIDES = { all_overrides };
 
     const OVERRIDES: Overrides = Overrides::ALL;
 
-    fn history(&mut self) -> &mut H {
-        &mut self.history
+    fn history(&mut self) -> &mut H::Hist {
+        self.host.history()
     }
 
     fn render_prompt(&self, alloc: Global, prompt: &str) -> Result<Vec<OutputElement>, AllocError> {
-        plain_element(alloc, prompt)
+        self.host.render_prompt(alloc, prompt)
     }
 
-    fn render_preview(&self, alloc: Global, _line: &str) -> Result<Vec<OutputElement>, AllocError> {
-        Ok(Vec::new(alloc))
+    fn render_preview(&self, alloc: Global, line: &str) -> Result<Vec<OutputElement>, AllocError> {
+        let elements = self.host.render_preview(alloc, line)?;
+        if !elements.is_empty() {
+            return Ok(elements);
+        }
+        let statement = whole_statement(alloc, self.begun.as_str(), line)?;
+        preview_sql(alloc, &self.catalog.tables, statement.as_str())
     }
 
     fn highlight_line(
@@ -87,23 +85,30 @@ impl<H: History> LineEditorHost for SqlHost<H> {
         line: &str,
         cursor_position: usize,
     ) -> Result<Vec<CompletionCandidate>, AllocError> {
-        complete_name(alloc, self.names.as_slice(), line, cursor_position)
+        complete_sql(
+            alloc,
+            self.keywords.as_slice(),
+            &self.catalog,
+            self.begun.as_str(),
+            line,
+            cursor_position,
+        )
     }
 
     fn resolve_action(
         &mut self,
-        _alloc: Global,
-        _event: &InputEvent,
-        _editor: &mut LineEditBuffer,
+        alloc: Global,
+        event: &InputEvent,
+        editor: &mut LineEditBuffer,
     ) -> Result<Option<Action>, AllocError> {
-        Ok(None)
+        self.host.resolve_action(alloc, event, editor)
     }
 
     ghost plain_answers = { no_plain_left };
 
-    ghost history_put_back = { λ host. refl };
+    ghost history_put_back = { λ it. ap (λ host. record it { host = host }) (H.history_put_back it.host) };
 
-    ghost held_put = { λ host history. refl };
+    ghost held_put = { λ it history. H.held_put it.host history };
 
-    ghost held_lines = { λ host. refl };
+    ghost held_lines = { λ it. H.held_lines it.host };
 }

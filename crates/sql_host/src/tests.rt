@@ -1,4 +1,5 @@
-use crate::{SqlStyles, complete_name, show_sql};
+use crate::{SqlStyles, complete_sql, preview_sql, show_sql};
+use sql_language::{Catalog, SqlTable};
 use std::alloc::{AllocError, Global};
 use std::test::Fail;
 use tw_host::OutputElement;
@@ -56,17 +57,35 @@ fn parts_are_shown_in_their_styles(rt: HostRuntime) -> Result<(), Fail> {
     Ok(())
 }
 
+/// A database of one table.
+fn catalog(alloc: Global) -> Result<Catalog, AllocError> {
+    let mut tables = Vec::new(alloc);
+    tables.push(SqlTable {
+        name: String::from_str(alloc, "people")?,
+        columns: words(alloc, "id name height")?,
+    })?;
+    Ok(Catalog {
+        names: words(alloc, "height id name people")?,
+        tables,
+    })
+}
+
 #[test]
-fn names_are_completed_in_either_case(rt: HostRuntime) -> Result<(), Fail> {
+fn words_are_completed_in_either_case(rt: HostRuntime) -> Result<(), Fail> {
     let alloc = rt.alloc();
-    let names = words(alloc, "people name NULL height")?;
-    for (line, completed) in [
-        ("select NA", "7name "),
-        ("where(n", "6name 6NULL "),
-        ("x=größe,he", "10height "),
-        ("select z", ""),
+    let keywords = words(alloc, "NULL SELECT")?;
+    let catalog = catalog(alloc)?;
+    for (begun, line, completed) in [
+        ("", "select NA", "7name "),
+        ("", "where(n", "6name 6NULL "),
+        ("", "x=größe,he", "10height "),
+        ("", "select z", ""),
+        ("", "select 'n", ""),
+        ("", "select 1 -- n", ""),
+        ("select 'a\n", "n", ""),
+        ("select 'a\n", "b', n", "4name 4NULL "),
     ] {
-        let found = complete_name(alloc, names.as_slice(), line, line.len())?;
+        let found = complete_sql(alloc, &keywords, &catalog, begun, line, line.len())?;
         let mut told = String::new(alloc);
         for candidate in &found {
             let start = candidate.range.start;
@@ -74,6 +93,22 @@ fn names_are_completed_in_either_case(rt: HostRuntime) -> Result<(), Fail> {
             told.push_str(format!(in alloc; "{start}{text} ")?.as_str())?;
         }
         assert!(rt; told.as_str() == completed, "{line}: {told}");
+    }
+    Ok(())
+}
+
+#[test]
+fn columns_or_an_open_bracket_stand_under_a_line(rt: HostRuntime) -> Result<(), Fail> {
+    let alloc = rt.alloc();
+    let catalog = catalog(alloc)?;
+    for (statement, shown) in [
+        ("insert into people (", "people (id, name, height)"),
+        ("create table t (a,\nb", "a bracket is open"),
+        ("select (1)", ""),
+    ] {
+        let elements = preview_sql(alloc, &catalog.tables, statement)?;
+        let told = marked(alloc, elements.as_slice())?;
+        assert!(rt; told.as_str() == shown, "{statement}: {told}");
     }
     Ok(())
 }

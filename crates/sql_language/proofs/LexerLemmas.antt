@@ -1,4 +1,4 @@
--- A byte from 128 on begins no token behind another such byte.
+-- A byte from 128 on begins no token after another such byte.
 use Rattle.std.proofs.Common.{◌≡◌, ◌∙◌, ◌<◌, ◌≤◌, ◌==◌, ℕ, Bool, true, false, ◌&&◌, not, Some, refl, ap, sym, subst, arith, ne_eqb}
 use Rattle.std.specs.Prelude.{is_none}
 use Rattle.std.proofs.lemmas.Bool.{true≢false}
@@ -51,11 +51,11 @@ passed false inside next e = absurd (cc)
 fails : (passes : Bool) (inside next : Inside) {X : Type 0} → passes ≡ false → if_so passes inside ≡ Some next → X
 fails passes inside next failed e = absurd (true≢false (sym (passed passes inside next e).0 ∙ failed))
 
--- behind such a byte that begins a token
+-- after such a byte that begins a token
 pub fresh-takes : (b : ℕ) → 128 ≤ b → Takes (fresh b)
 fresh-takes b h = let same : fresh b ≡ Word = rw (high-white b h, high-letter b h) in subst Takes (sym same) takes-word
 
--- and behind one that goes on with it
+-- and after one that goes on with it
 pub on-takes : (inside next : Inside) (b : ℕ) → continued inside b ≡ Some next → 128 ≤ b → Takes next
 on-takes White next b e h = fails _ _ _ (high-white b h) e
 on-takes Word next b e h = subst Takes (passed _ _ _ e).1 takes-word

@@ -4,3 +4,4 @@ pub mod StatementLemmas
 pub mod PieceLemmas
 pub mod WordLemmas
 pub mod NameLemmas
+pub mod TokenLemmas

@@ -1,4 +1,4 @@
--- The word at the end of a text begins behind the last byte that is none of a word.
+-- The word at the end of a text begins after the last byte that is none of a word.
 use Rattle.std.proofs.Common.{◌≡◌, ◌∙◌, ◌+◌, ◌-◌, ◌<◌, ◌≤◌, ◌⊎◌, ℕ, zero, suc, true, false, List, length, get_or, sym, ap, subst, inl, inr, arith}
 use Rattle.std.specs.List.{suffix_len}
 use Rattle.std.specs.Str.{IsUtf8, IsCharBoundary}

@@ -1,7 +1,6 @@
 -- Texts that come in pieces.
-use Rattle.std.proofs.Common.{◌≡◌, ◌∙◌, ◌+◌, ℕ, suc, List, [], ◌∷◌, ◌++◌, Option, Some, None, Bool, true, false, cond, length, refl, ap, sym, arith}
+use Rattle.std.proofs.Common.{◌≡◌, ◌∙◌, ◌+◌, ℕ, suc, [], ◌∷◌, ◌++◌, Option, Some, None, Bool, true, false, cond, length, refl, ap, arith}
 use Rattle.std.specs.Option.{option_map}
-use Rattle.sql_language.specs.declared.lexer.Inside.{Inside}
 use Rattle.sql_language.specs.Lexer.{following}
 use Rattle.sql_language.specs.Statements.{begins_mark, end_len, inside_after, EndsInPieces, StandsInPieces}
 

@@ -58,7 +58,7 @@ fresh byte =
 abbrev pub if_so : Bool → Inside → Option Inside
 if_so passes inside = if passes then Some inside else None
 
--- what a byte of a comment stands in, and one behind a star in it
+-- what a byte of a comment stands in, and one after a star in it
 abbrev pub in_block : ℕ → Inside
 in_block byte = if byte == 42 then Star else Block
 
@@ -69,7 +69,7 @@ behind_star byte = if byte == 47 then BlockEnd else in_block byte
 abbrev pub in_quotes : Quote → ℕ → Inside
 in_quotes quote byte = if byte == closing_byte quote then Closed quote else Quoted quote
 
--- what a byte stands in behind another one of its token; none where it begins a token
+-- what a byte stands in after another one of its token; none where it begins a token
 abbrev pub continued : Inside → ℕ → Option Inside
 continued White byte = if_so (is_white byte) White
 continued Word byte = if_so (is_part byte) Word
@@ -84,6 +84,6 @@ continued Star byte = Some (behind_star byte)
 continued (Quoted quote) byte = Some (in_quotes quote byte)
 continued (Closed quote) byte = if_so ((byte == closing_byte quote) && reopens quote) (Quoted quote)
 
--- what a byte stands in behind another one
+-- what a byte stands in after another one
 abbrev pub following : Inside → ℕ → Inside
 following inside byte = unwrap_or (continued inside byte) (fresh byte)

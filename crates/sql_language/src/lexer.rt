@@ -35,7 +35,7 @@ pub enum Inside {
     Line,
     /// A comment that ends at a star and a slash.
     Block,
-    /// Such a comment, behind a star.
+    /// Such a comment, after a star.
     Star,
     /// Such a comment, at its end.
     BlockEnd,
@@ -135,7 +135,7 @@ fn if_so(passes: bool, inside: Inside) -> Option<Inside>
     if passes { Some(inside) } else { None }
 }
 
-/// What a byte stands in behind one that stands in `inside`, where both are of one token; none where a token begins.
+/// What a byte stands in after one that stands in `inside`, where both are of one token; none where a token begins.
 pub fn continued(inside: Inside, byte: u8) -> Option<Inside>
     ensures { result ≡ continued inside byte }
 {
@@ -168,7 +168,7 @@ fn in_block(byte: u8) -> Inside
     }
 }
 
-/// What a byte of a comment stands in behind a star.
+/// What a byte of a comment stands in after a star.
 fn behind_star(byte: u8) -> Inside
     ensures { result ≡ behind_star byte }
 {
@@ -190,7 +190,7 @@ fn in_quotes(quote: Quote, byte: u8) -> Inside
     }
 }
 
-/// What a byte stands in behind one that stands in `inside`.
+/// What a byte stands in after one that stands in `inside`.
 pub fn following(inside: Inside, byte: u8) -> Inside
     ensures { result ≡ following inside byte }
 {

@@ -6,7 +6,7 @@ ghost use Rattle.sql_language.specs.SqlWords.{begins_but_case, is_keyword, name_
 use crate::lexer::is_part;
 
 /// Whether two texts are the same but for the case of their ASCII letters.
-fn same_but_case(text: &[u8], other: &[u8]) -> bool
+pub(crate) fn same_but_case(text: &[u8], other: &[u8]) -> bool
     ensures { result ≡ same_but_case text.now other.now }
 {
     text.eq_ignore_ascii_case(other)
@@ -28,7 +28,7 @@ pub fn begins_but_case(text: &str, word: &str) -> bool
     text.len() <= word.len() && same_but_case(text, &word[..text.len()])
 }
 
-/// Where the word begins with which a text ends: behind the last byte with which no word goes on.
+/// Where the word begins with which a text ends: after the last byte with which no word goes on.
 pub fn name_start(text: &str) -> usize
     ensures value { result ≡ name_start text.now }
     ensures boundary { IsCharBoundary text.now result }

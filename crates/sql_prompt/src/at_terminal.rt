@@ -1,16 +1,18 @@
 //! A session at a terminal in raw mode.
 
-use crate::host::{PromptHost, prompt_host, set_names};
+use crate::history::{kept_history, no_statements};
+use crate::host::{PromptHost, prompt_host, set_begun, set_catalog};
 use crate::lines::{Flow, take_line, tell};
 use crate::output::Output;
 use sql_results::visible;
 use sql_session::{Session, one_line};
 use sqlite::Alter;
 use std::alloc::Global;
-use std::io::Read;
+use std::io::{self, Read, Write};
 use std::time::Clock;
 use tw_device::{AnsiTerminal, Answer, DeviceTerminal, read_line_from};
-use tw_lineedit::{Error, LineEditorHost};
+use tw_history_parts::WrittenHistory;
+use tw_lineedit::{BoundedHistory, Error, LineEditorHost};
 use tw_prompt::{BEGIN, END, PromptEvents};
 use tw_terminal::ScreenSize;
 
@@ -19,6 +21,9 @@ const PROMPT: &str = "sql> ";
 
 /// What stands before a line with which one goes on.
 const GOES_ON: &str = "   ...> ";
+
+/// What is told where statements can't be written.
+const NOT_KEPT: &str = "the history can't be written: it is kept up to the end of the session\n";
 
 /// A terminal, as what shows what a session tells: control characters as pictures, so that they do nothing there.
 #[derive(Drop)]
@@ -43,19 +48,20 @@ impl<T: DeviceTerminal> Output for Screen<T> {
 
 /// What is typed, what shows it, and the host between them.
 #[derive(Drop)]
-struct Prompt<R, C, T> {
+struct Prompt<R, C, T, W> {
     rt: HostRuntime,
     events: PromptEvents<R, C>,
     screen: Screen<T>,
-    host: PromptHost,
+    host: PromptHost<W>,
     /// The lines that were entered since a statement has begun.
     entered: String,
 }
 
-impl<R: Read, C: Clock, T: DeviceTerminal> Prompt<R, C, T> {
+impl<R: Read, C: Clock, T: DeviceTerminal, W: Write + Drop> Prompt<R, C, T, W> {
     /// Takes lines up to the end of the session.
     fn run<S: Alter>(&mut self, session: &mut Session<S>) -> Result<(), anyhow::Error> {
         self.screen.terminal.send(BEGIN)?;
+        tell(session, &mut self.screen)?;
         self.learn_names(session)?;
         for _ in 0..u64::MAX {
             if self.read_and_take(session)? == Flow::Ends {
@@ -68,11 +74,13 @@ impl<R: Read, C: Clock, T: DeviceTerminal> Prompt<R, C, T> {
 
     /// Reads a line and takes it.
     fn read_and_take<S: Alter>(&mut self, session: &mut Session<S>) -> Result<Flow, anyhow::Error> {
+        set_begun(self.screen.alloc, &mut self.host, session.begun())?;
         match self.read(session.has_begun()) {
             Ok(Answer::Line(line)) => self.take(session, line.as_str()),
             Ok(Answer::Cancelled) => {
                 session.abandon();
                 self.remember()?;
+                self.tell_failure()?;
                 Ok(Flow::GoesOn)
             }
             Ok(Answer::End(_)) | Err(Error::EndOfFile) => {
@@ -110,6 +118,7 @@ impl<R: Read, C: Clock, T: DeviceTerminal> Prompt<R, C, T> {
         let flow = take_line(self.rt, session, &mut self.screen, line)?;
         if !session.has_begun() {
             self.remember()?;
+            self.tell_failure()?;
             self.learn_names(session)?;
         }
         Ok(flow)
@@ -142,20 +151,32 @@ impl<R: Read, C: Clock, T: DeviceTerminal> Prompt<R, C, T> {
         Ok(())
     }
 
-    /// Has the host complete the names of the database.
-    fn learn_names<S: Alter>(&mut self, session: &Session<S>) -> Result<(), anyhow::Error> {
-        set_names(self.screen.alloc, &mut self.host, session.names()?)?;
+    /// Tells the host the names of the database.
+    fn learn_names<S: Alter>(&mut self, session: &mut Session<S>) -> Result<(), anyhow::Error> {
+        set_catalog(&mut self.host, session.catalog()?);
+        Ok(())
+    }
+
+    /// Tells where the history can't be written, once.
+    fn tell_failure(&mut self) -> Result<(), anyhow::Error> {
+        if self.host.history().take_failure() {
+            self.screen.show(NOT_KEPT)?;
+        }
         Ok(())
     }
 }
 
-/// Takes the lines that are typed at a terminal of this size.
-pub fn take_typed<S: Alter>(
+/// Takes the lines that are typed at a terminal of this size, with these statements before them, and writes more of
+/// them.
+fn take_with<S: Alter, W: Write + Drop>(
     rt: HostRuntime,
     session: &mut Session<S>,
     size: ScreenSize,
+    statements: BoundedHistory,
+    writer: W,
 ) -> Result<(), anyhow::Error> {
     let alloc = rt.alloc();
+    let history = WrittenHistory::new(alloc, statements, writer);
     let mut prompt = Prompt {
         rt,
         events: PromptEvents::new(alloc, rt.stdin(), rt),
@@ -163,8 +184,28 @@ pub fn take_typed<S: Alter>(
             alloc,
             terminal: AnsiTerminal::new(alloc, rt.stdout(), size),
         },
-        host: prompt_host(alloc, PROMPT, size.cols)?,
+        host: prompt_host(alloc, history, PROMPT, size.cols)?,
         entered: String::new(alloc),
     };
     prompt.run(session)
+}
+
+/// Takes the lines that are typed at a terminal of this size. The statements are kept in a file, where one is named.
+pub fn take_typed<S: Alter>(
+    rt: HostRuntime,
+    session: &mut Session<S>,
+    size: ScreenSize,
+    path: Option<&String>,
+) -> Result<(), anyhow::Error> {
+    let Some(path) = path else {
+        return take_with(rt, session, size, no_statements(rt.alloc()), io::empty());
+    };
+    let kept = kept_history(rt, path.as_str())?;
+    match kept.file {
+        Some(file) => take_with(rt, session, size, kept.statements, file),
+        None => {
+            session.tell(NOT_KEPT)?;
+            take_with(rt, session, size, kept.statements, io::empty())
+        }
+    }
 }

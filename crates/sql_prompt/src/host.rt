@@ -1,14 +1,15 @@
-//! The host of the prompt: how a line of SQL is shown and completed, with keys of readline.
+//! The host of the prompt: how a line of SQL is shown and completed, with keys of readline and hints from the history.
 
 use sql_host::{SqlHost, SqlStyles};
+use sql_language::Catalog;
 use std::alloc::{AllocError, Global};
+use std::io::Write;
+use tw_completion_parts::WithBeginnings;
+use tw_history_parts::WrittenHistory;
 use tw_hosts::{PromptScreen, SettledHost};
-use tw_lineedit::BoundedHistory;
-use tw_parts::{WithReadlineKeys, WithRing, WithUndo};
+use tw_lineedit::{BoundedHistory, NopLineEditorHost};
+use tw_parts::{WithHint, WithReadlineKeys, WithRing, WithUndo};
 use tw_surface::{CellAttributes, ColorAttribute, Intensity};
-
-/// How many statements the history keeps.
-const STATEMENTS_KEPT: usize = 1000;
 
 /// The words that are shown as keywords, and completed.
 const KEYWORDS: &str =
@@ -19,8 +20,14 @@ const KEYWORDS: &str =
     ROLLBACK SELECT SET TABLE TEMP TEXT THEN TO TRANSACTION TRIGGER UNION UNIQUE UPDATE USING VALUES VIEW WHEN WHERE \
     WITH WITHOUT";
 
+/// The history of a prompt, whose statements are written too.
+pub type PromptHistory<W> = WrittenHistory<BoundedHistory, W>;
+
+/// The host for lines of SQL, over keys of readline and hints from the history.
+type LineHost<W> = SqlHost<WithHint<WithReadlineKeys<NopLineEditorHost>, PromptHistory<W>>>;
+
 /// The host of the prompt.
-pub type PromptHost = SettledHost<WithUndo<WithRing<WithReadlineKeys<SqlHost<BoundedHistory>>>>>;
+pub type PromptHost<W> = SettledHost<WithUndo<WithRing<WithBeginnings<LineHost<W>>>>>;
 
 /// A style of one colour of the palette.
 fn coloured(index: u8) -> CellAttributes {
@@ -50,13 +57,33 @@ fn keywords(alloc: Global) -> Result<Vec<String>, AllocError> {
     Ok(keywords)
 }
 
-/// The host of a prompt on a screen with so many columns, which completes no names yet.
-pub fn prompt_host(alloc: Global, prompt: &str, cols: usize) -> Result<PromptHost, AllocError> {
-    let history = BoundedHistory::with_limit(alloc, STATEMENTS_KEPT);
-    let host = SqlHost::new(keywords(alloc)?, keywords(alloc)?, styles(), history);
-    let host = WithReadlineKeys { host };
+/// The names of no database.
+fn no_catalog(alloc: Global) -> Catalog {
+    Catalog {
+        names: Vec::new(alloc),
+        tables: Vec::new(alloc),
+    }
+}
+
+/// The host of a prompt on a screen with so many columns, which knows no names yet.
+pub fn prompt_host<W: Write + Drop>(
+    alloc: Global,
+    history: PromptHistory<W>,
+    prompt: &str,
+    cols: usize,
+) -> Result<PromptHost<W>, AllocError> {
+    let keys = WithReadlineKeys {
+        host: NopLineEditorHost::new(alloc),
+    };
+    let host = SqlHost {
+        host: WithHint::new(keys, history),
+        keywords: keywords(alloc)?,
+        catalog: no_catalog(alloc),
+        begun: String::new(alloc),
+        styles: styles(),
+    };
     Ok(SettledHost {
-        host: WithUndo::new(alloc, WithRing::new(alloc, host)),
+        host: WithUndo::new(alloc, WithRing::new(alloc, WithBeginnings { host })),
         screen: PromptScreen {
             cols,
             prompt: String::from_str(alloc, prompt)?,
@@ -64,14 +91,17 @@ pub fn prompt_host(alloc: Global, prompt: &str, cols: usize) -> Result<PromptHos
     })
 }
 
-/// Has a host complete these names, and after them the keywords.
-pub fn set_names(
+/// Tells a host the names of the database.
+pub fn set_catalog<W: Write + Drop>(host: &mut PromptHost<W>, catalog: Catalog) {
+    host.host.host.host.host.catalog = catalog;
+}
+
+/// Tells a host what has begun of a statement before the line.
+pub fn set_begun<W: Write + Drop>(
     alloc: Global,
-    host: &mut PromptHost,
-    names: Vec<String>,
+    host: &mut PromptHost<W>,
+    begun: &str,
 ) -> Result<(), AllocError> {
-    let mut names = names;
-    names.append(&mut keywords(alloc)?)?;
-    host.host.host.host.host.names = names;
+    host.host.host.host.host.begun = String::from_str(alloc, begun)?;
     Ok(())
 }

@@ -1,12 +1,13 @@
-//! A prompt of a database: `sql_prompt [-at COLS ROWS] [-bail] FILE` runs the statements and the commands that it reads,
-//! on the database in FILE, or on a new one in memory where that is `:memory:`. With `-at` it is a prompt at a terminal
-//! in raw mode; `tools/at_terminal` starts it so. docs/SQL_PROMPT.md is for its users.
+//! A prompt of a database: `sql_prompt [-at COLS ROWS] [-bail] [-history FILE] FILE` runs the statements and the
+//! commands that it reads, on the database in FILE, or on a new one in memory where that is `:memory:`. With `-at` it is
+//! a prompt at a terminal in raw mode; `tools/at_terminal` starts it so. docs/SQL_PROMPT.md is for its users.
 //!
 //! `options` has the arguments, `piped` a session over standard input, `at_terminal` one at a terminal, `lines` what
 //! both make of a line, `output` where it is told, and `host` the host of the line editor.
 #![tactic(auto)]
 
 mod at_terminal;
+mod history;
 mod host;
 mod lines;
 mod options;
@@ -22,7 +23,7 @@ use std::io::Write;
 use std::process::ExitCode;
 
 /// What is told where the arguments are wrong.
-const USAGE: &str = "usage: sql_prompt [-at COLS ROWS] [-bail] FILE\n";
+const USAGE: &str = "usage: sql_prompt [-at COLS ROWS] [-bail] [-history FILE] FILE\n";
 
 /// Runs a session over a database. The status tells whether it was stopped by an error.
 fn serve<S: Alter + Drop>(
@@ -32,7 +33,7 @@ fn serve<S: Alter + Drop>(
 ) -> Result<ExitCode, anyhow::Error> {
     let mut session = Session::new(rt.alloc(), connection, options.bails);
     match options.screen {
-        Some(size) => take_typed(rt, &mut session, size)?,
+        Some(size) => take_typed(rt, &mut session, size, options.history.as_ref())?,
         None => take_all(rt, &mut session)?,
     }
     Ok(if session.has_stopped() {

@@ -1,8 +1,9 @@
 //! What a line of input does.
 
 use crate::begun::Begun;
-use crate::names::names_in;
-use crate::values::as_results;
+use crate::names::{catalog_of, column_names, name_text};
+use crate::values::{as_results, names};
+use sql_language::{Catalog, SqlTable, quoted_name};
 use sql_results::{Results, csv_text, table_text};
 use sqlite::types::ValueRef;
 use sqlite::{Alter, Connection, Error, Row};
@@ -99,10 +100,54 @@ impl<S: Alter> Session<S> {
         self.begun = Begun::new(self.alloc);
     }
 
-    /// The names of the tables of the database, each with those of its columns after it, and then those of its views.
-    /// Each name stands there once.
-    pub fn names(&self) -> Result<Vec<String>, AllocError> {
-        names_in(self.alloc, self.connection.schema())
+    /// What has begun of a statement: lines, each with its line feed.
+    pub fn begun(&self) -> &str {
+        self.begun.as_str()
+    }
+
+    /// The tables of the database, without its views.
+    fn stored_tables(&self) -> Result<Vec<SqlTable>, AllocError> {
+        let mut tables = Vec::new(self.alloc);
+        for table in self.connection.schema().tables.as_slice() {
+            tables.push(SqlTable {
+                name: name_text(self.alloc, &table.name)?,
+                columns: column_names(self.alloc, table.columns.as_slice())?,
+            })?;
+        }
+        Ok(tables)
+    }
+
+    /// The names of the views of the database. A table that can't be changed is among them, and what belongs to it is
+    /// not.
+    fn view_names(&self) -> Result<Vec<String>, AllocError> {
+        let mut views = Vec::new(self.alloc);
+        for view in self.connection.schema().views.as_slice() {
+            if view.foreign.is_none() {
+                views.push(name_text(self.alloc, &view.name)?)?;
+            }
+        }
+        Ok(views)
+    }
+
+    /// The names of the columns of a view: none where it can't be read.
+    fn view_columns(&mut self, name: &str) -> Result<Vec<String>, AllocError> {
+        let view = quoted_name(self.alloc, name)?;
+        let sql = format!(in self.alloc; "SELECT * FROM {view}")?;
+        match self.connection.prepare(sql.as_str()) {
+            Ok(statement) => names(self.alloc, statement.column_names()),
+            Err(_) => Ok(Vec::new(self.alloc)),
+        }
+    }
+
+    /// The names of the database: its tables and views, and all names sorted, each of them once. A name with a control
+    /// character is left out: it would not be shown as it is.
+    pub fn catalog(&mut self) -> Result<Catalog, AllocError> {
+        let mut tables = self.stored_tables()?;
+        for name in self.view_names()? {
+            let columns = self.view_columns(name.as_str())?;
+            tables.push(SqlTable { name, columns })?;
+        }
+        catalog_of(self.alloc, tables)
     }
 
     /// Whether an error has ended the session.

@@ -1,5 +1,6 @@
 //! Rows of the database as rows of results.
 
+use crate::names::name_text;
 use sql_results::{Cell, Results};
 use sqlite::types::{Bytes, ValueRef};
 use sqlite::{Error, Row};
@@ -37,10 +38,10 @@ fn cells(alloc: Global, row: &Row) -> Result<Vec<Cell>, Error> {
 }
 
 /// The names of columns.
-fn names(alloc: Global, columns: &[Bytes]) -> Result<Vec<String>, AllocError> {
+pub fn names(alloc: Global, columns: &[Bytes]) -> Result<Vec<String>, AllocError> {
     let mut names = Vec::new(alloc);
     for column in columns {
-        names.push(String::from_utf8_lossy(alloc, column.as_slice())?)?;
+        names.push(name_text(alloc, column)?)?;
     }
     Ok(names)
 }

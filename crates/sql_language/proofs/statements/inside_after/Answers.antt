@@ -1,4 +1,4 @@
-use Rattle.std.proofs.Common.{◌≡◌, ◌∙◌, ◌+◌, ◌<◌, length, drop, get_or, ap, sym, arith}
+use Rattle.std.proofs.Common.{◌≡◌, ◌∙◌, ◌+◌, ◌<◌, length, drop, ap, sym, arith}
 use Rattle.sql_language.specs.Statements.{inside_after}
 use Rattle.sql_language.proofs.StatementLemmas.{stands-on, stands-end}
 use Rattle.sql_language.proofs.statements.inside_after.Goals as goal

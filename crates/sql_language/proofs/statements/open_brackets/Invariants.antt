@@ -1,4 +1,4 @@
--- What is open behind the rest is what is open in the end, and no more brackets are open than bytes were seen.
+-- What is open after the rest is what is open in the end, and no more brackets are open than bytes were seen.
 use Rattle.std.proofs.Common.{◌≡◌, ◌≤◌, drop}
 use Rattle.sql_language.specs.Statements.{open_after, open_brackets}
 use Rattle.sql_language.proofs.statements.open_brackets.Given as goal

@@ -1,4 +1,4 @@
-use Rattle.std.proofs.Common.{◌≡◌, ◌∙◌, ◌-◌, ◌<◌, ◌≤◌, length, ap, subst, sym, arith}
+use Rattle.std.proofs.Common.{◌≡◌, ◌∙◌, length, ap, subst, arith}
 use Rattle.std.specs.Str.{IsCharBoundary}
 use Rattle.sql_language.specs.SqlWords.{name_start}
 use Rattle.sql_language.proofs.NameLemmas.{start-is, start-boundary}
