@@ -53,7 +53,7 @@ impl<R: Read, C: Clock, T: DeviceTerminal> Prompt<R, C, T> {
         Ok(())
     }
 
-    /// Reads a line and obeys it. It answers false where there is to be no other.
+    /// Reads a line and obeys it. It returns false where there is to be no other.
     fn read_and_obey(&mut self) -> Result<bool, anyhow::Error> {
         let answer = read_line_from(
             self.alloc,
@@ -73,7 +73,7 @@ impl<R: Read, C: Clock, T: DeviceTerminal> Prompt<R, C, T> {
         }
     }
 
-    /// Tells a line, and keeps it. It answers false for `quit`.
+    /// Tells a line, and keeps it. It returns false for `quit`.
     fn obey(&mut self, line: &str) -> Result<bool, anyhow::Error> {
         if line == "quit" {
             return Ok(false);

@@ -8,7 +8,7 @@ use unicode_width::UnicodeWidthStr;
 /// What stands for the end of a text that is cut.
 pub const CUT: char = '…';
 
-/// How many spaces fill a column behind a text.
+/// How many spaces fill a column after a text.
 pub fn padding(text: &str, column: usize) -> usize
     ensures { result ≡ column - str_width false (chars text.now) }
 {

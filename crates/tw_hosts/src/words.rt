@@ -34,7 +34,7 @@ pub fn first_word(text: &str) -> &str
     split_first_word(text).0
 }
 
-/// What stands behind the last space of a text, or all of it where it has none.
+/// What stands after the last space of a text, or all of it where it has none.
 pub fn last_word(text: &str) -> &str
     ensures value { result.now ≡ last_word text.now }
     ensures length { length result.now ≤ length text.now }

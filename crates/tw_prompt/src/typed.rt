@@ -10,7 +10,7 @@ const ESCAPE: u8 = 0x1b;
 /// What stands before a pasted text.
 const PASTE_START: &[u8] = b"\x1b[200~";
 
-/// What stands behind it.
+/// What stands after it.
 const PASTE_END: &[u8] = b"\x1b[201~";
 
 /// A terminal waits longer than these milliseconds before it answers that nothing was typed. At the end of the input
@@ -34,12 +34,12 @@ enum Found {
     End,
 }
 
-/// What is typed. It reads a byte only where one is wanted, so what is typed behind the last line is left to others.
-/// An ESC is handed out with the byte behind it, so that the key Escape, which has none, is told from other keys: it
+/// What is typed. It reads a byte only where one is wanted, so what is typed after the last line is left to others.
+/// An ESC is handed out with the byte after it, so that the key Escape, which has none, is told from other keys: it
 /// comes before a pause.
 ///
 /// A terminal that was asked for its size may answer within a pasted text, where that is typed slowly. The answer is
-/// no part of the text: the last one is handed out behind it.
+/// no part of the text: the last one is handed out after it.
 #[derive(Drop)]
 pub struct Typed<R, C> {
     reader: R,

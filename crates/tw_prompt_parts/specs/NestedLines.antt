@@ -4,7 +4,7 @@ use Rattle.nested_marks.specs.Nesting.{NestingView, Open, Wrong, innermost, nest
 use Rattle.nested_marks.specs.declared.marks.MarkPair.{MarkPair}
 use Rattle.nested_marks.specs.declared.marks.OpenMark.{OpenMark}
 
--- a text behind a mark
+-- a text after a mark
 abbrev pub marked_text : ℕ → List ℕ → List ℕ
 marked_text mark text = encode_utf8 mark ++ text
 

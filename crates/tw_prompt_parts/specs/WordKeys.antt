@@ -53,7 +53,7 @@ edited_by true event cut = None
 edited_by false event cut = option_map (λ edit. edited_cut edit cut) (word_edit event)
 
 module _ {V : Type 0} (rules : HostRules V) where
-  -- the host's answer, and the watch behind the action that comes of it
+  -- the host's answer, and the watch after the action that comes of it
   abbrev pub with_search_after : EventView → WordKeyed V → Resolution V → Resolution (WordKeyed V)
   with_search_after event v r = record {
     value = record { host = r.value; searching = searches_after (has_lines (rules.lines r.value)) (or_default r.action event) v.searching };

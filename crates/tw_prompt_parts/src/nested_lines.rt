@@ -16,7 +16,7 @@ pub struct NestedLines {
     pub pairs: Vec<MarkPair>,
 }
 
-/// A text behind a mark.
+/// A text after a mark.
 fn marked_text(alloc: Global, mark: char, text: &str) -> Result<String, AllocError>
     ensures { IfOk result (λ said. string_bytes said ≡ marked_text mark text.now) }
 {

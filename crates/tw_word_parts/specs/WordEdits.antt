@@ -29,7 +29,7 @@ in_case Upper text = str_to_uppercase text
 in_case Lower text = str_to_lowercase text
 in_case Capitalized text = let n = first_cluster_len text in str_to_uppercase (take n text) ++ str_to_lowercase (drop n text)
 
--- what stands from the cursor to behind the word ahead is written in a case, and the cursor stands behind it
+-- what stands from the cursor to the end of the word ahead is written in a case, and the cursor stands after it
 abbrev pub with_word_in : WordCase → Cut → Cut
 with_word_in case c =
     with_text (in_case case (passed_text (movement.ForwardWord 1) c)) (after_kill (movement.ForwardWord 1) movement.None c)
@@ -38,7 +38,7 @@ with_word_in case c =
 abbrev pub swapping_place : Cut → Cut
 swapping_place c = if c.cursor == length c.line then after_move (movement.BackwardChar 1) c else c
 
--- the cluster before the cursor is taken out, and put in behind the one at the cursor
+-- the cluster before the cursor is taken out, and put in after the one at the cursor
 abbrev pub with_cluster_ahead : Cut → Cut
 with_cluster_ahead c =
     with_text (passed_text (movement.BackwardChar 1) c)

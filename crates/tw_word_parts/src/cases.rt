@@ -50,7 +50,7 @@ pub fn in_case(alloc: Global, case: WordCase, text: &str) -> Result<String, Allo
     }
 }
 
-/// The line with what stands from the cursor to behind the word ahead in a case, and the cursor behind that. Words are
+/// The line with what stands from the cursor to the end of the word ahead in a case, and the cursor after that. Words are
 /// the editor's: they end at whitespace, which belongs to the word before it.
 pub fn with_word_in(
     alloc: Global,

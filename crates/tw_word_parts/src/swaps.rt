@@ -18,7 +18,7 @@ fn swapping_place(alloc: Global, editor: &LineEditBuffer) -> Result<LineEditBuff
     Ok(place)
 }
 
-/// The line in which the grapheme cluster before the cursor has gone behind the one at the cursor, and the cursor behind
+/// The line in which the grapheme cluster before the cursor has gone to after the one at the cursor, and the cursor after
 /// both. At the end of the line the last two change places; where no cluster stands before the cursor nothing changes.
 pub fn with_swapped_clusters(
     alloc: Global,
