@@ -127,6 +127,21 @@ def sql_columns_stand_under_the_line(path):
 
 
 @with_file
+def sql_names_stand_in_a_menu(path):
+    with Database(path) as session:
+        session.type(PEOPLE + b"create table pets (id integer, age integer);\r")
+        session.ask(b".tables\r", b"people\r\npets\r\n")
+        since = len(session.shown)
+        session.type(b"select * from pe\t")
+        session.wait_for(b"pets", since)
+        session.type(b"\t")
+        session.ask(b" where id = 1;\r", b"(0 rows)\r\n")
+        menus = STYLES.sub(b"", session.shown[since:]).count(b"people  pets")
+        want(menus == 2, f"a menu is shown {menus} times in {session.shown[since:]}")
+        session.quit()
+
+
+@with_file
 def sql_hint_is_taken(path):
     with Database(path) as session:
         session.type(PEOPLE)
@@ -255,7 +270,8 @@ def sql_no_database(path):
 
 SQL_CHECKS = [
     sql_of_several_lines, sql_quotes_over_lines, sql_names_are_completed,
-    sql_columns_of_the_tables_that_are_named, sql_columns_stand_under_the_line, sql_hint_is_taken,
-    sql_history_is_kept, sql_history_that_is_not_written, sql_error_is_edited, sql_statement_is_abandoned,
-    sql_size_within_a_line, sql_end_of_input, sql_controls_are_pictures, sql_signal, sql_no_database,
+    sql_columns_of_the_tables_that_are_named, sql_columns_stand_under_the_line, sql_names_stand_in_a_menu,
+    sql_hint_is_taken, sql_history_is_kept, sql_history_that_is_not_written, sql_error_is_edited,
+    sql_statement_is_abandoned, sql_size_within_a_line, sql_end_of_input, sql_controls_are_pictures, sql_signal,
+    sql_no_database,
 ]

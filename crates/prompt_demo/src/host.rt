@@ -1,129 +1,66 @@
-//! The host of the prompt.
+//! The host of the prompt, of ready parts alone.
 
-ghost use Rattle.std.specs.Prelude.{◌≡◌, refl};
-ghost use Rattle.tw_input.specs.EventView.{event_view};
-ghost use Rattle.tw_lineedit.specs.PlainAnswers.{all_overrides, no_plain_left};
-ghost use Rattle.tw_hosts.specs.TableRules.{TablesView, tables_view};
-ghost use Rattle.prompt_demo.specs.PromptRules.{deletes, end_key, is_end_key, prompt_rules};
-
+use crate::tables::tables;
+use nested_marks::common_pairs;
 use std::alloc::{AllocError, Global};
-use tw_hosts::{Tables, complete_word, highlight_tokens, resolve_key, show_hint};
-use tw_input::{InputEvent, KeyCode, KeyEvent, Modifiers};
-use tw_lineedit::{
-    Action, BoundedHistory, CompletionCandidate, LineEditBuffer, LineEditorHost, Movement,
-    OutputElement, Overrides, plain_element,
-};
-use tw_surface::unicode_column_width;
+use tw_completion_parts::WithBeginnings;
+use tw_hosts::{PromptScreen, SettledHost, TableHost};
+use tw_lineedit::{BasicHistory, BoundedHistory};
+use tw_menu_parts::{MenuStyle, WithMenu};
+use tw_parts::{WithHint, WithReadlineKeys, WithRing, WithUndo};
+use tw_prompt_parts::{NestedLines, WithValidator, WithWordKeys};
+use tw_surface::CellAttributes;
 
-/// A host that answers by its tables, but that Ctrl-D deletes in a line that is not empty, as Delete does. On an empty
-/// line it is left to the editor, whose key table has it end the input.
-#[derive(Drop)]
-pub struct PromptHost {
-    tables: Tables,
-    history: BoundedHistory,
+/// How many lines the history keeps.
+const LINES_KEPT: usize = 100;
+
+/// How many rows a menu of completions takes.
+const MENU_ROWS: usize = 4;
+
+/// A host of tables, which completes words up to where they part, with hints from a history.
+type WordHost = WithHint<WithBeginnings<TableHost<BasicHistory>>, BoundedHistory>;
+
+/// That host, which accepts whole lines alone, with the keys of readline and of words.
+type KeyHost = WithWordKeys<WithReadlineKeys<WithValidator<WordHost, NestedLines>>>;
+
+/// The host of the prompt: that one, with kills and edits that come back, and a menu of completions.
+pub type PromptHost = SettledHost<WithMenu<WithUndo<WithRing<KeyHost>>>>;
+
+/// The host that knows the commands, over an empty history.
+fn word_host(alloc: Global) -> Result<WordHost, AllocError> {
+    let host = TableHost::new(tables(alloc)?, BasicHistory::new(alloc));
+    let history = BoundedHistory::with_limit(alloc, LINES_KEPT);
+    Ok(WithHint::new(WithBeginnings { host }, history))
 }
 
-impl PromptHost {
-    /// The host of these tables and this history. It takes no memory.
-    pub fn new(tables: Tables, history: BoundedHistory) -> Self {
-        PromptHost { tables, history }
+/// The host with its keys.
+fn key_host(alloc: Global) -> Result<KeyHost, AllocError> {
+    let validator = NestedLines {
+        pairs: common_pairs(alloc)?,
+    };
+    let host = WithValidator::new(word_host(alloc)?, validator);
+    Ok(WithWordKeys::new(WithReadlineKeys { host }))
+}
+
+/// A menu on a screen with so many columns: the chosen word stands in reverse.
+fn menu_style(cols: usize) -> MenuStyle {
+    let mut chosen = CellAttributes::default();
+    chosen.reverse = true;
+    MenuStyle {
+        cols,
+        rows: MENU_ROWS,
+        chosen,
     }
 }
 
-/// Ctrl-D.
-fn end_key() -> KeyEvent
-    ensures { result ≡ end_key }
-{
-    KeyEvent {
-        key: KeyCode::Char('D'),
-        modifiers: Modifiers::CTRL,
-    }
-}
-
-/// Whether an event is Ctrl-D.
-fn is_end_key(event: &InputEvent) -> bool
-    ensures { result ≡ is_end_key (event_view event.now) }
-{
-    match event {
-        InputEvent::Key(key) => *key == end_key(),
-        _ => false,
-    }
-}
-
-/// Whether an event deletes.
-fn deletes(event: &InputEvent, editor: &LineEditBuffer) -> bool
-    ensures { result ≡ deletes (event_view event.now) editor.now }
-{
-    is_end_key(event) && !editor.get_line().is_empty()
-}
-
-impl LineEditorHost for PromptHost {
-    type Hist = BoundedHistory;
-
-    ghost Value = { TablesView };
-
-    ghost value = { λ host. tables_view host.tables host.history.lines };
-
-    ghost rules = { prompt_rules };
-
-    ghost history_of = { λ host. host.history };
-
-    ghost with_history = { λ host history. record host { history = history } };
-
-    ghost OVERRIDES = { all_overrides };
-
-    const OVERRIDES: Overrides = Overrides::ALL;
-
-    fn history(&mut self) -> &mut BoundedHistory {
-        &mut self.history
-    }
-
-    fn render_prompt(&self, alloc: Global, prompt: &str) -> Result<Vec<OutputElement>, AllocError> {
-        plain_element(alloc, prompt)
-    }
-
-    fn render_preview(&self, alloc: Global, line: &str) -> Result<Vec<OutputElement>, AllocError> {
-        show_hint(alloc, self.tables.hints.as_slice(), line)
-    }
-
-    fn highlight_line(
-        &self,
-        alloc: Global,
-        line: &str,
-        cursor_position: usize,
-    ) -> Result<(Vec<OutputElement>, usize), AllocError> {
-        let keywords = self.tables.keywords.as_slice();
-        let elements = highlight_tokens(alloc, self.tables.styles, keywords, line)?;
-        Ok((elements, unicode_column_width(&line[..cursor_position])))
-    }
-
-    fn complete(
-        &self,
-        alloc: Global,
-        line: &str,
-        cursor_position: usize,
-    ) -> Result<Vec<CompletionCandidate>, AllocError> {
-        complete_word(alloc, self.tables.words.as_slice(), line, cursor_position)
-    }
-
-    fn resolve_action(
-        &mut self,
-        _alloc: Global,
-        event: &InputEvent,
-        editor: &mut LineEditBuffer,
-    ) -> Result<Option<Action>, AllocError> {
-        if deletes(event, editor) {
-            let delete = Action::KillAndMove(Movement::ForwardChar(1), Movement::None);
-            return Ok(Some(delete));
-        }
-        Ok(resolve_key(self.tables.keys.as_slice(), event, editor))
-    }
-
-    ghost plain_answers = { no_plain_left };
-
-    ghost history_put_back = { λ host. refl };
-
-    ghost held_put = { λ host history. refl };
-
-    ghost held_lines = { λ host. refl };
+/// The host of a prompt on a screen with so many columns.
+pub fn prompt_host(alloc: Global, prompt: &str, cols: usize) -> Result<PromptHost, AllocError> {
+    let edited = WithUndo::new(alloc, WithRing::new(alloc, key_host(alloc)?));
+    Ok(SettledHost {
+        host: WithMenu::new(edited, menu_style(cols)),
+        screen: PromptScreen {
+            cols,
+            prompt: String::from_str(alloc, prompt)?,
+        },
+    })
 }

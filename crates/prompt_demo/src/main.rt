@@ -1,31 +1,27 @@
-//! A small command prompt at a terminal in raw mode; `prompt.sh` starts it. It keeps the last lines, completes and
-//! shows commands, and has a hint under a line that begins with a question mark. It ends at `quit`, at Ctrl-D on an
-//! empty line, and at the end of what is typed. With the argument `sparing` the terminal is sent what differs, and else
-//! all that is painted.
+//! A small command prompt at a terminal in raw mode; `prompt.sh` starts it. It keeps the last lines, with hints from
+//! them, completes commands by a menu, shows them in bold, has a hint under a line that begins with a question mark, and
+//! keeps a line from being accepted in which a bracket or a quotation is open. It ends at `quit`, at Ctrl-D on an empty
+//! line, and at the end of what is typed. With the argument `sparing` the terminal is sent what differs, and else all
+//! that is painted.
 //!
-//! `tables` has what the prompt knows, `host` the host over these, and `options` the arguments. `tw_prompt` has what is
-//! typed, as events.
+//! `tables` has what the prompt knows, `host` the host, which is made of ready parts, and `options` the arguments.
+//! `tw_prompt` has what is typed, as events.
 #![tactic(auto)]
 
 mod host;
 mod options;
 mod tables;
 
-use host::PromptHost;
+use host::{PromptHost, prompt_host};
 use options::{Options, read_options};
 use std::alloc::Global;
 use std::io::Read;
 use std::time::Clock;
-use tables::tables;
 use tw_device::{AnsiTerminal, Answer, DeviceTerminal, read_line_from};
-use tw_hosts::{PromptScreen, SettledHost};
-use tw_lineedit::{BoundedHistory, Error, LineEditorHost};
+use tw_lineedit::{Error, LineEditorHost};
 use tw_prompt::{BEGIN, END, PromptEvents, usable};
 use tw_sparing::SparingTerminal;
 use tw_terminal::ScreenSize;
-
-/// How many lines the history keeps.
-const LINES_KEPT: usize = 100;
 
 /// What stands before the line.
 const PROMPT: &str = "> ";
@@ -36,7 +32,7 @@ struct Prompt<R, C, T> {
     alloc: Global,
     events: PromptEvents<R, C>,
     terminal: T,
-    host: SettledHost<PromptHost>,
+    host: PromptHost,
 }
 
 impl<R: Read, C: Clock, T: DeviceTerminal> Prompt<R, C, T> {
@@ -96,16 +92,7 @@ fn prompt_at<T: DeviceTerminal + Drop>(
         alloc,
         events: PromptEvents::new(alloc, rt.stdin(), rt),
         terminal,
-        host: SettledHost {
-            host: PromptHost::new(
-                tables(alloc)?,
-                BoundedHistory::with_limit(alloc, LINES_KEPT),
-            ),
-            screen: PromptScreen {
-                cols: size.cols,
-                prompt: String::from_str(alloc, PROMPT)?,
-            },
-        },
+        host: prompt_host(alloc, PROMPT, size.cols)?,
     };
     prompt.run()
 }

@@ -1,9 +1,8 @@
-//! What the prompt knows: its commands, hints and keys.
+//! What the prompt knows: its commands, a hint and a key.
 
 use std::alloc::{AllocError, Global};
 use tw_hosts::{Binding, Hint, KeyBinding, Styles, Tables};
 use tw_input::{KeyCode, KeyEvent, Modifiers};
-use tw_lineedit::Movement;
 use tw_surface::{CellAttributes, ColorAttribute, Intensity};
 
 /// The commands, which are shown in bold and completed.
@@ -30,24 +29,16 @@ fn styles() -> Styles {
     Styles { keyword, quote }
 }
 
-/// Escape cancels, and Ctrl-U kills to the start of the line.
+/// Escape cancels.
 fn keys(alloc: Global) -> Result<Vec<KeyBinding>, AllocError> {
     let escape = KeyEvent {
         key: KeyCode::Escape,
         modifiers: Modifiers::NONE,
     };
-    let ctrl_u = KeyEvent {
-        key: KeyCode::Char('U'),
-        modifiers: Modifiers::CTRL,
-    };
     let keys = vec![in alloc;
         KeyBinding {
             key: escape,
             binding: Binding::Cancel
-        },
-        KeyBinding {
-            key: ctrl_u,
-            binding: Binding::Kill(Movement::StartOfLine)
         },
     ]?;
     Ok(keys)

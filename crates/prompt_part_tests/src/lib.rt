@@ -4,7 +4,11 @@
 #[cfg(test)]
 mod beginnings;
 #[cfg(test)]
+mod menu;
+#[cfg(test)]
 mod nesting;
+#[cfg(test)]
+mod tables;
 #[cfg(test)]
 mod validator;
 #[cfg(test)]

@@ -1,4 +1,5 @@
-//! The host of the prompt: how a line of SQL is shown and completed, with keys of readline and hints from the history.
+//! The host of the prompt: how a line of SQL is shown and completed, with keys of readline, hints from the history and a
+//! menu of completions.
 
 use sql_host::{SqlHost, SqlStyles};
 use sql_language::Catalog;
@@ -8,6 +9,7 @@ use tw_completion_parts::WithBeginnings;
 use tw_history_parts::WrittenHistory;
 use tw_hosts::{PromptScreen, SettledHost};
 use tw_lineedit::{BoundedHistory, NopLineEditorHost};
+use tw_menu_parts::{MenuStyle, WithMenu};
 use tw_parts::{WithHint, WithReadlineKeys, WithRing, WithUndo};
 use tw_surface::{CellAttributes, ColorAttribute, Intensity};
 
@@ -20,14 +22,20 @@ const KEYWORDS: &str =
     ROLLBACK SELECT SET TABLE TEMP TEXT THEN TO TRANSACTION TRIGGER UNION UNIQUE UPDATE USING VALUES VIEW WHEN WHERE \
     WITH WITHOUT";
 
+/// How many rows a menu of completions takes.
+const MENU_ROWS: usize = 4;
+
 /// The history of a prompt, whose statements are written too.
 pub type PromptHistory<W> = WrittenHistory<BoundedHistory, W>;
 
 /// The host for lines of SQL, over keys of readline and hints from the history.
 type LineHost<W> = SqlHost<WithHint<WithReadlineKeys<NopLineEditorHost>, PromptHistory<W>>>;
 
+/// The host for lines of SQL, with kills and edits that come back.
+type EditedHost<W> = WithUndo<WithRing<WithBeginnings<LineHost<W>>>>;
+
 /// The host of the prompt.
-pub type PromptHost<W> = SettledHost<WithUndo<WithRing<WithBeginnings<LineHost<W>>>>>;
+pub type PromptHost<W> = SettledHost<WithMenu<EditedHost<W>>>;
 
 /// A style of one colour of the palette.
 fn coloured(index: u8) -> CellAttributes {
@@ -45,6 +53,17 @@ fn styles() -> SqlStyles {
         text: coloured(2),
         number: coloured(6),
         comment: coloured(8),
+    }
+}
+
+/// A menu on a screen with so many columns: the chosen name stands in reverse.
+fn menu_style(cols: usize) -> MenuStyle {
+    let mut chosen = CellAttributes::default();
+    chosen.reverse = true;
+    MenuStyle {
+        cols,
+        rows: MENU_ROWS,
+        chosen,
     }
 }
 
@@ -82,8 +101,9 @@ pub fn prompt_host<W: Write + Drop>(
         begun: String::new(alloc),
         styles: styles(),
     };
+    let edited = WithUndo::new(alloc, WithRing::new(alloc, WithBeginnings { host }));
     Ok(SettledHost {
-        host: WithUndo::new(alloc, WithRing::new(alloc, WithBeginnings { host })),
+        host: WithMenu::new(edited, menu_style(cols)),
         screen: PromptScreen {
             cols,
             prompt: String::from_str(alloc, prompt)?,
@@ -93,7 +113,7 @@ pub fn prompt_host<W: Write + Drop>(
 
 /// Tells a host the names of the database.
 pub fn set_catalog<W: Write + Drop>(host: &mut PromptHost<W>, catalog: Catalog) {
-    host.host.host.host.host.catalog = catalog;
+    host.host.host.host.host.host.catalog = catalog;
 }
 
 /// Tells a host what has begun of a statement before the line.
@@ -102,6 +122,6 @@ pub fn set_begun<W: Write + Drop>(
     host: &mut PromptHost<W>,
     begun: &str,
 ) -> Result<(), AllocError> {
-    host.host.host.host.host.begun = String::from_str(alloc, begun)?;
+    host.host.host.host.host.host.begun = String::from_str(alloc, begun)?;
     Ok(())
 }

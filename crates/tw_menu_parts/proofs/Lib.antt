@@ -1,0 +1,3 @@
+pub mod LayoutLemmas
+pub mod MenuLemmas
+pub mod MenuRunLemmas

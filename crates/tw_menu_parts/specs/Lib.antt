@@ -1,0 +1,4 @@
+pub mod MenuLaws
+pub mod MenuLayout
+pub mod MenuRules
+pub mod MenuState
