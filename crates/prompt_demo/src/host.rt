@@ -8,7 +8,7 @@ use tw_hosts::{PromptScreen, SettledHost, TableHost};
 use tw_lineedit::{BasicHistory, BoundedHistory};
 use tw_menu_parts::{MenuStyle, WithMenu};
 use tw_parts::{WithHint, WithReadlineKeys, WithRing, WithUndo};
-use tw_prompt_parts::{NestedLines, WithValidator, WithWordKeys};
+use tw_prompt_parts::{NestedLines, WithLastWords, WithValidator, WithWordKeys};
 use tw_surface::CellAttributes;
 
 /// How many lines the history keeps.
@@ -20,8 +20,11 @@ const MENU_ROWS: usize = 4;
 /// A host of tables, which completes words up to where they part, with hints from a history.
 type WordHost = WithHint<WithBeginnings<TableHost<BasicHistory>>, BoundedHistory>;
 
-/// That host, which accepts whole lines alone, with the keys of readline and of words.
-type KeyHost = WithWordKeys<WithReadlineKeys<WithValidator<WordHost, NestedLines>>>;
+/// That host, which accepts whole lines alone, with the keys of readline.
+type WholeHost = WithReadlineKeys<WithValidator<WordHost, NestedLines>>;
+
+/// That one, with the keys of words, and the last words of lines.
+type KeyHost = WithLastWords<WithWordKeys<WholeHost>>;
 
 /// The host of the prompt: that one, with kills and edits that come back, and a menu of completions.
 pub type PromptHost = SettledHost<WithMenu<WithUndo<WithRing<KeyHost>>>>;
@@ -39,7 +42,8 @@ fn key_host(alloc: Global) -> Result<KeyHost, AllocError> {
         pairs: common_pairs(alloc)?,
     };
     let host = WithValidator::new(word_host(alloc)?, validator);
-    Ok(WithWordKeys::new(WithReadlineKeys { host }))
+    let host = WithReadlineKeys { host };
+    Ok(WithLastWords::new(WithWordKeys::new(host)))
 }
 
 /// A menu on a screen with so many columns: the chosen word stands in reverse.

@@ -4,6 +4,8 @@
 #[cfg(test)]
 mod beginnings;
 #[cfg(test)]
+mod last_words;
+#[cfg(test)]
 mod menu;
 #[cfg(test)]
 mod nesting;

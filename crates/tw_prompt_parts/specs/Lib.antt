@@ -1,3 +1,4 @@
+pub mod LastWords
 pub mod NestedLines
 pub mod Validation
 pub mod WordKeys
