@@ -1,1 +1,3 @@
 pub mod NestingLemmas
+pub mod StackLemmas
+pub mod WholeLemmas

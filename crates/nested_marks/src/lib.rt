@@ -1,8 +1,10 @@
 //! Brackets and quotations that nest in a text.
 //!
-//! `marks` has the pairs of marks of a language, and `nesting` what a text leaves open, or which of its marks is wrong.
+//! `marks` has the pairs of marks of a language, `nesting` what a text leaves open, or which of its marks is wrong, and
+//! `laws` what whole texts are made of.
 #![tactic(auto)]
 
+pub mod laws;
 mod marks;
 mod nesting;
 

@@ -1,0 +1,12 @@
+//! What follows from the definitions alone: each function does nothing, and its contract is the law.
+
+ghost use Rattle.nested_marks.specs.NestingLaws.{BracketedIsWhole, JoinedIsWhole, PlainIsWhole, QuotedIsWhole};
+
+/// Whole are a text without marks (`plain`), two whole texts one after the other (`joined`), a whole text between
+/// brackets (`bracketed`), and any text between the marks of a quotation that has not the closing one (`quoted`).
+pub fn whole()
+    ensures plain { PlainIsWhole }
+    ensures joined { JoinedIsWhole }
+    ensures bracketed { BracketedIsWhole }
+    ensures quoted { QuotedIsWhole }
+{}
