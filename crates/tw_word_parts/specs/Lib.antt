@@ -1,2 +1,3 @@
 pub mod WordEdits
 pub mod WordSwaps
+pub mod LetterWords
