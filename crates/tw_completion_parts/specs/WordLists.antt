@@ -1,0 +1,47 @@
+-- Words that complete what is begun, up to a delimiter.
+use Rattle.std.specs.Prelude.{ℕ, ◌-◌, ◌==◌, Bool, true, false, not, ◌&&◌, List, length, take, drop, filter, map, nat_le, nat_lt, string_bytes}
+use Rattle.std.specs.List.{list_any, suffix_len}
+use Rattle.std.specs.Str.{str_eq_ignore_ascii_case}
+use Rattle.tw_host.specs.CandidateView.{CandidateView}
+use Rattle.tw_hosts.specs.WordCompletion.{word_candidate}
+use Rattle.tw_hosts.specs.Words.{begins_with}
+use Rattle.tw_line.specs.Cut.{Cut}
+use Rattle.tw_completion_parts.specs.declared.word_lists.WordList.{WordList}
+
+-- words, the delimiters between words of a line, and whether the case of ASCII letters is left out of account
+pub record WordListView : Type 0 where
+  pub words : List (List ℕ)
+  pub delimiters : List ℕ
+  pub ignores_case : Bool
+
+-- the view of a list of words
+abbrev pub word_list_view : WordList → WordListView
+word_list_view list = record { words = map string_bytes list.words.items; delimiters = string_bytes list.delimiters; ignores_case = list.ignores_case }
+
+-- whether a byte is a delimiter: one of these characters, and one of ASCII
+abbrev pub is_delimiter : List ℕ → ℕ → Bool
+is_delimiter delimiters byte = nat_lt byte 128 && list_any (λ delimiter. delimiter == byte) delimiters
+
+-- where the word begins with which a text ends: after the last delimiter
+abbrev pub word_start : List ℕ → List ℕ → ℕ
+word_start delimiters text = length text - suffix_len (λ byte. not (is_delimiter delimiters byte)) text
+
+-- that word, and what stands before it
+abbrev pub begun_word : List ℕ → List ℕ → List ℕ
+begun_word delimiters text = drop (word_start delimiters text) text
+
+abbrev pub before_word : List ℕ → List ℕ → List ℕ
+before_word delimiters text = take (word_start delimiters text) text
+
+-- whether a word begins with a text, where the case of ASCII letters does not count, or does
+abbrev pub begins_in : Bool → List ℕ → List ℕ → Bool
+begins_in true text word = nat_le (length text) (length word) && str_eq_ignore_ascii_case text (take (length text) word)
+begins_in false text word = begins_with text word
+
+-- the words of a list that begin with a text, each for the bytes that the text has before a cursor
+abbrev pub words_from : WordListView → ℕ → List ℕ → List CandidateView
+words_from list cursor text = map (word_candidate (cursor - length text) cursor) (filter (begins_in list.ignores_case text) list.words)
+
+-- what completes the word before the cursor
+abbrev pub listed_candidates : WordListView → Cut → List CandidateView
+listed_candidates list cut = words_from list cut.cursor (begun_word list.delimiters (take cut.cursor cut.line))

@@ -1,0 +1,104 @@
+//! File names that complete what is begun, by listings of directories.
+
+ghost use Rattle.std.specs.Prelude.{◌≡◌, IfOk, IsCharBoundary, map, string_bytes};
+ghost use Rattle.tw_host.specs.CandidateView.{candidate_view};
+ghost use Rattle.tw_line.specs.Cut.{cut_at};
+ghost use Rattle.tw_hosts.specs.Words.{is_same};
+ghost use Rattle.tw_completion_parts.specs.FileNames.{entries_in, entry_text, entry_view, file_candidates, listing_view, names_from};
+
+use crate::word_lists::split_begun;
+use std::alloc::{AllocError, Global};
+use tw_host::CompletionCandidate;
+use tw_hosts::last_word;
+
+/// A name in a directory.
+#[derive(Debug, Drop)]
+pub struct DirectoryEntry {
+    /// The name alone.
+    pub name: String,
+    /// Whether it is that of a directory.
+    pub is_directory: bool,
+}
+
+/// What a directory has, as its owner has read it.
+#[derive(Debug, Drop)]
+pub struct Listing {
+    /// The directory, as it stands before a name in a path: with the slash after it, and empty for the one that paths
+    /// begin from.
+    pub directory: String,
+    /// Its entries, in the order in which they are offered.
+    pub entries: Vec<DirectoryEntry>,
+}
+
+impl Listing {
+    /// Whether it is that of a directory.
+    fn is_of(&self, directory: &str) -> bool
+        ensures { result ≡ is_same (listing_view self.now).directory directory.now }
+    {
+        self.directory.as_str() == directory
+    }
+}
+
+/// The entries of the first listing of a directory, and none where it has no listing.
+fn entries_in<'listings>(
+    listings: &'listings [Listing],
+    directory: &str,
+) -> &'listings [DirectoryEntry]
+    ensures { map entry_view result.now ≡ entries_in (map listing_view listings.now) directory.now }
+{
+    for listing in listings {
+        if listing.is_of(directory) {
+            return listing.entries.as_slice();
+        }
+    }
+    &[]
+}
+
+/// The name of an entry, with a slash after that of a directory.
+fn entry_text(alloc: Global, entry: &DirectoryEntry) -> Result<String, AllocError>
+    ensures { IfOk result (λ text. string_bytes text ≡ entry_text (entry_view entry.now)) }
+{
+    let mut text = String::from_str(alloc, entry.name.as_str())?;
+    if entry.is_directory {
+        text.push_str("/")?;
+    }
+    Ok(text)
+}
+
+/// The entries whose names begin with a text, for the bytes that it has before a cursor.
+fn names_from(
+    alloc: Global,
+    entries: &[DirectoryEntry],
+    cursor: usize,
+    text: &str,
+) -> Result<Vec<CompletionCandidate>, AllocError>
+    ensures { IfOk result (λ candidates. map candidate_view candidates.items ≡ names_from (map entry_view entries.now) cursor text.now) }
+{
+    let start = cursor.saturating_sub(text.len());
+    let mut candidates = Vec::new(alloc);
+    for entry in entries {
+        if entry.name.as_str().starts_with(text) {
+            candidates.push(CompletionCandidate {
+                range: start..cursor,
+                text: entry_text(alloc, entry)?,
+            })?;
+        }
+    }
+    Ok(candidates)
+}
+
+/// The candidates for the path before a cursor, which is a boundary of the line. The path goes back to a space: what
+/// stands after its last slash is begun of a name, and what stands before it is the directory, whose first listing has
+/// the names.
+pub fn complete_file_name(
+    alloc: Global,
+    listings: &[Listing],
+    line: &str,
+    cursor: usize,
+) -> Result<Vec<CompletionCandidate>, AllocError>
+    requires { IsCharBoundary line.now cursor }
+    ensures { IfOk result (λ candidates. map candidate_view candidates.items ≡ file_candidates (map listing_view listings.now) (cut_at line.now cursor)) }
+{
+    let (directory, text) = split_begun("/", last_word(&line[..cursor]));
+    names_from(alloc, entries_in(listings, directory), cursor, text)
+}

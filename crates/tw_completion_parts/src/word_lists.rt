@@ -1,0 +1,102 @@
+//! Words that complete what is begun, up to a delimiter.
+
+ghost use Rattle.std.specs.Prelude.{◌≡◌, IfOk, IsCharBoundary, map};
+ghost use Rattle.tw_host.specs.CandidateView.{candidate_view};
+ghost use Rattle.tw_line.specs.Cut.{cut_at};
+ghost use Rattle.tw_completion_parts.specs.WordLists.{before_word, begins_in, begun_word, is_delimiter, listed_candidates, word_list_view, word_start, words_from};
+
+use std::alloc::{AllocError, Global};
+use tw_host::CompletionCandidate;
+
+/// Words, and how what is begun of one is found in a line.
+#[derive(Debug, Drop)]
+pub struct WordList {
+    /// The words, in the order in which they are offered.
+    pub words: Vec<String>,
+    /// The characters between words of a line. Those beyond ASCII part none.
+    pub delimiters: String,
+    /// Whether a word is offered whatever the case of its ASCII letters.
+    pub ignores_case: bool,
+}
+
+/// Whether a byte is a delimiter.
+fn is_delimiter(delimiters: &str, byte: u8) -> bool
+    ensures { result ≡ is_delimiter delimiters.now byte }
+{
+    byte.is_ascii()
+        && delimiters
+            .as_bytes()
+            .iter()
+            .any(|delimiter| *delimiter == byte)
+}
+
+/// Where the word begins with which a text ends: after the last delimiter.
+fn word_start(delimiters: &str, text: &str) -> usize
+    ensures value { result ≡ word_start delimiters.now text.now }
+    ensures boundary { IsCharBoundary text.now result }
+{
+    let bytes = text.as_bytes();
+    let mut start = bytes.len();
+    while start > 0 && !is_delimiter(delimiters, bytes[start - 1]) {
+        start -= 1;
+    }
+    start
+}
+
+/// What stands in a text before its last word, which begins after the last of these delimiters, and that word. It takes
+/// no memory.
+pub fn split_begun<'text>(delimiters: &str, text: &'text str) -> (&'text str, &'text str)
+    ensures before { result.0.now ≡ before_word delimiters.now text.now }
+    ensures word { result.1.now ≡ begun_word delimiters.now text.now }
+{
+    text.split_at(word_start(delimiters, text))
+}
+
+/// Whether a word begins with a text, where the case of ASCII letters does not count, or does.
+fn begins_in(ignores_case: bool, text: &str, word: &str) -> bool
+    ensures { result ≡ begins_in ignores_case text.now word.now }
+{
+    if !ignores_case {
+        return word.starts_with(text);
+    }
+    let text = text.as_bytes();
+    let word = word.as_bytes();
+    text.len() <= word.len() && text.eq_ignore_ascii_case(&word[..text.len()])
+}
+
+/// The words of a list that begin with a text, for the bytes that it has before a cursor.
+fn words_from(
+    alloc: Global,
+    list: &WordList,
+    cursor: usize,
+    text: &str,
+) -> Result<Vec<CompletionCandidate>, AllocError>
+    ensures { IfOk result (λ candidates. map candidate_view candidates.items ≡ words_from (word_list_view list.now) cursor text.now) }
+{
+    let start = cursor.saturating_sub(text.len());
+    let mut candidates = Vec::new(alloc);
+    for word in &list.words {
+        if begins_in(list.ignores_case, text, word.as_str()) {
+            candidates.push(CompletionCandidate {
+                range: start..cursor,
+                text: word.clone()?,
+            })?;
+        }
+    }
+    Ok(candidates)
+}
+
+/// The candidates for what stands before a cursor, which is a boundary of the line, after the last delimiter: those of
+/// the words that begin with it, in their order.
+pub fn complete_listed(
+    alloc: Global,
+    list: &WordList,
+    line: &str,
+    cursor: usize,
+) -> Result<Vec<CompletionCandidate>, AllocError>
+    requires { IsCharBoundary line.now cursor }
+    ensures { IfOk result (λ candidates. map candidate_view candidates.items ≡ listed_candidates (word_list_view list.now) (cut_at line.now cursor)) }
+{
+    let (_, text) = split_begun(list.delimiters.as_str(), &line[..cursor]);
+    words_from(alloc, list, cursor, text)
+}
