@@ -1,12 +1,17 @@
 -- How a menu lies under the line: candidates in columns, one of them marked.
 use Rattle.std.specs.Prelude.{ℕ, zero, suc, ◌+◌, ◌-◌, ◌*◌, ◌/◌, ◌%◌, ◌==◌, Bool, true, false, List, [], ◌∷◌, ◌++◌, length, get_or, map, codes, max, min, replicate, if◌then◌else◌}
 use Rattle.std.specs.List.{fold}
+use Rattle.tw_surface.specs.Defaults.{default_attributes}
 use Rattle.tw_surface.specs.Width.{column_width}
 use Rattle.tw_input.specs.EventView.{EventView, Key, Resized, Paste, Wake}
 use Rattle.tw_host.specs.CandidateView.{CandidateView}
 use Rattle.tw_host.specs.ElementView.{ElementView, Text}
 use Rattle.tw_hosts.specs.Tokens.{styled_text}
 use Rattle.tw_menu_parts.specs.declared.layout.MenuStyle.{MenuStyle}
+
+-- the chosen one stands in reverse
+abbrev pub reverse_style : ℕ → ℕ → MenuStyle
+reverse_style cols rows = record { cols = cols; rows = rows; chosen = record default_attributes { reverse = true } }
 
 -- the screen has the columns that an event tells
 abbrev pub style_after : EventView → MenuStyle → MenuStyle

@@ -4,7 +4,7 @@ ghost use Rattle.std.specs.Prelude.{◌≡◌, ◌<◌, IfOk, map, string_bytes,
 ghost use Rattle.tw_host.specs.CandidateView.{candidate_view};
 ghost use Rattle.tw_host.specs.ElementView.{element_view};
 ghost use Rattle.tw_input.specs.EventView.{event_view};
-ghost use Rattle.tw_menu_parts.specs.MenuLayout.{filled_cell, gap, menu_cell, menu_page, page_len, row_len, style_after, menu_texts, widest};
+ghost use Rattle.tw_menu_parts.specs.MenuLayout.{filled_cell, gap, menu_cell, menu_page, menu_texts, page_len, reverse_style, row_len, style_after, widest};
 
 use std::alloc::{AllocError, Global};
 use tw_host::{CompletionCandidate, OutputElement, plain_element};
@@ -24,6 +24,16 @@ pub struct MenuStyle {
 }
 
 impl MenuStyle {
+    /// A menu of so many rows on a screen with so many columns, whose chosen candidate stands in reverse. It takes no
+    /// memory.
+    pub fn in_reverse(cols: usize, rows: usize) -> Self
+        ensures { result ≡ reverse_style cols rows }
+    {
+        let mut chosen = CellAttributes::default();
+        chosen.reverse = true;
+        MenuStyle { cols, rows, chosen }
+    }
+
     /// Has the columns that an event tells.
     pub(crate) fn resize(&mut self, event: &InputEvent)
         ensures { self.new ≡ style_after (event_view event.now) self.old }
