@@ -5,6 +5,7 @@ ghost use Rattle.tw_input.specs.EventView.{event_view};
 ghost use Rattle.tw_parts.specs.Keys.{is_key};
 ghost use Rattle.tw_prompt_parts.specs.LastWords.{cut_for, index_for, last_argument, last_word_key, place_view};
 
+use crate::keys::is_key;
 use std::alloc::{AllocError, Global};
 use tw_history::{History, SearchDirection};
 use tw_host::LineEditorHost;
@@ -46,10 +47,7 @@ fn last_word_key() -> KeyEvent
 pub fn is_last_word_key(event: &InputEvent) -> bool
     ensures { result ≡ is_key last_word_key (event_view event.now) }
 {
-    match event {
-        InputEvent::Key(key) => *key == last_word_key(),
-        _ => false,
-    }
+    is_key(last_word_key(), event)
 }
 
 /// The last word of a line, whatever whitespace follows it.

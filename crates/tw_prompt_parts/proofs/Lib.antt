@@ -1,0 +1,2 @@
+pub mod PrefixLemmas
+pub mod WatchLemmas
