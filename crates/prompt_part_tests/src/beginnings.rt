@@ -1,14 +1,12 @@
 //! What words begin with, by what Python's `os.path.commonprefix` returns for them, and lines that Tab completes up to
 //! there, by what bash does.
 
+use crate::reading::read_script;
 use crate::tables::{table_host, words_of};
-use host_testing::script_events;
 use std::alloc::Global;
 use std::process::Abort;
 use std::test::Fail;
 use tw_completion_parts::{WithBeginnings, common_beginning};
-use tw_lineedit::LineEditor;
-use tw_terminal::{ScreenSize, ScriptTerminal};
 
 /// Compares what all words of a text begin with.
 fn expect_beginning(rt: &impl Abort, alloc: Global, text: &str, shared: &str) -> Result<(), Fail> {
@@ -54,9 +52,7 @@ fn tab_completes_up_to_where_words_part(rt: HostRuntime) -> Result<(), Fail> {
     ] {
         let host = table_host(alloc, "users user_roles orders")?;
         let mut host = WithBeginnings { host };
-        let size = ScreenSize { rows: 24, cols: 80 };
-        let mut terminal = ScriptTerminal::new(alloc, size, script_events(alloc, script)?);
-        let line = LineEditor::new(alloc, &mut terminal)?.read_line(&mut host)?;
+        let line = read_script(alloc, &mut host, script)?;
         assert!(rt; line.as_deref() == Some(answer), "{script:?}: {line:?}");
     }
     Ok(())

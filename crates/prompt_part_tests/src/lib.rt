@@ -4,11 +4,19 @@
 #[cfg(test)]
 mod beginnings;
 #[cfg(test)]
+mod completers;
+#[cfg(test)]
 mod last_words;
+#[cfg(test)]
+mod letter_words;
 #[cfg(test)]
 mod menu;
 #[cfg(test)]
 mod nesting;
+#[cfg(test)]
+mod prefix_search;
+#[cfg(test)]
+mod reading;
 #[cfg(test)]
 mod tables;
 #[cfg(test)]

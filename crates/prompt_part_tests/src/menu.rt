@@ -1,7 +1,8 @@
 //! Menus of completions under the line, by how they are to lie there.
 
+use crate::reading::script_terminal;
 use crate::tables::table_host;
-use host_testing::{last_painting, marked_text, script_events};
+use host_testing::{last_painting, marked_text};
 use std::alloc::Global;
 use std::process::Abort;
 use std::test::Fail;
@@ -10,7 +11,6 @@ use tw_hosts::TableHost;
 use tw_lineedit::{BasicHistory, LineEditor, LineEditorHost};
 use tw_menu_parts::{MenuStyle, WithMenu};
 use tw_surface::{CellAttributes, Intensity};
-use tw_terminal::{ScreenSize, ScriptTerminal};
 
 /// The attributes of the chosen candidate.
 fn bold() -> CellAttributes {
@@ -29,8 +29,7 @@ fn expect_menu<H: LineEditorHost>(
     answer: &str,
     (before, chosen, after): (&str, &str, &str),
 ) -> Result<(), Fail> {
-    let size = ScreenSize { rows: 24, cols: 80 };
-    let mut terminal = ScriptTerminal::new(alloc, size, script_events(alloc, script)?);
+    let mut terminal = script_terminal(alloc, script)?;
     let line = LineEditor::new(alloc, &mut terminal)?.read_line(host)?;
     assert!(rt; line.as_deref() == Some(answer), "{script:?}: {line:?}");
     let painting = last_painting(&terminal).ok_or("no painting")?;

@@ -1,13 +1,13 @@
 //! Lines that are not whole are not accepted.
 
-use host_testing::{last_painting, marked_text, script_events};
+use crate::reading::script_terminal;
+use host_testing::{last_painting, marked_text};
 use nested_marks::common_pairs;
 use std::alloc::Global;
 use std::process::Abort;
 use std::test::Fail;
 use tw_lineedit::{LineEditor, LineEditorHost, NopLineEditorHost};
 use tw_prompt_parts::{NestedLines, WithValidator};
-use tw_terminal::{ScreenSize, ScriptTerminal};
 
 /// A plain host whose lines have whole brackets and quotations.
 fn host_of(alloc: Global) -> Result<WithValidator<NopLineEditorHost, NestedLines>, Fail> {
@@ -28,8 +28,7 @@ fn expect_line(
     shown: &str,
 ) -> Result<(), Fail> {
     let mut host = host_of(alloc)?;
-    let size = ScreenSize { rows: 24, cols: 80 };
-    let mut terminal = ScriptTerminal::new(alloc, size, script_events(alloc, script)?);
+    let mut terminal = script_terminal(alloc, script)?;
     let line = LineEditor::new(alloc, &mut terminal)?.read_line(&mut host)?;
     assert!(rt; line.as_deref() == Some(answer), "{script:?}");
     let painting = last_painting(&terminal).ok_or("no painting")?;

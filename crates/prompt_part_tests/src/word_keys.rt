@@ -1,10 +1,9 @@
 //! The keys of words and characters, by what readline's manual says of its commands.
 
-use host_testing::script_events;
+use crate::reading::read_script;
 use std::test::Fail;
-use tw_lineedit::{LineEditor, LineEditorHost, NopLineEditorHost};
+use tw_lineedit::{LineEditorHost, NopLineEditorHost};
 use tw_prompt_parts::WithWordKeys;
-use tw_terminal::{ScreenSize, ScriptTerminal};
 
 #[test]
 fn words_and_characters_are_edited(rt: HostRuntime) -> Result<(), Fail> {
@@ -26,9 +25,7 @@ fn words_and_characters_are_edited(rt: HostRuntime) -> Result<(), Fail> {
     ] {
         let mut host = WithWordKeys::new(NopLineEditorHost::new(alloc));
         host.remember("copy")?;
-        let size = ScreenSize { rows: 24, cols: 80 };
-        let mut terminal = ScriptTerminal::new(alloc, size, script_events(alloc, script)?);
-        let line = LineEditor::new(alloc, &mut terminal)?.read_line(&mut host)?;
+        let line = read_script(alloc, &mut host, script)?;
         assert!(rt; line.as_deref() == Some(answer), "{script:?}");
     }
     Ok(())
