@@ -1,25 +1,27 @@
 //! A small command prompt at a terminal in raw mode; `prompt.sh` starts it. It keeps the last lines, with hints from
-//! them, completes commands by a menu, shows them in bold, has a hint under a line that begins with a question mark, and
+//! them, completes commands and their arguments by a menu, shows them in bold, has a hint under a line that begins with a question mark, and
 //! keeps a line from being accepted in which a bracket or a quotation is open. It ends at `quit`, at Ctrl-D on an empty
 //! line, and at the end of what is typed. With the argument `sparing` the terminal is sent what differs, and else all
 //! that is painted.
 //!
-//! `tables` has what the prompt knows, `host` the host, which is made of ready parts, and `options` the arguments.
+//! `tables` has what the prompt knows, `completers` what completes the arguments of commands, `host` the host, which is
+//! made of ready parts, and `options` the arguments.
 //! `tw_prompt` has what is typed, as events.
 #![tactic(auto)]
 
+mod completers;
 mod host;
 mod options;
 mod tables;
 
-use host::{PromptHost, prompt_host};
+use host::{PromptHost, prompt_host, set_files};
 use options::{Options, read_options};
 use std::alloc::Global;
 use std::io::Read;
 use std::time::Clock;
 use tw_device::{AnsiTerminal, Answer, DeviceTerminal, read_line_from};
 use tw_lineedit::{Error, LineEditorHost};
-use tw_prompt::{BEGIN, END, PromptEvents, usable};
+use tw_prompt::{BEGIN, END, PromptEvents, read_listing, usable};
 use tw_sparing::SparingTerminal;
 use tw_terminal::ScreenSize;
 
@@ -29,6 +31,7 @@ const PROMPT: &str = "> ";
 /// What is typed, what shows it, and the host between them.
 #[derive(Drop)]
 struct Prompt<R, C, T> {
+    rt: HostRuntime,
     alloc: Global,
     events: PromptEvents<R, C>,
     terminal: T,
@@ -49,8 +52,11 @@ impl<R: Read, C: Clock, T: DeviceTerminal> Prompt<R, C, T> {
         Ok(())
     }
 
-    /// Reads a line and obeys it. It returns false where there is to be no other.
+    /// Reads a line and obeys it. It returns false where there is to be no other. File names are those that the
+    /// directory has now.
     fn read_and_obey(&mut self) -> Result<bool, anyhow::Error> {
+        let files = read_listing(self.rt, ".", "")?;
+        set_files(self.alloc, &mut self.host, files)?;
         let answer = read_line_from(
             self.alloc,
             &mut self.events,
@@ -89,6 +95,7 @@ fn prompt_at<T: DeviceTerminal + Drop>(
 ) -> Result<(), anyhow::Error> {
     let alloc = rt.alloc();
     let mut prompt = Prompt {
+        rt,
         alloc,
         events: PromptEvents::new(alloc, rt.stdin(), rt),
         terminal,

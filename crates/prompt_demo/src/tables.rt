@@ -12,7 +12,7 @@ const COMMANDS: &str = "copy count move quit";
 const HELP: &str = "Tab completes\r\nUp recalls a line";
 
 /// The words of a text, which spaces part.
-fn words(alloc: Global, text: &str) -> Result<Vec<String>, AllocError> {
+pub fn words(alloc: Global, text: &str) -> Result<Vec<String>, AllocError> {
     let mut words = Vec::new(alloc);
     for word in text.split(' ') {
         words.push(String::from_str(alloc, word)?)?;

@@ -1,7 +1,7 @@
 //! A session at a terminal in raw mode.
 
 use crate::history::{kept_history, no_statements};
-use crate::host::{PromptHost, prompt_host, set_begun, set_catalog};
+use crate::host::{PromptHost, prompt_host, set_begun, set_catalog, set_files};
 use crate::lines::{Flow, take_line, tell};
 use crate::output::Output;
 use sql_results::visible;
@@ -13,7 +13,7 @@ use std::time::Clock;
 use tw_device::{AnsiTerminal, Answer, DeviceTerminal, read_line_from};
 use tw_history_parts::WrittenHistory;
 use tw_lineedit::{BoundedHistory, Error, LineEditorHost};
-use tw_prompt::{BEGIN, END, PromptEvents};
+use tw_prompt::{BEGIN, END, PromptEvents, read_listing};
 use tw_terminal::ScreenSize;
 
 /// What stands before a line with which a statement begins.
@@ -72,9 +72,11 @@ impl<R: Read, C: Clock, T: DeviceTerminal, W: Write + Drop> Prompt<R, C, T, W> {
         Ok(())
     }
 
-    /// Reads a line and takes it.
+    /// Reads a line and takes it. File names are those that the directory has now.
     fn read_and_take<S: Alter>(&mut self, session: &mut Session<S>) -> Result<Flow, anyhow::Error> {
         set_begun(self.screen.alloc, &mut self.host, session.begun())?;
+        let files = read_listing(self.rt, ".", "")?;
+        set_files(self.screen.alloc, &mut self.host, files)?;
         match self.read(session.has_begun()) {
             Ok(Answer::Line(line)) => self.take(session, line.as_str()),
             Ok(Answer::Cancelled) => {

@@ -3,10 +3,12 @@
 //! a prompt at a terminal in raw mode; `tools/at_terminal` starts it so. docs/SQL_PROMPT.md is for its users.
 //!
 //! `options` has the arguments, `piped` a session over standard input, `at_terminal` one at a terminal, `lines` what
-//! both make of a line, `output` where it is told, and `host` the host of the line editor.
+//! both make of a line, `output` where it is told, `host` the host of the line editor, and `completers` what completes
+//! commands.
 #![tactic(auto)]
 
 mod at_terminal;
+mod completers;
 mod history;
 mod host;
 mod lines;
