@@ -18,11 +18,11 @@ context_view (context.FirstWord prefix) = FirstWord (string_bytes prefix)
 context_view (context.ArgumentOf command) = ArgumentOf (string_bytes command)
 
 -- whether a text has no space after its first word
-abbrev pub is_one_word : List ℕ → Bool
-is_one_word text = length (after_word text) == 0
+abbrev pub is_word_alone : List ℕ → Bool
+is_word_alone text = length (after_word text) == 0
 
 -- whether what stands before a cursor is in a context, whatever whitespace it begins with
 abbrev pub is_in : ContextView → List ℕ → Bool
 is_in Anywhere before = true
-is_in (FirstWord prefix) before = is_one_word (trim_start before) && begins_with prefix (leading_word (trim_start before))
-is_in (ArgumentOf command) before = not (is_one_word (trim_start before)) && is_same (leading_word (trim_start before)) command
+is_in (FirstWord prefix) before = is_word_alone (trim_start before) && begins_with prefix (leading_word (trim_start before))
+is_in (ArgumentOf command) before = not (is_word_alone (trim_start before)) && is_same (leading_word (trim_start before)) command

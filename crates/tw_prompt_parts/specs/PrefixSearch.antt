@@ -51,14 +51,14 @@ abbrev pub prefix_step_view : PrefixStep → PrefixStepView
 prefix_step_view step = record { cut = step.line; recalled = option_map recalled_view step.recalled }
 
 -- whether there is a line, it begins with a text, and it is not the one that is shown
-abbrev pub is_other : List ℕ → List ℕ → Option (List ℕ) → Bool
-is_other text shown None = false
-is_other text shown (Some line) = begins_with text line && not (is_same line shown)
+abbrev pub is_other_line : List ℕ → List ℕ → Option (List ℕ) → Bool
+is_other_line text shown None = false
+is_other_line text shown (Some line) = begins_with text line && not (is_same line shown)
 
 module _ (lines : List (List ℕ)) (cut : Cut) where
   -- whether the line at an index begins with what stands before the cursor, and is not the one that is shown
   abbrev pub is_prefix_match : ℕ → Bool
-  is_prefix_match i = is_other (take cut.cursor cut.line) cut.line (slice_get lines i)
+  is_prefix_match i = is_other_line (take cut.cursor cut.line) cut.line (slice_get lines i)
 
   -- such a line, with the cursor where it is
   abbrev pub prefix_match_at : ℕ → PrefixMatchView

@@ -6,7 +6,7 @@ use Rattle.tw_extremes.proofs.ExtremesLemmas.{iterate-add, least_from-is, least_
 use Rattle.tw_line.specs.Clusters.{cluster_after, cluster_before}
 use Rattle.tw_line.specs.Cut.{Cut, cut_at}
 use Rattle.tw_line.specs.Movements.{after_move, destination}
-use Rattle.tw_word_parts.specs.LetterWords.{is_last_letter, is_letter_after, last_letter, steps}
+use Rattle.tw_word_parts.specs.LetterWords.{is_last_letter, is_letter_after, last_letter, cluster_steps}
 use Rattle.tw_word_parts.specs.declared.letters.Side.{Side}
 use Rattle.tw_word_parts.specs.declared.letters.Side.TheVariants.{Ahead, Back}
 
@@ -15,12 +15,12 @@ and-false true = refl
 and-false false = refl
 
 -- one step more
-step-more : (side : Side) (n : ℕ) (cut : Cut) → destination (steps side 1) (after_move (steps side n) cut) ≡ destination (steps side (n + 1)) cut
+step-more : (side : Side) (n : ℕ) (cut : Cut) → destination (cluster_steps side 1) (after_move (cluster_steps side n) cut) ≡ destination (cluster_steps side (n + 1)) cut
 unfolding destination iterate
 step-more Ahead n cut = sym (iterate-add (cluster_after cut.line) n 1 cut.cursor)
 step-more Back n cut = sym (iterate-add (cluster_before cut.line) n 1 cut.cursor)
 
-pub moved-more : (side : Side) (n : ℕ) (cut : Cut) → after_move (steps side 1) (after_move (steps side n) cut) ≡ after_move (steps side (n + 1)) cut
+pub moved-more : (side : Side) (n : ℕ) (cut : Cut) → after_move (cluster_steps side 1) (after_move (cluster_steps side n) cut) ≡ after_move (cluster_steps side (n + 1)) cut
 moved-more side n cut = ap (cut_at cut.line) (step-more side n cut)
 
 module _ (side : Side) (cut : Cut) where

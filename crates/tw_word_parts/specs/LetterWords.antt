@@ -20,13 +20,13 @@ abbrev pub begins_with_letter : List ℕ → Bool
 begins_with_letter text = is_letter_first (chars text)
 
 -- so many steps by grapheme clusters
-abbrev pub steps : Side → ℕ → Movement
-steps Ahead count = ForwardChar count
-steps Back count = BackwardChar count
+abbrev pub cluster_steps : Side → ℕ → Movement
+cluster_steps Ahead count = ForwardChar count
+cluster_steps Back count = BackwardChar count
 
 -- whether a letter stands where so many steps lead
 abbrev pub is_letter_after : Side → Cut → ℕ → Bool
-is_letter_after side cut count = begins_with_letter (drop (destination (steps side count) cut) cut.line)
+is_letter_after side cut count = begins_with_letter (drop (destination (cluster_steps side count) cut) cut.line)
 
 -- whether one stands there, and none a step further
 abbrev pub is_last_letter : Side → Cut → ℕ → Bool

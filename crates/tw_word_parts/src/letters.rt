@@ -1,7 +1,7 @@
 //! Words of letters and digits, as so many steps by grapheme clusters.
 
 ghost use Rattle.std.specs.Prelude.{◌≡◌, ◌+◌, ◌<◌, ◌≤◌, IfOk, IfSome, drop, length};
-ghost use Rattle.tw_word_parts.specs.LetterWords.{begins_with_letter, last_letter, steps, steps_to_word_end, steps_to_word_start};
+ghost use Rattle.tw_word_parts.specs.LetterWords.{begins_with_letter, last_letter, cluster_steps, steps_to_word_end, steps_to_word_start};
 
 use std::alloc::{AllocError, Global};
 use tw_line::{LineEditBuffer, Movement};
@@ -26,8 +26,8 @@ fn begins_with_letter(text: &str) -> bool
 }
 
 /// So many steps by grapheme clusters.
-fn steps(side: Side, count: usize) -> Movement
-    ensures { result ≡ steps side count }
+fn cluster_steps(side: Side, count: usize) -> Movement
+    ensures { result ≡ cluster_steps side count }
 {
     match side {
         Side::Ahead => Movement::ForwardChar(count),
@@ -54,11 +54,11 @@ fn last_letter(
     ensures within { IfOk result (λ count. IfSome count (λ count. count < from + length editor.now.line)) }
 {
     let mut at = editor.try_clone(alloc)?;
-    at.exec_movement(steps(side, from));
+    at.exec_movement(cluster_steps(side, from));
     let mut is_letter = is_at_letter(&at);
     let end = from + editor.get_line().len();
     for count in from..end {
-        at.exec_movement(steps(side, 1));
+        at.exec_movement(cluster_steps(side, 1));
         let is_next = is_at_letter(&at);
         if is_letter && !is_next {
             return Ok(Some(count));

@@ -1,6 +1,6 @@
 use Rattle.std.proofs.Common.{◌≡◌, ◌<◌, ◌+◌, ◌&&◌, true, false, not, length, drop, ap, sym, ◌∙◌, arith, rules, tests}
 use Rattle.tw_line.specs.Movements.{after_move}
-use Rattle.tw_word_parts.specs.LetterWords.{begins_with_letter, is_last_letter, is_letter_after, steps}
+use Rattle.tw_word_parts.specs.LetterWords.{begins_with_letter, is_last_letter, is_letter_after, cluster_steps}
 use Rattle.tw_word_parts.proofs.LetterLemmas.{and-false, found, moved-more, none-more, not-found}
 use Rattle.tw_word_parts.proofs.letters.last_letter.Goals.{else-is_letter-via-then-is_letter+else-not-is_next, else-is_letter-via-else-is_letter}
 use Rattle.tw_word_parts.proofs.letters.last_letter.Goals as goal
@@ -10,8 +10,8 @@ returns-then-not-is_next-clause-count c =
     let editor = c.args.editor.now in
     let side = c.args.side in
     let n = c.loop-count.count in
-    let moved : c.exec_movement-in-loop-count.new.self ≡ after_move (steps side (n + 1)) editor =
-    c.exec_movement-in-loop-count.ensures ∙ ap (λ m. after_move m c.loop-count.at) c.steps-in-loop-count.ensures ∙ ap (after_move (steps side 1)) c.loop-count.invariant.moved ∙ moved-more side n editor in
+    let moved : c.exec_movement-in-loop-count.new.self ≡ after_move (cluster_steps side (n + 1)) editor =
+    c.exec_movement-in-loop-count.ensures ∙ ap (λ m. after_move m c.loop-count.at) c.cluster_steps-in-loop-count.ensures ∙ ap (after_move (cluster_steps side 1)) c.loop-count.invariant.moved ∙ moved-more side n editor in
     let next : c.is_at_letter-is_next.result ≡ is_letter_after side editor (n + 1) =
     c.is_at_letter-is_next.ensures ∙ ap (λ at. begins_with_letter (drop at.cursor at.line)) moved in
     let high : n < c.args.from + length editor.line = omega (arith, c.loop-count-test.true, ap length c.get_line.ensures) in
@@ -23,8 +23,8 @@ loop-count-preserved c =
     let editor = c.args.editor.now in
     let side = c.args.side in
     let n = c.loop-count.count in
-    let moved : c.exec_movement-in-loop-count.new.self ≡ after_move (steps side (n + 1)) editor =
-    c.exec_movement-in-loop-count.ensures ∙ ap (λ m. after_move m c.loop-count.at) c.steps-in-loop-count.ensures ∙ ap (after_move (steps side 1)) c.loop-count.invariant.moved ∙ moved-more side n editor in
+    let moved : c.exec_movement-in-loop-count.new.self ≡ after_move (cluster_steps side (n + 1)) editor =
+    c.exec_movement-in-loop-count.ensures ∙ ap (λ m. after_move m c.loop-count.at) c.cluster_steps-in-loop-count.ensures ∙ ap (after_move (cluster_steps side 1)) c.loop-count.invariant.moved ∙ moved-more side n editor in
     let next : c.is_at_letter-is_next.result ≡ is_letter_after side editor (n + 1) =
     c.is_at_letter-is_next.ensures ∙ ap (λ at. begins_with_letter (drop at.cursor at.line)) moved in
     let last : is_last_letter side editor n ≡ false = elim c.else-is_letter.branch [
