@@ -6,6 +6,8 @@ mod beginnings;
 #[cfg(test)]
 mod completers;
 #[cfg(test)]
+mod keywords;
+#[cfg(test)]
 mod last_words;
 #[cfg(test)]
 mod letter_words;

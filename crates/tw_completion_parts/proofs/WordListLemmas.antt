@@ -20,7 +20,7 @@ module _ (delimiters text : List ℕ) where
       back ∙ ap (λ n. length text - n) (sym len)
 
   -- a byte from 128 on is no delimiter
-  high-word : (byte : ℕ) → 128 ≤ byte → is_delimiter delimiters byte ≡ false
+  pub high-word : (byte : ℕ) → 128 ≤ byte → is_delimiter delimiters byte ≡ false
   high-word byte high =
       let beyond : nat_lt byte 128 ≡ false = grind (arith, nat_tests) in
       ap (λ b. b && list_any (λ delimiter. delimiter == byte) delimiters) beyond

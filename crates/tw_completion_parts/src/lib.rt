@@ -18,4 +18,4 @@ pub use contexts::Context;
 pub use file_names::{DirectoryEntry, Listing, complete_file_name};
 pub use with_beginnings::WithBeginnings;
 pub use with_completers::{Completer, ContextCompleter, WithCompleters};
-pub use word_lists::{WordList, complete_listed, split_begun};
+pub use word_lists::{WordList, complete_listed, is_delimiter, split_begun};

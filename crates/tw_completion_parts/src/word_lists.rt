@@ -19,8 +19,8 @@ pub struct WordList {
     pub ignores_case: bool,
 }
 
-/// Whether a byte is a delimiter.
-fn is_delimiter(delimiters: &str, byte: u8) -> bool
+/// Whether a byte is one of these delimiters, which is a character of ASCII. It takes no memory.
+pub fn is_delimiter(delimiters: &str, byte: u8) -> bool
     ensures { result ≡ is_delimiter delimiters.now byte }
 {
     byte.is_ascii()
