@@ -1,13 +1,12 @@
 -- What is left of cells in order after a clear, and their last row.
-use Rattle.std.proofs.Common.{◌≡◌, ◌≢◌, ℕ, ◌+◌, ◌*◌, ◌-◌, ◌<◌, ◌≤◌, List, [], length, take, drop, refl, sym, ap, ◌∙◌, arith, inl, inr, Some}
-use Rattle.std.specs.List.{All}
+use Rattle.std.proofs.Common.{◌≡◌, ◌≢◌, ℕ, suc, true, false, cond, eqb, ◌&&◌, ◌+◌, ◌*◌, ◌-◌, ◌<◌, ◌≤◌, List, [], ◌∷◌, length, take, drop, refl, sym, ap, ◌∙◌, arith, inl, inr, Some}
 use Rattle.std.proofs.Math.Path.{fun_ext}
 use Rattle.std.proofs.lemmas.Bool.{cases_eq, cases_lt, cases_order, eq-eqb, ne_eqb, lt-ltb, le-ltb, le-leb, lt-leb}
 use Rattle.std.proofs.lemmas.List.{get_or-take, get_or-drop, length-take-le, length-drop, take-append-drop, append-nil}
 use Rattle.std.proofs.lemmas.List.Elements.{All-take}
 use Rattle.tw_surface.specs.declared.screen.far.Cell.{Cell}
 use Rattle.tw_surface.specs.Pictures.{blank, cells_cleared_from}
-use Rattle.tw_surface.specs.Cells.{cell_in, cell_at, IsBefore, IsInOrder, IsAt, IsGapFor, IsCountBefore, IsSparse, IsLastRow}
+use Rattle.tw_surface.specs.Cells.{cell_in, cell_at, IsBefore, IsInOrder, IsAt, IsGapFor, IsCountBefore, IsSparse, IsLastRow, AreEnded}
 use Rattle.tw_surface.proofs.CellLookups.{StandsAt, cell_in-none, cell_in-same_front, before_found, behind_found, cell_in_at}
 
 -- two places do not stand before each other
@@ -75,28 +74,60 @@ module _ (cells : List Cell) (row col i : ℕ) (cut : IsCountBefore cells row co
   pub cleared_take : cell_in (take i cells) ≡ cells_cleared_from (cell_in cells) row col
   cleared_take = fun_ext (λ r. fun_ext (λ c. cleared_at r c))
 
-  pub sparse_take : (width first : ℕ) → IsSparse width first cells → IsSparse width first (take i cells)
-  sparse_take width first sparse = record {
-    ordered = λ a b d below within.
-        let size : length (take i cells) ≡ i = length-take-le i cells cut.in_range in
-        rw (get_or-take i cells a d (omega arith), get_or-take i cells b d (omega arith)) (sparse.ordered a b d below (omega (arith, cut.in_range)));
-    inside = All-take (λ x. x.col < width) i cells sparse.inside;
-    visible = All-take (λ x. x.ch ≢ blank) i cells sparse.visible;
-    ascii = All-take (λ x. x.ch < 128) i cells sparse.ascii;
-    behind = All-take (λ x. first ≤ x.row * width + x.col) i cells sparse.behind;
-  }
+-- the first cells are as sparse as all
+pub sparse_take : (cells : List Cell) (i : ℕ) → i ≤ length cells → (width first : ℕ) → IsSparse width first cells → IsSparse width first (take i cells)
+sparse_take cells i within width first sparse = record {
+  ordered = λ a b d below inside.
+      let size : length (take i cells) ≡ i = length-take-le i cells within in
+      rw (get_or-take i cells a d (omega arith), get_or-take i cells b d (omega arith)) (sparse.ordered a b d below (omega (arith, within)));
+  inside = All-take (λ x. x.col < width) i cells sparse.inside;
+  ascii = All-take (λ x. x.ch < 128) i cells sparse.ascii;
+  behind = All-take (λ x. first ≤ x.row * width + x.col) i cells sparse.behind;
+}
+
+-- ---- blanks at the end
+
+-- the cells from an index on are blank
+abbrev pub AreBlankFrom : List Cell → ℕ → Type 0
+AreBlankFrom cells end = (k : ℕ) → end ≤ k → k < length cells → (cell_at cells k).ch ≡ blank
+
+-- blank cells show blanks
+cell_in-blanks : (cells : List Cell) (row col : ℕ) → AreBlankFrom cells 0 → cell_in cells row col ≡ blank
+cell_in-blanks [] row col blanks = refl
+cell_in-blanks (cell ∷ cells) row col blanks =
+    elim (eqb cell.row row && eqb cell.col col) as (λ b. cond b cell.ch (cell_in cells row col) ≡ blank) [
+      | true ↦ blanks 0 (omega arith) (omega arith)
+      | false ↦ cell_in-blanks cells row col (λ k from below. blanks (suc k) (omega arith) (omega arith))
+    ]
+
+-- and without those at the end, the others show what all did
+pub cell_in-trimmed : (cells : List Cell) (end : ℕ) → end ≤ length cells → AreBlankFrom cells end → cell_in (take end cells) ≡ cell_in cells
+cell_in-trimmed cells end within blanks = fun_ext (λ r. fun_ext (λ c.
+    let size : length (drop end cells) ≡ length cells - end = length-drop end cells in
+    let rest : cell_in (drop end cells) r c ≡ blank =
+    cell_in-blanks (drop end cells) r c (λ k from below. ap (λ x. x.ch) (get_or-drop end cells k (record { row = 0; col = 0; ch = 0 })) ∙ blanks (end + k) (omega arith) (omega arith)) in
+    sym (ap (λ l. cell_in l r c) (sym (take-append-drop end cells))
+    ∙ cell_in-same_front (take end cells) (drop end cells) [] r c rest
+    ∙ ap (λ l. cell_in l r c) (append-nil (take end cells)))))
+
+-- and the last of them is visible, where it is not blank
+pub ended_take : (cells : List Cell) (end : ℕ) → end ≤ length cells → (0 < end → (cell_at cells (end - 1)).ch ≢ blank) → AreEnded (take end cells)
+ended_take cells end within visible some =
+    let size : length (take end cells) ≡ end = length-take-le end cells within in
+    let last : cell_at (take end cells) (length (take end cells) - 1) ≡ cell_at cells (length (take end cells) - 1) = get_or-take end cells (length (take end cells) - 1) _ (omega (arith, size, some)) in
+    λ e. visible (omega (arith, size, some)) (ap (λ n. (cell_at cells (n - 1)).ch) (sym size) ∙ sym (ap (λ x. x.ch) last) ∙ e)
 
 -- from the width on, a blank
 pub blank_outside : (width first : ℕ) (cells : List Cell) (row col : ℕ) → IsSparse width first cells → width ≤ col → cell_in cells row col ≡ blank
 blank_outside width first cells row col sparse outside = cell_in-none cells row col (λ k below there. omega (arith, sparse.inside k (record { row = 0; col = 0; ch = 0 }) below, there.col_is))
 
 -- the last cell stands in the last row
-pub last_row_is : (cells : List Cell) → IsInOrder cells → All (λ x. x.ch ≢ blank) cells → 0 < length cells → IsLastRow (cell_in cells) (Some (cell_at cells (length cells - 1)).row)
-last_row_is cells ordered visible some =
+pub last_row_is : (cells : List Cell) → IsInOrder cells → AreEnded cells → 0 < length cells → IsLastRow (cell_in cells) (Some (cell_at cells (length cells - 1)).row)
+last_row_is cells ordered ended some =
     let i = length cells - 1 in
     let last = cell_at cells i in
     let at : IsAt cells last.row last.col i = record { in_range = omega arith; row_is = refl; col_is = refl } in (
-      (last.col, λ e. visible i (record { row = 0; col = 0; ch = 0 }) (omega arith) (sym (cell_in_at cells ordered last.row last.col i at) ∙ e)),
+      (last.col, λ e. ended some (sym (cell_in_at cells ordered last.row last.col i at) ∙ e)),
       λ row col below. cell_in-none cells row col (λ k within there.
           elim (cases_eq k i) [
             | inl same ↦ let here : StandsAt (cell_at cells i) row col = rw same at there in omega (arith, here.row_is)

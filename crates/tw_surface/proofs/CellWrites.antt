@@ -1,17 +1,16 @@
 -- What writing and clearing do to cells in order, and to what they show.
-use Rattle.std.proofs.Common.{◌≡◌, ◌≢◌, ℕ, suc, ◌+◌, ◌*◌, ◌-◌, ◌<◌, ◌≤◌, List, ◌∷◌, ◌++◌, length, set, take, drop, refl, sym, ap, subst, ◌∙◌, arith, inl, inr}
-use Rattle.std.specs.List.{insert, remove}
+use Rattle.std.proofs.Common.{◌≡◌, ℕ, suc, ◌+◌, ◌*◌, ◌-◌, ◌<◌, ◌≤◌, List, ◌∷◌, ◌++◌, length, set, take, drop, refl, sym, ap, subst, ◌∙◌, arith, inl, inr}
+use Rattle.std.specs.List.{insert}
 use Rattle.std.proofs.Math.Path.{fun_ext}
 use Rattle.std.proofs.Math.Seq.{drop-cons}
 use Rattle.std.proofs.lemmas.Bool.{cases_eq, cases_lt, eq-eqb, ne_eqb}
 use Rattle.std.proofs.lemmas.List.{get_or_default, get_or-set_same, get_or-set_other, length-set, set_split, take-append-drop}
-use Rattle.std.proofs.lemmas.List.Edits.{length-insert, get_or-insert_below, get_or-insert_at, get_or-insert_above, length-remove, get_or-remove_below, get_or-remove_above}
+use Rattle.std.proofs.lemmas.List.Edits.{length-insert, get_or-insert_below, get_or-insert_at, get_or-insert_above}
 use Rattle.std.proofs.lemmas.List.Elements.{All-set, All-take, All-drop, All-append, All-cons}
-use Rattle.std.proofs.lemmas.List.Quantifiers.{all_pairs_remove}
 use Rattle.tw_surface.specs.declared.screen.far.Cell.{Cell}
 use Rattle.tw_surface.specs.Pictures.{blank, cells_with}
 use Rattle.tw_surface.specs.Cells.{cell_in, cell_at, IsBefore, IsInOrder, IsAt, IsGapFor, IsSparse}
-use Rattle.tw_surface.proofs.CellLookups.{StandsAt, cell_in-past, cell_in-same_front, before_found, behind_found, cell_in_at, cell_in_gap}
+use Rattle.tw_surface.proofs.CellLookups.{StandsAt, cell_in-past, cell_in-same_front, cell_in_at, cell_in_gap}
 
 -- a list that shows ch at row and col, and elsewhere what it showed
 record Writes (row col ch : ℕ) (old new : List Cell) : Type 0 where
@@ -89,45 +88,12 @@ module _ (cells : List Cell) (ordered : IsInOrder cells) (row col i : ℕ) (at :
             ∙ ap (λ l. cell_in l r c) (split_around cells i at.in_range);
       })
 
-  pub sparse_set : (ch width first : ℕ) → ch ≢ blank → ch < 128 → IsSparse width first cells → col < width → first ≤ row * width + col → IsSparse width first (set cells i (new_cell row col ch))
-  sparse_set ch width first visible ascii sparse inside behind = record {
+  pub sparse_set : (ch width first : ℕ) → ch < 128 → IsSparse width first cells → col < width → first ≤ row * width + col → IsSparse width first (set cells i (new_cell row col ch))
+  sparse_set ch width first ascii sparse inside behind = record {
     ordered = ordered_set ch;
     inside = All-set (λ x. x.col < width) cells i _ inside sparse.inside;
-    visible = All-set (λ x. x.ch ≢ blank) cells i _ visible sparse.visible;
     ascii = All-set (λ x. x.ch < 128) cells i _ ascii sparse.ascii;
     behind = All-set (λ x. first ≤ x.row * width + x.col) cells i _ behind sparse.behind;
-  }
-
-  -- ---- a blank where a cell stands
-
-  pub ordered_remove : IsInOrder (remove cells i)
-  ordered_remove = all_pairs_remove (λ x y. IsBefore x.row x.col y.row y.col) cells i at.in_range ordered
-
-  -- the place of the cell that went is a gap
-  gap_removed : IsGapFor (remove cells i) row col i
-  gap_removed =
-      let size : length (remove cells i) + 1 ≡ length cells = length-remove cells i at.in_range in
-      record {
-        in_range = omega (arith, at.in_range);
-        before = λ k below. rw (get_or-remove_below cells i (record { row = 0; col = 0; ch = 0 }) k below at.in_range) (before_found cells ordered row col i at k below);
-        behind = λ k le below. rw (get_or-remove_above cells i (record { row = 0; col = 0; ch = 0 }) k le at.in_range) (behind_found cells ordered row col i at (k + 1) (omega arith) (omega arith));
-      }
-
-  pub written_remove : cell_in (remove cells i) ≡ cells_with (cell_in cells) row col blank
-  written_remove = written_from row col blank cells (remove cells i) (record {
-    here = cell_in_gap (remove cells i) row col i gap_removed;
-    elsewhere = λ r c other.
-        let old_past : cell_in (cell_at cells i ∷ drop (suc i) cells) r c ≡ cell_in (drop (suc i) cells) r c = cell_in-past _ _ r c (stands_elsewhere _ row col r c found_stands other) in
-        cell_in-same_front (take i cells) _ _ r c (sym old_past) ∙ ap (λ l. cell_in l r c) (split_around cells i at.in_range);
-  })
-
-  pub sparse_remove : (width first : ℕ) → IsSparse width first cells → IsSparse width first (remove cells i)
-  sparse_remove width first sparse = record {
-    ordered = ordered_remove;
-    inside = let P : Cell → Type 0 = λ x. x.col < width in All-append P _ _ (All-take P i cells sparse.inside) (All-drop P (suc i) cells sparse.inside);
-    visible = let P : Cell → Type 0 = λ x. x.ch ≢ blank in All-append P _ _ (All-take P i cells sparse.visible) (All-drop P (suc i) cells sparse.visible);
-    ascii = let P : Cell → Type 0 = λ x. x.ch < 128 in All-append P _ _ (All-take P i cells sparse.ascii) (All-drop P (suc i) cells sparse.ascii);
-    behind = let P : Cell → Type 0 = λ x. first ≤ x.row * width + x.col in All-append P _ _ (All-take P i cells sparse.behind) (All-drop P (suc i) cells sparse.behind);
   }
 
 -- ---- a character and a blank where no cell stands
@@ -189,11 +155,10 @@ module _ (cells : List Cell) (row col i : ℕ) (gap : IsGapFor cells row col i) 
               cell_in-same_front (take i cells) _ _ r c new_past ∙ ap (λ l. cell_in l r c) (take-append-drop i cells);
         })
 
-    pub sparse_insert : (width first : ℕ) → ch ≢ blank → ch < 128 → IsSparse width first cells → col < width → first ≤ row * width + col → IsSparse width first inserted
-    sparse_insert width first shown ascii sparse within behind = record {
+    pub sparse_insert : (width first : ℕ) → ch < 128 → IsSparse width first cells → col < width → first ≤ row * width + col → IsSparse width first inserted
+    sparse_insert width first ascii sparse within behind = record {
       ordered = ordered_insert;
       inside = let P : Cell → Type 0 = λ x. x.col < width in All-append P _ _ (All-take P i cells sparse.inside) (All-cons P _ _ within (All-drop P i cells sparse.inside));
-      visible = let P : Cell → Type 0 = λ x. x.ch ≢ blank in All-append P _ _ (All-take P i cells sparse.visible) (All-cons P _ _ shown (All-drop P i cells sparse.visible));
       ascii = let P : Cell → Type 0 = λ x. x.ch < 128 in All-append P _ _ (All-take P i cells sparse.ascii) (All-cons P _ _ ascii (All-drop P i cells sparse.ascii));
       behind = let P : Cell → Type 0 = λ x. first ≤ x.row * width + x.col in All-append P _ _ (All-take P i cells sparse.behind) (All-cons P _ _ behind (All-drop P i cells sparse.behind));
     }

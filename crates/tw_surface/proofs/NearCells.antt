@@ -1,16 +1,17 @@
 -- What near and far cells show together, and what writing, clearing and more room do to it.
 use Rattle.std.specs.List.{All}
-use Rattle.std.proofs.Common.{add-zero, zero, suc, ◌≡◌, ◌≢◌, ℕ, ◌+◌, ◌*◌, ◌-◌, ◌/◌, ◌%◌, min, Some, false, if◌then◌else◌, ◌<◌, ◌≤◌, ◌&&◌, ◌||◌, eqb, ltb, leb, List, [], ◌∷◌, ◌++◌, length, set, take, drop, get_or, replicate, refl, sym, ap, ◌∙◌, arith, inl, inr}
+use Rattle.std.proofs.Common.{add-zero, zero, suc, ◌≡◌, ℕ, ◌+◌, ◌*◌, ◌-◌, ◌/◌, ◌%◌, min, Some, false, if◌then◌else◌, ◌<◌, ◌≤◌, ◌&&◌, ◌||◌, eqb, ltb, leb, List, [], ◌∷◌, ◌++◌, length, set, take, drop, get_or, replicate, refl, sym, ap, ◌∙◌, arith, inl, inr}
 use Rattle.std.proofs.Math.Path.{fun_ext}
 use Rattle.std.proofs.lemmas.Bool.{cases_eq, cases_lt, eq-eqb, ne_eqb, lt-ltb, le-ltb, le-leb, lt-leb, and_right}
 use Rattle.std.proofs.lemmas.List.{get_or-set_same, get_or-set_other, length-set, length-append, length-replicate, get_or_append_left, get_or-append_right, get_or-replicate, get_or-take, get_or-drop, take_all, length-take, length-drop, take-append-drop, ext_get_or, append-nil, append_assoc, replicate-append-replicate}
-use Rattle.std.proofs.lemmas.List.Elements.{All-nil, All-weaker, All-append, All-replicate}
+use Rattle.std.proofs.lemmas.List.Elements.{All-nil, All-weaker, All-append, All-replicate, All-from_get_or}
 use Rattle.std.proofs.lemmas.List.FromFn.{fill_by_all, map-range_with_len_more}
 use Rattle.std.proofs.lemmas.Nat.{mod_below, div-add-mod'}
 use Rattle.std.proofs.Math.Nat.{min-eq_left, min-eq_right, min-le_left, min-le_right, le-min}
 use Rattle.tw_surface.specs.declared.screen.far.Cell.{Cell}
 use Rattle.tw_surface.specs.Pictures.{blank, cells_with, cells_cleared_from}
-use Rattle.tw_surface.specs.Cells.{cell_in, cell_at, shown_at, row_of, IsSparse, AreSoundCells, IsGrown, IsLastRow}
+use Rattle.tw_surface.specs.Cells.{cell_in, cell_at, shown_at, row_of, IsSparse, AreSoundCells, IsGrown, IsLastRow, AreEnded}
+use Rattle.tw_surface.specs.ScreenSteps.{AreNearFrom}
 use Rattle.tw_surface.proofs.LineOfCells.{same_cell, behind, next_row, below_row}
 use Rattle.tw_surface.proofs.CellLookups.{cell_in-none, cell_in_at, cell_ascii}
 use Rattle.tw_surface.proofs.CellClears.{blank_outside, last_row_is}
@@ -220,13 +221,17 @@ pub sparse_behind : (width first less : ℕ) (far : List Cell) → less ≤ firs
 sparse_behind width first less far fewer sparse = record {
   ordered = sparse.ordered;
   inside = sparse.inside;
-  visible = sparse.visible;
   ascii = sparse.ascii;
   behind = All-weaker (λ x. first ≤ x.row * width + x.col) (λ x. less ≤ x.row * width + x.col) (λ x from. omega (arith, from, fewer)) far sparse.behind;
 }
 
 pub sparse_kept : (width : ℕ) (near : List ℕ) (far : List Cell) (n : ℕ) → IsSparse width (length near) far → IsSparse width (length (take n near)) far
 sparse_kept width near far n sparse = sparse_behind width (length near) (length (take n near)) far (omega (arith, length-take n near, min-le_right n (length near))) sparse
+
+-- and far cells that show the same leave all that is shown
+pub shown_same : (width : ℕ) (near : List ℕ) (old new : List Cell) → cell_in new ≡ cell_in old → shown_at width near new ≡ shown_at width near old
+shown_same width near old new same = fun_ext (λ r. fun_ext (λ c.
+    ap (λ cell. if ltb c width && ltb (r * width + c) (length near) then get_or near (r * width + c) 0 else cell r c) same))
 
 -- a screen without the blanks that its near cells end in
 pub sound_trimmed : (width row col : ℕ) (near new : List ℕ) (far : List Cell) → IsGrown new near → AreSoundCells width row col near far → AreSoundCells width row col new far
@@ -244,7 +249,6 @@ pub sparse_none : (width first : ℕ) → IsSparse width first []
 sparse_none width first = record {
   ordered = λ i j d below within. absurd (omega arith);
   inside = All-nil (λ x. x.col < width);
-  visible = All-nil (λ x. x.ch ≢ blank);
   ascii = All-nil (λ x. x.ch < 128);
   behind = All-nil (λ x. first ≤ x.row * width + x.col);
 }
@@ -276,15 +280,15 @@ module _ (width : ℕ) (near : List ℕ) (positive : 0 < width) where
       )
 
   -- and the last far cell, if there is one
-  pub last_row_far : (far : List Cell) → IsSparse width (length near) far → 0 < length far → IsLastRow (shown_at width near far) (Some (cell_at far (length far - 1)).row)
-  last_row_far far sparse some =
+  pub last_row_far : (far : List Cell) → IsSparse width (length near) far → AreEnded far → 0 < length far → IsLastRow (shown_at width near far) (Some (cell_at far (length far - 1)).row)
+  last_row_far far sparse ended some =
       let last = cell_at far (length far - 1) in
-      let among : IsLastRow (cell_in far) (Some last.row) = last_row_is far sparse.ordered sparse.visible some in
+      let among : IsLastRow (cell_in far) (Some last.row) = last_row_is far sparse.ordered ended some in
       let behind : length near ≤ last.row * width + last.col = sparse.behind (length far - 1) (record { row = 0; col = 0; ch = 0 }) (omega arith) in
       let inside : last.col < width = sparse.inside (length far - 1) (record { row = 0; col = 0; ch = 0 }) (omega arith) in (
         (
           last.col,
-          λ e. sparse.visible (length far - 1) (record { row = 0; col = 0; ch = 0 }) (omega arith)
+          λ e. ended some
               (sym (cell_in_at far sparse.ordered last.row last.col (length far - 1) (record { in_range = omega arith; row_is = refl; col_is = refl }))
               ∙ sym (shown_far width near far last.row last.col (λ h. behind)) ∙ e),
         ),
@@ -313,6 +317,10 @@ pub near_row_of : (width : ℕ) (near : List ℕ) (far : List Cell) (row : ℕ) 
 near_row_of width near far row first within is =
     fill_by_all (shown_at width near far row) first (length first) 0 refl
     (λ k below. (is k below).1 ∙ sym (shown_near width near far row k (omega arith) (is k below).0))
+
+-- and are of ASCII where all are
+pub near_row_ascii : (near cells : List ℕ) (at : ℕ) → AreNearFrom at near cells → All (λ b. b < 128) near → All (λ b. b < 128) cells
+near_row_ascii near cells at are ascii = All-from_get_or (λ b. b < 128) cells 0 (λ k below. rw (are k below).1 (ascii (at + k) 0 (are k below).0))
 
 -- one more column
 pub row_more : (cell : ℕ → ℕ → ℕ) (row col : ℕ) → row_of cell row (col + 1) ≡ row_of cell row col ++ cell row col ∷ []

@@ -1,5 +1,5 @@
 -- What is shown of cells once the first rows are dropped.
-use Rattle.std.proofs.Common.{◌≡◌, ◌≢◌, ℕ, ◌+◌, ◌-◌, ◌*◌, ◌/◌, ◌%◌, ◌<◌, ◌≤◌, suc, min, ◌&&◌, eqb, if◌then◌else◌, List, [], ◌∷◌, ◌++◌, length, map, take, drop, get_or, refl, sym, ap, ◌∙◌, arith, inl, inr}
+use Rattle.std.proofs.Common.{◌≡◌, ℕ, ◌+◌, ◌-◌, ◌*◌, ◌/◌, ◌%◌, ◌<◌, ◌≤◌, suc, min, ◌&&◌, eqb, if◌then◌else◌, List, [], ◌∷◌, ◌++◌, length, map, take, drop, get_or, refl, sym, ap, ◌∙◌, arith, inl, inr}
 use Rattle.std.specs.List.{All}
 use Rattle.std.proofs.Math.Path.{fun_ext}
 use Rattle.std.proofs.Math.Nat.{add-mul, min-eq_left, min-eq_right}
@@ -8,7 +8,7 @@ use Rattle.std.proofs.lemmas.List.{get_or-take, get_or-drop, get_or-map, get_or_
 use Rattle.std.proofs.lemmas.List.Elements.{All-head, All-tail, All-drop, All-map}
 use Rattle.tw_surface.specs.declared.screen.far.Cell.{Cell}
 use Rattle.tw_surface.specs.Pictures.{blank}
-use Rattle.tw_surface.specs.Cells.{cell_in, cell_at, shown_at, higher_cell, IsBefore, IsInOrder, IsPartedAt, IsSparse, IsTrimmed}
+use Rattle.tw_surface.specs.Cells.{cell_in, cell_at, shown_at, higher_cell, IsBefore, IsInOrder, IsPartedAt, IsSparse, IsTrimmed, AreEnded}
 use Rattle.tw_surface.proofs.CellLookups.{StandsAt, NoneAtBefore, cell_in-past}
 use Rattle.std.proofs.lemmas.Nat.{mod_below, div-add-mod'}
 use Rattle.tw_surface.proofs.LineOfCells.{below_row}
@@ -83,11 +83,22 @@ module _ (cells : List Cell) (rows i : ℕ) (parted : IsPartedAt cells rows i) w
       ap (λ n. n * width) split ∙ add-mul ((get_or (drop i cells) k d).row - rows) rows width in
       omega (arith, from, product))
 
+  -- the last one is as visible as it was
+  pub ended_raised : AreEnded cells → AreEnded (map (higher_cell rows) (drop i cells))
+  ended_raised ended some =
+      let zeros : Cell = record { row = 0; col = 0; ch = 0 } in
+      let new = map (higher_cell rows) (drop i cells) in
+      let size : length new ≡ length (drop i cells) = length-map (drop i cells) (higher_cell rows) in
+      let less : length (drop i cells) ≡ length cells - i = length-drop i cells in
+      let raised : cell_at new (length new - 1) ≡ higher_cell rows (cell_at (drop i cells) (length new - 1)) = get_or-map (higher_cell rows) (drop i cells) (length new - 1) zeros zeros (omega arith) in
+      let last : cell_at (drop i cells) (length new - 1) ≡ cell_at cells (i + (length new - 1)) = get_or-drop i cells (length new - 1) zeros in
+      let at : i + (length new - 1) ≡ length cells - 1 = omega (arith, size, less, some) in
+      λ e. ended (omega (arith, size, less, some)) (ap (λ n. (cell_at cells n).ch) (sym at) ∙ sym (ap (λ x. x.ch) last) ∙ sym (ap (λ x. x.ch) raised) ∙ e)
+
   pub sparse_raised : (width first : ℕ) → IsSparse width first cells → IsSparse width (first - rows * width) (map (higher_cell rows) (drop i cells))
   sparse_raised width first sparse = record {
     ordered = raised_order sparse.ordered;
     inside = All-map (λ x. x.col < width) (higher_cell rows) (drop i cells) (All-drop (λ x. x.col < width) i cells sparse.inside);
-    visible = All-map (λ x. x.ch ≢ blank) (higher_cell rows) (drop i cells) (All-drop (λ x. x.ch ≢ blank) i cells sparse.visible);
     ascii = All-map (λ x. x.ch < 128) (higher_cell rows) (drop i cells) (All-drop (λ x. x.ch < 128) i cells sparse.ascii);
     behind = raised_behind width first sparse.behind;
   }

@@ -1,12 +1,11 @@
 -- What stands when far cells become near ones, one after the other.
-use Rattle.std.proofs.Common.{◌≡◌, ◌≢◌, ℕ, suc, ◌+◌, ◌*◌, ◌-◌, ◌<◌, ◌≤◌, List, [], ◌∷◌, ◌++◌, length, drop, get_or, refl, sym, ap, ◌∙◌, arith, inl, inr}
+use Rattle.std.proofs.Common.{◌≡◌, ℕ, suc, ◌+◌, ◌*◌, ◌-◌, ◌<◌, ◌≤◌, List, [], ◌∷◌, ◌++◌, length, drop, get_or, refl, sym, ap, ◌∙◌, arith, inl, inr}
 use Rattle.std.proofs.Math.Path.{fun_ext}
 use Rattle.std.proofs.lemmas.Bool.{cases_eq, cases_lt}
 use Rattle.std.proofs.lemmas.Nat.{same_from_place}
 use Rattle.std.proofs.lemmas.List.{length-append, get_or_append_left, get_or-append_right, drop_more}
 use Rattle.std.proofs.lemmas.List.Elements.{All-head, All-tail, All-cons, All-weaker, All-from_get_or}
 use Rattle.tw_surface.specs.declared.screen.far.Cell.{Cell}
-use Rattle.tw_surface.specs.Pictures.{blank}
 use Rattle.tw_surface.specs.Cells.{cell_at, shown_at, IsBefore, IsSparse, IsGrown, AreCellsBefore}
 use Rattle.tw_surface.proofs.LineOfCells.{below_row}
 use Rattle.tw_surface.proofs.CellLookups.{cell_in-past, cell_in-first}
@@ -41,7 +40,6 @@ pub sparse_rest : (width first : ℕ) (cell : Cell) (cells : List Cell) → IsSp
 sparse_rest width first cell cells sparse = record {
   ordered = λ i j d below within. sparse.ordered (suc i) (suc j) d (omega arith) (omega arith);
   inside = All-tail (λ x. x.col < width) cell cells sparse.inside;
-  visible = All-tail (λ x. x.ch ≢ blank) cell cells sparse.visible;
   ascii = All-tail (λ x. x.ch < 128) cell cells sparse.ascii;
   behind = All-from_get_or (λ x. place width cell + 1 ≤ x.row * width + x.col) cells (record { row = 0; col = 0; ch = 0 }) (λ k within.
       let rises : place width cell < place width (cell_at cells k) = place_rises width first (cell ∷ cells) sparse 0 (suc k) (omega arith) (omega arith) in omega arith);
@@ -52,7 +50,6 @@ pub sparse_from : (width first : ℕ) (cell : Cell) (cells : List Cell) → IsSp
 sparse_from width first cell cells sparse = record {
   ordered = sparse.ordered;
   inside = sparse.inside;
-  visible = sparse.visible;
   ascii = sparse.ascii;
   behind = All-cons (λ x. place width cell ≤ x.row * width + x.col) cell cells (omega arith)
       (All-weaker (λ x. place width cell + 1 ≤ x.row * width + x.col) (λ x. place width cell ≤ x.row * width + x.col) (λ x from. omega (arith, from)) cells (sparse_rest width first cell cells sparse).behind);

@@ -1,4 +1,4 @@
--- What a screen holds: the near cells in one line, and of the far ones those that are not blank, in order.
+-- What a screen holds: the near cells in one line, and of the far ones those that were written, in order.
 use Rattle.std.specs.Prelude.{ℕ, ◌≡◌, ◌≢◌, ◌+◌, ◌-◌, ◌*◌, ◌<◌, ◌≤◌, ◌&&◌, eqb, ltb, if◌then◌else◌, Option, Some, None, List, [], ◌∷◌, ◌++◌, length, map, count_by, replicate, slice_index, slice_index_or}
 use Rattle.std.specs.List.{All, AllPairs, range_with_len}
 use Rattle.tw_surface.specs.declared.screen.far.Cell.{Cell}
@@ -74,11 +74,10 @@ pub record IsCountBefore (cells : List Cell) (row col i : ℕ) : Type 0 where
   pub before : (k : ℕ) → k < i → IsBefore (cell_at cells k).row (cell_at cells k).col row col
   pub from : (k : ℕ) → i ≤ k → k < length cells → IsBefore (cell_at cells k).row (cell_at cells k).col row col → ⊥
 
--- the far cells that a screen of a width may hold: in order, inside the width, none blank, all of ASCII, and none in the first places
+-- the far cells that a screen of a width may hold: in order, inside the width, all of ASCII, and none in the first places
 pub record IsSparse (width first : ℕ) (cells : List Cell) : Type 0 where
   pub ordered : IsInOrder cells
   pub inside : All (λ x. x.col < width) cells
-  pub visible : All (λ x. x.ch ≢ blank) cells
   pub ascii : All (λ x. x.ch < 128) cells
   pub behind : All (λ x. first ≤ x.row * width + x.col) cells
 
@@ -95,10 +94,15 @@ pub record AreSoundCells (width row col : ℕ) (near : List ℕ) (far : List Cel
 abbrev pub IsTrimmed : List ℕ → Type 0
 IsTrimmed near = 0 < length near → slice_index near (length near - 1) ≢ blank
 
+-- far cells end in one that is not blank, where there are any
+abbrev pub AreEnded : List Cell → Type 0
+AreEnded cells = 0 < length cells → (cell_at cells (length cells - 1)).ch ≢ blank
+
 -- what is true of every screen
 pub record IsSettled (width row col : ℕ) (near : List ℕ) (far : List Cell) : Type 0 where
   pub sound : AreSoundCells width row col near far
   pub trimmed : IsTrimmed near
+  pub ended : AreEnded far
 
 -- the far cells stand before a place
 abbrev pub AreCellsBefore : ℕ → ℕ → List Cell → Type 0

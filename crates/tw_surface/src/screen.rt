@@ -5,7 +5,7 @@ ghost use Rattle.std.specs.List.{list_all};
 ghost use Rattle.tw_surface.specs.ChangeView.{change_view, Text as TextView};
 ghost use Rattle.tw_surface.specs.Characters.{is_plain};
 ghost use Rattle.tw_surface.specs.Pictures.{blank, cells_cleared_from, play, play_text, can_play};
-ghost use Rattle.tw_surface.specs.Cells.{shown_at, picture, blank_screen, row_of, IsInOrder, IsSparse, IsTrimmed, IsLastRow};
+ghost use Rattle.tw_surface.specs.Cells.{shown_at, picture, blank_screen, row_of, IsInOrder, IsSparse, IsTrimmed, AreEnded, IsLastRow};
 ghost use Rattle.tw_surface.specs.ScreenSteps.{moved_from, with_cursor_moved, IsPastLimit, RefusesPastLimit};
 
 mod far;
@@ -17,7 +17,7 @@ mod scroll;
 
 use crate::change::{Change, Position};
 use crate::characters::is_plain_text;
-use crate::screen::far::{Cell, char_in, clear_from, row_end};
+use crate::screen::far::{Cell, char_in, clear_from, row_end, trim_cells};
 use crate::screen::near::{near_row, place_of, trim};
 use crate::screen::play::{LAST_ROW, ends_in_range, play_bytes, reach};
 use crate::screen::room::make_room;
@@ -67,6 +67,7 @@ fn last_row_of(near: &[u8], far: &[Cell], width: usize) -> Option<usize>
     requires width { 0 < width }
     requires sparse { IsSparse width (length near.now) far.now }
     requires trimmed { IsTrimmed near.now }
+    requires ended { AreEnded far.now }
     ensures { IsLastRow (shown_at width near.now far.now) result }
 {
     match far {
@@ -77,8 +78,8 @@ fn last_row_of(near: &[u8], far: &[Cell], width: usize) -> Option<usize>
 
 /// A screen without a bottom: a character in each cell, blank at first, and a cursor. Rows and
 /// columns are numbered from 0, and the cursor's column is the width where it waits after the last
-/// column. Of the rows far below all others a screen keeps only the cells that are not blank, so a
-/// far row costs no memory.
+/// column. Of the rows far below all others a screen keeps only the cells that were written, so a far
+/// row costs no memory.
 #[derive(Debug, Drop)]
 pub struct Screen {
     width: usize,
@@ -133,8 +134,11 @@ impl Screen {
         ensures added { OnOk result (string_bytes shown.new ≡ string_bytes shown.old ++ row_of (picture self.now).cell row cols) }
         ensures refused { OnErr result (string_bytes shown.new ≡ string_bytes shown.old) }
     {
-        shown.reserve(cols)?;
         let first = near_row(&self.near, self.width, row, cols);
+        if first.len() == cols {
+            return push_ascii(shown, first);
+        }
+        shown.reserve(cols)?;
         push_ascii(shown, first)?;
         let end = row_end(&self.far, self.width, row)
             .min(cols)
@@ -219,6 +223,7 @@ impl Screen {
             text,
         );
         trim(&mut self.near);
+        trim_cells(&mut self.far);
         self.row = row;
         self.col = col;
         Ok(())

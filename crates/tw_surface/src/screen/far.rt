@@ -1,11 +1,12 @@
-//! Far cells: after the near ones a screen keeps the cells that are not blank, in order, and so no others.
+//! Far cells: after the near ones a screen keeps the cells that were written, in order. Between changes the last of
+//! them is not blank.
 
-ghost use Rattle.std.specs.Prelude.{◌≡◌, ◌≢◌, ℕ, ◌+◌, ◌<◌, ◌≤◌, vec_len, vec_capacity, IfOk, IfErr};
+ghost use Rattle.std.specs.Prelude.{◌≡◌, ℕ, ◌+◌, ◌<◌, ◌≤◌, vec_len, vec_capacity, IfOk, IfErr};
 ghost use Rattle.tw_surface.specs.Pictures.{blank, cells_with, cells_cleared_from};
-ghost use Rattle.tw_surface.specs.Cells.{cell_in, IsInOrder, IsAt, IsGapFor, IsCountBefore, IsSparse};
+ghost use Rattle.tw_surface.specs.Cells.{cell_in, IsInOrder, IsAt, IsGapFor, IsCountBefore, IsSparse, AreEnded};
 ghost use Rattle.tw_surface.specs.ScreenSteps.{StaysSparse};
 
-// A cell that is not blank.
+// A cell that was written.
 #[derive(Debug, Copy, Clone)]
 pub struct Cell {
     pub row: usize,
@@ -33,9 +34,8 @@ pub fn char_in(cells: &[Cell], row: usize, col: usize) -> char
     }
 }
 
-// Puts a character that is not a blank.
-fn put_cell(cells: &mut Vec<Cell>, row: usize, col: usize, ch: char)
-    requires visible { ch ≢ blank }
+// Puts a character into a cell. A blank after all cells is kept, and one between them is not, where none is.
+pub fn write_cell(cells: &mut Vec<Cell>, row: usize, col: usize, ch: char)
     requires ascii { ch < 128 }
     requires room { vec_len cells.old < vec_capacity cells.old }
     requires ordered { IsInOrder cells.old.items }
@@ -46,40 +46,24 @@ fn put_cell(cells: &mut Vec<Cell>, row: usize, col: usize, ch: char)
 {
     match find_cell(cells, row, col) {
         Ok(at) => cells[at] = Cell { row, col, ch },
+        Err(at) if ch == ' ' && at < cells.len() => {}
         Err(at) => {
             let _ = cells.insert(at, Cell { row, col, ch });
         }
     }
 }
 
-// Puts a blank.
-fn remove_cell(cells: &mut Vec<Cell>, row: usize, col: usize)
-    requires { IsInOrder cells.old.items }
-    ensures written { cell_in cells.new.items ≡ cells_with (cell_in cells.old.items) row col blank }
-    ensures sparse { StaysSparse row col cells.old.items cells.new.items }
-    ensures len { vec_len cells.new ≤ vec_len cells.old }
-    ensures capacity { vec_capacity cells.old ≤ vec_capacity cells.new }
+// Drops the blanks at the end.
+pub fn trim_cells(cells: &mut Vec<Cell>)
+    ensures shown { cell_in cells.new.items ≡ cell_in cells.old.items }
+    ensures sparse { (width first : ℕ) → IsSparse width first cells.old.items → IsSparse width first cells.new.items }
+    ensures ended { AreEnded cells.new.items }
 {
-    if let Ok(at) = find_cell(cells, row, col) {
-        cells.remove(at);
+    let mut end = cells.len();
+    while end > 0 && cells[end - 1].ch == ' ' {
+        end -= 1;
     }
-}
-
-// Puts a character into a cell.
-pub fn write_cell(cells: &mut Vec<Cell>, row: usize, col: usize, ch: char)
-    requires ascii { ch < 128 }
-    requires room { vec_len cells.old < vec_capacity cells.old }
-    requires ordered { IsInOrder cells.old.items }
-    ensures written { cell_in cells.new.items ≡ cells_with (cell_in cells.old.items) row col ch }
-    ensures sparse { StaysSparse row col cells.old.items cells.new.items }
-    ensures len { vec_len cells.new ≤ vec_len cells.old + 1 }
-    ensures capacity { vec_capacity cells.old ≤ vec_capacity cells.new }
-{
-    if ch == ' ' {
-        remove_cell(cells, row, col);
-    } else {
-        put_cell(cells, row, col, ch);
-    }
+    cells.truncate(end);
 }
 
 // How many cells stand before a row and a column.
@@ -93,13 +77,15 @@ fn count_before(cells: &[Cell], row: usize, col: usize) -> usize
     }
 }
 
-// Removes the cells at a row and a column and after it.
+// Removes the cells at a row and a column and after it, and the blanks at the end of the others.
 pub fn clear_from(cells: &mut Vec<Cell>, row: usize, col: usize)
     requires { IsInOrder cells.old.items }
     ensures cleared { cell_in cells.new.items ≡ cells_cleared_from (cell_in cells.old.items) row col }
     ensures sparse { (width first : ℕ) → IsSparse width first cells.old.items → IsSparse width first cells.new.items }
+    ensures ended { AreEnded cells.new.items }
 {
     cells.truncate(count_before(cells, row, col));
+    trim_cells(cells);
 }
 
 // The column after the last cell of a row, 0 where there is none.

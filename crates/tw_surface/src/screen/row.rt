@@ -17,10 +17,8 @@ pub fn push_ascii(shown: &mut String, characters: &[u8]) -> Result<(), AllocErro
     ensures capacity { string_capacity shown.old ≤ string_capacity shown.new }
     ensures succeeds { string_len shown.old + length characters.now ≤ string_capacity shown.old → IsOk result }
 {
-    match str::from_utf8(characters) {
-        Ok(text) => shown.push_str(text),
-        Err(_) => Ok(()),
-    }
+    // SAFETY: bytes below 128 are UTF-8, which is proved here.
+    shown.push_str(unsafe { str::from_utf8_unchecked(characters) })
 }
 
 // Adds blanks to a text that has room for them.

@@ -2,7 +2,7 @@
 
 ghost use Rattle.std.specs.Prelude.{◌≡◌, ℕ, ◌+◌, ◌-◌, ◌*◌, ◌≤◌, drop, length, map};
 ghost use Rattle.std.specs.List.{All};
-ghost use Rattle.tw_surface.specs.Cells.{cell_in, picture, higher_cell, IsInOrder, IsPartedAt, IsSparse};
+ghost use Rattle.tw_surface.specs.Cells.{cell_in, picture, higher_cell, IsInOrder, IsPartedAt, IsSparse, AreEnded};
 ghost use Rattle.tw_surface.specs.Pictures.{blank};
 ghost use Rattle.tw_surface.specs.Scrolling.{from_row};
 
@@ -42,6 +42,7 @@ fn drop_rows(cells: &mut Vec<Cell>, rows: usize)
     requires { IsInOrder cells.old.items }
     ensures raised { cell_in cells.new.items ≡ (λ r c. cell_in cells.old.items (r + rows) c) }
     ensures sparse { (width first : ℕ) → IsSparse width first cells.old.items → IsSparse width (first - rows * width) cells.new.items }
+    ensures ended { AreEnded cells.old.items → AreEnded cells.new.items }
 {
     let count = count_above(cells, rows);
     drop_first(cells, count);

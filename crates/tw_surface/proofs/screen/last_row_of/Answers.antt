@@ -5,7 +5,7 @@ use Rattle.tw_surface.proofs.NearCells.{last_row_far, last_row_near}
 use Rattle.tw_surface.proofs.screen.last_row_of.Goals as goal
 
 pub returns-in-len1-up : goal.returns-in-len1-up
-returns-in-len1-up c = last_row_far c.args.width c.args.near.now c.requires.width c.args.far.now c.requires.sparse (omega arith)
+returns-in-len1-up c = last_row_far c.args.width c.args.near.now c.requires.width c.args.far.now c.requires.sparse c.requires.ended (omega arith)
 
 pub returns-in_ok-checked_sub-in-empty : goal.returns-in_ok-checked_sub-in-empty
 returns-in_ok-checked_sub-in-empty c =

@@ -22,7 +22,7 @@ invariant_of-self c =
       ascii = rw c.truncate.ensures.items (All-take (λ b. b < 128) _ _ was.ascii);
       sparse = sparse c;
     } in
-    record { sound = sound_trimmed _ _ _ c.truncate.new.self.items c.trim.new.near.items c.clear_from.new.cells.items c.trim.ensures.kept whole; trimmed = c.trim.ensures.trimmed }
+    record { sound = sound_trimmed _ _ _ c.truncate.new.self.items c.trim.new.near.items c.clear_from.new.cells.items c.trim.ensures.kept whole; trimmed = c.trim.ensures.trimmed; ended = c.clear_from.ensures.ended }
 
 pub returns-clause-cleared : goal.returns-clause-cleared
 returns-clause-cleared c =

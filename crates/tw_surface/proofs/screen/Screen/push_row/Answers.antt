@@ -1,12 +1,35 @@
 use Rattle.std.proofs.lemmas.Bool.{cases_lt}
-use Rattle.std.proofs.Common.{ℕ, ◌+◌, ◌-◌, ◌≤◌, min, replicate, sym, inl, inr, Result, Ok, Err, OnOk, ◌<◌, ◌≡◌, ◌∷◌, [], ◌++◌, length, ap, ◌∙◌, arith}
+use Rattle.std.proofs.Common.{ℕ, ◌+◌, ◌-◌, ◌≤◌, min, replicate, sym, inl, inr, Result, Ok, Err, OnOk, is_ok, if◌then◌else◌, List, ◌<◌, ◌≡◌, ◌∷◌, [], ◌++◌, length, ap, ◌∙◌, arith}
 use Rattle.std.specs.Prelude.{string_bytes, encode_utf8}
 use Rattle.std.proofs.lemmas.List.{append_assoc}
 use Rattle.std.proofs.Math.Nat.{le-min, max-le, min-le_right, le-max_left, le-max_right}
 use Rattle.tw_surface.specs.Cells.{cell_in, picture, row_of}
 use Rattle.tw_surface.specs.Pictures.{blank}
-use Rattle.tw_surface.proofs.NearCells.{shown_far, row_blanks, near_row_of, row_more, shown_ascii}
+use Rattle.tw_surface.proofs.NearCells.{shown_far, row_blanks, near_row_of, near_row_ascii, row_more, shown_ascii}
 use Rattle.tw_surface.proofs.screen.Screen.push_row.Goals as goal
+
+-- a row of near cells alone
+pub push_ascii-requires : goal.push_ascii-requires
+push_ascii-requires c =
+    near_row_ascii c.deref.result.now c.near_row-first.result.now _ c.near_row-first.ensures.near (rw c.deref.ensures.value c.self.invariant.sound.ascii)
+
+added : {A : Type 0} → {E : Type 0} → (r : Result A E) (old new more row : List ℕ) → new ≡ (if is_ok r then old ++ more else old) → more ≡ row → OnOk r (new ≡ old ++ row)
+added (Ok value) old new more row is same = is ∙ ap (λ l. old ++ l) same
+added (Err fault) old new more row is same = tt
+
+pub returns-then-first-cols-clause-added : goal.returns-then-first-cols-clause-added
+returns-then-first-cols-clause-added c =
+    let now = c.self.inside in
+    let cell = (picture c.args.self.now).cell in
+    let all : length c.near_row-first.result.now ≡ c.args.cols = omega arith in
+    let first : c.near_row-first.result.now ≡ row_of cell c.args.row (length c.near_row-first.result.now) =
+    rw (← c.self.view_is) (rw c.deref.ensures.value at (near_row_of now.width c.deref.result.now now.far.items c.args.row c.near_row-first.result.now c.near_row-first.ensures.width c.near_row-first.ensures.near)) in
+    added c.push_ascii.result _ _ _ _ c.push_ascii.ensures.bytes (first ∙ ap (row_of cell c.args.row) all)
+
+-- or with others after them
+pub push_ascii-requires-2 : goal.push_ascii-requires-2
+push_ascii-requires-2 c =
+    near_row_ascii c.deref.result.now c.near_row-first.result.now _ c.near_row-first.ensures.near (rw c.deref.ensures.value c.self.invariant.sound.ascii)
 
 -- the near cells are the row's first characters
 pub loop-col-init : goal.loop-col-init

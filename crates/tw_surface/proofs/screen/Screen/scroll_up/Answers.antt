@@ -25,6 +25,7 @@ invariant_of-self c =
             (dropped c) c.drop_rows.ensures.raised (c.drop_rows.ensures.sparse c.self.inside.width _ was.sparse));
       };
       trimmed = rw (left c) (trimmed_drop c.self.inside.near.items c.min-count.result c.self.invariant.trimmed);
+      ended = c.drop_rows.ensures.ended c.self.invariant.ended;
     }
 
 pub returns-clause-near : goal.returns-clause-near
