@@ -1,6 +1,5 @@
 //! A host that counts in the cells which wide characters leave empty at the screen's edge.
 
-ghost use Rattle.std.specs.Prelude.{◌≡◌};
 ghost use Rattle.std.proofs.Common.{ap};
 ghost use Rattle.tw_host.specs.PlainAnswers.{all_overrides, no_plain_left};
 ghost use Rattle.tw_hosts.specs.SettledRules.{Settled, screen_view, settled_rules};

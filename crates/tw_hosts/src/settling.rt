@@ -4,7 +4,7 @@
 //! the cursor's cell by division, which knows nothing of such a hole. Who knows the screen's columns and the prompt
 //! counts the holes in.
 
-ghost use Rattle.std.specs.Prelude.{◌≡◌, ◌≤◌, ◌-ℤ◌, [], ◌∷◌, chars, MatchOption, IsCharBoundary, nat_abs, true, false};
+ghost use Rattle.std.specs.Prelude.{◌≡◌, ◌≤◌, ◌-ℤ◌, chars, MatchOption, IsCharBoundary, nat_abs, true, false};
 ghost use Rattle.std.specs.List.{list_all};
 ghost use Rattle.tw_surface.specs.Extents.{place_of, Measures};
 ghost use Rattle.tw_surface.specs.Places.{is_in_range, origin, pieces, places_after};

@@ -24,8 +24,8 @@ use tw_parts::{SearchWatch, has_lines};
 /// shown.
 ///
 /// The candidates are those that the other host has before it sees the key. It is put on last, since it follows the
-/// actions of the hosts within it. There is no menu where the other host itself answers a key with a completion, nor for
-/// the completion that ends a search.
+/// actions of the hosts within it. There is no menu where the other host itself answers a key with a completion, nor
+/// for the completion that ends a search.
 ///
 /// ```text
 /// WithMenu::new(host, MenuStyle { cols: 80, rows: 6, chosen })

@@ -16,8 +16,8 @@ pub fn equality()
     ensures { ComparesValues ⟦<Latest as PartialEq>⟧.eq }
 {}
 
-/// A watch that follows what comes of a host's answers says at each event of a run whether the editor searches, where it
-/// does at the beginning; so it does in each reading that begins while it is off, and after one that was accepted or
+/// A watch that follows what comes of a host's answers says at each event of a run whether the editor searches, where
+/// it does at the beginning; so it does in each reading that begins while it is off, and after one that was accepted or
 /// cancelled it is off.
 pub fn watch<H: LineEditorHost>()
     ensures runs { (watch : H.Value → Bool) → TellsRuns H.rules watch }

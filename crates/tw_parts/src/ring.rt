@@ -1,13 +1,12 @@
 //! What was killed, and how it comes back.
 
-ghost use Rattle.std.specs.Prelude.{◌≡◌, ◌≤◌, ◌+◌, ◌<◌, ◌-◌, ◌++◌, ◌∷◌, [], false, length, map, take, IfOk, OnOk, OnErr, Some, option_map, slice_get, string_bytes};
+ghost use Rattle.std.specs.Prelude.{◌≡◌, ◌≤◌, ◌+◌, ◌<◌, ◌-◌, ◌++◌, ◌∷◌, [], false, length, map, take, IfOk, OnOk, Some, option_map, string_bytes};
 ghost use Rattle.std.specs.String.{string_capacity};
 ghost use Rattle.std.specs.Vec.{vec_capacity, vec_len};
-ghost use Rattle.std.specs.Str.{IsCharBoundary};
 ghost use Rattle.tw_input.specs.EventView.{event_view};
 ghost use Rattle.tw_host.specs.ActionView.{action_view};
 ghost use Rattle.tw_parts.specs.declared.ring.Latest.TheVariants as Latest;
-ghost use Rattle.tw_parts.specs.Ring.{index_below, leads_onward, is_kept, joined, kept_movement, kill_of, killed_by, killing, newest_kill, ring_after, ring_view, rotated, taken_out, with_killed, with_killing, with_room, yank_by, yank_into, yank_of, yank_view};
+ghost use Rattle.tw_parts.specs.Ring.{index_below, is_kept, joined, kept_movement, killing, newest_kill, ring_after, ring_view, rotated, taken_out, with_killed, with_killing, with_room, yank_by, yank_of, yank_view};
 
 use crate::cuts::is_same;
 use crate::keys::{ROTATE, YANK, is_key};
@@ -244,8 +243,8 @@ impl KillRing {
         self.take_in(from < to, killed, text);
     }
 
-    /// Takes in the action that comes of an event, if one does. `editor` has the line as the host leaves it, and `lines`
-    /// says whether the history has lines.
+    /// Takes in the action that comes of an event, if one does. `editor` has the line as the host leaves it, and
+    /// `lines` says whether the history has lines.
     pub fn follow(
         &mut self,
         action: Option<&Action>,

@@ -1,9 +1,9 @@
 //! The lines before the steps of a reading.
 
-ghost use Rattle.std.specs.Prelude.{◌≡◌, ◌++◌, ◌∷◌, ◌<◌, [], IfOk, OnOk, OnErr, length, option_map};
+ghost use Rattle.std.specs.Prelude.{◌≡◌, ◌<◌, OnOk, option_map};
 ghost use Rattle.std.specs.Vec.{vec_capacity, vec_len};
 ghost use Rattle.tw_host.specs.ActionView.{action_view};
-ghost use Rattle.tw_parts.specs.Undo.{before_change, typing_goes_on, if_any, is_edit, is_end, is_same_line, types_character, no_steps, steps_after, steps_with, typing_after, undo_after, undo_behind, undo_view};
+ghost use Rattle.tw_parts.specs.Undo.{before_change, if_any, is_edit, is_end, is_same_line, types_character, no_steps, steps_with, typing_after, undo_after, undo_behind, undo_view};
 
 use crate::watch::SearchWatch;
 use std::alloc::{AllocError, Global};

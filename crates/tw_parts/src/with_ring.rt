@@ -4,7 +4,7 @@ ghost use Rattle.std.specs.Prelude.{◌≡◌, [], false};
 ghost use Rattle.std.proofs.Common.{ap};
 ghost use Rattle.tw_host.specs.PlainAnswers.{all_overrides, no_plain_left};
 ghost use Rattle.tw_parts.specs.declared.ring.Latest.TheVariants as Latest;
-ghost use Rattle.tw_parts.specs.Ring.{Ring, ring_view};
+ghost use Rattle.tw_parts.specs.Ring.{ring_view};
 ghost use Rattle.tw_parts.specs.RingRules.{Ringed, ring_rules};
 
 use crate::ring::KillRing;

@@ -18,10 +18,10 @@ use tw_line::LineEditBuffer;
 
 /// Another host, whose edits are undone: Ctrl-_ brings the line before the last step back, with its cursor.
 ///
-/// A run of typed characters is one step; so are a kill, a paste, a completion, a step through the history, and a search
-/// with what ends it. A movement ends a run. A step that left the line as it was is passed over. Where the other host
-/// has an action for Ctrl-_, or the editor searches, it is left alone. The steps are those of one line: at its end they
-/// are forgotten. What this host undoes are the steps of all hosts within it, so it is put on last.
+/// A run of typed characters is one step; so are a kill, a paste, a completion, a step through the history, and a
+/// search with what ends it. A movement ends a run. A step that left the line as it was is passed over. Where the other
+/// host has an action for Ctrl-_, or the editor searches, it is left alone. The steps are those of one line: at its end
+/// they are forgotten. What this host undoes are the steps of all hosts within it, so it is put on last.
 ///
 /// ```text
 /// WithUndo::new(alloc, WithRing::new(alloc, NopLineEditorHost::new(alloc)))

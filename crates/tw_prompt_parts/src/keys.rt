@@ -1,7 +1,6 @@
 //! Keys, as events.
 
 ghost use Rattle.std.specs.Prelude.{◌≡◌};
-ghost use Rattle.tw_host.specs.KeyTable.{is_same_key};
 ghost use Rattle.tw_input.specs.EventView.{event_view};
 ghost use Rattle.tw_parts.specs.Keys.{is_key};
 

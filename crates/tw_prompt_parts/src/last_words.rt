@@ -1,6 +1,6 @@
 //! The last words of the lines of a history.
 
-ghost use Rattle.std.specs.Prelude.{◌≡◌, IfOk, IfSome, option_map, slice_get, string_bytes};
+ghost use Rattle.std.specs.Prelude.{◌≡◌, IfOk, option_map, slice_get, string_bytes};
 ghost use Rattle.tw_input.specs.EventView.{event_view};
 ghost use Rattle.tw_parts.specs.Keys.{is_key};
 ghost use Rattle.tw_prompt_parts.specs.LastWords.{cut_for, index_for, last_argument, last_word_key, place_view};

@@ -4,9 +4,10 @@
 //!
 //! `validator` has what says whether a line is whole, `nested_lines` the one that asks for whole brackets and
 //! quotations, and `with_validator` the host; `word_keys` the keys that edit words and characters, and `with_word_keys`
-//! the host; `letter_keys` the keys for words of letters and digits, and `with_letter_words` the host; `last_words` the last words of lines, and `with_last_words` the host; `prefix_search` the lines that begin
-//! as a line does, and `with_prefix_search` the host; `keys` says which key an event is; `laws`
-//! that each host tells whether the editor searches.
+//! the host; `letter_keys` the keys for words of letters and digits, and `with_letter_words` the host; `last_words` the
+//! last words of lines, and `with_last_words` the host; `prefix_search` the lines that begin as a line does, and
+//! `with_prefix_search` the host; `keys` says which key an event is; `laws` that each host tells whether the editor
+//! searches.
 #![tactic(auto)]
 
 mod keys;

@@ -1,9 +1,7 @@
 //! Lines of a history that begin as a line does.
 
-ghost use Rattle.std.specs.Prelude.{◌≡◌, ◌+◌, ◌-◌, IfOk, None, Some, if◌then◌else◌, length, option_map, slice_get};
-ghost use Rattle.tw_extremes.specs.Extremes.{greatest_below, least_from};
+ghost use Rattle.std.specs.Prelude.{◌≡◌, IfOk, None, Some, if◌then◌else◌, length, option_map};
 ghost use Rattle.tw_hosts.specs.Words.{begins_with};
-ghost use Rattle.tw_history.specs.NearestMatch.{last_index};
 ghost use Rattle.tw_input.specs.EventView.{event_view};
 ghost use Rattle.tw_line.specs.Cut.{cut_at};
 ghost use Rattle.tw_parts.specs.Keys.{is_key};

@@ -17,10 +17,10 @@ use tw_input::InputEvent;
 use tw_line::LineEditBuffer;
 use tw_parts::{SearchWatch, has_lines};
 
-/// Another host, in which Alt-. puts in the last word of the last line of the history, where that host has no action for
-/// it. Another Alt-. right after it puts the last word of the line before in its place, and so on up to the first line.
-/// During a search it is left alone. It is put on before a ring of kills and undos, since undos take in the edits of the
-/// hosts within them.
+/// Another host, in which Alt-. puts in the last word of the last line of the history, where that host has no action
+/// for it. Another Alt-. right after it puts the last word of the line before in its place, and so on up to the first
+/// line. During a search it is left alone. It is put on before a ring of kills and undos, since undos take in the edits
+/// of the hosts within them.
 ///
 /// ```text
 /// WithLastWords::new(NopLineEditorHost::new(alloc))
@@ -45,8 +45,8 @@ impl<H: LineEditorHost> WithLastWords<H> {
         }
     }
 
-    /// Forgets a word that was put in, and that a search was going on. A reading that was accepted or cancelled needs no
-    /// such call, and one that was left otherwise does, as where no event was left or memory was refused.
+    /// Forgets a word that was put in, and that a search was going on. A reading that was accepted or cancelled needs
+    /// no such call, and one that was left otherwise does, as where no event was left or memory was refused.
     pub fn leave_line(&mut self)
         ensures host { self.new.host ≡ self.old.host }
         ensures place { self.new.place ≡ None }

@@ -15,9 +15,9 @@ use tw_line::LineEditBuffer;
 use tw_parts::{SearchWatch, has_lines};
 
 /// Another host, in which words are of letters and digits, as they are for readline, where that host has no action for
-/// the key: Alt-f and Ctrl-Right go past the word ahead, Alt-b and Ctrl-Left to the start of the one before, Alt-d kills
-/// the word ahead, and Alt-Backspace the one before. A grapheme cluster is of a word where it begins with a letter or a
-/// digit. During a search the keys are left to the key table.
+/// the key: Alt-f and Ctrl-Right go past the word ahead, Alt-b and Ctrl-Left to the start of the one before, Alt-d
+/// kills the word ahead, and Alt-Backspace the one before. A grapheme cluster is of a word where it begins with a
+/// letter or a digit. During a search the keys are left to the key table.
 ///
 /// It is put on before `WithReadlineKeys`, whose words end at whitespace, and before a ring of kills and undos.
 ///

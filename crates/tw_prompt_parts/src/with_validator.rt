@@ -15,11 +15,11 @@ use tw_input::InputEvent;
 use tw_line::LineEditBuffer;
 use tw_parts::{SearchWatch, has_lines};
 
-/// Another host, of which whole lines alone are accepted: where the line is not whole, an event that would accept it, as
-/// Enter, does nothing, and up to the next action the preview says what the line lacks.
+/// Another host, of which whole lines alone are accepted: where the line is not whole, an event that would accept it,
+/// as Enter, does nothing, and up to the next action the preview says what the line lacks.
 ///
-/// The line is judged as it was before the event. During a search Enter is left alone: it takes the line that was found.
-/// It is put on last, since it takes in the actions of the hosts within it.
+/// The line is judged as it was before the event. During a search Enter is left alone: it takes the line that was
+/// found. It is put on last, since it takes in the actions of the hosts within it.
 ///
 /// ```text
 /// WithValidator::new(NopLineEditorHost::new(alloc), NestedLines { pairs: common_pairs(alloc)? })

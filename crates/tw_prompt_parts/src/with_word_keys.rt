@@ -16,9 +16,9 @@ use tw_line::LineEditBuffer;
 use tw_parts::{SearchWatch, has_lines};
 
 /// Another host, with keys where it has no action: Ctrl-T has the characters around the cursor change places, and Alt-t
-/// the words; Alt-u, Alt-l and Alt-c write the word ahead in upper case, in lower case, and capitalized. During a search
-/// they are left alone. It is put on before a ring of kills and undos, since undos take in the edits of the hosts within
-/// them.
+/// the words; Alt-u, Alt-l and Alt-c write the word ahead in upper case, in lower case, and capitalized. During a
+/// search they are left alone. It is put on before a ring of kills and undos, since undos take in the edits of the
+/// hosts within them.
 ///
 /// ```text
 /// WithWordKeys::new(NopLineEditorHost::new(alloc))
