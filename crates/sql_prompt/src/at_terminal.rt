@@ -72,11 +72,14 @@ impl<R: Read, C: Clock, T: DeviceTerminal, W: Write + Drop> Prompt<R, C, T, W> {
         Ok(())
     }
 
-    /// Reads a line and takes it. File names are those that the directory has now.
+    /// Reads a line and takes it. Where no statement is begun a command may be typed, and the files that it may name are
+    /// those that the directory has now.
     fn read_and_take<S: Alter>(&mut self, session: &mut Session<S>) -> Result<Flow, anyhow::Error> {
         set_begun(self.screen.alloc, &mut self.host, session.begun())?;
-        let files = read_listing(self.rt, ".", "")?;
-        set_files(self.screen.alloc, &mut self.host, files)?;
+        if !session.has_begun() {
+            let files = read_listing(self.rt, ".", "")?;
+            set_files(self.screen.alloc, &mut self.host, files)?;
+        }
         match self.read(session.has_begun()) {
             Ok(Answer::Line(line)) => self.take(session, line.as_str()),
             Ok(Answer::Cancelled) => {
