@@ -1,11 +1,11 @@
 #!/bin/sh
 # Starts the prompt at this terminal, by tools/at_terminal.
 #
-#     crates/prompt_demo/prompt.sh [sparing] [PROGRAM]
+#     crates/prompt_demo/prompt.sh [sparing|patient] [PROGRAM]
 #
-# With the word `sparing` the terminal is sent what differs, and else all that is painted. PROGRAM is out/prompt_demo
-# beside this file where none is given; `rt run` leaves it there. The exit status is that of the prompt, or 128 and the
-# number of the signal that ended this script.
+# With the word `sparing` the terminal is sent what differs, with `patient` also nothing while more keys are at hand, and
+# else all that is painted. PROGRAM is out/prompt_demo beside this file where none is given; `rt run` leaves it there. The
+# exit status is that of the prompt, or 128 and the number of the signal that ended this script.
 set -eu
 
 fail() {
@@ -24,10 +24,12 @@ while [ -L "$file" ]; do
 done
 folder=$(cd "$(dirname "$file")" && pwd)
 way=''
-if [ "${1:-}" = sparing ]; then
-    way=sparing
-    shift
-fi
+case ${1:-} in
+    sparing | patient)
+        way=$1
+        shift
+        ;;
+esac
 program=${1:-$folder/out/prompt_demo}
 case $program in
     */*) ;;

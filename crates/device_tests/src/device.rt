@@ -72,6 +72,10 @@ impl EventSource for Typed {
             }
         }
     }
+
+    fn has_at_hand(&self) -> bool {
+        !self.characters.is_empty()
+    }
 }
 
 /// A reader that gives a few bytes at a time.

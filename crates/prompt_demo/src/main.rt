@@ -1,8 +1,8 @@
 //! A small command prompt at a terminal in raw mode; `prompt.sh` starts it. It keeps the last lines, with hints from
-//! them, completes commands and their arguments by a menu, shows them in bold, has a hint under a line that begins with a question mark, and
-//! keeps a line from being accepted in which a bracket or a quotation is open. It ends at `quit`, at Ctrl-D on an empty
-//! line, and at the end of what is typed. With the argument `sparing` the terminal is sent what differs, and else all
-//! that is painted.
+//! them, completes commands and their arguments by a menu, shows them in bold, has a hint under a line that begins with
+//! a question mark, and keeps a line from being accepted in which a bracket or a quotation is open. It ends at `quit`,
+//! at Ctrl-D on an empty line, and at the end of what is typed. With the argument `sparing` the terminal is sent what
+//! differs, with `patient` also nothing while more keys are at hand, and else all that is painted.
 //!
 //! `tables` has what the prompt knows, `completers` what completes the arguments of commands, `host` the host, which is
 //! made of ready parts, and `options` the arguments.
@@ -15,14 +15,14 @@ mod options;
 mod tables;
 
 use host::{PromptHost, prompt_host, set_files};
-use options::{Options, read_options};
+use options::{Options, Way, read_options};
 use std::alloc::Global;
 use std::io::Read;
 use std::time::Clock;
 use tw_device::{AnsiTerminal, Answer, DeviceTerminal, read_line_from};
 use tw_lineedit::{Error, LineEditorHost};
 use tw_prompt::{BEGIN, END, PromptEvents, read_listing, usable};
-use tw_sparing::SparingTerminal;
+use tw_sparing::{PatientTerminal, SparingTerminal};
 use tw_terminal::ScreenSize;
 
 /// What stands before the line.
@@ -87,17 +87,23 @@ impl<R: Read, C: Clock, T: DeviceTerminal> Prompt<R, C, T> {
     }
 }
 
-/// Reads lines at a terminal of this size, up to the end.
+/// Reads lines at a terminal of this size, up to the end, with all that was typed read at once or not.
 fn prompt_at<T: DeviceTerminal + Drop>(
     rt: HostRuntime,
     size: ScreenSize,
     terminal: T,
+    reads_ahead: bool,
 ) -> Result<(), anyhow::Error> {
     let alloc = rt.alloc();
+    let events = if reads_ahead {
+        PromptEvents::reading_ahead(alloc, rt.stdin(), rt)
+    } else {
+        PromptEvents::new(alloc, rt.stdin(), rt)
+    };
     let mut prompt = Prompt {
         rt,
         alloc,
-        events: PromptEvents::new(alloc, rt.stdin(), rt),
+        events,
         terminal,
         host: prompt_host(alloc, PROMPT, size.cols)?,
     };
@@ -106,11 +112,19 @@ fn prompt_at<T: DeviceTerminal + Drop>(
 
 fn main(rt: HostRuntime) -> Result<(), anyhow::Error> {
     let alloc = rt.alloc();
-    let Options { size, is_sparing } = read_options(rt)?;
-    if is_sparing {
-        let terminal = SparingTerminal::new(alloc, rt.stdout(), size);
-        return prompt_at(rt, size, terminal);
+    let Options { size, way } = read_options(rt)?;
+    match way {
+        Way::Plain => {
+            let terminal = AnsiTerminal::new(alloc, rt.stdout(), size);
+            prompt_at(rt, size, terminal, false)
+        }
+        Way::Sparing => {
+            let terminal = SparingTerminal::new(alloc, rt.stdout(), size);
+            prompt_at(rt, size, terminal, false)
+        }
+        Way::Patient => {
+            let terminal = PatientTerminal::new(alloc, rt.stdout(), size);
+            prompt_at(rt, size, terminal, true)
+        }
     }
-    let terminal = AnsiTerminal::new(alloc, rt.stdout(), size);
-    prompt_at(rt, size, terminal)
 }

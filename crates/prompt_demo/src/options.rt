@@ -5,13 +5,23 @@ use std::env;
 use tw_prompt::usable;
 use tw_terminal::ScreenSize;
 
+/// What the terminal is sent.
+#[derive(Clone, Copy)]
+pub enum Way {
+    /// All that is painted.
+    Plain,
+    /// What differs.
+    Sparing,
+    /// What differs, and nothing while more keys are at hand.
+    Patient,
+}
+
 /// What the arguments ask for.
 #[derive(Clone, Copy)]
 pub struct Options {
     /// The size of the screen: 80 columns and 24 rows where none is told.
     pub size: ScreenSize,
-    /// Whether the terminal is sent what differs, and not all that is painted.
-    pub is_sparing: bool,
+    pub way: Way,
 }
 
 /// The number that an argument writes.
@@ -22,12 +32,12 @@ fn number(argument: Option<String>) -> Result<usize, anyhow::Error> {
     }
 }
 
-/// What the arguments ask for: `[-at COLS ROWS] [sparing]`.
+/// What the arguments ask for: `[-at COLS ROWS] [sparing|patient]`.
 pub fn read_options(rt: HostRuntime) -> Result<Options, anyhow::Error> {
     let mut arguments = env::args(&rt)?;
     let _name = arguments.next();
     let mut size = ScreenSize { rows: 0, cols: 0 };
-    let mut is_sparing = false;
+    let mut way = Way::Plain;
     for _ in 0..u64::MAX {
         let Some(word) = arguments.next() else {
             break;
@@ -37,12 +47,13 @@ pub fn read_options(rt: HostRuntime) -> Result<Options, anyhow::Error> {
                 size.cols = number(arguments.next())?;
                 size.rows = number(arguments.next())?;
             }
-            "sparing" => is_sparing = true,
+            "sparing" => way = Way::Sparing,
+            "patient" => way = Way::Patient,
             _ => return Err(anyhow!("no argument has the name {word}")),
         }
     }
     Ok(Options {
         size: usable(size),
-        is_sparing,
+        way,
     })
 }

@@ -4,4 +4,8 @@
 #[cfg(test)]
 mod lines;
 #[cfg(test)]
+mod patience;
+#[cfg(test)]
+mod reading;
+#[cfg(test)]
 mod wire;

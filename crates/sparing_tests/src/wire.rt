@@ -17,6 +17,17 @@ pub struct Wire<'a> {
     refused: usize,
 }
 
+impl<'a> Wire<'a> {
+    /// A writer that adds what it takes, and refuses the write of this number.
+    pub fn new(taken: &'a mut Vec<u8>, refused: usize) -> Self {
+        Wire {
+            taken,
+            writes: 0,
+            refused,
+        }
+    }
+}
+
 impl Write for Wire<'_> {
     fn write(&mut self, buf: &[u8]) -> io::Result<usize> {
         self.writes = self.writes.saturating_add(1);
@@ -42,7 +53,7 @@ pub struct Shot<'a> {
 }
 
 /// The changes of a shot.
-fn changes_of(alloc: Global, shot: Shot<'_>) -> Result<Vec<Change>, Fail> {
+pub fn changes_of(alloc: Global, shot: Shot<'_>) -> Result<Vec<Change>, Fail> {
     let mut changes = Vec::new(alloc);
     changes.push(Change::CursorPosition {
         x: Position::Absolute(0),
@@ -66,12 +77,7 @@ fn sent(
     shots: &[Shot<'_>],
 ) -> Result<Vec<u8>, Fail> {
     let mut taken = Vec::new(alloc);
-    let wire = Wire {
-        taken: &mut taken,
-        writes: 0,
-        refused,
-    };
-    let mut terminal = SparingTerminal::new(alloc, wire, size);
+    let mut terminal = SparingTerminal::new(alloc, Wire::new(&mut taken, refused), size);
     for &shot in shots {
         let changes = changes_of(alloc, shot)?;
         let _ = terminal.render(changes.as_slice());

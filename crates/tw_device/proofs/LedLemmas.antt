@@ -5,6 +5,7 @@ use Rattle.std.proofs.lemmas.List.{append_cancel_left}
 use Rattle.tw_surface.specs.ChangeView.{Batch}
 use Rattle.tw_input.specs.EventView.{EventView, Key, Resized, Paste, Wake}
 use Rattle.tw_terminal.specs.TerminalState.{TerminalState, size_after}
+use Rattle.tw_terminal.specs.Uses.{Call}
 use Rattle.tw_terminal.specs.declared.terminal.ScreenSize.{ScreenSize}
 use Rattle.tw_lineedit.specs.Frame.{Frame}
 use Rattle.tw_lineedit.specs.HostRules.{HostRules}
@@ -36,7 +37,7 @@ comes-taken rules overrides before between events f g (came, told, comes) same =
 
 module _ {T : Type 0} (state : T → TerminalState) (Leads : T → T → Deed → Type 0) where
   -- calls, and then others
-  calls_then : (old between new : T) → IsLedByCalls Leads old between → IsLedByCalls Leads between new → IsLedByCalls Leads old new
+  pub calls_then : (old between new : T) → IsLedByCalls Leads old between → IsLedByCalls Leads between new → IsLedByCalls Leads old new
   calls_then old between new first then = used_then (λ a b call. Leads a b (Called call)) old between new first then
 
   -- calls, and then events
@@ -75,6 +76,21 @@ module _ {T : Type 0} (state : T → TerminalState) (Leads : T → T → Deed �
       let set : IsLedBy Leads (event ∷ []) reached sized = (map Sized told, sizes, sizes-are told, no-texts told) in
       let first : IsLedBy Leads (event ∷ []) old sized = led_then Leads [] (event ∷ []) old reached sized (led_by_calls Leads old reached calls) set in
       led_then Leads (event ∷ []) events old sized new first (along_is_led (λ more. taken (event ∷ more)) events sized new later)
+
+  -- what is led by one event is so too
+  pub event_is_led : (event : EventView) (old new : T) → IsLedByEvent Leads event old new → IsLedBy Leads (event ∷ []) old new
+  event_is_led event old new (sized, sizes, calls) =
+      let told = sizes_in (event ∷ []) in
+      let set : IsLedBy Leads (event ∷ []) old sized = (map Sized told, sizes, sizes-are told, no-texts told) in
+      led_then Leads (event ∷ []) [] old sized new set (led_by_calls Leads sized new calls)
+
+  -- and calls may follow
+  pub event_then_calls : (event : EventView) (old between new : T) → IsLedByEvent Leads event old between → IsLedByCalls Leads between new → IsLedByEvent Leads event old new
+  event_then_calls event old between new (sized, sizes, calls) last = (sized, sizes, calls_then sized between new calls last)
+
+  -- one call
+  pub one_call : (call : Call) (old new : T) → Leads old new (Called call) → IsLedByCalls Leads old new
+  one_call call old new led = (call ∷ [], (new, led, refl))
 
   -- ---- while events are told
 

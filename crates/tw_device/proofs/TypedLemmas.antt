@@ -1,13 +1,16 @@
 -- What one more step of reading tells.
-use Rattle.std.proofs.Common.{◌≡◌, ◌+◌, ℕ, Bool, true, false, not, ◌&&◌, cond, List, [], ◌∷◌, ◌++◌, Option, Some, None, take, drop, length, length-append, take-append-drop, refl, sym, ap, ◌∙◌, subst, append_assoc, append-nil, inl, inr}
+use Rattle.std.proofs.Common.{◌≡◌, ◌+◌, ℕ, Bool, true, false, not, ◌&&◌, cond, List, [], ◌∷◌, ◌++◌, Option, Some, None, take, drop, length, length-append, take-append-drop, refl, sym, ap, ◌∙◌, subst, append_assoc, append-nil, arith, inl, inr}
+use Rattle.std.proofs.lemmas.Bool.{false≢true}
 use Rattle.std.specs.Io.KnownBytes.{Keeps, Consumes, IsAtEnd}
 use Rattle.std.proofs.KnownBytes.{Keeps-refl, Keeps-trans, Consumes-nil, Consumes-trans, Consumes-kept}
 use Rattle.tw_input.specs.EventView.{EventView}
 use Rattle.tw_ansi.specs.declared.token.Scanned.{Scanned}
+use Rattle.tw_ansi.specs.declared.token.Token.{Token}
+use Rattle.tw_ansi.specs.declared.token.Token.TheVariants.{Key, Size, Paste, Unknown}
 use Rattle.tw_ansi.specs.KeyBytes.{token_at}
 use Rattle.tw_device.specs.Faults.{fault_of}
 use Rattle.tw_device.specs.Told.{token_events}
-use Rattle.tw_device.specs.Typed.{Held, Step, Came, Took, Lead, TellsIn, TellsTyped, next_token, escape_waits, is_lone_escape, held_after_read, held_after_token, given_bytes, taken_by, told_by, taken_bytes, events_of, NoneIsLost, IsHeldUp, IsPasted}
+use Rattle.tw_device.specs.Typed.{Held, Step, Came, Took, Lead, TellsIn, TellsTyped, next_token, is_at_hand, is_event_in, is_key_or_paste, escape_waits, is_lone_escape, held_after_read, held_after_token, given_bytes, taken_by, told_by, taken_bytes, events_of, NoneIsLost, IsHeldUp, IsPasted}
 use Rattle.tw_device.specs.declared.escape.Escape.{Escape}
 use Rattle.tw_device.specs.declared.refused.Refused.{Refused}
 use Rattle.tw_device.specs.declared.refused.Refused.TheVariants.{Device, Memory}
@@ -34,6 +37,24 @@ pub held_is : (c : Held) (e : Escape) (u : List ℕ) (w : Bool) (l : Option (Lis
 held_is c e u w l same_escape same_unread same_fullness same_left =
     ap (λ x. held x c.unread c.was_full c.left) same_escape ∙ ap (λ x. held e x c.was_full c.left) same_unread
     ∙ ap (λ x. held e u x c.left) same_fullness ∙ ap (λ x. held e u w x) same_left
+
+-- a key and a pasted text tell an event
+event_told : (token : Token) (unread : List ℕ) → is_key_or_paste token ≡ true → [] ≡ token_events token unread → ⊥
+event_told (Key key) unread is none = omega (arith, ap length none)
+event_told (Size cols rows) unread is none = false≢true is
+event_told (Paste from len) unread is none = omega (arith, ap length none)
+event_told Unknown unread is none = false≢true is
+
+-- where an event is at hand, what is found is one
+pub no_event_at_hand : (first now : Held) (is_last : Bool) (s : Scanned) (unread : List ℕ) → is_at_hand first ≡ true → is_last ≡ false → now ≡ first
+    → Some s ≡ next_token is_last now → [] ≡ token_events s.token unread → ⊥
+no_event_at_hand first now is_last s unread there goes_on same found none =
+    event_told s.token unread (ap is_event_in (found ∙ ap (λ l. next_token l now) goes_on ∙ ap (next_token false) same) ∙ there) none
+
+-- and no more bytes are wanted
+pub none_at_hand : (first now : Held) (is_last : Bool) → is_at_hand first ≡ true → is_last ≡ false → now ≡ first → None ≡ next_token is_last now → ⊥
+none_at_hand first now is_last there goes_on same wanted =
+    false≢true (ap is_event_in (wanted ∙ ap (λ l. next_token l now) goes_on ∙ ap (next_token false) same) ∙ there)
 
 -- what is left may be told by what was known of it before
 lead_kept : (steps : List Step) (left : Option (List ℕ)) (old new : Held) (events : List EventView)

@@ -5,7 +5,7 @@ use Rattle.tw_input.specs.EventView.{EventView}
 use Rattle.tw_terminal.specs.declared.terminal.TerminalFault.{TerminalFault}
 use Rattle.tw_terminal.specs.declared.terminal.TerminalFault.TheVariants.{Device, Memory}
 use Rattle.tw_ansi.specs.declared.token.Token.{Token}
-use Rattle.tw_ansi.specs.declared.token.Token.TheVariants.{Paste}
+use Rattle.tw_ansi.specs.declared.token.Token.TheVariants.{Key, Size, Paste, Unknown}
 use Rattle.tw_ansi.specs.declared.token.Scanned.{Scanned}
 use Rattle.tw_ansi.specs.KeyBytes.{token_at}
 use Rattle.tw_device.specs.declared.escape.Escape.{Escape}
@@ -40,6 +40,22 @@ abbrev pub next_token : Bool → Held → Option Scanned
 next_token is_last held =
     if escape_waits held.escape held.was_full && is_lone_escape held.unread && not is_last then None
     else token_at is_last held.unread
+
+-- whether a token is a key or a pasted text, and so an event at any source
+abbrev pub is_key_or_paste : Token → Bool
+is_key_or_paste (Key key) = true
+is_key_or_paste (Size cols rows) = false
+is_key_or_paste (Paste from len) = true
+is_key_or_paste Unknown = false
+
+-- whether there is a token, and it is a key or a pasted text
+abbrev pub is_event_in : Option Scanned → Bool
+is_event_in None = false
+is_event_in (Some s) = is_key_or_paste s.token
+
+-- whether a key or a pasted text stands whole at the front of what was read
+abbrev pub is_at_hand : Held → Bool
+is_at_hand held = is_event_in (next_token false held)
 
 -- once these bytes were read, and so many are left
 abbrev pub held_after_read : List ℕ → Option (List ℕ) → Held → Held

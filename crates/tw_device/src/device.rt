@@ -1,7 +1,7 @@
 //! A terminal at a device: its events are fed to the editor, its owner gives it its size, and sends what is no line's.
 
 ghost use Rattle.std.specs.Prelude.{◌≡◌, [], OnOk};
-ghost use Rattle.tw_terminal.specs.Uses.{Call};
+ghost use Rattle.tw_terminal.specs.Uses.{Call, Other};
 ghost use Rattle.tw_device.specs.Deeds.{Called, Said, Sized};
 
 use tw_terminal::{ScreenSize, Terminal, TerminalFault};
@@ -18,6 +18,12 @@ pub trait DeviceTerminal: Terminal {
     fn set_screen_size(&mut self, size: ScreenSize)
         ensures state { Self.state self.new ≡ record (Self.state self.old) { size = size } }
         ensures sized { does self.old self.new (Sized size) };
+
+    /// Says whether another event is at hand. As long as one is, a terminal may keep back what it is to render; what it
+    /// renders next is sent where none is.
+    fn set_more_at_hand(&mut self, is_more: bool)
+        ensures state { Self.state self.new ≡ Self.state self.old }
+        ensures called { does self.old self.new (Called Other) };
 
     /// Sends a text of its owner's as it is, after a reset of all attributes: a line may have ended in some. The text
     /// has to leave the cursor in column 0, and no attribute set. A refusal may have sent a beginning.

@@ -1,12 +1,12 @@
 //! Events that nobody knows before they come.
 
-ghost use Rattle.std.specs.Prelude.{◌≡◌, ◌≤◌, ◌==◌, ◌++◌, ◌∷◌, ℕ, [], List, length, drop, false, IfSome, IfOk, IfErr, OnOk, OnErr, MatchOption, ⊤, string_bytes};
+ghost use Rattle.std.specs.Prelude.{◌≡◌, ◌≤◌, ◌==◌, ◌++◌, ◌∷◌, ℕ, [], List, length, drop, true, false, IfSome, IfOk, IfErr, OnOk, OnErr, MatchOption, ⊤, string_bytes};
 ghost use Rattle.std.specs.Io.KnownBytes.{Consumes, IsAtEnd, Keeps};
 ghost use Rattle.tw_input.specs.EventView.{event_view, EventView};
 ghost use Rattle.tw_device.specs.Faults.{fault_of};
 ghost use Rattle.tw_device.specs.Keys.{held_by};
 ghost use Rattle.tw_device.specs.Told.{pasted_text, token_events, events_in_option, answer_events};
-ghost use Rattle.tw_device.specs.Typed.{piece, next_token, IsPasted, TellsTyped, IsHeldUp};
+ghost use Rattle.tw_device.specs.Typed.{piece, next_token, is_at_hand, IsPasted, TellsTyped, IsHeldUp};
 ghost use Rattle.tw_device.specs.declared.keys.SourceState.TheVariants.{Going, AtEnd, Refused as HasRefused};
 ghost use Rattle.tw_device.specs.declared.refused.Refused.TheVariants.{Memory};
 ghost use Rattle.tw_device.specs.declared.escape.Escape.TheVariants.{AtOnce};
@@ -52,6 +52,9 @@ pub trait EventSource {
         ensures told { OnErr result (told self.new ≡ told self.old) }
         ensures refused { IfErr result (λ fault. state self.new ≡ HasRefused fault) }
         ensures follows { follows self.old self.new (answer_events result) };
+
+    /// Whether the next call answers with what is at hand. It is false where it may wait, and where that is not known.
+    fn has_at_hand(&self) -> bool;
 }
 
 /// A reader of what is typed.
@@ -119,6 +122,7 @@ impl<R: Read> KeyReader<R> {
             (λ _. ⊤)) }
         ensures held_up { IfErr result (λ refused. IsHeldUp (fault_of refused)
             (held_by R.remaining self.old) (held_by R.remaining self.new)) }
+        ensures at_hand { is_at_hand (held_by R.remaining self.old) ≡ true → self.new.reader ≡ self.old.reader }
     {
         let mut is_last = false;
         for turn in 0..u64::MAX {
@@ -136,11 +140,22 @@ impl<R: Read> KeyReader<R> {
         Err(Refused::Device)
     }
 
+    /// The token at the front, where the bytes after it are not known yet. Nothing is taken, and nothing is read.
+    fn front(&self) -> Option<Scanned>
+        ensures { result ≡ next_token false (held_by R.remaining self.now) }
+    {
+        if self.escape.waits(self.was_full) && self.unread.is_lone_escape() {
+            return None;
+        }
+        self.unread.front()
+    }
+
     /// The token at the front, or none where more bytes are wanted.
     fn scan(&mut self, is_last: bool) -> Option<Scanned>
         ensures token { result ≡ next_token is_last (held_by R.remaining self.old) }
         ensures within { IfSome result (λ s. s.used ≤ length self.old.unread) }
         ensures held { held_by R.remaining self.new ≡ held_by R.remaining self.old }
+        ensures reader { self.new.reader ≡ self.old.reader }
         ensures told { self.new.told ≡ self.old.told }
     {
         if self.escape.waits(self.was_full) && self.unread.is_lone_escape() && !is_last {
@@ -201,7 +216,8 @@ impl<R: Read> EventSource for KeyReader<R> {
     ghost follows = { λ old new events. TellsTyped (held_by R.remaining old) (held_by R.remaining new) events };
 
     /// It takes bytes at the front alone, and tells what they are: no byte is lost, and none is told twice. It has no
-    /// more events only where the reader has no more bytes and all are taken. Why it refuses is said by `held_up`.
+    /// more events only where the reader has no more bytes and all are taken. Why it refuses is said by `held_up`. Where
+    /// an event is at hand the reader is not asked.
     fn next_event(&mut self) -> Result<Option<InputEvent>, TerminalFault>
         ensures ok { IfOk result (λ event. MatchOption event
             ((self.new.told ≡ self.old.told) × (self.new.state ≡ AtEnd))
@@ -215,6 +231,7 @@ impl<R: Read> EventSource for KeyReader<R> {
             (λ _. ⊤)) }
         ensures held_up { IfErr result (λ fault. IsHeldUp fault
             (held_by R.remaining self.old) (held_by R.remaining self.new)) }
+        ensures at_hand { is_at_hand (held_by R.remaining self.old) ≡ true → self.new.reader ≡ self.old.reader }
     {
         match self.find() {
             Ok(Some(event)) => {
@@ -231,6 +248,17 @@ impl<R: Read> EventSource for KeyReader<R> {
                 self.state = SourceState::Refused(fault);
                 Err(fault)
             }
+        }
+    }
+
+    /// Whether a key or a pasted text stands whole at the front of what was read. A size does not count, since not every
+    /// size is one of a screen.
+    fn has_at_hand(&self) -> bool
+        ensures { result ≡ is_at_hand (held_by R.remaining self.now) }
+    {
+        match self.front() {
+            Some(found) => matches!(found.token, Token::Key(_) | Token::Paste { .. }),
+            None => false,
         }
     }
 }

@@ -1,15 +1,17 @@
 //! Reading a line from events that nobody knows before they come.
 
-ghost use Rattle.std.specs.Prelude.{◌≡◌, ◌≢◌, ◌∷◌, [], true, Ok, IfOk, IfErr, OnOk};
+ghost use Rattle.std.specs.Prelude.{◌≡◌, ◌≢◌, ◌∷◌, [], true, None, Ok, IfOk, IfErr, OnOk};
 ghost use Rattle.tw_input.specs.EventView.{event_view};
 ghost use Rattle.tw_terminal.specs.TerminalState.{size_after};
-ghost use Rattle.tw_lineedit.specs.Frame.{frame};
+ghost use Rattle.tw_lineedit.specs.Frame.{frame, own_frame};
 ghost use Rattle.tw_lineedit.specs.EditState.{Inactive};
-ghost use Rattle.tw_lineedit.specs.Feeding.{status_if};
-ghost use Rattle.tw_lineedit.specs.Outcomes.{is_open};
+ghost use Rattle.tw_lineedit.specs.Feeding.{status_if, Begins, FailsToBegin, FailsToFinish};
+ghost use Rattle.tw_lineedit.specs.Outcomes.{answer_at, is_open, outcome_of};
+ghost use Rattle.tw_lineedit.specs.Reading.{start, Reads};
+ghost use Rattle.tw_lineedit.specs.Run.{ending};
 ghost use Rattle.tw_device.specs.Calls.{IsCalled};
 ghost use Rattle.tw_device.specs.Deeds.{IsLedAsTold, IsLedBy};
-ghost use Rattle.tw_device.specs.Led.{taken_on, taken_over, IsLedByEvent, IsSizedBy, IsToldAlong};
+ghost use Rattle.tw_device.specs.Led.{taken_on, taken_over, IsLedByCalls, IsLedByEvent, IsSizedBy, IsToldAlong};
 ghost use Rattle.tw_device.specs.Live.{fresh_frame, WaitsAfter, ComesBy, FailsFrom, FailsBy, IsRead, FailsToReadTold, StopsFeeding, answer_from};
 
 use crate::device::DeviceTerminal;
@@ -47,7 +49,6 @@ enum Stop {
 fn resize<T: DeviceTerminal>(terminal: &mut T, event: &InputEvent)
     ensures state { let before = T.state terminal.old in
         T.state terminal.new ≡ record before { size = size_after (event_view event.now) before.size } }
-    ensures led { IsLedBy T.does (event_view event.now ∷ []) terminal.old terminal.new }
     ensures sized { IsSizedBy T.does (event_view event.now) terminal.old terminal.new }
 {
     if let InputEvent::Resized { cols, rows } = event {
@@ -58,11 +59,42 @@ fn resize<T: DeviceTerminal>(terminal: &mut T, event: &InputEvent)
     }
 }
 
+/// Begins a line, and says before whether events are at hand.
+fn begin<T: DeviceTerminal, H: LineEditorHost>(
+    editor: &mut LineEditor<'_, T>,
+    host: &H,
+    is_more: bool,
+) -> Result<(), Error>
+    ensures same_reference { editor.new.terminal.ghost_name ≡ editor.old.terminal.ghost_name }
+    ensures calls { IsLedByCalls T.does editor.old.terminal.now editor.new.terminal.now }
+    ensures ok { let before = frame T.state H.value editor.old host.now in
+        let after = frame T.state H.value editor.new host.now in
+        before.state.mode ≡ Inactive → OnOk result (Begins H.rules H.OVERRIDES (start None before) after) }
+    ensures open { editor.old.session.state.mode ≡ Inactive → OnOk result (is_open editor.new.session.state.mode ≡ true) }
+    ensures err { let before = frame T.state H.value editor.old host.now in
+        let after = frame T.state H.value editor.new host.now in
+        before.state.mode ≡ Inactive → IfErr result (FailsToBegin H.rules None before after) }
+{
+    editor.terminal().set_more_at_hand(is_more);
+    editor.begin_line(host, None)
+}
+
+/// Gives the terminal the size that an event tells, and says whether more events are at hand.
+fn prepare<T: DeviceTerminal>(terminal: &mut T, event: &InputEvent, is_more: bool)
+    ensures state { let before = T.state terminal.old in
+        T.state terminal.new ≡ record before { size = size_after (event_view event.now) before.size } }
+    ensures sized { IsLedByEvent T.does (event_view event.now) terminal.old terminal.new }
+{
+    resize(terminal, event);
+    terminal.set_more_at_hand(is_more);
+}
+
 /// Feeds an event to an open line, once the terminal has the size that it tells.
 fn feed<T: DeviceTerminal, H: LineEditorHost>(
     editor: &mut LineEditor<'_, T>,
     host: &mut H,
     event: &InputEvent,
+    is_more: bool,
 ) -> Result<LineStatus, Error>
     requires { is_open editor.old.session.state.mode ≡ true }
     ensures same_reference { editor.new.terminal.ghost_name ≡ editor.old.terminal.ghost_name }
@@ -77,7 +109,7 @@ fn feed<T: DeviceTerminal, H: LineEditorHost>(
     ensures led { IsLedBy T.does (event_view event.now ∷ []) editor.old.terminal.now editor.new.terminal.now }
     ensures sized { IsLedByEvent T.does (event_view event.now) editor.old.terminal.now editor.new.terminal.now }
 {
-    resize(editor.terminal(), event);
+    prepare(editor.terminal(), event, is_more);
     editor.feed(host, event)
 }
 
@@ -108,7 +140,7 @@ fn take_events<S: EventSource, T: DeviceTerminal, H: LineEditorHost>(
     for turn in 0..u64::MAX {
         let _told = turn;
         match source.next_event() {
-            Ok(Some(event)) => match feed(editor, host, &event)? {
+            Ok(Some(event)) => match feed(editor, host, &event, source.has_at_hand())? {
                 LineStatus::Open => {}
                 LineStatus::Ended => return Ok(Stop::Ended),
             },
@@ -117,6 +149,22 @@ fn take_events<S: EventSource, T: DeviceTerminal, H: LineEditorHost>(
         }
     }
     Ok(Stop::Endless)
+}
+
+/// Ends a line, and says before that nothing more is at hand, so that its closing batch is sent.
+fn finish<T: DeviceTerminal>(editor: &mut LineEditor<'_, T>) -> Result<Option<String>, Error>
+    ensures same_reference { editor.new.terminal.ghost_name ≡ editor.old.terminal.ghost_name }
+    ensures calls { IsLedByCalls T.does editor.old.terminal.now editor.new.terminal.now }
+    ensures ok { let before = own_frame T.state editor.old in
+        let after = own_frame T.state editor.new in
+        let run = ending (answer_at before.state) before in
+        before.state.mode ≢ Inactive → IfOk result (λ it. Reads run before after (outcome_of (Ok it))) }
+    ensures err { let before = own_frame T.state editor.old in
+        let after = own_frame T.state editor.new in
+        IfErr result (FailsToFinish before after) }
+{
+    editor.terminal().set_more_at_hand(false);
+    editor.finish_line()
 }
 
 /// What a line is that was fed so.
@@ -161,8 +209,8 @@ pub fn read_line_from<S: EventSource, T: DeviceTerminal, H: LineEditorHost>(
 {
     let mut editor = LineEditor::new(alloc, terminal)?;
     editor.set_prompt(prompt)?;
-    editor.begin_line(host, None)?;
+    begin(&mut editor, host, source.has_at_hand())?;
     let stop = take_events(source, &mut editor, host)?;
-    let line = editor.finish_line()?;
+    let line = finish(&mut editor)?;
     answer_of(line, stop)
 }

@@ -197,6 +197,11 @@ impl<W: Write> DeviceTerminal for AnsiTerminal<W> {
         AnsiTerminal::set_screen_size(self, size);
     }
 
+    /// Each batch is sent at once, so nothing changes.
+    fn set_more_at_hand(&mut self, _: bool)
+        ensures kept { self.new ≡ self.old }
+    {}
+
     fn send(&mut self, text: &str) -> Result<(), TerminalFault> {
         AnsiTerminal::send(self, text)
     }

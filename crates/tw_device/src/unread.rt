@@ -1,6 +1,6 @@
 //! Bytes that were read and are not yet taken.
 
-ghost use Rattle.std.specs.Prelude.{◌≡◌, ◌≤◌, ◌++◌, ℕ, List, [], length, drop, IfSome, IfOk, OnErr};
+ghost use Rattle.std.specs.Prelude.{◌≡◌, ◌≤◌, ◌++◌, ℕ, List, [], length, drop, false, IfSome, IfOk, OnErr};
 ghost use Rattle.std.specs.Io.KnownBytes.{Consumes, IsAtEnd, Keeps};
 ghost use Rattle.tw_ansi.specs.KeyBytes.{token_at};
 ghost use Rattle.tw_ansi.specs.Resuming.{Fits};
@@ -82,6 +82,13 @@ impl Unread {
                 None
             }
         }
+    }
+
+    /// The token at the front, where the bytes after it are not known yet.
+    pub(crate) fn front(&self) -> Option<Scanned>
+        ensures { result ≡ token_at false self.now }
+    {
+        scan_on(&self.buffer.as_slice()[self.taken..], self.progress, false).ok()
     }
 
     /// Takes bytes at the front.

@@ -1,7 +1,7 @@
 //! What is typed, as events for the prompt.
 
 use crate::sizes::fitting;
-use crate::typed::Typed;
+use crate::typed::{PIECE, Typed};
 use std::alloc::Global;
 use std::io::Read;
 use std::time::Clock;
@@ -18,10 +18,22 @@ pub struct PromptEvents<R, C> {
 }
 
 impl<R: Read, C: Clock> PromptEvents<R, C> {
-    /// The events of what a reader gives. It takes no memory.
+    /// The events of what a reader gives. A byte is read only where one is wanted, so that what is typed after the last
+    /// line is left to others, and no event is at hand. It takes no memory.
     pub fn new(alloc: Global, reader: R, clock: C) -> Self {
+        PromptEvents::of(alloc, Typed::new(alloc, reader, clock, 1))
+    }
+
+    /// The events of what a reader gives, where all that was typed is read, so that it is known which events are at
+    /// hand. What was read after the last line is lost. It takes no memory.
+    pub fn reading_ahead(alloc: Global, reader: R, clock: C) -> Self {
+        PromptEvents::of(alloc, Typed::new(alloc, reader, clock, PIECE))
+    }
+
+    /// The events of what is typed.
+    fn of(alloc: Global, typed: Typed<R, C>) -> Self {
         PromptEvents {
-            keys: KeyReader::new(alloc, Typed::new(alloc, reader, clock)),
+            keys: KeyReader::new(alloc, typed),
             state: SourceState::Going,
             told: EventLog::new(),
         }
@@ -67,5 +79,9 @@ impl<R: Read, C: Clock> EventSource for PromptEvents<R, C> {
                 Err(fault)
             }
         }
+    }
+
+    fn has_at_hand(&self) -> bool {
+        self.keys.has_at_hand()
     }
 }

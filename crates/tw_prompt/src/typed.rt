@@ -23,18 +23,22 @@ const LONGEST: usize = 32;
 /// How long the shortest report of the cursor's place is.
 const SHORTEST_REPORT: usize = 6;
 
+/// The most bytes that are asked for at once.
+pub const PIECE: usize = 1024;
+
 /// What a reader answers.
 #[derive(Clone, Copy)]
 enum Found {
-    /// A byte.
-    Byte(u8),
+    /// Bytes, which are taken.
+    Bytes,
     /// That nothing was typed for a while.
     Pause,
     /// That there is no more.
     End,
 }
 
-/// What is typed. It reads a byte only where one is wanted, so what is typed after the last line is left to others.
+/// What is typed. It reads a byte only where one is wanted, so what is typed after the last line is left to others; or
+/// it reads what there is, so that it is known what is at hand.
 /// An ESC is handed out with the byte after it, so that the key Escape, which has none, is told from other keys: it
 /// comes before a pause.
 ///
@@ -44,6 +48,8 @@ enum Found {
 pub struct Typed<R, C> {
     reader: R,
     clock: C,
+    /// How many bytes are asked for at once.
+    most: usize,
     /// The bytes that are to be handed out.
     ready: Vec<u8>,
     /// Whether a pasted text is being read.
@@ -80,11 +86,12 @@ fn is_report(bytes: &[u8]) -> bool {
 }
 
 impl<R: Read, C: Clock> Typed<R, C> {
-    /// What a reader gives. It takes no memory.
-    pub fn new(alloc: Global, reader: R, clock: C) -> Self {
+    /// What a reader gives, asked for so many bytes at once, up to `PIECE`. It takes no memory.
+    pub fn new(alloc: Global, reader: R, clock: C, most: usize) -> Self {
         Typed {
             reader,
             clock,
+            most: most.min(PIECE),
             ready: Vec::new(alloc),
             is_paste: false,
             sequence: Vec::new(alloc),
@@ -140,12 +147,16 @@ impl<R: Read, C: Clock> Typed<R, C> {
         taken.map_err(|_| io::Error::from(ErrorKind::OutOfMemory))
     }
 
-    /// Reads a byte.
+    /// Reads what there is, and takes it.
     fn find(&mut self) -> io::Result<Found> {
         let begun = Instant::now(&self.clock)?;
-        let mut byte = [0];
-        if self.reader.read(&mut byte)? > 0 {
-            return Ok(Found::Byte(byte[0]));
+        let mut bytes = [0; PIECE];
+        let count = self.reader.read(&mut bytes[..self.most.min(PIECE)])?;
+        if count > 0 {
+            for byte in &bytes[..count.min(PIECE)] {
+                self.take(*byte)?;
+            }
+            return Ok(Found::Bytes);
         }
         let passed = begun.elapsed(&self.clock)?;
         Ok(if passed.as_millis() < SHORTEST_PAUSE {
@@ -176,7 +187,7 @@ impl<R: Read, C: Clock> Typed<R, C> {
                 break;
             }
             match self.find()? {
-                Found::Byte(byte) => self.take(byte)?,
+                Found::Bytes => {}
                 Found::Pause if self.ready.is_empty() => {}
                 Found::End if self.is_paste => return self.release(),
                 Found::Pause | Found::End => break,

@@ -10,3 +10,6 @@ pub mod FirstScreens
 pub mod ShortBatches
 pub mod RunLemmas
 pub mod SparingDeedLemmas
+pub mod GroupLemmas
+pub mod AheadLemmas
+pub mod PatientDeedLemmas

@@ -5,3 +5,7 @@ pub mod Shortness
 pub mod SparingDeeds
 pub mod SparingRuns
 pub mod Terminal
+pub mod Ahead
+pub mod Patient
+pub mod PatientDeeds
+pub mod PatientRuns

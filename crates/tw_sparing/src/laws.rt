@@ -1,6 +1,7 @@
 //! Laws of this crate's definitions: each function does nothing, and its contract is the law.
 
 ghost use Rattle.tw_sparing.specs.KnownRuns.{LooksTheSame, RunsAreShown};
+ghost use Rattle.tw_sparing.specs.PatientRuns.{PatientlyLedIsSent, SettledIsSent};
 ghost use Rattle.tw_sparing.specs.Shortness.{NoBatchIsSentForNothing, TypedBatchIsSentAlone};
 ghost use Rattle.tw_sparing.specs.ShownTerminals.{FirstIsKnown, KnownIsShown};
 ghost use Rattle.tw_sparing.specs.SparingRuns.{SparinglyLedIsSent};
@@ -36,4 +37,13 @@ pub fn shortness()
 /// what is known before it and after it. No failure was counted in it, and no event told a size.
 pub fn readings<W: Write>()
     ensures { SparinglyLedIsSent W.contents }
+{}
+
+/// What a reading has written at a terminal that waits while more is at hand is what is sent for groups of batches, by
+/// what is known before each and after it. The batches of the groups are those that were kept back before, and those
+/// that were taken since, but for those that are kept back still. Where none is kept back, neither before it nor after
+/// it, they are those that were taken (`settled`). No failure was counted in it, and no event told a size.
+pub fn patience<W: Write>()
+    ensures led { PatientlyLedIsSent W.contents }
+    ensures settled { SettledIsSent W.contents }
 {}

@@ -127,7 +127,8 @@ impl Shown {
 /// Whether a row of two screens shows the same.
 fn is_same_row(old: &StyledScreen, new: &StyledScreen, row: usize) -> bool
     requires { old.now.width ≡ new.now.width }
-    ensures { result ≡ true → (j : ℕ) → j < new.now.width → screen_cells old.now row j ≡ screen_cells new.now row j }
+    ensures same { result ≡ true → (j : ℕ) → j < new.now.width → screen_cells old.now row j ≡ screen_cells new.now row j }
+    ensures found { ((j : ℕ) → j < new.now.width → screen_cells old.now row j ≡ screen_cells new.now row j) → result ≡ true }
 {
     for col in 0..new.width() {
         if cell_at(old, row, col) != cell_at(new, row, col) {
@@ -138,9 +139,10 @@ fn is_same_row(old: &StyledScreen, new: &StyledScreen, row: usize) -> bool
 }
 
 /// Whether the first rows of two screens show the same, and the cursor of the old one is after them.
-fn is_same_above(old: &StyledScreen, new: &StyledScreen, top: usize) -> bool
+pub fn is_same_above(old: &StyledScreen, new: &StyledScreen, top: usize) -> bool
     requires { old.now.width ≡ new.now.width }
-    ensures { result ≡ true → KeepsAbove top old.now new.now }
+    ensures same { result ≡ true → KeepsAbove top old.now new.now }
+    ensures found { KeepsAbove top old.now new.now → result ≡ true }
 {
     let (at, _) = old.cursor();
     if at < top {

@@ -1,7 +1,7 @@
 //! A terminal over a writer that is sent what differs.
 
 ghost use Rattle.std.specs.Io.KnownBytes.{Appends, Keeps};
-ghost use Rattle.std.specs.Prelude.{◌≡◌, ◌++◌, [], Ok, None, IfOk, OnOk, OnErr, refl, string_bytes};
+ghost use Rattle.std.specs.Prelude.{◌≡◌, ◌++◌, [], Ok, None, OnOk, OnErr, refl};
 ghost use Rattle.tw_surface.specs.ChangeView.{batch_view};
 ghost use Rattle.tw_surface.specs.Defaults.{default_attributes};
 ghost use Rattle.tw_terminal.specs.TerminalState.{fresh_terminal, Fails, Flushes, RenderFails, Renders};
@@ -13,8 +13,9 @@ ghost use Rattle.tw_sparing.specs.Shown.{IsFromStart, IsKnownAfter, sent_for};
 ghost use Rattle.tw_sparing.specs.SparingDeeds.{DoesSparingly};
 ghost use Rattle.tw_sparing.specs.Terminal.{sparing_state};
 
-use crate::shown::{Shown, ends_at_start, send_below, shown_after};
-use std::alloc::{AllocError, Global};
+use crate::sending::send_for;
+use crate::shown::{Shown, ends_at_start, shown_after};
+use std::alloc::Global;
 use std::io::Write;
 use std::snapshot::Snapshot;
 use tw_ansi::Encoder;
@@ -109,40 +110,6 @@ impl<W: Write> SparingTerminal<W> {
         }
     }
 
-    /// Adds what a batch is sent as by its changes, and returns what is then known.
-    fn encode(&self, changes: &[Change], text: &mut String) -> Result<Encoder, AllocError>
-        ensures bytes { let sent = sent_batch (batch_view changes.now) self.now.encoder in
-            OnOk result (string_bytes text.new ≡ string_bytes text.old ++ sent.bytes) }
-        ensures next { IfOk result (λ encoder. encoder ≡ (sent_batch (batch_view changes.now) self.now.encoder).next) }
-    {
-        let mut encoder = self.encoder;
-        for change in changes {
-            encoder.encode(change, text)?;
-        }
-        Ok(encoder)
-    }
-
-    /// Adds what a batch is sent as, by what is shown before it and after it, and returns what is then known.
-    fn encode_for(
-        &self,
-        changes: &[Change],
-        next: &Option<Shown>,
-        text: &mut String,
-    ) -> Result<Encoder, AllocError>
-        requires { IsKnownAfter self.now.size.cols self.now.size.rows (batch_view changes.now) self.now.shown next.now }
-        ensures bytes { let sent = sent_batch (sent_for self.now.size.rows (batch_view changes.now) self.now.shown next.now) self.now.encoder in
-            OnOk result (string_bytes text.new ≡ string_bytes text.old ++ sent.bytes) }
-        ensures next { IfOk result (λ encoder. encoder ≡ (sent_batch (sent_for self.now.size.rows (batch_view changes.now) self.now.shown next.now) self.now.encoder).next) }
-    {
-        match (&self.shown, next) {
-            (Some(old), Some(new)) => {
-                let top = new.reached.saturating_sub(self.size.rows);
-                send_below(self.alloc, old, new, top, self.encoder, text)
-            }
-            _ => self.encode(changes, text),
-        }
-    }
-
     /// Sends a batch. Where it is refused it is not known what the terminal shows.
     fn put(&mut self, changes: &[Change]) -> Result<(), TerminalFault>
         ensures sent { let sent = sent_batch (sent_for self.old.size.rows (batch_view changes.now) self.old.shown self.new.shown) self.old.encoder in
@@ -158,7 +125,15 @@ impl<W: Write> SparingTerminal<W> {
         let at_start = self.at_start && self.encoder == Encoder::new(self.size.cols);
         let next = shown_after(self.alloc, self.size, &self.shown, at_start, changes);
         let mut text = String::new(self.alloc);
-        let encoded = self.encode_for(changes, &next, &mut text);
+        let encoded = send_for(
+            self.alloc,
+            self.size,
+            changes,
+            &self.shown,
+            &next,
+            self.encoder,
+            &mut text,
+        );
         self.shown = None;
         self.at_start = false;
         let Ok(encoder) = encoded else {
@@ -250,6 +225,11 @@ impl<W: Write> DeviceTerminal for SparingTerminal<W> {
     fn set_screen_size(&mut self, size: ScreenSize) {
         SparingTerminal::set_screen_size(self, size);
     }
+
+    /// Each batch is sent at once, so nothing changes.
+    fn set_more_at_hand(&mut self, _: bool)
+        ensures kept { self.new ≡ self.old }
+    {}
 
     fn send(&mut self, text: &str) -> Result<(), TerminalFault> {
         SparingTerminal::send(self, text)

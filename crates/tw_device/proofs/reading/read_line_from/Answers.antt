@@ -9,16 +9,16 @@ use Rattle.tw_device.proofs.reading.read_line_from.Goals as goal
 use Rattle.tw_lineedit.proofs.ClosingLemmas.{reads_with, fails_to_finish_with}
 use Rattle.tw_lineedit.specs.Frame.{frame, own_frame}
 
-pub returns-in_err-begin_line-clause-err : goal.returns-in_err-begin_line-clause-err
-returns-in_err-begin_line-clause-err g c =
-    let p = err_from_is_err_and c.from_residual-in_err-begin_line.result c.from_residual-in_err-begin_line.ensures.1 in
+pub returns-in_err-begin-clause-err : goal.returns-in_err-begin-clause-err
+returns-in_err-begin-clause-err g c =
+    let p = err_from_is_err_and c.from_residual-in_err-begin.result c.from_residual-in_err-begin.ensures.1 in
     let state = g.T.Terminal.state in
     let value = g.H.LineEditorHost.value in
     let i = frame state value c.set_prompt.new.self c.args.host.now in
     let f = fresh_frame c.args.prompt.now (value c.args.host.now) (state c.args.terminal.now) in
-    let painted = frame state value c.begin_line.new.self c.args.host.now in
-    rw (p.1, p.2) (unbegun_at g.H.LineEditorHost.rules g.H.LineEditorHost.OVERRIDES (g.S.EventSource.told c.args.source.now) (g.S.EventSource.state c.args.source.now) f c.begin_line.new.self.session _ _ painted (search rules)
-    c.in_err-begin_line.field-0.0 i (g.met.T.DeviceTerminal.no_event c.set_prompt.new.self.terminal.now) (search rules) (c.in_err-begin_line.ensures.err (search rules)))
+    let painted = frame state value c.begin.new.editor c.args.host.now in
+    rw (p.1, p.2) (unbegun_at g.H.LineEditorHost.rules g.H.LineEditorHost.OVERRIDES (g.S.EventSource.told c.args.source.now) (g.S.EventSource.state c.args.source.now) f c.begin.new.editor.session _ _ painted (search rules)
+    c.in_err-begin.field-0.0 i (g.met.T.DeviceTerminal.no_event c.set_prompt.new.self.terminal.now) (search rules) (c.in_err-begin.ensures.err (search rules)))
 
 pub returns-in_err-stop-clause-err : goal.returns-in_err-stop-clause-err
 returns-in_err-stop-clause-err g c =
@@ -27,10 +27,10 @@ returns-in_err-stop-clause-err g c =
     let value = g.H.LineEditorHost.value in
     let i = frame state value c.set_prompt.new.self c.args.host.now in
     let f = fresh_frame c.args.prompt.now (value c.args.host.now) (state c.args.terminal.now) in
-    let painted = frame state value c.begin_line.new.self c.args.host.now in
+    let painted = frame state value c.begin.new.editor c.args.host.now in
     rw (p.1, p.2) (stopped_at g.H.LineEditorHost.rules g.H.LineEditorHost.OVERRIDES (g.S.EventSource.told c.args.source.now) (g.S.EventSource.told c.take_events.new.source) (g.S.EventSource.state c.take_events.new.source) f c.take_events.new.editor.session _ _
     (frame state value c.take_events.new.editor c.take_events.new.host) (search rules) c.in_err-stop.field-0.0 painted
-    (opened_at g.H.LineEditorHost.rules g.H.LineEditorHost.OVERRIDES i f painted (search rules) (c.in_ok-begin_line.ensures.ok (search rules))) c.in_err-stop.ensures.err)
+    (opened_at g.H.LineEditorHost.rules g.H.LineEditorHost.OVERRIDES i f painted (search rules) (c.in_ok-begin.ensures.ok (search rules))) c.in_err-stop.ensures.err)
 
 pub returns-in_err-line-clause-err : goal.returns-in_err-line-clause-err
 returns-in_err-line-clause-err g c =
@@ -39,12 +39,12 @@ returns-in_err-line-clause-err g c =
     let value = g.H.LineEditorHost.value in
     let i = frame state value c.set_prompt.new.self c.args.host.now in
     let f = fresh_frame c.args.prompt.now (value c.args.host.now) (state c.args.terminal.now) in
-    let painted = frame state value c.begin_line.new.self c.args.host.now in
-    rw (p.1, p.2) (ended_at g.H.LineEditorHost.rules g.H.LineEditorHost.OVERRIDES (g.S.EventSource.told c.args.source.now) (g.S.EventSource.told c.take_events.new.source) (g.S.EventSource.state c.take_events.new.source) f c.finish_line.new.self.session _ _
-    (frame state value c.finish_line.new.self c.take_events.new.host) (search rules) c.in_err-line.field-0.0 painted
-    (frame state value c.take_events.new.editor c.take_events.new.host) (g.met.T.DeviceTerminal.no_event c.begin_line.new.self.terminal.now)
-    (opened_at g.H.LineEditorHost.rules g.H.LineEditorHost.OVERRIDES i f painted (search rules) (c.in_ok-begin_line.ensures.ok (search rules))) c.in_ok-stop.ensures.ok
-    (fails_to_finish_with (value c.take_events.new.host) (own_frame state c.take_events.new.editor) (own_frame state c.finish_line.new.self) c.in_err-line.field-0.0 c.in_err-line.ensures.err))
+    let painted = frame state value c.begin.new.editor c.args.host.now in
+    rw (p.1, p.2) (ended_at g.H.LineEditorHost.rules g.H.LineEditorHost.OVERRIDES (g.S.EventSource.told c.args.source.now) (g.S.EventSource.told c.take_events.new.source) (g.S.EventSource.state c.take_events.new.source) f c.finish.new.editor.session _ _
+    (frame state value c.finish.new.editor c.take_events.new.host) (search rules) c.in_err-line.field-0.0 painted
+    (frame state value c.take_events.new.editor c.take_events.new.host) (g.met.T.DeviceTerminal.no_event c.begin.new.editor.terminal.now)
+    (opened_at g.H.LineEditorHost.rules g.H.LineEditorHost.OVERRIDES i f painted (search rules) (c.in_ok-begin.ensures.ok (search rules))) c.in_ok-stop.ensures.ok
+    (fails_to_finish_with (value c.take_events.new.host) (own_frame state c.take_events.new.editor) (own_frame state c.finish.new.editor) c.in_err-line.field-0.0 c.in_err-line.ensures.err))
 
 pub returns-clause-ok : goal.returns-clause-ok
 returns-clause-ok g c =
@@ -52,12 +52,12 @@ returns-clause-ok g c =
     let value = g.H.LineEditorHost.value in
     let i = frame state value c.set_prompt.new.self c.args.host.now in
     let f = fresh_frame c.args.prompt.now (value c.args.host.now) (state c.args.terminal.now) in
-    let painted = frame state value c.begin_line.new.self c.args.host.now in
+    let painted = frame state value c.begin.new.editor c.args.host.now in
     let fed = frame state value c.take_events.new.editor c.take_events.new.host in
-    read_as g.H.LineEditorHost.rules g.H.LineEditorHost.OVERRIDES (g.S.EventSource.told c.args.source.now) (g.S.EventSource.told c.take_events.new.source) (g.S.EventSource.state c.take_events.new.source) f painted fed c.finish_line.new.self.session _ _ (g.met.T.DeviceTerminal.no_event c.begin_line.new.self.terminal.now)
-    (opened_at g.H.LineEditorHost.rules g.H.LineEditorHost.OVERRIDES i f painted (search rules) (c.in_ok-begin_line.ensures.ok (search rules))) c.in_ok-stop.ensures.ok c.in_ok-stop.ensures.begun c.in_ok-line.line c.in_ok-stop.stop c.answer_of.result c.answer_of.ensures c.in_ok-stop.ensures.stopped
-    (closed_at g.H.LineEditorHost.rules g.H.LineEditorHost.OVERRIDES fed (frame state value c.finish_line.new.self c.take_events.new.host) c.finish_line.new.self.session _ _ _ (search rules)
-    (reads_with (value c.take_events.new.host) (own_frame state c.take_events.new.editor) (own_frame state c.finish_line.new.self) _ (c.in_ok-line.ensures.ok c.in_ok-stop.ensures.begun)))
+    read_as g.H.LineEditorHost.rules g.H.LineEditorHost.OVERRIDES (g.S.EventSource.told c.args.source.now) (g.S.EventSource.told c.take_events.new.source) (g.S.EventSource.state c.take_events.new.source) f painted fed c.finish.new.editor.session _ _ (g.met.T.DeviceTerminal.no_event c.begin.new.editor.terminal.now)
+    (opened_at g.H.LineEditorHost.rules g.H.LineEditorHost.OVERRIDES i f painted (search rules) (c.in_ok-begin.ensures.ok (search rules))) c.in_ok-stop.ensures.ok c.in_ok-stop.ensures.begun c.in_ok-line.line c.in_ok-stop.stop c.answer_of.result c.answer_of.ensures c.in_ok-stop.ensures.stopped
+    (closed_at g.H.LineEditorHost.rules g.H.LineEditorHost.OVERRIDES fed (frame state value c.finish.new.editor c.take_events.new.host) c.finish.new.editor.session _ _ _ (search rules)
+    (reads_with (value c.take_events.new.host) (own_frame state c.take_events.new.editor) (own_frame state c.finish.new.editor) _ (c.in_ok-line.ensures.ok c.in_ok-stop.ensures.begun)))
 
 pub returns-clause-err : goal.returns-clause-err
 returns-clause-err g c =
@@ -65,24 +65,24 @@ returns-clause-err g c =
     let value = g.H.LineEditorHost.value in
     let i = frame state value c.set_prompt.new.self c.args.host.now in
     let f = fresh_frame c.args.prompt.now (value c.args.host.now) (state c.args.terminal.now) in
-    let painted = frame state value c.begin_line.new.self c.args.host.now in
+    let painted = frame state value c.begin.new.editor c.args.host.now in
     let fed = frame state value c.take_events.new.editor c.take_events.new.host in
-    cut_as g.H.LineEditorHost.rules g.H.LineEditorHost.OVERRIDES (g.S.EventSource.told c.args.source.now) (g.S.EventSource.told c.take_events.new.source) (g.S.EventSource.state c.take_events.new.source) f painted fed c.finish_line.new.self.session _ _ (g.met.T.DeviceTerminal.no_event c.begin_line.new.self.terminal.now)
-    (opened_at g.H.LineEditorHost.rules g.H.LineEditorHost.OVERRIDES i f painted (search rules) (c.in_ok-begin_line.ensures.ok (search rules))) c.in_ok-stop.ensures.ok c.in_ok-stop.ensures.begun c.in_ok-line.line c.in_ok-stop.stop c.answer_of.result c.answer_of.ensures c.in_ok-stop.ensures.stopped
-    (closed_at g.H.LineEditorHost.rules g.H.LineEditorHost.OVERRIDES fed (frame state value c.finish_line.new.self c.take_events.new.host) c.finish_line.new.self.session _ _ _ (search rules)
-    (reads_with (value c.take_events.new.host) (own_frame state c.take_events.new.editor) (own_frame state c.finish_line.new.self) _ (c.in_ok-line.ensures.ok c.in_ok-stop.ensures.begun)))
+    cut_as g.H.LineEditorHost.rules g.H.LineEditorHost.OVERRIDES (g.S.EventSource.told c.args.source.now) (g.S.EventSource.told c.take_events.new.source) (g.S.EventSource.state c.take_events.new.source) f painted fed c.finish.new.editor.session _ _ (g.met.T.DeviceTerminal.no_event c.begin.new.editor.terminal.now)
+    (opened_at g.H.LineEditorHost.rules g.H.LineEditorHost.OVERRIDES i f painted (search rules) (c.in_ok-begin.ensures.ok (search rules))) c.in_ok-stop.ensures.ok c.in_ok-stop.ensures.begun c.in_ok-line.line c.in_ok-stop.stop c.answer_of.result c.answer_of.ensures c.in_ok-stop.ensures.stopped
+    (closed_at g.H.LineEditorHost.rules g.H.LineEditorHost.OVERRIDES fed (frame state value c.finish.new.editor c.take_events.new.host) c.finish.new.editor.session _ _ _ (search rules)
+    (reads_with (value c.take_events.new.host) (own_frame state c.take_events.new.editor) (own_frame state c.finish.new.editor) _ (c.in_ok-line.ensures.ok c.in_ok-stop.ensures.begun)))
 
 pub returns-in_err-set_prompt-clause-led : goal.returns-in_err-set_prompt-clause-led
 returns-in_err-set_prompt-clause-led g c = led_unmoved g.T.DeviceTerminal.does (g.S.EventSource.told c.args.source.now) _ _ (search rules)
 
-pub returns-in_err-begin_line-clause-led : goal.returns-in_err-begin_line-clause-led
-returns-in_err-begin_line-clause-led g c =
+pub returns-in_err-begin-clause-led : goal.returns-in_err-begin-clause-led
+returns-in_err-begin-clause-led g c =
     let does = g.T.DeviceTerminal.does in
     let told = g.S.EventSource.told c.args.source.now in
     let set = c.set_prompt.new.self.terminal.now in
-    let begun = c.begin_line.new.self.terminal.now in
+    let begun = c.begin.new.editor.terminal.now in
     led_between does told told c.args.terminal.now set _ begun (search rules) (search rules)
-    (led_told_nothing does told set begun (used_leads g.T.DeviceTerminal.does g.T.Terminal.follows g.met.T.DeviceTerminal.call_does _ _ c.begin_line.ensures.used))
+    (led_told_nothing does told set begun c.begin.ensures.calls)
 
 pub returns-in_err-stop-clause-led : goal.returns-in_err-stop-clause-led
 returns-in_err-stop-clause-led g c =
@@ -90,10 +90,10 @@ returns-in_err-stop-clause-led g c =
     let before = g.S.EventSource.told c.args.source.now in
     let after = g.S.EventSource.told c.take_events.new.source in
     let set = c.set_prompt.new.self.terminal.now in
-    let begun = c.begin_line.new.self.terminal.now in
+    let begun = c.begin.new.editor.terminal.now in
     let fed = c.take_events.new.editor.terminal.now in
     led_between does before after c.args.terminal.now set _ fed (search rules) (search rules)
-    (led_from_calls does before after set begun fed (used_leads g.T.DeviceTerminal.does g.T.Terminal.follows g.met.T.DeviceTerminal.call_does _ _ c.begin_line.ensures.used) c.take_events.ensures.led)
+    (led_from_calls does before after set begun fed c.begin.ensures.calls c.take_events.ensures.led)
 
 pub returns-in_err-line-clause-led : goal.returns-in_err-line-clause-led
 returns-in_err-line-clause-led g c =
@@ -101,11 +101,11 @@ returns-in_err-line-clause-led g c =
     let before = g.S.EventSource.told c.args.source.now in
     let after = g.S.EventSource.told c.take_events.new.source in
     let set = c.set_prompt.new.self.terminal.now in
-    let begun = c.begin_line.new.self.terminal.now in
+    let begun = c.begin.new.editor.terminal.now in
     let fed = c.take_events.new.editor.terminal.now in
-    let finished = c.finish_line.new.self.terminal.now in
+    let finished = c.finish.new.editor.terminal.now in
     led_between does before after c.args.terminal.now set _ finished (search rules) (search rules)
-    (led_to_calls does before after set fed finished (led_from_calls does before after set begun fed (used_leads g.T.DeviceTerminal.does g.T.Terminal.follows g.met.T.DeviceTerminal.call_does _ _ c.begin_line.ensures.used) c.take_events.ensures.led) (used_leads g.T.DeviceTerminal.does g.T.Terminal.follows g.met.T.DeviceTerminal.call_does _ _ c.finish_line.ensures.used))
+    (led_to_calls does before after set fed finished (led_from_calls does before after set begun fed c.begin.ensures.calls c.take_events.ensures.led) c.finish.ensures.calls)
 
 pub returns-clause-led : goal.returns-clause-led
 returns-clause-led g c =
@@ -113,22 +113,22 @@ returns-clause-led g c =
     let before = g.S.EventSource.told c.args.source.now in
     let after = g.S.EventSource.told c.take_events.new.source in
     let set = c.set_prompt.new.self.terminal.now in
-    let begun = c.begin_line.new.self.terminal.now in
+    let begun = c.begin.new.editor.terminal.now in
     let fed = c.take_events.new.editor.terminal.now in
-    let finished = c.finish_line.new.self.terminal.now in
+    let finished = c.finish.new.editor.terminal.now in
     led_between does before after c.args.terminal.now set _ finished (search rules) (search rules)
-    (led_to_calls does before after set fed finished (led_from_calls does before after set begun fed (used_leads g.T.DeviceTerminal.does g.T.Terminal.follows g.met.T.DeviceTerminal.call_does _ _ c.begin_line.ensures.used) c.take_events.ensures.led) (used_leads g.T.DeviceTerminal.does g.T.Terminal.follows g.met.T.DeviceTerminal.call_does _ _ c.finish_line.ensures.used))
+    (led_to_calls does before after set fed finished (led_from_calls does before after set begun fed c.begin.ensures.calls c.take_events.ensures.led) c.finish.ensures.calls)
 
 pub returns-in_err-set_prompt-clause-along : goal.returns-in_err-set_prompt-clause-along
 returns-in_err-set_prompt-clause-along g c = told_along_unmoved g.T.Terminal.state g.T.DeviceTerminal.does _ (g.S.EventSource.told c.args.source.now) _ _ (search rules)
 
-pub returns-in_err-begin_line-clause-along : goal.returns-in_err-begin_line-clause-along
-returns-in_err-begin_line-clause-along g c =
+pub returns-in_err-begin-clause-along : goal.returns-in_err-begin-clause-along
+returns-in_err-begin-clause-along g c =
     let told = g.S.EventSource.told c.args.source.now in
     let set = c.set_prompt.new.self.terminal.now in
-    let begun = c.begin_line.new.self.terminal.now in
+    let begun = c.begin.new.editor.terminal.now in
     told_along_between g.T.Terminal.state g.T.DeviceTerminal.does _ told told c.args.terminal.now set _ begun (search rules) (search rules)
-    (told_along_nothing g.T.Terminal.state g.T.DeviceTerminal.does _ told set begun (used_leads g.T.DeviceTerminal.does g.T.Terminal.follows g.met.T.DeviceTerminal.call_does _ _ c.begin_line.ensures.used))
+    (told_along_nothing g.T.Terminal.state g.T.DeviceTerminal.does _ told set begun c.begin.ensures.calls)
 
 pub returns-in_err-stop-clause-along : goal.returns-in_err-stop-clause-along
 returns-in_err-stop-clause-along g c =
@@ -139,14 +139,14 @@ returns-in_err-stop-clause-along g c =
     let value = g.H.LineEditorHost.value in
     let i = frame state value c.set_prompt.new.self c.args.host.now in
     let f = fresh_frame c.args.prompt.now (value c.args.host.now) (state c.args.terminal.now) in
-    let painted = frame state value c.begin_line.new.self c.args.host.now in
+    let painted = frame state value c.begin.new.editor c.args.host.now in
     let before = g.S.EventSource.told c.args.source.now in
     let after = g.S.EventSource.told c.take_events.new.source in
     let set = c.set_prompt.new.self.terminal.now in
-    let begun = c.begin_line.new.self.terminal.now in
+    let begun = c.begin.new.editor.terminal.now in
     let fed = c.take_events.new.editor.terminal.now in
-    let opens = opened_at rules_of overrides i f painted (search rules) (c.in_ok-begin_line.ensures.ok (search rules)) in
-    let along = told_along_opened g.T.Terminal.state does rules_of overrides before after f painted set begun fed opens (used_leads g.T.DeviceTerminal.does g.T.Terminal.follows g.met.T.DeviceTerminal.call_does _ _ c.begin_line.ensures.used) c.take_events.ensures.along in
+    let opens = opened_at rules_of overrides i f painted (search rules) (c.in_ok-begin.ensures.ok (search rules)) in
+    let along = told_along_opened g.T.Terminal.state does rules_of overrides before after f painted set begun fed opens c.begin.ensures.calls c.take_events.ensures.along in
     told_along_between g.T.Terminal.state does (taken_over rules_of f) before after c.args.terminal.now set _ fed (search rules) (search rules)
     along
 
@@ -159,16 +159,16 @@ returns-in_err-line-clause-along g c =
     let value = g.H.LineEditorHost.value in
     let i = frame state value c.set_prompt.new.self c.args.host.now in
     let f = fresh_frame c.args.prompt.now (value c.args.host.now) (state c.args.terminal.now) in
-    let painted = frame state value c.begin_line.new.self c.args.host.now in
+    let painted = frame state value c.begin.new.editor c.args.host.now in
     let before = g.S.EventSource.told c.args.source.now in
     let after = g.S.EventSource.told c.take_events.new.source in
     let set = c.set_prompt.new.self.terminal.now in
-    let begun = c.begin_line.new.self.terminal.now in
+    let begun = c.begin.new.editor.terminal.now in
     let fed = c.take_events.new.editor.terminal.now in
-    let opens = opened_at rules_of overrides i f painted (search rules) (c.in_ok-begin_line.ensures.ok (search rules)) in
-    let along = told_along_opened g.T.Terminal.state does rules_of overrides before after f painted set begun fed opens (used_leads g.T.DeviceTerminal.does g.T.Terminal.follows g.met.T.DeviceTerminal.call_does _ _ c.begin_line.ensures.used) c.take_events.ensures.along in
-    told_along_between g.T.Terminal.state does (taken_over rules_of f) before after c.args.terminal.now set _ c.finish_line.new.self.terminal.now (search rules) (search rules)
-    (told_along_to_calls g.T.Terminal.state does (taken_over rules_of f) before after set fed c.finish_line.new.self.terminal.now along (used_leads g.T.DeviceTerminal.does g.T.Terminal.follows g.met.T.DeviceTerminal.call_does _ _ c.finish_line.ensures.used))
+    let opens = opened_at rules_of overrides i f painted (search rules) (c.in_ok-begin.ensures.ok (search rules)) in
+    let along = told_along_opened g.T.Terminal.state does rules_of overrides before after f painted set begun fed opens c.begin.ensures.calls c.take_events.ensures.along in
+    told_along_between g.T.Terminal.state does (taken_over rules_of f) before after c.args.terminal.now set _ c.finish.new.editor.terminal.now (search rules) (search rules)
+    (told_along_to_calls g.T.Terminal.state does (taken_over rules_of f) before after set fed c.finish.new.editor.terminal.now along c.finish.ensures.calls)
 
 pub returns-clause-along : goal.returns-clause-along
 returns-clause-along g c =
@@ -179,13 +179,13 @@ returns-clause-along g c =
     let value = g.H.LineEditorHost.value in
     let i = frame state value c.set_prompt.new.self c.args.host.now in
     let f = fresh_frame c.args.prompt.now (value c.args.host.now) (state c.args.terminal.now) in
-    let painted = frame state value c.begin_line.new.self c.args.host.now in
+    let painted = frame state value c.begin.new.editor c.args.host.now in
     let before = g.S.EventSource.told c.args.source.now in
     let after = g.S.EventSource.told c.take_events.new.source in
     let set = c.set_prompt.new.self.terminal.now in
-    let begun = c.begin_line.new.self.terminal.now in
+    let begun = c.begin.new.editor.terminal.now in
     let fed = c.take_events.new.editor.terminal.now in
-    let opens = opened_at rules_of overrides i f painted (search rules) (c.in_ok-begin_line.ensures.ok (search rules)) in
-    let along = told_along_opened g.T.Terminal.state does rules_of overrides before after f painted set begun fed opens (used_leads g.T.DeviceTerminal.does g.T.Terminal.follows g.met.T.DeviceTerminal.call_does _ _ c.begin_line.ensures.used) c.take_events.ensures.along in
-    told_along_between g.T.Terminal.state does (taken_over rules_of f) before after c.args.terminal.now set _ c.finish_line.new.self.terminal.now (search rules) (search rules)
-    (told_along_to_calls g.T.Terminal.state does (taken_over rules_of f) before after set fed c.finish_line.new.self.terminal.now along (used_leads g.T.DeviceTerminal.does g.T.Terminal.follows g.met.T.DeviceTerminal.call_does _ _ c.finish_line.ensures.used))
+    let opens = opened_at rules_of overrides i f painted (search rules) (c.in_ok-begin.ensures.ok (search rules)) in
+    let along = told_along_opened g.T.Terminal.state does rules_of overrides before after f painted set begun fed opens c.begin.ensures.calls c.take_events.ensures.along in
+    told_along_between g.T.Terminal.state does (taken_over rules_of f) before after c.args.terminal.now set _ c.finish.new.editor.terminal.now (search rules) (search rules)
+    (told_along_to_calls g.T.Terminal.state does (taken_over rules_of f) before after set fed c.finish.new.editor.terminal.now along c.finish.ensures.calls)

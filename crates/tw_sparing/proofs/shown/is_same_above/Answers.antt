@@ -6,6 +6,6 @@ use Rattle.tw_sparing.proofs.shown.is_same_above.Goals as goal
 pub loop-row-preserved : goal.loop-row-preserved
 loop-row-preserved c i j low left =
     elim (cases_eq i c.loop-row.row) [
-      | inl e ↦ ap (λ k. screen_cells c.args.old.now k j) e ∙ c.if-not-is_same_row.ensures refl j left ∙ ap (λ k. screen_cells c.args.new.now k j) (sym e)
+      | inl e ↦ ap (λ k. screen_cells c.args.old.now k j) e ∙ c.if-not-is_same_row.ensures.same refl j left ∙ ap (λ k. screen_cells c.args.new.now k j) (sym e)
       | inr other ↦ c.loop-row.invariant i j (omega (arith, low, other)) left
     ]

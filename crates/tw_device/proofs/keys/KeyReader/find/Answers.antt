@@ -4,7 +4,7 @@ use Rattle.tw_input.specs.EventView.{event_view}
 use Rattle.tw_device.specs.Keys.{held_by}
 use Rattle.tw_device.specs.Told.{events_in_option}
 use Rattle.tw_device.specs.Typed.{TellsIn, most_steps}
-use Rattle.tw_device.proofs.TypedLemmas.{held_is, tells_kept, tells_same, tells_came, tells_took, wants_more, wants_memory}
+use Rattle.tw_device.proofs.TypedLemmas.{held_is, no_event_at_hand, none_at_hand, tells_kept, tells_same, tells_came, tells_took, wants_more, wants_memory}
 use Rattle.tw_device.proofs.keys.KeyReader.find.Goals.{in-Some+in_ok-event-in-Some+in_default, in-None-2+in_ok-is_last-in-None-2}
 use Rattle.tw_device.proofs.keys.KeyReader.find.Goals as goal
 
@@ -67,6 +67,9 @@ loop-turn-preserved g c = elim c.match-scan.branch [
             (ap events_in_option (sym w.in_default.is) ∙ taken.event)
             (held_is (held w.take.new.self) _ _ _ _ taken.rest.1 taken.taken taken.rest.2 (ap g.R.Read.remaining taken.rest.0)));
         at_end = search rules;
+        at_hand = λ there.
+            let first = c.loop-turn.invariant.at_hand there in
+            absurd (no_event_at_hand (held c.args.self.now) (held c.loop-turn.self) c.loop-turn.is_last w.in-Some.found _ there first.0 first.1 scanned.token (ap events_in_option (sym w.in_default.is) ∙ taken.event));
       }
   | in-None-2+in_ok-is_last-in-None-2 w ↦
       let held = held_by g.R.Read.remaining in
@@ -77,6 +80,9 @@ loop-turn-preserved g c = elim c.match-scan.branch [
             c.loop-turn.invariant.tells w.in-None-2.ensures.held (rw w.if-is_last.false at w.in-None-2.ensures.token)
             (held_is (held w.read.new.self) _ _ _ _ w.in_ok-is_last-in-None-2.ensures.escape came.1 came.2 refl) came.3);
         at_end = search rules;
+        at_hand = λ there.
+            let first = c.loop-turn.invariant.at_hand there in
+            absurd (none_at_hand (held c.args.self.now) (held c.loop-turn.self) c.loop-turn.is_last there first.0 first.1 w.in-None-2.ensures.token);
       }
 ]
 

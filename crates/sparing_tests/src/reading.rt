@@ -1,0 +1,43 @@
+//! Lines that are read at a patient terminal.
+
+use crate::wire::Wire;
+use std::alloc::Global;
+use std::process::Abort;
+use std::test::Fail;
+use tw_device::{Answer, KeyReader, read_typed_line};
+use tw_lineedit::NopLineEditorHost;
+use tw_sparing::PatientTerminal;
+use tw_terminal::ScreenSize;
+
+/// What the prompt is sent as, at first.
+const PROMPT: &str = "\r\x1b[K\x1b[C\x1b[J\r\x1b[0m> \r\x1b[2C";
+
+/// The most bytes of a move, and of what a line is closed with.
+const MOVES: usize = 16;
+
+/// A line whose keys come at once is read, and of its paintings the last one is sent.
+fn expect_one_painting(
+    rt: &impl Abort,
+    alloc: Global,
+    typed: &str,
+    line: &str,
+) -> Result<(), Fail> {
+    let mut taken = Vec::new(alloc);
+    let size = ScreenSize { rows: 24, cols: 80 };
+    let mut terminal = PatientTerminal::new(alloc, Wire::new(&mut taken, 0), size);
+    let mut keys = KeyReader::new(alloc, typed.as_bytes());
+    let mut host = NopLineEditorHost::new(alloc);
+    let answer = read_typed_line(alloc, &mut keys, &mut terminal, &mut host, "> ");
+    let is_read = matches!(&answer, Ok(Answer::Line(read)) if read.as_str() == line);
+    assert!(rt; is_read, "{typed:?} is not read as {line:?}");
+    drop(terminal);
+    let count = taken.len();
+    assert!(rt; count <= PROMPT.len() + line.len() + MOVES, "{count}");
+    Ok(())
+}
+
+#[test]
+fn keys_that_come_at_once_are_sent_as_one_line(rt: HostRuntime) -> Result<(), Fail> {
+    expect_one_painting(&rt, rt.alloc(), "echo hello\r", "echo hello")?;
+    expect_one_painting(&rt, rt.alloc(), "echo hello\x01\x0b12\x02\x023\r", "312")
+}

@@ -1,0 +1,37 @@
+use Rattle.std.proofs.Common.{◌≡◌, OnOk, IfErr, None, ap, ◌∙◌, subst}
+use Rattle.tw_terminal.specs.TerminalState.{TerminalState}
+use Rattle.tw_terminal.specs.Uses.{Other}
+use Rattle.tw_lineedit.specs.EditState.{Inactive}
+use Rattle.tw_lineedit.specs.Feeding.{Begins, FailsToBegin}
+use Rattle.tw_lineedit.specs.Frame.{Frame, frame}
+use Rattle.tw_lineedit.specs.Reading.{start}
+use Rattle.tw_device.specs.Led.{IsLedByCalls}
+use Rattle.tw_device.proofs.DeedLemmas.{used_leads}
+use Rattle.tw_device.proofs.LedLemmas.{calls_then, one_call}
+use Rattle.tw_device.proofs.reading.begin.Goals as goal
+
+pub returns-clause-calls : goal.returns-clause-calls
+returns-clause-calls g c =
+    let does = g.T.DeviceTerminal.does in
+    let told = c.set_more_at_hand.new.self in
+    let first = one_call g.T.Terminal.state does Other c.terminal.result.now told c.set_more_at_hand.ensures.called in
+    calls_then g.T.Terminal.state does c.args.editor.now.terminal.now told c.begin_line.new.self.terminal.now
+    (subst (λ it. IsLedByCalls does it told) c.terminal.ensures.shows first)
+    (used_leads does g.T.Terminal.follows g.met.T.DeviceTerminal.call_does _ _ c.begin_line.ensures.used)
+
+-- what the editor sees of its terminal is as before
+pub returns-clause-ok : goal.returns-clause-ok
+returns-clause-ok g c =
+    let state = g.T.Terminal.state in
+    let before = frame state g.H.LineEditorHost.value c.args.editor.now c.args.host.now in
+    let after = frame state g.H.LineEditorHost.value c.begin_line.new.self c.args.host.now in
+    subst (λ (t : TerminalState). before.state.mode ≡ Inactive → OnOk c.begin_line.result (Begins g.H.LineEditorHost.rules g.H.LineEditorHost.OVERRIDES (start None (record before { terminal = t })) after))
+    (c.set_more_at_hand.ensures.state ∙ ap state c.terminal.ensures.shows) c.begin_line.ensures.ok
+
+pub returns-clause-err : goal.returns-clause-err
+returns-clause-err g c =
+    let state = g.T.Terminal.state in
+    let before = frame state g.H.LineEditorHost.value c.args.editor.now c.args.host.now in
+    let after = frame state g.H.LineEditorHost.value c.begin_line.new.self c.args.host.now in
+    subst (λ (t : TerminalState). before.state.mode ≡ Inactive → IfErr c.begin_line.result (FailsToBegin g.H.LineEditorHost.rules None (record before { terminal = t }) after))
+    (c.set_more_at_hand.ensures.state ∙ ap state c.terminal.ensures.shows) c.begin_line.ensures.err

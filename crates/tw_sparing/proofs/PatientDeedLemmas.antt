@@ -1,0 +1,179 @@
+-- Deeds of a terminal that waits while more is at hand, one after the other, and what they send.
+use Rattle.std.proofs.Common.{◌≡◌, ◌≢◌, ◌≤◌, ℕ, List, [], ◌∷◌, ◌++◌, Option, length, refl, sym, ap, ◌∙◌, subst, append_assoc, append-nil, inl, inr, arith}
+use Rattle.std.specs.Io.KnownBytes.{Appends}
+use Rattle.tw_surface.specs.ChangeView.{Batch}
+use Rattle.tw_terminal.specs.TerminalState.{usize_max}
+use Rattle.tw_terminal.specs.Uses.{Took, Refused, Other, Uses}
+use Rattle.tw_lineedit.proofs.FailureLemmas.{le_count, rose_once}
+use Rattle.tw_device.specs.Deeds.{Deed, Called, Sized, Said, sizes_by, texts_by}
+use Rattle.tw_device.proofs.DeedLemmas.{appends_nothing, appends_then}
+use Rattle.tw_sparing.specs.declared.patient.PatientTerminal.{PatientTerminal}
+use Rattle.tw_sparing.specs.KnownRuns.{KnownBatch, last_known, sent_for_all}
+use Rattle.tw_sparing.specs.SparingRuns.{AreKnownSince}
+use Rattle.tw_sparing.specs.Ahead.{AheadView, all_changes, changes_among, groups_with}
+use Rattle.tw_sparing.specs.Patient.{patient_state}
+use Rattle.tw_sparing.specs.PatientDeeds.{DoesPatiently, IsTakenPatiently, KeepsBack, RestsPatiently, SendsGroups}
+use Rattle.tw_sparing.specs.PatientRuns.{IsSentPatiently, PatientlyLedIsSent, SettledIsSent}
+use Rattle.tw_sparing.proofs.GroupLemmas.{all_changes-both, changes_among-both, changes_among-with, known_since-both, last_known-both, sent_bytes-both, sent_next-both}
+
+module _ {W : Type 0} (contents : W → Option (List ℕ)) where
+  -- no deed lowers the count of failures
+  counts_on : (deed : Deed) (old new : PatientTerminal W) → DoesPatiently contents old new deed → old.failures ≤ new.failures
+  counts_on (Called (Took batch)) old new does = rw does.failures (omega arith)
+  counts_on (Called Refused) old new does = rw does.failures (le_count old.failures)
+  counts_on (Called Other) old new does = does.failures
+  counts_on (Sized size) old new does = rw does.failures (omega arith)
+  counts_on (Said text) old new does = rw does.failures (omega arith)
+
+  uses_count_on : (deeds : List Deed) (old new : PatientTerminal W) → Uses (DoesPatiently contents) deeds old new → old.failures ≤ new.failures
+  uses_count_on [] old new same = rw same (omega arith)
+  uses_count_on (deed ∷ deeds) old new (between, does, uses) =
+      let first : old.failures ≤ between.failures = counts_on deed old between does in
+      let later : between.failures ≤ new.failures = uses_count_on deeds between new uses in
+      omega arith
+
+  -- where the count of failures stays, it stays after the first deed
+  stays_on : (deed : Deed) (deeds : List Deed) (old between new : PatientTerminal W) → DoesPatiently contents old between deed
+      → Uses (DoesPatiently contents) deeds between new → new.failures ≡ old.failures
+      → (new.failures ≡ between.failures) × (between.failures ≡ old.failures)
+  stays_on deed deeds old between new does uses same =
+      let first : old.failures ≤ between.failures = counts_on deed old between does in
+      let later : between.failures ≤ new.failures = uses_count_on deeds between new uses in
+      (omega arith, omega arith)
+
+  -- nothing
+  none_sent_ahead : (it : PatientTerminal W) → IsSentPatiently contents [] [] it it
+  none_sent_ahead it = record {
+    taken = sym (append-nil (patient_state it).batches);
+    changes = append-nil (changes_among it.ahead.kept);
+    known = tt;
+    bytes = appends_nothing (contents it.writer);
+    next = refl;
+    shown = refl;
+  }
+
+  -- groups are sent, and then others: by what is known between them
+  sent_after : (first then : List KnownBatch) (taken more : List Batch) (old between new : PatientTerminal W)
+      → AreKnownSince old.ahead.size old.ahead.shown old.encoder first
+      → Appends (contents old.writer) (contents between.writer) (sent_for_all old.ahead.size.rows old.ahead.shown first old.encoder).bytes
+      → between.encoder ≡ (sent_for_all old.ahead.size.rows old.ahead.shown first old.encoder).next
+      → between.ahead.size ≡ old.ahead.size → between.ahead.shown ≡ last_known old.ahead.shown first
+      → (patient_state between).batches ≡ (patient_state old).batches ++ taken
+      → changes_among old.ahead.kept ++ all_changes taken ≡ changes_among first ++ changes_among between.ahead.kept
+      → IsSentPatiently contents then more between new → IsSentPatiently contents (first ++ then) (taken ++ more) old new
+  sent_after first then taken more old between new known bytes next size shown batches changes later =
+      let kept = changes_among old.ahead.kept in
+      let between_kept = changes_among between.ahead.kept in
+      let new_kept = changes_among new.ahead.kept in
+      let later_known : AreKnownSince old.ahead.size (last_known old.ahead.shown first) (sent_for_all old.ahead.size.rows old.ahead.shown first old.encoder).next then =
+      rw (size, shown, next) at later.known in
+      let later_bytes : Appends (contents between.writer) (contents new.writer) (sent_for_all old.ahead.size.rows (last_known old.ahead.shown first) then (sent_for_all old.ahead.size.rows old.ahead.shown first old.encoder).next).bytes =
+      rw (size, shown, next) at later.bytes in
+      let later_next : new.encoder ≡ (sent_for_all old.ahead.size.rows (last_known old.ahead.shown first) then (sent_for_all old.ahead.size.rows old.ahead.shown first old.encoder).next).next =
+      rw (size, shown, next) at later.next in
+      record {
+        taken = later.taken ∙ ap (λ xs. xs ++ more) batches ∙ append_assoc (patient_state old).batches taken more;
+        changes = ap (λ xs. kept ++ xs) (all_changes-both taken more)
+            ∙ sym (append_assoc kept (all_changes taken) (all_changes more))
+            ∙ ap (λ xs. xs ++ all_changes more) changes
+            ∙ append_assoc (changes_among first) between_kept (all_changes more)
+            ∙ ap (λ xs. changes_among first ++ xs) later.changes
+            ∙ sym (append_assoc (changes_among first) (changes_among then) new_kept)
+            ∙ ap (λ xs. xs ++ new_kept) (sym (changes_among-both first then));
+        known = known_since-both old.ahead.size old.ahead.shown old.encoder first then known later_known;
+        bytes = subst (λ xs. Appends (contents old.writer) (contents new.writer) xs) (sym (sent_bytes-both old.ahead.size.rows old.ahead.shown first then old.encoder))
+            (appends_then (contents old.writer) (contents between.writer) (contents new.writer) _ _ bytes later_bytes);
+        next = later_next ∙ sym (sent_next-both old.ahead.size.rows old.ahead.shown first then old.encoder);
+        shown = later.shown ∙ ap (λ known. last_known known then) shown ∙ sym (last_known-both old.ahead.shown first then);
+      }
+
+  -- a batch is kept back, and then others are taken
+  kept_then : (batch : Batch) (groups : List KnownBatch) (more : List Batch) (old between new : PatientTerminal W) → KeepsBack contents batch old between
+      → (patient_state between).batches ≡ (patient_state old).batches ++ batch ∷ []
+      → IsSentPatiently contents groups more between new → IsSentPatiently contents groups (batch ∷ more) old new
+  kept_then batch groups more old between new keeps batches later =
+      sent_after [] groups (batch ∷ []) more old between new tt
+      (subst (λ w. Appends (contents old.writer) (contents w) []) (sym keeps.writer) (appends_nothing (contents old.writer)))
+      keeps.encoder
+      (ap (λ (ahead : AheadView). ahead.size) keeps.ahead)
+      (ap (λ (ahead : AheadView). ahead.shown) keeps.ahead)
+      batches
+      (ap (λ xs. changes_among old.ahead.kept ++ xs) (append-nil batch)
+      ∙ sym (ap (λ (ahead : AheadView). changes_among ahead.kept) keeps.ahead ∙ append-nil (changes_among old.ahead.kept ++ batch)))
+      later
+
+  -- groups are sent with a batch, and then others
+  groups_then : (batch : Batch) (first groups : List KnownBatch) (more : List Batch) (old between new : PatientTerminal W) → SendsGroups contents first old between
+      → changes_among first ≡ changes_among old.ahead.kept ++ batch
+      → (patient_state between).batches ≡ (patient_state old).batches ++ batch ∷ []
+      → IsSentPatiently contents groups more between new → IsSentPatiently contents (first ++ groups) (batch ∷ more) old new
+  groups_then batch first groups more old between new sends changes batches later =
+      sent_after first groups (batch ∷ []) more old between new sends.known sends.bytes sends.encoder
+      (ap (λ (ahead : AheadView). ahead.size) sends.ahead)
+      (ap (λ (ahead : AheadView). ahead.shown) sends.ahead)
+      batches
+      (ap (λ xs. changes_among old.ahead.kept ++ xs) (append-nil batch) ∙ sym changes ∙ sym (append-nil (changes_among first))
+      ∙ ap (λ xs. changes_among first ++ xs) (sym (ap (λ (ahead : AheadView). changes_among ahead.kept) sends.ahead)))
+      later
+
+  -- a batch is taken, and then others
+  taken_then : (batch : Batch) (groups : List KnownBatch) (more : List Batch) (old between new : PatientTerminal W) → IsTakenPatiently contents batch old between
+      → (patient_state between).batches ≡ (patient_state old).batches ++ batch ∷ []
+      → IsSentPatiently contents groups more between new → (all : List KnownBatch) × IsSentPatiently contents all (batch ∷ more) old new
+  taken_then batch groups more old between new (inl keeps) batches later = (groups, kept_then batch groups more old between new keeps batches later)
+  taken_then batch groups more old between new (inr sends) batches later =
+      let first : List KnownBatch = groups_with sends.is_joined batch old.ahead between.ahead.shown in (
+        first ++ groups,
+        groups_then batch first groups more old between new sends.sends (changes_among-with sends.is_joined batch old.ahead between.ahead.shown) batches later,
+      )
+
+  -- nothing is sent, and then batches are taken
+  rests_then : (groups : List KnownBatch) (more : List Batch) (old between new : PatientTerminal W) → RestsPatiently contents old between
+      → IsSentPatiently contents groups more between new → IsSentPatiently contents groups more old new
+  rests_then groups more old between new rests later =
+      sent_after [] groups [] more old between new tt rests.bytes rests.encoder
+      (ap (λ (ahead : AheadView). ahead.size) rests.ahead)
+      (ap (λ (ahead : AheadView). ahead.shown) rests.ahead)
+      (rests.batches ∙ sym (append-nil (patient_state old).batches))
+      (append-nil (changes_among old.ahead.kept) ∙ sym (ap (λ (ahead : AheadView). changes_among ahead.kept) rests.ahead))
+      later
+
+  -- deeds that give no size and send no text, of which no failure was counted
+  all_sent_ahead : (deeds : List Deed) (old new : PatientTerminal W) → Uses (DoesPatiently contents) deeds old new → new.failures ≡ old.failures
+      → old.failures ≢ usize_max → sizes_by deeds ≡ [] → texts_by deeds ≡ []
+      → (groups : List KnownBatch) × (batches : List Batch) × IsSentPatiently contents groups batches old new
+  all_sent_ahead [] old new same kept below sizes texts = ([], [], rw same (none_sent_ahead old))
+  all_sent_ahead (Called (Took batch) ∷ deeds) old new (between, does, uses) kept below sizes texts =
+      let same = stays_on (Called (Took batch)) deeds old between new does uses kept in
+      let later = all_sent_ahead deeds between new uses same.0 (λ full. below (sym same.1 ∙ full)) sizes texts in
+      let all = taken_then batch later.0 later.1 old between new does.taken does.batches later.2 in
+      (all.0, batch ∷ later.1, all.1)
+  all_sent_ahead (Called Refused ∷ deeds) old new (between, does, uses) kept below sizes texts =
+      let same = stays_on (Called Refused) deeds old between new does uses kept in
+      elim (rose_once old.failures between.failures does.failures) [
+        | inl rises ↦ absurd (let stays : between.failures ≡ old.failures = same.1 in omega arith)
+        | inr full ↦ absurd (below full)
+      ]
+  all_sent_ahead (Called Other ∷ deeds) old new (between, does, uses) kept below sizes texts =
+      let same = stays_on (Called Other) deeds old between new does uses kept in
+      let later = all_sent_ahead deeds between new uses same.0 (λ full. below (sym same.1 ∙ full)) sizes texts in
+      (later.0, later.1, rests_then later.0 later.1 old between new does later.2)
+  all_sent_ahead (Sized size ∷ deeds) old new uses kept below sizes texts =
+      absurd (let some : length (size ∷ sizes_by deeds) ≡ 0 = ap length sizes in omega arith)
+  all_sent_ahead (Said text ∷ deeds) old new uses kept below sizes texts =
+      absurd (let some : length (text ∷ texts_by deeds) ≡ 0 = ap length texts in omega arith)
+
+  pub patiently_led_is_sent : PatientlyLedIsSent contents
+  patiently_led_is_sent events old new (deeds, uses, sizes, texts) kept below none =
+      all_sent_ahead deeds old new uses kept below (sizes ∙ none) texts
+
+  pub settled_is_sent : SettledIsSent contents
+  settled_is_sent events old new led kept below none before after =
+      let all = patiently_led_is_sent events old new led kept below none in
+      (all.0, all.1, settled_changes old.ahead.kept new.ahead.kept all.0 all.1 before after all.2.changes, all.2)
+    where
+      settled_changes : (a b groups : List KnownBatch) (batches : List Batch) → a ≡ [] → b ≡ []
+          → changes_among a ++ all_changes batches ≡ changes_among groups ++ changes_among b → changes_among groups ≡ all_changes batches
+      settled_changes a b groups batches is_a is_b is =
+          sym (append-nil (changes_among groups)) ∙ ap (λ v. changes_among groups ++ changes_among v) (sym is_b)
+          ∙ sym is ∙ ap (λ v. changes_among v ++ all_changes batches) is_a

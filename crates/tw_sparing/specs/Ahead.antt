@@ -1,0 +1,66 @@
+-- What a terminal shows, what is drawn ahead of it, and the groups of batches that are then sent.
+use Rattle.std.specs.Prelude.{◌≡◌, Bool, true, false, Option, Some, None, IsSome, List, [], ◌∷◌, ◌++◌}
+use Rattle.tw_surface.specs.ChangeView.{Batch}
+use Rattle.tw_terminal.specs.declared.terminal.ScreenSize.{ScreenSize}
+use Rattle.tw_ansi.specs.declared.encode.Encoder.{Encoder}
+use Rattle.tw_ansi.specs.Encoding.{Sent}
+use Rattle.tw_sparing.specs.declared.shown.Shown.{Shown}
+use Rattle.tw_sparing.specs.Shown.{IsKnownAfter}
+use Rattle.tw_sparing.specs.KnownRuns.{KnownBatch, batches_among, last_known, sent_for_all}
+
+-- the changes of batches, one after the other
+abbrev pub all_changes : List Batch → Batch
+all_changes [] = []
+all_changes (batch ∷ more) = batch ++ all_changes more
+
+-- the changes of groups
+abbrev pub changes_among : List KnownBatch → Batch
+changes_among groups = all_changes (batches_among groups)
+
+-- a terminal of a size: what it shows, and what is kept back, the batches that were drawn since as one group, and what is known after them
+pub record AheadView : Type 0 where
+  pub size : ScreenSize
+  pub shown : Option Shown
+  pub kept : List KnownBatch
+
+-- it shows this, and nothing is kept back
+abbrev pub settled_at : ScreenSize → Option Shown → AheadView
+settled_at size shown = record { size = size; shown = shown; kept = [] }
+
+-- the latest picture: after what is kept back, or else what is shown
+abbrev pub latest_known : AheadView → Option Shown
+latest_known ahead = last_known ahead.shown ahead.kept
+
+-- what is kept back, where something is drawn ahead
+abbrev pub group_kept : Option Shown → Batch → List KnownBatch
+group_kept None batch = []
+group_kept (Some drawn) batch = record { batch = batch; known = Some drawn } ∷ []
+
+-- a terminal by what it shows, what is drawn ahead, and what was drawn since
+abbrev pub ahead_view : ScreenSize → Option Shown → Option Shown → Batch → AheadView
+ahead_view size shown drawn batch = record { size = size; shown = shown; kept = group_kept drawn batch }
+
+-- either nothing is drawn ahead, and no batch is kept back, or what is drawn is known after what is shown by the batches that are kept back
+abbrev pub AreAhead : ScreenSize → Option Shown → Option Shown → Batch → Type 0
+AreAhead size shown None batch = batch ≡ []
+AreAhead size None (Some drawn) batch = ⊥
+AreAhead size (Some shown) (Some drawn) batch = IsKnownAfter size.cols size.rows batch (Some shown) (Some drawn)
+
+-- what is sent for what is kept back
+abbrev pub sent_ahead : AheadView → Encoder → Sent
+sent_ahead ahead e = sent_for_all ahead.size.rows ahead.shown ahead.kept e
+
+-- what is kept back and a batch after it, as one group
+abbrev pub joined_group : Batch → AheadView → Option Shown → KnownBatch
+joined_group batch ahead known = record { batch = changes_among ahead.kept ++ batch; known = known }
+
+-- the groups that are sent with a batch: all in one, or what is kept back, and then the batch
+abbrev pub groups_with : Bool → Batch → AheadView → Option Shown → List KnownBatch
+groups_with true batch ahead known = joined_group batch ahead known ∷ []
+groups_with false batch ahead known = ahead.kept ++ record { batch = batch; known = known } ∷ []
+
+-- All is known that one difference takes: what is shown, and what is shown once what is kept back and the batch are drawn on it. So the rows that have left
+-- the terminal then are the same in both.
+abbrev pub IsJoined : Batch → AheadView → Option Shown → Type 0
+IsJoined batch ahead known =
+    IsSome ahead.shown × IsSome known × IsKnownAfter ahead.size.cols ahead.size.rows (joined_group batch ahead known).batch ahead.shown known

@@ -1,0 +1,314 @@
+//! A terminal over a writer that is sent nothing while more is at hand, and then what differs.
+
+ghost use Rattle.std.specs.Io.KnownBytes.{Appends, Keeps};
+ghost use Rattle.std.specs.Prelude.{◌≡◌, [], Ok, None, IfOk, OnOk, OnErr, true, false, refl};
+ghost use Rattle.tw_surface.specs.ChangeView.{batch_view};
+ghost use Rattle.tw_terminal.specs.TerminalState.{fresh_terminal, Fails, Flushes, RenderFails, Renders};
+ghost use Rattle.tw_ansi.specs.Encoding.{first_known, sent_then};
+ghost use Rattle.tw_terminal.specs.Uses.{Other, Refused, Took};
+ghost use Rattle.tw_device.specs.Deeds.{Called, Said, Sized, sent_deed};
+ghost use Rattle.tw_sparing.specs.Ahead.{groups_with, sent_ahead, latest_known, settled_at, IsJoined};
+ghost use Rattle.tw_sparing.specs.PatientDeeds.{DoesPatiently, IsTakenPatiently, SendsGroups};
+ghost use Rattle.tw_sparing.specs.Patient.{patient_state};
+ghost use Rattle.tw_sparing.specs.Shown.{IsKnownAfter};
+ghost use Rattle.tw_sparing.specs.SparingRuns.{AreKnownSince};
+
+use crate::ahead::Ahead;
+use crate::shown::{Shown, ends_at_start};
+use std::alloc::Global;
+use std::io::Write;
+use std::snapshot::Snapshot;
+use tw_ansi::Encoder;
+use tw_device::DeviceTerminal;
+use tw_input::InputEvent;
+use tw_surface::Change;
+use tw_terminal::{BatchLog, ScreenSize, Terminal, TerminalFault};
+
+/// A terminal over a writer, as `SparingTerminal` is. It has no events, and the size that its owner gives it. While its
+/// owner says that more events are at hand it keeps batches back, as long as one difference takes all of them; the next
+/// batch that is not kept back is sent with them. It keeps back no batch before which or after which it is not known
+/// what the terminal shows.
+#[derive(Drop)]
+pub struct PatientTerminal<W> {
+    alloc: Global,
+    writer: W,
+    encoder: Encoder,
+    ahead: Ahead,
+    batches: BatchLog,
+    flushed: Snapshot<BatchLog>,
+    failures: usize,
+    at_start: bool,
+    is_more: bool,
+}
+
+impl<W: Write> PatientTerminal<W> {
+    /// A terminal of this size, whose cursor stands in column 0. No more is at hand.
+    pub fn new(alloc: Global, writer: W, size: ScreenSize) -> Self
+        ensures state { patient_state result ≡ fresh_terminal size [] }
+        ensures known { result.encoder ≡ first_known size.cols }
+        ensures ahead { result.ahead ≡ settled_at size None }
+        ensures more { result.is_more ≡ false }
+        ensures writer { result.writer ≡ writer }
+    {
+        let batches = BatchLog::new();
+        let flushed = Snapshot::of(&batches);
+        PatientTerminal {
+            alloc,
+            writer,
+            encoder: Encoder::new(size.cols),
+            ahead: Ahead::new(size, None),
+            batches,
+            flushed,
+            failures: 0,
+            at_start: true,
+            is_more: false,
+        }
+    }
+
+    /// Says whether more events are at hand than the one that is handled next. Nothing is written, and nothing else
+    /// changes. Where no more is at hand the next batch is sent, and what is kept back with it: so an owner says it
+    /// before the last event.
+    pub fn set_more_at_hand(&mut self, is_more: bool)
+        ensures state { patient_state self.new ≡ patient_state self.old }
+        ensures known { self.new.encoder ≡ self.old.encoder }
+        ensures ahead { self.new.ahead ≡ self.old.ahead }
+        ensures more { self.new.is_more ≡ is_more }
+        ensures writer { self.new.writer ≡ self.old.writer }
+        ensures called { DoesPatiently W.contents self.old self.new (Called Other) }
+    {
+        self.is_more = is_more;
+    }
+
+    /// Sets the size, which nothing else changes. What is kept back is sent first, as one difference. Where that is
+    /// refused, for memory or by the writer, the batches that were kept back are lost and a beginning of it may have
+    /// been sent: it is not counted as a failure, since no call of `Terminal` has failed. What the terminal shows is
+    /// not known afterwards in any case.
+    pub fn set_screen_size(&mut self, size: ScreenSize)
+        ensures state { patient_state self.new ≡ record (patient_state self.old) { size = size } }
+        ensures ahead { self.new.ahead ≡ settled_at size None }
+        ensures more { self.new.is_more ≡ self.old.is_more }
+        ensures writer { self.old.ahead.kept ≡ [] → self.new.writer ≡ self.old.writer }
+        ensures sized { DoesPatiently W.contents self.old self.new (Sized size) }
+    {
+        if let Ok(encoder) = self.catch_up() {
+            self.encoder = encoder;
+        }
+        self.encoder.set_cols(size.cols);
+        self.ahead = Ahead::new(size, None);
+    }
+
+    /// Sends a text of its owner's as it is, after what is kept back and a reset of all attributes: a line may have
+    /// ended in some. The text has to leave the cursor in column 0, and no attribute set. What the terminal shows then
+    /// is not known. A refusal may have sent a beginning, and what was kept back is lost with it.
+    pub fn send(&mut self, text: &str) -> Result<(), TerminalFault>
+        ensures kept { patient_state self.new ≡ patient_state self.old }
+        ensures sent { let sent = sent_then (sent_ahead self.old.ahead self.old.encoder) (sent_deed (Said text.now)) in
+            OnOk result (Appends (W.contents self.old.writer) (W.contents self.new.writer) sent.bytes) }
+        ensures next { OnOk result (self.new.encoder ≡ (sent_then (sent_ahead self.old.ahead self.old.encoder) (sent_deed (Said text.now))).next) }
+        ensures known { OnErr result (self.new.encoder ≡ self.old.encoder) }
+        ensures ahead { self.new.ahead ≡ settled_at self.old.ahead.size None }
+        ensures more { self.new.is_more ≡ self.old.is_more }
+        ensures said { OnOk result (DoesPatiently W.contents self.old self.new (Said text.now)) }
+    {
+        let caught = self.catch_up();
+        self.at_start = false;
+        let mut encoder = caught?;
+        self.write(encoder.reset())?;
+        self.write(text)?;
+        self.encoder = encoder;
+        self.at_start = true;
+        Ok(())
+    }
+
+    /// Sends what is kept back, and returns what is then known, which it does not yet keep. Where it is refused it is
+    /// lost. What the terminal shows is not known afterwards.
+    fn catch_up(&mut self) -> Result<Encoder, TerminalFault>
+        ensures state { patient_state self.new ≡ patient_state self.old }
+        ensures encoder { self.new.encoder ≡ self.old.encoder }
+        ensures ahead { self.new.ahead ≡ settled_at self.old.ahead.size None }
+        ensures more { self.new.is_more ≡ self.old.is_more }
+        ensures sent { OnOk result (Appends (W.contents self.old.writer) (W.contents self.new.writer) (sent_ahead self.old.ahead self.old.encoder).bytes) }
+        ensures next { IfOk result (λ next. next ≡ (sent_ahead self.old.ahead self.old.encoder).next) }
+        ensures settled { self.old.ahead.kept ≡ [] → result ≡ Ok self.old.encoder }
+        ensures writer { self.old.ahead.kept ≡ [] → self.new.writer ≡ self.old.writer }
+    {
+        let size = self.ahead.size();
+        if self.ahead.is_settled() {
+            self.ahead = Ahead::new(size, None);
+            return Ok(self.encoder);
+        }
+        let mut text = String::new(self.alloc);
+        let encoded = self.ahead.send_kept(self.alloc, self.encoder, &mut text);
+        self.ahead = Ahead::new(size, None);
+        self.at_start = false;
+        let Ok(encoder) = encoded else {
+            return Err(TerminalFault::Memory);
+        };
+        self.write(text.as_str())?;
+        Ok(encoder)
+    }
+
+    /// Writes a text as it is.
+    fn write(&mut self, text: &str) -> Result<(), TerminalFault>
+        ensures state { patient_state self.new ≡ patient_state self.old }
+        ensures encoder { self.new.encoder ≡ self.old.encoder }
+        ensures ahead { self.new.ahead ≡ self.old.ahead }
+        ensures more { self.new.is_more ≡ self.old.is_more }
+        ensures sent { OnOk result (Appends (W.contents self.old.writer) (W.contents self.new.writer) text.now) }
+    {
+        match self.writer.write_all(text.as_bytes()) {
+            Ok(()) => Ok(()),
+            Err(_) => Err(TerminalFault::Device),
+        }
+    }
+
+    /// Sends a batch with what is kept back, in one write, by what is known after it. Where it is refused it is not
+    /// known what the terminal shows, and what was kept back is lost.
+    fn put(
+        &mut self,
+        changes: &[Change],
+        next: Option<Shown>,
+        is_joined: bool,
+    ) -> Result<(), TerminalFault>
+        requires known { IsKnownAfter self.old.ahead.size.cols self.old.ahead.size.rows (batch_view changes.now) (latest_known self.old.ahead) next }
+        requires joined { is_joined ≡ true → IsJoined (batch_view changes.now) self.old.ahead next }
+        requires groups { AreKnownSince self.old.ahead.size self.old.ahead.shown self.old.encoder (groups_with is_joined (batch_view changes.now) self.old.ahead next) }
+        ensures ok { OnOk result (Renders (batch_view changes.now) (patient_state self.old) (patient_state self.new)) }
+        ensures err { OnErr result (patient_state self.new ≡ patient_state self.old) }
+        ensures sent { OnOk result (SendsGroups W.contents (groups_with is_joined (batch_view changes.now) self.old.ahead next) self.old self.new) }
+        ensures shown { OnOk result (self.new.ahead.shown ≡ next) }
+        ensures more { OnOk result (self.new.is_more ≡ self.old.is_more) }
+        ensures known { OnErr result (self.new.encoder ≡ self.old.encoder) }
+        ensures lost { OnErr result (self.new.ahead ≡ settled_at self.old.ahead.size None) }
+        ensures last { OnErr result (self.new.is_more ≡ false) }
+    {
+        let mut text = String::new(self.alloc);
+        let encoded = self.ahead.send_with(
+            self.alloc,
+            changes,
+            &next,
+            is_joined,
+            self.encoder,
+            &mut text,
+        );
+        let was_more = self.is_more;
+        let size = self.ahead.size();
+        self.ahead = Ahead::new(size, None);
+        self.at_start = false;
+        self.is_more = false;
+        let Ok(encoder) = encoded else {
+            return Err(TerminalFault::Memory);
+        };
+        self.write(text.as_str())?;
+        self.encoder = encoder;
+        self.ahead = Ahead::new(size, next);
+        self.at_start = ends_at_start(changes);
+        self.is_more = was_more;
+        self.batches = self.batches.with_batch(changes);
+        Ok(())
+    }
+
+    /// Keeps a batch back where more is at hand and one difference takes it, and else sends it.
+    fn take(&mut self, changes: &[Change]) -> Result<(), TerminalFault>
+        ensures ok { OnOk result (Renders (batch_view changes.now) (patient_state self.old) (patient_state self.new)) }
+        ensures err { OnErr result (patient_state self.new ≡ patient_state self.old) }
+        ensures sent { OnOk result (IsTakenPatiently W.contents (batch_view changes.now) self.old self.new) }
+        ensures more { OnOk result (self.new.is_more ≡ self.old.is_more) }
+        ensures known { OnErr result (self.new.encoder ≡ self.old.encoder) }
+        ensures lost { OnErr result (self.new.ahead ≡ settled_at self.old.ahead.size None) }
+        ensures last { OnErr result (self.new.is_more ≡ false) }
+    {
+        let at_start = self.at_start && self.encoder == Encoder::new(self.ahead.size().cols);
+        let (next, is_joined) = self.ahead.known_after(self.alloc, at_start, changes);
+        if is_joined && self.is_more {
+            self.ahead.keep(changes, next);
+            self.batches = self.batches.with_batch(changes);
+            return Ok(());
+        }
+        self.put(changes, next, is_joined)
+    }
+}
+
+impl<W: Write> Terminal for PatientTerminal<W> {
+    ghost state = { patient_state };
+
+    ghost follows = { λ old new call. DoesPatiently W.contents old new (Called call) };
+
+    /// The size that its owner gave it. It is never refused.
+    fn get_screen_size(&mut self) -> Result<ScreenSize, TerminalFault>
+        ensures size { result ≡ Ok (patient_state self.old).size }
+        ensures kept { self.new ≡ self.old }
+        ensures follows { DoesPatiently W.contents self.old self.new (Called Other) }
+    {
+        Ok(self.ahead.size())
+    }
+
+    /// None, at every call. It is never refused.
+    fn poll_input(&mut self) -> Result<Option<InputEvent>, TerminalFault>
+        ensures none { result ≡ Ok None }
+        ensures kept { self.new ≡ self.old }
+        ensures follows { DoesPatiently W.contents self.old self.new (Called Other) }
+    {
+        Ok(None)
+    }
+
+    /// Keeps the batch back where more is at hand and one difference takes it with all that is kept back. Else what is
+    /// kept back and the batch are sent at once, in one write: as one difference, or one after the other, each as what
+    /// differs or by its changes. Where memory is refused, or the writer is, of which a beginning may have been sent,
+    /// the batch and those that were kept back are lost, and it is not known what the terminal shows. The next batch is
+    /// sent then, unless it is said once more that more is at hand.
+    fn render(&mut self, changes: &[Change]) -> Result<(), TerminalFault>
+        ensures ok { OnOk result (Renders (batch_view changes.now) (patient_state self.old) (patient_state self.new)) }
+        ensures err { OnErr result (RenderFails (batch_view changes.now) (patient_state self.old) (patient_state self.new)) }
+        ensures took { OnOk result (DoesPatiently W.contents self.old self.new (Called (Took (batch_view changes.now)))) }
+        ensures refused { OnErr result (DoesPatiently W.contents self.old self.new (Called Refused)) }
+    {
+        match self.take(changes) {
+            Ok(()) => Ok(()),
+            Err(fault) => {
+                self.failures = self.failures.saturating_add(1);
+                Err(fault)
+            }
+        }
+    }
+
+    /// Flushes the writer, to which it adds no byte. Where something is kept back it does nothing, and is not refused:
+    /// what is kept back is flushed with what is sent next.
+    fn flush(&mut self) -> Result<(), TerminalFault>
+        ensures ok { OnOk result (Flushes (patient_state self.old) (patient_state self.new)) }
+        ensures err { OnErr result (Fails (patient_state self.old) (patient_state self.new)) }
+        ensures known { self.new.encoder ≡ self.old.encoder }
+        ensures ahead { self.new.ahead ≡ self.old.ahead }
+        ensures more { self.new.is_more ≡ self.old.is_more }
+        ensures writer { Keeps (W.contents self.old.writer) (W.contents self.new.writer) }
+        ensures waits { (self.old.ahead.kept ≡ [] → ⊥) → (result ≡ Ok tt) × (self.new.writer ≡ self.old.writer) }
+        ensures follows { DoesPatiently W.contents self.old self.new (Called Other) }
+    {
+        if self.ahead.is_settled() && self.writer.flush().is_err() {
+            self.failures = self.failures.saturating_add(1);
+            return Err(TerminalFault::Device);
+        }
+        self.flushed = Snapshot::of(&self.batches);
+        Ok(())
+    }
+}
+
+impl<W: Write> DeviceTerminal for PatientTerminal<W> {
+    ghost does = { DoesPatiently W.contents };
+
+    ghost no_event = { λ it. refl };
+
+    ghost call_does = { λ old new call follows. follows };
+
+    fn set_screen_size(&mut self, size: ScreenSize) {
+        PatientTerminal::set_screen_size(self, size);
+    }
+
+    fn send(&mut self, text: &str) -> Result<(), TerminalFault> {
+        PatientTerminal::send(self, text)
+    }
+
+    fn set_more_at_hand(&mut self, is_more: bool) {
+        PatientTerminal::set_more_at_hand(self, is_more);
+    }
+}
