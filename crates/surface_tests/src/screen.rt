@@ -345,7 +345,7 @@ fn the_widest_screen_keeps_few_cells(rt: HostRuntime) -> Result<(), Fail> {
         let changes = format!(in rt.alloc(); "to {row} 0|Ok(())#text > line|Ok(())#")?;
         expect_played(&rt, rt.alloc(), &mut screen, changes.as_str())?;
     }
-    expect(&rt, &kept(rt.alloc(), &screen)?, &(6, 495));
+    expect(&rt, &kept(rt.alloc(), &screen)?, &(6, 594));
     expect(&rt, &screen.last_row(), &Some(99));
     let mut shown = String::new(rt.alloc());
     screen.push_row(99, 65_535, &mut shown)?;
