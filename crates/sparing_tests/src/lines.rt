@@ -1,13 +1,10 @@
 //! Lines that are painted one after the other.
 
-use crate::wire::{Shot, expect_last};
+use crate::wire::{Shot, USUAL, expect_last};
 use std::alloc::Global;
 use std::process::Abort;
 use std::test::Fail;
 use tw_terminal::ScreenSize;
-
-/// A terminal of 24 rows and 80 columns.
-const USUAL: ScreenSize = ScreenSize { rows: 24, cols: 80 };
 
 /// No write is refused.
 const NONE: usize = 0;

@@ -1,15 +1,12 @@
 //! Paintings that are kept back while more keys are at hand.
 
-use crate::wire::{Shot, Wire, changes_of};
+use crate::wire::{FIRST_PROMPT, Shot, USUAL, Wire, changes_of, expect_added};
 use std::alloc::Global;
 use std::process::Abort;
 use std::test::Fail;
 use tw_device::DeviceTerminal;
 use tw_sparing::PatientTerminal;
 use tw_terminal::{ScreenSize, Terminal};
-
-/// A terminal of 24 rows and 80 columns.
-const USUAL: ScreenSize = ScreenSize { rows: 24, cols: 80 };
 
 /// What is done to a terminal.
 #[derive(Clone, Copy)]
@@ -67,8 +64,7 @@ fn expect_last(
 ) -> Result<(), Fail> {
     let before = sent(alloc, refused, &deeds[..deeds.len().saturating_sub(1)])?;
     let all = sent(alloc, refused, deeds)?;
-    let last = &all.as_slice()[before.len().min(all.len())..];
-    assert!(rt; last == expected.as_bytes(), "{last:?}");
+    expect_added(rt, before.as_slice(), all.as_slice(), expected);
     Ok(())
 }
 
@@ -106,9 +102,8 @@ fn a_thousand_keys_are_sent_as_one_line(rt: HostRuntime) -> Result<(), Fail> {
         do_to(alloc, &mut terminal, Line(line.as_str(), typed < 1_000))?;
     }
     drop(terminal);
-    let first = "\r\x1b[K\x1b[C\x1b[J\r\x1b[0m> \r\x1b[2C".len();
     let count = taken.len();
-    assert!(rt; count == first + 1_000, "{count}");
+    assert!(rt; count == FIRST_PROMPT.len() + 1_000, "{count}");
     Ok(())
 }
 

@@ -1,16 +1,12 @@
 //! Lines that are read at a patient terminal.
 
-use crate::wire::Wire;
+use crate::wire::{FIRST_PROMPT, USUAL, Wire};
 use std::alloc::Global;
 use std::process::Abort;
 use std::test::Fail;
 use tw_device::{Answer, KeyReader, read_typed_line};
 use tw_lineedit::NopLineEditorHost;
 use tw_sparing::PatientTerminal;
-use tw_terminal::ScreenSize;
-
-/// What the prompt is sent as, at first.
-const PROMPT: &str = "\r\x1b[K\x1b[C\x1b[J\r\x1b[0m> \r\x1b[2C";
 
 /// The most bytes of a move, and of what a line is closed with.
 const MOVES: usize = 16;
@@ -23,8 +19,7 @@ fn expect_one_painting(
     line: &str,
 ) -> Result<(), Fail> {
     let mut taken = Vec::new(alloc);
-    let size = ScreenSize { rows: 24, cols: 80 };
-    let mut terminal = PatientTerminal::new(alloc, Wire::new(&mut taken, 0), size);
+    let mut terminal = PatientTerminal::new(alloc, Wire::new(&mut taken, 0), USUAL);
     let mut keys = KeyReader::new(alloc, typed.as_bytes());
     let mut host = NopLineEditorHost::new(alloc);
     let answer = read_typed_line(alloc, &mut keys, &mut terminal, &mut host, "> ");
@@ -32,7 +27,7 @@ fn expect_one_painting(
     assert!(rt; is_read, "{typed:?} is not read as {line:?}");
     drop(terminal);
     let count = taken.len();
-    assert!(rt; count <= PROMPT.len() + line.len() + MOVES, "{count}");
+    assert!(rt; count <= FIRST_PROMPT.len() + line.len() + MOVES, "{count}");
     Ok(())
 }
 

@@ -9,6 +9,12 @@ use tw_sparing::SparingTerminal;
 use tw_surface::{CellAttributes, Change, ColorAttribute, Position};
 use tw_terminal::{ScreenSize, Terminal};
 
+/// A terminal of 24 rows and 80 columns.
+pub const USUAL: ScreenSize = ScreenSize { rows: 24, cols: 80 };
+
+/// What a prompt of two columns is sent as, at first.
+pub const FIRST_PROMPT: &str = "\r\x1b[K\x1b[C\x1b[J\r\x1b[0m> \r\x1b[2C";
+
 /// A writer that keeps what it takes, and refuses one write, by its number from 1.
 #[derive(Drop)]
 pub struct Wire<'a> {
@@ -102,7 +108,12 @@ pub fn expect_last(
         &shots[..shots.len().saturating_sub(1)],
     )?;
     let all = sent(alloc, size, refused, shots)?;
-    let last = &all.as_slice()[before.len().min(all.len())..];
-    assert!(rt; last == expected.as_bytes(), "{last:?}");
+    expect_added(rt, before.as_slice(), all.as_slice(), expected);
     Ok(())
+}
+
+/// These bytes stand after those that were sent before.
+pub fn expect_added(rt: &impl Abort, before: &[u8], all: &[u8], expected: &str) {
+    let last = &all[before.len().min(all.len())..];
+    assert!(rt; last == expected.as_bytes(), "{last:?}");
 }
