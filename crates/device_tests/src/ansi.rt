@@ -212,6 +212,49 @@ fn changes_are_sent(rt: HostRuntime) -> Result<(), Fail> {
     Ok(())
 }
 
+/// A move of so many columns and rows, from a column of 80, is tersely sent as these bytes.
+fn expect_move(
+    rt: &impl Abort,
+    alloc: Global,
+    from: usize,
+    cols: isize,
+    rows: isize,
+    expected: &str,
+) -> Result<(), Fail> {
+    let mut encoder = Encoder::new(80);
+    let mut out = String::new(alloc);
+    encoder.encode(&move_to(Position::Absolute(from), 0), &mut out)?;
+    out.clear();
+    encoder.encode_tersely(&move_to(Position::Relative(cols), rows), &mut out)?;
+    assert!(rt;
+        out.as_str() == expected,
+        "{cols} columns, {rows} rows: {out:?}"
+    );
+    Ok(())
+}
+
+#[test]
+fn terse_moves_are_steps_from_the_cursor(rt: HostRuntime) -> Result<(), Fail> {
+    let moves = [
+        (10, -1, 0, "\x08"),
+        (10, -3, 0, "\x08\x08\x08"),
+        (10, -4, 0, "\x1b[4D"),
+        (10, -10, 0, "\r"),
+        (10, -99, 0, "\r"),
+        (10, 0, 0, ""),
+        (10, 1, 0, "\x1b[C"),
+        (10, 12, 0, "\x1b[12C"),
+        (10, 99, 0, "\x1b[69C"),
+        (10, 0, -1, "\x1b[A"),
+        (10, 2, -3, "\x1b[3A\x1b[2C"),
+        (0, 0, 1, "\n"),
+    ];
+    for &(from, cols, rows, expected) in &moves {
+        expect_move(&rt, rt.alloc(), from, cols, rows, expected)?;
+    }
+    Ok(())
+}
+
 #[test]
 fn the_last_column_is_kept(rt: HostRuntime) -> Result<(), Fail> {
     let alloc = rt.alloc();

@@ -1,7 +1,7 @@
 -- What a terminal shows once it has changed.
 use Rattle.std.proofs.Common.{◌≡◌, ℕ, ◌+◌, ◌-◌, ◌<◌, ◌≤◌, Bool, true, false, ◌&&◌, eqb, min, List, [], ◌∷◌, ◌++◌, length, take, get_or, refl, sym, ap, ◌∙◌, subst, arith, inl, inr, if◌then◌else◌}
 use Rattle.std.specs.List.{list_all}
-use Rattle.std.proofs.lemmas.Bool.{cases_lt, ne_eqb}
+use Rattle.std.proofs.lemmas.Bool.{cases_eq, cases_lt, ne_eqb}
 use Rattle.std.proofs.lemmas.List.{take_more, take_all}
 use Rattle.tw_strokes.specs.Strokes.{cleared_in}
 use Rattle.tw_screens.specs.StyledCells.{StyledCell, styled}
@@ -60,12 +60,13 @@ write_wrapped h w blank x t = by_waits t.waits
 pub led_there : (t : EcmaScreen StyledCell) (row col r c : ℕ) → row ≡ r → col ≡ c → record t { row = row; col = col; waits = false } ≡ record t { row = r; col = c; waits = false }
 led_there t row col r c e f = ap (λ x. record t { row = x; col = col; waits = false }) e ∙ ap (λ y. record t { row = r; col = y; waits = false }) f
 
--- what a sequence does, by where it leads up, to the right and down, and by whether no number or a 2 is written
-abbrev acted : ℕ → ℕ → EcmaScreen StyledCell → ℕ → ℕ → ℕ → Bool → Bool → EcmaScreen StyledCell
-acted w letter t up right down none two =
+-- what a sequence does, by where it leads up, to the right, to the left and down, and by whether no number or a 2 is written
+abbrev acted : ℕ → ℕ → EcmaScreen StyledCell → ℕ → ℕ → ℕ → ℕ → Bool → Bool → EcmaScreen StyledCell
+acted w letter t up right left down none two =
     let paper = styled.paper t.rendition.background in
     if eqb letter 65 then record t { row = up; waits = false }
     else if eqb letter 67 then record t { col = right; waits = false }
+    else if eqb letter 68 then record t { col = left; waits = false }
     else if eqb letter 72 then record t { row = down; col = 0; waits = false }
     else if eqb letter 74 && none then record t { cell = cleared_in t.cell t.row t.col paper }
     else if eqb letter 74 && two then record t { cell = λ r c. paper }
@@ -77,30 +78,31 @@ steps_large : (n : ℕ) → 0 < n → told_steps n ≡ n
 steps_large n some = ap (λ b. if b then 1 else n) (ne_eqb n 0 (λ e. omega arith))
 
 -- a number above all places leads as far as a greater one
-pub act_by_most : (h w n letter : ℕ) (t : EcmaScreen StyledCell) → h ≤ 65535 → w ≤ 65535 → t.row ≤ 65535
+pub act_by_most : (h w n letter : ℕ) (t : EcmaScreen StyledCell) → h ≤ 65535 → w ≤ 65535 → t.row ≤ 65535 → t.col ≤ 65535
     → act_by styled h w n letter t ≡ act_by styled h w (min n most) letter t
-act_by_most h w n letter t rows cols at = elim (cases_lt n most) [
+act_by_most h w n letter t rows cols at across = elim (cases_lt n most) [
   | inl less ↦ let same : n ≡ min n most = omega arith in ap (λ k. act_by styled h w k letter t) same
   | inr more ↦
       let top : min n most ≡ most = omega arith in
       let steps = steps_large n (omega arith) in
-      ap (λ k. acted w letter t (t.row - k) (min (w - 1) (t.col + k)) (min (h - 1) (k - 1)) (eqb n 0) (eqb n 2)) steps
-      ∙ ap (λ x. acted w letter t x (min (w - 1) (t.col + n)) (min (h - 1) (n - 1)) (eqb n 0) (eqb n 2)) (let e : t.row - n ≡ t.row - most = omega arith in e)
-      ∙ ap (λ x. acted w letter t (t.row - most) x (min (h - 1) (n - 1)) (eqb n 0) (eqb n 2)) (let e : min (w - 1) (t.col + n) ≡ min (w - 1) (t.col + most) = omega arith in e)
-      ∙ ap (λ x. acted w letter t (t.row - most) (min (w - 1) (t.col + most)) x (eqb n 0) (eqb n 2)) (let e : min (h - 1) (n - 1) ≡ min (h - 1) (most - 1) = omega arith in e)
-      ∙ ap (λ x. acted w letter t (t.row - most) (min (w - 1) (t.col + most)) (min (h - 1) (most - 1)) x (eqb n 2)) (ne_eqb n 0 (λ e. omega arith))
-      ∙ ap (λ x. acted w letter t (t.row - most) (min (w - 1) (t.col + most)) (min (h - 1) (most - 1)) false x) (ne_eqb n 2 (λ e. omega arith))
+      ap (λ k. acted w letter t (t.row - k) (min (w - 1) (t.col + k)) (t.col - k) (min (h - 1) (k - 1)) (eqb n 0) (eqb n 2)) steps
+      ∙ ap (λ x. acted w letter t x (min (w - 1) (t.col + n)) (t.col - n) (min (h - 1) (n - 1)) (eqb n 0) (eqb n 2)) (let e : t.row - n ≡ t.row - most = omega arith in e)
+      ∙ ap (λ x. acted w letter t (t.row - most) x (t.col - n) (min (h - 1) (n - 1)) (eqb n 0) (eqb n 2)) (let e : min (w - 1) (t.col + n) ≡ min (w - 1) (t.col + most) = omega arith in e)
+      ∙ ap (λ x. acted w letter t (t.row - most) (min (w - 1) (t.col + most)) x (min (h - 1) (n - 1)) (eqb n 0) (eqb n 2)) (let e : t.col - n ≡ t.col - most = omega arith in e)
+      ∙ ap (λ x. acted w letter t (t.row - most) (min (w - 1) (t.col + most)) (t.col - most) x (eqb n 0) (eqb n 2)) (let e : min (h - 1) (n - 1) ≡ min (h - 1) (most - 1) = omega arith in e)
+      ∙ ap (λ x. acted w letter t (t.row - most) (min (w - 1) (t.col + most)) (t.col - most) (min (h - 1) (most - 1)) x (eqb n 2)) (ne_eqb n 0 (λ e. omega arith))
+      ∙ ap (λ x. acted w letter t (t.row - most) (min (w - 1) (t.col + most)) (t.col - most) (min (h - 1) (most - 1)) false x) (ne_eqb n 2 (λ e. omega arith))
       ∙ sym (ap (λ k. act_by styled h w k letter t) top)
 ]
 
 -- a sequence of one number
-pub acts_by : (h w letter : ℕ) (ps : List ℕ) (t : EcmaScreen StyledCell) → h ≤ 65535 → w ≤ 65535 → t.row ≤ 65535 → (letter ≡ 109 → ⊥) → list_all is_digit ps ≡ true
+pub acts_by : (h w letter : ℕ) (ps : List ℕ) (t : EcmaScreen StyledCell) → h ≤ 65535 → w ≤ 65535 → t.row ≤ 65535 → t.col ≤ 65535 → (letter ≡ 109 → ⊥) → list_all is_digit ps ≡ true
     → act styled h w ps letter t ≡ act_by styled h w (min (value_after 0 ps) most) letter t
-acts_by h w letter ps t rows cols at other digits =
+acts_by h w letter ps t rows cols at across other digits =
     let done = act_by styled h w (value_after 0 ps) letter t in
     ap (λ b. if b then record t { rendition = selected ps t.rendition } else if list_all is_digit ps then done else t) (ne_eqb letter 109 other)
     ∙ ap (λ b. if b then done else t) digits
-    ∙ act_by_most h w (value_after 0 ps) letter t rows cols at
+    ∙ act_by_most h w (value_after 0 ps) letter t rows cols at across
 
 -- ---- how far a sequence was read
 
@@ -112,7 +114,10 @@ choice true x y = refl
 choice false x y = refl
 
 act_by_rests : (h w n letter : ℕ) (t : EcmaScreen StyledCell) → at_rest (act_by styled h w n letter t) ≡ act_by styled h w n letter (at_rest t)
-act_by_rests h w n letter t = simp choice
+act_by_rests h w n letter t = elim (cases_eq letter 65) [
+  | inl up ↦ rw up refl
+  | inr other ↦ rw (ne_eqb letter 65 other) (simp choice)
+]
 
 -- what a sequence does does not depend on that
 pub act_rests : (h w letter : ℕ) (ps : List ℕ) (t : EcmaScreen StyledCell) → at_rest (act styled h w ps letter t) ≡ act styled h w ps letter (at_rest t)

@@ -3,7 +3,7 @@
 ghost use Rattle.std.specs.Prelude.{◌≡◌, ◌<◌, ◌≤◌, ◌↔◌, ◌⊎◌, true, false, None, Some, Ok, Err, IfOk, IfErr, OnOk, OnErr};
 ghost use Rattle.tw_screens.specs.Screens.{blank_of};
 ghost use Rattle.tw_screens.specs.StyledCells.{styled};
-ghost use Rattle.tw_ansi.specs.EcmaScreen.{act, act_by, feed_line, receive, receive_all, receive_text, return_to_start, told_steps, write, write_here};
+ghost use Rattle.tw_ansi.specs.EcmaScreen.{act, act_by, feed_line, receive, receive_all, receive_text, return_to_start, step_back, told_steps, write, write_here};
 ghost use Rattle.tw_ansi.specs.EcmaScreen as terminal;
 ghost use Rattle.tw_ansi.specs.KeyBytes.{is_parameter};
 ghost use Rattle.styled_screen.specs.StyledScreens.{styled_cell};
@@ -25,6 +25,8 @@ use tw_surface::{CellAttributes, ColorAttribute};
 const MOST: usize = 65_535;
 
 const ESC: u8 = 0x1b;
+
+const BS: u8 = 0x08;
 
 /// How far a control sequence was read.
 #[derive(Debug, Drop)]
@@ -158,6 +160,14 @@ impl EcmaTerminal {
         self.waits = false;
     }
 
+    /// One column to the left.
+    fn step_back(&mut self)
+        ensures { Becomes self.old step_back self.new }
+    {
+        self.col = self.col.saturating_sub(1);
+        self.waits = false;
+    }
+
     /// Writes a cell at the cursor, which moves on, and waits where that was the last column.
     fn write_here(&mut self, cell: ScreenCell)
         ensures { Becomes self.old (write_here self.old.grid.cols (styled_cell cell)) self.new }
@@ -206,6 +216,7 @@ impl EcmaTerminal {
         match (letter, number) {
             (b'A', _) => self.lead_to(row.saturating_sub(steps), col),
             (b'C', _) => self.lead_to(row, last_col.min(col + steps)),
+            (b'D', _) => self.lead_to(row, col.saturating_sub(steps)),
             (b'H', _) => self.lead_to(last_row.min(steps - 1), 0),
             (b'J', 0) => self.grid.clear_behind(row, col, paper),
             (b'J', 2) => self.grid.clear(paper),
@@ -254,6 +265,7 @@ impl EcmaTerminal {
             ESC => self.reading = Reading::Escaped,
             b'\r' => self.return_to_start(),
             b'\n' => self.feed_line(),
+            BS => self.step_back(),
             b' '..=b'~' => self.write(char::from(byte)),
             _ => {}
         }

@@ -10,20 +10,20 @@ use Rattle.tw_strokes.proofs.SeenRows.{steps_on-append}
 use Rattle.tw_screens.specs.Pens.{Pen, change_strokes, strokes_of, kept_after}
 use Rattle.tw_screens.specs.Screens.{blank_of}
 use Rattle.tw_ansi.specs.declared.encode.Encoder.{Encoder}
-use Rattle.tw_ansi.specs.Encoding.{Sent, sent_change, sent_batch, at_column, parted_from_wait}
+use Rattle.tw_ansi.specs.Encoding.{Sent, sent_change, sent_batch, terse_change, terse_batch, at_column, parted_from_wait}
 use Rattle.tw_ansi.specs.Sequences.{set_attribute, set_attributes, to_column, to_first_cell, clear_below, clear_rows, clear_all, clear_with, up_a_row}
 use Rattle.tw_ansi.specs.EcmaScreen.{EcmaScreen, receive_all, row_cleared, feed_line, return_to_start}
 use Rattle.tw_ansi.specs.EcmaScreen as terminal
 use Rattle.tw_ansi.specs.EcmaLaws.{at_rest, IsColor, rows_cleared}
 use Rattle.tw_ansi.specs.EcmaTexts.{IsOfRows, ShowsPicture}
-use Rattle.tw_ansi.specs.EcmaBatches.{CarriesAttributes, IsSendable, FirstIsShown, ChangeIsShown, BatchIsShown}
+use Rattle.tw_ansi.specs.EcmaBatches.{CarriesAttributes, IsSendable, FirstIsShown, ChangeIsShown, BatchIsShown, AreSendable, TerseBatchIsShown}
 use Rattle.tw_ansi.proofs.EcmaSequences.{received, columns_are_reached}
 use Rattle.tw_ansi.proofs.EcmaRenditions.{attribute_is_selected, attributes_are_selected}
 use Rattle.tw_ansi.proofs.EcmaClearings.{clears_below, clears_rows, clears_all}
 use Rattle.tw_ansi.proofs.EcmaTexts.{plain_text_is_shown}
 use Rattle.tw_ansi.proofs.KnownTerminals.{keeps_text, clear_keeps}
 use Rattle.tw_ansi.proofs.EcmaScrolls.{still}
-use Rattle.tw_ansi.proofs.EcmaMoves.{move_shown}
+use Rattle.tw_ansi.proofs.EcmaMoves.{move_shown, terse_move_shown}
 
 -- ---- cells that are cleared
 
@@ -327,3 +327,42 @@ module _ {A C : Type 0} (pen : Pen A C) where
       (subst (λ v. ShowsPicture pen h w end (receive_all pen h w (sent_batch batch x.next).bytes (receive_all pen h w x.bytes t)) v)
       (sym (steps_on-append (Some h) w strokes (more (kept_after pen (pen.attributes e.attributes) change)) s
       ∙ ap (λ kept. steps_on (Some h) w (more kept) drawn) (keeps_change h w change e s carries fits.0))) rest)
+
+  -- ---- batches whose moves take few bytes
+
+  terse_is_shown : (h w : ℕ) (change : ChangeView) (e : Encoder) (t : EcmaScreen C) (s : PictureOf C) → 0 < w → w < 2 ^ 64 → IsSendable pen h w e change s → ShowsPicture pen h w e t s
+      → ShowsPicture pen h w (terse_change change e).next (receive_all pen h w (terse_change change e).bytes t) (steps_on (Some h) w (change_strokes pen (pen.attributes e.attributes) change) s)
+  terse_is_shown h w (CursorPosition x y) e t s some small fits a = terse_move_shown pen h w x y e t s some small fits a
+  terse_is_shown h w (Text text) e t s some small fits a = change_is_shown h w (Text text) e t s some small fits a
+  terse_is_shown h w (Attribute change) e t s some small fits a = change_is_shown h w (Attribute change) e t s some small fits a
+  terse_is_shown h w (AllAttributes to) e t s some small fits a = change_is_shown h w (AllAttributes to) e t s some small fits a
+  terse_is_shown h w (ClearScreen color) e t s some small fits a = change_is_shown h w (ClearScreen color) e t s some small fits a
+  terse_is_shown h w (ClearToEndOfScreen color) e t s some small fits a = change_is_shown h w (ClearToEndOfScreen color) e t s some small fits a
+
+  -- the same is known then
+  pub terse_next : (change : ChangeView) (e : Encoder) → (terse_change change e).next ≡ (sent_change change e).next
+  terse_next (CursorPosition x y) e = refl
+  terse_next (Text text) e = refl
+  terse_next (Attribute change) e = refl
+  terse_next (AllAttributes to) e = refl
+  terse_next (ClearScreen color) e = refl
+  terse_next (ClearToEndOfScreen color) e = refl
+
+  pub terse_batch_is_shown : TerseBatchIsShown pen
+  terse_batch_is_shown h w [] e t s carries some small fits a = a
+  terse_batch_is_shown h w (change ∷ batch) e t s carries some small fits a =
+      let x : Sent = terse_change change e in
+      let strokes : List (Stroke C) = change_strokes pen (pen.attributes e.attributes) change in
+      let drawn : PictureOf C = steps_on (Some h) w strokes s in
+      let first = terse_is_shown h w change e t s some small fits.0 a in
+      let fits_then : AreSendable pen h w (terse_change change e).next batch drawn = subst (λ n. AreSendable pen h w n batch drawn) (sym (terse_next change e)) fits.1 in
+      let rest = terse_batch_is_shown h w batch x.next (receive_all pen h w x.bytes t) drawn carries some small fits_then first in
+      let more : A → List (Stroke C) = λ kept. strokes_of pen kept batch in
+      let end : Encoder = (terse_batch batch x.next).next in
+      let keeps : kept_after pen (pen.attributes e.attributes) change ≡ pen.attributes (terse_change change e).next.attributes =
+      keeps_change h w change e s carries fits.0 ∙ ap (λ (n : Encoder). pen.attributes n.attributes) (sym (terse_next change e)) in
+      subst (λ u. ShowsPicture pen h w end u (steps_on (Some h) w (strokes_of pen (pen.attributes e.attributes) (change ∷ batch)) s))
+      (sym (received pen h w x.bytes (terse_batch batch x.next).bytes t))
+      (subst (λ v. ShowsPicture pen h w end (receive_all pen h w (terse_batch batch x.next).bytes (receive_all pen h w x.bytes t)) v)
+      (sym (steps_on-append (Some h) w strokes (more (kept_after pen (pen.attributes e.attributes) change)) s
+      ∙ ap (λ kept. steps_on (Some h) w (more kept) drawn) keeps)) rest)

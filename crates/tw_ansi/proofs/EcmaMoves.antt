@@ -1,7 +1,7 @@
 -- A terminal that is sent a move shows the picture on which it was drawn.
-use Rattle.std.proofs.Common.{Some, ◌≡◌, ◌≤◌, ◌<◌, ◌+◌, ◌-◌, ◌^◌, ℕ, ℤ, zero, suc, pos, negsuc, ◌+ℤ◌, true, false, ◌&&◌, min, replicate, codes, ap, subst, ◌∙◌, sym, refl, arith}
+use Rattle.std.proofs.Common.{Some, ◌≡◌, ◌≤◌, ◌<◌, ◌+◌, ◌-◌, ◌^◌, ℕ, ℤ, zero, suc, pos, negsuc, ◌+ℤ◌, Bool, true, false, not, ◌&&◌, cond, eqb, ltb, min, replicate, List, ◌++◌, codes, ap, subst, ◌∙◌, sym, refl, arith}
 use Rattle.std.specs.Fmt.{decimal}
-use Rattle.std.proofs.lemmas.Bool.{ne_eqb}
+use Rattle.std.proofs.lemmas.Bool.{ne_eqb, ltb-true}
 use Rattle.std.proofs.lemmas.Int.{ints}
 use Rattle.tw_surface.specs.declared.cell.CellAttributes.{CellAttributes}
 use Rattle.tw_surface.specs.declared.change.Position.{Position}
@@ -12,14 +12,14 @@ use Rattle.tw_surface.specs.Positions.{position_after, at_least_0}
 use Rattle.tw_screens.specs.Pens.{Pen, change_strokes}
 use Rattle.tw_screens.specs.Screens.{blank_of}
 use Rattle.tw_ansi.specs.declared.encode.Encoder.{Encoder}
-use Rattle.tw_ansi.specs.Encoding.{sent_change, at_column, column_of}
-use Rattle.tw_ansi.specs.Sequences.{to_column, to_row, sequence, most_rows}
+use Rattle.tw_ansi.specs.Encoding.{sent_change, terse_change, at_column, column_of}
+use Rattle.tw_ansi.specs.Sequences.{to_column, to_row, along_column, along_row, up_a_row, sequence, most_rows}
 use Rattle.tw_ansi.specs.EcmaScreen.{EcmaScreen, receive, receive_all, receive_by, feed_line, told_steps}
 use Rattle.tw_ansi.specs.EcmaScreen as terminal
 use Rattle.tw_ansi.specs.EcmaLaws.{at_rest}
 use Rattle.tw_ansi.specs.EcmaTexts.{IsOfRows, ShowsPicture}
 use Rattle.tw_ansi.specs.EcmaBatches.{IsReached}
-use Rattle.tw_ansi.proofs.EcmaSequences.{received, columns_are_reached, rows_above_are_reached, numbered, steps_taken}
+use Rattle.tw_ansi.proofs.EcmaSequences.{received, columns_are_reached, along_rows_are_reached, rows_above_are_reached, numbered, steps_taken}
 use Rattle.tw_ansi.proofs.EcmaScrolls.{Fed, fed}
 
 -- the terminal shows the rows of a picture, wherever the cursor stands in its row, and these attributes are selected
@@ -29,6 +29,12 @@ pub record Rows {A C : Type 0} (pen : Pen A C) (to : CellAttributes) (h w : ℕ)
   pub row : t.row ≡ s.row
   pub reading : t.reading ≡ terminal.Text
   pub rendition : t.rendition ≡ to
+
+-- the cursor stands in this column, and does not wait
+pub record Stands {C : Type 0} (at : ℕ) (u : EcmaScreen C) : Type 0 where
+  pub col : u.col ≡ at
+  pub waits : u.waits ≡ false
+  pub reading : u.reading ≡ terminal.Text
 
 rows_up : (m n : ℕ) → m - (n + 1) ≡ at_least_0 (pos m +ℤ negsuc n)
 rows_up m n = by_sign (pos m +ℤ negsuc n) refl
@@ -97,28 +103,88 @@ module _ {A C : Type 0} (pen : Pen A C) (to : CellAttributes) where
       after_one h w n _ s a.within (feeds_down h w n (receive pen h w 10 t) (scrolled (Some h) (lowered 1 s)) first)
 
 module _ {A C : Type 0} (pen : Pen A C) where
+  -- in a column of the row
+  column_held : (h w col : ℕ) (e : Encoder) (u : EcmaScreen C) (s : PictureOf C) → col < w → e.cols ≡ w → Rows pen e.attributes h w u s
+      → ShowsPicture pen h w (at_column col e) (record u { col = col; waits = false; reading = terminal.Text }) (record s { col = col })
+  column_held h w col e u s inside cols a = record {
+    within = record { row = a.within.row; below = a.within.below };
+    edge = omega (arith, inside);
+    cells = a.cells;
+    row = a.row;
+    col = omega (arith, inside);
+    waits = ap (λ x. x && true) (sym (ne_eqb col w (λ q. omega (arith, q, inside))));
+    parted = λ x. absurd (cc x);
+    reading = refl;
+    rendition = a.rendition;
+    cols = cols;
+    x = refl;
+  }
+
   -- to a column of the row
   pub column_shown : (h w col : ℕ) (e : Encoder) (u : EcmaScreen C) (s : PictureOf C) → col < w → w < 2 ^ 64 → e.cols ≡ w → Rows pen e.attributes h w u s
       → ShowsPicture pen h w (at_column col e) (receive_all pen h w (to_column col) u) (record s { col = col })
   column_shown h w col e u s inside small cols a =
       let rest : u ≡ record u { reading = terminal.Text } = ap (λ r. record u { reading = r }) a.reading in
-      let there : EcmaScreen C = record u { col = col; waits = false; reading = terminal.Text } in
-      let is : receive_all pen h w (to_column col) u ≡ there =
+      let is : receive_all pen h w (to_column col) u ≡ record u { col = col; waits = false; reading = terminal.Text } =
       ap (λ x. receive_all pen h w (to_column col) x) rest ∙ columns_are_reached pen h w col u inside (omega (arith, small, inside)) in
-      let shown : ShowsPicture pen h w (at_column col e) there (record s { col = col }) = record {
-        within = record { row = a.within.row; below = a.within.below };
-        edge = omega (arith, inside);
-        cells = a.cells;
-        row = a.row;
-        col = omega (arith, inside);
-        waits = ap (λ x. x && true) (sym (ne_eqb col w (λ q. omega (arith, q, inside))));
-        parted = λ x. absurd (cc x);
-        reading = refl;
-        rendition = a.rendition;
-        cols = cols;
-        x = refl;
-      } in
-      subst (λ v. ShowsPicture pen h w (at_column col e) v (record s { col = col })) (sym is) shown
+      subst (λ v. ShowsPicture pen h w (at_column col e) v (record s { col = col })) (sym is) (column_held h w col e u s inside cols a)
+
+  -- from the column of the cursor, which does not wait, to another one of the row
+  pub along_shown : (h w from col : ℕ) (e : Encoder) (u : EcmaScreen C) (s : PictureOf C) → from < w → col < w → w < 2 ^ 64 → e.cols ≡ w → Rows pen e.attributes h w u s → Stands from u
+      → ShowsPicture pen h w (at_column col e) (receive_all pen h w (along_row from col) u) (record s { col = col })
+  along_shown h w from col e u s left inside small cols a stands =
+      let rest : u ≡ record u { waits = false; reading = terminal.Text } = ap (λ r. record u { reading = r }) a.reading ∙ ap (λ b. record u { waits = b; reading = terminal.Text }) stands.waits in
+      let is : receive_all pen h w (along_row from col) u ≡ record u { col = col; waits = false; reading = terminal.Text } =
+      ap (λ x. receive_all pen h w (along_row from col) x) rest
+      ∙ ap (λ c. receive_all pen h w (along_row c col) (record u { waits = false; reading = terminal.Text })) (sym stands.col)
+      ∙ along_rows_are_reached pen h w col u (omega (arith, stands.col, left)) inside small in
+      subst (λ v. ShowsPicture pen h w (at_column col e) v (record s { col = col })) (sym is) (column_held h w col e u s inside cols a)
+
+  -- up by some rows
+  up_is : (h w n : ℕ) (t : EcmaScreen C) → n < most_rows → t.reading ≡ terminal.Text
+      → receive_all pen h w (to_row (Relative (negsuc n))) t ≡ record t { row = t.row - (n + 1); waits = false; reading = terminal.Text }
+  up_is h w n t reached reading =
+      ap (λ x. receive_all pen h w (to_row (Relative (negsuc n))) x) (let rest : t ≡ record t { reading = terminal.Text } = ap (λ r. record t { reading = r }) reading in rest)
+      ∙ rows_above_are_reached pen h w n t reached
+
+  -- to a row by its number
+  line_is : (h w row : ℕ) (t : EcmaScreen C) → row < h → row ≤ most_rows → t.reading ≡ terminal.Text
+      → receive_all pen h w (to_row (Absolute row)) t ≡ record t { row = row; waits = false; reading = terminal.Text }
+  line_is h w row t inside low reading =
+      let rest : t ≡ record t { reading = terminal.Text } = ap (λ r. record t { reading = r }) reading in
+      let number : min row most_rows + 1 ≡ row + 1 = omega (arith, low) in
+      let steps_is = steps_taken (row + 1) (omega arith) in
+      let line : min (h - 1) (told_steps (row + 1) - 1) ≡ row = omega (arith, steps_is, inside) in
+      ap (λ x. receive_all pen h w (to_row (Absolute row)) x) rest
+      ∙ ap (λ k. receive_all pen h w (sequence (decimal k) (codes "d")) (at_rest t)) number
+      ∙ numbered pen h w (row + 1) 100 t (omega (arith, low)) refl refl
+      ∙ ap (λ k. record t { row = k; waits = false; reading = terminal.Text }) line
+
+  -- line feeds leave the column
+  feeds_stand : (h w n col : ℕ) (t : EcmaScreen C) → Stands col t → Stands col (receive_all pen h w (replicate n 10) t)
+  feeds_stand h w zero col t a = a
+  feeds_stand h w (suc n) col t a =
+      let is : receive pen h w 10 t ≡ feed_line (blank_of pen) h t = ap (λ r. receive_by pen h w r 10 t) a.reading in
+      feeds_stand h w n col (receive pen h w 10 t) (subst (Stands col) (sym is) (by_last (eqb (t.row + 1) h)))
+    where
+      by_last : (b : Bool) → Stands col (cond b (record t { cell = λ r c. cond (ltb (r + 1) h) (t.cell (r + 1) c) (blank_of pen); waits = false }) (record t { row = t.row + 1; waits = false }))
+      by_last true = record { col = a.col; waits = refl; reading = a.reading }
+      by_last false = record { col = a.col; waits = refl; reading = a.reading }
+
+  -- what leads to a row leaves the column
+  row_stands : (h w : ℕ) (y : Position) (col : ℕ) (t : EcmaScreen C) → IsReached h y → Stands col t → Stands col (receive_all pen h w (to_row y) t)
+  row_stands h w (Relative (pos n)) col t reached a = feeds_stand h w (min n most_rows) col t a
+  row_stands h w (Relative (negsuc n)) col t reached a = subst (Stands col) (sym (up_is h w n t reached a.reading)) (record { col = a.col; waits = refl; reading = refl })
+  row_stands h w (Absolute row) col t reached a = subst (Stands col) (sym (line_is h w row t reached.0 reached.1 a.reading)) (record { col = a.col; waits = refl; reading = refl })
+
+  -- the shorter bytes do the same
+  same_row : (h w : ℕ) (y : Position) (t : EcmaScreen C) → IsReached h y → t.reading ≡ terminal.Text → receive_all pen h w (along_column y) t ≡ receive_all pen h w (to_row y) t
+  same_row h w (Relative (negsuc zero)) t reached reading =
+      ap (λ x. receive_all pen h w up_a_row x) (let rest : t ≡ record t { reading = terminal.Text } = ap (λ r. record t { reading = r }) reading in rest)
+      ∙ sym (up_is h w 0 t reached reading)
+  same_row h w (Relative (negsuc (suc n))) t reached reading = refl
+  same_row h w (Relative (pos n)) t reached reading = refl
+  same_row h w (Absolute row) t reached reading = refl
 
   -- the terminal after the bytes that lead to a row
   row_shown : (h w : ℕ) (y : Position) (e : Encoder) (t : EcmaScreen C) (s : PictureOf C) → IsReached h y → ShowsPicture pen h w e t s
@@ -128,12 +194,9 @@ module _ {A C : Type 0} (pen : Pen A C) where
       let all : min n most_rows ≡ n = omega (arith, reached) in
       subst (λ k. Rows pen e.attributes h w (receive_all pen h w (replicate k 10) t) (scrolled (Some h) (lowered n s))) (sym all) (feeds_down pen e.attributes h w n t s rows)
   row_shown h w (Relative (negsuc n)) e t s reached a =
-      let rest : t ≡ record t { reading = terminal.Text } = ap (λ r. record t { reading = r }) a.reading in
       let up : EcmaScreen C = record t { row = t.row - (n + 1); waits = false; reading = terminal.Text } in
-      let is : receive_all pen h w (to_row (Relative (negsuc n))) t ≡ up =
-      ap (λ x. receive_all pen h w (to_row (Relative (negsuc n))) x) rest ∙ rows_above_are_reached pen h w n t reached in
       let there : s.row - (n + 1) ≡ at_least_0 (pos s.row +ℤ negsuc n) = rows_up s.row n in
-      subst (λ u. Rows pen e.attributes h w u (scrolled (Some h) (record s { row = at_least_0 (pos s.row +ℤ negsuc n) }))) (sym is)
+      subst (λ u. Rows pen e.attributes h w u (scrolled (Some h) (record s { row = at_least_0 (pos s.row +ℤ negsuc n) }))) (sym (up_is h w n t reached a.reading))
       (subst (λ k. Rows pen e.attributes h w up (scrolled (Some h) (record s { row = k }))) there
       (stays pen e.attributes h w up (record s { row = s.row - (n + 1) }) (record {
         within = record { row = omega (arith, a.within.row); below = a.within.below };
@@ -143,37 +206,58 @@ module _ {A C : Type 0} (pen : Pen A C) where
         rendition = a.rendition;
       })))
   row_shown h w (Absolute row) e t s reached a =
-      let inside : row < h = reached.0 in
-      let low : row ≤ most_rows = reached.1 in
-      let rest : t ≡ record t { reading = terminal.Text } = ap (λ r. record t { reading = r }) a.reading in
-      let there : EcmaScreen C = record t { row = row; waits = false; reading = terminal.Text } in
-      let number : min row most_rows + 1 ≡ row + 1 = omega (arith, low) in
-      let steps_is = steps_taken (row + 1) (omega arith) in
-      let line : min (h - 1) (told_steps (row + 1) - 1) ≡ row = omega (arith, steps_is, inside) in
-      let is : receive_all pen h w (to_row (Absolute row)) t ≡ there =
-      ap (λ x. receive_all pen h w (to_row (Absolute row)) x) rest
-      ∙ ap (λ k. receive_all pen h w (sequence (decimal k) (codes "d")) (at_rest t)) number
-      ∙ numbered pen h w (row + 1) 100 t (omega (arith, low)) refl refl
-      ∙ ap (λ k. record t { row = k; waits = false; reading = terminal.Text }) line in
-      subst (λ u. Rows pen e.attributes h w u (scrolled (Some h) (record s { row = row }))) (sym is)
-      (stays pen e.attributes h w there (record s { row = row }) (record {
-        within = record { row = inside; below = a.within.below };
+      subst (λ u. Rows pen e.attributes h w u (scrolled (Some h) (record s { row = row }))) (sym (line_is h w row t reached.0 reached.1 a.reading))
+      (stays pen e.attributes h w (record t { row = row; waits = false; reading = terminal.Text }) (record s { row = row }) (record {
+        within = record { row = reached.0; below = a.within.below };
         cells = a.cells;
         row = refl;
         reading = refl;
         rendition = a.rendition;
       }))
 
+  module _ (h w : ℕ) (x y : Position) (e : Encoder) (t : EcmaScreen C) (s : PictureOf C) (some : 0 < w) (small : w < 2 ^ 64) (reached : IsReached h y) (a : ShowsPicture pen h w e t s) where
+    abbrev lower : PictureOf C
+    lower = scrolled (Some h) (record s { row = at_least_0 (position_after y (pos s.row)) })
+
+    moved_col : column_of x e ≡ min (w - 1) (at_least_0 (position_after x (pos s.col)))
+    moved_col = ap (λ n. min (n - 1) (at_least_0 (position_after x (pos e.x)))) a.cols ∙ ap (λ n. min (w - 1) (at_least_0 (position_after x (pos n)))) a.x
+
+    -- bytes that lead to the row and to the column
+    abbrev AreMoves : List ℕ → Type 0
+    AreMoves bytes = ShowsPicture pen h w (at_column (column_of x e) e) (receive_all pen h w bytes t) (steps_on (Some h) w (change_strokes pen (pen.attributes e.attributes) (CursorPosition x y)) s)
+
+    -- first to the row, and then to the column
+    both : (first second : List ℕ) → ShowsPicture pen h w (at_column (column_of x e) e) (receive_all pen h w second (receive_all pen h w first t)) (record lower { col = column_of x e })
+        → AreMoves (first ++ second)
+    both first second shown =
+        subst (λ v. ShowsPicture pen h w (at_column (column_of x e) e) v (steps_on (Some h) w (change_strokes pen (pen.attributes e.attributes) (CursorPosition x y)) s)) (sym (received pen h w first second t))
+        (subst (λ c. ShowsPicture pen h w (at_column (column_of x e) e) (receive_all pen h w second (receive_all pen h w first t)) (record lower { col = c })) moved_col shown)
+
+    pub from_start : AreMoves (to_row y ++ to_column (column_of x e))
+    from_start =
+        both (to_row y) (to_column (column_of x e))
+        (column_shown h w (column_of x e) e (receive_all pen h w (to_row y) t) lower (omega (arith, moved_col, some)) small a.cols (row_shown h w y e t s reached a))
+
+    pub from_cursor : e.x < e.cols → AreMoves (along_column y ++ along_row e.x (column_of x e))
+    from_cursor inside =
+        let left : e.x < w = omega (arith, inside, a.cols) in
+        let waits : t.waits ≡ false = a.waits ∙ ap (λ b. b && not e.parted) (ne_eqb s.col w (λ q. omega (arith, q, a.x, left))) in
+        let stands : Stands e.x t = record { col = omega (arith, a.col, a.x, left); waits = waits; reading = a.reading } in
+        let down : EcmaScreen C = receive_all pen h w (to_row y) t in
+        both (along_column y) (along_row e.x (column_of x e))
+        (subst (λ u. ShowsPicture pen h w (at_column (column_of x e) e) (receive_all pen h w (along_row e.x (column_of x e)) u) (record lower { col = column_of x e }))
+        (sym (same_row h w y t reached a.reading))
+        (along_shown h w e.x (column_of x e) e down lower left (omega (arith, moved_col, some)) small a.cols (row_shown h w y e t s reached a) (row_stands h w y e.x t reached stands)))
+
   pub move_shown : (h w : ℕ) (x y : Position) (e : Encoder) (t : EcmaScreen C) (s : PictureOf C) → 0 < w → w < 2 ^ 64 → IsReached h y → ShowsPicture pen h w e t s
       → ShowsPicture pen h w (sent_change (CursorPosition x y) e).next (receive_all pen h w (sent_change (CursorPosition x y) e).bytes t) (steps_on (Some h) w (change_strokes pen (pen.attributes e.attributes) (CursorPosition x y)) s)
-  move_shown h w x y e t s some small reached a =
-      let col : ℕ = column_of x e in
-      let is : column_of x e ≡ min (w - 1) (at_least_0 (position_after x (pos s.col))) =
-      ap (λ n. min (n - 1) (at_least_0 (position_after x (pos e.x)))) a.cols ∙ ap (λ n. min (w - 1) (at_least_0 (position_after x (pos n)))) a.x in
-      let inside : column_of x e < w = omega (arith, is, some) in
-      let u : EcmaScreen C = receive_all pen h w (to_row y) t in
-      let rows = row_shown h w y e t s reached a in
-      let lower : PictureOf C = scrolled (Some h) (record s { row = at_least_0 (position_after y (pos s.row)) }) in
-      let shown = column_shown h w (column_of x e) e u lower inside small a.cols rows in
-      subst (λ v. ShowsPicture pen h w (at_column (column_of x e) e) v (steps_on (Some h) w (change_strokes pen (pen.attributes e.attributes) (CursorPosition x y)) s)) (sym (received pen h w (to_row y) (to_column (column_of x e)) t))
-      (subst (λ c. ShowsPicture pen h w (at_column (column_of x e) e) (receive_all pen h w (to_column (column_of x e)) u) (record lower { col = c })) is shown)
+  move_shown h w x y e t s some small reached a = from_start h w x y e t s some small reached a
+
+  pub terse_move_shown : (h w : ℕ) (x y : Position) (e : Encoder) (t : EcmaScreen C) (s : PictureOf C) → 0 < w → w < 2 ^ 64 → IsReached h y → ShowsPicture pen h w e t s
+      → ShowsPicture pen h w (terse_change (CursorPosition x y) e).next (receive_all pen h w (terse_change (CursorPosition x y) e).bytes t) (steps_on (Some h) w (change_strokes pen (pen.attributes e.attributes) (CursorPosition x y)) s)
+  terse_move_shown h w x y e t s some small reached a = by_place (ltb e.x e.cols) refl
+    where
+      by_place : (b : Bool) → ltb e.x e.cols ≡ b
+          → AreMoves h w x y e t s some small reached a (cond b (along_column y ++ along_row e.x (column_of x e)) (to_row y ++ to_column (column_of x e)))
+      by_place true is = from_cursor h w x y e t s some small reached a (ltb-true e.x e.cols is)
+      by_place false is = from_start h w x y e t s some small reached a

@@ -1,15 +1,15 @@
 -- What a terminal does at each move that is sent.
-use Rattle.std.proofs.Common.{◌≡◌, ◌<◌, ◌+◌, ◌-◌, ◌^◌, ℕ, eqb, true, false, cond, min, List, [], ◌∷◌, ◌++◌, codes, arith, ap, ◌∙◌, sym, refl, inl, inr, ◌⊎◌, append_assoc, append-nil}
+use Rattle.std.proofs.Common.{◌≡◌, ◌<◌, ◌≤◌, ◌+◌, ◌-◌, ◌^◌, ℕ, zero, suc, Bool, eqb, ltb, leb, true, false, cond, min, replicate, List, [], ◌∷◌, ◌++◌, codes, arith, ap, ◌∙◌, sym, refl, inl, inr, ◌⊎◌, append_assoc, append-nil}
 use Rattle.std.specs.Fmt.{decimal}
 use Rattle.std.specs.List.{list_all}
-use Rattle.std.proofs.lemmas.Bool.{eq-eqb, ne_eqb, cases_eq, and_parts}
+use Rattle.std.proofs.lemmas.Bool.{eq-eqb, eqb-true, ne_eqb, ltb-true, ltb-false, cases_eq, and_parts, false≢true}
 use Rattle.tw_screens.specs.Pens.{Pen}
 use Rattle.tw_ansi.specs.KeyBytes.{is_digit, is_parameter, value_after}
-use Rattle.tw_ansi.specs.Sequences.{sequence, to_column, most_rows}
+use Rattle.tw_ansi.specs.Sequences.{sequence, step_count, along_row, to_column, most_rows}
 use Rattle.tw_ansi.specs.EcmaScreen.{EcmaScreen, receive, receive_all, told_steps, act, act_by}
 use Rattle.tw_ansi.specs.EcmaScreen as terminal
 use Rattle.tw_ansi.specs.Selections.{selected}
-use Rattle.tw_ansi.specs.EcmaLaws.{at_rest, ColumnsAreReached, RowsAboveAreReached}
+use Rattle.tw_ansi.specs.EcmaLaws.{at_rest, ColumnsAreReached, AlongRowsAreReached, RowsAboveAreReached}
 use Rattle.tw_ansi.proofs.Numbers.{decimal_value, decimal_digits, decimal_parameters}
 
 -- a number of steps that is not 0
@@ -53,6 +53,75 @@ module _ {A C : Type 0} (pen : Pen A C) where
       ∙ ap (λ x. record (cond x (record read { rendition = selected (decimal n) t.rendition }) (cond (list_all is_digit (decimal n)) (act_by pen h w value letter read) read)) { reading = terminal.Text }) other
       ∙ ap (λ x. record (cond x (act_by pen h w value letter read) read) { reading = terminal.Text }) (decimal_digits n small)
       ∙ ap (λ k. record (act_by pen h w k letter read) { reading = terminal.Text }) (decimal_value n small)
+
+  -- to the right by one sequence, and no further than to the last column
+  steps_right : (h w n : ℕ) (t : EcmaScreen C) → 0 < n → n < 2 ^ 64
+      → receive_all pen h w (sequence (step_count n) (codes "C")) (at_rest t) ≡ record t { col = min (w - 1) (t.col + n); waits = false; reading = terminal.Text }
+  steps_right h w n t some small = elim (cases_eq n 1) [
+    | inl e ↦
+        ap (λ x. receive_all pen h w (sequence (cond x [] (decimal n)) (codes "C")) (at_rest t)) (eq-eqb n 1 e)
+        ∙ ap (λ k. record t { col = min (w - 1) (t.col + k); waits = false; reading = terminal.Text }) (sym e)
+    | inr many ↦
+        ap (λ x. receive_all pen h w (sequence (cond x [] (decimal n)) (codes "C")) (at_rest t)) (ne_eqb n 1 many)
+        ∙ numbered h w n 67 t small refl refl
+        ∙ ap (λ k. record t { col = min (w - 1) (t.col + k); waits = false; reading = terminal.Text }) (steps_taken n some)
+  ]
+
+  -- to the left by one sequence
+  steps_left : (h w n : ℕ) (t : EcmaScreen C) → 0 < n → n < 2 ^ 64
+      → receive_all pen h w (sequence (decimal n) (codes "D")) (at_rest t) ≡ record t { col = t.col - n; waits = false; reading = terminal.Text }
+  steps_left h w n t some small =
+      numbered h w n 68 t small refl refl
+      ∙ ap (λ k. record t { col = t.col - k; waits = false; reading = terminal.Text }) (steps_taken n some)
+
+  -- to the left by backspaces
+  steps_back : (h w n : ℕ) (t : EcmaScreen C)
+      → receive_all pen h w (replicate n 8) (record t { waits = false; reading = terminal.Text }) ≡ record t { col = t.col - n; waits = false; reading = terminal.Text }
+  steps_back h w zero t = ap (λ c. record t { col = c; waits = false; reading = terminal.Text }) (let e : t.col ≡ t.col - 0 = omega arith in e)
+  steps_back h w (suc n) t =
+      steps_back h w n (record t { col = t.col - 1 })
+      ∙ ap (λ c. record t { col = c; waits = false; reading = terminal.Text }) (let e : t.col - 1 - n ≡ t.col - suc n = omega arith in e)
+
+  module _ (h w from to : ℕ) (t : EcmaScreen C) (left : from < w) (right : to < w) (small : w < 2 ^ 64) (at : t.col ≡ from) where
+    abbrev along_reached : EcmaScreen C
+    along_reached = record t { col = to; waits = false; reading = terminal.Text }
+
+    abbrev still : EcmaScreen C
+    still = record t { waits = false; reading = terminal.Text }
+
+    left_cases : to < from → (b : Bool) → leb (from - to) 3 ≡ b
+        → receive_all pen h w (cond b (replicate (from - to) 8) (sequence (decimal (from - to)) (codes "D"))) still ≡ along_reached
+    left_cases less true is = steps_back h w (from - to) t ∙ ap (λ c. record t { col = c; waits = false; reading = terminal.Text }) (let e : t.col - (from - to) ≡ to = omega (arith, at, less) in e)
+    left_cases less false is =
+        steps_left h w (from - to) (record t { waits = false }) (omega (arith, less)) (omega (arith, left, small))
+        ∙ ap (λ c. record t { col = c; waits = false; reading = terminal.Text }) (let e : t.col - (from - to) ≡ to = omega (arith, at, less) in e)
+
+    way_cases : (from ≡ to → ⊥) → (b : Bool) → ltb from to ≡ b
+        → receive_all pen h w (cond b (sequence (step_count (to - from)) (codes "C")) (cond (leb (from - to) 3) (replicate (from - to) 8) (sequence (decimal (from - to)) (codes "D")))) still
+        ≡ along_reached
+    way_cases other true is =
+        let less : from < to = ltb-true from to is in
+        steps_right h w (to - from) (record t { waits = false }) (omega (arith, less)) (omega (arith, right, small))
+        ∙ ap (λ c. record t { col = c; waits = false; reading = terminal.Text }) (let e : min (w - 1) (t.col + (to - from)) ≡ to = omega (arith, at, less, right) in e)
+    way_cases other false is = left_cases (let most : to ≤ from = ltb-false from to is in omega (arith, most, other)) (leb (from - to) 3) refl
+
+    start_cases : (from ≡ to → ⊥) → (b : Bool) → eqb to 0 ≡ b
+        → receive_all pen h w (cond b (13 ∷ []) (cond (ltb from to) (sequence (step_count (to - from)) (codes "C")) (cond (leb (from - to) 3) (replicate (from - to) 8) (sequence (decimal (from - to)) (codes "D"))))) still
+        ≡ along_reached
+    start_cases other true is = ap (λ c. record t { col = c; waits = false; reading = terminal.Text }) (sym (eqb-true to 0 is))
+    start_cases other false is = way_cases other (ltb from to) refl
+
+    same_cases : (b : Bool) → eqb from to ≡ b
+        → receive_all pen h w (cond b [] (cond (eqb to 0) (13 ∷ []) (cond (ltb from to) (sequence (step_count (to - from)) (codes "C")) (cond (leb (from - to) 3) (replicate (from - to) 8) (sequence (decimal (from - to)) (codes "D")))))) still
+        ≡ along_reached
+    same_cases true is = ap (λ c. record t { col = c; waits = false; reading = terminal.Text }) (at ∙ eqb-true from to is)
+    same_cases false is = start_cases (λ e. false≢true (sym is ∙ eq-eqb from to e)) (eqb to 0) refl
+
+    pub along_is : receive_all pen h w (along_row from to) still ≡ along_reached
+    along_is = same_cases (eqb from to) refl
+
+  pub along_rows_are_reached : AlongRowsAreReached pen
+  along_rows_are_reached h w to t left right small = along_is h w t.col to t left right small refl
 
   column_cases : (h w col : ℕ) (t : EcmaScreen C) → col < w → col < 2 ^ 64 → (col ≡ 0) ⊎ (col ≡ 0 → ⊥)
       → receive_all pen h w (to_column col) (at_rest t) ≡ record t { col = col; waits = false; reading = terminal.Text }

@@ -7,7 +7,7 @@ use Rattle.tw_screens.specs.Pens.{Pen}
 use Rattle.tw_screens.specs.Screens.{blank_of}
 use Rattle.tw_ansi.specs.declared.encode.Encoder.{Encoder}
 use Rattle.tw_ansi.specs.Encoding.{at_column}
-use Rattle.tw_ansi.specs.EcmaScreen.{EcmaScreen, receive, receive_by, return_to_start, feed_line, write, write_here}
+use Rattle.tw_ansi.specs.EcmaScreen.{EcmaScreen, receive, receive_by, return_to_start, step_back, feed_line, write, write_here}
 use Rattle.tw_ansi.specs.EcmaScreen as terminal
 use Rattle.tw_ansi.specs.EcmaTexts.{IsOfRows, ShowsPicture}
 use Rattle.tw_ansi.proofs.EcmaScrolls.{Fed}
@@ -21,10 +21,12 @@ module _ {A C : Type 0} (pen : Pen A C) where
       let fed : EcmaScreen C = feed_line (blank_of pen) h t in
       let written : EcmaScreen C = write (blank_of pen) h w (pen.ink (pen.attributes t.rendition) b) t in
       let last : EcmaScreen C = cond (is_printable b) written t in
+      let back : EcmaScreen C = step_back t in
       ap (λ r. receive_by pen h w r b t) text
-      ∙ ap (λ x. cond x (record t { reading = terminal.Escaped }) (cond (eqb b 13) (return_to_start t) (cond (eqb b 10) fed last))) (ne_eqb b 27 (λ e. omega arith))
-      ∙ ap (λ x. cond x (return_to_start t) (cond (eqb b 10) fed last)) (ne_eqb b 13 (λ e. omega arith))
-      ∙ ap (λ x. cond x fed last) (ne_eqb b 10 (λ e. omega arith))
+      ∙ ap (λ x. cond x (record t { reading = terminal.Escaped }) (cond (eqb b 13) (return_to_start t) (cond (eqb b 10) fed (cond (eqb b 8) back last)))) (ne_eqb b 27 (λ e. omega arith))
+      ∙ ap (λ x. cond x (return_to_start t) (cond (eqb b 10) fed (cond (eqb b 8) back last))) (ne_eqb b 13 (λ e. omega arith))
+      ∙ ap (λ x. cond x fed (cond (eqb b 8) back last)) (ne_eqb b 10 (λ e. omega arith))
+      ∙ ap (λ x. cond x back last) (ne_eqb b 8 (λ e. omega arith))
       ∙ ap (λ x. cond x written t) printable
 
   written_same : (r0 r1 c0 c1 i j : ℕ) (x : C) (f g : ℕ → ℕ → C) → r0 ≡ r1 → c0 ≡ c1 → f i j ≡ g i j → put_in f r0 c0 x i j ≡ put_in g r1 c1 x i j

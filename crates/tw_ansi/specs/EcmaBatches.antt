@@ -15,7 +15,7 @@ use Rattle.tw_screens.specs.Pens.{Pen, change_strokes, strokes_of}
 use Rattle.tw_screens.specs.Screens.{blank_of}
 use Rattle.tw_ansi.specs.declared.encode.Encoder.{Encoder}
 use Rattle.tw_ansi.specs.Sequences.{most_rows}
-use Rattle.tw_ansi.specs.Encoding.{first_known, sent_change, sent_batch}
+use Rattle.tw_ansi.specs.Encoding.{first_known, sent_change, sent_batch, terse_batch}
 use Rattle.tw_ansi.specs.EcmaScreen.{EcmaScreen, receive_all}
 use Rattle.tw_ansi.specs.EcmaScreen as terminal
 use Rattle.tw_ansi.specs.EcmaLaws.{IsColor, IsAttribute}
@@ -73,4 +73,11 @@ abbrev pub BatchIsShown : {A C : Type 0} → Pen A C → Type 0
 BatchIsShown {A} {C} pen = (h w : ℕ) (batch : Batch) (e : Encoder) (t : EcmaScreen C) (s : PictureOf C)
     → CarriesAttributes pen → 0 < w → w < 2 ^ 64 → AreSendable pen h w e batch s → ShowsPicture pen h w e t s
     → ShowsPicture pen h w (sent_batch batch e).next (receive_all pen h w (sent_batch batch e).bytes t)
+    (steps_on (Some h) w (strokes_of pen (pen.attributes e.attributes) batch) s)
+
+-- so does one that is sent the bytes of a batch whose moves take few bytes
+abbrev pub TerseBatchIsShown : {A C : Type 0} → Pen A C → Type 0
+TerseBatchIsShown {A} {C} pen = (h w : ℕ) (batch : Batch) (e : Encoder) (t : EcmaScreen C) (s : PictureOf C)
+    → CarriesAttributes pen → 0 < w → w < 2 ^ 64 → AreSendable pen h w e batch s → ShowsPicture pen h w e t s
+    → ShowsPicture pen h w (terse_batch batch e).next (receive_all pen h w (terse_batch batch e).bytes t)
     (steps_on (Some h) w (strokes_of pen (pen.attributes e.attributes) batch) s)

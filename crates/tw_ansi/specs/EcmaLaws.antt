@@ -9,7 +9,7 @@ use Rattle.tw_surface.specs.declared.color.ColorAttribute.TheVariants.{Default, 
 use Rattle.tw_surface.specs.declared.cell.CellAttributes.{CellAttributes}
 use Rattle.tw_surface.specs.Attributes.{with_attribute}
 use Rattle.tw_screens.specs.Pens.{Pen}
-use Rattle.tw_ansi.specs.Sequences.{to_column, to_row, set_attribute, set_attributes, clear_below, clear_rows, clear_all, clear_with, to_first_cell, most_rows}
+use Rattle.tw_ansi.specs.Sequences.{along_row, to_column, to_row, set_attribute, set_attributes, clear_below, clear_rows, clear_all, clear_with, to_first_cell, most_rows}
 use Rattle.tw_ansi.specs.EcmaScreen.{EcmaScreen, receive_all, row_cleared}
 use Rattle.tw_ansi.specs.EcmaScreen as terminal
 
@@ -43,6 +43,12 @@ AttributesAreSelected {A} {C} pen = (h w : ℕ) (to : CellAttributes) (t : EcmaS
 abbrev pub ColumnsAreReached : {A C : Type 0} → Pen A C → Type 0
 ColumnsAreReached {A} {C} pen = (h w col : ℕ) (t : EcmaScreen C) → col < w → col < 2 ^ 64
     → receive_all pen h w (to_column col) (at_rest t) ≡ record t { col = col; waits = false; reading = terminal.Text }
+
+-- going from the cursor's column to another one of the screen leads there, where the cursor does not wait, and shows nothing
+abbrev pub AlongRowsAreReached : {A C : Type 0} → Pen A C → Type 0
+AlongRowsAreReached {A} {C} pen = (h w col : ℕ) (t : EcmaScreen C) → t.col < w → col < w → w < 2 ^ 64
+    → receive_all pen h w (along_row t.col col) (record t { waits = false; reading = terminal.Text })
+    ≡ record t { col = col; waits = false; reading = terminal.Text }
 
 -- going up leads so many rows up, and no further than to row 0, and shows nothing
 abbrev pub RowsAboveAreReached : {A C : Type 0} → Pen A C → Type 0

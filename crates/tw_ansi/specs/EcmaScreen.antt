@@ -8,6 +8,7 @@ use Rattle.tw_screens.specs.Pens.{Pen}
 use Rattle.tw_screens.specs.Screens.{blank_of}
 use Rattle.tw_ansi.specs.KeyBytes.{is_digit, is_parameter, value_after}
 use Rattle.tw_ansi.specs.Selections.{selected}
+use Rattle.tw_ansi.specs.Sequences.{bs}
 
 -- how far a control sequence was read: none, an ESC, or ESC [ and these parameters
 pub data Reading : Type 0 where
@@ -35,6 +36,10 @@ feed_line blank h t =
     then record t { cell = λ r c. if ltb (r + 1) h then t.cell (r + 1) c else blank; waits = false }
     else record t { row = t.row + 1; waits = false }
 
+-- one column to the left
+abbrev pub step_back : {C : Type 0} → EcmaScreen C → EcmaScreen C
+step_back t = record t { col = t.col - 1; waits = false }
+
 -- a cell is written at the cursor, which moves on, and waits where that was the last column
 abbrev pub write_here : {C : Type 0} → ℕ → C → EcmaScreen C → EcmaScreen C
 write_here w x t =
@@ -54,13 +59,14 @@ row_cleared cell row col x r c = if eqb row r && leb col c then x else cell r c
 abbrev pub told_steps : ℕ → ℕ
 told_steps n = if eqb n 0 then 1 else n
 
--- what a sequence of one number does: CUU and CUF stop at the edge, VPA and CUP count from 1, ED clears from the cursor on or all,
+-- what a sequence of one number does: CUU, CUF and CUB stop at the edge, VPA and CUP count from 1, ED clears from the cursor on or all,
 -- EL the row from the cursor on, and any other does nothing; what is cleared is under the colour that is selected
 abbrev pub act_by : {A C : Type 0} → Pen A C → ℕ → ℕ → ℕ → ℕ → EcmaScreen C → EcmaScreen C
 act_by pen h w n letter t =
     let paper = pen.paper t.rendition.background in
     if eqb letter 65 then record t { row = t.row - told_steps n; waits = false }
     else if eqb letter 67 then record t { col = min (w - 1) (t.col + told_steps n); waits = false }
+    else if eqb letter 68 then record t { col = t.col - told_steps n; waits = false }
     else if eqb letter 72 then record t { row = min (h - 1) (told_steps n - 1); col = 0; waits = false }
     else if eqb letter 74 && eqb n 0 then record t { cell = cleared_in t.cell t.row t.col paper }
     else if eqb letter 74 && eqb n 2 then record t { cell = λ r c. paper }
@@ -81,6 +87,7 @@ receive_text pen h w b t =
     if eqb b 27 then record t { reading = Escaped }
     else if eqb b cr then return_to_start t
     else if eqb b lf then feed_line (blank_of pen) h t
+    else if eqb b bs then step_back t
     else if is_printable b then write (blank_of pen) h w (pen.ink (pen.attributes t.rendition) b) t
     else t
 

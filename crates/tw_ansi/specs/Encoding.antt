@@ -1,5 +1,5 @@
 -- What a change is sent as, by what is known of the terminal.
-use Rattle.std.specs.Prelude.{◌≡◌, ℕ, pos, ◌+◌, ◌-◌, ◌&&◌, not, eqb, leb, min, true, false, if◌then◌else◌, List, [], ◌∷◌, ◌++◌, chars}
+use Rattle.std.specs.Prelude.{◌≡◌, ℕ, pos, ◌+◌, ◌-◌, ◌&&◌, not, eqb, ltb, leb, min, true, false, if◌then◌else◌, List, [], ◌∷◌, ◌++◌, chars}
 use Rattle.std.specs.List.{list_all, list_any}
 use Rattle.std.specs.Cmp.Lexicographic.{pointwise}
 use Rattle.std.specs.Char.{is_control}
@@ -14,7 +14,7 @@ use Rattle.tw_surface.specs.Defaults.{default_attributes}
 use Rattle.tw_surface.specs.Positions.{position_after, at_least_0}
 use Rattle.tw_surface.specs.Width.{cluster_width}
 use Rattle.tw_ansi.specs.declared.encode.Encoder.{Encoder}
-use Rattle.tw_ansi.specs.Sequences.{to_column, to_row, clear_below, clear_rows, clear_all, to_first_cell, set_attribute, set_attributes, clear_with, up_a_row}
+use Rattle.tw_ansi.specs.Sequences.{to_column, to_row, along_row, along_column, clear_below, clear_rows, clear_all, to_first_cell, set_attribute, set_attributes, clear_with, up_a_row}
 
 -- the old bytes stay, and more follow them
 abbrev pub ExtendsBytes : List ℕ → List ℕ → Type 0
@@ -136,3 +136,20 @@ sent_change (CursorPosition x y) e =
 abbrev pub sent_batch : Batch → Encoder → Sent
 sent_batch [] e = sends [] e
 sent_batch (change ∷ changes) e = sent_then (sent_change change e) (sent_batch changes)
+
+-- what leads to a row and a column by few bytes: steps from where the cursor stands, and where it stands after the last column the way from the start of the
+-- row
+abbrev pub terse_move : Position → Position → Encoder → List ℕ
+terse_move x y e =
+    if ltb e.x e.cols then along_column y ++ along_row e.x (column_of x e)
+    else to_row y ++ to_column (column_of x e)
+
+-- a change, and a move by few bytes
+abbrev pub terse_change : ChangeView → Encoder → Sent
+terse_change (CursorPosition x y) e = record { bytes = terse_move x y e; next = at_column (column_of x e) e }
+terse_change change e = sent_change change e
+
+-- a batch of such changes
+abbrev pub terse_batch : Batch → Encoder → Sent
+terse_batch [] e = sends [] e
+terse_batch (change ∷ changes) e = sent_then (terse_change change e) (terse_batch changes)

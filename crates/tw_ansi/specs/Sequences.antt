@@ -1,5 +1,5 @@
 -- The bytes of control sequences.
-use Rattle.std.specs.Prelude.{ℕ, Bool, true, false, eqb, ◌&&◌, min, ◌+◌, pos, negsuc, replicate, if◌then◌else◌, List, [], ◌∷◌, ◌++◌, codes}
+use Rattle.std.specs.Prelude.{ℕ, zero, Bool, true, false, eqb, ◌&&◌, ltb, leb, min, ◌+◌, ◌-◌, pos, negsuc, replicate, if◌then◌else◌, List, [], ◌∷◌, ◌++◌, codes}
 use Rattle.std.specs.Fmt.{decimal}
 use Rattle.std.specs.List.{flat_map}
 use Rattle.tw_surface.specs.declared.change.Position.{Position}
@@ -13,6 +13,10 @@ use Rattle.tw_surface.specs.declared.cell.Blink.TheVariants as blink
 use Rattle.tw_surface.specs.declared.color.ColorAttribute.{ColorAttribute}
 use Rattle.tw_surface.specs.declared.color.ColorAttribute.TheVariants.{Default, PaletteIndex, TrueColorWithDefaultFallback}
 use Rattle.tw_surface.specs.Characters.{cr, lf}
+
+-- BS, one column to the left
+abbrev pub bs : ℕ
+bs = 8
 
 -- ESC
 abbrev pub esc : ℕ
@@ -30,6 +34,20 @@ most_rows = 65535
 abbrev pub to_column : ℕ → List ℕ
 to_column col = cr ∷ (if eqb col 0 then [] else sequence (decimal col) (codes "C"))
 
+-- the parameter of some steps: none says one
+abbrev pub step_count : ℕ → List ℕ
+step_count n = if eqb n 1 then [] else decimal n
+
+-- from a column to another one of the row: nothing where it is the same, to the first one by CR, to the right by CUF, and to the left by BS, or by CUB
+-- where that is shorter
+abbrev pub along_row : ℕ → ℕ → List ℕ
+along_row from to =
+    if eqb from to then []
+    else if eqb to 0 then cr ∷ []
+    else if ltb from to then sequence (step_count (to - from)) (codes "C")
+    else if leb (from - to) 3 then replicate (from - to) bs
+    else sequence (decimal (from - to)) (codes "D")
+
 -- to a row: by VPA, which counts from 1, down by line feeds, so that the last row scrolls, and up by CUU
 abbrev pub to_row : Position → List ℕ
 to_row (Absolute row) = sequence (decimal (min row most_rows + 1)) (codes "d")
@@ -39,6 +57,11 @@ to_row (Relative (negsuc n)) = sequence (decimal (min (n + 1) most_rows)) (codes
 -- up by one row
 abbrev pub up_a_row : List ℕ
 up_a_row = sequence [] (codes "A")
+
+-- to a row, and up by one without a number
+abbrev pub along_column : Position → List ℕ
+along_column (Relative (negsuc zero)) = up_a_row
+along_column y = to_row y
 
 -- from the cursor on all is cleared
 abbrev pub clear_below : List ℕ

@@ -6,12 +6,15 @@ ghost use Rattle.std.specs.List.{list_all, list_any};
 ghost use Rattle.unicode_segmentation.specs.Grapheme.{graphemes};
 ghost use Rattle.tw_surface.specs.ChangeView.{change_view};
 ghost use Rattle.tw_surface.specs.Characters.{is_plain};
-ghost use Rattle.tw_ansi.specs.Encoding.{ExtendsBytes, first_known, without_attributes, at_column, column_of, sent_change, sent_return, sent_feed, sent_return_feed, sent_beginning, sent_byte, shown_as, sent_cluster, sent_plain, sent_clusters, sent_text, sent_clear};
+ghost use Rattle.tw_ansi.specs.Encoding.{ExtendsBytes, first_known, without_attributes, at_column, column_of, sent_change, sent_return, sent_feed, sent_return_feed, sent_beginning, sent_byte, shown_as, sent_cluster, sent_plain, sent_clusters, sent_text, sent_clear, terse_change, terse_move};
 ghost use Rattle.tw_surface.specs.Attributes.{with_attribute};
 ghost use Rattle.tw_surface.specs.Defaults.{default_attributes};
 ghost use Rattle.tw_ansi.specs.Sequences.{set_attribute, set_attributes, to_row, to_column, to_first_cell, clear_all, clear_with};
 
-use crate::sequence::{clear_with, go_to_column, go_to_row, send_attribute, send_attributes};
+use crate::sequence::{
+    clear_with, go_along_column, go_along_row, go_to_column, go_to_row, send_attribute,
+    send_attributes,
+};
 use std::alloc::AllocError;
 use tw_surface::{
     AttributeChange, Blink, CellAttributes, Change, ColorAttribute, Intensity, Position, Underline,
@@ -89,6 +92,23 @@ impl Encoder {
                 *self = before;
                 Err(error)
             }
+        }
+    }
+
+    /// Adds what the change is sent as, and a move by few bytes, as from a cursor that stands where it is known to
+    /// stand. A refusal may have added a part of it.
+    pub fn encode_tersely(&mut self, change: &Change, out: &mut String) -> Result<(), AllocError>
+        ensures bytes { OnOk result (string_bytes out.new ≡ string_bytes out.old ++ (terse_change (change_view change.now) self.old).bytes) }
+        ensures next { OnOk result (self.new ≡ (terse_change (change_view change.now) self.old).next) }
+        ensures err { OnErr result (ExtendsBytes (string_bytes out.old) (string_bytes out.new)) }
+    {
+        match change {
+            Change::CursorPosition { x, y } => self.step_cursor(*x, *y, out),
+            Change::Attribute(_)
+            | Change::AllAttributes(_)
+            | Change::Text(_)
+            | Change::ClearScreen(_)
+            | Change::ClearToEndOfScreen(_) => self.send(change, out),
         }
     }
 
@@ -313,6 +333,23 @@ impl Encoder {
         self.stand_at(col);
         go_to_row(y, out)?;
         go_to_column(col, out)
+    }
+
+    /// Moves the cursor by few bytes: by steps from where it stands, and where it stands after the last column by the way
+    /// from the start of the row.
+    fn step_cursor(&mut self, x: Position, y: Position, out: &mut String) -> Result<(), AllocError>
+        ensures bytes { OnOk result (string_bytes out.new ≡ string_bytes out.old ++ terse_move x y self.old) }
+        ensures next { OnOk result (self.new ≡ at_column (column_of x self.old) self.old) }
+        ensures err { OnErr result (ExtendsBytes (string_bytes out.old) (string_bytes out.new)) }
+    {
+        let from = self.x;
+        if from >= self.cols {
+            return self.move_cursor(x, y, out);
+        }
+        let col = self.column_of(x);
+        self.stand_at(col);
+        go_along_column(y, out)?;
+        go_along_row(from, col, out)
     }
 
     /// The column to which a position leads.

@@ -5,7 +5,7 @@ ghost use Rattle.std.specs.Fmt.{decimal};
 ghost use Rattle.std.specs.List.{flat_map};
 ghost use Rattle.tw_surface.specs.Characters.{lf};
 ghost use Rattle.tw_ansi.specs.Encoding.{ExtendsBytes};
-ghost use Rattle.tw_ansi.specs.Sequences.{sequence, to_column, to_row, attribute_parameters, color_parameters, set_attribute, set_attributes, set_unless_off, is_color, is_off, is_same_color, clear_with};
+ghost use Rattle.tw_ansi.specs.Sequences.{sequence, step_count, along_row, along_column, to_column, to_row, attribute_parameters, color_parameters, set_attribute, set_attributes, set_unless_off, is_color, is_off, is_same_color, clear_with};
 
 use itoa::Buffer;
 use std::alloc::AllocError;
@@ -35,6 +35,17 @@ fn push_number(out: &mut String, number: usize, letter: &str) -> Result<(), Allo
     push_all(out, &["\x1b[", Buffer::new().format(number), letter])
 }
 
+/// Adds a control sequence of so many steps. One step is told by no number.
+fn push_steps(out: &mut String, count: usize, letter: &str) -> Result<(), AllocError>
+    ensures ok { OnOk result (string_bytes out.new ≡ string_bytes out.old ++ sequence (step_count count) letter.now) }
+    ensures err { OnErr result (ExtendsBytes (string_bytes out.old) (string_bytes out.new)) }
+{
+    if count == 1 {
+        return push_all(out, &["\x1b[", letter]);
+    }
+    push_number(out, count, letter)
+}
+
 /// Goes to a column of the row.
 pub fn go_to_column(col: usize, out: &mut String) -> Result<(), AllocError>
     ensures ok { OnOk result (string_bytes out.new ≡ string_bytes out.old ++ to_column col) }
@@ -45,6 +56,28 @@ pub fn go_to_column(col: usize, out: &mut String) -> Result<(), AllocError>
         return Ok(());
     }
     push_number(out, col, "C")
+}
+
+/// Goes from a column to another one of the row: by backspaces up to three to the left, and else by one sequence.
+pub fn go_along_row(from: usize, to: usize, out: &mut String) -> Result<(), AllocError>
+    ensures ok { OnOk result (string_bytes out.new ≡ string_bytes out.old ++ along_row from to) }
+    ensures err { OnErr result (ExtendsBytes (string_bytes out.old) (string_bytes out.new)) }
+{
+    if from == to {
+        return Ok(());
+    }
+    if to == 0 {
+        return out.push('\r');
+    }
+    if from < to {
+        return push_steps(out, to - from, "C");
+    }
+    match from - to {
+        1 => out.push_str("\x08"),
+        2 => out.push_str("\x08\x08"),
+        3 => out.push_str("\x08\x08\x08"),
+        columns => push_number(out, columns, "D"),
+    }
 }
 
 /// Goes down by line feeds.
@@ -73,6 +106,17 @@ pub fn go_to_row(to: Position, out: &mut String) -> Result<(), AllocError>
                 feed_lines(rows, out)
             }
         }
+    }
+}
+
+/// Goes to a row as `go_to_row` does, and up by one without its number.
+pub fn go_along_column(to: Position, out: &mut String) -> Result<(), AllocError>
+    ensures ok { OnOk result (string_bytes out.new ≡ string_bytes out.old ++ along_column to) }
+    ensures err { OnErr result (ExtendsBytes (string_bytes out.old) (string_bytes out.new)) }
+{
+    match to {
+        Position::Relative(-1) => out.push_str("\x1b[A"),
+        _ => go_to_row(to, out),
     }
 }
 

@@ -17,7 +17,7 @@ use Rattle.tw_ansi.specs.declared.encode.Encoder.{Encoder}
 use Rattle.tw_ansi.specs.Encoding.{Sent, sent_beginning, sent_byte, sent_change, sent_clear, sent_plain, sent_text, column_of}
 use Rattle.tw_ansi.specs.Sequences.{sequence, to_column, to_row, clear_below, clear_rows, clear_with, up_a_row, set_attributes, set_attribute}
 use Rattle.tw_ansi.specs.EcmaLaws.{at_rest, IsColor, IsAttribute}
-use Rattle.tw_ansi.specs.EcmaScreen.{EcmaScreen, act_by, feed_line, receive_all, return_to_start, write, write_here}
+use Rattle.tw_ansi.specs.EcmaScreen.{EcmaScreen, act_by, feed_line, receive_all, return_to_start, step_back, write, write_here}
 use Rattle.tw_ansi.specs.EcmaScreen as terminal
 use Rattle.tw_ansi.proofs.EcmaClearings.{clears_below, clears_rows}
 use Rattle.tw_ansi.proofs.EcmaRenditions.{attribute_is_selected, attributes_are_selected}
@@ -118,11 +118,11 @@ module _ {A C : Type 0} (pen : Pen A C) where
     byte-leads : (b : ℕ) (a : CellAttributes) → eqb b 27 ≡ false → KeepsRest (b ∷ []) a a
     byte-leads b a other = leads-by (b ∷ []) a a rest (λ t r. ap (λ z. cond z (record t { reading = terminal.Escaped }) (rest t)) other)
         (λ t r. either-rests (eqb b 13) a _ _ (refl, r) (either-rests (eqb b 10) a _ _ (fed-rests a (at_rest t) (refl, r))
-        (either-rests (is_printable b) a _ _ (write-rests a (pen.ink (pen.attributes t.rendition) b) (at_rest t) (refl, r)) (refl, r))))
+        (either-rests (eqb b 8) a _ _ (refl, r) (either-rests (is_printable b) a _ _ (write-rests a (pen.ink (pen.attributes t.rendition) b) (at_rest t) (refl, r)) (refl, r)))))
       where
         rest : EcmaScreen C → EcmaScreen C
         rest t = cond (eqb b 13) (return_to_start (at_rest t)) (cond (eqb b 10) (feed_line (blank_of pen) h (at_rest t))
-            (cond (is_printable b) (write (blank_of pen) h w (pen.ink (pen.attributes t.rendition) b) (at_rest t)) (at_rest t)))
+            (cond (eqb b 8) (step_back (at_rest t)) (cond (is_printable b) (write (blank_of pen) h w (pen.ink (pen.attributes t.rendition) b) (at_rest t)) (at_rest t))))
 
     plain-byte-leads : (e : Encoder) (b : ℕ) (a : CellAttributes) → is_plain b ≡ true → e.cols < 2 ^ 64 → KeepsRest (sent_byte e b).bytes a a
     plain-byte-leads e b a plain small =

@@ -18,6 +18,13 @@ returns-in-67-default c =
     (λ t s. led_there t _ _ _ _ (s.row ∙ sym c.cursor-row.ensures.row)
     (omega (arith, s.col, cols, c.cols-last_col.ensures.value, c.cursor-row.ensures.col, c.told_steps-steps.ensures, c.min.ensures))))
 
+pub returns-in-68-default : goal.returns-in-68-default
+returns-in-68-default c =
+    rw c.in-68-default.is-0
+    (same_rule _ _ _ _ c.lead_to-in-68-default.ensures
+    (λ t s. led_there t _ _ _ _ (s.row ∙ sym c.cursor-row.ensures.row)
+    (omega (arith, s.col, c.cursor-row.ensures.col, c.told_steps-steps.ensures, c.saturating_sub-in-68-default.ensures))))
+
 pub returns-in-72-default : goal.returns-in-72-default
 returns-in-72-default c =
     let rows : c.self.inside.grid.rows ≡ c.args.self.now.grid.rows = ap (λ v. v.grid.rows) c.self.view_is in
