@@ -7,6 +7,7 @@ use Rattle.tw_session.specs.Outcomes.{is_over, answer_at, IsLine, Outcome}
 use Rattle.tw_lineedit.specs.Frame.{Frame}
 use Rattle.tw_lineedit.specs.Run.{Progress, Moment, Cause, want, fault, run, ends, after_event, state_after, after_taking, moment, progress_of, CanStopFrom, Quiet, run_of, IsAnswered}
 use Rattle.tw_lineedit.specs.EditorSteps.{CallFails, TakesEvent, HasNoEvent, HandlesAndPaints, FailsToHandleOrPaint}
+use Rattle.std.specs.declared.alloc.AllocError.{AllocError}
 use Rattle.tw_painter.specs.declared.error.Error.{Error}
 use Rattle.tw_painter.specs.declared.error.Error.TheVariants.{Memory, Terminal}
 use Rattle.tw_host.specs.HostRules.{HostRules}
@@ -93,10 +94,9 @@ module _ {V : Type 0} (rules : HostRules V) (overrides : Overrides) where
   turned_down_later f g h e a r = refused_later _ _ _ _ _ _ f g h (λ n at. a.run ∙ at) (a.stops want) (a.stops fault) a.quiet e r
 
   -- the answer was not copied
-  not_copied : (f g h : Frame V) (e : Error) → IsEnded rules overrides f g → h ≡ g → IsMemory e → IsLine (answer_at g.state) → IsRefusedOn rules overrides f.terminal.events f h e
-  not_copied f g h (Memory x) a same m l = subst (λ (y : Frame V). IsRefusedOn rules overrides f.terminal.events f y (Memory x)) (sym same)
+  pub not_copied : (f g h : Frame V) (x : AllocError) → IsEnded rules overrides f g → h ≡ g → IsLine (answer_at g.state) → IsRefusedOn rules overrides f.terminal.events f h (Memory x)
+  not_copied f g h x a same l = subst (λ (y : Frame V). IsRefusedOn rules overrides f.terminal.events f y (Memory x)) (sym same)
       ((moment None g.terminal.events (progress_of g), a.stops l, refl, stands_here g), a.quiet)
-  not_copied f g h _ a same bad l = absurd bad
 
   -- after the first painting
 
@@ -118,8 +118,4 @@ module _ {V : Type 0} (rules : HostRules V) (overrides : Overrides) where
       (Starves rules overrides initial f) (Faults rules overrides initial f) (CanStopOn rules overrides want g.terminal.events (progress_of g)) (CanStopOn rules overrides fault g.terminal.events (progress_of g))
       f g h (λ n at. run_behind_first (start initial f) g b ∙ at) (λ m can. inl (stops_behind_first (start initial f) g b want m can)) (stops_behind_first (start initial f) g b fault)
       (record { flushed = b.quiet.flushed; failures = b.quiet.failures }) e r
-
   -- how the answer that comes last is refused
-  pub not_copied_if : (A : Type 0) (answer : Result A Error) (f g h : Frame V) → IsEnded rules overrides f g → h ≡ g → IfErr answer IsMemory → OnErr answer (IsLine (answer_at g.state)) → IfErr answer (IsRefusedOn rules overrides f.terminal.events f h)
-  not_copied_if A (Ok x) f g h a same m l = tt
-  not_copied_if A (Err e) f g h a same m l = not_copied f g h e a same m l

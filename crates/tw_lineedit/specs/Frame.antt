@@ -1,5 +1,5 @@
 -- What an editor is to its contracts.
-use Rattle.std.specs.Prelude.{Option, ⊤}
+use Rattle.std.specs.Prelude.{◌≡◌, Option, ⊤}
 use Rattle.tw_surface.specs.Paintings.{Mark}
 use Rattle.tw_terminal.specs.TerminalState.{TerminalState}
 use Rattle.tw_painter.specs.EditState.{EditState}
@@ -24,3 +24,11 @@ own_frame state editor = frame state (λ (x : ⊤). x) editor tt
 -- the same with a host's value
 abbrev pub with_value : {V : Type 0} → V → Frame ⊤ → Frame V
 with_value v f = record { state = f.state; value = v; mark = f.mark; terminal = f.terminal }
+
+-- a relation of an editor with its host before a call to the same after it
+abbrev pub across : {T H V : Type 0} {R : Type 1} → (T → TerminalState) → (H → V) → (Frame V → Frame V → R) → EditorOver T SessionView → H → EditorOver T SessionView → H → R
+across state value relation old held new holds = relation (frame state value old held) (frame state value new holds)
+
+-- nothing is changed
+abbrev pub IsSame : {V : Type 0} → Frame V → Frame V → Type 0
+IsSame before after = after ≡ before

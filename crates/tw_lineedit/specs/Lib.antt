@@ -7,6 +7,7 @@ pub mod Remembering
 pub mod Feeding
 pub mod Stations
 pub mod ScreenRuns
+pub mod Lines
 pub use Rattle.tw_extremes.specs.Extremes
 pub use Rattle.tw_line.specs.Cut
 pub use Rattle.tw_line.specs.Boundaries

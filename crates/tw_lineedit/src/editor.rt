@@ -1,24 +1,23 @@
 //! The editor: it reads events from a terminal, and shows the line on it.
 
-ghost use Rattle.std.specs.Prelude.{◌≡◌, ◌≢◌, [], Some, None, Ok, Err, IfOk, IfErr, IsOk, OnOk, OnErr, MatchOption, MatchBool, IsSome, option_map, true};
+ghost use Rattle.std.specs.Prelude.{◌≡◌, ◌≢◌, [], Some, None, Ok, Err, IfOk, IfErr, IsOk, OnOk, OnErr, MatchBool, IsSome, true};
 ghost use Rattle.std.specs.Borrow.{sem};
 ghost use Rattle.std.specs.Str.{IsCharBoundary};
 ghost use Rattle.tw_input.specs.EventView.{event_view};
-ghost use Rattle.tw_terminal.specs.TerminalState.{Fails, IsAtEnd, Takes};
+ghost use Rattle.tw_terminal.specs.TerminalState.{Takes};
 ghost use Rattle.tw_terminal.specs.Uses.{IsUsed};
 ghost use Rattle.tw_host.specs.ActionView.{action_view, Repaint};
 ghost use Rattle.tw_line.specs.Cut.{cut_at};
 ghost use Rattle.tw_host.specs.KeyTable.{action_of};
 ghost use Rattle.tw_painter.specs.EditState.{Inactive};
-ghost use Rattle.tw_session.specs.Outcomes.{outcome_of, answer_at, IsLine};
+ghost use Rattle.tw_session.specs.Outcomes.{outcome_of};
 ghost use Rattle.tw_session.specs.SessionView.{new_session, on_state};
 ghost use Rattle.tw_painter.specs.Refusal.{IsMemory};
-ghost use Rattle.tw_lineedit.specs.Frame.{frame, own_frame};
-ghost use Rattle.tw_lineedit.specs.Run.{progress_of, resolution_of, run_of, IsAnswered};
+ghost use Rattle.tw_lineedit.specs.Frame.{across, frame, own_frame, IsSame};
+ghost use Rattle.tw_lineedit.specs.Lines.{BeginsWith, IsAnsweredWith, ReadsWith, ShowsWith};
 ghost use Rattle.tw_lineedit.specs.Lent.{EndsAs, editor_row};
-ghost use Rattle.tw_lineedit.specs.EditorSteps.{Closes, FailsToClose, Paints, FailsToPaint, Applies, FailsToApply, Handles, FailsToHandle, answered_frame, HandlesAndPaints, FailsToHandleOrPaint, GivesUp};
+ghost use Rattle.tw_lineedit.specs.EditorSteps.{Closes, FailsToClose, Paints, FailsToPaint, Applies, FailsToApply, Handles, FailsToHandle, HandlesAndPaints, FailsToHandleOrPaint, GivesUp};
 ghost use Rattle.tw_lineedit.specs.Feeding.{Begins, IsNotBegun, IsRefusedOn, Continues, IsEnded, IsAnsweredOn};
-ghost use Rattle.tw_lineedit.specs.ScreenRuns.{Shows};
 ghost use Rattle.tw_lineedit.specs.Reading.{initial_text, start, Reads, FailsToRead, IsTurnedDown, FailuresTell};
 
 mod feeding;
@@ -30,7 +29,7 @@ use tw_input::InputEvent;
 use tw_painter::{Error, Mark};
 use tw_session::Session;
 use tw_surface::{Change, ColorAttribute};
-use tw_terminal::{Terminal, TerminalFault};
+use tw_terminal::Terminal;
 
 /// A line editor over a terminal, which it borrows.
 pub type LineEditor<'term, T> = EditorOver<'term, T, Session>;
@@ -108,12 +107,8 @@ impl<'term, T: Terminal> LineEditor<'term, T> {
     fn paint<H: LineEditorHost>(&mut self, host: &H) -> Result<(), Error>
         ensures same_reference { self.new.terminal.ghost_name ≡ self.old.terminal.ghost_name }
         ensures used { IsUsed T.follows self.old.terminal.now self.new.terminal.now }
-        ensures ok { let before = frame T.state H.value self.old host.now in
-            let after = frame T.state H.value self.new host.now in
-            OnOk result (Paints H.rules before after) }
-        ensures err { let before = frame T.state H.value self.old host.now in
-            let after = frame T.state H.value self.new host.now in
-            IfErr result (FailsToPaint H.rules before after) }
+        ensures ok { OnOk result (across T.state H.value (Paints H.rules) self.old host.now self.new host.now) }
+        ensures err { IfErr result (across T.state H.value (FailsToPaint H.rules) self.old host.now self.new host.now) }
     {
         let size = self.terminal.get_screen_size()?;
         let (changes, mark) = self.session.painting(host, size)?;
@@ -125,6 +120,7 @@ impl<'term, T: Terminal> LineEditor<'term, T> {
     /// Applies an action to the line and the mode, whatever the mode is. `Repaint` clears the screen, and no
     /// other action calls the terminal. Where it is refused nothing is changed, but that the terminal may have
     /// taken a beginning of the clearing.
+    #[tactic(auto, unfolding(tw_session::specs::Steps::apply))]
     pub fn apply_action<H: LineEditorHost>(
         &mut self,
         host: &mut H,
@@ -134,30 +130,9 @@ impl<'term, T: Terminal> LineEditor<'term, T> {
         ensures used { IsUsed T.follows self.old.terminal.now self.new.terminal.now }
         ensures host { host.new ≡ host.old }
         ensures uncalled { action_view action ≢ Repaint → self.new.terminal.now ≡ self.old.terminal.now }
-        ensures ok { let before = frame T.state H.value self.old host.old in
-            let after = frame T.state H.value self.new host.new in
-            OnOk result (Applies H.rules (Some (action_view action)) before after) }
-        ensures err { let before = frame T.state H.value self.old host.old in
-            let after = frame T.state H.value self.new host.new in
-            IfErr result (FailsToApply H.rules H.OVERRIDES (Some (action_view action)) before after) }
+        ensures ok { OnOk result (across T.state H.value (Applies H.rules (Some (action_view action))) self.old host.old self.new host.new) }
+        ensures err { IfErr result (across T.state H.value (FailsToApply H.rules H.OVERRIDES (Some (action_view action))) self.old host.old self.new host.new) }
         ensures failures { FailuresTell result (T.state self.old.terminal.now).failures (T.state self.new.terminal.now).failures }
-    {
-        self.act(host, action)
-    }
-
-    /// Applies an action.
-    #[tactic(auto, unfolding(tw_session::specs::Steps::apply))]
-    fn act<H: LineEditorHost>(&mut self, host: &mut H, action: Action) -> Result<(), Error>
-        ensures same_reference { self.new.terminal.ghost_name ≡ self.old.terminal.ghost_name }
-        ensures used { IsUsed T.follows self.old.terminal.now self.new.terminal.now }
-        ensures host { host.new ≡ host.old }
-        ensures uncalled { action_view action ≢ Repaint → self.new.terminal.now ≡ self.old.terminal.now }
-        ensures ok { let before = frame T.state H.value self.old host.old in
-            let after = frame T.state H.value self.new host.new in
-            OnOk result (Applies H.rules (Some (action_view action)) before after) }
-        ensures err { let before = frame T.state H.value self.old host.old in
-            let after = frame T.state H.value self.new host.new in
-            IfErr result (FailsToApply H.rules H.OVERRIDES (Some (action_view action)) before after) }
     {
         match action {
             Action::Repaint => {
@@ -172,15 +147,11 @@ impl<'term, T: Terminal> LineEditor<'term, T> {
     fn handle<H: LineEditorHost>(&mut self, host: &mut H, event: &InputEvent) -> Result<(), Error>
         ensures same_reference { self.new.terminal.ghost_name ≡ self.old.terminal.ghost_name }
         ensures used { IsUsed T.follows self.old.terminal.now self.new.terminal.now }
-        ensures ok { let before = frame T.state H.value self.old host.old in
-            let after = frame T.state H.value self.new host.new in
-            OnOk result (Handles H.rules (event_view event.now) before after) }
-        ensures err { let before = frame T.state H.value self.old host.old in
-            let after = frame T.state H.value self.new host.new in
-            IfErr result (FailsToHandle H.rules H.OVERRIDES (event_view event.now) before after) }
+        ensures ok { OnOk result (across T.state H.value (Handles H.rules (event_view event.now)) self.old host.old self.new host.new) }
+        ensures err { IfErr result (across T.state H.value (FailsToHandle H.rules H.OVERRIDES (event_view event.now)) self.old host.old self.new host.new) }
     {
-        match self.resolve(host, event)? {
-            Some(action) => self.act(host, action),
+        match self.session.resolve(host, event)? {
+            Some(action) => self.apply_action(host, action),
             None => self.handle_default(host, event),
         }
     }
@@ -194,37 +165,13 @@ impl<'term, T: Terminal> LineEditor<'term, T> {
         ensures same_reference { self.new.terminal.ghost_name ≡ self.old.terminal.ghost_name }
         ensures used { IsUsed T.follows self.old.terminal.now self.new.terminal.now }
         ensures host { host.new ≡ host.old }
-        ensures ok { let before = frame T.state H.value self.old host.old in
-            let after = frame T.state H.value self.new host.new in
-            OnOk result (Applies H.rules (action_of (event_view event.now)) before after) }
-        ensures err { let before = frame T.state H.value self.old host.old in
-            let after = frame T.state H.value self.new host.new in
-            IfErr result (FailsToApply H.rules H.OVERRIDES (action_of (event_view event.now)) before after) }
+        ensures ok { OnOk result (across T.state H.value (Applies H.rules (action_of (event_view event.now))) self.old host.old self.new host.new) }
+        ensures err { IfErr result (across T.state H.value (FailsToApply H.rules H.OVERRIDES (action_of (event_view event.now))) self.old host.old self.new host.new) }
     {
         match default_action(self.session.alloc(), event)? {
-            Some(action) => self.act(host, action),
+            Some(action) => self.apply_action(host, action),
             None => Ok(()),
         }
-    }
-
-    /// What the host makes of the event.
-    fn resolve<H: LineEditorHost>(
-        &mut self,
-        host: &mut H,
-        event: &InputEvent,
-    ) -> Result<Option<Action>, AllocError>
-        ensures same_reference { self.new.terminal.ghost_name ≡ self.old.terminal.ghost_name }
-        ensures terminal { self.new.terminal.now ≡ self.old.terminal.now }
-        ensures ok { let before = frame T.state H.value self.old host.old in
-            let after = frame T.state H.value self.new host.new in
-            OnOk result (after ≡ answered_frame H.rules (event_view event.now) before) }
-        ensures action { let before = frame T.state H.value self.old host.old in
-            IfOk result (λ action. option_map action_view action
-            ≡ (resolution_of H.rules (progress_of before) (event_view event.now)).action) }
-        ensures err { OnErr result (frame T.state H.value self.new host.new ≡ frame T.state H.value self.old host.old) }
-        ensures own { OnErr result (H.OVERRIDES.resolve_action ≡ true) }
-    {
-        self.session.resolve(host, event)
     }
 
     /// Handles the event, and paints.
@@ -232,28 +179,11 @@ impl<'term, T: Terminal> LineEditor<'term, T> {
     fn advance<H: LineEditorHost>(&mut self, host: &mut H, event: &InputEvent) -> Result<(), Error>
         ensures same_reference { self.new.terminal.ghost_name ≡ self.old.terminal.ghost_name }
         ensures used { IsUsed T.follows self.old.terminal.now self.new.terminal.now }
-        ensures ok { let before = frame T.state H.value self.old host.old in
-            let after = frame T.state H.value self.new host.new in
-            OnOk result (HandlesAndPaints H.rules (event_view event.now) before after) }
-        ensures err { let before = frame T.state H.value self.old host.old in
-            let after = frame T.state H.value self.new host.new in
-            IfErr result (FailsToHandleOrPaint H.rules H.OVERRIDES (event_view event.now) before after) }
+        ensures ok { OnOk result (across T.state H.value (HandlesAndPaints H.rules (event_view event.now)) self.old host.old self.new host.new) }
+        ensures err { IfErr result (across T.state H.value (FailsToHandleOrPaint H.rules H.OVERRIDES (event_view event.now)) self.old host.old self.new host.new) }
     {
         self.handle(host, event)?;
         self.paint(host)
-    }
-
-    /// The next event, if one is left.
-    fn poll(&mut self) -> Result<Option<InputEvent>, TerminalFault>
-        ensures same_reference { self.new.terminal.ghost_name ≡ self.old.terminal.ghost_name }
-        ensures used { IsUsed T.follows self.old.terminal.now self.new.terminal.now }
-        ensures session { self.new.session ≡ self.old.session }
-        ensures ok { IfOk result (λ event. MatchOption event
-            (IsAtEnd (T.state self.old.terminal.now) (T.state self.new.terminal.now))
-            (λ event. Takes (event_view event) (T.state self.old.terminal.now) (T.state self.new.terminal.now))) }
-        ensures err { OnErr result (Fails (T.state self.old.terminal.now) (T.state self.new.terminal.now)) }
-    {
-        self.terminal.poll_input()
     }
 
     /// Takes an event, handles it, and paints. Returns false where the run ends.
@@ -263,14 +193,12 @@ impl<'term, T: Terminal> LineEditor<'term, T> {
         ensures ok { IfOk result (λ more. MatchBool more
             (Continues H.rules H.OVERRIDES (frame T.state H.value self.old host.old) (frame T.state H.value self.new host.new))
             (IsEnded H.rules H.OVERRIDES (frame T.state H.value self.old host.old) (frame T.state H.value self.new host.new))) }
-        ensures err { let before = frame T.state H.value self.old host.old in
-            let after = frame T.state H.value self.new host.new in
-            IfErr result (IsRefusedOn H.rules H.OVERRIDES (T.state self.old.terminal.now).events before after) }
+        ensures err { IfErr result (across T.state H.value (IsRefusedOn H.rules H.OVERRIDES (T.state self.old.terminal.now).events) self.old host.old self.new host.new) }
     {
         if self.session.is_over() {
             return Ok(false);
         }
-        match self.poll()? {
+        match self.terminal.poll_input()? {
             Some(event) => {
                 self.advance(host, &event)?;
                 Ok(true)
@@ -280,27 +208,14 @@ impl<'term, T: Terminal> LineEditor<'term, T> {
     }
 
     /// Takes events up to the end of the run, and returns a copy of the line.
-    #[tactic(auto, using(crate::proofs::TurnLemmas::ended_later, crate::proofs::TurnLemmas::not_copied_if))]
+    #[tactic(auto, using(crate::proofs::TurnLemmas::ended_later))]
     fn run_to_end<H: LineEditorHost>(&mut self, host: &mut H) -> Result<Option<String>, Error>
         ensures same_reference { self.new.terminal.ghost_name ≡ self.old.terminal.ghost_name }
         ensures used { IsUsed T.follows self.old.terminal.now self.new.terminal.now }
-        ensures ok { let before = frame T.state H.value self.old host.old in
-            let after = frame T.state H.value self.new host.new in
-            IfOk result (λ it. IsAnsweredOn H.rules before after (outcome_of (Ok it))) }
-        ensures err { let before = frame T.state H.value self.old host.old in
-            let after = frame T.state H.value self.new host.new in
-            IfErr result (IsRefusedOn H.rules H.OVERRIDES (T.state self.old.terminal.now).events before after) }
+        ensures ok { IfOk result (λ it. across T.state H.value (IsAnsweredOn H.rules) self.old host.old self.new host.new (outcome_of (Ok it))) }
+        ensures err { IfErr result (across T.state H.value (IsRefusedOn H.rules H.OVERRIDES (T.state self.old.terminal.now).events) self.old host.old self.new host.new) }
     {
         while self.turn(host)? {}
-        self.answer()
-    }
-
-    /// What a run returns at its end.
-    fn answer(&self) -> Result<Option<String>, Error>
-        ensures ok { IfOk result (λ it. outcome_of (Ok it) ≡ answer_at self.now.session.state) }
-        ensures err { IfErr result IsMemory }
-        ensures line { OnErr result (IsLine (answer_at self.now.session.state)) }
-    {
         Ok(self.session.answer()?)
     }
 
@@ -322,8 +237,7 @@ impl<'term, T: Terminal> LineEditor<'term, T> {
     fn begin(&mut self, initial: Option<&str>) -> Result<(), AllocError>
         ensures same_reference { self.new.terminal.ghost_name ≡ self.old.terminal.ghost_name }
         ensures terminal { self.new.terminal.now ≡ self.old.terminal.now }
-        ensures ok { let before = own_frame T.state self.old in
-            OnOk result (own_frame T.state self.new ≡ start (initial_text initial.entry) before) }
+        ensures ok { OnOk result (own_frame T.state self.new ≡ start (initial_text initial.entry) (own_frame T.state self.old)) }
         ensures err { OnErr result (own_frame T.state self.new ≡ start None (own_frame T.state self.old)) }
         ensures initial { OnErr result (IsSome (initial_text initial.entry)) }
     {
@@ -343,12 +257,8 @@ impl<'term, T: Terminal> LineEditor<'term, T> {
     ) -> Result<(), Error>
         ensures same_reference { self.new.terminal.ghost_name ≡ self.old.terminal.ghost_name }
         ensures used { IsUsed T.follows self.old.terminal.now self.new.terminal.now }
-        ensures ok { let before = frame T.state H.value self.old host.now in
-            let after = frame T.state H.value self.new host.now in
-            OnOk result (Begins H.rules H.OVERRIDES (start (initial_text initial.entry) before) after) }
-        ensures err { let before = frame T.state H.value self.old host.now in
-            let after = frame T.state H.value self.new host.now in
-            IfErr result (IsNotBegun H.rules (initial_text initial.entry) before after) }
+        ensures ok { OnOk result (across T.state H.value (BeginsWith H.rules H.OVERRIDES (initial_text initial.entry)) self.old host.now self.new host.now) }
+        ensures err { IfErr result (across T.state H.value (IsNotBegun H.rules (initial_text initial.entry)) self.old host.now self.new host.now) }
     {
         match self.begin(initial) {
             Ok(()) => self.paint(host),
@@ -365,12 +275,8 @@ impl<'term, T: Terminal> LineEditor<'term, T> {
     ) -> Result<Option<String>, Error>
         ensures same_reference { self.new.terminal.ghost_name ≡ self.old.terminal.ghost_name }
         ensures used { IsUsed T.follows self.old.terminal.now self.new.terminal.now }
-        ensures ok { let before = frame T.state H.value self.old host.old in
-            let after = frame T.state H.value self.new host.new in
-            IfOk result (λ it. IsAnswered H.rules (start (initial_text initial.entry) before) after (outcome_of (Ok it))) }
-        ensures err { let before = frame T.state H.value self.old host.old in
-            let after = frame T.state H.value self.new host.new in
-            IfErr result (IsTurnedDown H.rules H.OVERRIDES (initial_text initial.entry) before after) }
+        ensures ok { IfOk result (λ it. across T.state H.value (IsAnsweredWith H.rules (initial_text initial.entry)) self.old host.old self.new host.new (outcome_of (Ok it))) }
+        ensures err { IfErr result (across T.state H.value (IsTurnedDown H.rules H.OVERRIDES (initial_text initial.entry)) self.old host.old self.new host.new) }
     {
         self.start_line(host, initial)?;
         self.run_to_end(host)
@@ -397,12 +303,8 @@ impl<'term, T: Terminal> LineEditor<'term, T> {
     ) -> Result<Option<String>, Error>
         ensures same_reference { self.new.terminal.ghost_name ≡ self.old.terminal.ghost_name }
         ensures used { IsUsed T.follows self.old.terminal.now self.new.terminal.now }
-        ensures ok { let before = frame T.state H.value self.old host.old in
-            let after = frame T.state H.value self.new host.new in
-            IfOk result (λ it. Reads (run_of H.rules (start (initial_text initial.entry) before)) before after (outcome_of (Ok it))) }
-        ensures err { let before = frame T.state H.value self.old host.old in
-            let after = frame T.state H.value self.new host.new in
-            IfErr result (FailsToRead H.rules H.OVERRIDES (initial_text initial.entry) before after) }
+        ensures ok { IfOk result (λ it. across T.state H.value (ReadsWith H.rules (initial_text initial.entry)) self.old host.old self.new host.new (outcome_of (Ok it))) }
+        ensures err { IfErr result (across T.state H.value (FailsToRead H.rules H.OVERRIDES (initial_text initial.entry)) self.old host.old self.new host.new) }
     {
         match self.read_open(host, initial) {
             Ok(line) => {
@@ -427,21 +329,12 @@ impl<'term, T: Terminal> LineEditor<'term, T> {
     ) -> Result<Option<String>, Error>
         ensures same_reference { self.new.terminal.ghost_name ≡ self.old.terminal.ghost_name }
         ensures used { IsUsed T.follows self.old.terminal.now self.new.terminal.now }
-        ensures recursive { let before = frame T.state H.value self.old host.old in
-            let after = frame T.state H.value self.new host.new in
-            before.state.mode ≢ Inactive → (result ≡ Err Error.Recursive) × (after ≡ before) }
+        ensures recursive { self.old.session.state.mode ≢ Inactive → (result ≡ Err Error.Recursive) × across T.state H.value IsSame self.old host.old self.new host.new }
         ensures untouched { self.old.session.state.mode ≢ Inactive
             → (self.new.terminal.now ≡ self.old.terminal.now) × (host.new ≡ host.old) }
-        ensures ok { let before = frame T.state H.value self.old host.old in
-            let after = frame T.state H.value self.new host.new in
-            let run = run_of H.rules (start (initial_text initial_value.entry) before) in
-            before.state.mode ≡ Inactive → IfOk result (λ it. Reads run before after (outcome_of (Ok it))) }
-        ensures err { let before = frame T.state H.value self.old host.old in
-            let after = frame T.state H.value self.new host.new in
-            before.state.mode ≡ Inactive → IfErr result (FailsToRead H.rules H.OVERRIDES (initial_text initial_value.entry) before after) }
-        ensures shows { let before = frame T.state H.value self.old host.old in
-            let after = frame T.state H.value self.new host.new in
-            before.state.mode ≡ Inactive → Shows H.rules (start (initial_text initial_value.entry) before) after result }
+        ensures ok { self.old.session.state.mode ≡ Inactive → IfOk result (λ it. across T.state H.value (ReadsWith H.rules (initial_text initial_value.entry)) self.old host.old self.new host.new (outcome_of (Ok it))) }
+        ensures err { self.old.session.state.mode ≡ Inactive → IfErr result (across T.state H.value (FailsToRead H.rules H.OVERRIDES (initial_text initial_value.entry)) self.old host.old self.new host.new) }
+        ensures shows { self.old.session.state.mode ≡ Inactive → across T.state H.value (ShowsWith H.rules (initial_text initial_value.entry)) self.old host.old self.new host.new result }
         ensures failures { FailuresTell result (T.state self.old.terminal.now).failures (T.state self.new.terminal.now).failures }
     {
         if !self.session.is_inactive() {
@@ -454,21 +347,12 @@ impl<'term, T: Terminal> LineEditor<'term, T> {
     pub fn read_line<H: LineEditorHost>(&mut self, host: &mut H) -> Result<Option<String>, Error>
         ensures same_reference { self.new.terminal.ghost_name ≡ self.old.terminal.ghost_name }
         ensures used { IsUsed T.follows self.old.terminal.now self.new.terminal.now }
-        ensures recursive { let before = frame T.state H.value self.old host.old in
-            let after = frame T.state H.value self.new host.new in
-            before.state.mode ≢ Inactive → (result ≡ Err Error.Recursive) × (after ≡ before) }
+        ensures recursive { self.old.session.state.mode ≢ Inactive → (result ≡ Err Error.Recursive) × across T.state H.value IsSame self.old host.old self.new host.new }
         ensures untouched { self.old.session.state.mode ≢ Inactive
             → (self.new.terminal.now ≡ self.old.terminal.now) × (host.new ≡ host.old) }
-        ensures ok { let before = frame T.state H.value self.old host.old in
-            let after = frame T.state H.value self.new host.new in
-            let run = run_of H.rules (start None before) in
-            before.state.mode ≡ Inactive → IfOk result (λ it. Reads run before after (outcome_of (Ok it))) }
-        ensures err { let before = frame T.state H.value self.old host.old in
-            let after = frame T.state H.value self.new host.new in
-            before.state.mode ≡ Inactive → IfErr result (FailsToRead H.rules H.OVERRIDES None before after) }
-        ensures shows { let before = frame T.state H.value self.old host.old in
-            let after = frame T.state H.value self.new host.new in
-            before.state.mode ≡ Inactive → Shows H.rules (start None before) after result }
+        ensures ok { self.old.session.state.mode ≡ Inactive → IfOk result (λ it. across T.state H.value (ReadsWith H.rules None) self.old host.old self.new host.new (outcome_of (Ok it))) }
+        ensures err { self.old.session.state.mode ≡ Inactive → IfErr result (across T.state H.value (FailsToRead H.rules H.OVERRIDES None) self.old host.old self.new host.new) }
+        ensures shows { self.old.session.state.mode ≡ Inactive → across T.state H.value (ShowsWith H.rules None) self.old host.old self.new host.new result }
         ensures failures { FailuresTell result (T.state self.old.terminal.now).failures (T.state self.new.terminal.now).failures }
     {
         self.read_line_with_optional_initial_value(host, None)

@@ -2,17 +2,16 @@
 
 ghost use Rattle.std.specs.Prelude.{◌≡◌, ◌≢◌, Ok, Err, None, IfOk, IfErr, OnOk, true, false};
 ghost use Rattle.std.specs.Borrow.{sem};
-ghost use Rattle.tw_lineedit.specs.Frame.{frame, own_frame};
+ghost use Rattle.tw_lineedit.specs.Frame.{across, own_frame, IsSame};
+ghost use Rattle.tw_lineedit.specs.Lines.{BeginsWith, ShowsFirstWith, FinishesLine};
 ghost use Rattle.tw_lineedit.specs.Lent.{LendsTerminal};
 ghost use Rattle.tw_input.specs.EventView.{event_view};
 ghost use Rattle.tw_terminal.specs.TerminalState.{size_after};
 ghost use Rattle.tw_terminal.specs.Uses.{IsUsed};
 ghost use Rattle.tw_painter.specs.EditState.{Inactive};
-ghost use Rattle.tw_session.specs.Outcomes.{outcome_of, answer_at, is_open};
-ghost use Rattle.tw_lineedit.specs.Run.{ending};
+ghost use Rattle.tw_session.specs.Outcomes.{outcome_of, is_open};
 ghost use Rattle.tw_lineedit.specs.Feeding.{status_if, Begins, FailsToBegin, IsFed, FailsToFeed, FailsToFinish};
-ghost use Rattle.tw_lineedit.specs.ScreenRuns.{ShowsFirst};
-ghost use Rattle.tw_lineedit.specs.Reading.{initial_text, start, Reads, FailuresTell};
+ghost use Rattle.tw_lineedit.specs.Reading.{initial_text, FailuresTell};
 
 use crate::editor::LineEditor;
 use tw_host::LineEditorHost;
@@ -44,20 +43,12 @@ impl<'term, T: Terminal> LineEditor<'term, T> {
     ) -> Result<(), Error>
         ensures same_reference { self.new.terminal.ghost_name ≡ self.old.terminal.ghost_name }
         ensures used { IsUsed T.follows self.old.terminal.now self.new.terminal.now }
-        ensures recursive { let before = frame T.state H.value self.old host.now in
-            let after = frame T.state H.value self.new host.now in
-            before.state.mode ≢ Inactive → (result ≡ Err Error.Recursive) × (after ≡ before) }
+        ensures recursive { self.old.session.state.mode ≢ Inactive → (result ≡ Err Error.Recursive) × across T.state H.value IsSame self.old host.now self.new host.now }
         ensures untouched { self.old.session.state.mode ≢ Inactive → self.new.terminal.now ≡ self.old.terminal.now }
-        ensures ok { let before = frame T.state H.value self.old host.now in
-            let after = frame T.state H.value self.new host.now in
-            before.state.mode ≡ Inactive → OnOk result (Begins H.rules H.OVERRIDES (start (initial_text initial_value.entry) before) after) }
+        ensures ok { self.old.session.state.mode ≡ Inactive → OnOk result (across T.state H.value (BeginsWith H.rules H.OVERRIDES (initial_text initial_value.entry)) self.old host.now self.new host.now) }
         ensures open { self.old.session.state.mode ≡ Inactive → OnOk result (is_open self.new.session.state.mode ≡ true) }
-        ensures err { let before = frame T.state H.value self.old host.now in
-            let after = frame T.state H.value self.new host.now in
-            before.state.mode ≡ Inactive → IfErr result (FailsToBegin H.rules (initial_text initial_value.entry) before after) }
-        ensures shows { let before = frame T.state H.value self.old host.now in
-            let after = frame T.state H.value self.new host.now in
-            before.state.mode ≡ Inactive → OnOk result (ShowsFirst H.rules (start (initial_text initial_value.entry) before) after) }
+        ensures err { self.old.session.state.mode ≡ Inactive → IfErr result (across T.state H.value (FailsToBegin H.rules (initial_text initial_value.entry)) self.old host.now self.new host.now) }
+        ensures shows { self.old.session.state.mode ≡ Inactive → OnOk result (across T.state H.value (ShowsFirstWith H.rules (initial_text initial_value.entry)) self.old host.now self.new host.now) }
         ensures failures { FailuresTell result (T.state self.old.terminal.now).failures (T.state self.new.terminal.now).failures }
     {
         if self.session.is_inactive() {
@@ -81,18 +72,12 @@ impl<'term, T: Terminal> LineEditor<'term, T> {
         requires { size_after (event_view event.now) (T.state self.old.terminal.now).size ≡ (T.state self.old.terminal.now).size }
         ensures same_reference { self.new.terminal.ghost_name ≡ self.old.terminal.ghost_name }
         ensures used { IsUsed T.follows self.old.terminal.now self.new.terminal.now }
-        ensures ended { let before = frame T.state H.value self.old host.old in
-            let after = frame T.state H.value self.new host.new in
-            is_open before.state.mode ≡ false → (result ≡ Ok LineStatus.Ended) × (after ≡ before) }
+        ensures ended { is_open self.old.session.state.mode ≡ false → (result ≡ Ok LineStatus.Ended) × across T.state H.value IsSame self.old host.old self.new host.new }
         ensures untouched { is_open self.old.session.state.mode ≡ false
             → (self.new.terminal.now ≡ self.old.terminal.now) × (host.new ≡ host.old) }
-        ensures ok { let before = frame T.state H.value self.old host.old in
-            let after = frame T.state H.value self.new host.new in
-            is_open before.state.mode ≡ true → OnOk result (IsFed H.rules H.OVERRIDES (event_view event.now) before after) }
+        ensures ok { is_open self.old.session.state.mode ≡ true → OnOk result (across T.state H.value (IsFed H.rules H.OVERRIDES (event_view event.now)) self.old host.old self.new host.new) }
         ensures status { IfOk result (λ status. status ≡ status_if (is_open self.new.session.state.mode)) }
-        ensures err { let before = frame T.state H.value self.old host.old in
-            let after = frame T.state H.value self.new host.new in
-            IfErr result (FailsToFeed H.rules H.OVERRIDES (event_view event.now) before after) }
+        ensures err { IfErr result (across T.state H.value (FailsToFeed H.rules H.OVERRIDES (event_view event.now)) self.old host.old self.new host.new) }
         ensures failures { FailuresTell result (T.state self.old.terminal.now).failures (T.state self.new.terminal.now).failures }
     {
         if self.session.is_open() {
@@ -107,17 +92,11 @@ impl<'term, T: Terminal> LineEditor<'term, T> {
     pub fn finish_line(&mut self) -> Result<Option<String>, Error>
         ensures same_reference { self.new.terminal.ghost_name ≡ self.old.terminal.ghost_name }
         ensures used { IsUsed T.follows self.old.terminal.now self.new.terminal.now }
-        ensures inactive { let before = own_frame T.state self.old in
-            let after = own_frame T.state self.new in
-            before.state.mode ≡ Inactive → (result ≡ Ok None) × (after ≡ before) }
+        ensures inactive { self.old.session.state.mode ≡ Inactive → (result ≡ Ok None) × (own_frame T.state self.new ≡ own_frame T.state self.old) }
         ensures untouched { self.old.session.state.mode ≡ Inactive → self.new.terminal.now ≡ self.old.terminal.now }
-        ensures ok { let before = own_frame T.state self.old in
-            let after = own_frame T.state self.new in
-            let run = ending (answer_at before.state) before in
-            before.state.mode ≢ Inactive → IfOk result (λ it. Reads run before after (outcome_of (Ok it))) }
-        ensures err { let before = own_frame T.state self.old in
-            let after = own_frame T.state self.new in
-            IfErr result (FailsToFinish before after) }
+        ensures ok { self.old.session.state.mode ≢ Inactive
+            → IfOk result (λ it. FinishesLine (own_frame T.state self.old) (own_frame T.state self.new) (outcome_of (Ok it))) }
+        ensures err { IfErr result (FailsToFinish (own_frame T.state self.old) (own_frame T.state self.new)) }
         ensures failures { FailuresTell result (T.state self.old.terminal.now).failures (T.state self.new.terminal.now).failures }
     {
         if self.session.is_inactive() {
@@ -131,19 +110,15 @@ impl<'term, T: Terminal> LineEditor<'term, T> {
     fn end_line(&mut self) -> Result<Option<String>, Error>
         ensures same_reference { self.new.terminal.ghost_name ≡ self.old.terminal.ghost_name }
         ensures used { IsUsed T.follows self.old.terminal.now self.new.terminal.now }
-        ensures ok { let before = own_frame T.state self.old in
-            let after = own_frame T.state self.new in
-            IfOk result (λ it. Reads (ending (answer_at self.old.session.state) before) before after (outcome_of (Ok it))) }
-        ensures err { let before = own_frame T.state self.old in
-            let after = own_frame T.state self.new in
-            IfErr result (FailsToFinish before after) }
+        ensures ok { IfOk result (λ it. FinishesLine (own_frame T.state self.old) (own_frame T.state self.new) (outcome_of (Ok it))) }
+        ensures err { IfErr result (FailsToFinish (own_frame T.state self.old) (own_frame T.state self.new)) }
     {
-        match self.answer() {
+        match self.session.answer() {
             Ok(line) => {
                 self.close()?;
                 Ok(line)
             }
-            Err(refusal) => Err(self.give_up(refusal)),
+            Err(refusal) => Err(self.give_up(Error::Memory(refusal))),
         }
     }
 
@@ -172,12 +147,8 @@ impl<'term, T: Terminal> LineEditor<'term, T> {
     fn open<H: LineEditorHost>(&mut self, host: &H, initial: Option<&str>) -> Result<(), Error>
         ensures same_reference { self.new.terminal.ghost_name ≡ self.old.terminal.ghost_name }
         ensures used { IsUsed T.follows self.old.terminal.now self.new.terminal.now }
-        ensures ok { let before = frame T.state H.value self.old host.now in
-            let after = frame T.state H.value self.new host.now in
-            OnOk result (Begins H.rules H.OVERRIDES (start (initial_text initial.entry) before) after) }
-        ensures err { let before = frame T.state H.value self.old host.now in
-            let after = frame T.state H.value self.new host.now in
-            IfErr result (FailsToBegin H.rules (initial_text initial.entry) before after) }
+        ensures ok { OnOk result (across T.state H.value (BeginsWith H.rules H.OVERRIDES (initial_text initial.entry)) self.old host.now self.new host.now) }
+        ensures err { IfErr result (across T.state H.value (FailsToBegin H.rules (initial_text initial.entry)) self.old host.now self.new host.now) }
     {
         match self.start_line(host, initial) {
             Ok(()) => Ok(()),
@@ -192,12 +163,8 @@ impl<'term, T: Terminal> LineEditor<'term, T> {
         requires open { is_open self.old.session.state.mode ≡ true }
         ensures same_reference { self.new.terminal.ghost_name ≡ self.old.terminal.ghost_name }
         ensures used { IsUsed T.follows self.old.terminal.now self.new.terminal.now }
-        ensures ok { let before = frame T.state H.value self.old host.old in
-            let after = frame T.state H.value self.new host.new in
-            OnOk result (IsFed H.rules H.OVERRIDES (event_view event.now) before after) }
-        ensures err { let before = frame T.state H.value self.old host.old in
-            let after = frame T.state H.value self.new host.new in
-            IfErr result (FailsToFeed H.rules H.OVERRIDES (event_view event.now) before after) }
+        ensures ok { OnOk result (across T.state H.value (IsFed H.rules H.OVERRIDES (event_view event.now)) self.old host.old self.new host.new) }
+        ensures err { IfErr result (across T.state H.value (FailsToFeed H.rules H.OVERRIDES (event_view event.now)) self.old host.old self.new host.new) }
     {
         match self.advance(host, event) {
             Ok(()) => Ok(()),

@@ -1,6 +1,6 @@
 use Rattle.std.proofs.Common.{refl, rules}
 use Rattle.std.proofs.lemmas.Result.{err_from_is_err_and}
-use Rattle.tw_lineedit.proofs.TurnLemmas.{turned_down_later, not_copied_if, ended_later}
+use Rattle.tw_lineedit.proofs.TurnLemmas.{turned_down_later, not_copied, ended_later}
 use Rattle.tw_lineedit.proofs.UseLemmas.{used_then}
 use Rattle.tw_lineedit.proofs.editor.LineEditor+T.run_to_end.Goals as goal
 use Rattle.tw_lineedit.specs.Frame.{frame}
@@ -12,8 +12,16 @@ returns-in_err-turn-clause-err g c =
     (turned_down_later g.H.LineEditorHost.rules g.H.LineEditorHost.OVERRIDES (frame g.T.Terminal.state g.H.LineEditorHost.value c.args.self.now c.args.host.now) (frame g.T.Terminal.state g.H.LineEditorHost.value c.loop.self c.loop.host) (frame g.T.Terminal.state g.H.LineEditorHost.value c.turn.new.self c.turn.new.host)
     c.in_err-turn.field-0.0 c.loop.invariant.follows c.in_err-turn.ensures.err)
 
-pub returns-clause-err : goal.returns-clause-err
-returns-clause-err g c = not_copied_if g.H.LineEditorHost.rules g.H.LineEditorHost.OVERRIDES _ c.answer.result (frame g.T.Terminal.state g.H.LineEditorHost.value c.args.self.now c.args.host.now) _ _ (ended_later g.H.LineEditorHost.rules g.H.LineEditorHost.OVERRIDES _ _ _ c.loop.invariant.follows (rw c.if-branch.false at c.in_ok-turn.ensures.ok)) refl c.answer.ensures.err c.answer.ensures.line
+pub returns-in_err-answer-clause-err : goal.returns-in_err-answer-clause-err
+returns-in_err-answer-clause-err g c =
+    let p = err_from_is_err_and c.from_residual-in_err-answer.result c.from_residual-in_err-answer.ensures.1 in
+    rw (p.1, p.2)
+    (not_copied g.H.LineEditorHost.rules g.H.LineEditorHost.OVERRIDES (frame g.T.Terminal.state g.H.LineEditorHost.value c.args.self.now c.args.host.now)
+    (frame g.T.Terminal.state g.H.LineEditorHost.value c.turn.new.self c.turn.new.host) _ c.in_err-answer.field-0.0
+    (ended_later g.H.LineEditorHost.rules g.H.LineEditorHost.OVERRIDES _ _ _ c.loop.invariant.follows (rw c.if-branch.false at c.in_ok-turn.ensures.ok)) refl c.in_err-answer.ensures.err)
+
+pub returns-in_err-answer-clause-used : goal.returns-in_err-answer-clause-used
+returns-in_err-answer-clause-used g c = used_then g.T.Terminal.follows _ _ _ c.loop.invariant.used c.in_ok-turn.ensures.used
 
 pub loop-preserved : goal.loop-preserved
 loop-preserved g c = record {

@@ -1,6 +1,6 @@
 use Rattle.tw_terminal.specs.Uses.Call.{Refused}
 use Rattle.tw_lineedit.proofs.UseLemmas.{used_once}
-use Rattle.tw_lineedit.proofs.editor.LineEditor+T.act.Goals as goal
+use Rattle.tw_lineedit.proofs.editor.LineEditor+T.apply_action.Goals as goal
 
 pub returns-in_err-render-in-Repaint-clause-used : goal.returns-in_err-render-in-Repaint-clause-used
 returns-in_err-render-in-Repaint-clause-used g c = used_once g.T.Terminal.follows Refused _ _ c.in_err-render-in-Repaint.ensures.refused
