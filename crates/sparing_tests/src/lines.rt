@@ -49,15 +49,42 @@ fn what_is_shown_is_not_sent_again(rt: HostRuntime) -> Result<(), Fail> {
 }
 
 #[test]
-fn a_key_to_the_left_is_a_move(rt: HostRuntime) -> Result<(), Fail> {
+fn a_key_to_the_left_is_one_byte(rt: HostRuntime) -> Result<(), Fail> {
     let shots = [line("> ab", 4), line("> ab", 3)];
-    expect_last(&rt, rt.alloc(), USUAL, NONE, &shots, "\r\x1b[3C")
+    expect_last(&rt, rt.alloc(), USUAL, NONE, &shots, "\x08")
+}
+
+#[test]
+fn the_cursor_goes_the_short_way(rt: HostRuntime) -> Result<(), Fail> {
+    let text = "> abcdefghij";
+    for &(from, to, expected) in &[
+        (12, 9, "\x08\x08\x08"),
+        (12, 8, "\x1b[4D"),
+        (12, 0, "\r"),
+        (4, 5, "\x1b[C"),
+        (2, 12, "\x1b[10C"),
+    ] {
+        let shots = [line(text, from), line(text, to)];
+        expect_last(&rt, rt.alloc(), USUAL, NONE, &shots, expected)?;
+    }
+    Ok(())
+}
+
+#[test]
+fn a_cell_of_the_row_above_is_two_moves_away(rt: HostRuntime) -> Result<(), Fail> {
+    let more = Shot {
+        up: -1,
+        text: "x\r\nb",
+        col: 1,
+    };
+    let shots = [line("a\r\nb", 1), more];
+    expect_last(&rt, rt.alloc(), USUAL, NONE, &shots, "\x1b[A\rx\n")
 }
 
 #[test]
 fn a_shorter_line_is_emptied_behind_its_end(rt: HostRuntime) -> Result<(), Fail> {
     let shots = [line("> abc", 5), line("> ab", 4)];
-    expect_last(&rt, rt.alloc(), USUAL, NONE, &shots, "\r\x1b[4C\x1b[J")
+    expect_last(&rt, rt.alloc(), USUAL, NONE, &shots, "\x08\x1b[J")
 }
 
 #[test]
@@ -70,6 +97,13 @@ fn the_last_row_scrolls(rt: HostRuntime) -> Result<(), Fail> {
     };
     let shots = [line("a\r\nb\r\nc", 1), more];
     expect_last(&rt, rt.alloc(), size, NONE, &shots, "\n\rd")
+}
+
+#[test]
+fn a_full_row_is_followed_by_the_next_one(rt: HostRuntime) -> Result<(), Fail> {
+    let size = ScreenSize { rows: 3, cols: 10 };
+    let shots = [line("> 2345678", 9), line("> 23456789\r\n", 0)];
+    expect_last(&rt, rt.alloc(), size, NONE, &shots, "9\n\r")
 }
 
 #[test]
@@ -98,7 +132,7 @@ fn behind_a_refused_write_a_line_is_sent_whole(rt: HostRuntime) -> Result<(), Fa
 }
 
 #[test]
-fn more_rows_than_the_terminal_has_are_sent_whole(rt: HostRuntime) -> Result<(), Fail> {
+fn of_more_rows_than_the_terminal_has_those_in_sight_are_sent(rt: HostRuntime) -> Result<(), Fail> {
     let size = ScreenSize { rows: 2, cols: 10 };
     let more = Shot {
         up: -2,
@@ -106,6 +140,18 @@ fn more_rows_than_the_terminal_has_are_sent_whole(rt: HostRuntime) -> Result<(),
         col: 2,
     };
     let shots = [line("a\r\nb\r\nc", 1), more];
-    let whole = "\x1b[2A\r\x1b[K\x1b[C\x1b[J\r\x1b[0ma\r\nb\r\ncd\r\x1b[2C";
+    expect_last(&rt, rt.alloc(), size, NONE, &shots, "d")
+}
+
+#[test]
+fn fewer_rows_than_the_terminal_has_are_sent_whole_after_more(rt: HostRuntime) -> Result<(), Fail> {
+    let size = ScreenSize { rows: 2, cols: 10 };
+    let fewer = Shot {
+        up: -2,
+        text: "a",
+        col: 1,
+    };
+    let shots = [line("a\r\nb\r\nc", 1), fewer];
+    let whole = "\x1b[2A\r\x1b[K\x1b[C\x1b[J\r\x1b[0ma\r\x1b[1C";
     expect_last(&rt, rt.alloc(), size, NONE, &shots, whole)
 }

@@ -5,11 +5,11 @@ use Rattle.unicode_segmentation.specs.Grapheme.{graphemes}
 use Rattle.tw_surface.specs.Characters.{is_plain, is_printable}
 use Rattle.tw_surface.specs.ChangeView.{Batch, Text}
 use Rattle.tw_ansi.specs.declared.encode.Encoder.{Encoder}
-use Rattle.tw_ansi.specs.Encoding.{Sent, sent_byte, sent_batch, sent_plain, sent_clusters, ExtendsBytes}
+use Rattle.tw_ansi.specs.Encoding.{Sent, sent_byte, terse_batch, sent_plain, sent_clusters, ExtendsBytes}
 use Rattle.tw_changed.specs.declared.hand.Hand.{Hand}
 use Rattle.tw_changed.specs.declared.redrawer.Redrawer.{Redrawer}
 use Rattle.tw_screens.specs.StyledCells.{StyledCell}
-use Rattle.tw_changed.specs.Redrawings.{Redrawing, at_ease, redraw_then, typed_once, cell_redrawn, run_redrawn, row_redrawn, rows_redrawn, rest_of, rest_emptied, left_of, lowered, handed_to, redrawn}
+use Rattle.tw_changed.specs.Redrawings.{Redrawing, at_ease, redraw_then, typed_once, cell_redrawn, run_redrawn, row_redrawn, rows_redrawn, rest_of, rest_emptied, left_of, lowered, handed_to, rows_drawn_on, drawn_rows, redrawn}
 use Rattle.tw_changed.specs.Sending.{IsAdded}
 use Rattle.tw_changed.proofs.SentBatches.{both_next, both_bytes}
 use Rattle.tw_changed.proofs.SentChanges.{printable_plain}
@@ -19,14 +19,14 @@ pub added_both : (d : Redrawing) (more : Hand → Redrawing) (a b c : Redrawer) 
 added_both d more a b c x y z first second =
     let then : IsAdded (more d.hand) b y c z = subst (λ hand. IsAdded (more hand) b y c z) first.hand second in
     let ys : Batch = (more d.hand).changes in
-    let e : Encoder = (sent_batch d.changes a.encoder).next in
+    let e : Encoder = (terse_batch d.changes a.encoder).next in
     record {
       bytes =
-          then.bytes ∙ ap (λ bytes. bytes ++ (sent_batch ys b.encoder).bytes) first.bytes
-          ∙ ap (λ n. (x ++ (sent_batch d.changes a.encoder).bytes) ++ (sent_batch ys n).bytes) first.next
-          ∙ append_assoc x (sent_batch d.changes a.encoder).bytes (sent_batch ys e).bytes
+          then.bytes ∙ ap (λ bytes. bytes ++ (terse_batch ys b.encoder).bytes) first.bytes
+          ∙ ap (λ n. (x ++ (terse_batch d.changes a.encoder).bytes) ++ (terse_batch ys n).bytes) first.next
+          ∙ append_assoc x (terse_batch d.changes a.encoder).bytes (terse_batch ys e).bytes
           ∙ ap (λ bytes. x ++ bytes) (sym (both_bytes d.changes ys a.encoder));
-      next = then.next ∙ ap (λ n. (sent_batch ys n).next) first.next ∙ sym (both_next d.changes ys a.encoder);
+      next = then.next ∙ ap (λ n. (terse_batch ys n).next) first.next ∙ sym (both_next d.changes ys a.encoder);
       hand = then.hand;
     }
 
@@ -35,8 +35,8 @@ added_none a x = record { bytes = sym (append-nil x); next = refl; hand = refl }
 
 -- what is left to be added ends where all of it does
 pub record SameEnd (d : Redrawing) (now : Redrawer) (x : List ℕ) (all : Redrawing) (old : Redrawer) (before : List ℕ) : Type 0 where
-  pub bytes : x ++ (sent_batch d.changes now.encoder).bytes ≡ before ++ (sent_batch all.changes old.encoder).bytes
-  pub next : (sent_batch d.changes now.encoder).next ≡ (sent_batch all.changes old.encoder).next
+  pub bytes : x ++ (terse_batch d.changes now.encoder).bytes ≡ before ++ (terse_batch all.changes old.encoder).bytes
+  pub next : (terse_batch d.changes now.encoder).next ≡ (terse_batch all.changes old.encoder).next
   pub hand : d.hand ≡ all.hand
 
 pub same_start : (d : Redrawing) (a : Redrawer) (x : List ℕ) → SameEnd d a x d a x
@@ -46,15 +46,15 @@ pub same_step : (d : Redrawing) (more : Hand → Redrawing) (a b old : Redrawer)
     → SameEnd (redraw_then d more) a x all old before → IsAdded d a x b y → SameEnd (more b.hand) b y all old before
 same_step d more a b old x y before all same added =
     let ys : Batch = (more d.hand).changes in
-    let e : Encoder = (sent_batch d.changes a.encoder).next in
+    let e : Encoder = (terse_batch d.changes a.encoder).next in
     subst (λ hand. SameEnd (more hand) b y all old before) (sym added.hand) (record {
       bytes =
-          ap (λ bytes. bytes ++ (sent_batch ys b.encoder).bytes) added.bytes
-          ∙ ap (λ n. (x ++ (sent_batch d.changes a.encoder).bytes) ++ (sent_batch ys n).bytes) added.next
-          ∙ append_assoc x (sent_batch d.changes a.encoder).bytes (sent_batch ys e).bytes
+          ap (λ bytes. bytes ++ (terse_batch ys b.encoder).bytes) added.bytes
+          ∙ ap (λ n. (x ++ (terse_batch d.changes a.encoder).bytes) ++ (terse_batch ys n).bytes) added.next
+          ∙ append_assoc x (terse_batch d.changes a.encoder).bytes (terse_batch ys e).bytes
           ∙ ap (λ bytes. x ++ bytes) (sym (both_bytes d.changes ys a.encoder))
           ∙ same.bytes;
-      next = ap (λ n. (sent_batch ys n).next) added.next ∙ sym (both_next d.changes ys a.encoder) ∙ same.next;
+      next = ap (λ n. (terse_batch ys n).next) added.next ∙ sym (both_next d.changes ys a.encoder) ∙ same.next;
       hand = same.hand;
     })
 
@@ -67,7 +67,7 @@ pub printable_small : (b : ℕ) → is_printable b ≡ true → b ≤ 126
 printable_small b is = leb-true b 126 (and_parts _ _ is).1
 
 typed_is : (b : ℕ) (e : Encoder) → is_plain b ≡ true
-    → ((sent_batch (Text (b ∷ []) ∷ []) e).bytes ≡ (sent_byte e b).bytes) × ((sent_batch (Text (b ∷ []) ∷ []) e).next ≡ (sent_byte e b).next)
+    → ((terse_batch (Text (b ∷ []) ∷ []) e).bytes ≡ (sent_byte e b).bytes) × ((terse_batch (Text (b ∷ []) ∷ []) e).next ≡ (sent_byte e b).next)
 typed_is b e plain =
     let one : Sent = sent_plain (b ∷ []) e in
     let other : Sent = sent_clusters (graphemes true (b ∷ [])) e in (
@@ -121,20 +121,21 @@ rows_end w left new row rows a old x before all done same =
 
 -- ---- all of it
 
-pub redrawn_added : (w v u reached rows : ℕ) (old new : ℕ → ℕ → StyledCell) (to : Hand) (from : Option ℕ) (a b c d e : Redrawer) (x0 x1 x2 x3 x4 : List ℕ)
-    → v ≡ w → u ≡ w → from ≡ rest_of w rows old new
-    → IsAdded (lowered reached rows a.hand) a x0 b x1 → IsAdded (rest_emptied u from b.hand) b x1 c x2
-    → IsAdded (rows_redrawn w (left_of v from old) new 0 rows c.hand) c x2 d x3 → IsAdded (handed_to to d.hand) d x3 e x4
+pub redrawn_added : (w v u reached drawn rows : ℕ) (old new : ℕ → ℕ → StyledCell) (to : Hand) (from : Option ℕ) (a b c d e : Redrawer) (x0 x1 x2 x3 x4 : List ℕ)
+    → v ≡ w → u ≡ w → drawn ≡ drawn_rows w reached rows old new to → from ≡ rest_of w drawn old new
+    → IsAdded (lowered reached drawn a.hand) a x0 b x1 → IsAdded (rest_emptied u from b.hand) b x1 c x2
+    → IsAdded (rows_redrawn w (left_of v from old) new 0 drawn c.hand) c x2 d x3 → IsAdded (handed_to to d.hand) d x3 e x4
     → IsAdded (redrawn w reached rows old new to a.hand) a x0 e x4
-redrawn_added w v u reached rows old new to from a b c d e x0 x1 x2 x3 x4 is_v is_u is_from first second third last =
-    let rest : Option ℕ = rest_of w rows old new in
+redrawn_added w v u reached drawn rows old new to from a b c d e x0 x1 x2 x3 x4 is_v is_u is_drawn is_from first second third last =
+    let rest : Option ℕ = rest_of w drawn old new in
     let last_of : Hand → Redrawing = handed_to to in
-    let third_of : Hand → Redrawing = λ hand. redraw_then (rows_redrawn w (left_of w (rest_of w rows old new) old) new 0 rows hand) last_of in
-    let second_of : Hand → Redrawing = λ hand. redraw_then (rest_emptied w (rest_of w rows old new) hand) third_of in
-    let emptied : IsAdded (rest_emptied w (rest_of w rows old new) b.hand) b x1 c x2 =
+    let third_of : Hand → Redrawing = λ hand. redraw_then (rows_redrawn w (left_of w (rest_of w drawn old new) old) new 0 drawn hand) last_of in
+    let second_of : Hand → Redrawing = λ hand. redraw_then (rest_emptied w (rest_of w drawn old new) hand) third_of in
+    let emptied : IsAdded (rest_emptied w (rest_of w drawn old new) b.hand) b x1 c x2 =
     subst (λ r. IsAdded (rest_emptied w r b.hand) b x1 c x2) is_from (subst (λ n. IsAdded (rest_emptied n from b.hand) b x1 c x2) is_u second) in
-    let typed : IsAdded (rows_redrawn w (left_of w (rest_of w rows old new) old) new 0 rows c.hand) c x2 d x3 =
-    subst (λ r. IsAdded (rows_redrawn w (left_of w r old) new 0 rows c.hand) c x2 d x3) is_from (subst (λ n. IsAdded (rows_redrawn w (left_of n from old) new 0 rows c.hand) c x2 d x3) is_v third) in
-    added_both (lowered reached rows a.hand) second_of a b e x0 x1 x4 first
-    (added_both (rest_emptied w (rest_of w rows old new) b.hand) third_of b c e x1 x2 x4 emptied
-    (added_both (rows_redrawn w (left_of w (rest_of w rows old new) old) new 0 rows c.hand) last_of c d e x2 x3 x4 typed last))
+    let typed : IsAdded (rows_redrawn w (left_of w (rest_of w drawn old new) old) new 0 drawn c.hand) c x2 d x3 =
+    subst (λ r. IsAdded (rows_redrawn w (left_of w r old) new 0 drawn c.hand) c x2 d x3) is_from (subst (λ n. IsAdded (rows_redrawn w (left_of n from old) new 0 drawn c.hand) c x2 d x3) is_v third) in
+    subst (λ n. IsAdded (rows_drawn_on w reached n old new to a.hand) a x0 e x4) is_drawn
+    (added_both (lowered reached drawn a.hand) second_of a b e x0 x1 x4 first
+    (added_both (rest_emptied w (rest_of w drawn old new) b.hand) third_of b c e x1 x2 x4 emptied
+    (added_both (rows_redrawn w (left_of w (rest_of w drawn old new) old) new 0 drawn c.hand) last_of c d e x2 x3 x4 typed last)))

@@ -1,17 +1,16 @@
 -- A picture on which the difference is drawn is the new one.
-use Rattle.std.proofs.Common.{◌≡◌, ◌<◌, ◌≤◌, ◌+◌, ◌-◌, ◌/◌, ◌%◌, ℕ, Bool, true, false, cond, Option, Some, None, ap, ◌∙◌, sym, refl, inl, inr, arith}
+use Rattle.std.proofs.Common.{◌≡◌, ◌<◌, ◌≤◌, ◌+◌, ◌-◌, ◌/◌, ◌%◌, ℕ, Bool, true, false, cond, Option, Some, None, ap, subst, ◌∙◌, sym, refl, inl, inr, ◌⊎◌, arith}
 use Rattle.std.proofs.lemmas.Bool.{cases_lt}
 use Rattle.tw_strokes.specs.Strokes.{PictureOf, cleared_in}
-use Rattle.tw_screens.specs.Pens.{kept_after_all}
+use Rattle.tw_screens.specs.Pens.{strokes_of, kept_after_all}
 use Rattle.tw_screens.specs.StyledCells.{StyledCell, styled}
 use Rattle.tw_changed.specs.Differences.{blank_cell}
 use Rattle.tw_changed.specs.declared.hand.Hand.{Hand}
-use Rattle.tw_changed.specs.Redrawings.{Redrawing, redraw_then, led_to, under, handed_to, rest_of, rest_emptied, left_of, lowered, rows_redrawn, redrawn}
-use Rattle.tw_changed.specs.ChangedScreens.{IsBlankFrom}
-use Rattle.tw_changed.proofs.DrawnRows.{Holds, redrawn_on, redrawn_both, kept_both, leads_both, gone, is_under}
+use Rattle.tw_changed.specs.Redrawings.{Redrawing, redraw_then, led_to, under, handed_to, rest_of, rest_emptied, left_of, lowered, rows_redrawn, rows_drawn_on}
+use Rattle.tw_changed.proofs.DrawnRows.{Holds, redrawn_on, redrawn_both, kept_both, leads_both, rows_inside, is_under}
 use Rattle.tw_changed.specs.Sending.{ArePrintable}
 use Rattle.tw_changed.proofs.DrawnScreens.{rows_drawn}
-use Rattle.tw_changed.proofs.DrawnEnds.{ShowsFrom, rest, rises}
+use Rattle.tw_changed.proofs.DrawnEnds.{ShowsFrom, sinks, rest, rises}
 
 -- cells that are blank where a clearing leaves blanks
 cleared_blank : (old : ℕ → ℕ → StyledCell) (r c i j : ℕ) → old i j ≡ blank_cell → cleared_in old r c blank_cell i j ≡ blank_cell
@@ -28,23 +27,24 @@ left_blank w (Some from) old i j is = cleared_blank old (from / w) (from % w) i 
 module _ (h w : ℕ) where
   -- ---- the cursor and the attributes at the end
 
-  pub record Handed (s : ℕ) (to hand : Hand) (p : PictureOf StyledCell) : Type 0 where
+  pub record Handed (s t : ℕ) (to hand : Hand) (p : PictureOf StyledCell) : Type 0 where
     pub kept : kept_after_all styled hand.attributes (handed_to to hand).changes ≡ to.attributes
-    pub row : (redrawn_on h w hand (handed_to to hand) p).row ≡ s + to.row
+    pub row : (redrawn_on h w hand (handed_to to hand) p).row ≡ t + to.row
     pub col : (redrawn_on h w hand (handed_to to hand) p).col ≡ to.col
-    pub cells : (i j : ℕ) → (redrawn_on h w hand (handed_to to hand) p).cell i j ≡ p.cell i j
+    pub cells : (i j : ℕ) → (redrawn_on h w hand (handed_to to hand) p).cell i j ≡ p.cell (i + (s - t)) j
 
-  pub handed : (s : ℕ) (to hand : Hand) (p : PictureOf StyledCell) → s + to.row < h → to.col < w → Holds s hand p → Handed s to hand p
-  handed s to hand p low left holds =
+  pub handed : (s : ℕ) (to hand : Hand) (p : PictureOf StyledCell) → to.row < h → to.col < w → p.row < h → Holds s hand p → Handed s (s - (s + to.row + 1 - h)) to hand p
+  handed s to hand p low left inside holds =
+      let t : ℕ = s - (s + to.row + 1 - h) in
       let move : Redrawing = led_to to.row to.col hand in
-      let g = gone h w s to.row to.col hand p low left holds in
+      let g = sinks h w s to.row to.col hand p low left inside holds in
       let q : PictureOf StyledCell = redrawn_on h w hand move p in
-      let u = is_under h w s to.attributes move.hand q g.leads.holds in
+      let u = is_under h w (s - (s + to.row + 1 - h)) to.attributes move.hand q g.leads.holds in
       let is = redrawn_both h w hand move (under to.attributes) p g.leads.kept in
-      let both = leads_both h w s hand move (under to.attributes) p g.leads u.leads in
+      let both = leads_both h w (s - (s + to.row + 1 - h)) hand move (under to.attributes) p g.leads u.leads in
       record {
         kept = both.kept ∙ u.attributes;
-        row = both.holds.row ∙ ap (λ n. s + n) (u.row ∙ g.row);
+        row = both.holds.row ∙ ap (λ n. t + n) (u.row ∙ g.row);
         col = both.holds.col ∙ u.col ∙ g.col;
         cells = λ i j. ap (λ (v : PictureOf StyledCell). v.cell i j) is ∙ ap (λ (v : PictureOf StyledCell). v.cell i j) u.same ∙ g.cells i j;
       }
@@ -59,40 +59,58 @@ module _ (h w : ℕ) where
     pub shown : ShowsFrom h w t new (redrawn_on h w hand d p)
     pub above : (i j : ℕ) → i < t → (redrawn_on h w hand d p).cell i j ≡ p.cell (i + (s - t)) j
 
-  pub becomes : (s reached rows : ℕ) (old new : ℕ → ℕ → StyledCell) (to hand : Hand) (p : PictureOf StyledCell)
-      → 0 < w → 0 < rows → rows ≤ h → s + reached ≤ h → p.row < h → to.row < rows → to.col < w
-      → IsBlankFrom rows old → IsBlankFrom rows new → ((i : ℕ) → i < rows → ArePrintable w (new i))
+  -- all of them are drawn, or the cursor ends in the last one
+  abbrev pub ReachesEnd : ℕ → ℕ → Hand → Type 0
+  ReachesEnd drawn rows to = (drawn ≡ rows) ⊎ (to.row + 1 ≡ rows)
+
+  -- the row from which on they are shown at the end
+  end_row : (s drawn rows : ℕ) (to : Hand) → drawn ≤ rows → rows ≤ h → to.row < rows → ReachesEnd drawn rows to
+      → s - (s + drawn - h) - (s - (s + drawn - h) + to.row + 1 - h) ≡ s - (s + rows - h)
+  end_row s drawn rows to fewer most inside (inl all) = omega (arith, all, most, inside)
+  end_row s drawn rows to fewer most inside (inr last) = omega (arith, last, fewer, most)
+
+  -- where no row after those that are drawn shows anything
+  pub becomes : (s reached drawn rows : ℕ) (old new : ℕ → ℕ → StyledCell) (to hand : Hand) (p : PictureOf StyledCell)
+      → 0 < w → drawn ≤ rows → rows ≤ h → s + reached ≤ h → p.row < h → to.row < rows → ReachesEnd drawn rows to → to.col < w
+      → ((i j : ℕ) → drawn ≤ i → j < w → old i j ≡ blank_cell) → ((i j : ℕ) → drawn ≤ i → j < w → new i j ≡ blank_cell) → ((i : ℕ) → i < drawn → ArePrintable w (new i))
       → ShowsFrom h w s old p → Holds s hand p
-      → Becomes s (s - (s + rows - h)) new to hand (redrawn w reached rows old new to hand) p
-  becomes s reached rows old new to hand p some one most low inside to_row to_col old_blank new_blank printable is_old holds =
+      → Becomes s (s - (s + rows - h)) new to hand (rows_drawn_on w reached drawn old new to hand) p
+  becomes s reached drawn rows old new to hand p some fewer most low inside to_row ends to_col old_blank new_blank printable is_old holds =
+      let f : ℕ = s - (s + drawn - h) in
       let t : ℕ = s - (s + rows - h) in
       let last : Hand → Redrawing = handed_to to in
-      let third : Hand → Redrawing = λ rest. redraw_then (rows_redrawn w (left_of w (rest_of w rows old new) old) new 0 rows rest) last in
-      let second : Hand → Redrawing = λ low. redraw_then (rest_emptied w (rest_of w rows old new) low) third in
-      let d1 : Redrawing = lowered reached rows hand in
+      let third : Hand → Redrawing = λ rest. redraw_then (rows_redrawn w (left_of w (rest_of w drawn old new) old) new 0 drawn rest) last in
+      let second : Hand → Redrawing = λ low. redraw_then (rest_emptied w (rest_of w drawn old new) low) third in
+      let d1 : Redrawing = lowered reached drawn hand in
       let p1 : PictureOf StyledCell = redrawn_on h w hand d1 p in
-      let a1 = rises h w s reached rows old hand p some one most low inside is_old holds in
-      let d2 : Redrawing = rest_emptied w (rest_of w rows old new) d1.hand in
+      let a1 = rises h w s reached drawn old hand p some (omega (arith, fewer, most)) low inside is_old holds in
+      let d2 : Redrawing = rest_emptied w (rest_of w drawn old new) d1.hand in
       let p2 : PictureOf StyledCell = redrawn_on h w d1.hand d2 p1 in
-      let room : s - (s + rows - h) + rows ≤ h = omega (arith, most) in
-      let a2 = rest h w (s - (s + rows - h)) rows old new d1.hand p1 some room a1.shown a1.leads.holds in
-      let d3 : Redrawing = rows_redrawn w (left_of w (rest_of w rows old new) old) new 0 rows d2.hand in
+      let room : s - (s + drawn - h) + drawn ≤ h = omega (arith, fewer, most) in
+      let a2 = rest h w (s - (s + drawn - h)) drawn old new d1.hand p1 some room a1.shown a1.leads.holds in
+      let d3 : Redrawing = rows_redrawn w (left_of w (rest_of w drawn old new) old) new 0 drawn d2.hand in
       let p3 : PictureOf StyledCell = redrawn_on h w d2.hand d3 p2 in
-      let a3 = rows_drawn h w (s - (s + rows - h)) 0 rows (left_of w (rest_of w rows old new) old) new d2.hand p2 (omega (arith, room)) (λ i from less. printable i (omega (arith, less))) (λ i j from less left. a2.shown i j left) a2.leads.holds in
+      let a3 = rows_drawn h w (s - (s + drawn - h)) 0 drawn (left_of w (rest_of w drawn old new) old) new d2.hand p2 (omega (arith, room)) (λ i from less. printable i (omega (arith, less))) (λ i j from less left. a2.shown i j left) a2.leads.holds in
       let d4 : Redrawing = handed_to to d3.hand in
       let p4 : PictureOf StyledCell = redrawn_on h w d3.hand d4 p3 in
-      let a4 = handed (s - (s + rows - h)) to d3.hand p3 (omega (arith, room, to_row)) to_col a3.leads.holds in
-      let is : redrawn_on h w hand (redrawn w reached rows old new to hand) p ≡ p4 =
+      let inside1 : p1.row < h = rows_inside h w (strokes_of styled hand.attributes d1.changes) p inside in
+      let inside2 : p2.row < h = rows_inside h w (strokes_of styled d1.hand.attributes d2.changes) p1 inside1 in
+      let inside3 : p3.row < h = rows_inside h w (strokes_of styled d2.hand.attributes d3.changes) p2 inside2 in
+      let a4 = subst (λ n. Handed (s - (s + drawn - h)) n to d3.hand p3) (end_row s drawn rows to fewer most to_row ends)
+      (handed (s - (s + drawn - h)) to d3.hand p3 (omega (arith, to_row, most)) to_col inside3 a3.leads.holds) in
+      let is : redrawn_on h w hand (rows_drawn_on w reached drawn old new to hand) p ≡ p4 =
       redrawn_both h w hand d1 second p a1.leads.kept ∙ redrawn_both h w d1.hand d2 third p1 a2.leads.kept ∙ redrawn_both h w d2.hand d3 last p2 a3.leads.kept in
-      let cell_is : (i j : ℕ) → (redrawn_on h w hand (redrawn w reached rows old new to hand) p).cell i j ≡ p3.cell i j =
+      let cell_is : (i j : ℕ) → (redrawn_on h w hand (rows_drawn_on w reached drawn old new to hand) p).cell i j ≡ p3.cell (i + (f - t)) j =
       λ i j. ap (λ (v : PictureOf StyledCell). v.cell i j) is ∙ a4.cells i j in
       record {
         kept = kept_both h w hand d1 second a1.leads.kept ∙ kept_both h w d1.hand d2 third a2.leads.kept ∙ kept_both h w d2.hand d3 last a3.leads.kept ∙ a4.kept;
         row = ap (λ (v : PictureOf StyledCell). v.row) is ∙ a4.row;
         col = ap (λ (v : PictureOf StyledCell). v.col) is ∙ a4.col;
-        shown = λ i j left. cell_is (s - (s + rows - h) + i) j ∙ elim (cases_lt i rows) [
+        shown = λ i j left. cell_is (s - (s + rows - h) + i) j ∙ ap (λ n. p3.cell n j) (let e : s - (s + rows - h) + i + (f - t) ≡ f + i = omega (arith, fewer, most) in e) ∙ elim (cases_lt i drawn) [
           | inl above ↦ a3.inside i j (omega arith) (omega (arith, above)) left
-          | inr below ↦ a3.below (s - (s + rows - h) + i) j (omega (arith, below)) ∙ a2.shown i j left ∙ left_blank w (rest_of w rows old new) old i j (old_blank i j below) ∙ sym (new_blank i j below)
+          | inr below ↦ a3.below (s - (s + drawn - h) + i) j (omega (arith, below)) ∙ a2.shown i j left ∙ left_blank w (rest_of w drawn old new) old i j (old_blank i j below left) ∙ sym (new_blank i j below left)
         ];
-        above = λ i j up. cell_is i j ∙ a3.above i j (omega (arith, up)) ∙ a2.above i j up ∙ a1.above i j up;
+        above = λ i j up.
+            cell_is i j ∙ a3.above (i + (f - t)) j (omega (arith, up, fewer, most)) ∙ a2.above (i + (f - t)) j (omega (arith, up, fewer, most))
+            ∙ a1.above (i + (f - t)) j (omega (arith, up, fewer, most)) ∙ ap (λ n. p.cell n j) (let e : i + (f - t) + (s - f) ≡ i + (s - t) = omega (arith, fewer, most) in e);
       }

@@ -1,17 +1,18 @@
 -- What a clearing leaves of a picture, and what is seen of it once its last row has come into sight.
-use Rattle.std.proofs.Common.{◌≡◌, ◌<◌, ◌≤◌, ◌+◌, ◌-◌, ◌*◌, ◌/◌, ◌%◌, ◌&&◌, ◌||◌, ℕ, pos, ◌+ℤ◌, ◌-ℤ◌, Bool, true, false, cond, eqb, ltb, leb, min, Some, None, [], ◌∷◌, ap, ◌∙◌, sym, refl, inl, inr, arith}
+use Rattle.std.proofs.Common.{◌≡◌, ◌<◌, ◌≤◌, ◌+◌, ◌-◌, ◌*◌, ◌/◌, ◌%◌, ◌&&◌, ◌||◌, ℕ, suc, pos, ◌+ℤ◌, ◌-ℤ◌, Bool, true, false, cond, eqb, ltb, leb, min, Some, None, [], ◌∷◌, ap, subst, ◌∙◌, sym, refl, inl, inr, arith}
 use Rattle.std.proofs.Math.Nat.{mod-lt, div-lt_iff_lt-mul}
-use Rattle.std.proofs.lemmas.Bool.{cases_eq, cases_lt, eq-eqb, ne_eqb, lt-ltb, le-ltb, ltb-true, leb-true, and_parts, eqb-true}
+use Rattle.std.proofs.lemmas.Nat.{div-mul-add, mod-mul-add, mul-le}
+use Rattle.std.proofs.lemmas.Bool.{cases_eq, cases_lt, eq-eqb, ne_eqb, lt-ltb, le-ltb, ltb-true, leb-true, leb-false, and_parts, eqb-true}
 use Rattle.tw_surface.specs.ChangeView.{CursorPosition}
 use Rattle.tw_surface.specs.declared.change.Position.TheVariants.{Absolute, Relative}
 use Rattle.tw_surface.specs.Positions.{at_least_0}
 use Rattle.tw_strokes.specs.Strokes.{PictureOf, cleared_in}
 use Rattle.tw_screens.specs.StyledCells.{StyledCell}
-use Rattle.tw_changed.specs.Differences.{blank_cell, end_of, is_used}
+use Rattle.tw_changed.specs.Differences.{blank_cell, end_of, is_used, behind_index}
 use Rattle.tw_changed.specs.declared.hand.Hand.{Hand}
 use Rattle.tw_changed.specs.Redrawings.{Redrawing, at_ease, led_to, emptied_here, emptied, rest_of, rest_emptied, left_of, lowered}
 use Rattle.tw_changed.proofs.DrawnRows.{Holds, redrawn_on, redrawn_both, Leads, leads_both, leads_ease, gone, unscrolled, moved_row}
-use Rattle.tw_changed.proofs.FoundColumns.{greatest_cases}
+use Rattle.tw_changed.proofs.FoundColumns.{greatest_cases, same_where}
 
 shifted_eqb : (s i r : ℕ) → eqb (s + i) (s + r) ≡ eqb i r
 shifted_eqb s i r = elim (cases_eq i r) [
@@ -42,6 +43,27 @@ pub end_within : (w rows : ℕ) (cells : ℕ → ℕ → StyledCell) → end_of 
 end_within w rows cells = elim (greatest_cases (is_used w cells) (rows * w)) [
   | inl none ↦ rw none.0 (omega arith)
   | inr found ↦ rw found.1 (let high = found.2.high in omega (arith, high))
+]
+
+-- where some rows end within the first of them, those after these show nothing
+pub blank_after : (w rows k : ℕ) (cells : ℕ → ℕ → StyledCell) → end_of w rows cells ≤ k * w → ((i j : ℕ) → rows ≤ i → cells i j ≡ blank_cell)
+    → (i j : ℕ) → k ≤ i → j < w → cells i j ≡ blank_cell
+blank_after w rows k cells ends blank i j low left = elim (cases_lt i rows) [
+  | inl inside ↦
+      let after : k * w ≤ i * w = mul-le k w i w low (omega arith) in
+      let next : suc i * w ≤ rows * w = mul-le (suc i) w rows w inside (omega arith) in
+      let within : i * w + w ≤ rows * w = omega (arith, next) in
+      let unused : is_used w cells (i * w + j) ≡ false = elim (greatest_cases (is_used w cells) (rows * w)) [
+        | inl none ↦ none.1 (i * w + j) (omega arith) (omega (arith, left, within))
+        | inr found ↦
+            let end : end_of w rows cells ≡ found.0 + 1 = ap behind_index found.1 in
+            found.2.last (i * w + j) (omega (arith, end, ends, after)) (omega (arith, left, within))
+      ] in
+      let row : (i * w + j) / w ≡ i = div-mul-add i w j left in
+      let col : (i * w + j) % w ≡ j = mod-mul-add i w j left in
+      ap (λ n. cells n j) (sym row) ∙ ap (λ n. cells ((i * w + j) / w) n) (sym col)
+      ∙ same_where (λ n. cells ((i * w + j) / w) n) (λ n. blank_cell) ((i * w + j) % w) unused
+  | inr below ↦ blank i j below
 ]
 
 module _ (h w : ℕ) where
@@ -96,6 +118,43 @@ module _ (h w : ℕ) where
       → Turns s (left_of w (rest_of w rows old new) old) hand (rest_emptied w (rest_of w rows old new) hand) p
   rest s rows old new hand p some low is_old holds = rest_cases s rows old new hand p some low is_old holds (ltb (end_of w rows new) (end_of w rows old)) refl
 
+  -- a move to a row of the terminal leads there, and scrolls as far as that needs
+  pub record Sinks (s t r c : ℕ) (hand : Hand) (d : Redrawing) (p : PictureOf StyledCell) : Type 0 where
+    pub leads : Leads h w t hand d p
+    pub row : d.hand.row ≡ r
+    pub col : d.hand.col ≡ c
+    pub attributes : d.hand.attributes ≡ hand.attributes
+    pub cells : (i j : ℕ) → (redrawn_on h w hand d p).cell i j ≡ p.cell (i + (s - t)) j
+
+  sinks_by : (s row col : ℕ) (hand : Hand) (p : PictureOf StyledCell) → row < h → col < w → p.row < h → Holds s hand p
+      → (b : Bool) → (eqb hand.row row && eqb hand.col col) ≡ b
+      → Sinks s (s - (s + row + 1 - h)) row col hand (cond b (at_ease hand) (record { changes = CursorPosition (Absolute col) (Relative (pos row -ℤ pos hand.row)) ∷ []; hand = record hand { row = row; col = col } })) p
+  sinks_by s row col hand p low left inside holds true is =
+      let both = and_parts _ _ is in
+      let there : hand.row ≡ row = eqb-true hand.row row both.0 in
+      record {
+        leads = record { kept = refl; holds = record { row = omega (arith, there, holds.row, inside); col = holds.col } };
+        row = there;
+        col = eqb-true hand.col col both.1;
+        attributes = refl;
+        cells = λ i j. ap (λ n. p.cell n j) (omega (arith, there, holds.row, inside));
+      }
+  sinks_by s row col hand p low left inside holds false is =
+      let there = moved_row p.row s hand.row row holds.row in
+      let q : PictureOf StyledCell = record p { row = at_least_0 (pos p.row +ℤ (pos row -ℤ pos hand.row)); col = min (w - 1) col } in
+      let same_row : q.row ≡ s + row = there in
+      record {
+        leads = record { kept = refl; holds = record { row = omega (arith, same_row, low); col = omega (arith, left) } };
+        row = refl;
+        col = refl;
+        attributes = refl;
+        cells = λ i j. ap (λ n. p.cell n j) (omega (arith, same_row, low));
+      }
+
+  pub sinks : (s row col : ℕ) (hand : Hand) (p : PictureOf StyledCell) → row < h → col < w → p.row < h → Holds s hand p
+      → Sinks s (s - (s + row + 1 - h)) row col hand (led_to row col hand) p
+  sinks s row col hand p low left inside holds = sinks_by s row col hand p low left inside holds (eqb hand.row row && eqb hand.col col) refl
+
   -- ---- the last row comes into sight
 
   -- the picture shows the same cells from row t on, and the rows above are as they were, moved up
@@ -104,19 +163,6 @@ module _ (h w : ℕ) where
     pub shown : ShowsFrom t cells (redrawn_on h w hand d p)
     pub above : (i j : ℕ) → i < t → (redrawn_on h w hand d p).cell i j ≡ p.cell (i + (s - t)) j
 
-  lowered_rises : (s rows : ℕ) (old : ℕ → ℕ → StyledCell) (hand : Hand) (p : PictureOf StyledCell) → 0 < w → 0 < rows → rows ≤ h → ShowsFrom s old p → Holds s hand p
-      → Rises s (s - (s + rows - h)) old hand (record { changes = CursorPosition (Absolute 0) (Relative (pos (rows - 1) -ℤ pos hand.row)) ∷ []; hand = record hand { row = rows - 1; col = 0 } }) p
-  lowered_rises s rows old hand p some one most is_old holds =
-      let there = moved_row p.row s hand.row (rows - 1) holds.row in
-      let q : PictureOf StyledCell = record p { row = at_least_0 (pos p.row +ℤ (pos (rows - 1) -ℤ pos hand.row)); col = min (w - 1) 0 } in
-      let same_row : q.row ≡ s + (rows - 1) = there in
-      let t : ℕ = s - (s + rows - h) in
-      record {
-        leads = record { kept = refl; holds = record { row = omega (arith, same_row, one, most); col = omega (arith, some) } };
-        shown = λ i j left. ap (λ n. p.cell n j) (omega (arith, same_row, one, most)) ∙ is_old i j left;
-        above = λ i j up. ap (λ n. p.cell n j) (omega (arith, same_row, one, most));
-      }
-
   not_lowered : (s t : ℕ) (old : ℕ → ℕ → StyledCell) (hand : Hand) (p : PictureOf StyledCell) → t ≡ s → ShowsFrom s old p → Holds s hand p → Rises s t old hand (at_ease hand) p
   not_lowered s t old hand p same is_old holds = record {
     leads = record { kept = refl; holds = record { row = holds.row ∙ omega (arith, same); col = holds.col } };
@@ -124,20 +170,21 @@ module _ (h w : ℕ) where
     above = λ i j up. ap (λ n. p.cell n j) (omega (arith, same));
   }
 
-  module _ (s reached rows : ℕ) (old : ℕ → ℕ → StyledCell) (hand : Hand) (p : PictureOf StyledCell) (some : 0 < w) (one : 0 < rows) (most : rows ≤ h) (low : s + reached ≤ h)
+  module _ (s reached rows : ℕ) (old : ℕ → ℕ → StyledCell) (hand : Hand) (p : PictureOf StyledCell) (some : 0 < w) (most : rows ≤ h) (low : s + reached ≤ h)
       (inside : p.row < h) (is_old : ShowsFrom s old p) (holds : Holds s hand p) where
-    move_cases : (b : Bool) → (eqb hand.row (rows - 1) && eqb hand.col 0) ≡ b → Rises s (s - (s + rows - h)) old hand
-        (cond b (at_ease hand) (record { changes = CursorPosition (Absolute 0) (Relative (pos (rows - 1) -ℤ pos hand.row)) ∷ []; hand = record hand { row = rows - 1; col = 0 } })) p
-    move_cases true at =
-        let there : hand.row ≡ rows - 1 = eqb-true _ _ (and_parts _ _ at).0 in
-        not_lowered s (s - (s + rows - h)) old hand p (omega (arith, there, inside, holds.row, one)) is_old holds
-    move_cases false at = lowered_rises s rows old hand p some one most is_old holds
-
     lowered_cases : (b : Bool) → leb rows reached ≡ b → Rises s (s - (s + rows - h)) old hand (cond b (at_ease hand) (led_to (rows - 1) 0 hand)) p
     lowered_cases true is =
         let up : rows ≤ reached = leb-true rows reached is in
         not_lowered s (s - (s + rows - h)) old hand p (omega (arith, up, low)) is_old holds
-    lowered_cases false is = move_cases (eqb hand.row (rows - 1) && eqb hand.col 0) refl
+    lowered_cases false is =
+        let one : 0 < rows = let more : reached < rows = leb-false rows reached is in omega (arith, more) in
+        let k = sinks s (rows - 1) 0 hand p (omega (arith, one, most)) some inside holds in
+        let last : s - (s + (rows - 1) + 1 - h) ≡ s - (s + rows - h) = omega (arith, one) in
+        subst (λ t. Rises s t old hand (led_to (rows - 1) 0 hand) p) last (record {
+          leads = k.leads;
+          shown = λ i j left. k.cells (s - (s + (rows - 1) + 1 - h) + i) j ∙ ap (λ n. p.cell n j) (omega arith) ∙ is_old i j left;
+          above = λ i j up. k.cells i j;
+        })
 
     pub rises : Rises s (s - (s + rows - h)) old hand (lowered reached rows hand) p
     rises = lowered_cases (leb rows reached) refl

@@ -1,5 +1,5 @@
 -- Rows that are drawn.
-use Rattle.std.proofs.Common.{◌≡◌, ◌<◌, ◌≤◌, ◌+◌, ◌-◌, ◌&&◌, ℕ, ℤ, zero, suc, pos, negsuc, ◌+ℤ◌, ◌-ℤ◌, Bool, true, false, cond, eqb, min, Some, [], ◌∷◌, ap, ◌∙◌, sym, refl, inl, inr, arith}
+use Rattle.std.proofs.Common.{◌≡◌, ◌<◌, ◌≤◌, ◌+◌, ◌-◌, ◌&&◌, ℕ, ℤ, zero, suc, pos, negsuc, ◌+ℤ◌, ◌-ℤ◌, Bool, true, false, cond, eqb, min, Some, List, [], ◌∷◌, ap, ◌∙◌, sym, refl, inl, inr, arith}
 use Rattle.std.proofs.lemmas.Bool.{eq-eqb, ne_eqb, eqb-true, cases_eq, and_parts, leb-true}
 use Rattle.std.proofs.lemmas.Int.{ints}
 use Rattle.tw_surface.specs.declared.cell.CellAttributes.{CellAttributes}
@@ -21,6 +21,11 @@ use Rattle.tw_changed.specs.Redrawings.{Redrawing, at_ease, redraw_then, led_to,
 -- a picture whose cursor stands in one of h rows does not scroll
 pub unscrolled : {C : Type 0} (h : ℕ) (p : PictureOf C) → p.row < h → ((scrolled (Some h) p).row ≡ p.row) × ((i j : ℕ) → (scrolled (Some h) p).cell i j ≡ p.cell i j)
 unscrolled h p low = (omega (arith, low), λ i j. ap (λ k. p.cell k j) (omega (arith, low)))
+
+-- and stands in one of them after any strokes
+pub rows_inside : {C : Type 0} (h w : ℕ) (strokes : List (Stroke C)) (p : PictureOf C) → p.row < h → (steps_on (Some h) w strokes p).row < h
+rows_inside h w [] p low = low
+rows_inside h w (x ∷ strokes) p low = rows_inside h w strokes (scrolled (Some h) (step w x p)) (omega (arith, low))
 
 -- the cursor of a picture stands where the hand is, whose row 0 is row s of the picture
 pub record Holds (s : ℕ) (hand : Hand) (p : PictureOf StyledCell) : Type 0 where

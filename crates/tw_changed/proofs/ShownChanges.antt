@@ -1,7 +1,7 @@
 -- A terminal that is sent the difference of two screens shows the new one.
-use Rattle.std.proofs.Common.{◌≡◌, ◌<◌, ◌≤◌, ◌+◌, ◌-◌, ◌/◌, ◌%◌, ◌^◌, ℕ, Bool, true, false, not, pos, ◌-ℤ◌, ◌&&◌, eqb, leb, cond, ltb, min, Some, None, [], ◌∷◌, ◌++◌, ap, subst, ◌∙◌, sym, refl, inl, inr, arith}
+use Rattle.std.proofs.Common.{◌≡◌, ◌<◌, ◌≤◌, ◌+◌, ◌-◌, ◌/◌, ◌%◌, ◌^◌, ℕ, Bool, true, false, not, pos, ◌-ℤ◌, ◌&&◌, eqb, leb, cond, ltb, min, Some, None, [], ◌∷◌, ◌++◌, ap, subst, ◌∙◌, sym, refl, ◌*◌, inl, inr, arith}
 use Rattle.std.proofs.Math.Nat.{mod-lt, div-lt_iff_lt-mul}
-use Rattle.std.proofs.lemmas.Bool.{cases_lt, lt-ltb, le-ltb, ltb-true}
+use Rattle.std.proofs.lemmas.Bool.{cases_lt, lt-ltb, le-ltb, ltb-true, leb-true, eqb-true, and_parts}
 use Rattle.tw_surface.specs.declared.cell.CellAttributes.{CellAttributes}
 use Rattle.tw_surface.specs.ChangeView.{Batch}
 use Rattle.tw_surface.specs.ChangeView.{AllAttributes, CursorPosition}
@@ -13,21 +13,21 @@ use Rattle.tw_screens.specs.Pens.{change_strokes, strokes_of, kept_after_all}
 use Rattle.tw_screens.specs.StyledCells.{StyledCell, styled}
 use Rattle.tw_ansi.specs.declared.encode.Encoder.{Encoder}
 use Rattle.tw_ansi.specs.Sequences.{most_rows}
-use Rattle.tw_ansi.specs.Encoding.{sent_change, sent_batch}
+use Rattle.tw_ansi.specs.Encoding.{sent_change, terse_batch}
 use Rattle.tw_ansi.specs.EcmaScreen.{EcmaScreen, receive_all}
 use Rattle.tw_ansi.specs.EcmaLaws.{IsColor}
 use Rattle.tw_ansi.specs.EcmaTexts.{ShowsPicture}
 use Rattle.tw_ansi.specs.EcmaBatches.{CarriesAttributes, AreSendable}
 use Rattle.tw_ansi.proofs.EcmaSequences.{received}
-use Rattle.tw_ansi.proofs.EcmaBatches.{keeps_change, batch_is_shown}
-use Rattle.tw_changed.specs.Differences.{end_of}
+use Rattle.tw_ansi.proofs.EcmaBatches.{keeps_change, terse_next, terse_batch_is_shown}
+use Rattle.tw_changed.specs.Differences.{end_of, blank_cell}
 use Rattle.tw_changed.specs.declared.hand.Hand.{Hand}
-use Rattle.tw_changed.specs.Redrawings.{Redrawing, at_ease, redraw_then, led_to, emptied_here, emptied, rest_of, rest_emptied, left_of, lowered, rows_redrawn, handed_to, redrawn}
+use Rattle.tw_changed.specs.Redrawings.{Redrawing, at_ease, redraw_then, led_to, emptied_here, emptied, rest_of, rest_emptied, left_of, lowered, rows_redrawn, handed_to, rows_drawn_on, drawn_rows, redrawn}
 use Rattle.tw_changed.specs.ChangedScreens.{IsInk, IsInked, IsHandWithin, IsBlankFrom, IsSeenFrom, turned_to, ChangedIsShown}
 use Rattle.tw_changed.proofs.DrawnRows.{Holds, redrawn_on, redrawn_both, gone}
 use Rattle.tw_changed.proofs.DrawnScreens.{rows_drawn}
-use Rattle.tw_changed.proofs.DrawnEnds.{end_within, rest, rises}
-use Rattle.tw_changed.proofs.DrawnChangedScreens.{becomes, handed}
+use Rattle.tw_changed.proofs.DrawnEnds.{end_within, blank_after, rest, rises}
+use Rattle.tw_changed.proofs.DrawnChangedScreens.{ReachesEnd, becomes, handed}
 use Rattle.tw_changed.proofs.SentBatches.{both_next, both_bytes}
 use Rattle.tw_changed.proofs.SentChanges.{all_sendable, sent_move, sent_rows, sent_handed, sent_lowered}
 
@@ -54,39 +54,40 @@ follows change a = refl
 
 module _ (h w : ℕ) where
   -- the attributes that are kept are those that the encoder then knows
-  keeps_all : (xs : Batch) (e : Encoder) (p : PictureOf StyledCell) → AreSendable styled h w e xs p → kept_after_all styled e.attributes xs ≡ (sent_batch xs e).next.attributes
+  keeps_all : (xs : Batch) (e : Encoder) (p : PictureOf StyledCell) → AreSendable styled h w e xs p → kept_after_all styled e.attributes xs ≡ (terse_batch xs e).next.attributes
   keeps_all [] e p fits = refl
   keeps_all (x ∷ xs) e p fits =
       ap (λ a. kept_after_all styled a xs) (keeps_change styled h w x e p follows fits.0)
       ∙ keeps_all xs (sent_change x e).next (steps_on (Some h) w (change_strokes styled (styled.attributes e.attributes) x) p) fits.1
+      ∙ ap (λ n. (terse_batch xs n).next.attributes) (sym (terse_next styled x e))
 
   -- the terminal is sent the changes of a redrawing, and shows what they leave of the picture
   pub record Sends (hand : Hand) (d : Redrawing) (e : Encoder) (t : EcmaScreen StyledCell) (p : PictureOf StyledCell) : Type 0 where
-    pub shown : ShowsPicture styled h w (sent_batch d.changes e).next (receive_all styled h w (sent_batch d.changes e).bytes t) (redrawn_on h w hand d p)
-    pub attributes : d.hand.attributes ≡ (sent_batch d.changes e).next.attributes
+    pub shown : ShowsPicture styled h w (terse_batch d.changes e).next (receive_all styled h w (terse_batch d.changes e).bytes t) (redrawn_on h w hand d p)
+    pub attributes : d.hand.attributes ≡ (terse_batch d.changes e).next.attributes
 
   sends : (hand : Hand) (d : Redrawing) (e : Encoder) (t : EcmaScreen StyledCell) (p : PictureOf StyledCell) → 0 < w → w < 2 ^ 64
       → AreSendable styled h w e d.changes p → hand.attributes ≡ e.attributes → kept_after_all styled hand.attributes d.changes ≡ d.hand.attributes
       → ShowsPicture styled h w e t p → Sends hand d e t p
   sends hand d e t p some small fits same kept a = record {
-    shown = subst (λ (c : CellAttributes). ShowsPicture styled h w (sent_batch d.changes e).next (receive_all styled h w (sent_batch d.changes e).bytes t) (steps_on (Some h) w (strokes_of styled c d.changes) p)) (sym same)
-        (batch_is_shown styled h w d.changes e t p follows some small fits a);
+    shown = subst (λ (c : CellAttributes). ShowsPicture styled h w (terse_batch d.changes e).next (receive_all styled h w (terse_batch d.changes e).bytes t) (steps_on (Some h) w (strokes_of styled c d.changes) p)) (sym same)
+        (terse_batch_is_shown styled h w d.changes e t p follows some small fits a);
     attributes = sym kept ∙ ap (λ c. kept_after_all styled c d.changes) same ∙ keeps_all d.changes e p fits;
   }
 
   sends_both : (hand : Hand) (d : Redrawing) (more : Hand → Redrawing) (e : Encoder) (t : EcmaScreen StyledCell) (p : PictureOf StyledCell)
       → kept_after_all styled hand.attributes d.changes ≡ d.hand.attributes
-      → Sends d.hand (more d.hand) (sent_batch d.changes e).next (receive_all styled h w (sent_batch d.changes e).bytes t) (redrawn_on h w hand d p)
+      → Sends d.hand (more d.hand) (terse_batch d.changes e).next (receive_all styled h w (terse_batch d.changes e).bytes t) (redrawn_on h w hand d p)
       → Sends hand (redraw_then d more) e t p
   sends_both hand d more e t p kept b =
       let xs : Batch = d.changes in
       let ys : Batch = (more d.hand).changes in
-      let mid : Encoder = (sent_batch xs e).next in
+      let mid : Encoder = (terse_batch xs e).next in
       record {
-        shown = subst (λ q. ShowsPicture styled h w (sent_batch (xs ++ ys) e).next (receive_all styled h w (sent_batch (xs ++ ys) e).bytes t) q) (sym (redrawn_both h w hand d more p kept))
-            (subst (λ bytes. ShowsPicture styled h w (sent_batch (xs ++ ys) e).next (receive_all styled h w bytes t) (redrawn_on h w d.hand (more d.hand) (redrawn_on h w hand d p))) (sym (both_bytes xs ys e))
-            (subst (λ u. ShowsPicture styled h w (sent_batch (xs ++ ys) e).next u (redrawn_on h w d.hand (more d.hand) (redrawn_on h w hand d p))) (sym (received styled h w (sent_batch xs e).bytes (sent_batch ys mid).bytes t))
-            (subst (λ n. ShowsPicture styled h w n (receive_all styled h w (sent_batch ys mid).bytes (receive_all styled h w (sent_batch xs e).bytes t)) (redrawn_on h w d.hand (more d.hand) (redrawn_on h w hand d p))) (sym (both_next xs ys e)) b.shown)));
+        shown = subst (λ q. ShowsPicture styled h w (terse_batch (xs ++ ys) e).next (receive_all styled h w (terse_batch (xs ++ ys) e).bytes t) q) (sym (redrawn_both h w hand d more p kept))
+            (subst (λ bytes. ShowsPicture styled h w (terse_batch (xs ++ ys) e).next (receive_all styled h w bytes t) (redrawn_on h w d.hand (more d.hand) (redrawn_on h w hand d p))) (sym (both_bytes xs ys e))
+            (subst (λ u. ShowsPicture styled h w (terse_batch (xs ++ ys) e).next u (redrawn_on h w d.hand (more d.hand) (redrawn_on h w hand d p))) (sym (received styled h w (terse_batch xs e).bytes (terse_batch ys mid).bytes t))
+            (subst (λ n. ShowsPicture styled h w n (receive_all styled h w (terse_batch ys mid).bytes (receive_all styled h w (terse_batch xs e).bytes t)) (redrawn_on h w d.hand (more d.hand) (redrawn_on h w hand d p))) (sym (both_next xs ys e)) b.shown)));
         attributes = b.attributes ∙ ap (λ (n : Encoder). n.attributes) (sym (both_next xs ys e));
       }
 
@@ -99,13 +100,13 @@ module _ (h w : ℕ) where
       let q : PictureOf StyledCell = redrawn_on h w hand move p in
       let there = sent_move (from / w) (from % w) hand (omega (arith, low, most)) held in
       let m = sends hand move e t p some small (all_sendable h w move.changes e p there.easy) same g.leads.kept a in
-      let known : Encoder = (sent_batch move.changes e).next in
-      let colors : (sent_batch move.changes e).next.attributes ≡ e.attributes = sym m.attributes ∙ g.attributes ∙ same in
-      let by_bytes : IsColor (sent_batch move.changes e).next.attributes.background = subst (λ (c : CellAttributes). IsColor c.background) (sym colors) color in
+      let known : Encoder = (terse_batch move.changes e).next in
+      let colors : (terse_batch move.changes e).next.attributes ≡ e.attributes = sym m.attributes ∙ g.attributes ∙ same in
+      let by_bytes : IsColor (terse_batch move.changes e).next.attributes.background = subst (λ (c : CellAttributes). IsColor c.background) (sym colors) color in
       let at_col : q.col ≡ from % w = g.leads.holds.col ∙ g.col in
       let more : Hand → Redrawing = emptied_here in
       sends_both hand move more e t p g.leads.kept
-      (sends move.hand (more move.hand) (sent_batch move.changes e).next (receive_all styled h w (sent_batch move.changes e).bytes t) q some small
+      (sends move.hand (more move.hand) (terse_batch move.changes e).next (receive_all styled h w (terse_batch move.changes e).bytes t) q some small
       ((tt, by_bytes, refl, λ edge. absurd (omega (arith, edge, at_col, left))), tt) m.attributes refl m.shown)
 
   module _ (s rows : ℕ) (old new : ℕ → ℕ → StyledCell) (hand : Hand) (e : Encoder) (t : EcmaScreen StyledCell) (p : PictureOf StyledCell) (some : 0 < w) (small : w < 2 ^ 64) (low : s + rows ≤ h) (most : h ≤ most_rows)
@@ -123,46 +124,47 @@ module _ (h w : ℕ) where
 
   -- ---- all of it
 
-  module _ (s reached rows : ℕ) (old new : ℕ → ℕ → StyledCell) (hand to : Hand) (e : Encoder) (t : EcmaScreen StyledCell) (p : PictureOf StyledCell)
+  module _ (s reached drawn rows : ℕ) (old new : ℕ → ℕ → StyledCell) (hand to : Hand) (e : Encoder) (t : EcmaScreen StyledCell) (p : PictureOf StyledCell)
       (some : 0 < w) (small : w < 2 ^ 64) (most : h ≤ most_rows) (room : rows ≤ h) (low : s + reached ≤ h)
+      (fewer : drawn ≤ rows) (ends : ReachesEnd h w drawn rows to)
       (inked : IsInked w rows new) (reach : IsHandWithin w rows to) (seen : IsSeenFrom w s old hand p)
       (same : hand.attributes ≡ e.attributes) (color : IsColor e.attributes.background) (a : ShowsPicture styled h w e t p) where
-    changed_sends : Sends hand (redrawn w reached rows old new to hand) e t p
+    changed_sends : Sends hand (rows_drawn_on w reached drawn old new to hand) e t p
     changed_sends =
         let holds : Holds s hand p = record { row = seen.row; col = seen.col } in
-        let one : 0 < rows = omega (arith, reach.row) in
+        let top : drawn ≤ h = omega (arith, fewer, room) in
         let inside : p.row < h = a.within.row in
         let held : hand.row ≤ most_rows = omega (arith, seen.row, inside, most) in
         let last : Hand → Redrawing = handed_to to in
-        let third : Hand → Redrawing = λ rest. redraw_then (rows_redrawn w (left_of w (rest_of w rows old new) old) new 0 rows rest) last in
-        let second : Hand → Redrawing = λ low. redraw_then (rest_emptied w (rest_of w rows old new) low) third in
-        let d1 : Redrawing = lowered reached rows hand in
+        let third : Hand → Redrawing = λ rest. redraw_then (rows_redrawn w (left_of w (rest_of w drawn old new) old) new 0 drawn rest) last in
+        let second : Hand → Redrawing = λ low. redraw_then (rest_emptied w (rest_of w drawn old new) low) third in
+        let d1 : Redrawing = lowered reached drawn hand in
         let p1 : PictureOf StyledCell = redrawn_on h w hand d1 p in
-        let a1 = rises h w s reached rows old hand p some one room low inside seen.cell holds in
-        let i1 = sent_lowered reached rows hand (omega (arith, room, most)) held in
+        let a1 = rises h w s reached drawn old hand p some top low inside seen.cell holds in
+        let i1 = sent_lowered reached drawn hand (omega (arith, room, most)) held in
         let s1 = sends hand d1 e t p some small (all_sendable h w d1.changes e p i1.easy) same a1.leads.kept a in
-        let e1 : Encoder = (sent_batch d1.changes e).next in
-        let t1 : EcmaScreen StyledCell = receive_all styled h w (sent_batch d1.changes e).bytes t in
-        let up : s - (s + rows - h) + rows ≤ h = omega (arith, room) in
-        let color1 : IsColor (sent_batch d1.changes e).next.attributes.background =
-        subst (λ (c : CellAttributes). IsColor c.background) (sym (sym s1.attributes ∙ lowered_keeps reached rows hand ∙ same)) color in
-        let d2 : Redrawing = rest_emptied w (rest_of w rows old new) d1.hand in
+        let e1 : Encoder = (terse_batch d1.changes e).next in
+        let t1 : EcmaScreen StyledCell = receive_all styled h w (terse_batch d1.changes e).bytes t in
+        let up : s - (s + drawn - h) + drawn ≤ h = omega (arith, top) in
+        let color1 : IsColor (terse_batch d1.changes e).next.attributes.background =
+        subst (λ (c : CellAttributes). IsColor c.background) (sym (sym s1.attributes ∙ lowered_keeps reached drawn hand ∙ same)) color in
+        let d2 : Redrawing = rest_emptied w (rest_of w drawn old new) d1.hand in
         let p2 : PictureOf StyledCell = redrawn_on h w d1.hand d2 p1 in
-        let a2 = rest h w (s - (s + rows - h)) rows old new d1.hand p1 some up a1.shown a1.leads.holds in
-        let s2 = rest_sends (s - (s + rows - h)) rows old new d1.hand e1 t1 p1 some small up most i1.low a1.leads.holds s1.attributes color1 s1.shown in
-        let e2 : Encoder = (sent_batch d2.changes e1).next in
-        let t2 : EcmaScreen StyledCell = receive_all styled h w (sent_batch d2.changes e1).bytes t1 in
+        let a2 = rest h w (s - (s + drawn - h)) drawn old new d1.hand p1 some up a1.shown a1.leads.holds in
+        let s2 = rest_sends (s - (s + drawn - h)) drawn old new d1.hand e1 t1 p1 some small up most i1.low a1.leads.holds s1.attributes color1 s1.shown in
+        let e2 : Encoder = (terse_batch d2.changes e1).next in
+        let t2 : EcmaScreen StyledCell = receive_all styled h w (terse_batch d2.changes e1).bytes t1 in
         let held2 : d2.hand.row ≤ most_rows = omega (arith, a2.leads.holds.row, s2.shown.within.row, most) in
-        let ink : (i j : ℕ) → 0 ≤ i → i < 0 + rows → j < w → IsInk (new i j) = λ i j from less left. inked.ink i j (omega (arith, less)) left in
-        let d3 : Redrawing = rows_redrawn w (left_of w (rest_of w rows old new) old) new 0 rows d2.hand in
+        let ink : (i j : ℕ) → 0 ≤ i → i < 0 + drawn → j < w → IsInk (new i j) = λ i j from less left. inked.ink i j (omega (arith, less, fewer)) left in
+        let d3 : Redrawing = rows_redrawn w (left_of w (rest_of w drawn old new) old) new 0 drawn d2.hand in
         let p3 : PictureOf StyledCell = redrawn_on h w d2.hand d3 p2 in
-        let a3 = rows_drawn h w (s - (s + rows - h)) 0 rows (left_of w (rest_of w rows old new) old) new d2.hand p2 (omega (arith, up))
+        let a3 = rows_drawn h w (s - (s + drawn - h)) 0 drawn (left_of w (rest_of w drawn old new) old) new d2.hand p2 (omega (arith, up))
         (λ i from less j left. (ink i j from less left).0) (λ i j from less left. a2.shown i j left) a2.leads.holds in
-        let i3 = sent_rows w 0 rows (left_of w (rest_of w rows old new) old) new d2.hand ink (omega (arith, room, most)) held2 in
+        let i3 = sent_rows w 0 drawn (left_of w (rest_of w drawn old new) old) new d2.hand ink (omega (arith, top, most)) held2 in
         let s3 = sends d2.hand d3 e2 t2 p2 some small (all_sendable h w d3.changes e2 p2 i3.easy) s2.attributes a3.leads.kept s2.shown in
-        let e3 : Encoder = (sent_batch d3.changes e2).next in
-        let t3 : EcmaScreen StyledCell = receive_all styled h w (sent_batch d3.changes e2).bytes t2 in
-        let a4 = handed h w (s - (s + rows - h)) to d3.hand p3 (omega (arith, up, reach.row)) reach.col a3.leads.holds in
+        let e3 : Encoder = (terse_batch d3.changes e2).next in
+        let t3 : EcmaScreen StyledCell = receive_all styled h w (terse_batch d3.changes e2).bytes t2 in
+        let a4 = handed h w (s - (s + drawn - h)) to d3.hand p3 (omega (arith, reach.row, room)) reach.col s3.shown.within.row a3.leads.holds in
         let i4 = sent_handed to d3.hand reach.colors (omega (arith, reach.row, room, most)) i3.low in
         let s4 = sends d3.hand (handed_to to d3.hand) e3 t3 p3 some small (all_sendable h w (handed_to to d3.hand).changes e3 p3 i4.easy) s3.attributes (a4.kept ∙ sym (handed_attributes to d3.hand)) s3.shown in
         sends_both hand d1 second e t p a1.leads.kept
@@ -170,14 +172,15 @@ module _ (h w : ℕ) where
         (sends_both d2.hand d3 last e2 t2 p2 a3.leads.kept s4))
 
     -- the picture is what it was made into
-    pub changed_is_turned : IsBlankFrom rows old → ShowsPicture styled h w (sent_batch (redrawn w reached rows old new to hand).changes e).next
-        (receive_all styled h w (sent_batch (redrawn w reached rows old new to hand).changes e).bytes t) (turned_to s (s - (s + rows - h)) new to p)
-    changed_is_turned blank =
+    pub changed_is_turned : ((i j : ℕ) → drawn ≤ i → j < w → old i j ≡ blank_cell) → ((i j : ℕ) → drawn ≤ i → j < w → new i j ≡ blank_cell)
+        → ShowsPicture styled h w (terse_batch (rows_drawn_on w reached drawn old new to hand).changes e).next
+        (receive_all styled h w (terse_batch (rows_drawn_on w reached drawn old new to hand).changes e).bytes t) (turned_to s (s - (s + rows - h)) new to p)
+    changed_is_turned old_blank new_blank =
         let x = changed_sends in
-        let d : Redrawing = redrawn w reached rows old new to hand in
+        let d : Redrawing = rows_drawn_on w reached drawn old new to hand in
         let f : ℕ = s - (s + rows - h) in
-        let b = becomes h w s reached rows old new to hand p some (omega (arith, reach.row)) room low a.within.row reach.row reach.col blank inked.blank
-        (λ i less j left. (inked.ink i j less left).0) seen.cell (record { row = seen.row; col = seen.col }) in
+        let b = becomes h w s reached drawn rows old new to hand p some fewer room low a.within.row reach.row ends reach.col old_blank new_blank
+        (λ i less j left. (inked.ink i j (omega (arith, less, fewer)) left).0) seen.cell (record { row = seen.row; col = seen.col }) in
         let q : PictureOf StyledCell = redrawn_on h w hand d p in
         let goal : PictureOf StyledCell = turned_to s (s - (s + rows - h)) new to p in
         let same_cell : (i j : ℕ) → i < h → j < w → q.cell i j ≡ goal.cell i j =
@@ -196,7 +199,7 @@ module _ (h w : ℕ) where
           cells = λ r c inside left. x.shown.cells r c inside left ∙ same_cell r c inside left;
           row = x.shown.row ∙ b.row;
           col = x.shown.col ∙ ap (λ n. min n (w - 1)) b.col;
-          waits = x.shown.waits ∙ ap (λ n. eqb n w && not (sent_batch d.changes e).next.parted) b.col;
+          waits = x.shown.waits ∙ ap (λ n. eqb n w && not (terse_batch d.changes e).next.parted) b.col;
           parted = λ is. sym b.col ∙ x.shown.parted is;
           reading = x.shown.reading;
           rendition = x.shown.rendition;
@@ -204,12 +207,44 @@ module _ (h w : ℕ) where
           x = x.shown.x ∙ b.col;
         }
 
+-- the rows that are drawn are enough
+record Enough (h w reached rows drawn : ℕ) (old new : ℕ → ℕ → StyledCell) (to : Hand) : Type 0 where
+  pub fewer : drawn ≤ rows
+  pub ends : ReachesEnd h w drawn rows to
+  pub old_blank : (i j : ℕ) → drawn ≤ i → j < w → old i j ≡ blank_cell
+  pub new_blank : (i j : ℕ) → drawn ≤ i → j < w → new i j ≡ blank_cell
+
+enough : (h w reached rows : ℕ) (old new : ℕ → ℕ → StyledCell) (to : Hand) → IsBlankFrom rows old → IsBlankFrom rows new
+    → Enough h w reached rows (drawn_rows w reached rows old new to) old new to
+enough h w reached rows old new to is_old is_new =
+    by_test (ltb reached rows && eqb (to.row + 1) rows && leb (end_of w rows old) (reached * w) && leb (end_of w rows new) (reached * w)) refl
+  where
+    by_test : (b : Bool) → (ltb reached rows && eqb (to.row + 1) rows && leb (end_of w rows old) (reached * w) && leb (end_of w rows new) (reached * w)) ≡ b
+        → Enough h w reached rows (cond b reached rows) old new to
+    by_test true is =
+        let first = and_parts _ _ is in
+        let second = and_parts _ _ first.0 in
+        let third = and_parts _ _ second.0 in
+        record {
+          fewer = let less : reached < rows = ltb-true _ _ third.0 in omega (arith, less);
+          ends = inr (eqb-true _ _ third.1);
+          old_blank = blank_after w rows reached old (leb-true _ _ second.1) (λ i j low. is_old i j low);
+          new_blank = blank_after w rows reached new (leb-true _ _ first.1) (λ i j low. is_new i j low);
+        }
+    by_test false is = record {
+      fewer = omega arith;
+      ends = inl refl;
+      old_blank = λ i j low left. is_old i j low;
+      new_blank = λ i j low left. is_new i j low;
+    }
+
 pub changed_is_shown : ChangedIsShown
 changed_is_shown h w s reached rows old new hand to e t p some small most room low blank inked reach seen same color a =
-    let x = changed_sends h w s reached rows old new hand to e t p some small most room low inked reach seen same color a in
-    let last : Hand → Redrawing = handed_to to in
+    let k = enough h w reached rows old new to blank inked.blank in
+    let drawn : ℕ = drawn_rows w reached rows old new to in
+    let x = changed_sends h w s reached drawn rows old new hand to e t p some small most room low k.fewer k.ends inked reach seen same color a in
     let first_row : s - (s + rows - h) ≡ min s (h - rows) = omega (arith, room) in (
-      subst (λ n. ShowsPicture styled h w (sent_batch (redrawn w reached rows old new to hand).changes e).next (receive_all styled h w (sent_batch (redrawn w reached rows old new to hand).changes e).bytes t) (turned_to s n new to p)) first_row
-          (changed_is_turned h w s reached rows old new hand to e t p some small most room low inked reach seen same color a blank),
+      subst (λ n. ShowsPicture styled h w (terse_batch (redrawn w reached rows old new to hand).changes e).next (receive_all styled h w (terse_batch (redrawn w reached rows old new to hand).changes e).bytes t) (turned_to s n new to p)) first_row
+          (changed_is_turned h w s reached drawn rows old new hand to e t p some small most room low k.fewer k.ends inked reach seen same color a k.old_blank k.new_blank),
       sym x.attributes ∙ handed_attributes to _,
     )

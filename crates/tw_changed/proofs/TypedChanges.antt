@@ -7,7 +7,7 @@ use Rattle.tw_surface.specs.ChangeView.{Batch, Text}
 use Rattle.tw_extremes.proofs.ExtremesLemmas.{least_from-is, greatest_below-is}
 use Rattle.tw_screens.specs.StyledCells.{StyledCell}
 use Rattle.tw_ansi.specs.declared.encode.Encoder.{Encoder}
-use Rattle.tw_ansi.specs.Encoding.{Sent, at_column, sent_byte, sent_return, sent_feed, sent_columns, sent_plain, sent_clusters, sent_change, sent_batch}
+use Rattle.tw_ansi.specs.Encoding.{Sent, at_column, sent_byte, sent_return, sent_feed, sent_columns, sent_plain, sent_clusters, terse_change, terse_batch}
 use Rattle.tw_changed.specs.declared.hand.Hand.{Hand}
 use Rattle.tw_changed.specs.Differences.{differ_in, first_changed, last_changed}
 use Rattle.tw_changed.specs.Redrawings.{Redrawing, redraw_then, typed_once, run_redrawn, span_redrawn, row_redrawn, rows_redrawn, handed_to, redrawn}
@@ -29,7 +29,7 @@ one_byte e b printable room =
     beginning : leb (e.x + 1) e.cols ≡ true → sent_columns e 1 (b ∷ []) ≡ record { bytes = b ∷ []; next = at_column (e.x + 1) e }
     beginning fits = rw fits refl
 
-one_text : (e : Encoder) (b : ℕ) → is_printable b ≡ true → e.x + 1 ≤ e.cols → sent_change (Text (b ∷ [])) e ≡ record { bytes = b ∷ []; next = at_column (e.x + 1) e }
+one_text : (e : Encoder) (b : ℕ) → is_printable b ≡ true → e.x + 1 ≤ e.cols → terse_change (Text (b ∷ [])) e ≡ record { bytes = b ∷ []; next = at_column (e.x + 1) e }
 one_text e b printable room =
     let one : Sent = sent_plain (b ∷ []) e in
     let other : Sent = sent_clusters (graphemes true (b ∷ [])) e in
@@ -41,12 +41,12 @@ abbrev pub texts_of : List ℕ → Batch
 texts_of chars = map (λ ch. Text (ch ∷ [])) chars
 
 typed_bytes : (line : ℕ → StyledCell) (c n : ℕ) (e : Encoder) → e.x + n ≤ e.cols → ((j : ℕ) → c ≤ j → j < c + n → is_printable (line j).ch ≡ true)
-    → (sent_batch (texts_of (characters_from line c n)) e).bytes ≡ characters_from line c n
+    → (terse_batch (texts_of (characters_from line c n)) e).bytes ≡ characters_from line c n
 typed_bytes line c zero e room printable = refl
 typed_bytes line c (suc n) e room printable =
     let b : ℕ = (line c).ch in
     let more : Batch = texts_of (characters_from line (suc c) n) in
-    ap (λ (x : Sent). x.bytes ++ (sent_batch more x.next).bytes) (one_text e (line c).ch (printable c (omega arith) (omega arith)) (omega (arith, room)))
+    ap (λ (x : Sent). x.bytes ++ (terse_batch more x.next).bytes) (one_text e (line c).ch (printable c (omega arith) (omega arith)) (omega (arith, room)))
     ∙ ap (λ bytes. (line c).ch ∷ bytes) (typed_bytes line (suc c) n (at_column (e.x + 1) e) (omega (arith, room)) (λ j from to. printable j (omega (arith, from)) (omega (arith, to))))
 
 -- ---- the changes of a run under the attributes that are selected
@@ -116,5 +116,5 @@ module _ (w rows n : ℕ) (old new : ℕ → ℕ → StyledCell) (hand to : Hand
 pub typed_is_sent_alone : TypedIsSentAlone
 typed_is_sent_alone w reached rows n old new hand to e low t cols at =
     let room : hand.col + n ≤ w = t.col in
-    ap (λ changes. (sent_batch changes e).bytes) (typed_changes w rows n old new hand to t reached low)
+    ap (λ changes. (terse_batch changes e).bytes) (typed_changes w rows n old new hand to t reached low)
     ∙ typed_bytes (new hand.row) hand.col n e (omega (arith, room, cols, at)) t.printable

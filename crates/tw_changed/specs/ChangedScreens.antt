@@ -6,7 +6,7 @@ use Rattle.tw_strokes.specs.Strokes.{PictureOf}
 use Rattle.tw_screens.specs.StyledCells.{StyledCell, styled}
 use Rattle.tw_ansi.specs.declared.encode.Encoder.{Encoder}
 use Rattle.tw_ansi.specs.Sequences.{most_rows}
-use Rattle.tw_ansi.specs.Encoding.{sent_batch}
+use Rattle.tw_ansi.specs.Encoding.{terse_batch}
 use Rattle.tw_ansi.specs.EcmaScreen.{EcmaScreen, receive_all}
 use Rattle.tw_ansi.specs.EcmaLaws.{IsColor}
 use Rattle.tw_ansi.specs.EcmaTexts.{ShowsPicture}
@@ -59,5 +59,5 @@ ChangedIsShown = (h w s reached rows : ℕ) (old new : ℕ → ℕ → StyledCel
     → IsBlankFrom rows old → IsInked w rows new → IsHandWithin w rows to
     → IsSeenFrom w s old hand p → hand.attributes ≡ e.attributes → IsColor e.attributes.background
     → ShowsPicture styled h w e t p
-    → let sent = sent_batch (redrawn w reached rows old new to hand).changes e in
+    → let sent = terse_batch (redrawn w reached rows old new to hand).changes e in
     ShowsPicture styled h w sent.next (receive_all styled h w sent.bytes t) (turned_to s (min s (h - rows)) new to p) × (sent.next.attributes ≡ to.attributes)

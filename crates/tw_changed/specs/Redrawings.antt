@@ -1,5 +1,5 @@
 -- The changes that make one picture of another.
-use Rattle.std.specs.Prelude.{ℕ, zero, suc, pos, ◌+◌, ◌-◌, ◌/◌, ◌%◌, ◌-ℤ◌, ◌&&◌, eqb, leb, ltb, if◌then◌else◌, Option, Some, None, [], ◌∷◌, ◌++◌}
+use Rattle.std.specs.Prelude.{ℕ, zero, suc, pos, ◌+◌, ◌-◌, ◌*◌, ◌/◌, ◌%◌, ◌-ℤ◌, ◌&&◌, eqb, leb, ltb, if◌then◌else◌, Option, Some, None, [], ◌∷◌, ◌++◌}
 use Rattle.tw_surface.specs.declared.cell.CellAttributes.{CellAttributes}
 use Rattle.tw_surface.specs.declared.change.Position.TheVariants.{Absolute, Relative}
 use Rattle.tw_surface.specs.contracts.cell.CellAttributesPartialEq.TheImpl.{ghosts as attributes}
@@ -91,9 +91,19 @@ left_of w (Some from) old = cleared_in old (from / w) (from % w) blank_cell
 abbrev pub lowered : ℕ → ℕ → Hand → Redrawing
 lowered reached rows hand = if leb rows reached then at_ease hand else led_to (rows - 1) 0 hand
 
--- the last row comes into sight, the rest is emptied, the rows that differ are drawn, and then the cursor and the attributes are led to
-abbrev pub redrawn : ℕ → ℕ → ℕ → (ℕ → ℕ → StyledCell) → (ℕ → ℕ → StyledCell) → Hand → Hand → Redrawing
-redrawn w reached rows old new to hand =
+-- Some rows are drawn: the last of them comes into sight, the rest is emptied, the rows that differ are typed, and then the cursor and the attributes are led
+-- to.
+abbrev pub rows_drawn_on : ℕ → ℕ → ℕ → (ℕ → ℕ → StyledCell) → (ℕ → ℕ → StyledCell) → Hand → Hand → Redrawing
+rows_drawn_on w reached rows old new to hand =
     redraw_then (lowered reached rows hand) (λ low.
     redraw_then (rest_emptied w (rest_of w rows old new) low) (λ emptied.
     redraw_then (rows_redrawn w (left_of w (rest_of w rows old new) old) new 0 rows emptied) (handed_to to)))
+
+-- how many rows are drawn: those that were reached before, where the others show nothing in either screen and the cursor ends in the last of them, since it
+-- goes down in any case then; and else all of them
+abbrev pub drawn_rows : ℕ → ℕ → ℕ → (ℕ → ℕ → StyledCell) → (ℕ → ℕ → StyledCell) → Hand → ℕ
+drawn_rows w reached rows old new to =
+    if ltb reached rows && eqb (to.row + 1) rows && leb (end_of w rows old) (reached * w) && leb (end_of w rows new) (reached * w) then reached else rows
+
+abbrev pub redrawn : ℕ → ℕ → ℕ → (ℕ → ℕ → StyledCell) → (ℕ → ℕ → StyledCell) → Hand → Hand → Redrawing
+redrawn w reached rows old new to hand = rows_drawn_on w reached (drawn_rows w reached rows old new to) old new to hand

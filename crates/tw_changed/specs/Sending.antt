@@ -4,7 +4,7 @@ use Rattle.tw_surface.specs.ChangeView.{Batch}
 use Rattle.tw_surface.specs.Characters.{is_printable}
 use Rattle.tw_screens.specs.StyledCells.{StyledCell}
 use Rattle.styled_screen.specs.StyledScreens.{StyledView, styled_at}
-use Rattle.tw_ansi.specs.Encoding.{sent_batch}
+use Rattle.tw_ansi.specs.Encoding.{terse_batch}
 use Rattle.tw_changed.specs.declared.hand.Hand.{Hand}
 use Rattle.tw_changed.specs.declared.redrawer.Redrawer.{Redrawer}
 use Rattle.tw_changed.specs.Redrawings.{Redrawing, redrawn}
@@ -31,6 +31,6 @@ changes_between reached rows old new = (redrawn new.width reached rows (screen_c
 
 -- what a redrawing is sent as stands after a text, and the hand and what is known are as they are after it
 pub record IsAdded (d : Redrawing) (old : Redrawer) (before : List ℕ) (new : Redrawer) (after : List ℕ) : Type 0 where
-  pub bytes : after ≡ before ++ (sent_batch d.changes old.encoder).bytes
-  pub next : new.encoder ≡ (sent_batch d.changes old.encoder).next
+  pub bytes : after ≡ before ++ (terse_batch d.changes old.encoder).bytes
+  pub next : new.encoder ≡ (terse_batch d.changes old.encoder).next
   pub hand : new.hand ≡ d.hand

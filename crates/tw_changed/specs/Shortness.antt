@@ -3,7 +3,7 @@ use Rattle.std.specs.Prelude.{◌≡◌, ◌≤◌, ◌<◌, ◌+◌, ◌-◌, �
 use Rattle.tw_surface.specs.Characters.{is_printable}
 use Rattle.tw_screens.specs.StyledCells.{StyledCell}
 use Rattle.tw_ansi.specs.declared.encode.Encoder.{Encoder}
-use Rattle.tw_ansi.specs.Encoding.{sent_batch}
+use Rattle.tw_ansi.specs.Encoding.{terse_batch}
 use Rattle.tw_changed.specs.declared.hand.Hand.{Hand}
 use Rattle.tw_changed.specs.Differences.{end_of}
 use Rattle.tw_changed.specs.Redrawings.{redrawn}
@@ -37,4 +37,4 @@ pub record IsTypedAt (w rows n : ℕ) (old new : ℕ → ℕ → StyledCell) (ha
 abbrev pub TypedIsSentAlone : Type 0
 TypedIsSentAlone = (w reached rows n : ℕ) (old new : ℕ → ℕ → StyledCell) (hand to : Hand) (e : Encoder)
     → rows ≤ reached → IsTypedAt w rows n old new hand to → e.cols ≡ w → e.x ≡ hand.col
-    → (sent_batch (redrawn w reached rows old new to hand).changes e).bytes ≡ characters_from (new hand.row) hand.col n
+    → (terse_batch (redrawn w reached rows old new to hand).changes e).bytes ≡ characters_from (new hand.row) hand.col n

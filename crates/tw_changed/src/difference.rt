@@ -4,9 +4,10 @@ ghost use Rattle.std.specs.Prelude.{◌≡◌, ℕ, ◌<◌, ◌≤◌, ◌*◌,
 ghost use Rattle.styled_screen.specs.StyledScreens.{styled_cell};
 ghost use Rattle.tw_changed.specs.ChangedScreens.{AreByBytes, AreAllByBytes};
 ghost use Rattle.tw_changed.specs.Differences.{differ_in, first_changed, last_changed, is_used, end_of};
-ghost use Rattle.tw_changed.specs.Redrawings.{left_of, rest_of};
+ghost use Rattle.tw_changed.specs.Redrawings.{drawn_rows, left_of, rest_of};
 ghost use Rattle.tw_changed.specs.Sending.{ArePrintable, IsPrintable, screen_cells};
 
+use crate::hand::Hand;
 use crate::laws::colors;
 use styled_screen::{ScreenCell, StyledScreen};
 use tw_surface::ColorAttribute;
@@ -128,6 +129,30 @@ pub fn rest_of(old: &StyledScreen, new: &StyledScreen, rows: usize) -> Option<us
         return Some(end);
     }
     None
+}
+
+/// How many rows are drawn: those that were reached before, where the others show nothing in either screen and the
+/// cursor ends in the last of them, and else all.
+pub fn drawn_rows(
+    old: &StyledScreen,
+    reached: usize,
+    new: &StyledScreen,
+    rows: usize,
+    to: Hand,
+) -> usize
+    requires width { old.now.width ≡ new.now.width }
+    requires rows { rows ≤ 65535 }
+    requires to { to.row ≤ 4294967295 }
+    ensures value { result ≡ drawn_rows new.now.width reached rows (screen_cells old.now) (screen_cells new.now) to }
+    ensures most { result ≤ rows }
+{
+    if reached < rows && to.row + 1 == rows {
+        let room = reached * new.width();
+        if end_of(old, rows) <= room && end_of(new, rows) <= room {
+            return reached;
+        }
+    }
+    rows
 }
 
 /// Whether the cells of a row are printable characters.

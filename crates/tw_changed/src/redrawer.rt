@@ -3,11 +3,11 @@
 ghost use Rattle.std.specs.Prelude.{◌≡◌, ℕ, true, ◌<◌, ◌≤◌, ◌+◌, ◌-◌, ◌++◌, OnOk, OnErr, IfOk, IfSome, Option, string_bytes};
 ghost use Rattle.tw_surface.specs.Characters.{is_printable};
 ghost use Rattle.styled_screen.specs.StyledScreens.{styled_cell};
-ghost use Rattle.tw_ansi.specs.Encoding.{ExtendsBytes, sent_batch};
-ghost use Rattle.tw_changed.specs.Redrawings.{led_to, under, cell_redrawn, run_redrawn, row_redrawn, rows_redrawn, handed_to, emptied_here, rest_emptied, rest_of, left_of, lowered, redrawn};
+ghost use Rattle.tw_ansi.specs.Encoding.{ExtendsBytes, terse_batch};
+ghost use Rattle.tw_changed.specs.Redrawings.{led_to, under, cell_redrawn, run_redrawn, row_redrawn, rows_redrawn, handed_to, emptied_here, rest_emptied, rest_of, left_of, lowered, drawn_rows, redrawn};
 ghost use Rattle.tw_changed.specs.Sending.{IsAdded, IsPrintable, screen_cells, changes_between, hand_of};
 
-use crate::difference::{cell_at, first_changed, last_changed, rest_of};
+use crate::difference::{cell_at, drawn_rows, first_changed, last_changed, rest_of};
 use crate::hand::Hand;
 use std::alloc::AllocError;
 use styled_screen::{ScreenCell, StyledScreen};
@@ -39,7 +39,7 @@ impl Redrawer {
             x: Position::Absolute(col),
             y: Position::Relative(by),
         };
-        self.encoder.encode(&change, out)?;
+        self.encoder.encode_tersely(&change, out)?;
         self.hand.row = row;
         self.hand.col = col;
         Ok(())
@@ -55,7 +55,8 @@ impl Redrawer {
         if self.hand.attributes == to {
             return Ok(());
         }
-        self.encoder.encode(&Change::AllAttributes(to), out)?;
+        self.encoder
+            .encode_tersely(&Change::AllAttributes(to), out)?;
         self.hand.attributes = to;
         Ok(())
     }
@@ -167,7 +168,7 @@ impl Redrawer {
         ensures err { OnErr result (ExtendsBytes (string_bytes out.old) (string_bytes out.new)) }
     {
         let change = Change::ClearToEndOfScreen(ColorAttribute::Default);
-        self.encoder.encode(&change, out)
+        self.encoder.encode_tersely(&change, out)
     }
 
     /// Empties what stands from an index on, where there is one.
@@ -208,7 +209,8 @@ impl Redrawer {
     }
 
     /// Makes one screen of another: its last row comes into sight, what stands after the end of the new one is
-    /// emptied, and the rows that differ are typed.
+    /// emptied, and the rows that differ are typed. Where the new rows show nothing and the cursor ends in the last of
+    /// them, it goes down there at the end alone.
     fn redraw(
         &mut self,
         old: &StyledScreen,
@@ -226,10 +228,11 @@ impl Redrawer {
         ensures ok { OnOk result (IsAdded (redrawn new.now.width reached rows (screen_cells old.now) (screen_cells new.now) to self.old.hand) self.old (string_bytes out.old) self.new (string_bytes out.new)) }
         ensures err { OnErr result (ExtendsBytes (string_bytes out.old) (string_bytes out.new)) }
     {
-        let rest = rest_of(old, new, rows);
-        self.lower(reached, rows, out)?;
+        let drawn = drawn_rows(old, reached, new, rows, to);
+        let rest = rest_of(old, new, drawn);
+        self.lower(reached, drawn, out)?;
         self.empty_rest(new.width(), rest, out)?;
-        self.draw_rows(old, rest, new, rows, out)?;
+        self.draw_rows(old, rest, new, drawn, out)?;
         self.hand_over(to, out)
     }
 }
@@ -261,8 +264,8 @@ pub fn send_changed(
     requires width { old.now.width ≡ new.now.width }
     requires printable { IsPrintable rows new.now }
     requires rows { rows ≤ 65535 }
-    ensures bytes { OnOk result (string_bytes out.new ≡ string_bytes out.old ++ (sent_batch (changes_between reached rows old.now new.now) encoder).bytes) }
-    ensures next { IfOk result (λ next. next ≡ (sent_batch (changes_between reached rows old.now new.now) encoder).next) }
+    ensures bytes { OnOk result (string_bytes out.new ≡ string_bytes out.old ++ (terse_batch (changes_between reached rows old.now new.now) encoder).bytes) }
+    ensures next { IfOk result (λ next. next ≡ (terse_batch (changes_between reached rows old.now new.now) encoder).next) }
     ensures err { OnErr result (ExtendsBytes (string_bytes out.old) (string_bytes out.new)) }
 {
     let mut redrawer = Redrawer {

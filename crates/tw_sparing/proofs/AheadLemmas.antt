@@ -1,16 +1,16 @@
 -- What is drawn ahead of what a terminal shows.
-use Rattle.std.proofs.Common.{◌≡◌, ℕ, Bool, true, false, Option, Some, None, List, [], ◌∷◌, ◌++◌, ap, subst, ◌∙◌, sym, refl, append-nil}
-use Rattle.std.proofs.lemmas.Bool.{false≢true}
-use Rattle.std.specs.Prelude.{MatchOption, IfSome, IsSome}
+use Rattle.std.proofs.Common.{◌≡◌, ◌≤◌, ℕ, Bool, true, false, Option, Some, None, List, [], ◌∷◌, ◌++◌, ap, subst, ◌∙◌, sym, refl, append-nil}
 use Rattle.tw_surface.specs.ChangeView.{Batch}
 use Rattle.tw_terminal.specs.declared.terminal.ScreenSize.{ScreenSize}
 use Rattle.tw_ansi.specs.declared.encode.Encoder.{Encoder}
+use Rattle.tw_ansi.specs.Encoding.{Sent, terse_batch}
 use Rattle.tw_sparing.specs.declared.shown.Shown.{Shown}
-use Rattle.tw_sparing.specs.Shown.{left_behind, IsKnownAfter, IsPlayed, KeepsAbove}
+use Rattle.tw_sparing.specs.Shown.{changes_below, gone_rows, left_behind, sent_for, IsDrawnAfter, IsFromStart, IsKnownAfter, IsPlayed, KeepsAbove}
+use Rattle.tw_sparing.specs.KnownRuns.{sent_for_all}
 use Rattle.tw_sparing.specs.SparingRuns.{AreKnownSince}
-use Rattle.tw_sparing.specs.Ahead.{AheadView, AreAhead, IsJoined, ahead_view, all_changes, changes_among, group_kept, groups_with, joined_group}
+use Rattle.tw_sparing.specs.Ahead.{AheadView, AreAhead, IsDrawnBetween, IsJoined, ahead_view, all_changes, changes_among, group_kept, groups_with, joined_group, latest_known, leaves_sight, sent_ahead}
 use Rattle.tw_sparing.proofs.GroupLemmas.{all_changes-last}
-use Rattle.tw_sparing.proofs.PlayedBatches.{known_width}
+use Rattle.tw_sparing.proofs.PlayedBatches.{drawn_known, drawn_width, known_drawn, known_width, played_width, stays_in_sight}
 
 -- ---- two batches, as one
 
@@ -19,81 +19,156 @@ played_both rows [] ys a b c first then = subst (λ (k : Shown). IsPlayed rows y
 played_both rows (x ∷ xs) ys a b c first then = (first.0, first.1, played_both rows xs ys first.0 b c first.2 then)
 
 -- what is drawn on a screen, and then on what it left, is drawn by both batches as one, where the rows that left the terminal show what they showed at first
-pub known_both : (cols rows : ℕ) (xs ys : Batch) (first drawn next : Shown) → IsKnownAfter cols rows xs (Some first) (Some drawn)
-    → IsKnownAfter cols rows ys (Some drawn) (Some next) → KeepsAbove (left_behind rows next) first.screen next.screen
-    → IsKnownAfter cols rows (xs ++ ys) (Some first) (Some next)
-known_both cols rows xs ys first drawn next one two above = (two.0, played_both rows xs ys first drawn next one.1 two.1, above)
+pub drawn_both : (rows : ℕ) (xs ys : Batch) (first drawn next : Shown) → IsDrawnAfter rows xs first drawn → IsDrawnAfter rows ys drawn next
+    → KeepsAbove (left_behind rows next) first.screen next.screen → IsDrawnAfter rows (xs ++ ys) first next
+drawn_both rows xs ys first drawn next one two above = (two.0, played_both rows xs ys first drawn next one.1 two.1, above)
+
+-- what was drawn is known
+between_known : (cols rows : ℕ) (batch : Batch) (a b : Option Shown) → IsDrawnBetween rows batch a b → IsKnownAfter cols rows batch a b
+between_known cols rows batch None b drawn = absurd drawn
+between_known cols rows batch (Some old) None drawn = absurd drawn
+between_known cols rows batch (Some old) (Some new) drawn = drawn_known cols rows batch old new drawn
 
 -- ---- what is drawn ahead
 
 module _ (size : ScreenSize) where
-  -- by what is shown and what is drawn
-  pub drawn_ahead : (a b : Option Shown) (kept : Batch) (shown drawn : Shown) → a ≡ Some shown → b ≡ Some drawn → AreAhead size a b kept
-      → IsKnownAfter size.cols size.rows kept (Some shown) (Some drawn)
-  drawn_ahead a b kept shown drawn is_shown is_drawn are =
-      subst (λ x. AreAhead size (Some shown) x kept) is_drawn (subst (λ x. AreAhead size x b kept) is_shown are)
+  -- what is shown and what is drawn ahead, where anything is
+  pub drawn_ahead : (a b : Option Shown) (kept : Batch) (shown drawn : Shown) → a ≡ Some shown → b ≡ Some drawn → AreAhead size a b kept → IsDrawnAfter size.rows kept shown drawn
+  drawn_ahead a b kept shown drawn is_shown is_drawn are = subst (λ x. AreAhead size (Some shown) x kept) is_drawn (subst (λ x. AreAhead size x b kept) is_shown are)
 
-  pub ahead_width : (a b : Option Shown) (kept : Batch) (shown drawn : Shown) → a ≡ Some shown → b ≡ Some drawn → AreAhead size a b kept
-      → shown.screen.width ≡ drawn.screen.width
-  ahead_width a b kept shown drawn is_shown is_drawn are =
-      known_width size.cols size.rows kept (Some shown) (Some drawn) shown drawn refl refl (drawn_ahead a b kept shown drawn is_shown is_drawn are)
+  -- the latest picture is as wide as what is shown
+  latest_width : (b : Option Shown) (kept batch : Batch) (shown then : Shown) → AreAhead size (Some shown) b kept
+      → IsKnownAfter size.cols size.rows batch (latest_known (ahead_view size (Some shown) b kept)) (Some then) → shown.screen.width ≡ then.screen.width
+  latest_width None kept batch shown then are known = known_width size.cols size.rows batch (Some shown) (Some then) shown then refl refl known
+  latest_width (Some drawn) kept batch shown then are known =
+      sym (played_width size.rows kept shown drawn are.1) ∙ known_width size.cols size.rows batch (Some drawn) (Some then) drawn then refl refl known
 
-  -- and by what is known next
-  pub next_width : (a b next : Option Shown) (kept batch : Batch) (shown drawn : Shown) → a ≡ Some shown → b ≡ Some drawn → AreAhead size a b kept
-      → IsKnownAfter size.cols size.rows batch b next → IfSome next (λ then. shown.screen.width ≡ then.screen.width)
-  next_width a b None kept batch shown drawn is_shown is_drawn are known = tt
-  next_width a b (Some then) kept batch shown drawn is_shown is_drawn are known =
-      ahead_width a b kept shown drawn is_shown is_drawn are ∙ known_width size.cols size.rows batch b (Some then) drawn then is_drawn refl known
+  joined_here : (b : Option Shown) (kept batch : Batch) (shown then : Shown) → AreAhead size (Some shown) b kept
+      → IsKnownAfter size.cols size.rows batch (latest_known (ahead_view size (Some shown) b kept)) (Some then)
+      → leaves_sight size.rows (latest_known (ahead_view size (Some shown) b kept)) batch ≡ false → KeepsAbove (left_behind size.rows then) shown.screen then.screen
+      → IsJoined batch (ahead_view size (Some shown) b kept) (Some then)
+  joined_here None kept batch shown then are known stays above = (stays, known_drawn size.cols size.rows batch shown then stays known)
+  joined_here (Some drawn) kept batch shown then are known stays above =
+      let whole = subst (λ xs. IsDrawnAfter size.rows xs shown drawn) (sym (append-nil kept)) are in
+      (stays, drawn_both size.rows (kept ++ []) batch shown drawn then whole (known_drawn size.cols size.rows batch drawn then stays known) above)
 
-  joined_at : (shown drawn : Shown) (next : Option Shown) (kept batch : Batch) → IsKnownAfter size.cols size.rows kept (Some shown) (Some drawn)
-      → IsKnownAfter size.cols size.rows batch (Some drawn) next → MatchOption next ⊥ (λ then. KeepsAbove (left_behind size.rows then) shown.screen then.screen)
-      → IsJoined batch (ahead_view size (Some shown) (Some drawn) kept) next
-  joined_at shown drawn None kept batch are known above = absurd above
-  joined_at shown drawn (Some then) kept batch are known above =
-      let whole = subst (λ xs. IsKnownAfter size.cols size.rows xs (Some shown) (Some drawn)) (sym (append-nil kept)) are in
-      (refl, refl, known_both size.cols size.rows (kept ++ []) batch shown drawn then whole known above)
+  module _ (ahead : AheadView) (a b next : Option Shown) (kept batch : Batch) (shown then : Shown) (is : ahead_view size a b kept ≡ ahead) (is_shown : a ≡ Some shown) (is_next : next ≡ Some then) where
+    there : ahead_view size (Some shown) b kept ≡ ahead
+    there = subst (λ x. ahead_view size x b kept ≡ ahead) is_shown is
 
-  -- the rows that leave the terminal show what they show now, so one difference takes all
-  pub joined_ahead : (ahead : AheadView) (a b next : Option Shown) (kept batch : Batch) (shown drawn : Shown) → ahead_view size a b kept ≡ ahead
-      → a ≡ Some shown → b ≡ Some drawn → AreAhead size a b kept → IsKnownAfter size.cols size.rows batch b next
-      → MatchOption next ⊥ (λ then. KeepsAbove (left_behind size.rows then) shown.screen then.screen) → IsJoined batch ahead next
-  joined_ahead ahead a b next kept batch shown drawn is is_shown is_drawn are known above =
-      let there : ahead_view size (Some shown) (Some drawn) kept ≡ ahead =
-      subst (λ x. ahead_view size (Some shown) x kept ≡ ahead) is_drawn (subst (λ x. ahead_view size x b kept ≡ ahead) is_shown is) in
-      subst (λ v. IsJoined batch v next) there
-      (joined_at shown drawn next kept batch (drawn_ahead a b kept shown drawn is_shown is_drawn are)
-      (subst (λ x. IsKnownAfter size.cols size.rows batch x next) is_drawn known) above)
+    here : AreAhead size a b kept → AreAhead size (Some shown) b kept
+    here are = subst (λ x. AreAhead size x b kept) is_shown are
 
-  above_at : (shown : Shown) (b next : Option Shown) (kept batch : Batch) → IsJoined batch (ahead_view size (Some shown) b kept) next
-      → MatchOption next ⊥ (λ then. KeepsAbove (left_behind size.rows then) shown.screen then.screen)
-  above_at shown b None kept batch joined = absurd (false≢true joined.1)
-  above_at shown b (Some then) kept batch joined = joined.2.2
+    -- what is known after a batch, drawn on the latest picture
+    abbrev IsKnownNext : Type 0
+    IsKnownNext = IsKnownAfter ahead.size.cols ahead.size.rows batch (latest_known ahead) next
 
-  -- where one difference takes all, these rows show what they show now
-  pub above_ahead : (ahead : AheadView) (a b next : Option Shown) (kept batch : Batch) (shown : Shown) → ahead_view size a b kept ≡ ahead
-      → a ≡ Some shown → IsJoined batch ahead next → MatchOption next ⊥ (λ then. KeepsAbove (left_behind size.rows then) shown.screen then.screen)
-  above_ahead ahead a b next kept batch shown is is_shown joined =
-      let there : ahead_view size (Some shown) b kept ≡ ahead = subst (λ x. ahead_view size x b kept ≡ ahead) is_shown is in
-      above_at shown b next kept batch (subst (λ v. IsJoined batch v next) (sym there) joined)
+    known_here : IsKnownNext → IsKnownAfter size.cols size.rows batch (latest_known (ahead_view size (Some shown) b kept)) (Some then)
+    known_here known =
+        subst (λ (v : AheadView). IsKnownAfter v.size.cols v.size.rows batch (latest_known v) (Some then)) (sym there)
+        (subst (λ x. IsKnownAfter ahead.size.cols ahead.size.rows batch (latest_known ahead) x) is_next known)
 
-  groups_at : (is_joined : Bool) (shown drawn : Shown) (next : Option Shown) (kept batch : Batch) (e : Encoder)
-      → IsKnownAfter size.cols size.rows kept (Some shown) (Some drawn) → IsKnownAfter size.cols size.rows batch (Some drawn) next
-      → (is_joined ≡ true → IsJoined batch (ahead_view size (Some shown) (Some drawn) kept) next)
-      → AreKnownSince size (Some shown) e (groups_with is_joined batch (ahead_view size (Some shown) (Some drawn) kept) next)
-  groups_at true shown drawn next kept batch e are known joined = ((joined refl).2, tt, tt)
-  groups_at false shown drawn next kept batch e are known joined = (are, tt, (known, tt, tt))
+    pub next_width : AreAhead size a b kept → IsKnownNext → shown.screen.width ≡ then.screen.width
+    next_width are known = latest_width b kept batch shown then (here are) (known_here known)
+
+    -- the rows that leave the terminal show what they show now, so one difference takes all
+    pub joined_ahead : (top : ℕ) → top ≡ left_behind size.rows then → AreAhead size a b kept → IsKnownNext → leaves_sight size.rows (latest_known ahead) batch ≡ false
+        → KeepsAbove top shown.screen then.screen → IsJoined batch ahead next
+    joined_ahead top at are known stays above =
+        subst (λ x. IsJoined batch ahead x) (sym is_next) (subst (λ v. IsJoined batch v (Some then)) there
+        (joined_here b kept batch shown then (here are) (known_here known) (subst (λ (v : AheadView). leaves_sight size.rows (latest_known v) batch ≡ false) (sym there) stays)
+        (subst (λ n. KeepsAbove n shown.screen then.screen) at above)))
+
+    -- and where one difference takes all, these rows show what they show now
+    pub above_ahead : (top : ℕ) → top ≡ left_behind size.rows then → IsJoined batch ahead next → KeepsAbove top shown.screen then.screen
+    above_ahead top at joined =
+        subst (λ n. KeepsAbove n shown.screen then.screen) (sym at) (subst (λ v. IsJoined batch v (Some then)) (sym there) (subst (λ x. IsJoined batch ahead x) is_next joined)).1.2
+
+  groups_at : (is_joined : Bool) (a b next : Option Shown) (kept batch : Batch) (e : Encoder) → AreAhead size a b kept
+      → IsKnownAfter size.cols size.rows batch (latest_known (ahead_view size a b kept)) next → IsFromStart e.x batch (latest_known (ahead_view size a b kept)) next
+      → (is_joined ≡ true → IsJoined batch (ahead_view size a b kept) next)
+      → AreKnownSince size a e (groups_with is_joined batch (ahead_view size a b kept) next)
+  groups_at true None b next kept batch e are known start joined = absurd (joined refl).1
+  groups_at true (Some shown) b next kept batch e are known start joined =
+      (between_known size.cols size.rows (changes_among (group_kept b kept) ++ batch) (Some shown) next (joined refl).1, tt, tt)
+  groups_at false a None next kept batch e are known start joined = (known, start, tt)
+  groups_at false None (Some drawn) next kept batch e are known start joined = absurd are
+  groups_at false (Some shown) (Some drawn) next kept batch e are known start joined = (drawn_known size.cols size.rows kept shown drawn are, tt, (known, tt, tt))
 
   -- the groups that are sent are known, each after the one before
-  pub groups_ahead : (is_joined : Bool) (ahead : AheadView) (a b next : Option Shown) (kept batch : Batch) (shown drawn : Shown) (e : Encoder)
-      → ahead_view size a b kept ≡ ahead → a ≡ Some shown → b ≡ Some drawn → AreAhead size a b kept → IsKnownAfter size.cols size.rows batch b next
-      → (is_joined ≡ true → IsJoined batch ahead next) → AreKnownSince ahead.size ahead.shown e (groups_with is_joined batch ahead next)
-  groups_ahead is_joined ahead a b next kept batch shown drawn e is is_shown is_drawn are known joined =
+  pub groups_ahead : (is_joined : Bool) (ahead : AheadView) (a b next : Option Shown) (kept batch : Batch) (e : Encoder) → ahead_view size a b kept ≡ ahead → AreAhead size a b kept
+      → IsKnownAfter size.cols size.rows batch (latest_known ahead) next → IsFromStart e.x batch (latest_known ahead) next → (is_joined ≡ true → IsJoined batch ahead next)
+      → AreKnownSince ahead.size ahead.shown e (groups_with is_joined batch ahead next)
+  groups_ahead is_joined ahead a b next kept batch e is are known start joined =
+      subst (λ (v : AheadView). AreKnownSince v.size v.shown e (groups_with is_joined batch v next)) is
+      (groups_at is_joined a b next kept batch e are (subst (λ (v : AheadView). IsKnownAfter size.cols size.rows batch (latest_known v) next) (sym is) known)
+      (subst (λ (v : AheadView). IsFromStart e.x batch (latest_known v) next) (sym is) start) (λ yes. subst (λ v. IsJoined batch v next) (sym is) (joined yes)))
+
+  -- ---- what is sent for what was drawn
+
+  -- what is sent for one batch that was drawn
+  drawn_sent : (batch : Batch) (old new : Shown) (e : Encoder) → IsDrawnAfter size.rows batch old new
+      → sent_for size.rows batch (Some old) (Some new) e ≡ terse_batch (changes_below (left_behind size.rows new) (left_behind size.rows new) old new) e
+  drawn_sent batch old new e drawn =
+      ap (λ b. terse_batch (changes_below (gone_rows b size.rows old new) (left_behind size.rows new) old new) e) (stays_in_sight size.rows batch old new drawn.1)
+
+  -- what is sent for one group
+  abbrev IsSentAlone : Batch → Shown → Shown → Encoder → Type 0
+  IsSentAlone batch old new e =
+      let alone = sent_for_all size.rows (Some old) (record { batch = batch; known = Some new } ∷ []) e in
+      let sent = terse_batch (changes_below (left_behind size.rows new) (left_behind size.rows new) old new) e in
+      (alone.bytes ≡ sent.bytes) × (alone.next ≡ sent.next)
+
+  group_sent : (batch : Batch) (old new : Shown) (e : Encoder) → IsDrawnAfter size.rows batch old new → IsSentAlone batch old new e
+  group_sent batch old new e drawn = (
+    append-nil (sent_for size.rows batch (Some old) (Some new) e).bytes ∙ ap (λ (x : Sent). x.bytes) (drawn_sent batch old new e drawn),
+    ap (λ (x : Sent). x.next) (drawn_sent batch old new e drawn),
+  )
+
+  kept_sent_at : (kept : Batch) (shown drawn : Shown) (e : Encoder) → IsDrawnAfter size.rows kept shown drawn
+      → let sent = terse_batch (changes_below (left_behind size.rows drawn) (left_behind size.rows drawn) shown drawn) e in
+      ((sent_ahead (ahead_view size (Some shown) (Some drawn) kept) e).bytes ≡ sent.bytes) × ((sent_ahead (ahead_view size (Some shown) (Some drawn) kept) e).next ≡ sent.next)
+  kept_sent_at kept shown drawn e are = group_sent kept shown drawn e are
+
+  -- for what is kept back
+  pub kept_sent : (ahead : AheadView) (a b : Option Shown) (kept : Batch) (shown drawn : Shown) (e : Encoder) → ahead_view size a b kept ≡ ahead → a ≡ Some shown → b ≡ Some drawn → AreAhead size a b kept
+      → let sent = terse_batch (changes_below (left_behind size.rows drawn) (left_behind size.rows drawn) shown drawn) e in
+      ((sent_ahead ahead e).bytes ≡ sent.bytes) × ((sent_ahead ahead e).next ≡ sent.next)
+  kept_sent ahead a b kept shown drawn e is is_shown is_drawn are =
       let there : ahead_view size (Some shown) (Some drawn) kept ≡ ahead =
       subst (λ x. ahead_view size (Some shown) x kept ≡ ahead) is_drawn (subst (λ x. ahead_view size x b kept ≡ ahead) is_shown is) in
-      subst (λ (v : AheadView). AreKnownSince v.size v.shown e (groups_with is_joined batch v next)) there
-      (groups_at is_joined shown drawn next kept batch e (drawn_ahead a b kept shown drawn is_shown is_drawn are)
-      (subst (λ x. IsKnownAfter size.cols size.rows batch x next) is_drawn known)
-      (λ is. subst (λ v. IsJoined batch v next) (sym there) (joined is)))
+      let sent = terse_batch (changes_below (left_behind size.rows drawn) (left_behind size.rows drawn) shown drawn) e in
+      subst (λ v. ((sent_ahead v e).bytes ≡ sent.bytes) × ((sent_ahead v e).next ≡ sent.next)) there
+      (kept_sent_at kept shown drawn e (drawn_ahead a b kept shown drawn is_shown is_drawn are))
+
+  joined_sent_at : (b : Option Shown) (kept batch : Batch) (shown then : Shown) (e : Encoder) → IsJoined batch (ahead_view size (Some shown) b kept) (Some then)
+      → let all = sent_for_all size.rows (Some shown) (groups_with true batch (ahead_view size (Some shown) b kept) (Some then)) e in
+      let sent = terse_batch (changes_below (left_behind size.rows then) (left_behind size.rows then) shown then) e in
+      (all.bytes ≡ sent.bytes) × (all.next ≡ sent.next)
+  joined_sent_at b kept batch shown then e joined = group_sent (changes_among (group_kept b kept) ++ batch) shown then e joined.1
+
+  -- and for all that one difference takes
+  pub joined_sent : (ahead : AheadView) (a b next : Option Shown) (kept batch : Batch) (shown then : Shown) (e : Encoder) → ahead_view size a b kept ≡ ahead → a ≡ Some shown → next ≡ Some then
+      → IsJoined batch ahead next
+      → let all = sent_for_all ahead.size.rows ahead.shown (groups_with true batch ahead next) e in
+      let sent = terse_batch (changes_below (left_behind size.rows then) (left_behind size.rows then) shown then) e in
+      (all.bytes ≡ sent.bytes) × (all.next ≡ sent.next)
+  joined_sent ahead a b next kept batch shown then e is is_shown is_next joined =
+      let there : ahead_view size (Some shown) b kept ≡ ahead = subst (λ x. ahead_view size x b kept ≡ ahead) is_shown is in
+      let sent = terse_batch (changes_below (left_behind size.rows then) (left_behind size.rows then) shown then) e in
+      let same = subst (λ (v : AheadView). let all = sent_for_all v.size.rows v.shown (groups_with true batch v (Some then)) e in (all.bytes ≡ sent.bytes) × (all.next ≡ sent.next)) there
+      (joined_sent_at b kept batch shown then e (subst (λ v. IsJoined batch v (Some then)) (sym there) (subst (λ x. IsJoined batch ahead x) is_next joined))) in
+      subst (λ x. let all = sent_for_all ahead.size.rows ahead.shown (groups_with true batch ahead x) e in (all.bytes ≡ sent.bytes) × (all.next ≡ sent.next)) (sym is_next) same
+
+  joined_fits_at : (b : Option Shown) (kept batch : Batch) (shown then : Shown) → IsJoined batch (ahead_view size (Some shown) b kept) (Some then)
+      → (shown.screen.width ≡ then.screen.width) × (left_behind size.rows then ≤ shown.screen.row)
+  joined_fits_at b kept batch shown then joined = (drawn_width size.rows (changes_among (group_kept b kept) ++ batch) shown then joined.1, joined.1.2.row)
+
+  pub joined_fits : (ahead : AheadView) (a b next : Option Shown) (kept batch : Batch) (shown then : Shown) → ahead_view size a b kept ≡ ahead → a ≡ Some shown → next ≡ Some then
+      → IsJoined batch ahead next → (shown.screen.width ≡ then.screen.width) × (left_behind size.rows then ≤ shown.screen.row)
+  joined_fits ahead a b next kept batch shown then is is_shown is_next joined =
+      let there : ahead_view size (Some shown) b kept ≡ ahead = subst (λ x. ahead_view size x b kept ≡ ahead) is_shown is in
+      joined_fits_at b kept batch shown then (subst (λ v. IsJoined batch v (Some then)) (sym there) (subst (λ x. IsJoined batch ahead x) is_next joined))
 
   -- ---- one more batch is kept back
 
@@ -102,10 +177,10 @@ module _ (size : ScreenSize) where
   group_changes a None kept are = sym are
   group_changes a (Some drawn) kept are = append-nil kept
 
-  more_known : (a next : Option Shown) (xs ys : Batch) → xs ≡ ys → IsSome a → IsSome next → IsKnownAfter size.cols size.rows xs a next → AreAhead size a next ys
-  more_known None next xs ys is some then known = absurd (false≢true some)
-  more_known (Some shown) None xs ys is some then known = absurd (false≢true then)
-  more_known (Some shown) (Some drawn) xs ys is some then known = subst (λ v. IsKnownAfter size.cols size.rows v (Some shown) (Some drawn)) is known
+  more_drawn : (a next : Option Shown) (xs ys : Batch) → xs ≡ ys → IsDrawnBetween size.rows xs a next → AreAhead size a next ys
+  more_drawn None next xs ys is drawn = absurd drawn
+  more_drawn (Some shown) None xs ys is drawn = absurd drawn
+  more_drawn (Some shown) (Some then) xs ys is drawn = subst (λ v. IsDrawnAfter size.rows v shown then) is drawn
 
   more_changes : (a b : Option Shown) (batch : Batch) (kept more : List Batch) → AreAhead size a b (all_changes kept) → more ≡ kept ++ batch ∷ []
       → changes_among (group_kept b (all_changes kept)) ++ batch ≡ all_changes more
@@ -116,16 +191,18 @@ module _ (size : ScreenSize) where
       → AreAhead size a b (all_changes kept) → more ≡ kept ++ batch ∷ [] → IsJoined batch ahead next → AreAhead size a next (all_changes more)
   still_ahead ahead a b next batch kept more is are adds joined =
       let here : IsJoined batch (ahead_view size a b (all_changes kept)) next = subst (λ v. IsJoined batch v next) (sym is) joined in
-      more_known a next (changes_among (group_kept b (all_changes kept)) ++ batch) (all_changes more) (more_changes a b batch kept more are adds) here.0 here.1 here.2
+      more_drawn a next (changes_among (group_kept b (all_changes kept)) ++ batch) (all_changes more) (more_changes a b batch kept more are adds) here.1
 
-  more_group : (next : Option Shown) (xs ys : Batch) → xs ≡ ys → IsSome next → group_kept next ys ≡ record { batch = xs; known = next } ∷ []
-  more_group None xs ys is then = absurd (false≢true then)
-  more_group (Some drawn) xs ys is then = ap (λ v. group_kept (Some drawn) v) (sym is)
+  more_group : (a next : Option Shown) (xs ys : Batch) → xs ≡ ys → IsDrawnBetween size.rows xs a next → group_kept next ys ≡ record { batch = xs; known = next } ∷ []
+  more_group None next xs ys is drawn = absurd drawn
+  more_group (Some shown) None xs ys is drawn = absurd drawn
+  more_group (Some shown) (Some then) xs ys is drawn = ap (λ v. group_kept (Some then) v) (sym is)
 
   pub still_viewed : (ahead : AheadView) (a b next : Option Shown) (batch : Batch) (kept more : List Batch) → ahead_view size a b (all_changes kept) ≡ ahead
       → AreAhead size a b (all_changes kept) → more ≡ kept ++ batch ∷ [] → IsJoined batch ahead next
       → ahead_view size a next (all_changes more) ≡ record ahead { kept = joined_group batch ahead next ∷ [] }
   still_viewed ahead a b next batch kept more is are adds joined =
+      let here : IsJoined batch (ahead_view size a b (all_changes kept)) next = subst (λ v. IsJoined batch v next) (sym is) joined in
       subst (λ (v : AheadView). ahead_view size a next (all_changes more) ≡ record v { kept = joined_group batch v next ∷ [] }) is
       (ap (λ groups. record { size = size; shown = a; kept = groups })
-      (more_group next (changes_among (group_kept b (all_changes kept)) ++ batch) (all_changes more) (more_changes a b batch kept more are adds) joined.1))
+      (more_group a next (changes_among (group_kept b (all_changes kept)) ++ batch) (all_changes more) (more_changes a b batch kept more are adds) here.1))

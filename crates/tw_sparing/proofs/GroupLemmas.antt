@@ -4,7 +4,7 @@ use Rattle.std.proofs.lemmas.List.{map-append}
 use Rattle.tw_surface.specs.ChangeView.{Batch}
 use Rattle.tw_terminal.specs.declared.terminal.ScreenSize.{ScreenSize}
 use Rattle.tw_ansi.specs.declared.encode.Encoder.{Encoder}
-use Rattle.tw_ansi.specs.Encoding.{Sent, sent_batch}
+use Rattle.tw_ansi.specs.Encoding.{Sent}
 use Rattle.tw_sparing.specs.declared.shown.Shown.{Shown}
 use Rattle.tw_sparing.specs.Shown.{sent_for}
 use Rattle.tw_sparing.specs.KnownRuns.{KnownBatch, batches_among, last_known, sent_for_all}
@@ -48,7 +48,7 @@ module _ (rows : ℕ) where
       ≡ (sent_for_all rows old xs e).bytes ++ (sent_for_all rows (last_known old xs) ys (sent_for_all rows old xs e).next).bytes
   sent_bytes-both old [] ys e = refl
   sent_bytes-both old (x ∷ xs) ys e =
-      let one : Sent = sent_batch (sent_for rows x.batch old x.known) e in
+      let one : Sent = sent_for rows x.batch old x.known e in
       let rest : Sent = sent_for_all rows x.known xs one.next in
       ap (λ v. one.bytes ++ v) (sent_bytes-both x.known xs ys one.next)
       ∙ sym (append_assoc one.bytes rest.bytes (sent_for_all rows (last_known x.known xs) ys rest.next).bytes)
@@ -56,10 +56,10 @@ module _ (rows : ℕ) where
   pub sent_next-both : (old : Option Shown) (xs ys : List KnownBatch) (e : Encoder)
       → (sent_for_all rows old (xs ++ ys) e).next ≡ (sent_for_all rows (last_known old xs) ys (sent_for_all rows old xs e).next).next
   sent_next-both old [] ys e = refl
-  sent_next-both old (x ∷ xs) ys e = sent_next-both x.known xs ys (sent_batch (sent_for rows x.batch old x.known) e).next
+  sent_next-both old (x ∷ xs) ys e = sent_next-both x.known xs ys (sent_for rows x.batch old x.known e).next
 
 pub known_since-both : (size : ScreenSize) (old : Option Shown) (e : Encoder) (xs ys : List KnownBatch) → AreKnownSince size old e xs
     → AreKnownSince size (last_known old xs) (sent_for_all size.rows old xs e).next ys → AreKnownSince size old e (xs ++ ys)
 known_since-both size old e [] ys first then = then
 known_since-both size old e (x ∷ xs) ys first then =
-    (first.0, first.1, known_since-both size x.known (sent_batch (sent_for size.rows x.batch old x.known) e).next xs ys first.2 then)
+    (first.0, first.1, known_since-both size x.known (sent_for size.rows x.batch old x.known e).next xs ys first.2 then)

@@ -4,9 +4,10 @@ pub mod TypedPictures
 pub mod SpannedPictures
 pub mod PlayedPictures
 pub mod StandingScreens
-pub mod KnownScreens
+pub mod RedrawnScreens
 pub mod SendableBatches
 pub mod FirstScreens
+pub mod KnownScreens
 pub mod ShortBatches
 pub mod RunLemmas
 pub mod SparingDeedLemmas

@@ -1,13 +1,15 @@
 -- Batches that are played one after the other.
-use Rattle.std.proofs.Common.{◌≡◌, ◌+◌, ◌<◌, ◌≤◌, ℕ, suc, Option, Some, List, [], ◌∷◌, ◌++◌, length, take, get_or, ap, subst, ◌∙◌, sym, refl, arith}
+use Rattle.std.proofs.Common.{◌≡◌, ◌+◌, ◌<◌, ◌≤◌, ℕ, zero, suc, pos, negsuc, not, Bool, true, false, Option, Some, List, [], ◌∷◌, ◌++◌, length, take, get_or, ap, subst, ◌∙◌, sym, refl, arith}
 use Rattle.std.proofs.Math.Seq.{take-suc}
+use Rattle.std.proofs.lemmas.Bool.{lt-ltb}
 use Rattle.std.proofs.lemmas.List.{map-append}
 use Rattle.tw_surface.specs.declared.change.Change.{Change}
 use Rattle.tw_surface.specs.ChangeView.{ChangeView, Batch, batch_view, change_view}
 use Rattle.tw_sparing.specs.declared.shown.Shown.{Shown}
-use Rattle.tw_surface.specs.ChangeView.{ClearToEndOfScreen}
+use Rattle.tw_surface.specs.declared.change.Position.TheVariants.{Absolute, Relative}
+use Rattle.tw_surface.specs.ChangeView.{Attribute, AllAttributes, Text, ClearScreen, ClearToEndOfScreen, CursorPosition}
 use Rattle.tw_surface.specs.Defaults.{default_color}
-use Rattle.tw_sparing.specs.Shown.{Empties, SetsAttributes, IsKnownAfter, IsPlayed, IsPlayedOnce}
+use Rattle.tw_sparing.specs.Shown.{first_shown, goes_out_of_sight, gone_rows, rows_above, Empties, FitsTerminal, SetsAttributes, IsDrawnAfter, IsKnownAfter, IsKnownBy, IsPlayed, IsPlayedOnce}
 
 played_last : (rows : ℕ) (xs : Batch) (x : ChangeView) (a b c : Shown) → IsPlayed rows xs a b → IsPlayedOnce rows x b c → IsPlayed rows (xs ++ x ∷ []) a c
 played_last rows [] x a b c first last = (c, subst (λ (k : Shown). IsPlayedOnce rows x k c) first last, refl)
@@ -29,11 +31,51 @@ pub played_width : (rows : ℕ) (xs : Batch) (a b : Shown) → IsPlayed rows xs 
 played_width rows [] a b is = ap (λ (k : Shown). k.screen.width) is
 played_width rows (x ∷ xs) a b is = played_width rows xs is.0 b is.2 ∙ is.1.drawn.width
 
+-- a batch that is played does not go out of sight
+pub stays_in_sight : (rows : ℕ) (xs : Batch) (a b : Shown) → IsPlayed rows xs a b → goes_out_of_sight (rows_above rows a) xs ≡ false
+stays_in_sight rows [] a b is = refl
+stays_in_sight rows (Text text ∷ xs) a b is = refl
+stays_in_sight rows (Attribute change ∷ xs) a b is = refl
+stays_in_sight rows (AllAttributes to ∷ xs) a b is = refl
+stays_in_sight rows (ClearScreen color ∷ xs) a b is = refl
+stays_in_sight rows (ClearToEndOfScreen color ∷ xs) a b is = refl
+stays_in_sight rows (CursorPosition (Relative x) y ∷ xs) a b is = refl
+stays_in_sight rows (CursorPosition (Absolute (suc col)) y ∷ xs) a b is = refl
+stays_in_sight rows (CursorPosition (Absolute zero) (Absolute row) ∷ xs) a b is = refl
+stays_in_sight rows (CursorPosition (Absolute zero) (Relative (pos n)) ∷ xs) a b is = refl
+stays_in_sight rows (CursorPosition (Absolute zero) (Relative (negsuc n)) ∷ xs) a b is = ap not (lt-ltb n (rows_above rows a) is.1.playable)
+
+-- so what is known after it is what was drawn
+pub drawn_known : (cols rows : ℕ) (batch : Batch) (old new : Shown) → IsDrawnAfter rows batch old new → IsKnownAfter cols rows batch (Some old) (Some new)
+drawn_known cols rows batch old new drawn = subst (λ b. IsKnownBy b rows batch old new) (sym (stays_in_sight rows batch old new drawn.1)) drawn
+
+pub known_drawn : (cols rows : ℕ) (batch : Batch) (old new : Shown) → goes_out_of_sight (rows_above rows old) batch ≡ false → IsKnownAfter cols rows batch (Some old) (Some new)
+    → IsDrawnAfter rows batch old new
+known_drawn cols rows batch old new stays known = subst (λ b. IsKnownBy b rows batch old new) stays known
+
+pub drawn_width : (rows : ℕ) (batch : Batch) (old new : Shown) → IsDrawnAfter rows batch old new → old.screen.width ≡ new.screen.width
+drawn_width rows batch old new drawn = sym (played_width rows batch old new drawn.1)
+
+known_width_by : (b : Bool) (rows : ℕ) (batch : Batch) (old new : Shown) → IsKnownBy b rows batch old new → old.screen.width ≡ new.screen.width
+known_width_by true rows batch old new known = sym (played_width rows known.rest (first_shown old.screen.width) new known.played)
+known_width_by false rows batch old new known = drawn_width rows batch old new known
+
 pub known_width : (cols rows : ℕ) (batch : Batch) (a b : Option Shown) (old new : Shown) → a ≡ Some old → b ≡ Some new → IsKnownAfter cols rows batch a b
     → old.screen.width ≡ new.screen.width
 known_width cols rows batch a b old new is_old is_new known =
     let both = subst (λ x. IsKnownAfter cols rows batch (Some old) x) is_new (subst (λ x. IsKnownAfter cols rows batch x b) is_old known) in
-    sym (played_width rows batch old new both.1)
+    known_width_by (goes_out_of_sight (rows_above rows old) batch) rows batch old new both
+
+-- the new screen fits the terminal, and the cursor of the old one is after the rows that have left it
+fits_by : (b : Bool) (rows : ℕ) (batch : Batch) (old new : Shown) → IsKnownBy b rows batch old new → FitsTerminal rows new × (gone_rows b rows old new ≤ old.screen.row)
+fits_by true rows batch old new known = (known.fits, known.row)
+fits_by false rows batch old new known = (known.0, known.2.row)
+
+pub known_fits : (cols rows : ℕ) (batch : Batch) (a b : Option Shown) (old new : Shown) → a ≡ Some old → b ≡ Some new → IsKnownAfter cols rows batch a b
+    → FitsTerminal rows new × (gone_rows (goes_out_of_sight (rows_above rows old) batch) rows old new ≤ old.screen.row)
+known_fits cols rows batch a b old new is_old is_new known =
+    let both = subst (λ x. IsKnownAfter cols rows batch (Some old) x) is_new (subst (λ x. IsKnownAfter cols rows batch x b) is_old known) in
+    fits_by (goes_out_of_sight (rows_above rows old) batch) rows batch old new both
 
 -- the rows that are reached do not get fewer
 pub played_reached : (rows : ℕ) (xs : Batch) (a b : Shown) → IsPlayed rows xs a b → a.reached ≤ b.reached

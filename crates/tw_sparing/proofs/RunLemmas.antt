@@ -1,5 +1,5 @@
 -- A terminal that is sent what is sent for batches shows the picture on which they were drawn.
-use Rattle.std.proofs.Common.{◌≡◌, ◌<◌, ◌^◌, ℕ, false, Option, Some, None, List, [], ◌∷◌, inl, inr, ◌⊎◌, ap, subst, ◌∙◌, sym, refl}
+use Rattle.std.proofs.Common.{◌≡◌, ◌<◌, ◌^◌, ℕ, Bool, true, false, Option, Some, None, List, [], ◌∷◌, inl, inr, ◌⊎◌, ap, subst, ◌∙◌, sym, refl}
 use Rattle.tw_strokes.specs.Strokes.{PictureOf, steps_on}
 use Rattle.tw_surface.specs.declared.cell.CellAttributes.{CellAttributes}
 use Rattle.tw_surface.specs.declared.change.Position.{Position}
@@ -21,7 +21,7 @@ use Rattle.tw_ansi.proofs.EcmaSequences.{received}
 use Rattle.tw_ansi.proofs.EcmaPaintings.{batches_are_shown}
 use Rattle.tw_ansi.proofs.EcmaBatches.{batch_is_shown, keeps_change}
 use Rattle.tw_sparing.specs.declared.shown.Shown.{Shown}
-use Rattle.tw_sparing.specs.Shown.{first_shown, IsKnownAfter, IsPlayed, IsBegunBy, IsShortMove, SetsAttributes, sent_for}
+use Rattle.tw_sparing.specs.Shown.{first_shown, goes_out_of_sight, rows_above, IsKnownAfter, IsKnownBy, IsPlayed, IsBegunBy, IsShortMove, SetsAttributes, sent_for}
 use Rattle.tw_sparing.specs.KnownRuns.{KnownBatch, batches_among, last_known, sent_for_all, IsShownAs, CanBeSent, AreKnown, IsAlike, LooksTheSame, RunsAreShown}
 use Rattle.tw_sparing.proofs.KnownScreens.{known_is_shown}
 use Rattle.tw_sparing.proofs.FirstScreens.{first_is_known}
@@ -62,18 +62,18 @@ module _ (h w : ℕ) where
 
   -- after a batch it is shown what is known, and the encoder knows the attributes that are kept
   pub record Goes (batch : Batch) (old new : Option Shown) (e : Encoder) (t : EcmaScreen StyledCell) (p : PictureOf StyledCell) : Type 0 where
-    pub shown : IsShownAs h w (sent_batch (sent_for h batch old new) e).next (receive_all styled h w (sent_batch (sent_for h batch old new) e).bytes t)
+    pub shown : IsShownAs h w (sent_for h batch old new e).next (receive_all styled h w (sent_for h batch old new e).bytes t)
         (steps_on (Some h) w (strokes_of styled e.attributes batch) p) new
-    pub attributes : (sent_batch (sent_for h batch old new) e).next.attributes ≡ kept_after_all styled e.attributes batch
+    pub attributes : (sent_for h batch old new e).next.attributes ≡ kept_after_all styled e.attributes batch
 
-  whole_goes : (batch : Batch) (old : Option Shown) (e : Encoder) (t : EcmaScreen StyledCell) (p : PictureOf StyledCell) → 0 < w → w < 2 ^ 64 → sent_for h batch old None ≡ batch
+  whole_goes : (batch : Batch) (old : Option Shown) (e : Encoder) (t : EcmaScreen StyledCell) (p : PictureOf StyledCell) → 0 < w → w < 2 ^ 64 → sent_for h batch old None e ≡ sent_batch batch e
       → AreSendable styled h w e batch p → ShowsPicture styled h w e t p → Goes batch old None e t p
   whole_goes batch old e t p some small is fits a =
       let drawn : PictureOf StyledCell = steps_on (Some h) w (strokes_of styled e.attributes batch) p in
       record {
-        shown = subst (λ xs. ShowsPicture styled h w (sent_batch xs e).next (receive_all styled h w (sent_batch xs e).bytes t) drawn) (sym is)
+        shown = subst (λ (x : Sent). ShowsPicture styled h w x.next (receive_all styled h w x.bytes t) drawn) (sym is)
             (batch_is_shown styled h w batch e t p follows some small fits a);
-        attributes = ap (λ xs. (sent_batch xs e).next.attributes) is ∙ sym (keeps_all batch e p fits);
+        attributes = ap (λ (x : Sent). x.next.attributes) is ∙ sym (keeps_all batch e p fits);
       }
 
   pub goes : (batch : Batch) (old new : Option Shown) (e : Encoder) (t : EcmaScreen StyledCell) (p : PictureOf StyledCell) → 0 < w → w < 2 ^ 64
@@ -90,8 +90,14 @@ module _ (h w : ℕ) where
       let b = known_is_shown h w batch old new e t p small known a in
       record {
         shown = b;
-        attributes = sym b.attributes ∙ played_kept h batch old new known.1 ∙ ap (λ k. kept_after_all styled k batch) a.attributes;
+        attributes = sym b.attributes ∙ known_kept (goes_out_of_sight (rows_above h old) batch) old new batch known ∙ ap (λ k. kept_after_all styled k batch) a.attributes;
       }
+    where
+      known_kept : (b : Bool) (old new : Shown) (batch : Batch) → IsKnownBy b h batch old new → new.screen.kept ≡ kept_after_all styled old.screen.kept batch
+      known_kept true old new batch known =
+          played_kept h known.rest (first_shown old.screen.width) new known.played
+          ∙ sym (emptying_kept batch known.rest old.screen.kept default_attributes (known.empties, inr known.moved))
+      known_kept false old new batch known = played_kept h batch old new known.1
 
   -- ---- one after the other
 
@@ -101,7 +107,7 @@ module _ (h w : ℕ) where
       (play_sized (Some h) false styled w e.attributes (sized_at w (batches_among calls)) p) (last_known old calls)
   runs [] old e t p some small known a = a
   runs (call ∷ more) old e t p some small known a =
-      let sent : Sent = sent_batch (sent_for h call.batch old call.known) e in
+      let sent : Sent = sent_for h call.batch old call.known e in
       let drawn : PictureOf StyledCell = steps_on (Some h) w (strokes_of styled e.attributes call.batch) p in
       let one = goes call.batch old call.known e t p some small known.0 known.1 a in
       let rest : Sent = sent_for_all h call.known more sent.next in
@@ -122,7 +128,7 @@ module _ (h w : ℕ) where
       → AreKnown h w e p old calls → IsShownAs h w e t p old → (sent_for_all h old calls e).next.attributes ≡ kept_over e.attributes (batches_among calls)
   runs_keep [] old e t p some small known a = refl
   runs_keep (call ∷ more) old e t p some small known a =
-      let sent : Sent = sent_batch (sent_for h call.batch old call.known) e in
+      let sent : Sent = sent_for h call.batch old call.known e in
       let drawn : PictureOf StyledCell = steps_on (Some h) w (strokes_of styled e.attributes call.batch) p in
       let one = goes call.batch old call.known e t p some small known.0 known.1 a in
       runs_keep more call.known sent.next (receive_all styled h w sent.bytes t) drawn some small known.2 one.shown

@@ -7,7 +7,7 @@ use Rattle.tw_terminal.specs.TerminalState.{usize_max}
 use Rattle.tw_terminal.specs.Uses.{Call, Took, Refused, Other, Uses}
 use Rattle.tw_terminal.specs.declared.terminal.ScreenSize.{ScreenSize}
 use Rattle.tw_ansi.specs.declared.encode.Encoder.{Encoder}
-use Rattle.tw_ansi.specs.Encoding.{Sent, sent_batch}
+use Rattle.tw_ansi.specs.Encoding.{Sent}
 use Rattle.tw_lineedit.proofs.FailureLemmas.{le_count, rose_once}
 use Rattle.tw_device.specs.Deeds.{Deed, Called, Sized, Said, sizes_by, texts_by}
 use Rattle.tw_device.proofs.DeedLemmas.{appends_nothing, appends_then}

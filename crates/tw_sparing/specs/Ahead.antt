@@ -1,11 +1,11 @@
 -- What a terminal shows, what is drawn ahead of it, and the groups of batches that are then sent.
-use Rattle.std.specs.Prelude.{◌≡◌, Bool, true, false, Option, Some, None, IsSome, List, [], ◌∷◌, ◌++◌}
+use Rattle.std.specs.Prelude.{◌≡◌, Bool, true, false, ℕ, Option, Some, None, List, [], ◌∷◌, ◌++◌}
 use Rattle.tw_surface.specs.ChangeView.{Batch}
 use Rattle.tw_terminal.specs.declared.terminal.ScreenSize.{ScreenSize}
 use Rattle.tw_ansi.specs.declared.encode.Encoder.{Encoder}
 use Rattle.tw_ansi.specs.Encoding.{Sent}
 use Rattle.tw_sparing.specs.declared.shown.Shown.{Shown}
-use Rattle.tw_sparing.specs.Shown.{IsKnownAfter}
+use Rattle.tw_sparing.specs.Shown.{IsDrawnAfter, goes_out_of_sight, rows_above}
 use Rattle.tw_sparing.specs.KnownRuns.{KnownBatch, batches_among, last_known, sent_for_all}
 
 -- the changes of batches, one after the other
@@ -44,7 +44,7 @@ ahead_view size shown drawn batch = record { size = size; shown = shown; kept = 
 abbrev pub AreAhead : ScreenSize → Option Shown → Option Shown → Batch → Type 0
 AreAhead size shown None batch = batch ≡ []
 AreAhead size None (Some drawn) batch = ⊥
-AreAhead size (Some shown) (Some drawn) batch = IsKnownAfter size.cols size.rows batch (Some shown) (Some drawn)
+AreAhead size (Some shown) (Some drawn) batch = IsDrawnAfter size.rows batch shown drawn
 
 -- what is sent for what is kept back
 abbrev pub sent_ahead : AheadView → Encoder → Sent
@@ -59,8 +59,20 @@ abbrev pub groups_with : Bool → Batch → AheadView → Option Shown → List 
 groups_with true batch ahead known = joined_group batch ahead known ∷ []
 groups_with false batch ahead known = ahead.kept ++ record { batch = batch; known = known } ∷ []
 
--- All is known that one difference takes: what is shown, and what is shown once what is kept back and the batch are drawn on it. So the rows that have left
--- the terminal then are the same in both.
+-- a batch goes out of sight of what is known, where anything is known
+abbrev pub leaves_sight : ℕ → Option Shown → Batch → Bool
+leaves_sight rows None batch = false
+leaves_sight rows (Some shown) batch = goes_out_of_sight (rows_above rows shown) batch
+
+-- what is known before a batch and after it, which was drawn on it
+abbrev pub IsDrawnBetween : ℕ → Batch → Option Shown → Option Shown → Type 0
+IsDrawnBetween rows batch None known = ⊥
+IsDrawnBetween rows batch (Some old) None = ⊥
+IsDrawnBetween rows batch (Some old) (Some new) = IsDrawnAfter rows batch old new
+
+-- All is known that one difference takes: the batch does not go out of sight, and what is known then is what is shown once all that is kept back, and the
+-- batch, are drawn on what is shown. So the rows that have left the terminal then are the same in both.
 abbrev pub IsJoined : Batch → AheadView → Option Shown → Type 0
 IsJoined batch ahead known =
-    IsSome ahead.shown × IsSome known × IsKnownAfter ahead.size.cols ahead.size.rows (joined_group batch ahead known).batch ahead.shown known
+    (leaves_sight ahead.size.rows (latest_known ahead) batch ≡ false)
+    × IsDrawnBetween ahead.size.rows (joined_group batch ahead known).batch ahead.shown known

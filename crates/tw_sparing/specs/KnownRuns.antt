@@ -7,7 +7,7 @@ use Rattle.tw_screens.specs.Screens.{play_sized}
 use Rattle.tw_screens.specs.SizedBatches.{sized_at}
 use Rattle.tw_screens.specs.StyledCells.{StyledCell, styled}
 use Rattle.tw_ansi.specs.declared.encode.Encoder.{Encoder}
-use Rattle.tw_ansi.specs.Encoding.{Sent, sends, sent_then, sent_batch}
+use Rattle.tw_ansi.specs.Encoding.{Sent, sends, sent_then}
 use Rattle.tw_ansi.specs.EcmaBatches.{AreSendable}
 use Rattle.tw_ansi.specs.EcmaLaws.{IsColor}
 use Rattle.tw_ansi.specs.EcmaPaintings.{AreAllSendable, sent_batches}
@@ -34,7 +34,7 @@ last_known old (call ∷ more) = last_known call.known more
 -- what is sent for them, one after the other
 abbrev pub sent_for_all : ℕ → Option Shown → List KnownBatch → Encoder → Sent
 sent_for_all rows old [] e = sends [] e
-sent_for_all rows old (call ∷ more) e = sent_then (sent_batch (sent_for rows call.batch old call.known) e) (sent_for_all rows call.known more)
+sent_for_all rows old (call ∷ more) e = sent_then (sent_for rows call.batch old call.known e) (sent_for_all rows call.known more)
 
 -- a terminal shows a picture, in which what is known stands, where anything is known
 abbrev pub IsShownAs : ℕ → ℕ → Encoder → EcmaScreen StyledCell → PictureOf StyledCell → Option Shown → Type 0
@@ -54,7 +54,7 @@ AreKnown h w e p old [] = ⊤
 AreKnown h w e p old (call ∷ more) =
     IsKnownAfter w h call.batch old call.known
     × CanBeSent h w e p call.batch old call.known
-    × AreKnown h w (sent_batch (sent_for h call.batch old call.known) e).next (steps_on (Some h) w (strokes_of styled e.attributes call.batch) p) call.known more
+    × AreKnown h w (sent_for h call.batch old call.known e).next (steps_on (Some h) w (strokes_of styled e.attributes call.batch) p) call.known more
 
 -- A terminal that shows a picture, and is sent what is sent for batches, one after the other, shows the picture on which all of them were drawn; and what
 -- is known at the end stands in it.

@@ -2,7 +2,6 @@
 use Rattle.std.specs.Prelude.{◌≡◌, ◌<◌, ◌-◌, ℕ, Some, []}
 use Rattle.tw_screens.specs.StyledCells.{StyledCell}
 use Rattle.tw_ansi.specs.declared.encode.Encoder.{Encoder}
-use Rattle.tw_ansi.specs.Encoding.{sent_batch}
 use Rattle.tw_surface.specs.ChangeView.{Batch}
 use Rattle.styled_screen.specs.StyledScreens.{without_rows}
 use Rattle.tw_changed.specs.Sending.{screen_cells, hand_of}
@@ -25,13 +24,13 @@ NoBatchIsSentForNothing = (rows cols : ℕ) (batch : Batch) (old new : Shown) �
     → let top = left_behind rows new in
     ((i j : ℕ) → i < new.reached - top → j < new.screen.width → cells_below top old i j ≡ cells_below top new i j)
     → hand_below top new ≡ hand_below top old
-    → sent_for rows batch (Some old) (Some new) ≡ []
+    → (e : Encoder) → (sent_for rows batch (Some old) (Some new) e).bytes ≡ []
 
 -- and of printable characters that were typed at the cursor, these alone are sent
 abbrev pub TypedBatchIsSentAlone : Type 0
 TypedBatchIsSentAlone = (rows cols n : ℕ) (batch : Batch) (old new : Shown) (e : Encoder) → IsKnownAfter cols rows batch (Some old) (Some new) → new.reached ≡ old.reached
     → let top = left_behind rows new in
-    let sent = sent_batch (sent_for rows batch (Some old) (Some new)) e in
+    let sent = sent_for rows batch (Some old) (Some new) e in
     IsTypedAt new.screen.width (new.reached - top) n (cells_below top old) (cells_below top new) (hand_below top old) (hand_below top new)
     → e.cols ≡ new.screen.width → e.x ≡ old.screen.col
     → sent.bytes ≡ characters_from (cells_below top new (old.screen.row - top)) old.screen.col n

@@ -1,5 +1,5 @@
 -- What a terminal shows, as far as it is known.
-use Rattle.std.specs.Prelude.{◌≡◌, ◌≤◌, ◌<◌, ◌+◌, ◌-◌, ◌⊎◌, ℕ, pos, negsuc, max, true, Option, Some, None, [], ◌∷◌, ⊤}
+use Rattle.std.specs.Prelude.{◌≡◌, ◌≤◌, ◌<◌, ◌+◌, ◌-◌, ◌⊎◌, ℕ, zero, pos, negsuc, ltb, max, Bool, true, false, not, Option, Some, None, [], ◌∷◌, ⊤}
 use Rattle.std.specs.List.{list_all}
 use Rattle.tw_surface.specs.declared.change.Position.{Position}
 use Rattle.tw_surface.specs.declared.change.Position.TheVariants.{Absolute, Relative}
@@ -10,7 +10,9 @@ use Rattle.tw_surface.specs.ChangeView.{Attribute, AllAttributes, Text, ClearScr
 use Rattle.tw_surface.specs.Simple.{spelled_all}
 use Rattle.tw_screens.specs.Pens.{strokes_of, kept_after_all}
 use Rattle.tw_screens.specs.StyledCells.{styled}
+use Rattle.tw_ansi.specs.declared.encode.Encoder.{Encoder}
 use Rattle.tw_ansi.specs.EcmaLaws.{IsAttribute}
+use Rattle.tw_ansi.specs.Encoding.{Sent, sent_batch, terse_batch}
 use Rattle.tw_ansi.specs.Sequences.{most_rows}
 use Rattle.styled_screen.specs.StyledScreens.{StyledView, AreDrawn, blank_styled, without_rows}
 use Rattle.tw_changed.specs.ChangedScreens.{AreByBytes, AreAllByBytes}
@@ -26,6 +28,10 @@ first_shown cols = record { screen = blank_styled cols; reached = 1 }
 -- the rows that have left a terminal of so many rows
 abbrev pub left_behind : ℕ → Shown → ℕ
 left_behind rows shown = shown.reached - rows
+
+-- how many of the rows in sight stand above the cursor
+abbrev pub rows_above : ℕ → Shown → ℕ
+rows_above rows shown = shown.screen.row - left_behind rows shown
 
 -- a screen of no more rows than can be told, on a terminal of no more, with its cursor in one of its columns and in one of the last rows that it has
 -- reached, and printable characters under colours by bytes in its cells
@@ -61,7 +67,7 @@ IsPlayable rows shown (Attribute change) = IsAttribute change
 IsPlayable rows shown (AllAttributes to) = AreByBytes to
 IsPlayable rows shown (ClearScreen color) = ⊥
 IsPlayable rows shown (ClearToEndOfScreen color) = (color ≡ default_color) × (shown.screen.col < shown.screen.width)
-IsPlayable rows shown (CursorPosition x y) = IsInSight (shown.screen.row - left_behind rows shown) y
+IsPlayable rows shown (CursorPosition x y) = IsInSight (rows_above rows shown) y
 
 -- such a change was drawn, and the row of the cursor is reached
 pub record IsPlayedOnce (rows : ℕ) (change : ChangeView) (old new : Shown) : Type 0 where
@@ -116,21 +122,55 @@ IsFromStart x batch None (Some new) = (x ≡ 0) ⊎ LeadsToStart batch
 IsFromStart x batch None None = ⊤
 IsFromStart x batch (Some old) new = ⊤
 
--- ---- what is sent for it
+-- ---- what is known after it
 
--- what differs below the rows that have left the terminal
-abbrev pub changes_below : ℕ → Shown → Shown → Batch
-changes_below top old new = changes_between (old.reached - top) (new.reached - top) (without_rows top old.screen) (without_rows top new.screen)
+-- a batch was drawn on what was known, and the rows that have left the terminal then show what they showed before
+abbrev pub IsDrawnAfter : ℕ → Batch → Shown → Shown → Type 0
+IsDrawnAfter rows batch old new = FitsTerminal rows new × IsPlayed rows batch old new × KeepsAbove (left_behind rows new) old.screen new.screen
 
--- what is sent for a batch: where it is known what is shown before it and after it, what differs, and else the batch itself
-abbrev pub sent_for : ℕ → Batch → Option Shown → Option Shown → Batch
-sent_for rows batch None new = batch
-sent_for rows batch (Some old) None = batch
-sent_for rows batch (Some old) (Some new) = changes_below (left_behind rows new) old new
+-- a batch leads first to column 0 of a row out of sight, there being so many rows in sight above the cursor: so to the first row of the terminal
+abbrev pub goes_out_of_sight : ℕ → Batch → Bool
+goes_out_of_sight above (CursorPosition (Absolute zero) (Relative (negsuc n)) ∷ rest) = not (ltb n above)
+goes_out_of_sight above batch = false
 
--- what is known after a batch: on what was known before the batch was played, or else on an empty screen what came after its beginning
+-- A terminal whose rows are all reached was emptied from its first row on, and filled again: what is shown is what the rest of the batch leaves on an empty
+-- screen.
+pub record IsRefilled (rows : ℕ) (batch : Batch) (old new : Shown) : Type 0 where
+  pub fits : FitsTerminal rows new
+  pub before : rows ≤ old.reached
+  pub row : left_behind rows old ≤ old.screen.row
+  pub after : rows ≤ new.reached
+  pub rest : Batch
+  pub moved : IsMovedBy batch rest
+  pub empties : Empties rest
+  pub played : IsPlayed rows rest (first_shown old.screen.width) new
+
+-- so one screen becomes another one: by a batch that goes out of sight first, or by any other
+abbrev pub IsKnownBy : Bool → ℕ → Batch → Shown → Shown → Type 0
+IsKnownBy true rows batch old new = IsRefilled rows batch old new
+IsKnownBy false rows batch old new = IsDrawnAfter rows batch old new
+
+-- what is known after a batch: by what was known before, or else on an empty screen what came after its beginning
 abbrev pub IsKnownAfter : ℕ → ℕ → Batch → Option Shown → Option Shown → Type 0
 IsKnownAfter cols rows batch old None = Unit {0}
-IsKnownAfter cols rows batch (Some old) (Some new) =
-    FitsTerminal rows new × IsPlayed rows batch old new × KeepsAbove (left_behind rows new) old.screen new.screen
+IsKnownAfter cols rows batch (Some old) (Some new) = IsKnownBy (goes_out_of_sight (rows_above rows old) batch) rows batch old new
 IsKnownAfter cols rows batch None (Some new) = FitsTerminal rows new × ((rest : Batch) × IsBegunBy batch rest × IsPlayed rows rest (first_shown cols) new)
+
+-- ---- what is sent for it
+
+-- what differs of two screens, each without its first rows
+abbrev pub changes_below : ℕ → ℕ → Shown → Shown → Batch
+changes_below old_top top old new = changes_between (old.reached - old_top) (new.reached - top) (without_rows old_top old.screen) (without_rows top new.screen)
+
+-- how many rows of the old screen have left the terminal: where it is filled again those that had left it before, and else those of the new screen
+abbrev pub gone_rows : Bool → ℕ → Shown → Shown → ℕ
+gone_rows true rows old new = left_behind rows old
+gone_rows false rows old new = left_behind rows new
+
+-- what is sent for a batch: where it is known what is shown before it and after it, what differs of the rows that have not left the terminal, its moves by few
+-- bytes; and else the batch itself
+abbrev pub sent_for : ℕ → Batch → Option Shown → Option Shown → Encoder → Sent
+sent_for rows batch None new e = sent_batch batch e
+sent_for rows batch (Some old) None e = sent_batch batch e
+sent_for rows batch (Some old) (Some new) e =
+    terse_batch (changes_below (gone_rows (goes_out_of_sight (rows_above rows old) batch) rows old new) (left_behind rows new) old new) e

@@ -5,7 +5,6 @@ use Rattle.tw_surface.specs.ChangeView.{Batch}
 use Rattle.tw_screens.specs.Pens.{strokes_of}
 use Rattle.tw_screens.specs.StyledCells.{StyledCell, styled}
 use Rattle.tw_ansi.specs.declared.encode.Encoder.{Encoder}
-use Rattle.tw_ansi.specs.Encoding.{sent_batch}
 use Rattle.tw_ansi.specs.EcmaScreen.{EcmaScreen, receive_all}
 use Rattle.tw_ansi.specs.EcmaLaws.{IsColor}
 use Rattle.tw_ansi.specs.EcmaTexts.{ShowsPicture}
@@ -32,7 +31,7 @@ pub record IsShownBy (h w : ℕ) (e : Encoder) (t : EcmaScreen StyledCell) (p : 
 abbrev pub KnownIsShown : Type 0
 KnownIsShown = (h w : ℕ) (batch : Batch) (old new : Shown) (e : Encoder) (t : EcmaScreen StyledCell) (p : PictureOf StyledCell)
     → w < 2 ^ 64 → IsKnownAfter w h batch (Some old) (Some new) → IsShownBy h w e t p old
-    → let sent = sent_batch (sent_for h batch (Some old) (Some new)) e in
+    → let sent = sent_for h batch (Some old) (Some new) e in
     IsShownBy h w sent.next (receive_all styled h w sent.bytes t) (steps_on (Some h) w (strokes_of styled e.attributes batch) p) new
 
 -- So does a terminal of which nothing was known, but that it shows some picture, and which is sent the batch itself: wherever its cursor stands, as long
@@ -40,5 +39,5 @@ KnownIsShown = (h w : ℕ) (batch : Batch) (old new : Shown) (e : Encoder) (t : 
 abbrev pub FirstIsKnown : Type 0
 FirstIsKnown = (h w : ℕ) (batch : Batch) (new : Shown) (e : Encoder) (t : EcmaScreen StyledCell) (p : PictureOf StyledCell)
     → 0 < w → w < 2 ^ 64 → IsColor e.attributes.background → IsKnownAfter w h batch None (Some new) → IsFromStart e.x batch None (Some new) → ShowsPicture styled h w e t p
-    → let sent = sent_batch (sent_for h batch None (Some new)) e in
+    → let sent = sent_for h batch None (Some new) e in
     IsShownBy h w sent.next (receive_all styled h w sent.bytes t) (steps_on (Some h) w (strokes_of styled e.attributes batch) p) new

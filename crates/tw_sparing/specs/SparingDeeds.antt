@@ -5,7 +5,7 @@ use Rattle.tw_terminal.specs.TerminalState.{count_up}
 use Rattle.tw_terminal.specs.Uses.{Took, Refused, Other}
 use Rattle.tw_terminal.specs.declared.terminal.ScreenSize.{ScreenSize}
 use Rattle.tw_ansi.specs.declared.encode.Encoder.{Encoder}
-use Rattle.tw_ansi.specs.Encoding.{Sent, sent_batch}
+use Rattle.tw_ansi.specs.Encoding.{Sent}
 use Rattle.tw_device.specs.Deeds.{Deed, Called, Sized, Said, batches_by, sent_deed}
 use Rattle.tw_sparing.specs.declared.shown.Shown.{Shown}
 use Rattle.tw_sparing.specs.declared.terminal.SparingTerminal.{SparingTerminal}
@@ -15,7 +15,7 @@ use Rattle.tw_sparing.specs.Terminal.{sparing_state}
 -- what a deed sends, by what is known of what is shown before it and after it: a batch as what differs, and any other deed as at a terminal that keeps
 -- nothing
 abbrev pub sent_sparingly : Deed → ℕ → Option Shown → Option Shown → Encoder → Sent
-sent_sparingly (Called (Took batch)) rows old new e = sent_batch (sent_for rows batch old new) e
+sent_sparingly (Called (Took batch)) rows old new e = sent_for rows batch old new e
 sent_sparingly (Called Refused) rows old new e = sent_deed (Called Refused) e
 sent_sparingly (Called Other) rows old new e = sent_deed (Called Other) e
 sent_sparingly (Sized size) rows old new e = sent_deed (Sized size) e

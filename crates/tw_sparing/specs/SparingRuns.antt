@@ -5,7 +5,6 @@ use Rattle.tw_input.specs.EventView.{EventView}
 use Rattle.tw_terminal.specs.TerminalState.{usize_max}
 use Rattle.tw_terminal.specs.declared.terminal.ScreenSize.{ScreenSize}
 use Rattle.tw_ansi.specs.declared.encode.Encoder.{Encoder}
-use Rattle.tw_ansi.specs.Encoding.{sent_batch}
 use Rattle.tw_device.specs.Deeds.{IsLedBy, sizes_in}
 use Rattle.tw_sparing.specs.declared.shown.Shown.{Shown}
 use Rattle.tw_sparing.specs.declared.terminal.SparingTerminal.{SparingTerminal}
@@ -19,7 +18,7 @@ abbrev pub AreKnownSince : ScreenSize → Option Shown → Encoder → List Know
 AreKnownSince size old e [] = ⊤
 AreKnownSince size old e (call ∷ more) =
     IsKnownAfter size.cols size.rows call.batch old call.known × IsFromStart e.x call.batch old call.known
-    × AreKnownSince size call.known (sent_batch (sent_for size.rows call.batch old call.known) e).next more
+    × AreKnownSince size call.known (sent_for size.rows call.batch old call.known e).next more
 
 module _ {W : Type 0} (contents : W → Option (List ℕ)) where
   -- These batches were taken since, each known after the one before it, and what was written is what was there, and then what is sent for them.

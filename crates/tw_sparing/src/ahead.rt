@@ -1,11 +1,11 @@
 //! What a terminal shows, and what is drawn ahead of it.
 
-ghost use Rattle.std.specs.Prelude.{◌≡◌, ◌++◌, [], ◌∷◌, true, false, IfOk, IfSome, OnOk, None, MatchOption, string_bytes, ◌↔◌};
+ghost use Rattle.std.specs.Prelude.{◌≡◌, ◌++◌, [], ◌∷◌, true, false, IfOk, OnOk, None, string_bytes, ◌↔◌};
 ghost use Rattle.tw_ansi.specs.declared.encode.Encoder.{Encoder};
 ghost use Rattle.tw_surface.specs.ChangeView.{batch_view};
-ghost use Rattle.tw_sparing.specs.Ahead.{IsJoined, groups_with, joined_group, latest_known, sent_ahead, settled_at};
+ghost use Rattle.tw_sparing.specs.Ahead.{IsJoined, groups_with, joined_group, latest_known, leaves_sight, sent_ahead, settled_at};
 ghost use Rattle.tw_sparing.specs.KnownRuns.{sent_for_all};
-ghost use Rattle.tw_sparing.specs.Shown.{left_behind, IsKnownAfter, KeepsAbove};
+ghost use Rattle.tw_sparing.specs.Shown.{IsKnownAfter};
 ghost use Rattle.tw_sparing.specs.SparingRuns.{AreKnownSince};
 
 use crate::sending::{send_for, send_known};
@@ -36,18 +36,12 @@ impl Model for Ahead {
     ghost invariant = { λ a. AreAhead a.size a.shown a.drawn (all_changes a.kept) };
 }
 
-/// Whether it is known what is shown next, and the rows that have left a terminal of so many rows then show what they
-/// show now.
-fn is_kept_above(shown: &Shown, next: &Option<Shown>, rows: usize) -> bool
-    requires { IfSome next.now (λ next. shown.now.screen.width ≡ next.screen.width) }
-    ensures above { result ≡ true → MatchOption next.now ⊥ (λ next. KeepsAbove (left_behind rows next) shown.now.screen next.screen) }
-    ensures found { MatchOption next.now ⊥ (λ next. KeepsAbove (left_behind rows next) shown.now.screen next.screen) → result ≡ true }
+/// Whether a batch goes out of sight of what is known, where anything is known, on a terminal of so many rows.
+fn leaves_sight(shown: &Option<Shown>, changes: &[Change], rows: usize) -> bool
+    ensures { result ≡ leaves_sight rows shown.now (batch_view changes.now) }
 {
-    match next {
-        Some(next) => {
-            let top = next.reached.saturating_sub(rows);
-            is_same_above(&shown.screen, &next.screen, top)
-        }
+    match shown {
+        Some(shown) => shown.is_left_by(changes, rows),
         None => false,
     }
 }
@@ -80,7 +74,8 @@ impl Ahead {
     }
 
     /// What is known once a batch is drawn on the latest picture, and whether all that is kept back and the batch can
-    /// be sent as one difference: where the rows that leave the terminal show what they show now.
+    /// be sent as one difference: where the batch does not go out of sight, and the rows that leave the terminal show
+    /// what they show now.
     pub fn known_after(
         &self,
         alloc: Global,
@@ -92,17 +87,35 @@ impl Ahead {
         ensures found { IsJoined (batch_view changes.now) self.now result.0 → result.1 ≡ true }
         ensures groups { (e : Encoder) → (at_start ≡ true → e.x ≡ 0) → AreKnownSince self.now.size self.now.shown e (groups_with result.1 (batch_view changes.now) self.now result.0) }
     {
-        match (&self.shown, &self.drawn) {
-            (Some(shown), Some(_)) => {
-                let next = shown_after(alloc, self.size, &self.drawn, at_start, changes);
-                let is_joined = is_kept_above(shown, &next, self.size.rows);
-                (next, is_joined)
+        let next = shown_after(alloc, self.size, self.latest(), at_start, changes);
+        let is_joined = self.is_joined(changes, &next);
+        (next, is_joined)
+    }
+
+    /// What is known of the latest picture: what is drawn ahead, or else what is shown.
+    fn latest(&self) -> &Option<Shown>
+        ensures { result.now ≡ latest_known self.now }
+    {
+        match self.drawn {
+            Some(_) => &self.drawn,
+            None => &self.shown,
+        }
+    }
+
+    /// Whether all that is kept back and a batch can be sent as one difference, by what is known after the batch.
+    fn is_joined(&self, changes: &[Change], next: &Option<Shown>) -> bool
+        requires { IsKnownAfter self.now.size.cols self.now.size.rows (batch_view changes.now) (latest_known self.now) next.now }
+        ensures joined { result ≡ true → IsJoined (batch_view changes.now) self.now next.now }
+        ensures found { IsJoined (batch_view changes.now) self.now next.now → result ≡ true }
+    {
+        let rows = self.size.rows;
+        match (&self.shown, next) {
+            (Some(shown), Some(next)) => {
+                let top = next.left_behind(rows);
+                !leaves_sight(self.latest(), changes, rows)
+                    && is_same_above(&shown.screen, &next.screen, top)
             }
-            _ => {
-                let next = shown_after(alloc, self.size, &self.shown, at_start, changes);
-                let is_joined = self.shown.is_some() && next.is_some();
-                (next, is_joined)
-            }
+            _ => false,
         }
     }
 
@@ -127,7 +140,7 @@ impl Ahead {
     {
         match (&self.shown, &self.drawn) {
             (Some(shown), Some(drawn)) => {
-                send_known(alloc, self.size.rows, shown, drawn, encoder, out)
+                send_known(alloc, self.size.rows, shown, drawn, false, encoder, out)
             }
             _ => Ok(encoder),
         }
@@ -152,7 +165,7 @@ impl Ahead {
     {
         match (&self.shown, next) {
             (Some(shown), Some(next)) if is_joined => {
-                send_known(alloc, self.size.rows, shown, next, encoder, out)
+                send_known(alloc, self.size.rows, shown, next, false, encoder, out)
             }
             _ => self.send_apart(alloc, changes, next, encoder, out),
         }

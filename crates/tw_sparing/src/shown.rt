@@ -1,11 +1,11 @@
 //! What a terminal shows, as far as it is known.
 
 ghost use Rattle.std.specs.Prelude.{◌≡◌, ◌≤◌, ◌<◌, ◌++◌, ◌⊎◌, ℕ, true, IfOk, IfSome, OnOk, Some, string_bytes};
-ghost use Rattle.tw_ansi.specs.Encoding.{sent_batch};
+ghost use Rattle.tw_ansi.specs.Encoding.{terse_batch};
 ghost use Rattle.tw_surface.specs.ChangeView.{ClearToEndOfScreen, batch_view, change_view};
 ghost use Rattle.tw_surface.specs.Defaults.{default_color};
 ghost use Rattle.tw_changed.specs.Sending.{IsPrintable, screen_cells};
-ghost use Rattle.tw_sparing.specs.Shown.{changes_below, first_shown, Empties, IsBegunBy, FitsTerminal, IsFromStart, IsInSight, IsKnownAfter, IsMovedBy, IsShortMove, IsPlayable, IsPlayed, IsPlayedOnce, KeepsAbove, LeadsToStart, SetsAttributes};
+ghost use Rattle.tw_sparing.specs.Shown.{changes_below, first_shown, goes_out_of_sight, left_behind, rows_above, Empties, IsBegunBy, FitsTerminal, IsDrawnAfter, IsFromStart, IsInSight, IsKnownAfter, IsKnownBy, IsMovedBy, IsRefilled, IsShortMove, IsPlayable, IsPlayed, IsPlayedOnce, KeepsAbove, LeadsToStart, SetsAttributes};
 
 use std::alloc::{AllocError, Global};
 use styled_screen::StyledScreen;
@@ -37,17 +37,30 @@ impl Shown {
         }
     }
 
+    /// How many of its rows have left a terminal of so many.
+    pub fn left_behind(&self, rows: usize) -> usize
+        ensures { result ≡ left_behind rows self.now }
+    {
+        self.reached.saturating_sub(rows)
+    }
+
+    /// How many of the rows in sight stand above the cursor, on a terminal of so many rows.
+    fn rows_above(&self, rows: usize) -> usize
+        ensures { result ≡ rows_above rows self.now }
+    {
+        let (row, _) = self.screen.cursor();
+        row.saturating_sub(self.left_behind(rows))
+    }
+
     /// Whether a change does on a terminal of so many rows what it does on this screen: a plain text, attributes, a
     /// relative move to one of the rows that are in sight, and a clearing to blanks, where the cursor does not wait.
     fn is_playable(&self, change: &Change, rows: usize) -> bool
         ensures { result ≡ true → IsPlayable rows self.now (change_view change.now) }
     {
-        let (row, col) = self.screen.cursor();
+        let (_, col) = self.screen.cursor();
         match change {
             Change::Text(text) => is_plain_text(text.as_bytes()),
-            Change::CursorPosition { x: _, y } => {
-                is_in_sight(*y, row.saturating_sub(self.reached.saturating_sub(rows)))
-            }
+            Change::CursorPosition { x: _, y } => is_in_sight(*y, self.rows_above(rows)),
             Change::ClearToEndOfScreen(color) => {
                 *color == ColorAttribute::Default && col < self.screen.width()
             }
@@ -96,15 +109,34 @@ impl Shown {
         colors(self.screen.attributes());
         rows <= MOST_ROWS
             && self.reached <= MOST_ROWS
-            && self.reached.saturating_sub(rows) <= row
+            && self.left_behind(rows) <= row
             && row < self.reached
             && col < self.screen.width()
             && is_printable(&self.screen, self.reached)
     }
 
+    /// What is shown once changes are drawn on an empty screen, on a terminal of so many rows.
+    fn fresh(alloc: Global, cols: usize, changes: &[Change], rows: usize) -> Option<Self>
+        ensures fits { IfSome result (λ new. FitsTerminal rows new) }
+        ensures played { IfSome result (λ new. IsPlayed rows (batch_view changes.now) (first_shown cols) new) }
+    {
+        let mut next = Shown::empty(alloc, cols)?;
+        if next.play_all(changes, rows) && next.is_fit(rows) {
+            return Some(next);
+        }
+        None
+    }
+
+    /// Whether a batch leads first to a row out of sight, on a terminal of so many rows.
+    pub fn is_left_by(&self, changes: &[Change], rows: usize) -> bool
+        ensures { result ≡ goes_out_of_sight (rows_above rows self.now) (batch_view changes.now) }
+    {
+        goes_out_of_sight(changes, self.rows_above(rows))
+    }
+
     /// What is shown once a batch is drawn on it, on a terminal of so many rows.
     fn drawn(&self, alloc: Global, changes: &[Change], rows: usize) -> Option<Self>
-        ensures { IfSome result (λ new. IsKnownAfter self.now.screen.width rows (batch_view changes.now) (Some self.now) (Some new)) }
+        ensures { IfSome result (λ new. IsDrawnAfter rows (batch_view changes.now) self.now new) }
     {
         let Ok(screen) = self.screen.copy(alloc) else {
             return None;
@@ -116,11 +148,37 @@ impl Shown {
         if !next.play_all(changes, rows) || !next.is_fit(rows) {
             return None;
         }
-        let top = next.reached.saturating_sub(rows);
-        if is_same_above(&self.screen, &next.screen, top) {
+        if is_same_above(&self.screen, &next.screen, next.left_behind(rows)) {
             return Some(next);
         }
         None
+    }
+
+    /// What is shown once a terminal of so many rows, all of which are reached, is emptied from its first row on and
+    /// filled again.
+    fn refilled(&self, alloc: Global, changes: &[Change], rows: usize) -> Option<Self>
+        ensures { IfSome result (λ new. IsRefilled rows (batch_view changes.now) self.now new) }
+    {
+        let rest = behind_move(changes)?;
+        let (row, _) = self.screen.cursor();
+        if self.reached < rows || row < self.left_behind(rows) || !empties(rest) {
+            return None;
+        }
+        let next = Shown::fresh(alloc, self.screen.width(), rest, rows)?;
+        if next.reached < rows {
+            return None;
+        }
+        Some(next)
+    }
+
+    /// What is shown once a batch was sent, on a terminal of so many rows.
+    fn known_after(&self, alloc: Global, changes: &[Change], rows: usize) -> Option<Self>
+        ensures { IfSome result (λ new. IsKnownBy (goes_out_of_sight (rows_above rows self.now) (batch_view changes.now)) rows (batch_view changes.now) self.now new) }
+    {
+        if self.is_left_by(changes, rows) {
+            return self.refilled(alloc, changes, rows);
+        }
+        self.drawn(alloc, changes, rows)
     }
 }
 
@@ -163,6 +221,22 @@ fn is_in_sight(position: Position, above: usize) -> bool
     match position {
         Position::Absolute(_) => false,
         Position::Relative(by) => by >= 0 || by.unsigned_abs() <= above,
+    }
+}
+
+/// Whether a batch leads first to column 0 of a row out of sight, there being so many rows in sight above the cursor.
+fn goes_out_of_sight(changes: &[Change], above: usize) -> bool
+    ensures { result ≡ goes_out_of_sight above (batch_view changes.now) }
+{
+    match changes {
+        [
+            Change::CursorPosition {
+                x: Position::Absolute(0),
+                y: Position::Relative(by),
+            },
+            ..
+        ] => *by < 0 && by.unsigned_abs() > above,
+        _ => false,
     }
 }
 
@@ -245,15 +319,10 @@ pub fn shown_after(
     ensures known { IsKnownAfter size.cols size.rows (batch_view changes.now) shown.now result }
     ensures start { (x : ℕ) → (at_start ≡ true → x ≡ 0) → IsFromStart x (batch_view changes.now) shown.now result }
 {
-    if let Some(shown) = shown {
-        return shown.drawn(alloc, changes, size.rows);
+    match shown {
+        Some(shown) => shown.known_after(alloc, changes, size.rows),
+        None => Shown::fresh(alloc, size.cols, begun(changes, at_start)?, size.rows),
     }
-    let rest = begun(changes, at_start)?;
-    let mut next = Shown::empty(alloc, size.cols)?;
-    if next.play_all(rest, size.rows) && next.is_fit(size.rows) {
-        return Some(next);
-    }
-    None
 }
 
 /// Whether a batch leaves the cursor in column 0 of a terminal.
@@ -272,10 +341,11 @@ pub fn ends_at_start(changes: &[Change]) -> bool {
     )
 }
 
-/// Adds what differs of two screens below their first rows, and returns what is then known of the terminal.
+/// Adds what differs of two screens, each without its first rows, and returns what is then known of the terminal.
 pub fn send_below(
     alloc: Global,
     old: &Shown,
+    old_top: usize,
     new: &Shown,
     top: usize,
     encoder: Encoder,
@@ -284,14 +354,14 @@ pub fn send_below(
     requires width { old.now.screen.width ≡ new.now.screen.width }
     requires printable { IsPrintable new.now.reached new.now.screen }
     requires most { new.now.reached ≤ 65535 }
-    requires old_row { top ≤ old.now.screen.row }
+    requires old_row { old_top ≤ old.now.screen.row }
     requires new_row { top ≤ new.now.screen.row }
-    ensures bytes { OnOk result (string_bytes out.new ≡ string_bytes out.old ++ (sent_batch (changes_below top old.now new.now) encoder).bytes) }
-    ensures next { IfOk result (λ next. next ≡ (sent_batch (changes_below top old.now new.now) encoder).next) }
+    ensures bytes { OnOk result (string_bytes out.new ≡ string_bytes out.old ++ (terse_batch (changes_below old_top top old.now new.now) encoder).bytes) }
+    ensures next { IfOk result (λ next. next ≡ (terse_batch (changes_below old_top top old.now new.now) encoder).next) }
 {
-    let before = old.screen.without_rows(alloc, top)?;
+    let before = old.screen.without_rows(alloc, old_top)?;
     let after = new.screen.without_rows(alloc, top)?;
-    let reached = old.reached.saturating_sub(top);
+    let reached = old.reached.saturating_sub(old_top);
     let rows = new.reached.saturating_sub(top);
     send_changed(&before, reached, &after, rows, encoder, out)
 }

@@ -5,7 +5,7 @@ ghost use Rattle.std.specs.Prelude.{◌≡◌, ◌++◌, [], Ok, None, OnOk, OnE
 ghost use Rattle.tw_surface.specs.ChangeView.{batch_view};
 ghost use Rattle.tw_surface.specs.Defaults.{default_attributes};
 ghost use Rattle.tw_terminal.specs.TerminalState.{fresh_terminal, Fails, Flushes, RenderFails, Renders};
-ghost use Rattle.tw_ansi.specs.Encoding.{first_known, without_attributes, sent_batch};
+ghost use Rattle.tw_ansi.specs.Encoding.{first_known, without_attributes};
 ghost use Rattle.tw_ansi.specs.Sequences.{set_attributes};
 ghost use Rattle.tw_terminal.specs.Uses.{Other, Refused, Took};
 ghost use Rattle.tw_device.specs.Deeds.{Called, Said, Sized};
@@ -112,9 +112,9 @@ impl<W: Write> SparingTerminal<W> {
 
     /// Sends a batch. Where it is refused it is not known what the terminal shows.
     fn put(&mut self, changes: &[Change]) -> Result<(), TerminalFault>
-        ensures sent { let sent = sent_batch (sent_for self.old.size.rows (batch_view changes.now) self.old.shown self.new.shown) self.old.encoder in
+        ensures sent { let sent = sent_for self.old.size.rows (batch_view changes.now) self.old.shown self.new.shown self.old.encoder in
             OnOk result (Appends (W.contents self.old.writer) (W.contents self.new.writer) sent.bytes) }
-        ensures next { OnOk result (self.new.encoder ≡ (sent_batch (sent_for self.old.size.rows (batch_view changes.now) self.old.shown self.new.shown) self.old.encoder).next) }
+        ensures next { OnOk result (self.new.encoder ≡ (sent_for self.old.size.rows (batch_view changes.now) self.old.shown self.new.shown self.old.encoder).next) }
         ensures shown { OnOk result (IsKnownAfter self.old.size.cols self.old.size.rows (batch_view changes.now) self.old.shown self.new.shown) }
         ensures start { OnOk result (IsFromStart self.old.encoder.x (batch_view changes.now) self.old.shown self.new.shown) }
         ensures ok { OnOk result (Renders (batch_view changes.now) (sparing_state self.old) (sparing_state self.new)) }
@@ -178,9 +178,9 @@ impl<W: Write> Terminal for SparingTerminal<W> {
     fn render(&mut self, changes: &[Change]) -> Result<(), TerminalFault>
         ensures ok { OnOk result (Renders (batch_view changes.now) (sparing_state self.old) (sparing_state self.new)) }
         ensures err { OnErr result (RenderFails (batch_view changes.now) (sparing_state self.old) (sparing_state self.new)) }
-        ensures sent { let sent = sent_batch (sent_for self.old.size.rows (batch_view changes.now) self.old.shown self.new.shown) self.old.encoder in
+        ensures sent { let sent = sent_for self.old.size.rows (batch_view changes.now) self.old.shown self.new.shown self.old.encoder in
             OnOk result (Appends (W.contents self.old.writer) (W.contents self.new.writer) sent.bytes) }
-        ensures next { OnOk result (self.new.encoder ≡ (sent_batch (sent_for self.old.size.rows (batch_view changes.now) self.old.shown self.new.shown) self.old.encoder).next) }
+        ensures next { OnOk result (self.new.encoder ≡ (sent_for self.old.size.rows (batch_view changes.now) self.old.shown self.new.shown self.old.encoder).next) }
         ensures shown { OnOk result (IsKnownAfter self.old.size.cols self.old.size.rows (batch_view changes.now) self.old.shown self.new.shown) }
         ensures start { OnOk result (IsFromStart self.old.encoder.x (batch_view changes.now) self.old.shown self.new.shown) }
         ensures known { OnErr result (self.new.encoder ≡ self.old.encoder) }

@@ -1,7 +1,8 @@
-use Rattle.std.proofs.Common.{◌-◌, subst, sym}
+use Rattle.std.proofs.Common.{◌≡◌, ◌-◌, ◌++◌, OnOk, IfOk, string_bytes, subst, sym}
 use Rattle.styled_screen.specs.StyledScreens.{StyledView}
+use Rattle.tw_ansi.specs.Encoding.{terse_batch}
 use Rattle.tw_changed.specs.Sending.{IsPrintable}
-use Rattle.tw_sparing.proofs.CutScreens.{cut_printable}
+use Rattle.tw_sparing.proofs.CutScreens.{cut_printable, same_changes}
 use Rattle.tw_sparing.proofs.shown.send_below.Goals as goal
 
 pub send_changed-requires-clause-printable : goal.send_changed-requires-clause-printable
@@ -10,3 +11,15 @@ send_changed-requires-clause-printable c =
     subst (λ n. IsPrintable n c.in_ok-after.after) (sym c.saturating_sub-rows.ensures)
     (subst (λ (v : StyledView). IsPrintable (c.args.new.now.reached - c.args.top) v) (sym c.in_ok-after.ensures)
     (cut_printable c.args.top c.args.new.now.reached c.args.new.now.screen c.requires.printable))
+
+pub returns-clause-bytes : goal.returns-clause-bytes
+returns-clause-bytes c =
+    subst (λ changes. OnOk c.send_changed.result (string_bytes c.send_changed.new.out ≡ string_bytes c.args.out.now ++ (terse_batch changes c.args.encoder).bytes))
+    (same_changes c.args.old.now c.args.new.now c.args.old_top c.args.top _ _ _ _ c.saturating_sub-reached.ensures c.saturating_sub-rows.ensures c.in_ok-before.ensures c.in_ok-after.ensures)
+    c.send_changed.ensures.bytes
+
+pub returns-clause-next : goal.returns-clause-next
+returns-clause-next c =
+    subst (λ changes. IfOk c.send_changed.result (λ next. next ≡ (terse_batch changes c.args.encoder).next))
+    (same_changes c.args.old.now c.args.new.now c.args.old_top c.args.top _ _ _ _ c.saturating_sub-reached.ensures c.saturating_sub-rows.ensures c.in_ok-before.ensures c.in_ok-after.ensures)
+    c.send_changed.ensures.next

@@ -1,5 +1,5 @@
 use Rattle.std.proofs.Common.{string_bytes}
-use Rattle.tw_ansi.specs.Encoding.{sent_batch}
+use Rattle.tw_ansi.specs.Encoding.{terse_batch}
 use Rattle.tw_changed.specs.Redrawings.{left_of, row_redrawn, rows_redrawn}
 use Rattle.tw_changed.specs.Sending.{screen_cells}
 use Rattle.tw_changed.proofs.AddedChanges.{rows_step, extends_more}
@@ -17,5 +17,5 @@ loop-row-preserved c =
           c.loop-row-test.true c.loop-row.invariant.same added;
       held = c.in_ok-draw_row.ensures.held;
       extends = extends_more (string_bytes c.args.out.now) (string_bytes c.loop-row.out) (string_bytes c.draw_row.new.out)
-          (sent_batch (row_redrawn w left new c.loop-row.row c.loop-row.self.hand).changes c.loop-row.self.encoder).bytes c.loop-row.invariant.extends added.bytes;
+          (terse_batch (row_redrawn w left new c.loop-row.row c.loop-row.self.hand).changes c.loop-row.self.encoder).bytes c.loop-row.invariant.extends added.bytes;
     }

@@ -1,6 +1,6 @@
 use Rattle.std.proofs.Common.{rules, ◌-◌, string_bytes, ◌∙◌}
 use Rattle.styled_screen.specs.StyledScreens.{styled_cell}
-use Rattle.tw_ansi.specs.Encoding.{sent_batch}
+use Rattle.tw_ansi.specs.Encoding.{terse_batch}
 use Rattle.tw_changed.specs.Redrawings.{cell_redrawn, run_redrawn}
 use Rattle.tw_changed.specs.Sending.{screen_cells}
 use Rattle.tw_changed.proofs.AddedChanges.{run_step, extends_more}
@@ -17,5 +17,5 @@ loop-col-preserved c =
           c.loop-col-test.true c.cell_at.ensures c.loop-col.invariant.same added;
       col = search rules;
       row = c.in_ok-write_cell.ensures.row ∙ c.loop-col.invariant.row;
-      extends = extends_more (string_bytes c.args.out.now) (string_bytes c.loop-col.out) (string_bytes c.write_cell.new.out) (sent_batch (cell_redrawn cell c.loop-col.self.hand).changes c.loop-col.self.encoder).bytes c.loop-col.invariant.extends added.bytes;
+      extends = extends_more (string_bytes c.args.out.now) (string_bytes c.loop-col.out) (string_bytes c.write_cell.new.out) (terse_batch (cell_redrawn cell c.loop-col.self.hand).changes c.loop-col.self.encoder).bytes c.loop-col.invariant.extends added.bytes;
     }
