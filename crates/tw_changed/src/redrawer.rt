@@ -116,15 +116,14 @@ impl Redrawer {
         ensures held { OnOk result (self.new.hand.row ≤ 4294967295) }
         ensures err { OnErr result (ExtendsBytes (string_bytes out.old) (string_bytes out.new)) }
     {
-        let first = first_changed(old, from, new, row);
-        let last = last_changed(old, from, new, row);
-        match (first, last) {
-            (Some(first), Some(last)) => {
-                self.lead_to(row, first, out)?;
-                self.write_run(new, row, first, last + 1, out)
-            }
-            _ => Ok(()),
-        }
+        let Some(first) = first_changed(old, from, new, row) else {
+            return Ok(());
+        };
+        let Some(last) = last_changed(old, from, new, row) else {
+            return Ok(());
+        };
+        self.lead_to(row, first, out)?;
+        self.write_run(new, row, first, last + 1, out)
     }
 
     /// Types what differs in some rows of two screens, the old one being emptied from an index on.
