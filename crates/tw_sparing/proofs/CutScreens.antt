@@ -1,6 +1,6 @@
 -- A screen without its first rows.
-use Rattle.std.proofs.Common.{◌≡◌, ◌+◌, ◌-◌, ◌*◌, ℕ, ap, subst, ◌∙◌, sym, arith}
-use Rattle.std.proofs.Math.Nat.{add-mul}
+use Rattle.std.proofs.Common.{◌≡◌, ◌+◌, ◌-◌, ◌*◌, ℕ, drop, ap, subst, ◌∙◌, sym, arith}
+use Rattle.std.proofs.Math.Nat.{add-mul, zero-mul}
 use Rattle.std.proofs.lemmas.List.{get_or-drop}
 use Rattle.std.specs.Prelude.{slice_index_or, true}
 use Rattle.tw_surface.specs.Characters.{is_printable}
@@ -30,3 +30,19 @@ same_changes old new old_top top reached rows before after is_reached is_rows is
     ∙ ap (λ n. changes_between (old.reached - old_top) n before after) is_rows
     ∙ ap (λ v. changes_between (old.reached - old_top) (new.reached - top) v after) is_before
     ∙ ap (λ v. changes_between (old.reached - old_top) (new.reached - top) (without_rows old_top old.screen) v) is_after
+
+-- a screen that loses no row is as it is
+cut_none : (screen : StyledView) → without_rows 0 screen ≡ screen
+cut_none screen =
+    ap (λ n. let v : StyledView = record screen { row = n; cells = drop (0 * screen.width) screen.cells } in v) (let e : screen.row - 0 ≡ screen.row = omega arith in e)
+    ∙ ap (λ n. let v : StyledView = record screen { cells = drop n screen.cells } in v) (zero-mul screen.width)
+
+-- what differs of two screens that lose none
+pub same_whole : (old new : Shown) (old_top top : ℕ) → old_top ≡ 0 → top ≡ 0
+    → changes_between old.reached new.reached old.screen new.screen ≡ changes_below old_top top old new
+same_whole old new old_top top old_none none =
+    sym (ap (λ n. changes_below n top old new) old_none ∙ ap (λ n. changes_below 0 n old new) none
+    ∙ ap (λ n. changes_between n (new.reached - 0) (without_rows 0 old.screen) (without_rows 0 new.screen)) (let e : old.reached - 0 ≡ old.reached = omega arith in e)
+    ∙ ap (λ n. changes_between old.reached n (without_rows 0 old.screen) (without_rows 0 new.screen)) (let e : new.reached - 0 ≡ new.reached = omega arith in e)
+    ∙ ap (λ v. changes_between old.reached new.reached v (without_rows 0 new.screen)) (cut_none old.screen)
+    ∙ ap (λ v. changes_between old.reached new.reached old.screen v) (cut_none new.screen))

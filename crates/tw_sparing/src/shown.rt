@@ -359,6 +359,16 @@ pub fn send_below(
     ensures bytes { OnOk result (string_bytes out.new ≡ string_bytes out.old ++ (terse_batch (changes_below old_top top old.now new.now) encoder).bytes) }
     ensures next { IfOk result (λ next. next ≡ (terse_batch (changes_below old_top top old.now new.now) encoder).next) }
 {
+    if old_top == 0 && top == 0 {
+        return send_changed(
+            &old.screen,
+            old.reached,
+            &new.screen,
+            new.reached,
+            encoder,
+            out,
+        );
+    }
     let before = old.screen.without_rows(alloc, old_top)?;
     let after = new.screen.without_rows(alloc, top)?;
     let reached = old.reached.saturating_sub(old_top);
