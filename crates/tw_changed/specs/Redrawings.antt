@@ -105,5 +105,6 @@ abbrev pub drawn_rows : ℕ → ℕ → ℕ → (ℕ → ℕ → StyledCell) →
 drawn_rows w reached rows old new to =
     if ltb reached rows && eqb (to.row + 1) rows && leb (end_of w rows old) (reached * w) && leb (end_of w rows new) (reached * w) then reached else rows
 
+-- all that makes one screen of another
 abbrev pub redrawn : ℕ → ℕ → ℕ → (ℕ → ℕ → StyledCell) → (ℕ → ℕ → StyledCell) → Hand → Hand → Redrawing
 redrawn w reached rows old new to hand = rows_drawn_on w reached (drawn_rows w reached rows old new to) old new to hand
