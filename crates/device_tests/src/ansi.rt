@@ -248,6 +248,9 @@ fn terse_moves_are_steps_from_the_cursor(rt: HostRuntime) -> Result<(), Fail> {
         (10, 0, -1, "\x1b[A"),
         (10, 2, -3, "\x1b[3A\x1b[2C"),
         (0, 0, 1, "\n"),
+        (0, 0, 3, "\n\n\n"),
+        (5, -5, 4, "\x1b[4B\r"),
+        (10, 2, 12, "\x1b[12B\x1b[2C"),
     ];
     for &(from, cols, rows, expected) in &moves {
         expect_move(&rt, rt.alloc(), from, cols, rows, expected)?;

@@ -60,18 +60,19 @@ write_wrapped h w blank x t = by_waits t.waits
 pub led_there : (t : EcmaScreen StyledCell) (row col r c : ℕ) → row ≡ r → col ≡ c → record t { row = row; col = col; waits = false } ≡ record t { row = r; col = c; waits = false }
 led_there t row col r c e f = ap (λ x. record t { row = x; col = col; waits = false }) e ∙ ap (λ y. record t { row = r; col = y; waits = false }) f
 
--- what a sequence does, by where it leads up, to the right, to the left and down, and by whether no number or a 2 is written
-abbrev acted : ℕ → ℕ → EcmaScreen StyledCell → ℕ → ℕ → ℕ → ℕ → Bool → Bool → EcmaScreen StyledCell
-acted w letter t up right left down none two =
+-- what a sequence does, by where it leads up, down, to the right and to the left, by which row has the number, and by whether no number or a 2 is written
+abbrev acted : ℕ → ℕ → EcmaScreen StyledCell → ℕ → ℕ → ℕ → ℕ → ℕ → Bool → Bool → EcmaScreen StyledCell
+acted w letter t up down right left there none two =
     let paper = styled.paper t.rendition.background in
     if eqb letter 65 then record t { row = up; waits = false }
+    else if eqb letter 66 then record t { row = down; waits = false }
     else if eqb letter 67 then record t { col = right; waits = false }
     else if eqb letter 68 then record t { col = left; waits = false }
-    else if eqb letter 72 then record t { row = down; col = 0; waits = false }
+    else if eqb letter 72 then record t { row = there; col = 0; waits = false }
     else if eqb letter 74 && none then record t { cell = cleared_in t.cell t.row t.col paper }
     else if eqb letter 74 && two then record t { cell = λ r c. paper }
     else if eqb letter 75 && none then record t { cell = row_cleared t.cell t.row t.col paper }
-    else if eqb letter 100 then record t { row = down; waits = false }
+    else if eqb letter 100 then record t { row = there; waits = false }
     else t
 
 steps_large : (n : ℕ) → 0 < n → told_steps n ≡ n
@@ -85,13 +86,18 @@ act_by_most h w n letter t rows cols at across = elim (cases_lt n most) [
   | inr more ↦
       let top : min n most ≡ most = omega arith in
       let steps = steps_large n (omega arith) in
-      ap (λ k. acted w letter t (t.row - k) (min (w - 1) (t.col + k)) (t.col - k) (min (h - 1) (k - 1)) (eqb n 0) (eqb n 2)) steps
-      ∙ ap (λ x. acted w letter t x (min (w - 1) (t.col + n)) (t.col - n) (min (h - 1) (n - 1)) (eqb n 0) (eqb n 2)) (let e : t.row - n ≡ t.row - most = omega arith in e)
-      ∙ ap (λ x. acted w letter t (t.row - most) x (t.col - n) (min (h - 1) (n - 1)) (eqb n 0) (eqb n 2)) (let e : min (w - 1) (t.col + n) ≡ min (w - 1) (t.col + most) = omega arith in e)
-      ∙ ap (λ x. acted w letter t (t.row - most) (min (w - 1) (t.col + most)) x (min (h - 1) (n - 1)) (eqb n 0) (eqb n 2)) (let e : t.col - n ≡ t.col - most = omega arith in e)
-      ∙ ap (λ x. acted w letter t (t.row - most) (min (w - 1) (t.col + most)) (t.col - most) x (eqb n 0) (eqb n 2)) (let e : min (h - 1) (n - 1) ≡ min (h - 1) (most - 1) = omega arith in e)
-      ∙ ap (λ x. acted w letter t (t.row - most) (min (w - 1) (t.col + most)) (t.col - most) (min (h - 1) (most - 1)) x (eqb n 2)) (ne_eqb n 0 (λ e. omega arith))
-      ∙ ap (λ x. acted w letter t (t.row - most) (min (w - 1) (t.col + most)) (t.col - most) (min (h - 1) (most - 1)) false x) (ne_eqb n 2 (λ e. omega arith))
+      let up : ℕ = t.row - most in
+      let down : ℕ = min (h - 1) (t.row + most) in
+      let right : ℕ = min (w - 1) (t.col + most) in
+      let left : ℕ = t.col - most in
+      ap (λ k. acted w letter t (t.row - k) (min (h - 1) (t.row + k)) (min (w - 1) (t.col + k)) (t.col - k) (min (h - 1) (k - 1)) (eqb n 0) (eqb n 2)) steps
+      ∙ ap (λ x. acted w letter t x (min (h - 1) (t.row + n)) (min (w - 1) (t.col + n)) (t.col - n) (min (h - 1) (n - 1)) (eqb n 0) (eqb n 2)) (let e : t.row - n ≡ t.row - most = omega arith in e)
+      ∙ ap (λ x. acted w letter t up x (min (w - 1) (t.col + n)) (t.col - n) (min (h - 1) (n - 1)) (eqb n 0) (eqb n 2)) (let e : min (h - 1) (t.row + n) ≡ min (h - 1) (t.row + most) = omega arith in e)
+      ∙ ap (λ x. acted w letter t up down x (t.col - n) (min (h - 1) (n - 1)) (eqb n 0) (eqb n 2)) (let e : min (w - 1) (t.col + n) ≡ min (w - 1) (t.col + most) = omega arith in e)
+      ∙ ap (λ x. acted w letter t up down right x (min (h - 1) (n - 1)) (eqb n 0) (eqb n 2)) (let e : t.col - n ≡ t.col - most = omega arith in e)
+      ∙ ap (λ x. acted w letter t up down right left x (eqb n 0) (eqb n 2)) (let e : min (h - 1) (n - 1) ≡ min (h - 1) (most - 1) = omega arith in e)
+      ∙ ap (λ x. acted w letter t up down right left (min (h - 1) (most - 1)) x (eqb n 2)) (ne_eqb n 0 (λ e. omega arith))
+      ∙ ap (λ x. acted w letter t up down right left (min (h - 1) (most - 1)) false x) (ne_eqb n 2 (λ e. omega arith))
       ∙ sym (ap (λ k. act_by styled h w k letter t) top)
 ]
 
@@ -116,7 +122,10 @@ choice false x y = refl
 act_by_rests : (h w n letter : ℕ) (t : EcmaScreen StyledCell) → at_rest (act_by styled h w n letter t) ≡ act_by styled h w n letter (at_rest t)
 act_by_rests h w n letter t = elim (cases_eq letter 65) [
   | inl up ↦ rw up refl
-  | inr other ↦ rw (ne_eqb letter 65 other) (simp choice)
+  | inr other ↦ elim (cases_eq letter 66) [
+    | inl down ↦ rw down refl
+    | inr neither ↦ rw (ne_eqb letter 65 other, ne_eqb letter 66 neither) (simp choice)
+  ]
 ]
 
 -- what a sequence does does not depend on that

@@ -215,6 +215,7 @@ impl EcmaTerminal {
         let steps = told_steps(number);
         match (letter, number) {
             (b'A', _) => self.lead_to(row.saturating_sub(steps), col),
+            (b'B', _) => self.lead_to(last_row.min(row + steps), col),
             (b'C', _) => self.lead_to(row, last_col.min(col + steps)),
             (b'D', _) => self.lead_to(row, col.saturating_sub(steps)),
             (b'H', _) => self.lead_to(last_row.min(steps - 1), 0),

@@ -96,14 +96,26 @@ fn the_last_row_scrolls(rt: HostRuntime) -> Result<(), Fail> {
         col: 1,
     };
     let shots = [line("a\r\nb\r\nc", 1), more];
-    expect_last(&rt, rt.alloc(), size, NONE, &shots, "\n\rd")
+    expect_last(&rt, rt.alloc(), size, NONE, &shots, "\r\nd")
+}
+
+#[test]
+fn a_row_that_was_reached_before_is_one_move_away(rt: HostRuntime) -> Result<(), Fail> {
+    let tall = "a\r\n\r\n\r\n\r\n\r\nf";
+    let fewer = Shot {
+        up: -5,
+        text: "a",
+        col: 1,
+    };
+    let shots = [line(tall, 1), fewer, line(tall, 1)];
+    expect_last(&rt, rt.alloc(), USUAL, NONE, &shots, "\x1b[5B\rf")
 }
 
 #[test]
 fn a_full_row_is_followed_by_the_next_one(rt: HostRuntime) -> Result<(), Fail> {
     let size = ScreenSize { rows: 3, cols: 10 };
     let shots = [line("> 2345678", 9), line("> 23456789\r\n", 0)];
-    expect_last(&rt, rt.alloc(), size, NONE, &shots, "9\n\r")
+    expect_last(&rt, rt.alloc(), size, NONE, &shots, "9\r\n")
 }
 
 #[test]

@@ -16,7 +16,7 @@ use Rattle.tw_ansi.specs.EcmaScreen.{EcmaScreen, receive_all, row_cleared, feed_
 use Rattle.tw_ansi.specs.EcmaScreen as terminal
 use Rattle.tw_ansi.specs.EcmaLaws.{at_rest, IsColor, rows_cleared}
 use Rattle.tw_ansi.specs.EcmaTexts.{IsOfRows, ShowsPicture}
-use Rattle.tw_ansi.specs.EcmaBatches.{CarriesAttributes, IsSendable, FirstIsShown, ChangeIsShown, BatchIsShown, AreSendable, TerseBatchIsShown}
+use Rattle.tw_ansi.specs.EcmaBatches.{CarriesAttributes, IsSendable, FirstIsShown, ChangeIsShown, BatchIsShown, AreSendable, StaysInRows, AllStayInRows, TerseBatchIsShown}
 use Rattle.tw_ansi.proofs.EcmaSequences.{received, columns_are_reached}
 use Rattle.tw_ansi.proofs.EcmaRenditions.{attribute_is_selected, attributes_are_selected}
 use Rattle.tw_ansi.proofs.EcmaClearings.{clears_below, clears_rows, clears_all}
@@ -312,32 +312,40 @@ module _ {A C : Type 0} (pen : Pen A C) where
   keeps_change h w (ClearToEndOfScreen color) e s carries fits = ap pen.attributes (sym (clear_keeps color e))
   keeps_change h w (CursorPosition x y) e s carries fits = refl
 
+  -- a change that is shown first, and what follows it
+  then_shown : (h w : ℕ) (change : ChangeView) (batch : List ChangeView) (x rest : Sent) (e : Encoder) (t : EcmaScreen C) (s : PictureOf C)
+      → kept_after pen (pen.attributes e.attributes) change ≡ pen.attributes x.next.attributes
+      → Then h w (receive_all pen h w x.bytes t) rest
+      (steps_on (Some h) w (strokes_of pen (pen.attributes x.next.attributes) batch) (steps_on (Some h) w (change_strokes pen (pen.attributes e.attributes) change) s))
+      → Then h w t (record { bytes = x.bytes ++ rest.bytes; next = rest.next }) (steps_on (Some h) w (strokes_of pen (pen.attributes e.attributes) (change ∷ batch)) s)
+  then_shown h w change batch x rest e t s keeps shown =
+      let strokes : List (Stroke C) = change_strokes pen (pen.attributes e.attributes) change in
+      let more : A → List (Stroke C) = λ kept. strokes_of pen kept batch in
+      subst (λ u. ShowsPicture pen h w rest.next u (steps_on (Some h) w (strokes_of pen (pen.attributes e.attributes) (change ∷ batch)) s))
+      (sym (received pen h w x.bytes rest.bytes t))
+      (subst (λ v. ShowsPicture pen h w rest.next (receive_all pen h w rest.bytes (receive_all pen h w x.bytes t)) v)
+      (sym (steps_on-append (Some h) w strokes (more (kept_after pen (pen.attributes e.attributes) change)) s
+      ∙ ap (λ kept. steps_on (Some h) w (more kept) (steps_on (Some h) w strokes s)) keeps)) shown)
+
   pub batch_is_shown : BatchIsShown pen
   batch_is_shown h w [] e t s carries some small fits a = a
   batch_is_shown h w (change ∷ batch) e t s carries some small fits a =
       let x : Sent = sent_change change e in
-      let strokes : List (Stroke C) = change_strokes pen (pen.attributes e.attributes) change in
-      let drawn : PictureOf C = steps_on (Some h) w strokes s in
-      let first = change_is_shown h w change e t s some small fits.0 a in
-      let rest = batch_is_shown h w batch x.next (receive_all pen h w x.bytes t) drawn carries some small fits.1 first in
-      let more : A → List (Stroke C) = λ kept. strokes_of pen kept batch in
-      let end : Encoder = (sent_batch batch x.next).next in
-      subst (λ u. ShowsPicture pen h w end u (steps_on (Some h) w (strokes_of pen (pen.attributes e.attributes) (change ∷ batch)) s))
-      (sym (received pen h w x.bytes (sent_batch batch x.next).bytes t))
-      (subst (λ v. ShowsPicture pen h w end (receive_all pen h w (sent_batch batch x.next).bytes (receive_all pen h w x.bytes t)) v)
-      (sym (steps_on-append (Some h) w strokes (more (kept_after pen (pen.attributes e.attributes) change)) s
-      ∙ ap (λ kept. steps_on (Some h) w (more kept) drawn) (keeps_change h w change e s carries fits.0))) rest)
+      then_shown h w change batch x (sent_batch batch x.next) e t s (keeps_change h w change e s carries fits.0)
+      (batch_is_shown h w batch x.next (receive_all pen h w x.bytes t) (steps_on (Some h) w (change_strokes pen (pen.attributes e.attributes) change) s) carries some small fits.1
+      (change_is_shown h w change e t s some small fits.0 a))
 
   -- ---- batches whose moves take few bytes
 
-  terse_is_shown : (h w : ℕ) (change : ChangeView) (e : Encoder) (t : EcmaScreen C) (s : PictureOf C) → 0 < w → w < 2 ^ 64 → IsSendable pen h w e change s → ShowsPicture pen h w e t s
-      → ShowsPicture pen h w (terse_change change e).next (receive_all pen h w (terse_change change e).bytes t) (steps_on (Some h) w (change_strokes pen (pen.attributes e.attributes) change) s)
-  terse_is_shown h w (CursorPosition x y) e t s some small fits a = terse_move_shown pen h w x y e t s some small fits a
-  terse_is_shown h w (Text text) e t s some small fits a = change_is_shown h w (Text text) e t s some small fits a
-  terse_is_shown h w (Attribute change) e t s some small fits a = change_is_shown h w (Attribute change) e t s some small fits a
-  terse_is_shown h w (AllAttributes to) e t s some small fits a = change_is_shown h w (AllAttributes to) e t s some small fits a
-  terse_is_shown h w (ClearScreen color) e t s some small fits a = change_is_shown h w (ClearScreen color) e t s some small fits a
-  terse_is_shown h w (ClearToEndOfScreen color) e t s some small fits a = change_is_shown h w (ClearToEndOfScreen color) e t s some small fits a
+  terse_is_shown : (h w : ℕ) (change : ChangeView) (e : Encoder) (t : EcmaScreen C) (s : PictureOf C) → 0 < w → w < 2 ^ 64
+      → IsSendable pen h w e change s → StaysInRows h change s → ShowsPicture pen h w e t s
+      → Then h w t (terse_change change e) (steps_on (Some h) w (change_strokes pen (pen.attributes e.attributes) change) s)
+  terse_is_shown h w (CursorPosition x y) e t s some small fits stays a = terse_move_shown pen h w x y e t s some small fits stays a
+  terse_is_shown h w (Text text) e t s some small fits stays a = change_is_shown h w (Text text) e t s some small fits a
+  terse_is_shown h w (Attribute change) e t s some small fits stays a = change_is_shown h w (Attribute change) e t s some small fits a
+  terse_is_shown h w (AllAttributes to) e t s some small fits stays a = change_is_shown h w (AllAttributes to) e t s some small fits a
+  terse_is_shown h w (ClearScreen color) e t s some small fits stays a = change_is_shown h w (ClearScreen color) e t s some small fits a
+  terse_is_shown h w (ClearToEndOfScreen color) e t s some small fits stays a = change_is_shown h w (ClearToEndOfScreen color) e t s some small fits a
 
   -- the same is known then
   pub terse_next : (change : ChangeView) (e : Encoder) → (terse_change change e).next ≡ (sent_change change e).next
@@ -349,20 +357,14 @@ module _ {A C : Type 0} (pen : Pen A C) where
   terse_next (ClearToEndOfScreen color) e = refl
 
   pub terse_batch_is_shown : TerseBatchIsShown pen
-  terse_batch_is_shown h w [] e t s carries some small fits a = a
-  terse_batch_is_shown h w (change ∷ batch) e t s carries some small fits a =
+  terse_batch_is_shown h w [] e t s carries some small fits stays a = a
+  terse_batch_is_shown h w (change ∷ batch) e t s carries some small fits stays a =
       let x : Sent = terse_change change e in
-      let strokes : List (Stroke C) = change_strokes pen (pen.attributes e.attributes) change in
-      let drawn : PictureOf C = steps_on (Some h) w strokes s in
-      let first = terse_is_shown h w change e t s some small fits.0 a in
-      let fits_then : AreSendable pen h w (terse_change change e).next batch drawn = subst (λ n. AreSendable pen h w n batch drawn) (sym (terse_next change e)) fits.1 in
-      let rest = terse_batch_is_shown h w batch x.next (receive_all pen h w x.bytes t) drawn carries some small fits_then first in
-      let more : A → List (Stroke C) = λ kept. strokes_of pen kept batch in
-      let end : Encoder = (terse_batch batch x.next).next in
+      let drawn : PictureOf C = steps_on (Some h) w (change_strokes pen (pen.attributes e.attributes) change) s in
       let keeps : kept_after pen (pen.attributes e.attributes) change ≡ pen.attributes (terse_change change e).next.attributes =
       keeps_change h w change e s carries fits.0 ∙ ap (λ (n : Encoder). pen.attributes n.attributes) (sym (terse_next change e)) in
-      subst (λ u. ShowsPicture pen h w end u (steps_on (Some h) w (strokes_of pen (pen.attributes e.attributes) (change ∷ batch)) s))
-      (sym (received pen h w x.bytes (terse_batch batch x.next).bytes t))
-      (subst (λ v. ShowsPicture pen h w end (receive_all pen h w (terse_batch batch x.next).bytes (receive_all pen h w x.bytes t)) v)
-      (sym (steps_on-append (Some h) w strokes (more (kept_after pen (pen.attributes e.attributes) change)) s
-      ∙ ap (λ kept. steps_on (Some h) w (more kept) drawn) keeps)) rest)
+      then_shown h w change batch x (terse_batch batch x.next) e t s keeps
+      (terse_batch_is_shown h w batch x.next (receive_all pen h w x.bytes t) drawn carries some small
+      (subst (λ n. AreSendable pen h w n batch drawn) (sym (terse_next change e)) fits.1)
+      (subst (λ kept. AllStayInRows pen h w kept batch drawn) keeps stays.1)
+      (terse_is_shown h w change e t s some small fits.0 stays.0 a))

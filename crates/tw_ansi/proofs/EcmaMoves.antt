@@ -18,8 +18,8 @@ use Rattle.tw_ansi.specs.EcmaScreen.{EcmaScreen, receive, receive_all, receive_b
 use Rattle.tw_ansi.specs.EcmaScreen as terminal
 use Rattle.tw_ansi.specs.EcmaLaws.{at_rest}
 use Rattle.tw_ansi.specs.EcmaTexts.{IsOfRows, ShowsPicture}
-use Rattle.tw_ansi.specs.EcmaBatches.{IsReached}
-use Rattle.tw_ansi.proofs.EcmaSequences.{received, columns_are_reached, along_rows_are_reached, rows_above_are_reached, numbered, steps_taken}
+use Rattle.tw_ansi.specs.EcmaBatches.{IsReached, StaysInRows}
+use Rattle.tw_ansi.proofs.EcmaSequences.{received, columns_are_reached, along_rows_are_reached, rows_above_are_reached, rows_below_are_reached, feeds_low, numbered, steps_taken}
 use Rattle.tw_ansi.proofs.EcmaScrolls.{Fed, fed}
 
 -- the terminal shows the rows of a picture, wherever the cursor stands in its row, and these attributes are selected
@@ -177,14 +177,27 @@ module _ {A C : Type 0} (pen : Pen A C) where
   row_stands h w (Relative (negsuc n)) col t reached a = subst (Stands col) (sym (up_is h w n t reached a.reading)) (record { col = a.col; waits = refl; reading = refl })
   row_stands h w (Absolute row) col t reached a = subst (Stands col) (sym (line_is h w row t reached.0 reached.1 a.reading)) (record { col = a.col; waits = refl; reading = refl })
 
-  -- the shorter bytes do the same
-  same_row : (h w : ℕ) (y : Position) (t : EcmaScreen C) → IsReached h y → t.reading ≡ terminal.Text → receive_all pen h w (along_column y) t ≡ receive_all pen h w (to_row y) t
-  same_row h w (Relative (negsuc zero)) t reached reading =
+  -- down by few bytes, to a row of the terminal
+  same_below : (h w n : ℕ) (t : EcmaScreen C) → n ≤ most_rows → t.row + n < h → t.reading ≡ terminal.Text
+      → receive_all pen h w (along_column (Relative (pos n))) t ≡ receive_all pen h w (to_row (Relative (pos n))) t
+  same_below h w zero t reached low reading = refl
+  same_below h w (suc n) t reached low reading =
+      let rest : t ≡ at_rest t = ap (λ r. record t { reading = r }) reading in
+      ap (receive_all pen h w (along_column (Relative (pos (suc n))))) rest
+      ∙ rows_below_are_reached pen h w (suc n) t (omega arith) reached low
+      ∙ sym (feeds_low pen h w n t low)
+      ∙ sym (ap (receive_all pen h w (replicate (suc n) 10)) rest)
+      ∙ sym (ap (λ k. receive_all pen h w (replicate k 10) t) (let e : min (suc n) most_rows ≡ suc n = omega (arith, reached) in e))
+
+  -- the shorter bytes do the same, where they do not lead down out of the rows
+  same_row : (h w : ℕ) (x y : Position) (t : EcmaScreen C) (s : PictureOf C) → IsReached h y → StaysInRows h (CursorPosition x y) s → t.row ≡ s.row → t.reading ≡ terminal.Text
+      → receive_all pen h w (along_column y) t ≡ receive_all pen h w (to_row y) t
+  same_row h w x (Relative (negsuc zero)) t s reached stays row reading =
       ap (λ x. receive_all pen h w up_a_row x) (let rest : t ≡ record t { reading = terminal.Text } = ap (λ r. record t { reading = r }) reading in rest)
       ∙ sym (up_is h w 0 t reached reading)
-  same_row h w (Relative (negsuc (suc n))) t reached reading = refl
-  same_row h w (Relative (pos n)) t reached reading = refl
-  same_row h w (Absolute row) t reached reading = refl
+  same_row h w x (Relative (negsuc (suc n))) t s reached stays row reading = refl
+  same_row h w x (Relative (pos n)) t s reached stays row reading = same_below h w n t reached (omega (arith, stays, row)) reading
+  same_row h w x (Absolute row) t s reached stays at reading = refl
 
   -- the terminal after the bytes that lead to a row
   row_shown : (h w : ℕ) (y : Position) (e : Encoder) (t : EcmaScreen C) (s : PictureOf C) → IsReached h y → ShowsPicture pen h w e t s
@@ -233,31 +246,43 @@ module _ {A C : Type 0} (pen : Pen A C) where
         subst (λ v. ShowsPicture pen h w (at_column (column_of x e) e) v (steps_on (Some h) w (change_strokes pen (pen.attributes e.attributes) (CursorPosition x y)) s)) (sym (received pen h w first second t))
         (subst (λ c. ShowsPicture pen h w (at_column (column_of x e) e) (receive_all pen h w second (receive_all pen h w first t)) (record lower { col = c })) moved_col shown)
 
-    pub from_start : AreMoves (to_row y ++ to_column (column_of x e))
-    from_start =
-        both (to_row y) (to_column (column_of x e))
-        (column_shown h w (column_of x e) e (receive_all pen h w (to_row y) t) lower (omega (arith, moved_col, some)) small a.cols (row_shown h w y e t s reached a))
+    start_shown : ShowsPicture pen h w (at_column (column_of x e) e) (receive_all pen h w (to_column (column_of x e)) (receive_all pen h w (to_row y) t)) (record lower { col = column_of x e })
+    start_shown = column_shown h w (column_of x e) e (receive_all pen h w (to_row y) t) lower (omega (arith, moved_col, some)) small a.cols (row_shown h w y e t s reached a)
 
-    pub from_cursor : e.x < e.cols → AreMoves (along_column y ++ along_row e.x (column_of x e))
-    from_cursor inside =
-        let left : e.x < w = omega (arith, inside, a.cols) in
-        let waits : t.waits ≡ false = a.waits ∙ ap (λ b. b && not e.parted) (ne_eqb s.col w (λ q. omega (arith, q, a.x, left))) in
-        let stands : Stands e.x t = record { col = omega (arith, a.col, a.x, left); waits = waits; reading = a.reading } in
-        let down : EcmaScreen C = receive_all pen h w (to_row y) t in
-        both (along_column y) (along_row e.x (column_of x e))
-        (subst (λ u. ShowsPicture pen h w (at_column (column_of x e) e) (receive_all pen h w (along_row e.x (column_of x e)) u) (record lower { col = column_of x e }))
-        (sym (same_row h w y t reached a.reading))
-        (along_shown h w e.x (column_of x e) e down lower left (omega (arith, moved_col, some)) small a.cols (row_shown h w y e t s reached a) (row_stands h w y e.x t reached stands)))
+    pub from_start : AreMoves (to_row y ++ to_column (column_of x e))
+    from_start = both (to_row y) (to_column (column_of x e)) start_shown
+
+    module _ (stays : StaysInRows h (CursorPosition x y) s) where
+      -- to the row by few bytes, and then to the column
+      tersely : (second : List ℕ) → ShowsPicture pen h w (at_column (column_of x e) e) (receive_all pen h w second (receive_all pen h w (to_row y) t)) (record lower { col = column_of x e })
+          → AreMoves (along_column y ++ second)
+      tersely second shown =
+          both (along_column y) second
+          (subst (λ u. ShowsPicture pen h w (at_column (column_of x e) e) (receive_all pen h w second u) (record lower { col = column_of x e }))
+          (sym (same_row h w x y t s reached stays a.row a.reading)) shown)
+
+      pub tersely_from_start : AreMoves (along_column y ++ to_column (column_of x e))
+      tersely_from_start = tersely (to_column (column_of x e)) start_shown
+
+      pub from_cursor : e.x < e.cols → AreMoves (along_column y ++ along_row e.x (column_of x e))
+      from_cursor inside =
+          let left : e.x < w = omega (arith, inside, a.cols) in
+          let waits : t.waits ≡ false = a.waits ∙ ap (λ b. b && not e.parted) (ne_eqb s.col w (λ q. omega (arith, q, a.x, left))) in
+          let stands : Stands e.x t = record { col = omega (arith, a.col, a.x, left); waits = waits; reading = a.reading } in
+          tersely (along_row e.x (column_of x e))
+          (along_shown h w e.x (column_of x e) e (receive_all pen h w (to_row y) t) lower left (omega (arith, moved_col, some)) small a.cols (row_shown h w y e t s reached a)
+          (row_stands h w y e.x t reached stands))
 
   pub move_shown : (h w : ℕ) (x y : Position) (e : Encoder) (t : EcmaScreen C) (s : PictureOf C) → 0 < w → w < 2 ^ 64 → IsReached h y → ShowsPicture pen h w e t s
       → ShowsPicture pen h w (sent_change (CursorPosition x y) e).next (receive_all pen h w (sent_change (CursorPosition x y) e).bytes t) (steps_on (Some h) w (change_strokes pen (pen.attributes e.attributes) (CursorPosition x y)) s)
   move_shown h w x y e t s some small reached a = from_start h w x y e t s some small reached a
 
-  pub terse_move_shown : (h w : ℕ) (x y : Position) (e : Encoder) (t : EcmaScreen C) (s : PictureOf C) → 0 < w → w < 2 ^ 64 → IsReached h y → ShowsPicture pen h w e t s
+  pub terse_move_shown : (h w : ℕ) (x y : Position) (e : Encoder) (t : EcmaScreen C) (s : PictureOf C) → 0 < w → w < 2 ^ 64 → IsReached h y → StaysInRows h (CursorPosition x y) s
+      → ShowsPicture pen h w e t s
       → ShowsPicture pen h w (terse_change (CursorPosition x y) e).next (receive_all pen h w (terse_change (CursorPosition x y) e).bytes t) (steps_on (Some h) w (change_strokes pen (pen.attributes e.attributes) (CursorPosition x y)) s)
-  terse_move_shown h w x y e t s some small reached a = by_place (ltb e.x e.cols) refl
+  terse_move_shown h w x y e t s some small reached stays a = by_place (ltb e.x e.cols) refl
     where
       by_place : (b : Bool) → ltb e.x e.cols ≡ b
-          → AreMoves h w x y e t s some small reached a (cond b (along_column y ++ along_row e.x (column_of x e)) (to_row y ++ to_column (column_of x e)))
-      by_place true is = from_cursor h w x y e t s some small reached a (ltb-true e.x e.cols is)
-      by_place false is = from_start h w x y e t s some small reached a
+          → AreMoves h w x y e t s some small reached a (along_column y ++ cond b (along_row e.x (column_of x e)) (to_column (column_of x e)))
+      by_place true is = from_cursor h w x y e t s some small reached a stays (ltb-true e.x e.cols is)
+      by_place false is = tersely_from_start h w x y e t s some small reached a stays

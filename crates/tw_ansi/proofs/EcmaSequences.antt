@@ -4,12 +4,13 @@ use Rattle.std.specs.Fmt.{decimal}
 use Rattle.std.specs.List.{list_all}
 use Rattle.std.proofs.lemmas.Bool.{eq-eqb, eqb-true, ne_eqb, ltb-true, ltb-false, cases_eq, and_parts, false≢true}
 use Rattle.tw_screens.specs.Pens.{Pen}
+use Rattle.tw_screens.specs.Screens.{blank_of}
 use Rattle.tw_ansi.specs.KeyBytes.{is_digit, is_parameter, value_after}
 use Rattle.tw_ansi.specs.Sequences.{sequence, step_count, along_row, to_column, most_rows}
-use Rattle.tw_ansi.specs.EcmaScreen.{EcmaScreen, receive, receive_all, told_steps, act, act_by}
+use Rattle.tw_ansi.specs.EcmaScreen.{EcmaScreen, receive, receive_all, feed_line, told_steps, act, act_by}
 use Rattle.tw_ansi.specs.EcmaScreen as terminal
 use Rattle.tw_ansi.specs.Selections.{selected}
-use Rattle.tw_ansi.specs.EcmaLaws.{at_rest, ColumnsAreReached, AlongRowsAreReached, RowsAboveAreReached}
+use Rattle.tw_ansi.specs.EcmaLaws.{at_rest, ColumnsAreReached, AlongRowsAreReached, RowsAboveAreReached, RowsBelowAreReached}
 use Rattle.tw_ansi.proofs.Numbers.{decimal_value, decimal_digits, decimal_parameters}
 
 -- a number of steps that is not 0
@@ -144,3 +145,38 @@ module _ {A C : Type 0} (pen : Pen A C) where
       ap (λ k. receive_all pen h w (sequence (decimal k) (codes "A")) (at_rest t)) fewer
       ∙ numbered h w (n + 1) 65 t (omega arith) refl refl
       ∙ ap (λ k. record t { row = t.row - k; waits = false; reading = terminal.Text }) up
+
+  -- a line feed that does not scroll
+  fed_low : (h w : ℕ) (t : EcmaScreen C) → t.row + 1 < h → receive pen h w 10 (at_rest t) ≡ record t { row = t.row + 1; waits = false; reading = terminal.Text }
+  fed_low h w t low =
+      let scrolls : EcmaScreen C = record t { cell = λ r c. cond (ltb (r + 1) h) (t.cell (r + 1) c) (blank_of pen); waits = false; reading = terminal.Text } in
+      let down : EcmaScreen C = record t { row = t.row + 1; waits = false; reading = terminal.Text } in
+      ap (λ x. cond x scrolls down) (ne_eqb (t.row + 1) h (λ e. omega (arith, e, low)))
+
+  -- some of them
+  pub feeds_low : (h w n : ℕ) (t : EcmaScreen C) → t.row + suc n < h
+      → receive_all pen h w (replicate (suc n) 10) (at_rest t) ≡ record t { row = t.row + suc n; waits = false; reading = terminal.Text }
+  feeds_low h w zero t low = fed_low h w t low
+  feeds_low h w (suc n) t low =
+      ap (receive_all pen h w (replicate (suc n) 10)) (fed_low h w t (omega (arith, low)))
+      ∙ feeds_low h w n (record t { row = t.row + 1; waits = false }) (omega (arith, low))
+      ∙ ap (λ r. record t { row = r; waits = false; reading = terminal.Text }) (let e : t.row + 1 + suc n ≡ t.row + suc (suc n) = omega arith in e)
+
+  -- down by one sequence
+  steps_down : (h w n : ℕ) (t : EcmaScreen C) → 0 < n → n ≤ most_rows → t.row + n < h
+      → receive_all pen h w (sequence (decimal (min n most_rows)) (codes "B")) (at_rest t) ≡ record t { row = t.row + n; waits = false; reading = terminal.Text }
+  steps_down h w n t some most low =
+      ap (λ k. receive_all pen h w (sequence (decimal k) (codes "B")) (at_rest t)) (let e : min n most_rows ≡ n = omega (arith, most) in e)
+      ∙ numbered h w n 66 t (omega (arith, most)) refl refl
+      ∙ ap (λ k. record t { row = min (h - 1) (t.row + k); waits = false; reading = terminal.Text }) (steps_taken n some)
+      ∙ ap (λ r. record t { row = r; waits = false; reading = terminal.Text }) (let e : min (h - 1) (t.row + n) ≡ t.row + n = omega (arith, low) in e)
+
+  pub rows_below_are_reached : RowsBelowAreReached pen
+  rows_below_are_reached h w zero t some most low = absurd (omega (arith, some))
+  rows_below_are_reached h w (suc n) t some most low = by_few (leb (suc n) 3)
+    where
+      by_few : (b : Bool)
+          → receive_all pen h w (cond b (replicate (suc n) 10) (sequence (decimal (min (suc n) most_rows)) (codes "B"))) (at_rest t)
+          ≡ record t { row = t.row + suc n; waits = false; reading = terminal.Text }
+      by_few true = feeds_low h w n t low
+      by_few false = steps_down h w (suc n) t some most low

@@ -11,7 +11,7 @@ use Rattle.tw_surface.specs.ChangeView.{Attribute, AllAttributes, Text, ClearScr
 use Rattle.tw_surface.specs.Attributes.{with_attribute}
 use Rattle.tw_surface.specs.Characters.{is_plain}
 use Rattle.tw_surface.specs.Defaults.{default_attributes}
-use Rattle.tw_screens.specs.Pens.{Pen, change_strokes, strokes_of}
+use Rattle.tw_screens.specs.Pens.{Pen, change_strokes, strokes_of, kept_after}
 use Rattle.tw_screens.specs.Screens.{blank_of}
 use Rattle.tw_ansi.specs.declared.encode.Encoder.{Encoder}
 use Rattle.tw_ansi.specs.Sequences.{most_rows}
@@ -75,9 +75,21 @@ BatchIsShown {A} {C} pen = (h w : ℕ) (batch : Batch) (e : Encoder) (t : EcmaSc
     → ShowsPicture pen h w (sent_batch batch e).next (receive_all pen h w (sent_batch batch e).bytes t)
     (steps_on (Some h) w (strokes_of pen (pen.attributes e.attributes) batch) s)
 
--- so does one that is sent the bytes of a batch whose moves take few bytes
+-- any change but a move that leads down out of h rows
+abbrev pub StaysInRows : {C : Type 0} → ℕ → ChangeView → PictureOf C → Type 0
+StaysInRows h (CursorPosition x (Relative (pos n))) s = s.row + n < h
+StaysInRows h change s = ⊤
+
+-- each move down of a batch leads to such a row where it comes
+abbrev pub AllStayInRows : {A C : Type 0} → Pen A C → ℕ → ℕ → A → Batch → PictureOf C → Type 0
+AllStayInRows pen h w a [] s = ⊤
+AllStayInRows pen h w a (change ∷ changes) s =
+    StaysInRows h change s × AllStayInRows pen h w (kept_after pen a change) changes (steps_on (Some h) w (change_strokes pen a change) s)
+
+-- so does one that is sent the bytes of a batch whose moves take few bytes, where none of them goes down out of sight
 abbrev pub TerseBatchIsShown : {A C : Type 0} → Pen A C → Type 0
 TerseBatchIsShown {A} {C} pen = (h w : ℕ) (batch : Batch) (e : Encoder) (t : EcmaScreen C) (s : PictureOf C)
-    → CarriesAttributes pen → 0 < w → w < 2 ^ 64 → AreSendable pen h w e batch s → ShowsPicture pen h w e t s
+    → CarriesAttributes pen → 0 < w → w < 2 ^ 64 → AreSendable pen h w e batch s → AllStayInRows pen h w (pen.attributes e.attributes) batch s
+    → ShowsPicture pen h w e t s
     → ShowsPicture pen h w (terse_batch batch e).next (receive_all pen h w (terse_batch batch e).bytes t)
     (steps_on (Some h) w (strokes_of pen (pen.attributes e.attributes) batch) s)

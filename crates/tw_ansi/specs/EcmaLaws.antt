@@ -1,5 +1,5 @@
 -- What a terminal does that is sent the bytes of changes.
-use Rattle.std.specs.Prelude.{◌≡◌, ◌<◌, ◌+◌, ◌-◌, ◌^◌, ℕ, min, negsuc, false, ◌++◌, ⊤}
+use Rattle.std.specs.Prelude.{◌≡◌, ◌<◌, ◌≤◌, ◌+◌, ◌-◌, ◌^◌, ℕ, min, pos, negsuc, false, ◌++◌, ⊤}
 use Rattle.tw_strokes.specs.Strokes.{cleared_in}
 use Rattle.tw_surface.specs.declared.cell.AttributeChange.{AttributeChange}
 use Rattle.tw_surface.specs.declared.cell.AttributeChange.TheVariants.{Foreground, Background}
@@ -9,7 +9,7 @@ use Rattle.tw_surface.specs.declared.color.ColorAttribute.TheVariants.{Default, 
 use Rattle.tw_surface.specs.declared.cell.CellAttributes.{CellAttributes}
 use Rattle.tw_surface.specs.Attributes.{with_attribute}
 use Rattle.tw_screens.specs.Pens.{Pen}
-use Rattle.tw_ansi.specs.Sequences.{along_row, to_column, to_row, set_attribute, set_attributes, clear_below, clear_rows, clear_all, clear_with, to_first_cell, most_rows}
+use Rattle.tw_ansi.specs.Sequences.{along_row, along_column, to_column, to_row, set_attribute, set_attributes, clear_below, clear_rows, clear_all, clear_with, to_first_cell, most_rows}
 use Rattle.tw_ansi.specs.EcmaScreen.{EcmaScreen, receive_all, row_cleared}
 use Rattle.tw_ansi.specs.EcmaScreen as terminal
 
@@ -54,6 +54,11 @@ AlongRowsAreReached {A} {C} pen = (h w col : ℕ) (t : EcmaScreen C) → t.col <
 abbrev pub RowsAboveAreReached : {A C : Type 0} → Pen A C → Type 0
 RowsAboveAreReached {A} {C} pen = (h w n : ℕ) (t : EcmaScreen C) → n < most_rows
     → receive_all pen h w (to_row (Relative (negsuc n))) (at_rest t) ≡ record t { row = t.row - (n + 1); waits = false; reading = terminal.Text }
+
+-- going down to a row of the terminal leads there, and shows nothing
+abbrev pub RowsBelowAreReached : {A C : Type 0} → Pen A C → Type 0
+RowsBelowAreReached {A} {C} pen = (h w n : ℕ) (t : EcmaScreen C) → 0 < n → n ≤ most_rows → t.row + n < h
+    → receive_all pen h w (along_column (Relative (pos n))) (at_rest t) ≡ record t { row = t.row + n; waits = false; reading = terminal.Text }
 
 -- clearing from the cursor on, with any colour, leaves that colour's paper in the cells from the cursor's on
 abbrev pub ClearsBelow : {A C : Type 0} → Pen A C → Type 0

@@ -59,12 +59,13 @@ row_cleared cell row col x r c = if eqb row r && leb col c then x else cell r c
 abbrev pub told_steps : ℕ → ℕ
 told_steps n = if eqb n 0 then 1 else n
 
--- what a sequence of one number does: CUU, CUF and CUB stop at the edge, VPA and CUP count from 1, ED clears from the cursor on or all,
+-- what a sequence of one number does: CUU, CUD, CUF and CUB stop at the edge, VPA and CUP count from 1, ED clears from the cursor on or all,
 -- EL the row from the cursor on, and any other does nothing; what is cleared is under the colour that is selected
 abbrev pub act_by : {A C : Type 0} → Pen A C → ℕ → ℕ → ℕ → ℕ → EcmaScreen C → EcmaScreen C
 act_by pen h w n letter t =
     let paper = pen.paper t.rendition.background in
     if eqb letter 65 then record t { row = t.row - told_steps n; waits = false }
+    else if eqb letter 66 then record t { row = min (h - 1) (t.row + told_steps n); waits = false }
     else if eqb letter 67 then record t { col = min (w - 1) (t.col + told_steps n); waits = false }
     else if eqb letter 68 then record t { col = t.col - told_steps n; waits = false }
     else if eqb letter 72 then record t { row = min (h - 1) (told_steps n - 1); col = 0; waits = false }

@@ -137,14 +137,12 @@ abbrev pub sent_batch : Batch → Encoder → Sent
 sent_batch [] e = sends [] e
 sent_batch (change ∷ changes) e = sent_then (sent_change change e) (sent_batch changes)
 
--- what leads to a row and a column by few bytes: steps from where the cursor stands, and where it stands after the last column the way from the start of the
--- row
+-- what leads to a row of the terminal and to a column by few bytes: steps from where the cursor stands, and where it stands after the last column the way
+-- from the start of the row
 abbrev pub terse_move : Position → Position → Encoder → List ℕ
-terse_move x y e =
-    if ltb e.x e.cols then along_column y ++ along_row e.x (column_of x e)
-    else to_row y ++ to_column (column_of x e)
+terse_move x y e = along_column y ++ (if ltb e.x e.cols then along_row e.x (column_of x e) else to_column (column_of x e))
 
--- a change, and a move by few bytes
+-- a change, and a move to a row of the terminal by few bytes
 abbrev pub terse_change : ChangeView → Encoder → Sent
 terse_change (CursorPosition x y) e = record { bytes = terse_move x y e; next = at_column (column_of x e) e }
 terse_change change e = sent_change change e

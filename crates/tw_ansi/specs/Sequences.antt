@@ -58,8 +58,9 @@ to_row (Relative (negsuc n)) = sequence (decimal (min (n + 1) most_rows)) (codes
 abbrev pub up_a_row : List ℕ
 up_a_row = sequence [] (codes "A")
 
--- to a row, and up by one without a number
+-- to a row of the terminal, by few bytes: down by up to three line feeds, and further by CUD; up by one without a number
 abbrev pub along_column : Position → List ℕ
+along_column (Relative (pos n)) = if leb n 3 then replicate n lf else sequence (decimal (min n most_rows)) (codes "B")
 along_column (Relative (negsuc zero)) = up_a_row
 along_column y = to_row y
 

@@ -96,7 +96,7 @@ impl Encoder {
     }
 
     /// Adds what the change is sent as, and a move by few bytes, as from a cursor that stands where it is known to
-    /// stand. A refusal may have added a part of it.
+    /// stand: to a row of the terminal, since it does not scroll. A refusal may have added a part of it.
     pub fn encode_tersely(&mut self, change: &Change, out: &mut String) -> Result<(), AllocError>
         ensures bytes { OnOk result (string_bytes out.new ≡ string_bytes out.old ++ (terse_change (change_view change.now) self.old).bytes) }
         ensures next { OnOk result (self.new ≡ (terse_change (change_view change.now) self.old).next) }
@@ -335,21 +335,22 @@ impl Encoder {
         go_to_column(col, out)
     }
 
-    /// Moves the cursor by few bytes: by steps from where it stands, and where it stands after the last column by the way
-    /// from the start of the row.
+    /// Moves the cursor to a row of the terminal by few bytes: by steps from where it stands, and where it stands after
+    /// the last column by the way from the start of the row.
     fn step_cursor(&mut self, x: Position, y: Position, out: &mut String) -> Result<(), AllocError>
         ensures bytes { OnOk result (string_bytes out.new ≡ string_bytes out.old ++ terse_move x y self.old) }
         ensures next { OnOk result (self.new ≡ at_column (column_of x self.old) self.old) }
         ensures err { OnErr result (ExtendsBytes (string_bytes out.old) (string_bytes out.new)) }
     {
         let from = self.x;
-        if from >= self.cols {
-            return self.move_cursor(x, y, out);
-        }
         let col = self.column_of(x);
         self.stand_at(col);
         go_along_column(y, out)?;
-        go_along_row(from, col, out)
+        if from < self.cols {
+            go_along_row(from, col, out)
+        } else {
+            go_to_column(col, out)
+        }
     }
 
     /// The column to which a position leads.

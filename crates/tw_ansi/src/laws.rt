@@ -4,7 +4,7 @@ ghost use Rattle.tw_input.specs.Equality.{ComparesValues};
 ghost use Rattle.tw_ansi.specs.Renditions.{AttributesByNumber};
 ghost use Rattle.tw_screens.specs.Pens.{Pen};
 ghost use Rattle.tw_screens.specs.StyledCells.{characters, styled};
-ghost use Rattle.tw_ansi.specs.EcmaLaws.{AttributeIsSelected, AttributesAreSelected, ColumnsAreReached, AlongRowsAreReached, RowsAboveAreReached, ClearsBelow, ClearsRows, ClearsAll};
+ghost use Rattle.tw_ansi.specs.EcmaLaws.{AttributeIsSelected, AttributesAreSelected, ColumnsAreReached, AlongRowsAreReached, RowsAboveAreReached, RowsBelowAreReached, ClearsBelow, ClearsRows, ClearsAll};
 ghost use Rattle.tw_ansi.specs.EcmaTexts.{PlainTextIsShown};
 ghost use Rattle.tw_ansi.specs.EcmaBatches.{CarriesAttributes, FirstIsShown, ChangeIsShown, BatchIsShown, TerseBatchIsShown};
 ghost use Rattle.tw_ansi.specs.EcmaPaintings.{PaintingIsSendable, RepaintingIsSendable, ClosingIsSendable, PaintingKnowsColor, RunIsSendable, BatchesAreShown};
@@ -91,11 +91,12 @@ pub fn malformed()
 {}
 
 /// What a terminal after ECMA-48 does at the sequences that are sent, byte by byte, with any kind of cells.
-#[tactic(auto, using(crate::proofs::EcmaSequences::columns_are_reached, crate::proofs::EcmaSequences::along_rows_are_reached, crate::proofs::EcmaSequences::rows_above_are_reached, crate::proofs::EcmaRenditions::attribute_is_selected, crate::proofs::EcmaRenditions::attributes_are_selected, crate::proofs::EcmaClearings::clears_below, crate::proofs::EcmaClearings::clears_rows, crate::proofs::EcmaClearings::clears_all))]
+#[tactic(auto, using(crate::proofs::EcmaSequences::columns_are_reached, crate::proofs::EcmaSequences::along_rows_are_reached, crate::proofs::EcmaSequences::rows_above_are_reached, crate::proofs::EcmaSequences::rows_below_are_reached, crate::proofs::EcmaRenditions::attribute_is_selected, crate::proofs::EcmaRenditions::attributes_are_selected, crate::proofs::EcmaClearings::clears_below, crate::proofs::EcmaClearings::clears_rows, crate::proofs::EcmaClearings::clears_all))]
 pub fn sequences<A, C>()
     ensures columns { (pen : Pen A C) → ColumnsAreReached pen }
     ensures along_rows { (pen : Pen A C) → AlongRowsAreReached pen }
     ensures rows_above { (pen : Pen A C) → RowsAboveAreReached pen }
+    ensures rows_below { (pen : Pen A C) → RowsBelowAreReached pen }
     ensures attribute { (pen : Pen A C) → AttributeIsSelected pen }
     ensures attributes { (pen : Pen A C) → AttributesAreSelected pen }
     ensures below { (pen : Pen A C) → ClearsBelow pen }
@@ -113,7 +114,7 @@ pub fn texts<A, C>()
 /// A terminal after ECMA-48 with default attributes whose cursor stands in column 0 shows its own cells to a new
 /// encoder. One that shows a picture of h rows, and is sent the bytes of a change or of a batch, shows the picture on
 /// which it was drawn, scrolled as it needs, where each change is one whose bytes do what it does. So it is where the
-/// moves of the batch take few bytes.
+/// moves of the batch take few bytes, and none of them goes down out of sight.
 #[tactic(auto, using(crate::proofs::EcmaBatches::first_is_shown, crate::proofs::EcmaBatches::change_is_shown, crate::proofs::EcmaBatches::batch_is_shown, crate::proofs::EcmaBatches::terse_batch_is_shown))]
 pub fn batches<A, C>()
     ensures first { (pen : Pen A C) → FirstIsShown pen }

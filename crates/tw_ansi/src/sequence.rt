@@ -109,13 +109,17 @@ pub fn go_to_row(to: Position, out: &mut String) -> Result<(), AllocError>
     }
 }
 
-/// Goes to a row as `go_to_row` does, and up by one without its number.
+/// Goes to a row of the terminal by few bytes: down by line feeds up to three rows, and further by one sequence, which
+/// does not scroll; up by one without its number.
 pub fn go_along_column(to: Position, out: &mut String) -> Result<(), AllocError>
     ensures ok { OnOk result (string_bytes out.new ≡ string_bytes out.old ++ along_column to) }
     ensures err { OnErr result (ExtendsBytes (string_bytes out.old) (string_bytes out.new)) }
 {
     match to {
         Position::Relative(-1) => out.push_str("\x1b[A"),
+        Position::Relative(rows) if rows > 3 => {
+            push_number(out, rows.unsigned_abs().min(MOST_ROWS), "B")
+        }
         _ => go_to_row(to, out),
     }
 }

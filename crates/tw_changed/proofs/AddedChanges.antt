@@ -1,6 +1,6 @@
 -- What is sent for redrawings that follow one another.
-use Rattle.std.proofs.Common.{◌≡◌, ◌+◌, ◌-◌, ℕ, suc, Option, true, cond, List, [], ◌∷◌, ◌++◌, append_assoc, append-nil, ap, subst, ◌∙◌, sym, refl, arith, ◌&&◌, ◌<◌, ◌≤◌}
-use Rattle.std.proofs.lemmas.Bool.{and_parts, leb-true}
+use Rattle.std.proofs.Common.{◌≡◌, ◌+◌, ◌-◌, ℕ, suc, max, Bool, leb, Option, true, cond, List, [], ◌∷◌, ◌++◌, append_assoc, append-nil, ap, subst, ◌∙◌, sym, refl, arith, ◌&&◌, ◌<◌, ◌≤◌}
+use Rattle.std.proofs.lemmas.Bool.{and_parts, leb-true, le-leb, lt-leb}
 use Rattle.unicode_segmentation.specs.Grapheme.{graphemes}
 use Rattle.tw_surface.specs.Characters.{is_plain, is_printable}
 use Rattle.tw_surface.specs.ChangeView.{Batch, Text}
@@ -9,7 +9,7 @@ use Rattle.tw_ansi.specs.Encoding.{Sent, sent_byte, terse_batch, sent_plain, sen
 use Rattle.tw_changed.specs.declared.hand.Hand.{Hand}
 use Rattle.tw_changed.specs.declared.redrawer.Redrawer.{Redrawer}
 use Rattle.tw_screens.specs.StyledCells.{StyledCell}
-use Rattle.tw_changed.specs.Redrawings.{Redrawing, at_ease, redraw_then, typed_once, cell_redrawn, run_redrawn, row_redrawn, rows_redrawn, rest_of, rest_emptied, left_of, lowered, handed_to, rows_drawn_on, drawn_rows, redrawn}
+use Rattle.tw_changed.specs.Redrawings.{Redrawing, at_ease, redraw_then, typed_once, cell_redrawn, run_redrawn, row_redrawn, rows_redrawn, rest_of, rest_emptied, left_of, led_to, fed_once, fed, lowest_reached, sunk_to, lowered, handed_to, rows_drawn_on, drawn_rows, redrawn}
 use Rattle.tw_changed.specs.Sending.{IsAdded}
 use Rattle.tw_changed.proofs.SentBatches.{both_next, both_bytes}
 use Rattle.tw_changed.proofs.SentChanges.{printable_plain}
@@ -61,6 +61,25 @@ same_step d more a b old x y before all same added =
 pub same_added : (a old : Redrawer) (x before : List ℕ) (all : Redrawing) → SameEnd (at_ease a.hand) a x all old before → IsAdded all old before a x
 same_added a old x before all same = record { bytes = sym (append-nil x) ∙ same.bytes; next = same.next; hand = same.hand }
 
+-- ---- a row that may not be on the terminal yet
+
+module _ (reached row col last : ℕ) (a : Redrawer) (x : List ℕ) (is_last : last ≡ lowest_reached reached a.hand) where
+  -- going there, by the last row that is
+  abbrev going : ℕ → Bool → Redrawing
+  going n up = cond up (led_to row col a.hand) (redraw_then (led_to n 0 a.hand) (λ there. redraw_then (fed (row - n) there) (led_to row col)))
+
+  pub sunk_short : (b : Redrawer) (y : List ℕ) → row ≤ last → IsAdded (led_to row col a.hand) a x b y → IsAdded (sunk_to reached row col a.hand) a x b y
+  sunk_short b y up added = subst (λ n. IsAdded (going n (leb row n)) a x b y) is_last (subst (λ up. IsAdded (going last up) a x b y) (sym (le-leb row last up)) added)
+
+  pub sunk_long : (b c d : Redrawer) (y z u : List ℕ) → last < row
+      → IsAdded (led_to last 0 a.hand) a x b y → IsAdded (fed (row - last) b.hand) b y c z → IsAdded (led_to row col c.hand) c z d u
+      → IsAdded (sunk_to reached row col a.hand) a x d u
+  sunk_long b c d y z u low first second third =
+      subst (λ n. IsAdded (going n (leb row n)) a x d u) is_last
+      (subst (λ up. IsAdded (going last up) a x d u) (sym (lt-leb row last low))
+      (added_both (led_to last 0 a.hand) (λ there. redraw_then (fed (row - last) there) (led_to row col)) a b d x y u first
+      (added_both (fed (row - last) b.hand) (led_to row col) b c d y z u second third)))
+
 -- ---- a character
 
 pub printable_small : (b : ℕ) → is_printable b ≡ true → b ≤ 126
@@ -81,7 +100,22 @@ typed_added b a next x y printable bytes is =
     let same = typed_is b a.encoder (printable_plain b printable) in
     record { bytes = bytes ∙ ap (λ v. x ++ v) (sym same.0); next = is ∙ sym same.1; hand = refl }
 
--- ---- runs and rows
+pub feed_added : (a : Redrawer) (next : Encoder) (x y : List ℕ) → y ≡ x ++ (sent_byte a.encoder 10).bytes → next ≡ (sent_byte a.encoder 10).next
+    → IsAdded (fed_once a.hand) a x (record { hand = (fed_once a.hand).hand; encoder = next }) y
+feed_added a next x y bytes is =
+    let same = typed_is 10 a.encoder refl in
+    record { bytes = bytes ∙ ap (λ v. x ++ v) (sym same.0); next = is ∙ sym same.1; hand = refl }
+
+-- ---- line feeds, runs and rows
+
+pub feed_step : (i count : ℕ) (a b old : Redrawer) (x y before : List ℕ) (all : Redrawing) → i < count
+    → SameEnd (fed (count - i) a.hand) a x all old before → IsAdded (fed_once a.hand) a x b y → SameEnd (fed (count - (i + 1)) b.hand) b y all old before
+feed_step i count a b old x y before all less same added =
+    let left : count - i ≡ suc (count - (i + 1)) = omega (arith, less) in
+    same_step (fed_once a.hand) (fed (count - (i + 1))) a b old x y before all (subst (λ n. SameEnd (fed n a.hand) a x all old before) left same) added
+
+pub feed_end : (i count : ℕ) (a old : Redrawer) (x before : List ℕ) (all : Redrawing) → count ≤ i → SameEnd (fed (count - i) a.hand) a x all old before → IsAdded all old before a x
+feed_end i count a old x before all done same = same_added a old x before all (subst (λ n. SameEnd (fed n a.hand) a x all old before) (let e : count - i ≡ 0 = omega (arith, done) in e) same)
 
 pub extends_more : (before x y more : List ℕ) → ExtendsBytes before x → y ≡ x ++ more → ExtendsBytes before y
 extends_more before x y more (first, e) then = (first ++ more, then ∙ ap (λ v. v ++ more) e ∙ append_assoc before first more)
@@ -121,14 +155,14 @@ rows_end w left new row rows a old x before all done same =
 
 -- ---- all of it
 
-pub redrawn_added : (w v u reached drawn rows : ℕ) (old new : ℕ → ℕ → StyledCell) (to : Hand) (from : Option ℕ) (a b c d e : Redrawer) (x0 x1 x2 x3 x4 : List ℕ)
-    → v ≡ w → u ≡ w → drawn ≡ drawn_rows w reached rows old new to → from ≡ rest_of w drawn old new
+pub redrawn_added : (w v u top reached drawn rows : ℕ) (old new : ℕ → ℕ → StyledCell) (to : Hand) (from : Option ℕ) (a b c d e : Redrawer) (x0 x1 x2 x3 x4 : List ℕ)
+    → v ≡ w → u ≡ w → top ≡ max reached drawn → drawn ≡ drawn_rows w reached rows old new to → from ≡ rest_of w drawn old new
     → IsAdded (lowered reached drawn a.hand) a x0 b x1 → IsAdded (rest_emptied u from b.hand) b x1 c x2
-    → IsAdded (rows_redrawn w (left_of v from old) new 0 drawn c.hand) c x2 d x3 → IsAdded (handed_to to d.hand) d x3 e x4
+    → IsAdded (rows_redrawn w (left_of v from old) new 0 drawn c.hand) c x2 d x3 → IsAdded (handed_to top to d.hand) d x3 e x4
     → IsAdded (redrawn w reached rows old new to a.hand) a x0 e x4
-redrawn_added w v u reached drawn rows old new to from a b c d e x0 x1 x2 x3 x4 is_v is_u is_drawn is_from first second third last =
+redrawn_added w v u top reached drawn rows old new to from a b c d e x0 x1 x2 x3 x4 is_v is_u is_top is_drawn is_from first second third last =
     let rest : Option ℕ = rest_of w drawn old new in
-    let last_of : Hand → Redrawing = handed_to to in
+    let last_of : Hand → Redrawing = handed_to (max reached drawn) to in
     let third_of : Hand → Redrawing = λ hand. redraw_then (rows_redrawn w (left_of w (rest_of w drawn old new) old) new 0 drawn hand) last_of in
     let second_of : Hand → Redrawing = λ hand. redraw_then (rest_emptied w (rest_of w drawn old new) hand) third_of in
     let emptied : IsAdded (rest_emptied w (rest_of w drawn old new) b.hand) b x1 c x2 =
@@ -138,4 +172,4 @@ redrawn_added w v u reached drawn rows old new to from a b c d e x0 x1 x2 x3 x4 
     subst (λ n. IsAdded (rows_drawn_on w reached n old new to a.hand) a x0 e x4) is_drawn
     (added_both (lowered reached drawn a.hand) second_of a b e x0 x1 x4 first
     (added_both (rest_emptied w (rest_of w drawn old new) b.hand) third_of b c e x1 x2 x4 emptied
-    (added_both (rows_redrawn w (left_of w (rest_of w drawn old new) old) new 0 drawn c.hand) last_of c d e x2 x3 x4 typed last)))
+    (added_both (rows_redrawn w (left_of w (rest_of w drawn old new) old) new 0 drawn c.hand) last_of c d e x2 x3 x4 typed (subst (λ n. IsAdded (handed_to n to d.hand) d x3 e x4) is_top last))))

@@ -1,13 +1,13 @@
 -- A picture on which the difference is drawn is the new one.
-use Rattle.std.proofs.Common.{◌≡◌, ◌<◌, ◌≤◌, ◌+◌, ◌-◌, ◌/◌, ◌%◌, ℕ, Bool, true, false, cond, Option, Some, None, ap, subst, ◌∙◌, sym, refl, inl, inr, ◌⊎◌, arith}
+use Rattle.std.proofs.Common.{◌≡◌, ◌<◌, ◌≤◌, ◌+◌, ◌-◌, ◌/◌, ◌%◌, ℕ, max, Bool, true, false, cond, Option, Some, None, ap, subst, ◌∙◌, sym, refl, inl, inr, ◌⊎◌, arith}
 use Rattle.std.proofs.lemmas.Bool.{cases_lt}
 use Rattle.tw_strokes.specs.Strokes.{PictureOf, cleared_in}
 use Rattle.tw_screens.specs.Pens.{strokes_of, kept_after_all}
 use Rattle.tw_screens.specs.StyledCells.{StyledCell, styled}
 use Rattle.tw_changed.specs.Differences.{blank_cell}
 use Rattle.tw_changed.specs.declared.hand.Hand.{Hand}
-use Rattle.tw_changed.specs.Redrawings.{Redrawing, redraw_then, led_to, under, handed_to, rest_of, rest_emptied, left_of, lowered, rows_redrawn, rows_drawn_on}
-use Rattle.tw_changed.proofs.DrawnRows.{Holds, redrawn_on, redrawn_both, kept_both, leads_both, rows_inside, is_under}
+use Rattle.tw_changed.specs.Redrawings.{Redrawing, redraw_then, sunk_to, under, handed_to, rest_of, rest_emptied, left_of, lowered, rows_redrawn, rows_drawn_on}
+use Rattle.tw_changed.proofs.DrawnRows.{Holds, Leads, redrawn_on, redrawn_both, kept_both, leads_both, rows_inside, is_under}
 use Rattle.tw_changed.specs.Sending.{ArePrintable}
 use Rattle.tw_changed.proofs.DrawnScreens.{rows_drawn}
 use Rattle.tw_changed.proofs.DrawnEnds.{ShowsFrom, sinks, rest, rises}
@@ -27,22 +27,25 @@ left_blank w (Some from) old i j is = cleared_blank old (from / w) (from % w) i 
 module _ (h w : ℕ) where
   -- ---- the cursor and the attributes at the end
 
-  pub record Handed (s t : ℕ) (to hand : Hand) (p : PictureOf StyledCell) : Type 0 where
-    pub kept : kept_after_all styled hand.attributes (handed_to to hand).changes ≡ to.attributes
-    pub row : (redrawn_on h w hand (handed_to to hand) p).row ≡ t + to.row
-    pub col : (redrawn_on h w hand (handed_to to hand) p).col ≡ to.col
-    pub cells : (i j : ℕ) → (redrawn_on h w hand (handed_to to hand) p).cell i j ≡ p.cell (i + (s - t)) j
+  pub record Handed (s t reached : ℕ) (to hand : Hand) (p : PictureOf StyledCell) : Type 0 where
+    pub leads : Leads h w t hand (handed_to reached to hand) p
+    pub kept : kept_after_all styled hand.attributes (handed_to reached to hand).changes ≡ to.attributes
+    pub row : (redrawn_on h w hand (handed_to reached to hand) p).row ≡ t + to.row
+    pub col : (redrawn_on h w hand (handed_to reached to hand) p).col ≡ to.col
+    pub cells : (i j : ℕ) → (redrawn_on h w hand (handed_to reached to hand) p).cell i j ≡ p.cell (i + (s - t)) j
 
-  pub handed : (s : ℕ) (to hand : Hand) (p : PictureOf StyledCell) → to.row < h → to.col < w → p.row < h → Holds s hand p → Handed s (s - (s + to.row + 1 - h)) to hand p
-  handed s to hand p low left inside holds =
+  pub handed : (s reached : ℕ) (to hand : Hand) (p : PictureOf StyledCell) → s + reached ≤ h → to.row < h → to.col < w → p.row < h → Holds s hand p
+      → Handed s (s - (s + to.row + 1 - h)) reached to hand p
+  handed s reached to hand p known low left inside holds =
       let t : ℕ = s - (s + to.row + 1 - h) in
-      let move : Redrawing = led_to to.row to.col hand in
-      let g = sinks h w s to.row to.col hand p low left inside holds in
+      let move : Redrawing = sunk_to reached to.row to.col hand in
+      let g = sinks h w s reached to.row to.col hand p known low left inside holds in
       let q : PictureOf StyledCell = redrawn_on h w hand move p in
       let u = is_under h w (s - (s + to.row + 1 - h)) to.attributes move.hand q g.leads.holds in
       let is = redrawn_both h w hand move (under to.attributes) p g.leads.kept in
       let both = leads_both h w (s - (s + to.row + 1 - h)) hand move (under to.attributes) p g.leads u.leads in
       record {
+        leads = both;
         kept = both.kept ∙ u.attributes;
         row = both.holds.row ∙ ap (λ n. t + n) (u.row ∙ g.row);
         col = both.holds.col ∙ u.col ∙ g.col;
@@ -78,7 +81,7 @@ module _ (h w : ℕ) where
   becomes s reached drawn rows old new to hand p some fewer most low inside to_row ends to_col old_blank new_blank printable is_old holds =
       let f : ℕ = s - (s + drawn - h) in
       let t : ℕ = s - (s + rows - h) in
-      let last : Hand → Redrawing = handed_to to in
+      let last : Hand → Redrawing = handed_to (max reached drawn) to in
       let third : Hand → Redrawing = λ rest. redraw_then (rows_redrawn w (left_of w (rest_of w drawn old new) old) new 0 drawn rest) last in
       let second : Hand → Redrawing = λ low. redraw_then (rest_emptied w (rest_of w drawn old new) low) third in
       let d1 : Redrawing = lowered reached drawn hand in
@@ -91,13 +94,13 @@ module _ (h w : ℕ) where
       let d3 : Redrawing = rows_redrawn w (left_of w (rest_of w drawn old new) old) new 0 drawn d2.hand in
       let p3 : PictureOf StyledCell = redrawn_on h w d2.hand d3 p2 in
       let a3 = rows_drawn h w (s - (s + drawn - h)) 0 drawn (left_of w (rest_of w drawn old new) old) new d2.hand p2 (omega (arith, room)) (λ i from less. printable i (omega (arith, less))) (λ i j from less left. a2.shown i j left) a2.leads.holds in
-      let d4 : Redrawing = handed_to to d3.hand in
+      let d4 : Redrawing = handed_to (max reached drawn) to d3.hand in
       let p4 : PictureOf StyledCell = redrawn_on h w d3.hand d4 p3 in
       let inside1 : p1.row < h = rows_inside h w (strokes_of styled hand.attributes d1.changes) p inside in
       let inside2 : p2.row < h = rows_inside h w (strokes_of styled d1.hand.attributes d2.changes) p1 inside1 in
       let inside3 : p3.row < h = rows_inside h w (strokes_of styled d2.hand.attributes d3.changes) p2 inside2 in
-      let a4 = subst (λ n. Handed (s - (s + drawn - h)) n to d3.hand p3) (end_row s drawn rows to fewer most to_row ends)
-      (handed (s - (s + drawn - h)) to d3.hand p3 (omega (arith, to_row, most)) to_col inside3 a3.leads.holds) in
+      let a4 = subst (λ n. Handed (s - (s + drawn - h)) n (max reached drawn) to d3.hand p3) (end_row s drawn rows to fewer most to_row ends)
+      (handed (s - (s + drawn - h)) (max reached drawn) to d3.hand p3 (omega (arith, low, fewer, most)) (omega (arith, to_row, most)) to_col inside3 a3.leads.holds) in
       let is : redrawn_on h w hand (rows_drawn_on w reached drawn old new to hand) p ≡ p4 =
       redrawn_both h w hand d1 second p a1.leads.kept ∙ redrawn_both h w d1.hand d2 third p1 a2.leads.kept ∙ redrawn_both h w d2.hand d3 last p2 a3.leads.kept in
       let cell_is : (i j : ℕ) → (redrawn_on h w hand (rows_drawn_on w reached drawn old new to hand) p).cell i j ≡ p3.cell (i + (f - t)) j =

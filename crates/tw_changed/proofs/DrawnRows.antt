@@ -1,20 +1,22 @@
 -- Rows that are drawn.
-use Rattle.std.proofs.Common.{◌≡◌, ◌<◌, ◌≤◌, ◌+◌, ◌-◌, ◌&&◌, ℕ, ℤ, zero, suc, pos, negsuc, ◌+ℤ◌, ◌-ℤ◌, Bool, true, false, cond, eqb, min, Some, List, [], ◌∷◌, ap, ◌∙◌, sym, refl, inl, inr, arith}
+use Rattle.std.proofs.Common.{◌≡◌, ◌<◌, ◌≤◌, ◌+◌, ◌-◌, ◌&&◌, ℕ, ℤ, zero, suc, pos, negsuc, ◌+ℤ◌, ◌-ℤ◌, Bool, true, false, cond, eqb, min, Some, List, [], ◌∷◌, ◌++◌, ap, subst, ◌∙◌, sym, refl, inl, inr, arith}
 use Rattle.std.proofs.lemmas.Bool.{eq-eqb, ne_eqb, eqb-true, cases_eq, and_parts, leb-true}
 use Rattle.std.proofs.lemmas.Int.{ints}
 use Rattle.tw_surface.specs.declared.cell.CellAttributes.{CellAttributes}
 use Rattle.tw_surface.specs.contracts.cell.CellAttributesPartialEq.TheImpl.{ghosts as attributes}
 use Rattle.tw_surface.proofs.EqualityLemmas.{attributes_equal}
 use Rattle.tw_surface.specs.Characters.{is_printable}
+use Rattle.tw_surface.specs.ChangeView.{Batch}
 use Rattle.tw_surface.specs.ChangeView.{AllAttributes, CursorPosition}
 use Rattle.tw_surface.specs.declared.change.Position.TheVariants.{Absolute, Relative}
 use Rattle.tw_surface.specs.Positions.{at_least_0}
 use Rattle.tw_strokes.specs.Strokes.{PictureOf, Stroke, put_in, step, steps_on, scrolled}
 use Rattle.tw_strokes.specs.Strokes.Stroke.{Put, Return, Feed}
 use Rattle.tw_strokes.proofs.SeenRows.{steps_on-append}
-use Rattle.tw_screens.specs.Pens.{strokes_of, kept_after_all, char_stroke}
+use Rattle.tw_screens.specs.Pens.{strokes_of, change_strokes, kept_after, kept_after_all, char_stroke}
 use Rattle.tw_screens.specs.StyledCells.{StyledCell, styled}
 use Rattle.tw_screens.proofs.DrawnChanges.{strokes-append, kept-append}
+use Rattle.tw_ansi.specs.EcmaBatches.{StaysInRows, AllStayInRows}
 use Rattle.tw_changed.specs.declared.hand.Hand.{Hand}
 use Rattle.tw_changed.specs.Redrawings.{Redrawing, at_ease, redraw_then, led_to, under, typed_once, cell_redrawn, run_redrawn}
 
@@ -50,15 +52,34 @@ module _ {C : Type 0} (f : ℕ → ℕ → C) (r c : ℕ) (x : C) where
   pub put_away : (i j : ℕ) → (i ≡ r → ⊥) → put_in f r c x i j ≡ f i j
   put_away i j n = ap (λ b. cond (b && eqb j c) x (f i j)) (ne_eqb i r n)
 
+-- such a move does not lead down out of the rows of the terminal
+move_stays : (h s row col from : ℕ) (p : PictureOf StyledCell) → p.row ≡ s + from → s + row < h → StaysInRows h (CursorPosition (Absolute col) (Relative (pos row -ℤ pos from))) p
+move_stays h s row col from p at low = by_sign (pos row -ℤ pos from) refl
+  where
+    by_sign : (z : ℤ) → z ≡ (pos row -ℤ pos from) → StaysInRows h (CursorPosition (Absolute col) (Relative z)) p
+    by_sign (pos k) e = omega (arith, ints, e, at, low)
+    by_sign (negsuc k) e = tt
+
+-- neither do the moves of two batches
+stays_both : (h w : ℕ) (a : CellAttributes) (xs ys : Batch) (p : PictureOf StyledCell) → AllStayInRows styled h w a xs p
+    → AllStayInRows styled h w (kept_after_all styled a xs) ys (steps_on (Some h) w (strokes_of styled a xs) p) → AllStayInRows styled h w a (xs ++ ys) p
+stays_both h w a [] ys p first second = second
+stays_both h w a (x ∷ xs) ys p first second = (
+  first.0,
+  stays_both h w (kept_after styled a x) xs ys (steps_on (Some h) w (change_strokes styled a x) p) first.1
+      (subst (AllStayInRows styled h w (kept_after_all styled (kept_after styled a x) xs) ys) (steps_on-append (Some h) w (change_strokes styled a x) (strokes_of styled (kept_after styled a x) xs) p) second),
+)
+
 module _ (h w : ℕ) where
   -- what a redrawing leaves of a picture
   abbrev pub redrawn_on : Hand → Redrawing → PictureOf StyledCell → PictureOf StyledCell
   redrawn_on hand d p = steps_on (Some h) w (strokes_of styled hand.attributes d.changes) p
 
-  -- it leaves the cursor and the attributes where it leaves the hand
+  -- it leaves the cursor and the attributes where it leaves the hand, and does not go down out of the rows of the terminal by a move
   pub record Leads (s : ℕ) (hand : Hand) (d : Redrawing) (p : PictureOf StyledCell) : Type 0 where
     pub kept : kept_after_all styled hand.attributes d.changes ≡ d.hand.attributes
     pub holds : Holds s d.hand (redrawn_on hand d p)
+    pub stays : AllStayInRows styled h w hand.attributes d.changes p
 
   pub redrawn_both : (hand : Hand) (d : Redrawing) (more : Hand → Redrawing) (p : PictureOf StyledCell)
       → kept_after_all styled hand.attributes d.changes ≡ d.hand.attributes
@@ -73,9 +94,10 @@ module _ (h w : ℕ) where
       → kept_after_all styled hand.attributes (redraw_then d more).changes ≡ kept_after_all styled d.hand.attributes (more d.hand).changes
   kept_both hand d more kept = kept-append styled hand.attributes d.changes (more d.hand).changes ∙ ap (λ a. kept_after_all styled a (more d.hand).changes) kept
 
-  pub leads_both : (s : ℕ) (hand : Hand) (d : Redrawing) (more : Hand → Redrawing) (p : PictureOf StyledCell)
-      → Leads s hand d p → Leads s d.hand (more d.hand) (redrawn_on hand d p) → Leads s hand (redraw_then d more) p
-  leads_both s hand d more p a b =
+  -- where the rows of the picture may go up meanwhile
+  pub leads_then : (r s : ℕ) (hand : Hand) (d : Redrawing) (more : Hand → Redrawing) (p : PictureOf StyledCell)
+      → Leads r hand d p → Leads s d.hand (more d.hand) (redrawn_on hand d p) → Leads s hand (redraw_then d more) p
+  leads_then r s hand d more p a b =
       let is = redrawn_both hand d more p a.kept in
       record {
         kept = kept_both hand d more a.kept ∙ b.kept;
@@ -83,10 +105,16 @@ module _ (h w : ℕ) where
           row = ap (λ (q : PictureOf StyledCell). q.row) is ∙ b.holds.row;
           col = ap (λ (q : PictureOf StyledCell). q.col) is ∙ b.holds.col;
         };
+        stays = stays_both h w hand.attributes d.changes (more d.hand).changes p a.stays
+            (subst (λ kept. AllStayInRows styled h w kept (more d.hand).changes (redrawn_on hand d p)) (sym a.kept) b.stays);
       }
 
+  pub leads_both : (s : ℕ) (hand : Hand) (d : Redrawing) (more : Hand → Redrawing) (p : PictureOf StyledCell)
+      → Leads s hand d p → Leads s d.hand (more d.hand) (redrawn_on hand d p) → Leads s hand (redraw_then d more) p
+  leads_both s hand d more p a b = leads_then s s hand d more p a b
+
   pub leads_ease : (s : ℕ) (hand : Hand) (p : PictureOf StyledCell) → Holds s hand p → Leads s hand (at_ease hand) p
-  leads_ease s hand p holds = record { kept = refl; holds = holds }
+  leads_ease s hand p holds = record { kept = refl; holds = holds; stays = tt }
 
   -- ---- moves
 
@@ -115,7 +143,11 @@ module _ (h w : ℕ) where
       let q : PictureOf StyledCell = record p { row = at_least_0 (pos p.row +ℤ (pos row -ℤ pos hand.row)); col = min (w - 1) col } in
       let still = unscrolled h q (omega (arith, there, low)) in
       record {
-        leads = record { kept = refl; holds = record { row = still.0 ∙ there; col = omega (arith, left) } };
+        leads = record {
+          kept = refl;
+          holds = record { row = still.0 ∙ there; col = omega (arith, left) };
+          stays = (move_stays h s row col hand.row p holds.row low, tt);
+        };
         row = refl;
         col = refl;
         attributes = refl;
@@ -145,7 +177,7 @@ module _ (h w : ℕ) where
     same = refl;
   }
   under_cases s to hand p holds false is = record {
-    leads = record { kept = refl; holds = record { row = holds.row; col = holds.col } };
+    leads = record { kept = refl; holds = record { row = holds.row; col = holds.col }; stays = (tt, tt) };
     row = refl;
     col = refl;
     attributes = refl;
@@ -192,6 +224,7 @@ module _ (h w : ℕ) where
             row = ap (λ (q : PictureOf StyledCell). q.row) is ∙ still.0 ∙ holds.row;
             col = ap (λ (q : PictureOf StyledCell). q.col) is ∙ ap (λ n. n + 1) holds.col;
           };
+          stays = (tt, tt);
         };
         row = refl;
         col = refl;

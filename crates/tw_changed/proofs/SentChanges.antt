@@ -1,6 +1,7 @@
 -- The changes of a redrawing are such that their bytes do what they do.
 use Rattle.std.proofs.Common.{◌≡◌, ◌<◌, ◌≤◌, ◌+◌, ◌-◌, ◌&&◌, ◌||◌, ℕ, ℤ, zero, suc, pos, negsuc, ◌-ℤ◌, Bool, true, false, cond, eqb, leb, Some, [], ◌∷◌, ◌++◌, ap, ◌∙◌, refl, inl, inr, arith}
 use Rattle.std.specs.List.{list_all, AllByRecursion}
+use Rattle.std.proofs.lemmas.Bool.{eqb-true, and_parts, leb-false}
 use Rattle.std.proofs.lemmas.Int.{ints}
 use Rattle.tw_surface.specs.contracts.cell.CellAttributesPartialEq.TheImpl.{ghosts as attributes}
 use Rattle.tw_surface.specs.declared.cell.CellAttributes.{CellAttributes}
@@ -17,7 +18,7 @@ use Rattle.tw_ansi.specs.Encoding.{sent_change}
 use Rattle.tw_ansi.specs.EcmaBatches.{IsReached, IsSendable, AreSendable}
 use Rattle.tw_changed.specs.Differences.{differ_in, first_changed, last_changed}
 use Rattle.tw_changed.specs.declared.hand.Hand.{Hand}
-use Rattle.tw_changed.specs.Redrawings.{Redrawing, at_ease, redraw_then, led_to, under, typed_once, cell_redrawn, run_redrawn, span_redrawn, row_redrawn, rows_redrawn, handed_to, lowered}
+use Rattle.tw_changed.specs.Redrawings.{Redrawing, at_ease, redraw_then, led_to, under, typed_once, cell_redrawn, run_redrawn, span_redrawn, row_redrawn, rows_redrawn, fed_once, fed, lowest_reached, sunk_to, handed_to, lowered}
 use Rattle.tw_changed.specs.ChangedScreens.{AreByBytes, IsInk}
 use Rattle.tw_changed.proofs.FoundColumns.{least_cases, greatest_cases}
 
@@ -124,14 +125,45 @@ sent_rows w r (suc n) old new hand ink here low =
     sent_both (row_redrawn w old new r hand) (rows_redrawn w old new (suc r) n) a
     (sent_rows w (suc r) n old new (row_redrawn w old new r hand).hand (λ i j from to left. ink i j (omega (arith, from)) (omega (arith, to)) left) (omega (arith, here)) a.low)
 
-pub sent_handed : (to hand : Hand) → AreByBytes to.attributes → to.row ≤ most_rows → hand.row ≤ most_rows → IsSent (handed_to to hand)
-sent_handed to hand colors here low =
-    let a = sent_move to.row to.col hand here low in
-    sent_both (led_to to.row to.col hand) (under to.attributes) a (sent_under to.attributes (led_to to.row to.col hand).hand colors a.low)
+sent_feeds : (n : ℕ) (hand : Hand) → hand.row + n ≤ most_rows → IsSent (fed n hand)
+sent_feeds zero hand low = sent_ease hand (omega (arith, low))
+sent_feeds (suc n) hand low = sent_both (fed_once hand) (fed n) (record { easy = (refl, tt); low = omega (arith, low) }) (sent_feeds n (fed_once hand).hand (omega (arith, low)))
+
+-- a move leads to its row
+led_row : (row col : ℕ) (hand : Hand) → (led_to row col hand).hand.row ≡ row
+led_row row col hand = by_place (eqb hand.row row && eqb hand.col col) refl
+  where
+    by_place : (b : Bool) → (eqb hand.row row && eqb hand.col col) ≡ b
+        → (cond b (at_ease hand) (record { changes = CursorPosition (Absolute col) (Relative (pos row -ℤ pos hand.row)) ∷ []; hand = record hand { row = row; col = col } })).hand.row ≡ row
+    by_place true is = eqb-true hand.row row (and_parts _ _ is).0
+    by_place false is = refl
+
+module _ (reached row col : ℕ) (hand : Hand) (here : row ≤ most_rows) (low : hand.row ≤ most_rows) where
+  abbrev last : ℕ
+  last = lowest_reached reached hand
+
+  sunk_cases : (b : Bool) → leb row last ≡ b
+      → IsSent (cond b (led_to row col hand) (redraw_then (led_to last 0 hand) (λ there. redraw_then (fed (row - last) there) (led_to row col))))
+  sunk_cases true is = sent_move row col hand here low
+  sunk_cases false is =
+      let less : last < row = leb-false row last is in
+      let first : Redrawing = led_to last 0 hand in
+      let a = sent_move last 0 hand (omega (arith, less, here)) low in
+      let b = sent_feeds (row - last) first.hand (omega (arith, led_row last 0 hand, less, here)) in
+      sent_both first (λ there. redraw_then (fed (row - last) there) (led_to row col)) a
+      (sent_both (fed (row - last) first.hand) (led_to row col) b (sent_move row col (fed (row - last) first.hand).hand here b.low))
+
+  sent_sunk : IsSent (sunk_to reached row col hand)
+  sent_sunk = sunk_cases (leb row last) refl
+
+pub sent_handed : (reached : ℕ) (to hand : Hand) → AreByBytes to.attributes → to.row ≤ most_rows → hand.row ≤ most_rows → IsSent (handed_to reached to hand)
+sent_handed reached to hand colors here low =
+    let a = sent_sunk reached to.row to.col hand here low in
+    sent_both (sunk_to reached to.row to.col hand) (under to.attributes) a (sent_under to.attributes (sunk_to reached to.row to.col hand).hand colors a.low)
 
 pub sent_lowered : (reached rows : ℕ) (hand : Hand) → rows ≤ most_rows → hand.row ≤ most_rows → IsSent (lowered reached rows hand)
 sent_lowered reached rows hand here low = by_reached (leb rows reached)
   where
-    by_reached : (b : Bool) → IsSent (cond b (at_ease hand) (led_to (rows - 1) 0 hand))
+    by_reached : (b : Bool) → IsSent (cond b (at_ease hand) (sunk_to reached (rows - 1) 0 hand))
     by_reached true = sent_ease hand low
-    by_reached false = sent_move (rows - 1) 0 hand (omega (arith, here)) low
+    by_reached false = sent_sunk reached (rows - 1) 0 hand (omega (arith, here)) low

@@ -1,5 +1,5 @@
 -- What does not differ is not sent.
-use Rattle.std.proofs.Common.{◌≡◌, ◌<◌, ◌≤◌, ◌+◌, ◌*◌, ◌/◌, ◌%◌, ℕ, zero, suc, Bool, true, false, not, ◌&&◌, eqb, leb, cond, Option, Some, None, [], ap, ◌∙◌, refl, arith}
+use Rattle.std.proofs.Common.{◌≡◌, ◌<◌, ◌≤◌, ◌+◌, ◌*◌, ◌/◌, ◌%◌, ℕ, zero, suc, Bool, true, false, not, ◌&&◌, eqb, leb, max, cond, Option, Some, None, [], ap, ◌∙◌, refl, arith}
 use Rattle.std.proofs.Math.Nat.{mod-lt, div-lt_iff_lt-mul}
 use Rattle.std.proofs.lemmas.Bool.{and_from, eq-eqb, le-leb, le-ltb}
 use Rattle.tw_surface.proofs.EqualityLemmas.{attributes_equal}
@@ -9,7 +9,7 @@ use Rattle.tw_extremes.proofs.ExtremesLemmas.{least_from-none}
 use Rattle.tw_screens.specs.StyledCells.{StyledCell}
 use Rattle.tw_changed.specs.declared.hand.Hand.{Hand}
 use Rattle.tw_changed.specs.Differences.{is_same_cell, differ_in, first_changed, is_used, end_of, blank_cell, behind_index}
-use Rattle.tw_changed.specs.Redrawings.{Redrawing, at_ease, redraw_then, led_to, under, row_redrawn, rows_redrawn, handed_to, rest_of, rest_emptied, left_of, lowered, rows_drawn_on, drawn_rows, redrawn}
+use Rattle.tw_changed.specs.Redrawings.{Redrawing, at_ease, redraw_then, led_to, under, row_redrawn, rows_redrawn, handed_to, rest_of, rest_emptied, left_of, lowest_reached, sunk_to, lowered, rows_drawn_on, drawn_rows, redrawn}
 use Rattle.tw_changed.specs.Shortness.{NothingIsSentForNothing}
 
 -- equal cells are told to be the same
@@ -45,9 +45,15 @@ stays_there row col hand r c =
 pub stays_under : (to : CellAttributes) (hand : Hand) → hand.attributes ≡ to → under to hand ≡ at_ease hand
 stays_under to hand e = rw ((attributes_equal hand.attributes to).1 e) refl
 
-pub stays_handed : (to hand : Hand) → hand ≡ to → (handed_to to hand).changes ≡ []
-stays_handed to hand e =
-    ap (λ (x : Redrawing). (redraw_then x (under to.attributes)).changes) (stays_there to.row to.col hand (ap (λ (y : Hand). y.row) e) (ap (λ (y : Hand). y.col) e))
+-- a row above that of the cursor, or its own, is on the terminal
+stays_up : (reached row col : ℕ) (hand : Hand) → row ≤ hand.row → sunk_to reached row col hand ≡ led_to row col hand
+stays_up reached row col hand up = rw (le-leb row (lowest_reached reached hand) (omega (arith, up))) refl
+
+pub stays_handed : (reached : ℕ) (to hand : Hand) → hand ≡ to → (handed_to reached to hand).changes ≡ []
+stays_handed reached to hand e =
+    let row : hand.row ≡ to.row = ap (λ (y : Hand). y.row) e in
+    ap (λ (x : Redrawing). (redraw_then x (under to.attributes)).changes)
+    (stays_up reached to.row to.col hand (omega (arith, row)) ∙ stays_there to.row to.col hand (ap (λ (y : Hand). y.row) e) (ap (λ (y : Hand). y.col) e))
     ∙ ap (λ (x : Redrawing). x.changes) (stays_under to.attributes hand (ap (λ (y : Hand). y.attributes) e))
 
 pub not_lowered : (reached rows : ℕ) (hand : Hand) → rows ≤ reached → lowered reached rows hand ≡ at_ease hand
@@ -74,9 +80,9 @@ all_drawn w reached rows old new to low = ap (λ b. cond (b && eqb (to.row + 1) 
 
 -- where nothing is emptied and no row is new, the rows and the hand are all that is sent
 pub sent_rows_alone : (w reached rows : ℕ) (old new : ℕ → ℕ → StyledCell) (to hand : Hand) → rows ≤ reached → end_of w rows old ≤ end_of w rows new
-    → redrawn w reached rows old new to hand ≡ redraw_then (rows_redrawn w old new 0 rows hand) (handed_to to)
+    → redrawn w reached rows old new to hand ≡ redraw_then (rows_redrawn w old new 0 rows hand) (handed_to (max reached rows) to)
 sent_rows_alone w reached rows old new to hand low onward =
-    let last : Hand → Redrawing = handed_to to in
+    let last : Hand → Redrawing = handed_to (max reached rows) to in
     let third : Option ℕ → Hand → Redrawing = λ from emptied. redraw_then (rows_redrawn w (left_of w from old) new 0 rows emptied) last in
     let second : Option ℕ → Hand → Redrawing = λ from low. redraw_then (rest_emptied w from low) (third from) in
     ap (λ n. rows_drawn_on w reached n old new to hand) (all_drawn w reached rows old new to low)
@@ -85,7 +91,7 @@ sent_rows_alone w reached rows old new to hand low onward =
 
 pub nothing_is_sent : NothingIsSentForNothing
 nothing_is_sent w reached rows old new hand some low same =
-    let last : Hand → Redrawing = handed_to hand in
+    let last : Hand → Redrawing = handed_to (max reached rows) hand in
     ap (λ (x : Redrawing). x.changes) (sent_rows_alone w reached rows old new hand hand low (omega (arith, same_ends w rows old new some same)))
     ∙ ap (λ (x : Redrawing). (redraw_then x last).changes) (rows_stay w 0 rows old new hand (λ i j from to left. same i j (omega (arith, to)) left))
-    ∙ stays_handed hand hand refl
+    ∙ stays_handed (max reached rows) hand hand refl

@@ -1,13 +1,12 @@
 -- A terminal that is sent the difference of two screens shows the new one.
-use Rattle.std.proofs.Common.{◌≡◌, ◌<◌, ◌≤◌, ◌+◌, ◌-◌, ◌/◌, ◌%◌, ◌^◌, ℕ, Bool, true, false, not, pos, ◌-ℤ◌, ◌&&◌, eqb, leb, cond, ltb, min, Some, None, [], ◌∷◌, ◌++◌, ap, subst, ◌∙◌, sym, refl, ◌*◌, inl, inr, arith}
+use Rattle.std.proofs.Common.{◌≡◌, ◌<◌, ◌≤◌, ◌+◌, ◌-◌, ◌/◌, ◌%◌, ◌^◌, ℕ, Bool, true, false, not, max, ◌&&◌, eqb, leb, cond, ltb, min, Some, None, [], ◌∷◌, ◌++◌, ap, subst, ◌∙◌, sym, refl, ◌*◌, inl, inr, arith}
 use Rattle.std.proofs.Math.Nat.{mod-lt, div-lt_iff_lt-mul}
 use Rattle.std.proofs.lemmas.Bool.{cases_lt, lt-ltb, le-ltb, ltb-true, leb-true, eqb-true, and_parts}
 use Rattle.tw_surface.specs.declared.cell.CellAttributes.{CellAttributes}
 use Rattle.tw_surface.specs.ChangeView.{Batch}
-use Rattle.tw_surface.specs.ChangeView.{AllAttributes, CursorPosition}
+use Rattle.tw_surface.specs.ChangeView.{AllAttributes}
 use Rattle.tw_surface.specs.contracts.cell.CellAttributesPartialEq.TheImpl.{ghosts as attributes}
 use Rattle.tw_surface.proofs.EqualityLemmas.{attributes_equal}
-use Rattle.tw_surface.specs.declared.change.Position.TheVariants.{Absolute, Relative}
 use Rattle.tw_strokes.specs.Strokes.{PictureOf, steps_on}
 use Rattle.tw_screens.specs.Pens.{change_strokes, strokes_of, kept_after_all}
 use Rattle.tw_screens.specs.StyledCells.{StyledCell, styled}
@@ -17,12 +16,12 @@ use Rattle.tw_ansi.specs.Encoding.{sent_change, terse_batch}
 use Rattle.tw_ansi.specs.EcmaScreen.{EcmaScreen, receive_all}
 use Rattle.tw_ansi.specs.EcmaLaws.{IsColor}
 use Rattle.tw_ansi.specs.EcmaTexts.{ShowsPicture}
-use Rattle.tw_ansi.specs.EcmaBatches.{CarriesAttributes, AreSendable}
+use Rattle.tw_ansi.specs.EcmaBatches.{CarriesAttributes, AreSendable, AllStayInRows}
 use Rattle.tw_ansi.proofs.EcmaSequences.{received}
 use Rattle.tw_ansi.proofs.EcmaBatches.{keeps_change, terse_next, terse_batch_is_shown}
 use Rattle.tw_changed.specs.Differences.{end_of, blank_cell}
 use Rattle.tw_changed.specs.declared.hand.Hand.{Hand}
-use Rattle.tw_changed.specs.Redrawings.{Redrawing, at_ease, redraw_then, led_to, emptied_here, emptied, rest_of, rest_emptied, left_of, lowered, rows_redrawn, handed_to, rows_drawn_on, drawn_rows, redrawn}
+use Rattle.tw_changed.specs.Redrawings.{Redrawing, at_ease, redraw_then, led_to, emptied_here, emptied, rest_of, rest_emptied, left_of, lowered, rows_redrawn, sunk_to, handed_to, rows_drawn_on, drawn_rows, redrawn}
 use Rattle.tw_changed.specs.ChangedScreens.{IsInk, IsInked, IsHandWithin, IsBlankFrom, IsSeenFrom, turned_to, ChangedIsShown}
 use Rattle.tw_changed.proofs.DrawnRows.{Holds, redrawn_on, redrawn_both, gone}
 use Rattle.tw_changed.proofs.DrawnScreens.{rows_drawn}
@@ -31,18 +30,9 @@ use Rattle.tw_changed.proofs.DrawnChangedScreens.{ReachesEnd, becomes, handed}
 use Rattle.tw_changed.proofs.SentBatches.{both_next, both_bytes}
 use Rattle.tw_changed.proofs.SentChanges.{all_sendable, sent_move, sent_rows, sent_handed, sent_lowered}
 
--- going down changes no attribute
-lowered_keeps : (reached rows : ℕ) (hand : Hand) → (lowered reached rows hand).hand.attributes ≡ hand.attributes
-lowered_keeps reached rows hand = by_reached (leb rows reached) (eqb hand.row (rows - 1) && eqb hand.col 0)
-  where
-    by_reached : (a b : Bool) → (cond a (at_ease hand) (cond b (at_ease hand) (record { changes = CursorPosition (Absolute 0) (Relative (pos (rows - 1) -ℤ pos hand.row)) ∷ []; hand = record hand { row = rows - 1; col = 0 } }))).hand.attributes ≡ hand.attributes
-    by_reached true b = refl
-    by_reached false true = refl
-    by_reached false false = refl
-
--- at the end those of the new hand are selected
-handed_attributes : (to hand : Hand) → (handed_to to hand).hand.attributes ≡ to.attributes
-handed_attributes to hand = by_same (led_to to.row to.col hand).hand (attributes.eq (led_to to.row to.col hand).hand.attributes to.attributes) refl
+-- at the end the attributes of the new hand are selected
+handed_attributes : (reached : ℕ) (to hand : Hand) → (handed_to reached to hand).hand.attributes ≡ to.attributes
+handed_attributes reached to hand = by_same (sunk_to reached to.row to.col hand).hand (attributes.eq (sunk_to reached to.row to.col hand).hand.attributes to.attributes) refl
   where
     by_same : (there : Hand) (b : Bool) → attributes.eq there.attributes to.attributes ≡ b
         → (cond b (at_ease there) (record { changes = AllAttributes to.attributes ∷ []; hand = record there { attributes = to.attributes } })).hand.attributes ≡ to.attributes
@@ -67,11 +57,11 @@ module _ (h w : ℕ) where
     pub attributes : d.hand.attributes ≡ (terse_batch d.changes e).next.attributes
 
   sends : (hand : Hand) (d : Redrawing) (e : Encoder) (t : EcmaScreen StyledCell) (p : PictureOf StyledCell) → 0 < w → w < 2 ^ 64
-      → AreSendable styled h w e d.changes p → hand.attributes ≡ e.attributes → kept_after_all styled hand.attributes d.changes ≡ d.hand.attributes
-      → ShowsPicture styled h w e t p → Sends hand d e t p
-  sends hand d e t p some small fits same kept a = record {
+      → AreSendable styled h w e d.changes p → AllStayInRows styled h w hand.attributes d.changes p → hand.attributes ≡ e.attributes
+      → kept_after_all styled hand.attributes d.changes ≡ d.hand.attributes → ShowsPicture styled h w e t p → Sends hand d e t p
+  sends hand d e t p some small fits stays same kept a = record {
     shown = subst (λ (c : CellAttributes). ShowsPicture styled h w (terse_batch d.changes e).next (receive_all styled h w (terse_batch d.changes e).bytes t) (steps_on (Some h) w (strokes_of styled c d.changes) p)) (sym same)
-        (terse_batch_is_shown styled h w d.changes e t p follows some small fits a);
+        (terse_batch_is_shown styled h w d.changes e t p follows some small fits (subst (λ (c : CellAttributes). AllStayInRows styled h w c d.changes p) same stays) a);
     attributes = sym kept ∙ ap (λ c. kept_after_all styled c d.changes) same ∙ keeps_all d.changes e p fits;
   }
 
@@ -99,7 +89,7 @@ module _ (h w : ℕ) where
       let g = gone h w s (from / w) (from % w) hand p low left holds in
       let q : PictureOf StyledCell = redrawn_on h w hand move p in
       let there = sent_move (from / w) (from % w) hand (omega (arith, low, most)) held in
-      let m = sends hand move e t p some small (all_sendable h w move.changes e p there.easy) same g.leads.kept a in
+      let m = sends hand move e t p some small (all_sendable h w move.changes e p there.easy) g.leads.stays same g.leads.kept a in
       let known : Encoder = (terse_batch move.changes e).next in
       let colors : (terse_batch move.changes e).next.attributes ≡ e.attributes = sym m.attributes ∙ g.attributes ∙ same in
       let by_bytes : IsColor (terse_batch move.changes e).next.attributes.background = subst (λ (c : CellAttributes). IsColor c.background) (sym colors) color in
@@ -107,7 +97,7 @@ module _ (h w : ℕ) where
       let more : Hand → Redrawing = emptied_here in
       sends_both hand move more e t p g.leads.kept
       (sends move.hand (more move.hand) (terse_batch move.changes e).next (receive_all styled h w (terse_batch move.changes e).bytes t) q some small
-      ((tt, by_bytes, refl, λ edge. absurd (omega (arith, edge, at_col, left))), tt) m.attributes refl m.shown)
+      ((tt, by_bytes, refl, λ edge. absurd (omega (arith, edge, at_col, left))), tt) (tt, tt) m.attributes refl m.shown)
 
   module _ (s rows : ℕ) (old new : ℕ → ℕ → StyledCell) (hand : Hand) (e : Encoder) (t : EcmaScreen StyledCell) (p : PictureOf StyledCell) (some : 0 < w) (small : w < 2 ^ 64) (low : s + rows ≤ h) (most : h ≤ most_rows)
       (held : hand.row ≤ most_rows) (holds : Holds s hand p) (same : hand.attributes ≡ e.attributes) (color : IsColor e.attributes.background) (a : ShowsPicture styled h w e t p) where
@@ -117,7 +107,7 @@ module _ (h w : ℕ) where
         let within = end_within w rows old in
         let line : end_of w rows new / w < rows = (div-lt_iff_lt-mul some).1 (omega (arith, less, within)) in
         emptied_sends s (end_of w rows new) hand e t p some small (omega (arith, line, low)) most held holds same color a
-    rest_sends_by false is = sends hand (at_ease hand) e t p some small tt same refl a
+    rest_sends_by false is = sends hand (at_ease hand) e t p some small tt tt same refl a
 
     rest_sends : Sends hand (rest_emptied w (rest_of w rows old new) hand) e t p
     rest_sends = rest_sends_by (ltb (end_of w rows new) (end_of w rows old)) refl
@@ -135,19 +125,19 @@ module _ (h w : ℕ) where
         let top : drawn ≤ h = omega (arith, fewer, room) in
         let inside : p.row < h = a.within.row in
         let held : hand.row ≤ most_rows = omega (arith, seen.row, inside, most) in
-        let last : Hand → Redrawing = handed_to to in
+        let last : Hand → Redrawing = handed_to (max reached drawn) to in
         let third : Hand → Redrawing = λ rest. redraw_then (rows_redrawn w (left_of w (rest_of w drawn old new) old) new 0 drawn rest) last in
         let second : Hand → Redrawing = λ low. redraw_then (rest_emptied w (rest_of w drawn old new) low) third in
         let d1 : Redrawing = lowered reached drawn hand in
         let p1 : PictureOf StyledCell = redrawn_on h w hand d1 p in
         let a1 = rises h w s reached drawn old hand p some top low inside seen.cell holds in
         let i1 = sent_lowered reached drawn hand (omega (arith, room, most)) held in
-        let s1 = sends hand d1 e t p some small (all_sendable h w d1.changes e p i1.easy) same a1.leads.kept a in
+        let s1 = sends hand d1 e t p some small (all_sendable h w d1.changes e p i1.easy) a1.leads.stays same a1.leads.kept a in
         let e1 : Encoder = (terse_batch d1.changes e).next in
         let t1 : EcmaScreen StyledCell = receive_all styled h w (terse_batch d1.changes e).bytes t in
         let up : s - (s + drawn - h) + drawn ≤ h = omega (arith, top) in
         let color1 : IsColor (terse_batch d1.changes e).next.attributes.background =
-        subst (λ (c : CellAttributes). IsColor c.background) (sym (sym s1.attributes ∙ lowered_keeps reached drawn hand ∙ same)) color in
+        subst (λ (c : CellAttributes). IsColor c.background) (sym (sym s1.attributes ∙ a1.attributes ∙ same)) color in
         let d2 : Redrawing = rest_emptied w (rest_of w drawn old new) d1.hand in
         let p2 : PictureOf StyledCell = redrawn_on h w d1.hand d2 p1 in
         let a2 = rest h w (s - (s + drawn - h)) drawn old new d1.hand p1 some up a1.shown a1.leads.holds in
@@ -161,12 +151,13 @@ module _ (h w : ℕ) where
         let a3 = rows_drawn h w (s - (s + drawn - h)) 0 drawn (left_of w (rest_of w drawn old new) old) new d2.hand p2 (omega (arith, up))
         (λ i from less j left. (ink i j from less left).0) (λ i j from less left. a2.shown i j left) a2.leads.holds in
         let i3 = sent_rows w 0 drawn (left_of w (rest_of w drawn old new) old) new d2.hand ink (omega (arith, top, most)) held2 in
-        let s3 = sends d2.hand d3 e2 t2 p2 some small (all_sendable h w d3.changes e2 p2 i3.easy) s2.attributes a3.leads.kept s2.shown in
+        let s3 = sends d2.hand d3 e2 t2 p2 some small (all_sendable h w d3.changes e2 p2 i3.easy) a3.leads.stays s2.attributes a3.leads.kept s2.shown in
         let e3 : Encoder = (terse_batch d3.changes e2).next in
         let t3 : EcmaScreen StyledCell = receive_all styled h w (terse_batch d3.changes e2).bytes t2 in
-        let a4 = handed h w (s - (s + drawn - h)) to d3.hand p3 (omega (arith, reach.row, room)) reach.col s3.shown.within.row a3.leads.holds in
-        let i4 = sent_handed to d3.hand reach.colors (omega (arith, reach.row, room, most)) i3.low in
-        let s4 = sends d3.hand (handed_to to d3.hand) e3 t3 p3 some small (all_sendable h w (handed_to to d3.hand).changes e3 p3 i4.easy) s3.attributes (a4.kept ∙ sym (handed_attributes to d3.hand)) s3.shown in
+        let d4 : Redrawing = handed_to (max reached drawn) to d3.hand in
+        let a4 = handed h w (s - (s + drawn - h)) (max reached drawn) to d3.hand p3 (omega (arith, low, top)) (omega (arith, reach.row, room)) reach.col s3.shown.within.row a3.leads.holds in
+        let i4 = sent_handed (max reached drawn) to d3.hand reach.colors (omega (arith, reach.row, room, most)) i3.low in
+        let s4 = sends d3.hand d4 e3 t3 p3 some small (all_sendable h w d4.changes e3 p3 i4.easy) a4.leads.stays s3.attributes a4.leads.kept s3.shown in
         sends_both hand d1 second e t p a1.leads.kept
         (sends_both d1.hand d2 third e1 t1 p1 a2.leads.kept
         (sends_both d2.hand d3 last e2 t2 p2 a3.leads.kept s4))
@@ -246,5 +237,5 @@ changed_is_shown h w s reached rows old new hand to e t p some small most room l
     let first_row : s - (s + rows - h) ≡ min s (h - rows) = omega (arith, room) in (
       subst (λ n. ShowsPicture styled h w (terse_batch (redrawn w reached rows old new to hand).changes e).next (receive_all styled h w (terse_batch (redrawn w reached rows old new to hand).changes e).bytes t) (turned_to s n new to p)) first_row
           (changed_is_turned h w s reached drawn rows old new hand to e t p some small most room low k.fewer k.ends inked reach seen same color a k.old_blank k.new_blank),
-      sym x.attributes ∙ handed_attributes to _,
+      sym x.attributes ∙ handed_attributes _ to _,
     )

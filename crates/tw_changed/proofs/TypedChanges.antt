@@ -1,5 +1,5 @@
 -- What is typed at the cursor is sent alone.
-use Rattle.std.proofs.Common.{◌≡◌, ◌<◌, ◌≤◌, ◌+◌, ◌-◌, ◌&&◌, ℕ, zero, suc, Bool, true, eqb, leb, cond, Some, List, [], ◌∷◌, ◌++◌, append-nil, map, ap, ◌∙◌, sym, refl, inl, inr, arith}
+use Rattle.std.proofs.Common.{◌≡◌, ◌<◌, ◌≤◌, ◌+◌, ◌-◌, ◌&&◌, ℕ, zero, suc, Bool, true, eqb, leb, max, cond, Some, List, [], ◌∷◌, ◌++◌, append-nil, map, ap, ◌∙◌, sym, refl, inl, inr, arith}
 use Rattle.std.proofs.lemmas.Bool.{cases_Bool, cases_eq, and_parts, ne_eqb, le-leb, leb-true}
 use Rattle.unicode_segmentation.specs.Grapheme.{graphemes}
 use Rattle.tw_surface.specs.Characters.{is_printable}
@@ -106,11 +106,11 @@ module _ (w rows n : ℕ) (old new : ℕ → ℕ → StyledCell) (hand to : Hand
 
   typed_changes : (reached : ℕ) → rows ≤ reached → (redrawn w reached rows old new to hand).changes ≡ texts_of (characters_from (new hand.row) hand.col n)
   typed_changes reached low =
-      let last : Hand → Redrawing = handed_to to in
+      let last : Hand → Redrawing = handed_to (max reached rows) to in
       let inside : hand.row < rows = t.row in
       ap (λ (d : Redrawing). d.changes) (sent_rows_alone w reached rows old new to hand low t.onward)
       ∙ ap (λ (d : Redrawing). (redraw_then d last).changes) (rows_typed 0 rows (omega arith) (omega (arith, inside)) (omega arith) ∙ run_typed (new hand.row) hand.col n hand t.typed)
-      ∙ ap (λ changes. texts_of (characters_from (new hand.row) hand.col n) ++ changes) (stays_handed to (moved_on n hand) (sym t.behind))
+      ∙ ap (λ changes. texts_of (characters_from (new hand.row) hand.col n) ++ changes) (stays_handed (max reached rows) to (moved_on n hand) (sym t.behind))
       ∙ append-nil (texts_of (characters_from (new hand.row) hand.col n))
 
 pub typed_is_sent_alone : TypedIsSentAlone

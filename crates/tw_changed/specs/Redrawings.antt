@@ -1,10 +1,11 @@
 -- The changes that make one picture of another.
-use Rattle.std.specs.Prelude.{ℕ, zero, suc, pos, ◌+◌, ◌-◌, ◌*◌, ◌/◌, ◌%◌, ◌-ℤ◌, ◌&&◌, eqb, leb, ltb, if◌then◌else◌, Option, Some, None, [], ◌∷◌, ◌++◌}
+use Rattle.std.specs.Prelude.{ℕ, zero, suc, pos, ◌+◌, ◌-◌, ◌*◌, ◌/◌, ◌%◌, ◌-ℤ◌, ◌&&◌, eqb, leb, ltb, max, if◌then◌else◌, Option, Some, None, [], ◌∷◌, ◌++◌}
 use Rattle.tw_surface.specs.declared.cell.CellAttributes.{CellAttributes}
 use Rattle.tw_surface.specs.declared.change.Position.TheVariants.{Absolute, Relative}
 use Rattle.tw_surface.specs.contracts.cell.CellAttributesPartialEq.TheImpl.{ghosts as attributes}
 use Rattle.tw_surface.specs.ChangeView.{Batch}
 use Rattle.tw_surface.specs.ChangeView.{AllAttributes, Text, ClearToEndOfScreen, CursorPosition}
+use Rattle.tw_surface.specs.Characters.{lf}
 use Rattle.tw_surface.specs.Defaults.{default_color}
 use Rattle.tw_strokes.specs.Strokes.{cleared_in}
 use Rattle.tw_screens.specs.StyledCells.{StyledCell}
@@ -24,7 +25,7 @@ at_ease hand = record { changes = []; hand = hand }
 abbrev pub redraw_then : Redrawing → (Hand → Redrawing) → Redrawing
 redraw_then first more = record { changes = first.changes ++ (more first.hand).changes; hand = (more first.hand).hand }
 
--- the cursor goes to a row and a column, unless it stands there
+-- the cursor goes to a row that is on the terminal, and a column, unless it stands there
 abbrev pub led_to : ℕ → ℕ → Hand → Redrawing
 led_to row col hand =
     if eqb hand.row row && eqb hand.col col then at_ease hand
@@ -61,10 +62,6 @@ abbrev pub rows_redrawn : ℕ → (ℕ → ℕ → StyledCell) → (ℕ → ℕ 
 rows_redrawn w old new r zero hand = at_ease hand
 rows_redrawn w old new r (suc count) hand = redraw_then (row_redrawn w old new r hand) (rows_redrawn w old new (suc r) count)
 
--- the cursor and the attributes become those of a hand
-abbrev pub handed_to : Hand → Hand → Redrawing
-handed_to to hand = redraw_then (led_to to.row to.col hand) (under to.attributes)
-
 -- all is blank from the cursor on
 abbrev pub emptied_here : Hand → Redrawing
 emptied_here hand = record { changes = ClearToEndOfScreen default_color ∷ []; hand = hand }
@@ -87,9 +84,32 @@ abbrev pub left_of : ℕ → Option ℕ → (ℕ → ℕ → StyledCell) → ℕ
 left_of w None old = old
 left_of w (Some from) old = cleared_in old (from / w) (from % w) blank_cell
 
+-- a line feed
+abbrev pub fed_once : Hand → Redrawing
+fed_once hand = record { changes = Text (lf ∷ []) ∷ []; hand = record hand { row = hand.row + 1 } }
+
+-- so many of them
+abbrev pub fed : ℕ → Hand → Redrawing
+fed zero hand = at_ease hand
+fed (suc n) hand = redraw_then (fed_once hand) (fed n)
+
+-- the last row that is known to be on the terminal, which has reached some rows
+abbrev pub lowest_reached : ℕ → Hand → ℕ
+lowest_reached reached hand = max (reached - 1) hand.row
+
+-- the cursor goes to a row and a column: to a row that is not on the terminal yet by line feeds from the last one that is
+abbrev pub sunk_to : ℕ → ℕ → ℕ → Hand → Redrawing
+sunk_to reached row col hand =
+    if leb row (lowest_reached reached hand) then led_to row col hand
+    else redraw_then (led_to (lowest_reached reached hand) 0 hand) (λ low. redraw_then (fed (row - lowest_reached reached hand) low) (led_to row col))
+
 -- the cursor goes down to the last row, so that it comes into sight, where that row was not reached before
 abbrev pub lowered : ℕ → ℕ → Hand → Redrawing
-lowered reached rows hand = if leb rows reached then at_ease hand else led_to (rows - 1) 0 hand
+lowered reached rows hand = if leb rows reached then at_ease hand else sunk_to reached (rows - 1) 0 hand
+
+-- the cursor and the attributes become those of a hand
+abbrev pub handed_to : ℕ → Hand → Hand → Redrawing
+handed_to reached to hand = redraw_then (sunk_to reached to.row to.col hand) (under to.attributes)
 
 -- Some rows are drawn: the last of them comes into sight, the rest is emptied, the rows that differ are typed, and then the cursor and the attributes are led
 -- to.
@@ -97,7 +117,7 @@ abbrev pub rows_drawn_on : ℕ → ℕ → ℕ → (ℕ → ℕ → StyledCell) 
 rows_drawn_on w reached rows old new to hand =
     redraw_then (lowered reached rows hand) (λ low.
     redraw_then (rest_emptied w (rest_of w rows old new) low) (λ emptied.
-    redraw_then (rows_redrawn w (left_of w (rest_of w rows old new) old) new 0 rows emptied) (handed_to to)))
+    redraw_then (rows_redrawn w (left_of w (rest_of w rows old new) old) new 0 rows emptied) (handed_to (max reached rows) to)))
 
 -- how many rows are drawn: those that were reached before, where the others show nothing in either screen and the cursor ends in the last of them, since it
 -- goes down in any case then; and else all of them

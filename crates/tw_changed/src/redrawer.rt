@@ -4,7 +4,7 @@ ghost use Rattle.std.specs.Prelude.{◌≡◌, ℕ, true, ◌<◌, ◌≤◌, �
 ghost use Rattle.tw_surface.specs.Characters.{is_printable};
 ghost use Rattle.styled_screen.specs.StyledScreens.{styled_cell};
 ghost use Rattle.tw_ansi.specs.Encoding.{ExtendsBytes, terse_batch};
-ghost use Rattle.tw_changed.specs.Redrawings.{led_to, under, cell_redrawn, run_redrawn, row_redrawn, rows_redrawn, handed_to, emptied_here, rest_emptied, rest_of, left_of, lowered, drawn_rows, redrawn};
+ghost use Rattle.tw_changed.specs.Redrawings.{led_to, under, cell_redrawn, run_redrawn, row_redrawn, rows_redrawn, handed_to, emptied_here, rest_emptied, rest_of, left_of, fed, sunk_to, lowered, drawn_rows, redrawn};
 ghost use Rattle.tw_changed.specs.Sending.{IsAdded, IsPrintable, screen_cells, changes_between, hand_of};
 
 use crate::difference::{cell_at, drawn_rows, first_changed, last_changed, rest_of};
@@ -149,14 +149,52 @@ impl Redrawer {
         Ok(())
     }
 
-    /// Goes where a hand is, and selects its attributes.
-    fn hand_over(&mut self, to: Hand, out: &mut String) -> Result<(), AllocError>
-        requires to { to.row ≤ 4294967295 }
-        requires held { self.old.hand.row ≤ 4294967295 }
-        ensures ok { OnOk result (IsAdded (handed_to to self.old.hand) self.old (string_bytes out.old) self.new (string_bytes out.new)) }
+    /// Feeds so many lines.
+    fn feed_lines(&mut self, count: usize, out: &mut String) -> Result<(), AllocError>
+        requires held { self.old.hand.row + count ≤ 4294967295 }
+        ensures ok { OnOk result (IsAdded (fed count self.old.hand) self.old (string_bytes out.old) self.new (string_bytes out.new)) }
+        ensures row { OnOk result (self.new.hand.row ≡ self.old.hand.row + count) }
         ensures err { OnErr result (ExtendsBytes (string_bytes out.old) (string_bytes out.new)) }
     {
-        self.lead_to(to.row, to.col, out)?;
+        for _line in 0..count {
+            self.encoder.encode_byte(b'\n', out)?;
+            self.hand.row += 1;
+        }
+        Ok(())
+    }
+
+    /// Goes to a cell: where its row is not on the terminal yet, which has reached some rows, by line feeds from the
+    /// last row that is.
+    fn sink_to(
+        &mut self,
+        reached: usize,
+        row: usize,
+        col: usize,
+        out: &mut String,
+    ) -> Result<(), AllocError>
+        requires from { self.old.hand.row ≤ 4294967295 }
+        requires to { row ≤ 4294967295 }
+        ensures ok { OnOk result (IsAdded (sunk_to reached row col self.old.hand) self.old (string_bytes out.old) self.new (string_bytes out.new)) }
+        ensures row { OnOk result (self.new.hand.row ≡ row) }
+        ensures err { OnErr result (ExtendsBytes (string_bytes out.old) (string_bytes out.new)) }
+    {
+        let last = reached.saturating_sub(1).max(self.hand.row);
+        if row <= last {
+            return self.lead_to(row, col, out);
+        }
+        self.lead_to(last, 0, out)?;
+        self.feed_lines(row - last, out)?;
+        self.lead_to(row, col, out)
+    }
+
+    /// Goes where a hand is, and selects its attributes.
+    fn hand_over(&mut self, reached: usize, to: Hand, out: &mut String) -> Result<(), AllocError>
+        requires to { to.row ≤ 4294967295 }
+        requires held { self.old.hand.row ≤ 4294967295 }
+        ensures ok { OnOk result (IsAdded (handed_to reached to self.old.hand) self.old (string_bytes out.old) self.new (string_bytes out.new)) }
+        ensures err { OnErr result (ExtendsBytes (string_bytes out.old) (string_bytes out.new)) }
+    {
+        self.sink_to(reached, to.row, to.col, out)?;
         self.select(to.attributes, out)
     }
 
@@ -204,7 +242,7 @@ impl Redrawer {
         if rows <= reached {
             return Ok(());
         }
-        self.lead_to(rows - 1, 0, out)
+        self.sink_to(reached, rows - 1, 0, out)
     }
 
     /// Makes one screen of another: its last row comes into sight, what stands after the end of the new one is
@@ -232,7 +270,7 @@ impl Redrawer {
         self.lower(reached, drawn, out)?;
         self.empty_rest(new.width(), rest, out)?;
         self.draw_rows(old, rest, new, drawn, out)?;
-        self.hand_over(to, out)
+        self.hand_over(reached.max(drawn), to, out)
     }
 }
 

@@ -92,6 +92,10 @@ module _ {T : Type 0} (state : T → TerminalState) (Leads : T → T → Deed �
   pub one_call : (call : Call) (old new : T) → Leads old new (Called call) → IsLedByCalls Leads old new
   one_call call old new led = (call ∷ [], (new, led, refl))
 
+  -- one call on the same terminal, and then others
+  pub one_call_then : (call : Call) (old seen told new : T) → seen ≡ old → Leads seen told (Called call) → IsLedByCalls Leads told new → IsLedByCalls Leads old new
+  one_call_then call old seen told new is led then = calls_then old told new (subst (λ it. IsLedByCalls Leads it told) is (one_call call seen told led)) then
+
   -- ---- while events are told
 
   -- nothing is told, and calls are made

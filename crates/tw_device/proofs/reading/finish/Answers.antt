@@ -7,19 +7,15 @@ use Rattle.tw_lineedit.specs.Frame.{own_frame}
 use Rattle.tw_lineedit.specs.Outcomes.{answer_at, outcome_of}
 use Rattle.tw_lineedit.specs.Reading.{Reads}
 use Rattle.tw_lineedit.specs.Run.{ending}
-use Rattle.tw_device.specs.Led.{IsLedByCalls}
 use Rattle.tw_device.proofs.DeedLemmas.{used_leads}
-use Rattle.tw_device.proofs.LedLemmas.{calls_then, one_call}
+use Rattle.tw_device.proofs.LedLemmas.{one_call_then}
 use Rattle.tw_device.proofs.reading.finish.Goals as goal
 
 pub returns-clause-calls : goal.returns-clause-calls
 returns-clause-calls g c =
-    let does = g.T.DeviceTerminal.does in
-    let told = c.set_more_at_hand.new.self in
-    let first = one_call g.T.Terminal.state does Other c.terminal.result.now told c.set_more_at_hand.ensures.called in
-    calls_then g.T.Terminal.state does c.args.editor.now.terminal.now told c.finish_line.new.self.terminal.now
-    (subst (λ it. IsLedByCalls does it told) c.terminal.ensures.shows first)
-    (used_leads does g.T.Terminal.follows g.met.T.DeviceTerminal.call_does _ _ c.finish_line.ensures.used)
+    one_call_then g.T.Terminal.state g.T.DeviceTerminal.does Other c.args.editor.now.terminal.now c.terminal.result.now c.set_more_at_hand.new.self c.finish_line.new.self.terminal.now
+    c.terminal.ensures.shows c.set_more_at_hand.ensures.called
+    (used_leads g.T.DeviceTerminal.does g.T.Terminal.follows g.met.T.DeviceTerminal.call_does _ _ c.finish_line.ensures.used)
 
 -- what the editor sees of its terminal is as before
 pub returns-clause-ok : goal.returns-clause-ok

@@ -10,13 +10,20 @@ returns-in-65-default c =
     (same_rule _ _ _ _ c.lead_to.ensures
     (λ t s. led_there t _ _ _ _ (omega (arith, s.row, c.cursor-row.ensures.row, c.told_steps-steps.ensures, c.saturating_sub.ensures)) (s.col ∙ sym c.cursor-row.ensures.col)))
 
+pub returns-in-66-default : goal.returns-in-66-default
+returns-in-66-default c =
+    let rows : c.self.inside.grid.rows ≡ c.args.self.now.grid.rows = ap (λ v. v.grid.rows) c.self.view_is in
+    rw c.in-66-default.is-0
+    (same_rule _ _ _ _ c.lead_to-in-66-default.ensures
+    (λ t s. led_there t _ _ _ _ (omega (arith, s.row, rows, c.rows-last_row.ensures.value, c.cursor-row.ensures.row, c.told_steps-steps.ensures, c.min.ensures)) (s.col ∙ sym c.cursor-row.ensures.col)))
+
 pub returns-in-67-default : goal.returns-in-67-default
 returns-in-67-default c =
     let cols : c.self.inside.grid.cols ≡ c.args.self.now.grid.cols = ap (λ v. v.grid.cols) c.self.view_is in
     rw c.in-67-default.is-0
     (same_rule _ _ _ _ c.lead_to-in-67-default.ensures
     (λ t s. led_there t _ _ _ _ (s.row ∙ sym c.cursor-row.ensures.row)
-    (omega (arith, s.col, cols, c.cols-last_col.ensures.value, c.cursor-row.ensures.col, c.told_steps-steps.ensures, c.min.ensures))))
+    (omega (arith, s.col, cols, c.cols-last_col.ensures.value, c.cursor-row.ensures.col, c.told_steps-steps.ensures, c.min-in-67-default.ensures))))
 
 pub returns-in-68-default : goal.returns-in-68-default
 returns-in-68-default c =
