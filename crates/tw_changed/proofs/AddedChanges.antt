@@ -1,5 +1,5 @@
 -- What is sent for redrawings that follow one another.
-use Rattle.std.proofs.Common.{◌≡◌, ◌+◌, ◌-◌, ℕ, suc, max, Bool, leb, Option, true, cond, List, [], ◌∷◌, ◌++◌, append_assoc, append-nil, ap, subst, ◌∙◌, sym, refl, arith, ◌&&◌, ◌<◌, ◌≤◌}
+use Rattle.std.proofs.Common.{◌≡◌, ◌+◌, ◌-◌, ◌/◌, ◌%◌, ℕ, suc, max, Bool, leb, Option, true, false, cond, List, [], ◌∷◌, ◌++◌, append_assoc, append-nil, ap, subst, ◌∙◌, sym, refl, arith, ◌&&◌, ◌<◌, ◌≤◌}
 use Rattle.std.proofs.lemmas.Bool.{and_parts, leb-true, le-leb, lt-leb}
 use Rattle.unicode_segmentation.specs.Grapheme.{graphemes}
 use Rattle.tw_surface.specs.Characters.{is_plain, is_printable}
@@ -9,7 +9,8 @@ use Rattle.tw_ansi.specs.Encoding.{Sent, sent_byte, terse_batch, sent_plain, sen
 use Rattle.tw_changed.specs.declared.hand.Hand.{Hand}
 use Rattle.tw_changed.specs.declared.redrawer.Redrawer.{Redrawer}
 use Rattle.tw_screens.specs.StyledCells.{StyledCell}
-use Rattle.tw_changed.specs.Redrawings.{Redrawing, at_ease, redraw_then, typed_once, cell_redrawn, run_redrawn, row_redrawn, rows_redrawn, rest_of, rest_emptied, left_of, led_to, fed_once, fed, lowest_reached, sunk_to, lowered, handed_to, rows_drawn_on, drawn_rows, redrawn}
+use Rattle.tw_changed.specs.Redrawings.{Redrawing, at_ease, redraw_then, typed_once, cell_redrawn, run_redrawn, row_redrawn, rows_redrawn, rest_of, rest_emptied, left_of, led_to, fed_once, fed, lowest_reached, sunk_to, lowered, handed_to, rows_drawn_on, drawn_rows, under, hand_index, indexed, typed_at, index_redrawn, indices_redrawn, goes_on, gone_on, redrawn}
+use Rattle.tw_changed.specs.Differences.{end_of}
 use Rattle.tw_changed.specs.Sending.{IsAdded}
 use Rattle.tw_changed.proofs.SentBatches.{both_next, both_bytes}
 use Rattle.tw_changed.proofs.SentChanges.{printable_plain}
@@ -153,14 +154,60 @@ rows_end w left new row rows a old x before all done same =
     let count : rows - row ≡ 0 = omega (arith, done) in
     same_added a old x before all (subst (λ n. SameEnd (rows_redrawn w left new row n a.hand) a x all old before) count same)
 
+-- ---- what goes on at the cursor
+
+-- a cell is typed where the cursor stands before it
+pub index_added : (w index : ℕ) (cells : ℕ → ℕ → StyledCell) (x : StyledCell) (a b : Redrawer) (next : Encoder) (x0 x1 x2 : List ℕ) → x ≡ indexed w cells index
+    → is_printable x.ch ≡ true → IsAdded (under x.attributes a.hand) a x0 b x1 → x2 ≡ x1 ++ (sent_byte b.encoder x.ch).bytes → next ≡ (sent_byte b.encoder x.ch).next
+    → IsAdded (index_redrawn w cells index a.hand) a x0 (record { hand = record b.hand { row = index / w; col = index % w + 1 }; encoder = next }) x2
+index_added w index cells x a b next x0 x1 x2 is printable first bytes known =
+    subst (λ y. IsAdded (redraw_then (under y.attributes a.hand) (typed_at w index y.ch)) a x0 (record { hand = record b.hand { row = index / w; col = index % w + 1 }; encoder = next }) x2) is
+    (added_both (under x.attributes a.hand) (typed_at w index x.ch) a b _ x0 x1 x2 first
+    (let same = typed_is x.ch b.encoder (printable_plain x.ch printable) in record { bytes = bytes ∙ ap (λ v. x1 ++ v) (sym same.0); next = known ∙ sym same.1; hand = refl }))
+
+pub index_step : (w i to : ℕ) (cells : ℕ → ℕ → StyledCell) (a b old : Redrawer) (x y before : List ℕ) (all : Redrawing) → i < to
+    → SameEnd (indices_redrawn w cells i (to - i) a.hand) a x all old before → IsAdded (index_redrawn w cells i a.hand) a x b y
+    → SameEnd (indices_redrawn w cells (i + 1) (to - (i + 1)) b.hand) b y all old before
+index_step w i to cells a b old x y before all less same added =
+    let count : to - i ≡ suc (to - (i + 1)) = omega (arith, less) in
+    let next : suc i ≡ i + 1 = omega arith in
+    subst (λ n. SameEnd (indices_redrawn w cells n (to - (i + 1)) b.hand) b y all old before) next
+    (same_step (index_redrawn w cells i a.hand) (indices_redrawn w cells (suc i) (to - (i + 1))) a b old x y before all
+    (subst (λ n. SameEnd (indices_redrawn w cells i n a.hand) a x all old before) count same) added)
+
+pub index_end : (w i to : ℕ) (cells : ℕ → ℕ → StyledCell) (a old : Redrawer) (x before : List ℕ) (all : Redrawing) → to ≤ i
+    → SameEnd (indices_redrawn w cells i (to - i) a.hand) a x all old before → IsAdded all old before a x
+index_end w i to cells a old x before all done same =
+    same_added a old x before all (subst (λ n. SameEnd (indices_redrawn w cells i n a.hand) a x all old before) (let e : to - i ≡ 0 = omega (arith, done) in e) same)
+
+pub going_added : (w reached rows from end : ℕ) (new : ℕ → ℕ → StyledCell) (to : Hand) (a b c : Redrawer) (x y z : List ℕ) → from ≡ hand_index w a.hand → end ≡ end_of w rows new
+    → IsAdded (indices_redrawn w new from (end - from) a.hand) a x b y → IsAdded (handed_to reached to b.hand) b y c z → IsAdded (gone_on w reached rows new to a.hand) a x c z
+going_added w reached rows from end new to a b c x y z is_from is_end first last =
+    added_both (indices_redrawn w new (hand_index w a.hand) (end_of w rows new - hand_index w a.hand) a.hand) (handed_to reached to) a b c x y z
+    (subst (λ n. IsAdded (indices_redrawn w new n (end_of w rows new - n) a.hand) a x b y) is_from (subst (λ m. IsAdded (indices_redrawn w new from (m - from) a.hand) a x b y) is_end first)) last
+
+-- ---- by which way
+
+module _ (w reached rows : ℕ) (old new : ℕ → ℕ → StyledCell) (to : Hand) (a b : Redrawer) (x y : List ℕ) where
+  abbrev way : Bool → Redrawing
+  way goes = cond goes (gone_on w reached rows new to a.hand) (rows_drawn_on w reached (drawn_rows w reached rows old new to) old new to a.hand)
+
+  pub added_onward : (goes : Bool) → goes ≡ goes_on w reached rows old new to a.hand → goes ≡ true → IsAdded (gone_on w reached rows new to a.hand) a x b y
+      → IsAdded (redrawn w reached rows old new to a.hand) a x b y
+  added_onward goes is does added = subst (λ z. IsAdded (way z) a x b y) (sym does ∙ is) added
+
+  pub added_by_rows : (goes : Bool) → goes ≡ goes_on w reached rows old new to a.hand → goes ≡ false
+      → IsAdded (rows_drawn_on w reached (drawn_rows w reached rows old new to) old new to a.hand) a x b y → IsAdded (redrawn w reached rows old new to a.hand) a x b y
+  added_by_rows goes is not_so added = subst (λ z. IsAdded (way z) a x b y) (sym not_so ∙ is) added
+
 -- ---- all of it
 
-pub redrawn_added : (w v u top reached drawn rows : ℕ) (old new : ℕ → ℕ → StyledCell) (to : Hand) (from : Option ℕ) (a b c d e : Redrawer) (x0 x1 x2 x3 x4 : List ℕ)
+pub rows_added : (w v u top reached drawn rows : ℕ) (old new : ℕ → ℕ → StyledCell) (to : Hand) (from : Option ℕ) (a b c d e : Redrawer) (x0 x1 x2 x3 x4 : List ℕ)
     → v ≡ w → u ≡ w → top ≡ max reached drawn → drawn ≡ drawn_rows w reached rows old new to → from ≡ rest_of w drawn old new
     → IsAdded (lowered reached drawn a.hand) a x0 b x1 → IsAdded (rest_emptied u from b.hand) b x1 c x2
     → IsAdded (rows_redrawn w (left_of v from old) new 0 drawn c.hand) c x2 d x3 → IsAdded (handed_to top to d.hand) d x3 e x4
-    → IsAdded (redrawn w reached rows old new to a.hand) a x0 e x4
-redrawn_added w v u top reached drawn rows old new to from a b c d e x0 x1 x2 x3 x4 is_v is_u is_top is_drawn is_from first second third last =
+    → IsAdded (rows_drawn_on w reached (drawn_rows w reached rows old new to) old new to a.hand) a x0 e x4
+rows_added w v u top reached drawn rows old new to from a b c d e x0 x1 x2 x3 x4 is_v is_u is_top is_drawn is_from first second third last =
     let rest : Option ℕ = rest_of w drawn old new in
     let last_of : Hand → Redrawing = handed_to (max reached drawn) to in
     let third_of : Hand → Redrawing = λ hand. redraw_then (rows_redrawn w (left_of w (rest_of w drawn old new) old) new 0 drawn hand) last_of in

@@ -43,26 +43,33 @@ end_within w rows cells = elim (greatest_cases (is_used w cells) (rows * w)) [
   | inr found ↦ rw found.1 (let high = found.2.high in omega (arith, high))
 ]
 
--- where some rows end within the first of them, those after these show nothing
-pub blank_after : (w rows k : ℕ) (cells : ℕ → ℕ → StyledCell) → end_of w rows cells ≤ k * w → ((i j : ℕ) → rows ≤ i → cells i j ≡ blank_cell)
-    → (i j : ℕ) → k ≤ i → j < w → cells i j ≡ blank_cell
-blank_after w rows k cells ends blank i j low left = elim (cases_lt i rows) [
+-- after the end of some rows no place is used
+pub unused_after : (w rows : ℕ) (cells : ℕ → ℕ → StyledCell) (m : ℕ) → end_of w rows cells ≤ m → m < rows * w → is_used w cells m ≡ false
+unused_after w rows cells m after inside = elim (greatest_cases (is_used w cells) (rows * w)) [
+  | inl none ↦ none.1 m (omega arith) inside
+  | inr found ↦ let end : end_of w rows cells ≡ found.0 + 1 = ap behind_index found.1 in found.2.last m (omega (arith, end, after)) inside
+]
+
+-- so nothing is shown there
+pub blank_at : (w rows : ℕ) (cells : ℕ → ℕ → StyledCell) (i j : ℕ) → end_of w rows cells ≤ i * w + j → ((i j : ℕ) → rows ≤ i → cells i j ≡ blank_cell) → j < w → cells i j ≡ blank_cell
+blank_at w rows cells i j after blank left = elim (cases_lt i rows) [
   | inl inside ↦
-      let after : k * w ≤ i * w = mul-le k w i w low (omega arith) in
       let next : suc i * w ≤ rows * w = mul-le (suc i) w rows w inside (omega arith) in
       let within : i * w + w ≤ rows * w = omega (arith, next) in
-      let unused : is_used w cells (i * w + j) ≡ false = elim (greatest_cases (is_used w cells) (rows * w)) [
-        | inl none ↦ none.1 (i * w + j) (omega arith) (omega (arith, left, within))
-        | inr found ↦
-            let end : end_of w rows cells ≡ found.0 + 1 = ap behind_index found.1 in
-            found.2.last (i * w + j) (omega (arith, end, ends, after)) (omega (arith, left, within))
-      ] in
+      let unused = unused_after w rows cells (i * w + j) after (omega (arith, left, within)) in
       let row : (i * w + j) / w ≡ i = div-mul-add i w j left in
       let col : (i * w + j) % w ≡ j = mod-mul-add i w j left in
       ap (λ n. cells n j) (sym row) ∙ ap (λ n. cells ((i * w + j) / w) n) (sym col)
       ∙ same_where (λ n. cells ((i * w + j) / w) n) (λ n. blank_cell) ((i * w + j) % w) unused
   | inr below ↦ blank i j below
 ]
+
+-- where they end within the first of them, those after these show nothing
+pub blank_after : (w rows k : ℕ) (cells : ℕ → ℕ → StyledCell) → end_of w rows cells ≤ k * w → ((i j : ℕ) → rows ≤ i → cells i j ≡ blank_cell)
+    → (i j : ℕ) → k ≤ i → j < w → cells i j ≡ blank_cell
+blank_after w rows k cells ends blank i j low left =
+    let after : k * w ≤ i * w = mul-le k w i w low (omega arith) in
+    blank_at w rows cells i j (omega (arith, ends, after)) blank left
 
 module _ (h w : ℕ) where
   -- from row s on the picture shows these cells in its columns

@@ -190,7 +190,7 @@ module _ (h w : ℕ) where
   -- ---- characters
 
   -- a printable character is put
-  put_stroke : (a : CellAttributes) (ch : ℕ) → is_printable ch ≡ true → char_stroke styled a ch ≡ Put (record { ch = ch; attributes = a })
+  pub put_stroke : (a : CellAttributes) (ch : ℕ) → is_printable ch ≡ true → char_stroke styled a ch ≡ Put (record { ch = ch; attributes = a })
   put_stroke a ch printable =
       let low : 32 ≤ ch = leb-true 32 ch (and_parts _ _ printable).0 in
       let cell : Stroke StyledCell = Put (record { ch = ch; attributes = a }) in
@@ -198,7 +198,7 @@ module _ (h w : ℕ) where
       ap (λ x. cond x Return feed) (ne_eqb ch 13 (λ e. omega arith)) ∙ ap (λ x. cond x Feed cell) (ne_eqb ch 10 (λ e. omega arith))
 
   -- the picture with a cell at its cursor, which goes on
-  abbrev put_here : StyledCell → PictureOf StyledCell → PictureOf StyledCell
+  abbrev pub put_here : StyledCell → PictureOf StyledCell → PictureOf StyledCell
   put_here x p = record { cell = put_in p.cell p.row p.col x; row = p.row; col = p.col + 1 }
 
   -- a cell is put at the cursor, and the cursor goes on

@@ -3,6 +3,8 @@ pub mod DrawnRows
 pub mod DrawnScreens
 pub mod DrawnEnds
 pub mod DrawnChangedScreens
+pub mod OnwardScreens
+pub mod OnwardChanges
 pub mod SentBatches
 pub mod SentChanges
 pub mod ShownChanges

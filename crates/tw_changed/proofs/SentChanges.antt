@@ -18,7 +18,7 @@ use Rattle.tw_ansi.specs.Encoding.{sent_change}
 use Rattle.tw_ansi.specs.EcmaBatches.{IsReached, IsSendable, AreSendable}
 use Rattle.tw_changed.specs.Differences.{differ_in, first_changed, last_changed}
 use Rattle.tw_changed.specs.declared.hand.Hand.{Hand}
-use Rattle.tw_changed.specs.Redrawings.{Redrawing, at_ease, redraw_then, led_to, under, typed_once, cell_redrawn, run_redrawn, span_redrawn, row_redrawn, rows_redrawn, fed_once, fed, lowest_reached, sunk_to, handed_to, lowered}
+use Rattle.tw_changed.specs.Redrawings.{Redrawing, at_ease, redraw_then, led_to, under, typed_once, cell_redrawn, run_redrawn, span_redrawn, row_redrawn, rows_redrawn, indexed, typed_at, index_redrawn, indices_redrawn, fed_once, fed, lowest_reached, sunk_to, handed_to, lowered}
 use Rattle.tw_changed.specs.ChangedScreens.{AreByBytes, IsInk}
 use Rattle.tw_changed.proofs.FoundColumns.{least_cases, greatest_cases}
 
@@ -73,12 +73,22 @@ sent_move row col hand to from = by_place (eqb hand.row row && eqb hand.col col)
     by_place true = sent_ease hand from
     by_place false = record { easy = (reached hand.row row from to, tt); low = to }
 
-pub sent_under : (to : CellAttributes) (hand : Hand) → AreByBytes to → hand.row ≤ most_rows → IsSent (under to hand)
-sent_under to hand colors low = by_same (attributes.eq hand.attributes to)
+under_easy : (to : CellAttributes) (hand : Hand) → AreByBytes to → AllByRecursion IsEasy (under to hand).changes
+under_easy to hand colors = by_same (attributes.eq hand.attributes to)
   where
-    by_same : (b : Bool) → IsSent (cond b (at_ease hand) (record { changes = AllAttributes to ∷ []; hand = record hand { attributes = to } }))
-    by_same true = sent_ease hand low
-    by_same false = record { easy = (colors, tt); low = low }
+    by_same : (b : Bool) → AllByRecursion IsEasy (cond b (at_ease hand) (record { changes = AllAttributes to ∷ []; hand = record hand { attributes = to } })).changes
+    by_same true = tt
+    by_same false = (colors, tt)
+
+under_row : (to : CellAttributes) (hand : Hand) → (under to hand).hand.row ≡ hand.row
+under_row to hand = by_same (attributes.eq hand.attributes to)
+  where
+    by_same : (b : Bool) → (cond b (at_ease hand) (record { changes = AllAttributes to ∷ []; hand = record hand { attributes = to } })).hand.row ≡ hand.row
+    by_same true = refl
+    by_same false = refl
+
+pub sent_under : (to : CellAttributes) (hand : Hand) → AreByBytes to → hand.row ≤ most_rows → IsSent (under to hand)
+sent_under to hand colors low = record { easy = under_easy to hand colors; low = omega (arith, under_row to hand, low) }
 
 -- a printable character is plain
 pub printable_plain : (b : ℕ) → is_printable b ≡ true → is_plain b ≡ true
@@ -100,6 +110,19 @@ sent_run line c (suc n) hand ink low =
     let a = sent_cell (line c) hand (ink c (omega arith) (omega arith)) low in
     sent_both (cell_redrawn (line c) hand) (run_redrawn line (suc c) n) a
     (sent_run line (suc c) n (cell_redrawn (line c) hand).hand (λ j from to. ink j (omega (arith, from)) (omega (arith, to))) a.low)
+
+-- cells that are typed on, from an index on
+pub indices_easy : (w k n : ℕ) (cells : ℕ → ℕ → StyledCell) (hand : Hand) → ((m : ℕ) → k ≤ m → m < k + n → IsInk (indexed w cells m))
+    → AllByRecursion IsEasy (indices_redrawn w cells k n hand).changes
+indices_easy w k zero cells hand ink = tt
+indices_easy w k (suc n) cells hand ink =
+    let x : StyledCell = indexed w cells k in
+    let here : IsInk x = ink k (omega arith) (omega arith) in
+    let first : Redrawing = under x.attributes hand in
+    let char : Redrawing = typed_at w k x.ch first.hand in
+    both_easy (index_redrawn w cells k hand).changes (indices_redrawn w cells (suc k) n (index_redrawn w cells k hand).hand).changes
+    (both_easy first.changes char.changes (under_easy x.attributes hand here.1) (ap (λ x. x && true) (printable_plain x.ch here.0), tt))
+    (indices_easy w (suc k) n cells (index_redrawn w cells k hand).hand (λ m from to. ink m (omega (arith, from)) (omega (arith, to))))
 
 sent_row : (w r : ℕ) (old new : ℕ → StyledCell) (hand : Hand) → ((j : ℕ) → j < w → IsInk (new j)) → r ≤ most_rows → hand.row ≤ most_rows
     → IsSent (span_redrawn r new (first_changed w old new) (last_changed w old new) hand)

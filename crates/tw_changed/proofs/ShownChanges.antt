@@ -21,14 +21,16 @@ use Rattle.tw_ansi.proofs.EcmaSequences.{received}
 use Rattle.tw_ansi.proofs.EcmaBatches.{keeps_change, terse_next, terse_batch_is_shown}
 use Rattle.tw_changed.specs.Differences.{end_of, blank_cell}
 use Rattle.tw_changed.specs.declared.hand.Hand.{Hand}
-use Rattle.tw_changed.specs.Redrawings.{Redrawing, at_ease, redraw_then, led_to, emptied_here, emptied, rest_of, rest_emptied, left_of, lowered, rows_redrawn, sunk_to, handed_to, rows_drawn_on, drawn_rows, redrawn}
+use Rattle.tw_changed.specs.Redrawings.{Redrawing, at_ease, redraw_then, led_to, emptied_here, emptied, rest_of, rest_emptied, left_of, lowered, rows_redrawn, sunk_to, handed_to, rows_drawn_on, drawn_rows, hand_index, indexed, indices_redrawn, goes_on, gone_on, redrawn}
+use Rattle.tw_changed.specs.Sending.{ArePrintable}
 use Rattle.tw_changed.specs.ChangedScreens.{IsInk, IsInked, IsHandWithin, IsBlankFrom, IsSeenFrom, turned_to, ChangedIsShown}
 use Rattle.tw_changed.proofs.DrawnRows.{Holds, redrawn_on, redrawn_both, gone}
 use Rattle.tw_changed.proofs.DrawnScreens.{rows_drawn}
 use Rattle.tw_changed.proofs.DrawnEnds.{end_within, blank_after, rest, rises}
-use Rattle.tw_changed.proofs.DrawnChangedScreens.{ReachesEnd, becomes, handed}
+use Rattle.tw_changed.proofs.DrawnChangedScreens.{ReachesEnd, Becomes, becomes, handed}
+use Rattle.tw_changed.proofs.OnwardChanges.{GoesOn, going_on, typed_printable, typing_goes, handing, becomes_onward}
 use Rattle.tw_changed.proofs.SentBatches.{both_next, both_bytes}
-use Rattle.tw_changed.proofs.SentChanges.{all_sendable, sent_move, sent_rows, sent_handed, sent_lowered}
+use Rattle.tw_changed.proofs.SentChanges.{all_sendable, sent_move, sent_rows, sent_handed, sent_lowered, indices_easy}
 
 -- at the end the attributes of the new hand are selected
 handed_attributes : (reached : ℕ) (to hand : Hand) → (handed_to reached to hand).hand.attributes ≡ to.attributes
@@ -162,16 +164,51 @@ module _ (h w : ℕ) where
         (sends_both d1.hand d2 third e1 t1 p1 a2.leads.kept
         (sends_both d2.hand d3 last e2 t2 p2 a3.leads.kept s4))
 
-    -- the picture is what it was made into
-    pub changed_is_turned : ((i j : ℕ) → drawn ≤ i → j < w → old i j ≡ blank_cell) → ((i j : ℕ) → drawn ≤ i → j < w → new i j ≡ blank_cell)
-        → ShowsPicture styled h w (terse_batch (rows_drawn_on w reached drawn old new to hand).changes e).next
-        (receive_all styled h w (terse_batch (rows_drawn_on w reached drawn old new to hand).changes e).bytes t) (turned_to s (s - (s + rows - h)) new to p)
-    changed_is_turned old_blank new_blank =
-        let x = changed_sends in
-        let d : Redrawing = rows_drawn_on w reached drawn old new to hand in
+  -- ---- what goes on at the cursor
+
+  module _ (s reached rows : ℕ) (old new : ℕ → ℕ → StyledCell) (hand to : Hand) (e : Encoder) (t : EcmaScreen StyledCell) (p : PictureOf StyledCell)
+      (some : 0 < w) (small : w < 2 ^ 64) (most : h ≤ most_rows) (room : rows ≤ h) (low : s + reached ≤ h) (blank : IsBlankFrom rows old)
+      (inked : IsInked w rows new) (reach : IsHandWithin w rows to) (seen : IsSeenFrom w s old hand p)
+      (same : hand.attributes ≡ e.attributes) (a : ShowsPicture styled h w e t p) (goes : GoesOn w reached rows old new to hand) where
+    holding : Holds s hand p
+    holding = record { row = seen.row; col = seen.col }
+
+    edged : hand.col ≤ w
+    edged = omega (arith, a.edge, seen.col)
+
+    ink_there : (i : ℕ) → i < rows → ArePrintable w (new i)
+    ink_there i less j left = (inked.ink i j less left).0
+
+    pub onward_becomes : Becomes h w s (s - (s + rows - h)) new to hand (gone_on w reached rows new to hand) p
+    onward_becomes = becomes_onward h w s reached rows old new to hand p some room low a.within.row edged reach.row reach.col blank inked.blank ink_there seen.cell holding goes
+
+    pub onward_sends : Sends hand (gone_on w reached rows new to hand) e t p
+    onward_sends =
+        let k : ℕ = hand_index w hand in
+        let n : ℕ = end_of w rows new - k in
+        let d : Redrawing = indices_redrawn w new (hand_index w hand) (end_of w rows new - hand_index w hand) hand in
+        let g = typing_goes h w s reached rows old new to hand p some room low a.within.row edged reach.row reach.col blank inked.blank ink_there seen.cell holding goes in
+        let ink : (m : ℕ) → k ≤ m → m < k + n → IsInk (indexed w new m) =
+        λ m from less.
+            let place = typed_printable h w s reached rows old new to hand p some room low a.within.row edged reach.row reach.col blank inked.blank ink_there seen.cell holding goes m from less in
+            inked.ink (m / w) (m % w) place.0 place.1 in
+        let s1 = sends hand d e t p some small (all_sendable h w d.changes e p (indices_easy w k n new hand ink)) g.leads.stays same g.leads.kept a in
+        let held : d.hand.row ≤ most_rows = omega (arith, g.leads.holds.row, s1.shown.within.row, most) in
+        let last : Redrawing = handed_to reached to d.hand in
+        let b = handing h w s reached rows old new to hand p some room low a.within.row edged reach.row reach.col blank inked.blank ink_there seen.cell holding goes in
+        let easy = (sent_handed reached to d.hand reach.colors (omega (arith, reach.row, room, most)) held).easy in
+        sends_both hand d (handed_to reached to) e t p g.leads.kept
+        (sends d.hand last (terse_batch d.changes e).next (receive_all styled h w (terse_batch d.changes e).bytes t) (redrawn_on h w hand d p) some small
+        (all_sendable h w last.changes (terse_batch d.changes e).next (redrawn_on h w hand d p) easy) b.leads.stays s1.attributes b.leads.kept s1.shown)
+
+  -- ---- the picture is what it was made into
+
+  module _ (s rows : ℕ) (new : ℕ → ℕ → StyledCell) (hand to : Hand) (d : Redrawing) (e : Encoder) (t : EcmaScreen StyledCell) (p : PictureOf StyledCell)
+      (room : rows ≤ h) (inked : IsInked w rows new) (reach : IsHandWithin w rows to)
+      (b : Becomes h w s (s - (s + rows - h)) new to hand d p) (x : Sends hand d e t p) where
+    becomes_shown : ShowsPicture styled h w (terse_batch d.changes e).next (receive_all styled h w (terse_batch d.changes e).bytes t) (turned_to s (s - (s + rows - h)) new to p)
+    becomes_shown =
         let f : ℕ = s - (s + rows - h) in
-        let b = becomes h w s reached drawn rows old new to hand p some fewer room low a.within.row reach.row ends reach.col old_blank new_blank
-        (λ i less j left. (inked.ink i j (omega (arith, less, fewer)) left).0) seen.cell (record { row = seen.row; col = seen.col }) in
         let q : PictureOf StyledCell = redrawn_on h w hand d p in
         let goal : PictureOf StyledCell = turned_to s (s - (s + rows - h)) new to p in
         let same_cell : (i j : ℕ) → i < h → j < w → q.cell i j ≡ goal.cell i j =
@@ -229,13 +266,34 @@ enough h w reached rows old new to is_old is_new =
       new_blank = λ i j low left. is_new i j low;
     }
 
+-- a redrawing that leaves the attributes of the new hand, and what is shown once it is sent
+module _ (h w s reached rows : ℕ) (old new : ℕ → ℕ → StyledCell) (hand to : Hand) (e : Encoder) (t : EcmaScreen StyledCell) (p : PictureOf StyledCell)
+    (some : 0 < w) (small : w < 2 ^ 64) (most : h ≤ most_rows) (room : rows ≤ h) (low : s + reached ≤ h)
+    (blank : IsBlankFrom rows old) (inked : IsInked w rows new) (reach : IsHandWithin w rows to) (seen : IsSeenFrom w s old hand p)
+    (same : hand.attributes ≡ e.attributes) (color : IsColor e.attributes.background) (a : ShowsPicture styled h w e t p) where
+  abbrev IsShownBy : Redrawing → Type 0
+  IsShownBy d =
+      ShowsPicture styled h w (terse_batch d.changes e).next (receive_all styled h w (terse_batch d.changes e).bytes t) (turned_to s (s - (s + rows - h)) new to p)
+      × ((terse_batch d.changes e).next.attributes ≡ to.attributes)
+
+  way_is_shown : (b : Bool) → goes_on w reached rows old new to hand ≡ b
+      → IsShownBy (cond b (gone_on w reached rows new to hand) (rows_drawn_on w reached (drawn_rows w reached rows old new to) old new to hand))
+  way_is_shown true is =
+      let goes = going_on w reached rows old new to hand is in
+      let x = onward_sends h w s reached rows old new hand to e t p some small most room low blank inked reach seen same a goes in
+      let b = onward_becomes h w s reached rows old new hand to e t p some small most room low blank inked reach seen same a goes in
+      (becomes_shown h w s rows new hand to (gone_on w reached rows new to hand) e t p room inked reach b x, sym x.attributes ∙ handed_attributes _ to _)
+  way_is_shown false is =
+      let k = enough h w reached rows old new to blank inked.blank in
+      let drawn : ℕ = drawn_rows w reached rows old new to in
+      let x = changed_sends h w s reached (drawn_rows w reached rows old new to) rows old new hand to e t p some small most room low k.fewer k.ends inked reach seen same color a in
+      let b = becomes h w s reached (drawn_rows w reached rows old new to) rows old new to hand p some k.fewer room low a.within.row reach.row k.ends reach.col k.old_blank k.new_blank
+      (λ i less j left. let fewer = k.fewer in (inked.ink i j (omega (arith, less, fewer)) left).0) seen.cell (record { row = seen.row; col = seen.col }) in
+      (becomes_shown h w s rows new hand to (rows_drawn_on w reached drawn old new to hand) e t p room inked reach b x, sym x.attributes ∙ handed_attributes _ to _)
+
 pub changed_is_shown : ChangedIsShown
 changed_is_shown h w s reached rows old new hand to e t p some small most room low blank inked reach seen same color a =
-    let k = enough h w reached rows old new to blank inked.blank in
-    let drawn : ℕ = drawn_rows w reached rows old new to in
-    let x = changed_sends h w s reached drawn rows old new hand to e t p some small most room low k.fewer k.ends inked reach seen same color a in
-    let first_row : s - (s + rows - h) ≡ min s (h - rows) = omega (arith, room) in (
-      subst (λ n. ShowsPicture styled h w (terse_batch (redrawn w reached rows old new to hand).changes e).next (receive_all styled h w (terse_batch (redrawn w reached rows old new to hand).changes e).bytes t) (turned_to s n new to p)) first_row
-          (changed_is_turned h w s reached drawn rows old new hand to e t p some small most room low k.fewer k.ends inked reach seen same color a k.old_blank k.new_blank),
-      sym x.attributes ∙ handed_attributes _ to _,
-    )
+    let d : Redrawing = redrawn w reached rows old new to hand in
+    let both = way_is_shown h w s reached rows old new hand to e t p some small most room low blank inked reach seen same color a (goes_on w reached rows old new to hand) refl in
+    let first_row : s - (s + rows - h) ≡ min s (h - rows) = omega (arith, room) in
+    (subst (λ n. ShowsPicture styled h w (terse_batch d.changes e).next (receive_all styled h w (terse_batch d.changes e).bytes t) (turned_to s n new to p)) first_row both.0, both.1)

@@ -1,18 +1,24 @@
 -- What is typed at the cursor is sent alone.
-use Rattle.std.proofs.Common.{◌≡◌, ◌<◌, ◌≤◌, ◌+◌, ◌-◌, ◌&&◌, ℕ, zero, suc, Bool, true, eqb, leb, max, cond, Some, List, [], ◌∷◌, ◌++◌, append-nil, map, ap, ◌∙◌, sym, refl, inl, inr, arith}
+use Rattle.std.proofs.Common.{◌≡◌, ◌<◌, ◌≤◌, ◌+◌, ◌-◌, ◌*◌, ◌/◌, ◌%◌, ◌&&◌, not, ℕ, zero, suc, Bool, true, false, eqb, leb, max, cond, Some, List, [], ◌∷◌, ◌++◌, append-nil, map, ap, ◌∙◌, sym, refl, inl, inr, arith}
+use Rattle.std.proofs.Math.Nat.{mod-lt, div-lt_iff_lt-mul}
+use Rattle.std.proofs.lemmas.Nat.{mul-le, div-add-mod'}
 use Rattle.std.proofs.lemmas.Bool.{cases_Bool, cases_eq, and_parts, ne_eqb, le-leb, leb-true}
 use Rattle.unicode_segmentation.specs.Grapheme.{graphemes}
 use Rattle.tw_surface.specs.Characters.{is_printable}
 use Rattle.tw_surface.specs.ChangeView.{Batch, Text}
+use Rattle.tw_extremes.specs.Extremes.{NonePasses}
 use Rattle.tw_extremes.proofs.ExtremesLemmas.{least_from-is, greatest_below-is}
 use Rattle.tw_screens.specs.StyledCells.{StyledCell}
 use Rattle.tw_ansi.specs.declared.encode.Encoder.{Encoder}
 use Rattle.tw_ansi.specs.Encoding.{Sent, at_column, sent_byte, sent_return, sent_feed, sent_columns, sent_plain, sent_clusters, terse_change, terse_batch}
 use Rattle.tw_changed.specs.declared.hand.Hand.{Hand}
-use Rattle.tw_changed.specs.Differences.{differ_in, first_changed, last_changed}
-use Rattle.tw_changed.specs.Redrawings.{Redrawing, redraw_then, typed_once, run_redrawn, span_redrawn, row_redrawn, rows_redrawn, handed_to, redrawn}
+use Rattle.tw_changed.specs.Differences.{is_same_cell, differ_in, first_changed, last_changed, blank_cell, is_used, end_of}
+use Rattle.tw_changed.specs.Redrawings.{Redrawing, redraw_then, typed_once, run_redrawn, span_redrawn, row_redrawn, rows_redrawn, handed_to, rows_drawn_on, drawn_rows, hand_index, indexed, typed_at, indices_redrawn, goes_on, gone_on, under, redrawn}
 use Rattle.tw_changed.specs.Shortness.{characters_from, IsTypedAt, TypedIsSentAlone}
-use Rattle.tw_changed.proofs.FoundColumns.{same_where}
+use Rattle.tw_changed.proofs.FoundColumns.{same_where, ends_behind}
+use Rattle.tw_changed.proofs.DrawnEnds.{unused_after}
+use Rattle.tw_changed.proofs.OnwardScreens.{inside_row}
+use Rattle.tw_changed.proofs.OnwardChanges.{going_on}
 use Rattle.tw_changed.proofs.SentChanges.{printable_plain}
 use Rattle.tw_changed.proofs.ShortChanges.{no_difference, stays_there, stays_under, stays_handed, row_stays, rows_stay, sent_rows_alone}
 
@@ -65,6 +71,29 @@ run_typed line c (suc n) hand same =
     (run_typed line (suc c) n (moved_on 1 hand) (λ j from to. same j (omega (arith, from)) (omega (arith, to))))
     ∙ ap (λ k. let y : Redrawing = record { changes = texts_of (characters_from line c (suc n)); hand = record hand { col = k } } in y) (omega arith)
 
+-- so it is where they are typed on, index by index
+indices_typed : (w : ℕ) (cells : ℕ → ℕ → StyledCell) (r c n : ℕ) (hand : Hand) → hand.row ≡ r → hand.col ≡ c → c + n ≤ w
+    → ((j : ℕ) → c ≤ j → j < c + n → (cells r j).attributes ≡ hand.attributes)
+    → indices_redrawn w cells (r * w + c) n hand ≡ record { changes = texts_of (characters_from (cells r) c n); hand = moved_on n hand }
+indices_typed w cells r c zero hand row col room same = ap (λ k. let x : Redrawing = record { changes = []; hand = record hand { col = k } } in x) (omega arith)
+indices_typed w cells r c (suc n) hand row col room same =
+    let k : ℕ = r * w + c in
+    let place = inside_row w (r * w + c) r c refl (omega (arith, room)) in
+    let ch : ℕ = (cells r c).ch in
+    let more : Hand → Redrawing = indices_redrawn w cells (suc (r * w + c)) n in
+    let x_is : indexed w cells k ≡ cells r c = ap (λ i. cells i (k % w)) place.0 ∙ ap (cells r) place.1 in
+    let next : suc (r * w + c) ≡ r * w + (c + 1) = omega arith in
+    ap (λ (x : StyledCell). redraw_then (redraw_then (under x.attributes hand) (typed_at w k x.ch)) more) x_is
+    ∙ ap (λ d. redraw_then (redraw_then d (typed_at w k ch)) more) (stays_under (cells r c).attributes hand (sym (same c (omega arith) (omega arith))))
+    ∙ ap (λ i. let y : Redrawing = record { changes = Text (ch ∷ []) ∷ []; hand = record hand { row = i; col = k % w + 1 } } in redraw_then y more) (place.0 ∙ sym row)
+    ∙ ap (λ j. let y : Redrawing = record { changes = Text (ch ∷ []) ∷ []; hand = record hand { col = j + 1 } } in redraw_then y more) (place.1 ∙ sym col)
+    ∙ ap (λ m. let y : Redrawing = record { changes = Text (ch ∷ []) ∷ []; hand = moved_on 1 hand } in redraw_then y (indices_redrawn w cells m n)) next
+    ∙ ap (λ (d : Redrawing). let y : Redrawing = record { changes = Text (ch ∷ []) ∷ d.changes; hand = d.hand } in y)
+    (indices_typed w cells r (c + 1) n (moved_on 1 hand) row (ap (λ j. j + 1) col) (omega (arith, room)) (λ j from to. same j (omega (arith, from)) (omega (arith, to))))
+    ∙ ap (λ m. let y : Redrawing = record { changes = Text (ch ∷ []) ∷ texts_of (characters_from (cells r) m n); hand = moved_on n (moved_on 1 hand) } in y) (let e : c + 1 ≡ suc c = omega arith in e)
+    ∙ ap (λ m. let y : Redrawing = record { changes = texts_of (characters_from (cells r) c (suc n)); hand = record hand { col = m } } in y)
+    (let e : hand.col + 1 + n ≡ hand.col + suc n = omega arith in e)
+
 -- ---- the row of the cursor
 
 differs_where : (old new : ℕ → StyledCell) (j : ℕ) → (old j ≡ new j → ⊥) → differ_in old new j ≡ true
@@ -104,14 +133,77 @@ module _ (w rows n : ℕ) (old new : ℕ → ℕ → StyledCell) (hand to : Hand
         ∙ rows_typed (suc r) count (omega (arith, from, other)) (omega (arith, less)) (omega (arith, within))
   ]
 
-  typed_changes : (reached : ℕ) → rows ≤ reached → (redrawn w reached rows old new to hand).changes ≡ texts_of (characters_from (new hand.row) hand.col n)
-  typed_changes reached low =
+  -- by rows
+  rows_changes : (reached : ℕ) → rows ≤ reached → (rows_drawn_on w reached (drawn_rows w reached rows old new to) old new to hand).changes ≡ texts_of (characters_from (new hand.row) hand.col n)
+  rows_changes reached low =
       let last : Hand → Redrawing = handed_to (max reached rows) to in
       let inside : hand.row < rows = t.row in
       ap (λ (d : Redrawing). d.changes) (sent_rows_alone w reached rows old new to hand low t.onward)
       ∙ ap (λ (d : Redrawing). (redraw_then d last).changes) (rows_typed 0 rows (omega arith) (omega (arith, inside)) (omega arith) ∙ run_typed (new hand.row) hand.col n hand t.typed)
       ∙ ap (λ changes. texts_of (characters_from (new hand.row) hand.col n) ++ changes) (stays_handed (max reached rows) to (moved_on n hand) (sym t.behind))
       ∙ append-nil (texts_of (characters_from (new hand.row) hand.col n))
+
+  -- ---- what goes on at the cursor
+
+  module _ (ends : end_of w rows old ≤ hand_index w hand) where
+    -- the place of a character that is typed
+    place_within : (j : ℕ) → j < w → hand.row * w + j < rows * w
+    place_within j left =
+        let row : suc hand.row * w ≤ rows * w = mul-le (suc hand.row) w rows w t.row (omega arith) in
+        omega (arith, row, left)
+
+    last_used : is_used w new (hand_index w hand + n - 1) ≡ true
+    last_used =
+        let some : 0 < n = t.some in
+        let room : hand.col + n ≤ w = t.col in
+        let m : ℕ = hand_index w hand + n - 1 in
+        let j : ℕ = hand.col + n - 1 in
+        let is : hand.row * w + j ≡ m = omega (arith, some) in
+        let place = inside_row w (hand_index w hand + n - 1) hand.row (hand.col + n - 1) is (omega (arith, some, room)) in
+        let within = place_within (hand.col + n - 1) (omega (arith, some, room)) in
+        let blank : old (m / w) (m % w) ≡ blank_cell =
+        same_where (λ c. old (m / w) c) (λ c. blank_cell) (m % w) (unused_after w rows old (hand_index w hand + n - 1) (omega (arith, ends, some)) (omega (arith, is, within))) in
+        let here : (f : ℕ → ℕ → StyledCell) → f (m / w) (m % w) ≡ f hand.row j = λ f. ap (λ r. f r (m % w)) place.0 ∙ ap (f hand.row) place.1 in
+        differs_where (λ c. new (m / w) c) (λ c. blank_cell) (m % w)
+        (λ e. t.last (sym (here old) ∙ blank ∙ sym e ∙ here new))
+
+    none_used : NonePasses (is_used w new) (hand_index w hand + n) (rows * w)
+    none_used m low high =
+        let some : 0 < n = t.some in
+        let fewer : m / w < rows = (div-lt_iff_lt-mul (wide m high)).1 high in
+        let left : m % w < w = mod-lt m (wide m high) in
+        let whole : m / w * w + m % w ≡ m = div-add-mod' m w in
+        ap (λ x. not (is_same_cell x blank_cell)) (sym (t.others (m / w) (m % w) fewer left (λ row from to. absurd (after m low whole row to))))
+        ∙ unused_after w rows old m (omega (arith, ends, low)) high
+      where
+        wide : (m : ℕ) → m < rows * w → 0 < w
+        wide m high = let room : hand.col + n ≤ w = t.col in let some : 0 < n = t.some in omega (arith, room, some)
+
+        after : (m : ℕ) → hand_index w hand + n ≤ m → m / w * w + m % w ≡ m → m / w ≡ hand.row → m % w < hand.col + n → ⊥
+        after m low whole row to = let same : m / w * w ≡ hand.row * w = ap (λ r. r * w) row in omega (arith, low, whole, same, to)
+
+    typed_count : end_of w rows new - hand_index w hand ≡ n
+    typed_count =
+        let some : 0 < n = t.some in
+        let room : hand.col + n ≤ w = t.col in
+        let last = place_within (hand.col + n - 1) (omega (arith, some, room)) in
+        let end = ends_behind w rows (hand_index w hand + n) new (omega (arith, some)) (omega (arith, last, some)) last_used none_used in
+        omega (arith, end)
+
+  typed_changes : (reached : ℕ) → rows ≤ reached → (redrawn w reached rows old new to hand).changes ≡ texts_of (characters_from (new hand.row) hand.col n)
+  typed_changes reached low = by_way (goes_on w reached rows old new to hand) refl
+    where
+      by_way : (b : Bool) → goes_on w reached rows old new to hand ≡ b
+          → (cond b (gone_on w reached rows new to hand) (rows_drawn_on w reached (drawn_rows w reached rows old new to) old new to hand)).changes
+          ≡ texts_of (characters_from (new hand.row) hand.col n)
+      by_way false is = rows_changes reached low
+      by_way true is =
+          let goes = going_on w reached rows old new to hand is in
+          let last : Hand → Redrawing = handed_to reached to in
+          ap (λ count. (redraw_then (indices_redrawn w new (hand_index w hand) count hand) last).changes) (typed_count goes.ends)
+          ∙ ap (λ (d : Redrawing). (redraw_then d last).changes) (indices_typed w new hand.row hand.col n hand refl refl t.col t.typed)
+          ∙ ap (λ changes. texts_of (characters_from (new hand.row) hand.col n) ++ changes) (stays_handed reached to (moved_on n hand) (sym t.behind))
+          ∙ append-nil (texts_of (characters_from (new hand.row) hand.col n))
 
 pub typed_is_sent_alone : TypedIsSentAlone
 typed_is_sent_alone w reached rows n old new hand to e low t cols at =

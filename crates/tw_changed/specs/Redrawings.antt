@@ -1,5 +1,5 @@
 -- The changes that make one picture of another.
-use Rattle.std.specs.Prelude.{ℕ, zero, suc, pos, ◌+◌, ◌-◌, ◌*◌, ◌/◌, ◌%◌, ◌-ℤ◌, ◌&&◌, eqb, leb, ltb, max, if◌then◌else◌, Option, Some, None, [], ◌∷◌, ◌++◌}
+use Rattle.std.specs.Prelude.{ℕ, zero, suc, pos, ◌+◌, ◌-◌, ◌*◌, ◌/◌, ◌%◌, ◌-ℤ◌, ◌&&◌, Bool, eqb, leb, ltb, max, is_none, if◌then◌else◌, Option, Some, None, [], ◌∷◌, ◌++◌}
 use Rattle.tw_surface.specs.declared.cell.CellAttributes.{CellAttributes}
 use Rattle.tw_surface.specs.declared.change.Position.TheVariants.{Absolute, Relative}
 use Rattle.tw_surface.specs.contracts.cell.CellAttributesPartialEq.TheImpl.{ghosts as attributes}
@@ -10,7 +10,8 @@ use Rattle.tw_surface.specs.Defaults.{default_color}
 use Rattle.tw_strokes.specs.Strokes.{cleared_in}
 use Rattle.tw_screens.specs.StyledCells.{StyledCell}
 use Rattle.tw_changed.specs.declared.hand.Hand.{Hand}
-use Rattle.tw_changed.specs.Differences.{first_changed, last_changed, blank_cell, end_of}
+use Rattle.tw_extremes.specs.Extremes.{least_from, greatest_below}
+use Rattle.tw_changed.specs.Differences.{is_same_cell, differ_in, first_changed, last_changed, blank_cell, end_of}
 
 -- changes, and where they leave the hand
 pub record Redrawing : Type 0 where
@@ -125,6 +126,47 @@ abbrev pub drawn_rows : ℕ → ℕ → ℕ → (ℕ → ℕ → StyledCell) →
 drawn_rows w reached rows old new to =
     if ltb reached rows && eqb (to.row + 1) rows && leb (end_of w rows old) (reached * w) && leb (end_of w rows new) (reached * w) then reached else rows
 
+-- ---- what goes on at the cursor
+
+-- the index of a hand, counted along the rows
+abbrev pub hand_index : ℕ → Hand → ℕ
+hand_index w hand = hand.row * w + hand.col
+
+-- the cell of an index
+abbrev pub indexed : ℕ → (ℕ → ℕ → StyledCell) → ℕ → StyledCell
+indexed w cells k = cells (k / w) (k % w)
+
+-- a character is typed in the cell of an index: from after the last column a terminal goes to the next row by itself
+abbrev pub typed_at : ℕ → ℕ → ℕ → Hand → Redrawing
+typed_at w k ch hand = record { changes = Text (ch ∷ []) ∷ []; hand = record hand { row = k / w; col = k % w + 1 } }
+
+-- a cell that the cursor stands before
+abbrev pub index_redrawn : ℕ → (ℕ → ℕ → StyledCell) → ℕ → Hand → Redrawing
+index_redrawn w cells k hand = redraw_then (under (indexed w cells k).attributes hand) (typed_at w k (indexed w cells k).ch)
+
+-- so many cells from an index on, through the rows
+abbrev pub indices_redrawn : ℕ → (ℕ → ℕ → StyledCell) → ℕ → ℕ → Hand → Redrawing
+indices_redrawn w cells k zero hand = at_ease hand
+indices_redrawn w cells k (suc count) hand = redraw_then (index_redrawn w cells k hand) (indices_redrawn w cells (suc k) count)
+
+-- a row ends in a blank
+abbrev pub ends_blank : ℕ → (ℕ → ℕ → StyledCell) → ℕ → Bool
+ends_blank w cells r = is_same_cell (cells r (w - 1)) blank_cell
+
+-- All that differs comes where the cursor stands or after it, where the old screen shows nothing, in rows that are full but for the last one; and below these
+-- no row is new but that of the new cursor.
+abbrev pub goes_on : ℕ → ℕ → ℕ → (ℕ → ℕ → StyledCell) → (ℕ → ℕ → StyledCell) → Hand → Hand → Bool
+goes_on w reached rows old new to hand =
+    leb rows (max reached (to.row + 1)) && leb (end_of w rows old) (hand_index w hand)
+    && is_none (greatest_below (differ_in (indexed w old) (indexed w new)) (hand_index w hand))
+    && is_none (least_from (ends_blank w new) hand.row (end_of w rows new / w - hand.row))
+
+-- then the new cells are typed from there to their end, and the cursor and the attributes are led to
+abbrev pub gone_on : ℕ → ℕ → ℕ → (ℕ → ℕ → StyledCell) → Hand → Hand → Redrawing
+gone_on w reached rows new to hand = redraw_then (indices_redrawn w new (hand_index w hand) (end_of w rows new - hand_index w hand) hand) (handed_to reached to)
+
 -- all that makes one screen of another
 abbrev pub redrawn : ℕ → ℕ → ℕ → (ℕ → ℕ → StyledCell) → (ℕ → ℕ → StyledCell) → Hand → Hand → Redrawing
-redrawn w reached rows old new to hand = rows_drawn_on w reached (drawn_rows w reached rows old new to) old new to hand
+redrawn w reached rows old new to hand =
+    if goes_on w reached rows old new to hand then gone_on w reached rows new to hand
+    else rows_drawn_on w reached (drawn_rows w reached rows old new to) old new to hand

@@ -1,10 +1,11 @@
 //! Where two screens differ.
 
-ghost use Rattle.std.specs.Prelude.{◌≡◌, ℕ, ◌<◌, ◌≤◌, ◌*◌, IfSome, true, false};
+ghost use Rattle.std.specs.Prelude.{◌≡◌, ℕ, ◌<◌, ◌≤◌, ◌-◌, ◌*◌, IfSome, is_none, true, false};
 ghost use Rattle.styled_screen.specs.StyledScreens.{styled_cell};
 ghost use Rattle.tw_changed.specs.ChangedScreens.{AreByBytes, AreAllByBytes};
 ghost use Rattle.tw_changed.specs.Differences.{differ_in, first_changed, last_changed, is_used, end_of};
-ghost use Rattle.tw_changed.specs.Redrawings.{drawn_rows, left_of, rest_of};
+ghost use Rattle.tw_extremes.specs.Extremes.{greatest_below, least_from};
+ghost use Rattle.tw_changed.specs.Redrawings.{drawn_rows, ends_blank, goes_on, indexed, left_of, rest_of};
 ghost use Rattle.tw_changed.specs.Sending.{ArePrintable, IsPrintable, screen_cells};
 
 use crate::hand::Hand;
@@ -129,6 +130,74 @@ pub fn rest_of(old: &StyledScreen, new: &StyledScreen, rows: usize) -> Option<us
         return Some(end);
     }
     None
+}
+
+/// Whether two screens differ in the cell of an index, counted along the rows.
+fn differ_by_index(old: &StyledScreen, new: &StyledScreen, index: usize) -> bool
+    requires { old.now.width ≡ new.now.width }
+    ensures { result ≡ differ_in (indexed new.now.width (screen_cells old.now)) (indexed new.now.width (screen_cells new.now)) index }
+{
+    let width = new.width();
+    differ_at(old, None, new, index / width, index % width)
+}
+
+/// Whether two screens show the same before an index, counted along the rows.
+fn is_same_before(old: &StyledScreen, new: &StyledScreen, end: usize) -> bool
+    requires { old.now.width ≡ new.now.width }
+    ensures { result ≡ is_none (greatest_below (differ_in (indexed new.now.width (screen_cells old.now)) (indexed new.now.width (screen_cells new.now))) end) }
+{
+    let mut index = end;
+    while index > 0 {
+        index -= 1;
+        if differ_by_index(old, new, index) {
+            return false;
+        }
+    }
+    true
+}
+
+/// Whether a row ends in a blank.
+fn ends_blank(screen: &StyledScreen, row: usize) -> bool
+    ensures { result ≡ ends_blank screen.now.width (screen_cells screen.now) row }
+{
+    cell_at(screen, row, screen.width() - 1) == ScreenCell::blank(ColorAttribute::Default)
+}
+
+/// Whether none of the rows from one to before another ends in a blank.
+fn are_full(screen: &StyledScreen, from: usize, to: usize) -> bool
+    ensures { result ≡ is_none (least_from (ends_blank screen.now.width (screen_cells screen.now)) from (to - from)) }
+{
+    for row in from..to {
+        if ends_blank(screen, row) {
+            return false;
+        }
+    }
+    true
+}
+
+/// Whether all that differs comes at the cursor or after it, where the old screen shows nothing, in rows that are full
+/// but for the last one, below which no row is new but the cursor's.
+pub fn goes_on(
+    old: &StyledScreen,
+    reached: usize,
+    new: &StyledScreen,
+    rows: usize,
+    hand: Hand,
+    to: Hand,
+) -> bool
+    requires width { old.now.width ≡ new.now.width }
+    requires rows { rows ≤ 65535 }
+    requires to { to.row ≤ 4294967295 }
+    requires row { hand.row ≤ 4294967295 }
+    requires col { hand.col ≤ new.now.width }
+    ensures { result ≡ goes_on new.now.width reached rows (screen_cells old.now) (screen_cells new.now) to hand }
+{
+    let width = new.width();
+    let at = hand.row * width + hand.col;
+    rows <= reached.max(to.row + 1)
+        && end_of(old, rows) <= at
+        && is_same_before(old, new, at)
+        && are_full(new, hand.row, end_of(new, rows) / width)
 }
 
 /// How many rows are drawn: those that were reached before, where the others show nothing in either screen and the

@@ -1,13 +1,15 @@
 //! What is sent for the difference of two screens.
 
-ghost use Rattle.std.specs.Prelude.{◌≡◌, ℕ, true, ◌<◌, ◌≤◌, ◌+◌, ◌-◌, ◌++◌, OnOk, OnErr, IfOk, IfSome, Option, string_bytes};
+ghost use Rattle.std.specs.Prelude.{◌≡◌, ℕ, true, ◌<◌, ◌≤◌, ◌+◌, ◌-◌, ◌*◌, ◌/◌, ◌++◌, OnOk, OnErr, IfOk, IfSome, Option, string_bytes};
 ghost use Rattle.tw_surface.specs.Characters.{is_printable};
 ghost use Rattle.styled_screen.specs.StyledScreens.{styled_cell};
 ghost use Rattle.tw_ansi.specs.Encoding.{ExtendsBytes, terse_batch};
-ghost use Rattle.tw_changed.specs.Redrawings.{led_to, under, cell_redrawn, run_redrawn, row_redrawn, rows_redrawn, handed_to, emptied_here, rest_emptied, rest_of, left_of, fed, sunk_to, lowered, drawn_rows, redrawn};
+ghost use Rattle.tw_changed.specs.Redrawings.{led_to, under, cell_redrawn, run_redrawn, row_redrawn, rows_redrawn, handed_to, emptied_here, rest_emptied, rest_of, left_of, fed, sunk_to, lowered, rows_drawn_on, drawn_rows, indexed, index_redrawn, indices_redrawn, gone_on, redrawn};
 ghost use Rattle.tw_changed.specs.Sending.{IsAdded, IsPrintable, screen_cells, changes_between, hand_of};
 
-use crate::difference::{cell_at, drawn_rows, first_changed, last_changed, rest_of};
+use crate::difference::{
+    cell_at, drawn_rows, end_of, first_changed, goes_on, last_changed, rest_of,
+};
 use crate::hand::Hand;
 use std::alloc::AllocError;
 use styled_screen::{ScreenCell, StyledScreen};
@@ -245,9 +247,102 @@ impl Redrawer {
         self.sink_to(reached, rows - 1, 0, out)
     }
 
-    /// Makes one screen of another: its last row comes into sight, what stands after the end of the new one is
-    /// emptied, and the rows that differ are typed. Where the new rows show nothing and the cursor ends in the last of
-    /// them, it goes down there at the end alone.
+    /// Types the cell of an index, counted along the rows, which the cursor stands before: after the last column the
+    /// terminal goes to the next row by itself.
+    fn write_index(
+        &mut self,
+        screen: &StyledScreen,
+        index: usize,
+        out: &mut String,
+    ) -> Result<(), AllocError>
+        requires printable { is_printable (indexed screen.now.width (screen_cells screen.now) index).ch ≡ true }
+        ensures ok { OnOk result (IsAdded (index_redrawn screen.now.width (screen_cells screen.now) index self.old.hand) self.old (string_bytes out.old) self.new (string_bytes out.new)) }
+        ensures row { OnOk result (self.new.hand.row ≡ index / screen.now.width) }
+        ensures err { OnErr result (ExtendsBytes (string_bytes out.old) (string_bytes out.new)) }
+    {
+        let width = screen.width();
+        let cell = cell_at(screen, index / width, index % width);
+        self.select(cell.attributes, out)?;
+        self.encoder.encode_byte(cell.character as u8, out)?;
+        self.hand.row = index / width;
+        self.hand.col = index % width + 1;
+        Ok(())
+    }
+
+    /// Types the cells of a screen's rows from one index to before another, the cursor standing before the first of
+    /// them.
+    fn write_on(
+        &mut self,
+        screen: &StyledScreen,
+        from: usize,
+        to: usize,
+        out: &mut String,
+    ) -> Result<(), AllocError>
+        requires printable { (index : ℕ) → from ≤ index → index < to → is_printable (indexed screen.now.width (screen_cells screen.now) index).ch ≡ true }
+        requires to { to ≤ 65535 * screen.now.width }
+        requires held { self.old.hand.row ≤ 4294967295 }
+        ensures ok { OnOk result (IsAdded (indices_redrawn screen.now.width (screen_cells screen.now) from (to - from) self.old.hand) self.old (string_bytes out.old) self.new (string_bytes out.new)) }
+        ensures held { OnOk result (self.new.hand.row ≤ 4294967295) }
+        ensures err { OnErr result (ExtendsBytes (string_bytes out.old) (string_bytes out.new)) }
+    {
+        for index in from..to {
+            self.write_index(screen, index, out)?;
+        }
+        Ok(())
+    }
+
+    /// Types what goes on at the cursor, to the end of the new screen.
+    fn go_on(
+        &mut self,
+        reached: usize,
+        new: &StyledScreen,
+        rows: usize,
+        to: Hand,
+        out: &mut String,
+    ) -> Result<(), AllocError>
+        requires printable { IsPrintable rows new.now }
+        requires rows { rows ≤ 65535 }
+        requires to { to.row ≤ 4294967295 }
+        requires row { self.old.hand.row ≤ 4294967295 }
+        requires col { self.old.hand.col ≤ new.now.width }
+        ensures ok { OnOk result (IsAdded (gone_on new.now.width reached rows (screen_cells new.now) to self.old.hand) self.old (string_bytes out.old) self.new (string_bytes out.new)) }
+        ensures err { OnErr result (ExtendsBytes (string_bytes out.old) (string_bytes out.new)) }
+    {
+        let from = self.hand.row * new.width() + self.hand.col;
+        self.write_on(new, from, end_of(new, rows), out)?;
+        self.hand_over(reached, to, out)
+    }
+
+    /// Makes one screen of another by its rows: its last row comes into sight, what stands after the end of the new
+    /// one is emptied, and the rows that differ are typed. Where the new rows show nothing and the cursor ends in the
+    /// last of them, it goes down there at the end alone.
+    fn draw(
+        &mut self,
+        old: &StyledScreen,
+        reached: usize,
+        new: &StyledScreen,
+        rows: usize,
+        to: Hand,
+        out: &mut String,
+    ) -> Result<(), AllocError>
+        requires width { old.now.width ≡ new.now.width }
+        requires printable { IsPrintable rows new.now }
+        requires rows { rows ≤ 65535 }
+        requires to { to.row ≤ 4294967295 }
+        requires held { self.old.hand.row ≤ 4294967295 }
+        ensures ok { let drawn = drawn_rows new.now.width reached rows (screen_cells old.now) (screen_cells new.now) to in
+            OnOk result (IsAdded (rows_drawn_on new.now.width reached drawn (screen_cells old.now) (screen_cells new.now) to self.old.hand) self.old (string_bytes out.old) self.new (string_bytes out.new)) }
+        ensures err { OnErr result (ExtendsBytes (string_bytes out.old) (string_bytes out.new)) }
+    {
+        let drawn = drawn_rows(old, reached, new, rows, to);
+        let rest = rest_of(old, new, drawn);
+        self.lower(reached, drawn, out)?;
+        self.empty_rest(new.width(), rest, out)?;
+        self.draw_rows(old, rest, new, drawn, out)?;
+        self.hand_over(reached.max(drawn), to, out)
+    }
+
+    /// Makes one screen of another: by typing on where all that differs goes on at the cursor, and else by its rows.
     fn redraw(
         &mut self,
         old: &StyledScreen,
@@ -262,15 +357,14 @@ impl Redrawer {
         requires rows { rows ≤ 65535 }
         requires to { to.row ≤ 4294967295 }
         requires held { self.old.hand.row ≤ 4294967295 }
+        requires col { self.old.hand.col ≤ new.now.width }
         ensures ok { OnOk result (IsAdded (redrawn new.now.width reached rows (screen_cells old.now) (screen_cells new.now) to self.old.hand) self.old (string_bytes out.old) self.new (string_bytes out.new)) }
         ensures err { OnErr result (ExtendsBytes (string_bytes out.old) (string_bytes out.new)) }
     {
-        let drawn = drawn_rows(old, reached, new, rows, to);
-        let rest = rest_of(old, new, drawn);
-        self.lower(reached, drawn, out)?;
-        self.empty_rest(new.width(), rest, out)?;
-        self.draw_rows(old, rest, new, drawn, out)?;
-        self.hand_over(reached.max(drawn), to, out)
+        if goes_on(old, reached, new, rows, self.hand, to) {
+            return self.go_on(reached, new, rows, to, out);
+        }
+        self.draw(old, reached, new, rows, to, out)
     }
 }
 
@@ -278,6 +372,7 @@ impl Redrawer {
 fn hand_of(screen: &StyledScreen) -> Hand
     ensures value { result ≡ hand_of screen.now }
     ensures row { result.row ≤ 4294967295 }
+    ensures col { result.col ≤ screen.now.width }
 {
     let (row, col) = screen.cursor();
     Hand {
