@@ -9,7 +9,7 @@ use Rattle.tw_ansi.specs.Encoding.{Sent, sent_byte, terse_batch, sent_plain, sen
 use Rattle.tw_changed.specs.declared.hand.Hand.{Hand}
 use Rattle.tw_changed.specs.declared.redrawer.Redrawer.{Redrawer}
 use Rattle.tw_screens.specs.StyledCells.{StyledCell}
-use Rattle.tw_changed.specs.Redrawings.{Redrawing, at_ease, redraw_then, typed_once, cell_redrawn, run_redrawn, row_redrawn, rows_redrawn, rest_of, rest_emptied, left_of, led_to, fed_once, fed, lowest_reached, sunk_to, lowered, handed_to, rows_drawn_on, drawn_rows, under, hand_index, indexed, typed_at, index_redrawn, indices_redrawn, goes_on, gone_on, redrawn}
+use Rattle.tw_changed.specs.Redrawings.{Redrawing, at_ease, redraw_then, typed_once, cell_redrawn, run_redrawn, row_redrawn, rows_redrawn, rest_of, rest_emptied, left_of, led_to, fed_once, fed, lowest_reached, sunk_to, lowered, handed_to, rows_drawn_on, under, hand_index, indexed, typed_at, index_redrawn, indices_redrawn, goes_on, gone_on, redrawn}
 use Rattle.tw_changed.specs.Differences.{end_of}
 use Rattle.tw_changed.specs.Sending.{IsAdded}
 use Rattle.tw_changed.proofs.SentBatches.{both_next, both_bytes}
@@ -190,33 +190,32 @@ going_added w reached rows from end new to a b c x y z is_from is_end first last
 
 module _ (w reached rows : ℕ) (old new : ℕ → ℕ → StyledCell) (to : Hand) (a b : Redrawer) (x y : List ℕ) where
   abbrev way : Bool → Redrawing
-  way goes = cond goes (gone_on w reached rows new to a.hand) (rows_drawn_on w reached (drawn_rows w reached rows old new to) old new to a.hand)
+  way goes = cond goes (gone_on w reached rows new to a.hand) (rows_drawn_on w reached rows old new to a.hand)
 
   pub added_onward : (goes : Bool) → goes ≡ goes_on w reached rows old new to a.hand → goes ≡ true → IsAdded (gone_on w reached rows new to a.hand) a x b y
       → IsAdded (redrawn w reached rows old new to a.hand) a x b y
   added_onward goes is does added = subst (λ z. IsAdded (way z) a x b y) (sym does ∙ is) added
 
   pub added_by_rows : (goes : Bool) → goes ≡ goes_on w reached rows old new to a.hand → goes ≡ false
-      → IsAdded (rows_drawn_on w reached (drawn_rows w reached rows old new to) old new to a.hand) a x b y → IsAdded (redrawn w reached rows old new to a.hand) a x b y
+      → IsAdded (rows_drawn_on w reached rows old new to a.hand) a x b y → IsAdded (redrawn w reached rows old new to a.hand) a x b y
   added_by_rows goes is not_so added = subst (λ z. IsAdded (way z) a x b y) (sym not_so ∙ is) added
 
 -- ---- all of it
 
-pub rows_added : (w v u top reached drawn rows : ℕ) (old new : ℕ → ℕ → StyledCell) (to : Hand) (from : Option ℕ) (a b c d e : Redrawer) (x0 x1 x2 x3 x4 : List ℕ)
-    → v ≡ w → u ≡ w → top ≡ max reached drawn → drawn ≡ drawn_rows w reached rows old new to → from ≡ rest_of w drawn old new
-    → IsAdded (lowered reached drawn a.hand) a x0 b x1 → IsAdded (rest_emptied u from b.hand) b x1 c x2
-    → IsAdded (rows_redrawn w (left_of v from old) new 0 drawn c.hand) c x2 d x3 → IsAdded (handed_to top to d.hand) d x3 e x4
-    → IsAdded (rows_drawn_on w reached (drawn_rows w reached rows old new to) old new to a.hand) a x0 e x4
-rows_added w v u top reached drawn rows old new to from a b c d e x0 x1 x2 x3 x4 is_v is_u is_top is_drawn is_from first second third last =
-    let rest : Option ℕ = rest_of w drawn old new in
-    let last_of : Hand → Redrawing = handed_to (max reached drawn) to in
-    let third_of : Hand → Redrawing = λ hand. redraw_then (rows_redrawn w (left_of w (rest_of w drawn old new) old) new 0 drawn hand) last_of in
-    let second_of : Hand → Redrawing = λ hand. redraw_then (rest_emptied w (rest_of w drawn old new) hand) third_of in
-    let emptied : IsAdded (rest_emptied w (rest_of w drawn old new) b.hand) b x1 c x2 =
+pub rows_added : (w v u top reached rows : ℕ) (old new : ℕ → ℕ → StyledCell) (to : Hand) (from : Option ℕ) (a b c d e : Redrawer) (x0 x1 x2 x3 x4 : List ℕ)
+    → v ≡ w → u ≡ w → top ≡ max reached rows → from ≡ rest_of w rows old new
+    → IsAdded (lowered reached rows a.hand) a x0 b x1 → IsAdded (rest_emptied u from b.hand) b x1 c x2
+    → IsAdded (rows_redrawn w (left_of v from old) new 0 rows c.hand) c x2 d x3 → IsAdded (handed_to top to d.hand) d x3 e x4
+    → IsAdded (rows_drawn_on w reached rows old new to a.hand) a x0 e x4
+rows_added w v u top reached rows old new to from a b c d e x0 x1 x2 x3 x4 is_v is_u is_top is_from first second third last =
+    let rest : Option ℕ = rest_of w rows old new in
+    let last_of : Hand → Redrawing = handed_to (max reached rows) to in
+    let third_of : Hand → Redrawing = λ hand. redraw_then (rows_redrawn w (left_of w (rest_of w rows old new) old) new 0 rows hand) last_of in
+    let second_of : Hand → Redrawing = λ hand. redraw_then (rest_emptied w (rest_of w rows old new) hand) third_of in
+    let emptied : IsAdded (rest_emptied w (rest_of w rows old new) b.hand) b x1 c x2 =
     subst (λ r. IsAdded (rest_emptied w r b.hand) b x1 c x2) is_from (subst (λ n. IsAdded (rest_emptied n from b.hand) b x1 c x2) is_u second) in
-    let typed : IsAdded (rows_redrawn w (left_of w (rest_of w drawn old new) old) new 0 drawn c.hand) c x2 d x3 =
-    subst (λ r. IsAdded (rows_redrawn w (left_of w r old) new 0 drawn c.hand) c x2 d x3) is_from (subst (λ n. IsAdded (rows_redrawn w (left_of n from old) new 0 drawn c.hand) c x2 d x3) is_v third) in
-    subst (λ n. IsAdded (rows_drawn_on w reached n old new to a.hand) a x0 e x4) is_drawn
-    (added_both (lowered reached drawn a.hand) second_of a b e x0 x1 x4 first
-    (added_both (rest_emptied w (rest_of w drawn old new) b.hand) third_of b c e x1 x2 x4 emptied
-    (added_both (rows_redrawn w (left_of w (rest_of w drawn old new) old) new 0 drawn c.hand) last_of c d e x2 x3 x4 typed (subst (λ n. IsAdded (handed_to n to d.hand) d x3 e x4) is_top last))))
+    let typed : IsAdded (rows_redrawn w (left_of w (rest_of w rows old new) old) new 0 rows c.hand) c x2 d x3 =
+    subst (λ r. IsAdded (rows_redrawn w (left_of w r old) new 0 rows c.hand) c x2 d x3) is_from (subst (λ n. IsAdded (rows_redrawn w (left_of n from old) new 0 rows c.hand) c x2 d x3) is_v third) in
+    added_both (lowered reached rows a.hand) second_of a b e x0 x1 x4 first
+    (added_both (rest_emptied w (rest_of w rows old new) b.hand) third_of b c e x1 x2 x4 emptied
+    (added_both (rows_redrawn w (left_of w (rest_of w rows old new) old) new 0 rows c.hand) last_of c d e x2 x3 x4 typed (subst (λ n. IsAdded (handed_to n to d.hand) d x3 e x4) is_top last)))

@@ -64,13 +64,6 @@ blank_at w rows cells i j after blank left = elim (cases_lt i rows) [
   | inr below ↦ blank i j below
 ]
 
--- where they end within the first of them, those after these show nothing
-pub blank_after : (w rows k : ℕ) (cells : ℕ → ℕ → StyledCell) → end_of w rows cells ≤ k * w → ((i j : ℕ) → rows ≤ i → cells i j ≡ blank_cell)
-    → (i j : ℕ) → k ≤ i → j < w → cells i j ≡ blank_cell
-blank_after w rows k cells ends blank i j low left =
-    let after : k * w ≤ i * w = mul-le k w i w low (omega arith) in
-    blank_at w rows cells i j (omega (arith, ends, after)) blank left
-
 module _ (h w : ℕ) where
   -- from row s on the picture shows these cells in its columns
   abbrev pub ShowsFrom : ℕ → (ℕ → ℕ → StyledCell) → PictureOf StyledCell → Type 0

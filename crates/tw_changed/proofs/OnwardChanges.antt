@@ -1,16 +1,15 @@
 -- A picture on which the new cells are typed on from the cursor is the new one.
-use Rattle.std.proofs.Common.{◌≡◌, ◌<◌, ◌≤◌, ◌+◌, ◌-◌, ◌*◌, ◌/◌, ◌%◌, ◌&&◌, ℕ, suc, max, true, false, leb, is_none, Some, None, ap, subst, ◌∙◌, sym, refl, inl, inr, arith}
+use Rattle.std.proofs.Common.{◌≡◌, ◌<◌, ◌≤◌, ◌+◌, ◌-◌, ◌*◌, ◌/◌, ◌%◌, ℕ, suc, max, true, is_none, ap, subst, ◌∙◌, sym, refl, inl, inr, arith}
 use Rattle.std.proofs.Math.Nat.{mod-lt, div-lt_iff_lt-mul}
 use Rattle.std.proofs.lemmas.Bool.{cases_lt, and_parts, leb-true, false≢true}
 use Rattle.std.proofs.lemmas.Nat.{div-mul-add, mod-mul-add, mul-le}
-use Rattle.tw_surface.specs.Characters.{is_printable}
-use Rattle.tw_extremes.specs.Extremes.{least_from, greatest_below, NonePasses}
+use Rattle.tw_extremes.specs.Extremes.{NonePasses}
 use Rattle.tw_strokes.specs.Strokes.{PictureOf}
 use Rattle.tw_screens.specs.Pens.{strokes_of}
 use Rattle.tw_screens.specs.StyledCells.{StyledCell, styled}
 use Rattle.tw_changed.specs.declared.hand.Hand.{Hand}
 use Rattle.tw_changed.specs.Differences.{differ_in, blank_cell, end_of}
-use Rattle.tw_changed.specs.Redrawings.{Redrawing, hand_index, indexed, indices_redrawn, ends_blank, goes_on, gone_on, handed_to}
+use Rattle.tw_changed.specs.Redrawings.{Redrawing, hand_index, indexed, indices_redrawn, goes_on, gone_on, handed_to}
 use Rattle.tw_changed.specs.Sending.{ArePrintable}
 use Rattle.tw_changed.proofs.FoundColumns.{greatest_cases, same_where}
 use Rattle.tw_changed.proofs.DrawnRows.{Holds, redrawn_on, redrawn_both, kept_both, rows_inside}

@@ -1,5 +1,5 @@
 -- A picture on which cells are typed on from the cursor, through the rows.
-use Rattle.std.proofs.Common.{◌≡◌, ◌<◌, ◌≤◌, ◌+◌, ◌-◌, ◌*◌, ◌/◌, ◌%◌, ◌⊎◌, ◌&&◌, ℕ, zero, suc, true, false, cond, eqb, Some, ap, subst, ◌∙◌, sym, refl, inl, inr, arith}
+use Rattle.std.proofs.Common.{◌≡◌, ◌<◌, ◌≤◌, ◌+◌, ◌-◌, ◌*◌, ◌/◌, ◌%◌, ℕ, zero, suc, true, cond, eqb, Some, ap, subst, ◌∙◌, sym, refl, inl, inr, arith}
 use Rattle.std.proofs.Math.Nat.{mod-lt, div-lt_iff_lt-mul}
 use Rattle.std.proofs.lemmas.Bool.{cases_eq, cases_lt, eq-eqb, ne_eqb}
 use Rattle.std.proofs.lemmas.Nat.{div-mul-add, mod-mul-add, div-add-mod'}
@@ -8,7 +8,7 @@ use Rattle.tw_strokes.specs.Strokes.{PictureOf, put_in, step, scrolled}
 use Rattle.tw_screens.specs.Pens.{strokes_of}
 use Rattle.tw_screens.specs.StyledCells.{StyledCell, styled}
 use Rattle.tw_changed.specs.declared.hand.Hand.{Hand}
-use Rattle.tw_changed.specs.Redrawings.{Redrawing, redraw_then, under, hand_index, indexed, typed_at, index_redrawn, indices_redrawn}
+use Rattle.tw_changed.specs.Redrawings.{Redrawing, under, hand_index, indexed, typed_at, index_redrawn, indices_redrawn}
 use Rattle.tw_changed.proofs.DrawnRows.{Holds, redrawn_on, redrawn_both, Leads, leads_then, leads_ease, is_under, put_stroke, put_here, put_there, put_beside, put_away, unscrolled, rows_inside}
 
 -- the row and the column of an index

@@ -1,5 +1,5 @@
 -- What does not differ is not sent.
-use Rattle.std.proofs.Common.{◌≡◌, ◌<◌, ◌≤◌, ◌+◌, ◌*◌, ◌-◌, ◌/◌, ◌%◌, ℕ, zero, suc, Bool, true, false, not, ◌&&◌, eqb, leb, max, cond, Option, Some, None, [], ap, ◌∙◌, refl, arith}
+use Rattle.std.proofs.Common.{◌≡◌, ◌<◌, ◌≤◌, ◌+◌, ◌*◌, ◌-◌, ◌/◌, ◌%◌, ℕ, zero, suc, Bool, true, false, not, max, cond, Option, Some, None, [], ap, ◌∙◌, refl, arith}
 use Rattle.std.proofs.Math.Nat.{mod-lt, div-lt_iff_lt-mul}
 use Rattle.std.proofs.lemmas.Bool.{and_from, eq-eqb, le-leb, le-ltb}
 use Rattle.tw_surface.proofs.EqualityLemmas.{attributes_equal}
@@ -9,7 +9,7 @@ use Rattle.tw_extremes.proofs.ExtremesLemmas.{least_from-none}
 use Rattle.tw_screens.specs.StyledCells.{StyledCell}
 use Rattle.tw_changed.specs.declared.hand.Hand.{Hand}
 use Rattle.tw_changed.specs.Differences.{is_same_cell, differ_in, first_changed, is_used, end_of, blank_cell, behind_index}
-use Rattle.tw_changed.specs.Redrawings.{Redrawing, at_ease, redraw_then, led_to, under, row_redrawn, rows_redrawn, handed_to, rest_of, rest_emptied, left_of, lowest_reached, sunk_to, lowered, rows_drawn_on, drawn_rows, hand_index, indices_redrawn, goes_on, gone_on}
+use Rattle.tw_changed.specs.Redrawings.{Redrawing, at_ease, redraw_then, led_to, under, row_redrawn, rows_redrawn, handed_to, rest_of, rest_emptied, left_of, lowest_reached, sunk_to, lowered, rows_drawn_on, hand_index, indices_redrawn, goes_on, gone_on}
 use Rattle.tw_changed.specs.Shortness.{NothingIsSentForNothing}
 use Rattle.tw_changed.proofs.OnwardChanges.{going_on}
 
@@ -75,19 +75,14 @@ rows_stay w r (suc n) old new hand same =
 
 -- ---- all of it
 
--- where no row is new all of them are drawn
-all_drawn : (w reached rows : ℕ) (old new : ℕ → ℕ → StyledCell) (to : Hand) → rows ≤ reached → drawn_rows w reached rows old new to ≡ rows
-all_drawn w reached rows old new to low = ap (λ b. cond (b && eqb (to.row + 1) rows && leb (end_of w rows old) (reached * w) && leb (end_of w rows new) (reached * w)) reached rows) (le-ltb reached rows low)
-
 -- where nothing is emptied and no row is new, the rows and the hand are all that is sent
 pub sent_rows_alone : (w reached rows : ℕ) (old new : ℕ → ℕ → StyledCell) (to hand : Hand) → rows ≤ reached → end_of w rows old ≤ end_of w rows new
-    → rows_drawn_on w reached (drawn_rows w reached rows old new to) old new to hand ≡ redraw_then (rows_redrawn w old new 0 rows hand) (handed_to (max reached rows) to)
+    → rows_drawn_on w reached rows old new to hand ≡ redraw_then (rows_redrawn w old new 0 rows hand) (handed_to (max reached rows) to)
 sent_rows_alone w reached rows old new to hand low onward =
     let last : Hand → Redrawing = handed_to (max reached rows) to in
     let third : Option ℕ → Hand → Redrawing = λ from emptied. redraw_then (rows_redrawn w (left_of w from old) new 0 rows emptied) last in
     let second : Option ℕ → Hand → Redrawing = λ from low. redraw_then (rest_emptied w from low) (third from) in
-    ap (λ n. rows_drawn_on w reached n old new to hand) (all_drawn w reached rows old new to low)
-    ∙ ap (λ x. redraw_then x (second (rest_of w rows old new))) (not_lowered reached rows hand low)
+    ap (λ x. redraw_then x (second (rest_of w rows old new))) (not_lowered reached rows hand low)
     ∙ ap (λ from. redraw_then (rest_emptied w from hand) (third from)) (no_rest w rows old new onward)
 
 pub nothing_is_sent : NothingIsSentForNothing
@@ -97,7 +92,7 @@ nothing_is_sent w reached rows old new hand some low same = by_way (goes_on w re
     ends = same_ends w rows old new some same
 
     by_way : (b : Bool) → goes_on w reached rows old new hand hand ≡ b
-        → (cond b (gone_on w reached rows new hand hand) (rows_drawn_on w reached (drawn_rows w reached rows old new hand) old new hand hand)).changes ≡ []
+        → (cond b (gone_on w reached rows new hand hand) (rows_drawn_on w reached rows old new hand hand)).changes ≡ []
     by_way true is =
         let goes = going_on w reached rows old new hand hand is in
         let none : end_of w rows new - hand_index w hand ≡ 0 = omega (arith, ends, goes.ends) in

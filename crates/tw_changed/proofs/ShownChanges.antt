@@ -1,7 +1,7 @@
 -- A terminal that is sent the difference of two screens shows the new one.
-use Rattle.std.proofs.Common.{◌≡◌, ◌<◌, ◌≤◌, ◌+◌, ◌-◌, ◌/◌, ◌%◌, ◌^◌, ℕ, Bool, true, false, not, max, ◌&&◌, eqb, leb, cond, ltb, min, Some, None, [], ◌∷◌, ◌++◌, ap, subst, ◌∙◌, sym, refl, ◌*◌, inl, inr, arith}
+use Rattle.std.proofs.Common.{◌≡◌, ◌<◌, ◌≤◌, ◌+◌, ◌-◌, ◌/◌, ◌%◌, ◌^◌, ℕ, Bool, true, false, not, max, ◌&&◌, eqb, cond, ltb, min, Some, None, [], ◌∷◌, ◌++◌, ap, subst, ◌∙◌, sym, refl, inl, inr, arith}
 use Rattle.std.proofs.Math.Nat.{mod-lt, div-lt_iff_lt-mul}
-use Rattle.std.proofs.lemmas.Bool.{cases_lt, lt-ltb, le-ltb, ltb-true, leb-true, eqb-true, and_parts}
+use Rattle.std.proofs.lemmas.Bool.{cases_lt, lt-ltb, le-ltb, ltb-true}
 use Rattle.tw_surface.specs.declared.cell.CellAttributes.{CellAttributes}
 use Rattle.tw_surface.specs.ChangeView.{Batch}
 use Rattle.tw_surface.specs.ChangeView.{AllAttributes}
@@ -19,15 +19,15 @@ use Rattle.tw_ansi.specs.EcmaTexts.{ShowsPicture}
 use Rattle.tw_ansi.specs.EcmaBatches.{CarriesAttributes, AreSendable, AllStayInRows}
 use Rattle.tw_ansi.proofs.EcmaSequences.{received}
 use Rattle.tw_ansi.proofs.EcmaBatches.{keeps_change, terse_next, terse_batch_is_shown}
-use Rattle.tw_changed.specs.Differences.{end_of, blank_cell}
+use Rattle.tw_changed.specs.Differences.{end_of}
 use Rattle.tw_changed.specs.declared.hand.Hand.{Hand}
-use Rattle.tw_changed.specs.Redrawings.{Redrawing, at_ease, redraw_then, led_to, emptied_here, emptied, rest_of, rest_emptied, left_of, lowered, rows_redrawn, sunk_to, handed_to, rows_drawn_on, drawn_rows, hand_index, indexed, indices_redrawn, goes_on, gone_on, redrawn}
+use Rattle.tw_changed.specs.Redrawings.{Redrawing, at_ease, redraw_then, led_to, emptied_here, emptied, rest_of, rest_emptied, left_of, lowered, rows_redrawn, sunk_to, handed_to, rows_drawn_on, hand_index, indexed, indices_redrawn, goes_on, gone_on, redrawn}
 use Rattle.tw_changed.specs.Sending.{ArePrintable}
 use Rattle.tw_changed.specs.ChangedScreens.{IsInk, IsInked, IsHandWithin, IsBlankFrom, IsSeenFrom, turned_to, ChangedIsShown}
 use Rattle.tw_changed.proofs.DrawnRows.{Holds, redrawn_on, redrawn_both, gone}
 use Rattle.tw_changed.proofs.DrawnScreens.{rows_drawn}
-use Rattle.tw_changed.proofs.DrawnEnds.{end_within, blank_after, rest, rises}
-use Rattle.tw_changed.proofs.DrawnChangedScreens.{ReachesEnd, Becomes, becomes, handed}
+use Rattle.tw_changed.proofs.DrawnEnds.{end_within, rest, rises}
+use Rattle.tw_changed.proofs.DrawnChangedScreens.{Becomes, becomes, handed}
 use Rattle.tw_changed.proofs.OnwardChanges.{GoesOn, going_on, typed_printable, typing_goes, handing, becomes_onward}
 use Rattle.tw_changed.proofs.SentBatches.{both_next, both_bytes}
 use Rattle.tw_changed.proofs.SentChanges.{all_sendable, sent_move, sent_rows, sent_handed, sent_lowered, indices_easy}
@@ -116,49 +116,47 @@ module _ (h w : ℕ) where
 
   -- ---- all of it
 
-  module _ (s reached drawn rows : ℕ) (old new : ℕ → ℕ → StyledCell) (hand to : Hand) (e : Encoder) (t : EcmaScreen StyledCell) (p : PictureOf StyledCell)
+  module _ (s reached rows : ℕ) (old new : ℕ → ℕ → StyledCell) (hand to : Hand) (e : Encoder) (t : EcmaScreen StyledCell) (p : PictureOf StyledCell)
       (some : 0 < w) (small : w < 2 ^ 64) (most : h ≤ most_rows) (room : rows ≤ h) (low : s + reached ≤ h)
-      (fewer : drawn ≤ rows) (ends : ReachesEnd h w drawn rows to)
       (inked : IsInked w rows new) (reach : IsHandWithin w rows to) (seen : IsSeenFrom w s old hand p)
       (same : hand.attributes ≡ e.attributes) (color : IsColor e.attributes.background) (a : ShowsPicture styled h w e t p) where
-    changed_sends : Sends hand (rows_drawn_on w reached drawn old new to hand) e t p
+    changed_sends : Sends hand (rows_drawn_on w reached rows old new to hand) e t p
     changed_sends =
         let holds : Holds s hand p = record { row = seen.row; col = seen.col } in
-        let top : drawn ≤ h = omega (arith, fewer, room) in
         let inside : p.row < h = a.within.row in
         let held : hand.row ≤ most_rows = omega (arith, seen.row, inside, most) in
-        let last : Hand → Redrawing = handed_to (max reached drawn) to in
-        let third : Hand → Redrawing = λ rest. redraw_then (rows_redrawn w (left_of w (rest_of w drawn old new) old) new 0 drawn rest) last in
-        let second : Hand → Redrawing = λ low. redraw_then (rest_emptied w (rest_of w drawn old new) low) third in
-        let d1 : Redrawing = lowered reached drawn hand in
+        let last : Hand → Redrawing = handed_to (max reached rows) to in
+        let third : Hand → Redrawing = λ rest. redraw_then (rows_redrawn w (left_of w (rest_of w rows old new) old) new 0 rows rest) last in
+        let second : Hand → Redrawing = λ low. redraw_then (rest_emptied w (rest_of w rows old new) low) third in
+        let d1 : Redrawing = lowered reached rows hand in
         let p1 : PictureOf StyledCell = redrawn_on h w hand d1 p in
-        let a1 = rises h w s reached drawn old hand p some top low inside seen.cell holds in
-        let i1 = sent_lowered reached drawn hand (omega (arith, room, most)) held in
+        let a1 = rises h w s reached rows old hand p some room low inside seen.cell holds in
+        let i1 = sent_lowered reached rows hand (omega (arith, room, most)) held in
         let s1 = sends hand d1 e t p some small (all_sendable h w d1.changes e p i1.easy) a1.leads.stays same a1.leads.kept a in
         let e1 : Encoder = (terse_batch d1.changes e).next in
         let t1 : EcmaScreen StyledCell = receive_all styled h w (terse_batch d1.changes e).bytes t in
-        let up : s - (s + drawn - h) + drawn ≤ h = omega (arith, top) in
+        let up : s - (s + rows - h) + rows ≤ h = omega (arith, room) in
         let color1 : IsColor (terse_batch d1.changes e).next.attributes.background =
         subst (λ (c : CellAttributes). IsColor c.background) (sym (sym s1.attributes ∙ a1.attributes ∙ same)) color in
-        let d2 : Redrawing = rest_emptied w (rest_of w drawn old new) d1.hand in
+        let d2 : Redrawing = rest_emptied w (rest_of w rows old new) d1.hand in
         let p2 : PictureOf StyledCell = redrawn_on h w d1.hand d2 p1 in
-        let a2 = rest h w (s - (s + drawn - h)) drawn old new d1.hand p1 some up a1.shown a1.leads.holds in
-        let s2 = rest_sends (s - (s + drawn - h)) drawn old new d1.hand e1 t1 p1 some small up most i1.low a1.leads.holds s1.attributes color1 s1.shown in
+        let a2 = rest h w (s - (s + rows - h)) rows old new d1.hand p1 some up a1.shown a1.leads.holds in
+        let s2 = rest_sends (s - (s + rows - h)) rows old new d1.hand e1 t1 p1 some small up most i1.low a1.leads.holds s1.attributes color1 s1.shown in
         let e2 : Encoder = (terse_batch d2.changes e1).next in
         let t2 : EcmaScreen StyledCell = receive_all styled h w (terse_batch d2.changes e1).bytes t1 in
         let held2 : d2.hand.row ≤ most_rows = omega (arith, a2.leads.holds.row, s2.shown.within.row, most) in
-        let ink : (i j : ℕ) → 0 ≤ i → i < 0 + drawn → j < w → IsInk (new i j) = λ i j from less left. inked.ink i j (omega (arith, less, fewer)) left in
-        let d3 : Redrawing = rows_redrawn w (left_of w (rest_of w drawn old new) old) new 0 drawn d2.hand in
+        let ink : (i j : ℕ) → 0 ≤ i → i < 0 + rows → j < w → IsInk (new i j) = λ i j from less left. inked.ink i j (omega (arith, less)) left in
+        let d3 : Redrawing = rows_redrawn w (left_of w (rest_of w rows old new) old) new 0 rows d2.hand in
         let p3 : PictureOf StyledCell = redrawn_on h w d2.hand d3 p2 in
-        let a3 = rows_drawn h w (s - (s + drawn - h)) 0 drawn (left_of w (rest_of w drawn old new) old) new d2.hand p2 (omega (arith, up))
+        let a3 = rows_drawn h w (s - (s + rows - h)) 0 rows (left_of w (rest_of w rows old new) old) new d2.hand p2 (omega (arith, up))
         (λ i from less j left. (ink i j from less left).0) (λ i j from less left. a2.shown i j left) a2.leads.holds in
-        let i3 = sent_rows w 0 drawn (left_of w (rest_of w drawn old new) old) new d2.hand ink (omega (arith, top, most)) held2 in
+        let i3 = sent_rows w 0 rows (left_of w (rest_of w rows old new) old) new d2.hand ink (omega (arith, room, most)) held2 in
         let s3 = sends d2.hand d3 e2 t2 p2 some small (all_sendable h w d3.changes e2 p2 i3.easy) a3.leads.stays s2.attributes a3.leads.kept s2.shown in
         let e3 : Encoder = (terse_batch d3.changes e2).next in
         let t3 : EcmaScreen StyledCell = receive_all styled h w (terse_batch d3.changes e2).bytes t2 in
-        let d4 : Redrawing = handed_to (max reached drawn) to d3.hand in
-        let a4 = handed h w (s - (s + drawn - h)) (max reached drawn) to d3.hand p3 (omega (arith, low, top)) (omega (arith, reach.row, room)) reach.col s3.shown.within.row a3.leads.holds in
-        let i4 = sent_handed (max reached drawn) to d3.hand reach.colors (omega (arith, reach.row, room, most)) i3.low in
+        let d4 : Redrawing = handed_to (max reached rows) to d3.hand in
+        let a4 = handed h w (s - (s + rows - h)) (max reached rows) to d3.hand p3 (omega (arith, low, room)) (omega (arith, reach.row, room)) reach.col s3.shown.within.row a3.leads.holds in
+        let i4 = sent_handed (max reached rows) to d3.hand reach.colors (omega (arith, reach.row, room, most)) i3.low in
         let s4 = sends d3.hand d4 e3 t3 p3 some small (all_sendable h w d4.changes e3 p3 i4.easy) a4.leads.stays s3.attributes a4.leads.kept s3.shown in
         sends_both hand d1 second e t p a1.leads.kept
         (sends_both d1.hand d2 third e1 t1 p1 a2.leads.kept
@@ -190,8 +188,8 @@ module _ (h w : ℕ) where
         let g = typing_goes h w s reached rows old new to hand p some room low a.within.row edged reach.row reach.col blank inked.blank ink_there seen.cell holding goes in
         let ink : (m : ℕ) → k ≤ m → m < k + n → IsInk (indexed w new m) =
         λ m from less.
-            let place = typed_printable h w s reached rows old new to hand p some room low a.within.row edged reach.row reach.col blank inked.blank ink_there seen.cell holding goes m from less in
-            inked.ink (m / w) (m % w) place.0 place.1 in
+        let place = typed_printable h w s reached rows old new to hand p some room low a.within.row edged reach.row reach.col blank inked.blank ink_there seen.cell holding goes m from less in
+        inked.ink (m / w) (m % w) place.0 place.1 in
         let s1 = sends hand d e t p some small (all_sendable h w d.changes e p (indices_easy w k n new hand ink)) g.leads.stays same g.leads.kept a in
         let held : d.hand.row ≤ most_rows = omega (arith, g.leads.holds.row, s1.shown.within.row, most) in
         let last : Redrawing = handed_to reached to d.hand in
@@ -235,37 +233,6 @@ module _ (h w : ℕ) where
           x = x.shown.x ∙ b.col;
         }
 
--- the rows that are drawn are enough
-record Enough (h w reached rows drawn : ℕ) (old new : ℕ → ℕ → StyledCell) (to : Hand) : Type 0 where
-  pub fewer : drawn ≤ rows
-  pub ends : ReachesEnd h w drawn rows to
-  pub old_blank : (i j : ℕ) → drawn ≤ i → j < w → old i j ≡ blank_cell
-  pub new_blank : (i j : ℕ) → drawn ≤ i → j < w → new i j ≡ blank_cell
-
-enough : (h w reached rows : ℕ) (old new : ℕ → ℕ → StyledCell) (to : Hand) → IsBlankFrom rows old → IsBlankFrom rows new
-    → Enough h w reached rows (drawn_rows w reached rows old new to) old new to
-enough h w reached rows old new to is_old is_new =
-    by_test (ltb reached rows && eqb (to.row + 1) rows && leb (end_of w rows old) (reached * w) && leb (end_of w rows new) (reached * w)) refl
-  where
-    by_test : (b : Bool) → (ltb reached rows && eqb (to.row + 1) rows && leb (end_of w rows old) (reached * w) && leb (end_of w rows new) (reached * w)) ≡ b
-        → Enough h w reached rows (cond b reached rows) old new to
-    by_test true is =
-        let first = and_parts _ _ is in
-        let second = and_parts _ _ first.0 in
-        let third = and_parts _ _ second.0 in
-        record {
-          fewer = let less : reached < rows = ltb-true _ _ third.0 in omega (arith, less);
-          ends = inr (eqb-true _ _ third.1);
-          old_blank = blank_after w rows reached old (leb-true _ _ second.1) (λ i j low. is_old i j low);
-          new_blank = blank_after w rows reached new (leb-true _ _ first.1) (λ i j low. is_new i j low);
-        }
-    by_test false is = record {
-      fewer = omega arith;
-      ends = inl refl;
-      old_blank = λ i j low left. is_old i j low;
-      new_blank = λ i j low left. is_new i j low;
-    }
-
 -- a redrawing that leaves the attributes of the new hand, and what is shown once it is sent
 module _ (h w s reached rows : ℕ) (old new : ℕ → ℕ → StyledCell) (hand to : Hand) (e : Encoder) (t : EcmaScreen StyledCell) (p : PictureOf StyledCell)
     (some : 0 < w) (small : w < 2 ^ 64) (most : h ≤ most_rows) (room : rows ≤ h) (low : s + reached ≤ h)
@@ -277,19 +244,17 @@ module _ (h w s reached rows : ℕ) (old new : ℕ → ℕ → StyledCell) (hand
       × ((terse_batch d.changes e).next.attributes ≡ to.attributes)
 
   way_is_shown : (b : Bool) → goes_on w reached rows old new to hand ≡ b
-      → IsShownBy (cond b (gone_on w reached rows new to hand) (rows_drawn_on w reached (drawn_rows w reached rows old new to) old new to hand))
+      → IsShownBy (cond b (gone_on w reached rows new to hand) (rows_drawn_on w reached rows old new to hand))
   way_is_shown true is =
       let goes = going_on w reached rows old new to hand is in
       let x = onward_sends h w s reached rows old new hand to e t p some small most room low blank inked reach seen same a goes in
       let b = onward_becomes h w s reached rows old new hand to e t p some small most room low blank inked reach seen same a goes in
       (becomes_shown h w s rows new hand to (gone_on w reached rows new to hand) e t p room inked reach b x, sym x.attributes ∙ handed_attributes _ to _)
   way_is_shown false is =
-      let k = enough h w reached rows old new to blank inked.blank in
-      let drawn : ℕ = drawn_rows w reached rows old new to in
-      let x = changed_sends h w s reached (drawn_rows w reached rows old new to) rows old new hand to e t p some small most room low k.fewer k.ends inked reach seen same color a in
-      let b = becomes h w s reached (drawn_rows w reached rows old new to) rows old new to hand p some k.fewer room low a.within.row reach.row k.ends reach.col k.old_blank k.new_blank
-      (λ i less j left. let fewer = k.fewer in (inked.ink i j (omega (arith, less, fewer)) left).0) seen.cell (record { row = seen.row; col = seen.col }) in
-      (becomes_shown h w s rows new hand to (rows_drawn_on w reached drawn old new to hand) e t p room inked reach b x, sym x.attributes ∙ handed_attributes _ to _)
+      let x = changed_sends h w s reached rows old new hand to e t p some small most room low inked reach seen same color a in
+      let b = becomes h w s reached rows old new to hand p some room low a.within.row reach.row reach.col blank inked.blank
+      (λ i less j left. (inked.ink i j less left).0) seen.cell (record { row = seen.row; col = seen.col }) in
+      (becomes_shown h w s rows new hand to (rows_drawn_on w reached rows old new to hand) e t p room inked reach b x, sym x.attributes ∙ handed_attributes _ to _)
 
 pub changed_is_shown : ChangedIsShown
 changed_is_shown h w s reached rows old new hand to e t p some small most room low blank inked reach seen same color a =

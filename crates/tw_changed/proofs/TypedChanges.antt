@@ -13,7 +13,7 @@ use Rattle.tw_ansi.specs.declared.encode.Encoder.{Encoder}
 use Rattle.tw_ansi.specs.Encoding.{Sent, at_column, sent_byte, sent_return, sent_feed, sent_columns, sent_plain, sent_clusters, terse_change, terse_batch}
 use Rattle.tw_changed.specs.declared.hand.Hand.{Hand}
 use Rattle.tw_changed.specs.Differences.{is_same_cell, differ_in, first_changed, last_changed, blank_cell, is_used, end_of}
-use Rattle.tw_changed.specs.Redrawings.{Redrawing, redraw_then, typed_once, run_redrawn, span_redrawn, row_redrawn, rows_redrawn, handed_to, rows_drawn_on, drawn_rows, hand_index, indexed, typed_at, indices_redrawn, goes_on, gone_on, under, redrawn}
+use Rattle.tw_changed.specs.Redrawings.{Redrawing, redraw_then, typed_once, run_redrawn, span_redrawn, row_redrawn, rows_redrawn, handed_to, rows_drawn_on, hand_index, indexed, typed_at, indices_redrawn, goes_on, gone_on, under, redrawn}
 use Rattle.tw_changed.specs.Shortness.{characters_from, IsTypedAt, TypedIsSentAlone}
 use Rattle.tw_changed.proofs.FoundColumns.{same_where, ends_behind}
 use Rattle.tw_changed.proofs.DrawnEnds.{unused_after}
@@ -134,7 +134,7 @@ module _ (w rows n : ℕ) (old new : ℕ → ℕ → StyledCell) (hand to : Hand
   ]
 
   -- by rows
-  rows_changes : (reached : ℕ) → rows ≤ reached → (rows_drawn_on w reached (drawn_rows w reached rows old new to) old new to hand).changes ≡ texts_of (characters_from (new hand.row) hand.col n)
+  rows_changes : (reached : ℕ) → rows ≤ reached → (rows_drawn_on w reached rows old new to hand).changes ≡ texts_of (characters_from (new hand.row) hand.col n)
   rows_changes reached low =
       let last : Hand → Redrawing = handed_to (max reached rows) to in
       let inside : hand.row < rows = t.row in
@@ -194,7 +194,7 @@ module _ (w rows n : ℕ) (old new : ℕ → ℕ → StyledCell) (hand to : Hand
   typed_changes reached low = by_way (goes_on w reached rows old new to hand) refl
     where
       by_way : (b : Bool) → goes_on w reached rows old new to hand ≡ b
-          → (cond b (gone_on w reached rows new to hand) (rows_drawn_on w reached (drawn_rows w reached rows old new to) old new to hand)).changes
+          → (cond b (gone_on w reached rows new to hand) (rows_drawn_on w reached rows old new to hand)).changes
           ≡ texts_of (characters_from (new hand.row) hand.col n)
       by_way false is = rows_changes reached low
       by_way true is =

@@ -120,12 +120,6 @@ rows_drawn_on w reached rows old new to hand =
     redraw_then (rest_emptied w (rest_of w rows old new) low) (λ emptied.
     redraw_then (rows_redrawn w (left_of w (rest_of w rows old new) old) new 0 rows emptied) (handed_to (max reached rows) to)))
 
--- how many rows are drawn: those that were reached before, where the others show nothing in either screen and the cursor ends in the last of them, since it
--- goes down in any case then; and else all of them
-abbrev pub drawn_rows : ℕ → ℕ → ℕ → (ℕ → ℕ → StyledCell) → (ℕ → ℕ → StyledCell) → Hand → ℕ
-drawn_rows w reached rows old new to =
-    if ltb reached rows && eqb (to.row + 1) rows && leb (end_of w rows old) (reached * w) && leb (end_of w rows new) (reached * w) then reached else rows
-
 -- ---- what goes on at the cursor
 
 -- the index of a hand, counted along the rows
@@ -169,4 +163,4 @@ gone_on w reached rows new to hand = redraw_then (indices_redrawn w new (hand_in
 abbrev pub redrawn : ℕ → ℕ → ℕ → (ℕ → ℕ → StyledCell) → (ℕ → ℕ → StyledCell) → Hand → Hand → Redrawing
 redrawn w reached rows old new to hand =
     if goes_on w reached rows old new to hand then gone_on w reached rows new to hand
-    else rows_drawn_on w reached (drawn_rows w reached rows old new to) old new to hand
+    else rows_drawn_on w reached rows old new to hand

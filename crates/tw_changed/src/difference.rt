@@ -5,7 +5,7 @@ ghost use Rattle.styled_screen.specs.StyledScreens.{styled_cell};
 ghost use Rattle.tw_changed.specs.ChangedScreens.{AreByBytes, AreAllByBytes};
 ghost use Rattle.tw_changed.specs.Differences.{differ_in, first_changed, last_changed, is_used, end_of};
 ghost use Rattle.tw_extremes.specs.Extremes.{greatest_below, least_from};
-ghost use Rattle.tw_changed.specs.Redrawings.{drawn_rows, ends_blank, goes_on, indexed, left_of, rest_of};
+ghost use Rattle.tw_changed.specs.Redrawings.{ends_blank, goes_on, indexed, left_of, rest_of};
 ghost use Rattle.tw_changed.specs.Sending.{ArePrintable, IsPrintable, screen_cells};
 
 use crate::hand::Hand;
@@ -198,30 +198,6 @@ pub fn goes_on(
         && end_of(old, rows) <= at
         && is_same_before(old, new, at)
         && are_full(new, hand.row, end_of(new, rows) / width)
-}
-
-/// How many rows are drawn: those that were reached before, where the others show nothing in either screen and the
-/// cursor ends in the last of them, and else all.
-pub fn drawn_rows(
-    old: &StyledScreen,
-    reached: usize,
-    new: &StyledScreen,
-    rows: usize,
-    to: Hand,
-) -> usize
-    requires width { old.now.width ≡ new.now.width }
-    requires rows { rows ≤ 65535 }
-    requires to { to.row ≤ 4294967295 }
-    ensures value { result ≡ drawn_rows new.now.width reached rows (screen_cells old.now) (screen_cells new.now) to }
-    ensures most { result ≤ rows }
-{
-    if reached < rows && to.row + 1 == rows {
-        let room = reached * new.width();
-        if end_of(old, rows) <= room && end_of(new, rows) <= room {
-            return reached;
-        }
-    }
-    rows
 }
 
 /// Whether the cells of a row are printable characters.

@@ -4,12 +4,10 @@ ghost use Rattle.std.specs.Prelude.{◌≡◌, ℕ, true, ◌<◌, ◌≤◌, �
 ghost use Rattle.tw_surface.specs.Characters.{is_printable};
 ghost use Rattle.styled_screen.specs.StyledScreens.{styled_cell};
 ghost use Rattle.tw_ansi.specs.Encoding.{ExtendsBytes, terse_batch};
-ghost use Rattle.tw_changed.specs.Redrawings.{led_to, under, cell_redrawn, run_redrawn, row_redrawn, rows_redrawn, handed_to, emptied_here, rest_emptied, rest_of, left_of, fed, sunk_to, lowered, rows_drawn_on, drawn_rows, indexed, index_redrawn, indices_redrawn, gone_on, redrawn};
+ghost use Rattle.tw_changed.specs.Redrawings.{led_to, under, cell_redrawn, run_redrawn, row_redrawn, rows_redrawn, handed_to, emptied_here, rest_emptied, rest_of, left_of, fed, sunk_to, lowered, rows_drawn_on, indexed, index_redrawn, indices_redrawn, gone_on, redrawn};
 ghost use Rattle.tw_changed.specs.Sending.{IsAdded, IsPrintable, screen_cells, changes_between, hand_of};
 
-use crate::difference::{
-    cell_at, drawn_rows, end_of, first_changed, goes_on, last_changed, rest_of,
-};
+use crate::difference::{cell_at, end_of, first_changed, goes_on, last_changed, rest_of};
 use crate::hand::Hand;
 use std::alloc::AllocError;
 use styled_screen::{ScreenCell, StyledScreen};
@@ -261,9 +259,9 @@ impl Redrawer {
         ensures err { OnErr result (ExtendsBytes (string_bytes out.old) (string_bytes out.new)) }
     {
         let width = screen.width();
-        let cell = cell_at(screen, index / width, index % width);
-        self.select(cell.attributes, out)?;
-        self.encoder.encode_byte(cell.character as u8, out)?;
+        let next = cell_at(screen, index / width, index % width);
+        self.select(next.attributes, out)?;
+        self.encoder.encode_byte(next.character as u8, out)?;
         self.hand.row = index / width;
         self.hand.col = index % width + 1;
         Ok(())
@@ -314,8 +312,7 @@ impl Redrawer {
     }
 
     /// Makes one screen of another by its rows: its last row comes into sight, what stands after the end of the new
-    /// one is emptied, and the rows that differ are typed. Where the new rows show nothing and the cursor ends in the
-    /// last of them, it goes down there at the end alone.
+    /// one is emptied, and the rows that differ are typed.
     fn draw(
         &mut self,
         old: &StyledScreen,
@@ -330,16 +327,14 @@ impl Redrawer {
         requires rows { rows ≤ 65535 }
         requires to { to.row ≤ 4294967295 }
         requires held { self.old.hand.row ≤ 4294967295 }
-        ensures ok { let drawn = drawn_rows new.now.width reached rows (screen_cells old.now) (screen_cells new.now) to in
-            OnOk result (IsAdded (rows_drawn_on new.now.width reached drawn (screen_cells old.now) (screen_cells new.now) to self.old.hand) self.old (string_bytes out.old) self.new (string_bytes out.new)) }
+        ensures ok { OnOk result (IsAdded (rows_drawn_on new.now.width reached rows (screen_cells old.now) (screen_cells new.now) to self.old.hand) self.old (string_bytes out.old) self.new (string_bytes out.new)) }
         ensures err { OnErr result (ExtendsBytes (string_bytes out.old) (string_bytes out.new)) }
     {
-        let drawn = drawn_rows(old, reached, new, rows, to);
-        let rest = rest_of(old, new, drawn);
-        self.lower(reached, drawn, out)?;
+        let rest = rest_of(old, new, rows);
+        self.lower(reached, rows, out)?;
         self.empty_rest(new.width(), rest, out)?;
-        self.draw_rows(old, rest, new, drawn, out)?;
-        self.hand_over(reached.max(drawn), to, out)
+        self.draw_rows(old, rest, new, rows, out)?;
+        self.hand_over(reached.max(rows), to, out)
     }
 
     /// Makes one screen of another: by typing on where all that differs goes on at the cursor, and else by its rows.

@@ -7,10 +7,10 @@ use Rattle.tw_changed.proofs.redrawer.Redrawer.draw.Goals as goal
 pub returns-clause-ok : goal.returns-clause-ok
 returns-clause-ok c =
     on_ok_weaker c.hand_over.result
-    (λ last. rows_added c.args.new.now.width c.args.old.now.width c.width.result c.max.result c.args.reached c.drawn_rows-drawn.result c.args.rows (screen_cells c.args.old.now) (screen_cells c.args.new.now) c.args.to c.rest_of-rest.result
+    (λ last. rows_added c.args.new.now.width c.args.old.now.width c.width.result c.max.result c.args.reached c.args.rows (screen_cells c.args.old.now) (screen_cells c.args.new.now) c.args.to c.rest_of-rest.result
     c.args.self.now c.lower.new.self c.empty_rest.new.self c.draw_rows.new.self c.hand_over.new.self
     (string_bytes c.args.out.now) (string_bytes c.lower.new.out) (string_bytes c.empty_rest.new.out) (string_bytes c.draw_rows.new.out) (string_bytes c.hand_over.new.out)
-    c.requires.width c.width.ensures.value c.max.ensures c.drawn_rows-drawn.ensures.value c.rest_of-rest.ensures.value
+    c.requires.width c.width.ensures.value c.max.ensures c.rest_of-rest.ensures.value
     c.in_ok-lower.ensures.ok c.in_ok-empty_rest.ensures.ok c.in_ok-draw_rows.ensures.ok last)
     c.hand_over.ensures.ok
 

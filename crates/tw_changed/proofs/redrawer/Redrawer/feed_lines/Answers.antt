@@ -1,4 +1,4 @@
-use Rattle.std.proofs.Common.{◌+◌, string_bytes, arith}
+use Rattle.std.proofs.Common.{string_bytes, arith}
 use Rattle.tw_ansi.specs.Encoding.{sent_byte}
 use Rattle.tw_changed.specs.Redrawings.{fed}
 use Rattle.tw_changed.proofs.AddedChanges.{feed_step, feed_added, extends_more}
