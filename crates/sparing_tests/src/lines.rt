@@ -119,6 +119,15 @@ fn a_full_row_is_followed_by_the_next_one(rt: HostRuntime) -> Result<(), Fail> {
 }
 
 #[test]
+fn a_line_that_goes_on_is_typed_through_the_rows(rt: HostRuntime) -> Result<(), Fail> {
+    let size = ScreenSize { rows: 3, cols: 10 };
+    let shots = [line("> 2345678", 9), line("> 23456789abcdefghijklm", 3)];
+    expect_last(&rt, rt.alloc(), size, NONE, &shots, "9abcdefghijklm")?;
+    let size = ScreenSize { rows: 2, cols: 10 };
+    expect_last(&rt, rt.alloc(), size, NONE, &shots, "9abcdefghijklm")
+}
+
+#[test]
 fn other_characters_are_sent_as_they_are(rt: HostRuntime) -> Result<(), Fail> {
     let shots = [line("> a", 3), line("> \u{e9}", 3)];
     let whole = "\r\x1b[K\x1b[C\x1b[J\r\x1b[0m> \u{e9}\r\x1b[3C";

@@ -22,8 +22,19 @@ fn encode(changes: &[Change], mut encoder: Encoder, out: &mut String) -> Result<
     Ok(encoder)
 }
 
+/// How many of the first rows of an old screen have left a terminal of so many, once it shows a new one. Where the
+/// terminal was filled again they have left it before.
+fn gone_rows(rows: usize, old: &Shown, new: &Shown, is_refilled: bool) -> usize
+    ensures { result ≡ gone_rows is_refilled rows old.now new.now }
+{
+    if is_refilled {
+        old.left_behind(rows)
+    } else {
+        new.left_behind(rows)
+    }
+}
+
 /// Adds what differs of two screens in the rows that have not left a terminal of so many, and returns what is then known.
-/// Where the terminal was filled again, rows have left it only before.
 pub fn send_known(
     alloc: Global,
     rows: usize,
@@ -41,12 +52,8 @@ pub fn send_known(
     ensures next { let changes = changes_below (gone_rows is_refilled rows old.now new.now) (left_behind rows new.now) old.now new.now in
         IfOk result (λ next. next ≡ (terse_batch changes encoder).next) }
 {
+    let old_top = gone_rows(rows, old, new, is_refilled);
     let top = new.left_behind(rows);
-    let old_top = if is_refilled {
-        old.left_behind(rows)
-    } else {
-        top
-    };
     send_below(alloc, old, old_top, new, top, encoder, out)
 }
 
