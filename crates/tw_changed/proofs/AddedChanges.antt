@@ -1,5 +1,5 @@
 -- What is sent for redrawings that follow one another.
-use Rattle.std.proofs.Common.{◌≡◌, ◌+◌, ◌-◌, ◌/◌, ◌%◌, ℕ, suc, max, Bool, leb, Option, true, false, cond, List, [], ◌∷◌, ◌++◌, append_assoc, append-nil, ap, subst, ◌∙◌, sym, refl, arith, ◌&&◌, ◌<◌, ◌≤◌}
+use Rattle.std.proofs.Common.{◌≡◌, ◌+◌, ◌-◌, ◌*◌, ◌/◌, ◌%◌, ℕ, suc, max, Bool, leb, Option, Some, true, false, cond, List, [], ◌∷◌, ◌++◌, append_assoc, append-nil, ap, subst, ◌∙◌, sym, refl, arith, ◌&&◌, ◌<◌, ◌≤◌}
 use Rattle.std.proofs.lemmas.Bool.{and_parts, leb-true, le-leb, lt-leb}
 use Rattle.unicode_segmentation.specs.Grapheme.{graphemes}
 use Rattle.tw_surface.specs.Characters.{is_plain, is_printable}
@@ -9,11 +9,12 @@ use Rattle.tw_ansi.specs.Encoding.{Sent, sent_byte, terse_batch, sent_plain, sen
 use Rattle.tw_changed.specs.declared.hand.Hand.{Hand}
 use Rattle.tw_changed.specs.declared.redrawer.Redrawer.{Redrawer}
 use Rattle.tw_screens.specs.StyledCells.{StyledCell}
-use Rattle.tw_changed.specs.Redrawings.{Redrawing, at_ease, redraw_then, typed_once, cell_redrawn, run_redrawn, row_redrawn, rows_redrawn, rest_of, rest_emptied, left_of, led_to, fed_once, fed, lowest_reached, sunk_to, lowered, handed_to, rows_drawn_on, under, hand_index, indexed, typed_at, index_redrawn, indices_redrawn, goes_on, gone_on, redrawn}
+use Rattle.tw_changed.specs.Redrawings.{Redrawing, at_ease, redraw_then, span_redrawn, row_redrawn, rows_redrawn, rest_of, rest_emptied, left_of, led_to, fed_once, fed, lowest_reached, sunk_to, lowered, handed_to, rows_drawn_on, under, hand_index, indexed, typed_at, cell_redrawn, cells_redrawn, goes_on, gone_on, redrawn}
 use Rattle.tw_changed.specs.Differences.{end_of}
 use Rattle.tw_changed.specs.Sending.{IsAdded}
 use Rattle.tw_changed.proofs.SentBatches.{both_next, both_bytes}
 use Rattle.tw_changed.proofs.SentChanges.{printable_plain}
+use Rattle.tw_changed.proofs.TypedCells.{inside_row}
 
 -- one after the other
 pub added_both : (d : Redrawing) (more : Hand → Redrawing) (a b c : Redrawer) (x y z : List ℕ) → IsAdded d a x b y → IsAdded (more b.hand) b y c z → IsAdded (redraw_then d more) a x c z
@@ -95,19 +96,13 @@ typed_is b e plain =
       ap (λ x. (cond (x && true) one other).next) plain,
     )
 
-pub typed_added : (b : ℕ) (a : Redrawer) (next : Encoder) (x y : List ℕ) → is_printable b ≡ true → y ≡ x ++ (sent_byte a.encoder b).bytes → next ≡ (sent_byte a.encoder b).next
-    → IsAdded (typed_once b a.hand) a x (record { hand = (typed_once b a.hand).hand; encoder = next }) y
-typed_added b a next x y printable bytes is =
-    let same = typed_is b a.encoder (printable_plain b printable) in
-    record { bytes = bytes ∙ ap (λ v. x ++ v) (sym same.0); next = is ∙ sym same.1; hand = refl }
-
 pub feed_added : (a : Redrawer) (next : Encoder) (x y : List ℕ) → y ≡ x ++ (sent_byte a.encoder 10).bytes → next ≡ (sent_byte a.encoder 10).next
     → IsAdded (fed_once a.hand) a x (record { hand = (fed_once a.hand).hand; encoder = next }) y
 feed_added a next x y bytes is =
     let same = typed_is 10 a.encoder refl in
     record { bytes = bytes ∙ ap (λ v. x ++ v) (sym same.0); next = is ∙ sym same.1; hand = refl }
 
--- ---- line feeds, runs and rows
+-- ---- line feeds, cells and rows
 
 pub feed_step : (i count : ℕ) (a b old : Redrawer) (x y before : List ℕ) (all : Redrawing) → i < count
     → SameEnd (fed (count - i) a.hand) a x all old before → IsAdded (fed_once a.hand) a x b y → SameEnd (fed (count - (i + 1)) b.hand) b y all old before
@@ -121,22 +116,46 @@ feed_end i count a old x before all done same = same_added a old x before all (s
 pub extends_more : (before x y more : List ℕ) → ExtendsBytes before x → y ≡ x ++ more → ExtendsBytes before y
 extends_more before x y more (first, e) then = (first ++ more, then ∙ ap (λ v. v ++ more) e ∙ append_assoc before first more)
 
-pub run_step : (line : ℕ → StyledCell) (cell : StyledCell) (col to : ℕ) (a b old : Redrawer) (x y before : List ℕ) (all : Redrawing) → col < to → cell ≡ line col
-    → SameEnd (run_redrawn line col (to - col) a.hand) a x all old before → IsAdded (cell_redrawn cell a.hand) a x b y
-    → SameEnd (run_redrawn line (col + 1) (to - (col + 1)) b.hand) b y all old before
-run_step line cell col to a b old x y before all less is same added =
-    let count : to - col ≡ suc (to - (col + 1)) = omega (arith, less) in
-    let next : suc col ≡ col + 1 = omega arith in
-    subst (λ n. SameEnd (run_redrawn line n (to - (col + 1)) b.hand) b y all old before) next
-    (same_step (cell_redrawn (line col) a.hand) (run_redrawn line (suc col) (to - (col + 1))) a b old x y before all
-    (subst (λ n. SameEnd (run_redrawn line col n a.hand) a x all old before) count same)
-    (subst (λ z. IsAdded (cell_redrawn z a.hand) a x b y) is added))
+-- a cell is typed where the cursor stands before it
+pub cell_added : (w index : ℕ) (cells : ℕ → ℕ → StyledCell) (x : StyledCell) (a b : Redrawer) (next : Encoder) (x0 x1 x2 : List ℕ) → x ≡ indexed w cells index
+    → is_printable x.ch ≡ true → IsAdded (under x.attributes a.hand) a x0 b x1 → x2 ≡ x1 ++ (sent_byte b.encoder x.ch).bytes → next ≡ (sent_byte b.encoder x.ch).next
+    → IsAdded (cell_redrawn w cells index a.hand) a x0 (record { hand = record b.hand { row = index / w; col = index % w + 1 }; encoder = next }) x2
+cell_added w index cells x a b next x0 x1 x2 is printable first bytes known =
+    subst (λ y. IsAdded (redraw_then (under y.attributes a.hand) (typed_at w index y.ch)) a x0 (record { hand = record b.hand { row = index / w; col = index % w + 1 }; encoder = next }) x2) is
+    (added_both (under x.attributes a.hand) (typed_at w index x.ch) a b _ x0 x1 x2 first
+    (let same = typed_is x.ch b.encoder (printable_plain x.ch printable) in record { bytes = bytes ∙ ap (λ v. x1 ++ v) (sym same.0); next = known ∙ sym same.1; hand = refl }))
 
-pub run_end : (line : ℕ → StyledCell) (col to : ℕ) (a old : Redrawer) (x before : List ℕ) (all : Redrawing) → to ≤ col
-    → SameEnd (run_redrawn line col (to - col) a.hand) a x all old before → IsAdded all old before a x
-run_end line col to a old x before all done same =
-    let count : to - col ≡ 0 = omega (arith, done) in
-    same_added a old x before all (subst (λ n. SameEnd (run_redrawn line col n a.hand) a x all old before) count same)
+pub cells_step : (w i to : ℕ) (cells : ℕ → ℕ → StyledCell) (a b old : Redrawer) (x y before : List ℕ) (all : Redrawing) → i < to
+    → SameEnd (cells_redrawn w cells i (to - i) a.hand) a x all old before → IsAdded (cell_redrawn w cells i a.hand) a x b y
+    → SameEnd (cells_redrawn w cells (i + 1) (to - (i + 1)) b.hand) b y all old before
+cells_step w i to cells a b old x y before all less same added =
+    let count : to - i ≡ suc (to - (i + 1)) = omega (arith, less) in
+    let next : suc i ≡ i + 1 = omega arith in
+    subst (λ n. SameEnd (cells_redrawn w cells n (to - (i + 1)) b.hand) b y all old before) next
+    (same_step (cell_redrawn w cells i a.hand) (cells_redrawn w cells (suc i) (to - (i + 1))) a b old x y before all
+    (subst (λ n. SameEnd (cells_redrawn w cells i n a.hand) a x all old before) count same) added)
+
+pub cells_end : (w i to : ℕ) (cells : ℕ → ℕ → StyledCell) (a old : Redrawer) (x before : List ℕ) (all : Redrawing) → to ≤ i
+    → SameEnd (cells_redrawn w cells i (to - i) a.hand) a x all old before → IsAdded all old before a x
+cells_end w i to cells a old x before all done same =
+    same_added a old x before all (subst (λ n. SameEnd (cells_redrawn w cells i n a.hand) a x all old before) (let e : to - i ≡ 0 = omega (arith, done) in e) same)
+
+-- the cells of a row, by their indices
+pub row_printable : (w v r first last : ℕ) (cells : ℕ → ℕ → StyledCell) → v ≡ w → last < w → ((j : ℕ) → j < w → is_printable (cells r j).ch ≡ true)
+    → (m : ℕ) → r * v + first ≤ m → m < r * v + last + 1 → is_printable (indexed w cells m).ch ≡ true
+row_printable w v r first last cells is_v left printable m from to =
+    let start : r * v ≡ r * w = ap (λ n. r * n) is_v in
+    let at : r * w + (m - r * w) ≡ m = omega (arith, from, start) in
+    let place = inside_row w m r (m - r * w) at (omega (arith, to, start, left)) in
+    ap (λ i. is_printable (cells i (m % w)).ch) place.0 ∙ ap (λ j. is_printable (cells r j).ch) place.1 ∙ printable (m - r * w) (omega (arith, to, start, left))
+
+-- those that differ
+pub span_added : (w v r first last : ℕ) (cells : ℕ → ℕ → StyledCell) (a b c : Redrawer) (x y z : List ℕ) → v ≡ w → IsAdded (led_to r first a.hand) a x b y
+    → IsAdded (cells_redrawn w cells (r * v + first) (r * v + last + 1 - (r * v + first)) b.hand) b y c z → IsAdded (span_redrawn w r cells (Some first) (Some last) a.hand) a x c z
+span_added w v r first last cells a b c x y z is_v move typed =
+    added_both (led_to r first a.hand) (cells_redrawn w cells (r * w + first) (last + 1 - first)) a b c x y z move
+    (subst (λ n. IsAdded (cells_redrawn w cells (r * w + first) n b.hand) b y c z) (let e : r * w + last + 1 - (r * w + first) ≡ last + 1 - first = omega arith in e)
+    (subst (λ u. IsAdded (cells_redrawn w cells (r * u + first) (r * u + last + 1 - (r * u + first)) b.hand) b y c z) is_v typed))
 
 pub rows_step : (w : ℕ) (left new : ℕ → ℕ → StyledCell) (row rows : ℕ) (a b old : Redrawer) (x y before : List ℕ) (all : Redrawing) → row < rows
     → SameEnd (rows_redrawn w left new row (rows - row) a.hand) a x all old before → IsAdded (row_redrawn w left new row a.hand) a x b y
@@ -156,35 +175,11 @@ rows_end w left new row rows a old x before all done same =
 
 -- ---- what goes on at the cursor
 
--- a cell is typed where the cursor stands before it
-pub index_added : (w index : ℕ) (cells : ℕ → ℕ → StyledCell) (x : StyledCell) (a b : Redrawer) (next : Encoder) (x0 x1 x2 : List ℕ) → x ≡ indexed w cells index
-    → is_printable x.ch ≡ true → IsAdded (under x.attributes a.hand) a x0 b x1 → x2 ≡ x1 ++ (sent_byte b.encoder x.ch).bytes → next ≡ (sent_byte b.encoder x.ch).next
-    → IsAdded (index_redrawn w cells index a.hand) a x0 (record { hand = record b.hand { row = index / w; col = index % w + 1 }; encoder = next }) x2
-index_added w index cells x a b next x0 x1 x2 is printable first bytes known =
-    subst (λ y. IsAdded (redraw_then (under y.attributes a.hand) (typed_at w index y.ch)) a x0 (record { hand = record b.hand { row = index / w; col = index % w + 1 }; encoder = next }) x2) is
-    (added_both (under x.attributes a.hand) (typed_at w index x.ch) a b _ x0 x1 x2 first
-    (let same = typed_is x.ch b.encoder (printable_plain x.ch printable) in record { bytes = bytes ∙ ap (λ v. x1 ++ v) (sym same.0); next = known ∙ sym same.1; hand = refl }))
-
-pub index_step : (w i to : ℕ) (cells : ℕ → ℕ → StyledCell) (a b old : Redrawer) (x y before : List ℕ) (all : Redrawing) → i < to
-    → SameEnd (indices_redrawn w cells i (to - i) a.hand) a x all old before → IsAdded (index_redrawn w cells i a.hand) a x b y
-    → SameEnd (indices_redrawn w cells (i + 1) (to - (i + 1)) b.hand) b y all old before
-index_step w i to cells a b old x y before all less same added =
-    let count : to - i ≡ suc (to - (i + 1)) = omega (arith, less) in
-    let next : suc i ≡ i + 1 = omega arith in
-    subst (λ n. SameEnd (indices_redrawn w cells n (to - (i + 1)) b.hand) b y all old before) next
-    (same_step (index_redrawn w cells i a.hand) (indices_redrawn w cells (suc i) (to - (i + 1))) a b old x y before all
-    (subst (λ n. SameEnd (indices_redrawn w cells i n a.hand) a x all old before) count same) added)
-
-pub index_end : (w i to : ℕ) (cells : ℕ → ℕ → StyledCell) (a old : Redrawer) (x before : List ℕ) (all : Redrawing) → to ≤ i
-    → SameEnd (indices_redrawn w cells i (to - i) a.hand) a x all old before → IsAdded all old before a x
-index_end w i to cells a old x before all done same =
-    same_added a old x before all (subst (λ n. SameEnd (indices_redrawn w cells i n a.hand) a x all old before) (let e : to - i ≡ 0 = omega (arith, done) in e) same)
-
 pub going_added : (w reached rows from end : ℕ) (new : ℕ → ℕ → StyledCell) (to : Hand) (a b c : Redrawer) (x y z : List ℕ) → from ≡ hand_index w a.hand → end ≡ end_of w rows new
-    → IsAdded (indices_redrawn w new from (end - from) a.hand) a x b y → IsAdded (handed_to reached to b.hand) b y c z → IsAdded (gone_on w reached rows new to a.hand) a x c z
+    → IsAdded (cells_redrawn w new from (end - from) a.hand) a x b y → IsAdded (handed_to reached to b.hand) b y c z → IsAdded (gone_on w reached rows new to a.hand) a x c z
 going_added w reached rows from end new to a b c x y z is_from is_end first last =
-    added_both (indices_redrawn w new (hand_index w a.hand) (end_of w rows new - hand_index w a.hand) a.hand) (handed_to reached to) a b c x y z
-    (subst (λ n. IsAdded (indices_redrawn w new n (end_of w rows new - n) a.hand) a x b y) is_from (subst (λ m. IsAdded (indices_redrawn w new from (m - from) a.hand) a x b y) is_end first)) last
+    added_both (cells_redrawn w new (hand_index w a.hand) (end_of w rows new - hand_index w a.hand) a.hand) (handed_to reached to) a b c x y z
+    (subst (λ n. IsAdded (cells_redrawn w new n (end_of w rows new - n) a.hand) a x b y) is_from (subst (λ m. IsAdded (cells_redrawn w new from (m - from) a.hand) a x b y) is_end first)) last
 
 -- ---- by which way
 

@@ -1,6 +1,6 @@
 -- Rows that are drawn.
-use Rattle.std.proofs.Common.{◌≡◌, ◌<◌, ◌≤◌, ◌+◌, ◌-◌, ◌&&◌, ℕ, ℤ, zero, suc, pos, negsuc, ◌+ℤ◌, ◌-ℤ◌, Bool, true, false, cond, eqb, min, Some, List, [], ◌∷◌, ◌++◌, ap, subst, ◌∙◌, sym, refl, inl, inr, arith}
-use Rattle.std.proofs.lemmas.Bool.{eq-eqb, ne_eqb, eqb-true, cases_eq, and_parts, leb-true}
+use Rattle.std.proofs.Common.{◌≡◌, ◌<◌, ◌≤◌, ◌+◌, ◌-◌, ◌&&◌, ℕ, ℤ, pos, negsuc, ◌+ℤ◌, ◌-ℤ◌, Bool, true, false, cond, eqb, min, Some, List, [], ◌∷◌, ◌++◌, ap, subst, ◌∙◌, sym, refl, arith}
+use Rattle.std.proofs.lemmas.Bool.{eq-eqb, ne_eqb, eqb-true, and_parts, leb-true}
 use Rattle.std.proofs.lemmas.Int.{ints}
 use Rattle.tw_surface.specs.declared.cell.CellAttributes.{CellAttributes}
 use Rattle.tw_surface.specs.contracts.cell.CellAttributesPartialEq.TheImpl.{ghosts as attributes}
@@ -18,7 +18,7 @@ use Rattle.tw_screens.specs.StyledCells.{StyledCell, styled}
 use Rattle.tw_screens.proofs.DrawnChanges.{strokes-append, kept-append}
 use Rattle.tw_ansi.specs.EcmaBatches.{StaysInRows, AllStayInRows}
 use Rattle.tw_changed.specs.declared.hand.Hand.{Hand}
-use Rattle.tw_changed.specs.Redrawings.{Redrawing, at_ease, redraw_then, led_to, under, typed_once, cell_redrawn, run_redrawn}
+use Rattle.tw_changed.specs.Redrawings.{Redrawing, at_ease, redraw_then, led_to, under}
 
 -- a picture whose cursor stands in one of h rows does not scroll
 pub unscrolled : {C : Type 0} (h : ℕ) (p : PictureOf C) → p.row < h → ((scrolled (Some h) p).row ≡ p.row) × ((i j : ℕ) → (scrolled (Some h) p).cell i j ≡ p.cell i j)
@@ -200,100 +200,3 @@ module _ (h w : ℕ) where
   -- the picture with a cell at its cursor, which goes on
   abbrev pub put_here : StyledCell → PictureOf StyledCell → PictureOf StyledCell
   put_here x p = record { cell = put_in p.cell p.row p.col x; row = p.row; col = p.col + 1 }
-
-  -- a cell is put at the cursor, and the cursor goes on
-  pub record Inked (s : ℕ) (x : StyledCell) (hand : Hand) (d : Redrawing) (p : PictureOf StyledCell) : Type 0 where
-    pub leads : Leads s hand d p
-    pub row : d.hand.row ≡ hand.row
-    pub col : d.hand.col ≡ hand.col + 1
-    pub cells : (i j : ℕ) → (redrawn_on hand d p).cell i j ≡ put_in p.cell (s + hand.row) hand.col x i j
-
-  typed_inked : (s ch : ℕ) (hand : Hand) (p : PictureOf StyledCell) → s + hand.row < h → hand.col < w → is_printable ch ≡ true → Holds s hand p
-      → Inked s (record { ch = ch; attributes = hand.attributes }) hand (typed_once ch hand) p
-  typed_inked s ch hand p low left printable holds =
-      let x : StyledCell = record { ch = ch; attributes = hand.attributes } in
-      let below : PictureOf StyledCell = record { cell = put_in p.cell (p.row + 1) 0 x; row = p.row + 1; col = 1 } in
-      let is : redrawn_on hand (typed_once ch hand) p ≡ scrolled (Some h) (put_here x p) =
-      ap (λ stroke. scrolled (Some h) (step w stroke p)) (put_stroke hand.attributes ch printable)
-      ∙ ap (λ b. scrolled (Some h) (cond b below (put_here x p))) (ne_eqb p.col w (λ e. omega (arith, e, holds.col, left))) in
-      let still = unscrolled h (put_here x p) (omega (arith, holds.row, low)) in
-      record {
-        leads = record {
-          kept = refl;
-          holds = record {
-            row = ap (λ (q : PictureOf StyledCell). q.row) is ∙ still.0 ∙ holds.row;
-            col = ap (λ (q : PictureOf StyledCell). q.col) is ∙ ap (λ n. n + 1) holds.col;
-          };
-          stays = (tt, tt);
-        };
-        row = refl;
-        col = refl;
-        cells = λ i j. ap (λ (q : PictureOf StyledCell). q.cell i j) is ∙ still.1 i j ∙ ap (λ r. put_in p.cell r p.col x i j) holds.row ∙ ap (λ c. put_in p.cell (s + hand.row) c x i j) holds.col;
-      }
-
-  -- a cell is put at the cursor, under its attributes
-  pub cell_inked : (s : ℕ) (x : StyledCell) (hand : Hand) (p : PictureOf StyledCell) → s + hand.row < h → hand.col < w → is_printable x.ch ≡ true → Holds s hand p
-      → Inked s x hand (cell_redrawn x hand) p
-  cell_inked s x hand p low left printable holds =
-      let u = is_under s x.attributes hand p holds in
-      let first : Redrawing = under x.attributes hand in
-      let q : PictureOf StyledCell = redrawn_on hand first p in
-      let t = typed_inked s x.ch first.hand q (omega (arith, u.row, low)) (omega (arith, u.col, left)) printable u.leads.holds in
-      let is = redrawn_both hand first (typed_once x.ch) p u.leads.kept in
-      record {
-        leads = leads_both s hand first (typed_once x.ch) p u.leads t.leads;
-        row = t.row ∙ u.row;
-        col = t.col ∙ ap (λ n. n + 1) u.col;
-        cells = λ i j.
-            ap (λ (v : PictureOf StyledCell). v.cell i j) is
-            ∙ t.cells i j
-            ∙ ap (λ (v : PictureOf StyledCell). put_in v.cell (s + first.hand.row) first.hand.col (record { ch = x.ch; attributes = first.hand.attributes }) i j) u.same
-            ∙ ap (λ n. put_in p.cell (s + n) first.hand.col (record { ch = x.ch; attributes = first.hand.attributes }) i j) u.row
-            ∙ ap (λ n. put_in p.cell (s + hand.row) n (record { ch = x.ch; attributes = first.hand.attributes }) i j) u.col
-            ∙ ap (λ a. put_in p.cell (s + hand.row) hand.col (record { ch = x.ch; attributes = a }) i j) u.attributes;
-      }
-
-  -- ---- runs
-
-  -- n cells of a row are shown from column c of row r on, and all else is as it was
-  pub record RunInked (s r c n : ℕ) (line : ℕ → StyledCell) (hand : Hand) (d : Redrawing) (p : PictureOf StyledCell) : Type 0 where
-    pub leads : Leads s hand d p
-    pub row : d.hand.row ≡ r
-    pub inside : (j : ℕ) → c ≤ j → j < c + n → (redrawn_on hand d p).cell (s + r) j ≡ line j
-    pub before : (j : ℕ) → j < c → (redrawn_on hand d p).cell (s + r) j ≡ p.cell (s + r) j
-    pub behind : (j : ℕ) → c + n ≤ j → (redrawn_on hand d p).cell (s + r) j ≡ p.cell (s + r) j
-    pub others : (i j : ℕ) → (i ≡ s + r → ⊥) → (redrawn_on hand d p).cell i j ≡ p.cell i j
-
-  pub run_inked : (s r c n : ℕ) (line : ℕ → StyledCell) (hand : Hand) (p : PictureOf StyledCell)
-      → s + r < h → c + n ≤ w → ((j : ℕ) → c ≤ j → j < c + n → is_printable (line j).ch ≡ true) → hand.row ≡ r → hand.col ≡ c → Holds s hand p
-      → RunInked s r c n line hand (run_redrawn line c n hand) p
-  run_inked s r c zero line hand p low left printable row col holds = record {
-    leads = leads_ease s hand p holds;
-    row = row;
-    inside = λ j from to. absurd (omega (arith, from, to));
-    before = λ j to. refl;
-    behind = λ j from. refl;
-    others = λ i j other. refl;
-  }
-  run_inked s r c (suc n) line hand p low left printable row col holds =
-      let x : StyledCell = line c in
-      let first : Redrawing = cell_redrawn x hand in
-      let a = cell_inked s x hand p (omega (arith, row, low)) (omega (arith, col, left)) (printable c (omega arith) (omega arith)) holds in
-      let q : PictureOf StyledCell = redrawn_on hand first p in
-      let b = run_inked s r (suc c) n line first.hand q low (omega (arith, left)) (λ j from to. printable j (omega (arith, from)) (omega (arith, to))) (a.row ∙ row) (a.col ∙ omega (arith, col)) a.leads.holds in
-      let is = redrawn_both hand first (run_redrawn line (suc c) n) p a.leads.kept in
-      let here : (i j : ℕ) → q.cell i j ≡ put_in p.cell (s + r) c x i j =
-      λ i j. a.cells i j ∙ ap (λ k. put_in p.cell (s + k) hand.col x i j) row ∙ ap (λ k. put_in p.cell (s + r) k x i j) col in
-      let last : PictureOf StyledCell = redrawn_on first.hand (run_redrawn line (suc c) n first.hand) q in
-      let to_last : (i j : ℕ) → (redrawn_on hand (run_redrawn line c (suc n) hand) p).cell i j ≡ last.cell i j = λ i j. ap (λ (v : PictureOf StyledCell). v.cell i j) is in
-      record {
-        leads = leads_both s hand first (run_redrawn line (suc c) n) p a.leads b.leads;
-        row = b.row;
-        inside = λ j from to. elim (cases_eq j c) [
-          | inl e ↦ to_last (s + r) j ∙ b.before j (omega (arith, e)) ∙ here (s + r) j ∙ put_there p.cell (s + r) c x j e ∙ ap line (sym e)
-          | inr more ↦ to_last (s + r) j ∙ b.inside j (omega (arith, from, more)) (omega (arith, to))
-        ];
-        before = λ j to. to_last (s + r) j ∙ b.before j (omega (arith, to)) ∙ here (s + r) j ∙ put_beside p.cell (s + r) c x j (λ e. omega (arith, e, to));
-        behind = λ j from. to_last (s + r) j ∙ b.behind j (omega (arith, from)) ∙ here (s + r) j ∙ put_beside p.cell (s + r) c x j (λ e. omega (arith, e, from));
-        others = λ i j other. to_last i j ∙ b.others i j other ∙ here i j ∙ put_away p.cell (s + r) c x i j other;
-      }

@@ -1,10 +1,10 @@
 pub mod FoundColumns
 pub mod DrawnRows
+pub mod TypedCells
 pub mod DrawnScreens
 pub mod DrawnEnds
 pub mod DrawnChangedScreens
 pub mod OnwardScreens
-pub mod OnwardChanges
 pub mod SentBatches
 pub mod SentChanges
 pub mod ShownChanges

@@ -1,214 +1,124 @@
--- A picture on which cells are typed on from the cursor, through the rows.
-use Rattle.std.proofs.Common.{◌≡◌, ◌<◌, ◌≤◌, ◌+◌, ◌-◌, ◌*◌, ◌/◌, ◌%◌, ℕ, zero, suc, true, cond, eqb, Some, ap, subst, ◌∙◌, sym, refl, inl, inr, arith}
+-- A picture on which the new cells are typed on from the cursor is the new one.
+use Rattle.std.proofs.Common.{◌≡◌, ◌<◌, ◌≤◌, ◌+◌, ◌-◌, ◌*◌, ◌/◌, ◌%◌, ℕ, suc, max, true, is_none, ap, subst, ◌∙◌, sym, refl, inl, inr, arith}
 use Rattle.std.proofs.Math.Nat.{mod-lt, div-lt_iff_lt-mul}
-use Rattle.std.proofs.lemmas.Bool.{cases_eq, cases_lt, eq-eqb, ne_eqb}
-use Rattle.std.proofs.lemmas.Nat.{div-mul-add, mod-mul-add, div-add-mod'}
-use Rattle.tw_surface.specs.Characters.{is_printable}
-use Rattle.tw_strokes.specs.Strokes.{PictureOf, put_in, step, scrolled}
+use Rattle.std.proofs.lemmas.Bool.{cases_lt, and_parts, leb-true, false≢true}
+use Rattle.std.proofs.lemmas.Nat.{div-mul-add, mod-mul-add, mul-le}
+use Rattle.tw_extremes.specs.Extremes.{NonePasses}
+use Rattle.tw_strokes.specs.Strokes.{PictureOf}
 use Rattle.tw_screens.specs.Pens.{strokes_of}
 use Rattle.tw_screens.specs.StyledCells.{StyledCell, styled}
 use Rattle.tw_changed.specs.declared.hand.Hand.{Hand}
-use Rattle.tw_changed.specs.Redrawings.{Redrawing, under, hand_index, indexed, typed_at, index_redrawn, indices_redrawn}
-use Rattle.tw_changed.proofs.DrawnRows.{Holds, redrawn_on, redrawn_both, Leads, leads_then, leads_ease, is_under, put_stroke, put_here, put_there, put_beside, put_away, unscrolled, rows_inside}
+use Rattle.tw_changed.specs.Differences.{differ_in, blank_cell, end_of}
+use Rattle.tw_changed.specs.Redrawings.{Redrawing, hand_index, indexed, cells_redrawn, goes_on, gone_on, handed_to}
+use Rattle.tw_changed.specs.Sending.{ArePrintable}
+use Rattle.tw_changed.proofs.FoundColumns.{greatest_cases, same_where}
+use Rattle.tw_changed.proofs.DrawnRows.{Holds, redrawn_on, redrawn_both, kept_both, rows_inside}
+use Rattle.tw_changed.proofs.DrawnEnds.{ShowsFrom, end_within, blank_at}
+use Rattle.tw_changed.proofs.DrawnChangedScreens.{Becomes, Handed, handed}
+use Rattle.tw_changed.proofs.TypedCells.{WentOn, went_on, top_after}
 
--- the row and the column of an index
-module _ (w k row col : ℕ) (at : row * w + col ≡ k) where
-  pub inside_row : col < w → (k / w ≡ row) × (k % w ≡ col)
-  inside_row left = (ap (λ n. n / w) (sym at) ∙ div-mul-add row w col left, ap (λ n. n % w) (sym at) ∙ mod-mul-add row w col left)
+-- what is known where a screen goes on
+pub record GoesOn (w reached rows : ℕ) (old new : ℕ → ℕ → StyledCell) (to hand : Hand) : Type 0 where
+  pub low : rows ≤ max reached (to.row + 1)
+  pub ends : end_of w rows old ≤ hand_index w hand
+  pub same : NonePasses (differ_in (indexed w old) (indexed w new)) 0 (hand_index w hand)
 
-  after_row : 0 < w → col ≡ w → (k / w ≡ row + 1) × (k % w ≡ 0)
-  after_row some past =
-      let next : k ≡ suc row * w + 0 = omega (arith, at, past) in (
-        ap (λ n. n / w) next ∙ div-mul-add (suc row) w 0 some ∙ omega arith,
-        ap (λ n. n % w) next ∙ mod-mul-add (suc row) w 0 some,
-      )
+pub going_on : (w reached rows : ℕ) (old new : ℕ → ℕ → StyledCell) (to hand : Hand) → goes_on w reached rows old new to hand ≡ true → GoesOn w reached rows old new to hand
+going_on w reached rows old new to hand is =
+    let full = and_parts _ _ is in
+    let same = and_parts _ _ full.0 in
+    let ends = and_parts _ _ same.0 in
+    record {
+      low = leb-true _ _ ends.0;
+      ends = leb-true _ _ ends.1;
+      same = elim (greatest_cases (differ_in (indexed w old) (indexed w new)) (hand_index w hand)) [
+        | inl none ↦ none.1
+        | inr found ↦ absurd (false≢true (sym (ap is_none found.1) ∙ same.1))
+      ];
+    }
 
--- a cell that another place is given
-put_elsewhere : {C : Type 0} (f : ℕ → ℕ → C) (r c : ℕ) (x : C) (i j : ℕ) → (i ≡ r → j ≡ c → ⊥) → put_in f r c x i j ≡ f i j
-put_elsewhere f r c x i j other = elim (cases_eq i r) [
-  | inl e ↦ ap (λ n. put_in f r c x n j) e ∙ put_beside f r c x j (other e) ∙ ap (λ n. f n j) (sym e)
-  | inr n ↦ put_away f r c x i j n
-]
+module _ (h w s reached rows : ℕ) (old new : ℕ → ℕ → StyledCell) (to hand : Hand) (p : PictureOf StyledCell) (some : 0 < w) (most : rows ≤ h) (known : s + reached ≤ h)
+    (inside : p.row < h) (edge : hand.col ≤ w) (to_row : to.row < rows) (to_col : to.col < w)
+    (old_blank : (i j : ℕ) → rows ≤ i → old i j ≡ blank_cell) (new_blank : (i j : ℕ) → rows ≤ i → new i j ≡ blank_cell) (printable : (i : ℕ) → i < rows → ArePrintable w (new i))
+    (is_old : ShowsFrom h w s old p) (holds : Holds s hand p) (goes : GoesOn w reached rows old new to hand) where
+  abbrev start : ℕ
+  start = hand_index w hand
 
-module _ (h w : ℕ) (some : 0 < w) where
-  -- the row from which on a picture shows what it showed from row s on, once its cursor has gone to row r of that
-  abbrev pub top_after : ℕ → ℕ → ℕ
-  top_after s r = s - (s + r + 1 - h)
+  abbrev pub count : ℕ
+  count = end_of w rows new - start
 
-  -- the cell of an index is typed where the cursor stands before it, and the rows go up as far as that needs
-  record TypedAt (s k : ℕ) (x : StyledCell) (hand : Hand) (d : Redrawing) (p : PictureOf StyledCell) : Type 0 where
-    pub leads : Leads h w (top_after s (k / w)) hand d p
-    pub row : d.hand.row ≡ k / w
-    pub col : d.hand.col ≡ k % w + 1
-    pub cells : (i j : ℕ) → (redrawn_on h w hand d p).cell i j ≡ put_in p.cell (s + k / w) (k % w) x (i + (s - top_after s (k / w))) j
+  abbrev pub typing : Redrawing
+  typing = cells_redrawn w new start count hand
 
-  module _ (s k ch : ℕ) (hand : Hand) (p : PictureOf StyledCell) (low : k / w < h) (edge : hand.col ≤ w) (at : hand_index w hand ≡ k) (inside : p.row < h)
-      (printable : is_printable ch ≡ true) (holds : Holds s hand p) where
-    abbrev inked : StyledCell
-    inked = record { ch = ch; attributes = hand.attributes }
+  -- the cells that are typed are in the rows, or none are typed
+  limit : start + count ≤ max rows (hand.row + 1) * w
+  limit =
+      let ends = end_within w rows new in
+      let all : rows * w ≤ max rows (hand.row + 1) * w = mul-le rows w (max rows (hand.row + 1)) w (omega arith) (omega arith) in
+      let here : suc hand.row * w ≤ max rows (hand.row + 1) * w = mul-le (suc hand.row) w (max rows (hand.row + 1)) w (omega arith) (omega arith) in
+      omega (arith, ends, all, here, edge)
 
-    abbrev wrapped : PictureOf StyledCell
-    wrapped = record { cell = put_in p.cell (p.row + 1) 0 inked; row = p.row + 1; col = 1 }
+  within : start + count ≤ h * w
+  within =
+      let top : max rows (hand.row + 1) * w ≤ h * w = mul-le (max rows (hand.row + 1)) w h w (omega (arith, most, holds.row, inside)) (omega arith) in
+      let low = limit in
+      omega (arith, low, top)
 
-    put_is : redrawn_on h w hand (typed_at w k ch hand) p ≡ scrolled (Some h) (cond (eqb p.col w) wrapped (put_here h w inked p))
-    put_is = ap (λ stroke. scrolled (Some h) (step w stroke p)) (put_stroke h w hand.attributes ch printable)
+  pub typed_printable : (m : ℕ) → start ≤ m → m < start + count → (m / w < rows) × (m % w < w)
+  typed_printable m from to =
+      let ends = end_within w rows new in
+      ((div-lt_iff_lt-mul some).1 (omega (arith, from, to, ends)), mod-lt m some)
 
-    typed_inside : hand.col < w → TypedAt s k inked hand (typed_at w k ch hand) p
-    typed_inside left =
-        let place = inside_row w k hand.row hand.col at left in
-        let is : redrawn_on h w hand (typed_at w k ch hand) p ≡ scrolled (Some h) (put_here h w inked p) =
-        put_is ∙ ap (λ b. scrolled (Some h) (cond b wrapped (put_here h w inked p))) (ne_eqb p.col w (λ e. omega (arith, e, holds.col, left))) in
-        let still = unscrolled h (put_here h w inked p) inside in
-        let fixed : s ≡ top_after s (k / w) = omega (arith, place.0, holds.row, inside) in
-        record {
-          leads = record {
-            kept = refl;
-            holds = record {
-              row = ap (λ (q : PictureOf StyledCell). q.row) is ∙ still.0 ∙ omega (arith, holds.row, place.0, fixed);
-              col = ap (λ (q : PictureOf StyledCell). q.col) is ∙ omega (arith, holds.col, place.1);
-            };
-            stays = (tt, tt);
-          };
-          row = refl;
-          col = refl;
-          cells = λ i j.
-              ap (λ (q : PictureOf StyledCell). q.cell i j) is ∙ still.1 i j
-              ∙ ap (λ r. put_in p.cell r p.col inked i j) (let e : p.row ≡ s + k / w = omega (arith, holds.row, place.0) in e)
-              ∙ ap (λ c. put_in p.cell (s + k / w) c inked i j) (holds.col ∙ sym place.1)
-              ∙ ap (λ n. put_in p.cell (s + k / w) (k % w) inked n j) (let e : i ≡ i + (s - top_after s (k / w)) = omega (arith, fixed) in e);
-        }
+  pub typing_goes : WentOn h w some s start count new hand typing p
+  typing_goes = went_on h w some s start count new hand p within edge refl inside (λ m from to. let place = typed_printable m from to in printable (m / w) place.0 (m % w) place.1) holds
 
-    typed_after : hand.col ≡ w → TypedAt s k inked hand (typed_at w k ch hand) p
-    typed_after past =
-        let place = after_row w k hand.row hand.col at some past in
-        let is : redrawn_on h w hand (typed_at w k ch hand) p ≡ scrolled (Some h) wrapped =
-        put_is ∙ ap (λ b. scrolled (Some h) (cond b wrapped (put_here h w inked p))) (eq-eqb p.col w (holds.col ∙ past)) in
-        let up : p.row + 1 ≡ s + k / w = omega (arith, holds.row, place.0) in
-        record {
-          leads = record {
-            kept = refl;
-            holds = record {
-              row = ap (λ (q : PictureOf StyledCell). q.row) is ∙ omega (arith, up, low);
-              col = ap (λ (q : PictureOf StyledCell). q.col) is ∙ omega (arith, place.1);
-            };
-            stays = (tt, tt);
-          };
-          row = refl;
-          col = refl;
-          cells = λ i j.
-              ap (λ (q : PictureOf StyledCell). q.cell i j) is
-              ∙ ap (λ r. put_in p.cell r 0 inked (i + (p.row + 1 + 1 - h)) j) up
-              ∙ ap (λ c. put_in p.cell (s + k / w) c inked (i + (p.row + 1 + 1 - h)) j) (sym place.1)
-              ∙ ap (λ n. put_in p.cell (s + k / w) (k % w) inked n j) (let e : i + (p.row + 1 + 1 - h) ≡ i + (s - top_after s (k / w)) = omega (arith, up, low) in e);
-        }
+  abbrev top : ℕ
+  top = top_after h w some s typing.hand.row
 
-    typed : TypedAt s k inked hand (typed_at w k ch hand) p
-    typed = elim (cases_lt hand.col w) [ inl left ↦ typed_inside left | inr past ↦ typed_after (omega (arith, edge, past)) ]
+  pub last_row : typing.hand.row < max rows (hand.row + 1)
+  last_row = typing_goes.low (max rows (hand.row + 1)) (omega arith) limit
 
-  -- so it is under the cell's attributes
-  index_inked : (s k : ℕ) (cells : ℕ → ℕ → StyledCell) (hand : Hand) (p : PictureOf StyledCell) → k / w < h → hand.col ≤ w → hand_index w hand ≡ k → p.row < h
-      → is_printable (indexed w cells k).ch ≡ true → Holds s hand p → TypedAt s k (indexed w cells k) hand (index_redrawn w cells k hand) p
-  index_inked s k cells hand p low edge at inside printable holds =
-      let x : StyledCell = indexed w cells k in
-      let u = is_under h w s x.attributes hand p holds in
-      let first : Redrawing = under x.attributes hand in
-      let more : Hand → Redrawing = typed_at w k x.ch in
-      let q : PictureOf StyledCell = redrawn_on h w hand first p in
-      let same_index : hand_index w first.hand ≡ k = ap (λ r. r * w + first.hand.col) u.row ∙ ap (λ c. hand.row * w + c) u.col ∙ at in
-      let b = typed s k x.ch first.hand q low (omega (arith, u.col, edge)) same_index (rows_inside h w (strokes_of styled hand.attributes first.changes) p inside) printable u.leads.holds in
+  shown_then : ShowsFrom h w top new (redrawn_on h w hand typing p)
+  shown_then i j left = elim (cases_lt (i * w + j) start) [
+    | inl before ↦
+        let row : (i * w + j) / w ≡ i = div-mul-add i w j left in
+        let col : (i * w + j) % w ≡ j = mod-mul-add i w j left in
+        typing_goes.before i j left before ∙ is_old i j left
+        ∙ ap (λ n. old n j) (sym row) ∙ ap (λ n. old ((i * w + j) / w) n) (sym col)
+        ∙ same_where (indexed w old) (indexed w new) (i * w + j) (goes.same (i * w + j) (omega arith) before)
+        ∙ ap (λ n. new ((i * w + j) / w) n) col ∙ ap (λ n. new n j) row
+    | inr from ↦ elim (cases_lt (i * w + j) (start + count)) [
+      | inl to ↦ typing_goes.inside i j left from to
+      | inr behind ↦
+          typing_goes.behind i j left behind ∙ is_old i j left
+          ∙ blank_at w rows old i j (omega (arith, from, goes.ends)) old_blank left ∙ sym (blank_at w rows new i j (omega (arith, behind)) new_blank left)
+    ]
+  ]
+
+  pub handing : Handed h w top (s - (s + rows - h)) reached to typing.hand (redrawn_on h w hand typing p)
+  handing =
+      let last = last_row in
+      let end : top - (top + to.row + 1 - h) ≡ s - (s + rows - h) = omega (arith, last, goes.low, known, holds.row, inside, to_row, most) in
+      subst (λ t. Handed h w top t reached to typing.hand (redrawn_on h w hand typing p)) end
+      (handed h w top reached to typing.hand (redrawn_on h w hand typing p) (omega (arith, known)) (omega (arith, to_row, most)) to_col
+      (rows_inside h w (strokes_of styled hand.attributes typing.changes) p inside) typing_goes.leads.holds)
+
+  pub becomes_onward : Becomes h w s (s - (s + rows - h)) new to hand (gone_on w reached rows new to hand) p
+  becomes_onward =
+      let last : Hand → Redrawing = handed_to reached to in
+      let t : ℕ = s - (s + rows - h) in
+      let q : PictureOf StyledCell = redrawn_on h w hand typing p in
+      let is = redrawn_both h w hand typing last p typing_goes.leads.kept in
+      let rests = last_row in
+      let cell_is : (i j : ℕ) → (redrawn_on h w hand (gone_on w reached rows new to hand) p).cell i j ≡ q.cell (i + (top - t)) j =
+      λ i j. ap (λ (v : PictureOf StyledCell). v.cell i j) is ∙ handing.cells i j in
+      let up : t ≤ top = omega (arith, rests, goes.low, known, holds.row, inside, to_row, most) in
       record {
-        leads = leads_then h w s (top_after s (k / w)) hand first more p u.leads b.leads;
-        row = b.row;
-        col = b.col;
-        cells = λ i j.
-            ap (λ (v : PictureOf StyledCell). v.cell i j) (redrawn_both h w hand first more p u.leads.kept) ∙ b.cells i j
-            ∙ ap (λ (v : PictureOf StyledCell). put_in v.cell (s + k / w) (k % w) (record { ch = x.ch; attributes = first.hand.attributes }) (i + (s - top_after s (k / w))) j) u.same
-            ∙ ap (λ a. put_in p.cell (s + k / w) (k % w) (record { ch = x.ch; attributes = a }) (i + (s - top_after s (k / w))) j) u.attributes;
+        kept = kept_both h w hand typing last typing_goes.leads.kept ∙ handing.kept;
+        row = ap (λ (v : PictureOf StyledCell). v.row) is ∙ handing.row;
+        col = ap (λ (v : PictureOf StyledCell). v.col) is ∙ handing.col;
+        shown = λ i j left. cell_is (s - (s + rows - h) + i) j ∙ ap (λ n. q.cell n j) (let e : t + i + (top - t) ≡ top + i = omega (arith, up) in e) ∙ shown_then i j left;
+        above = λ i j low.
+            cell_is i j ∙ typing_goes.above (i + (top - t)) j (omega (arith, low, up))
+            ∙ ap (λ n. p.cell n j) (let e : i + (top - t) + (s - top) ≡ i + (s - t) = omega (arith, up) in e);
       }
-
-  -- n cells from index k on are shown, all other cells are as they were, and all of them have gone up as far as the cursor's row needs
-  pub record WentOn (s k n : ℕ) (cells : ℕ → ℕ → StyledCell) (hand : Hand) (d : Redrawing) (p : PictureOf StyledCell) : Type 0 where
-    pub leads : Leads h w (top_after s d.hand.row) hand d p
-    pub down : hand.row ≤ d.hand.row
-    pub edge : d.hand.col ≤ w
-    pub at : hand_index w d.hand ≡ k + n
-    pub low : (limit : ℕ) → hand.row < limit → k + n ≤ limit * w → d.hand.row < limit
-    pub inside : (i j : ℕ) → j < w → k ≤ i * w + j → i * w + j < k + n → (redrawn_on h w hand d p).cell (top_after s d.hand.row + i) j ≡ cells i j
-    pub before : (i j : ℕ) → j < w → i * w + j < k → (redrawn_on h w hand d p).cell (top_after s d.hand.row + i) j ≡ p.cell (s + i) j
-    pub behind : (i j : ℕ) → j < w → k + n ≤ i * w + j → (redrawn_on h w hand d p).cell (top_after s d.hand.row + i) j ≡ p.cell (s + i) j
-    pub above : (i j : ℕ) → i < top_after s d.hand.row → (redrawn_on h w hand d p).cell i j ≡ p.cell (i + (s - top_after s d.hand.row)) j
-
-  -- the index of a place
-  index_is : (i j k : ℕ) → j < w → i * w + j ≡ k → (i ≡ k / w) × (j ≡ k % w)
-  index_is i j k left e = let place = inside_row w k i j e left in (sym place.0, sym place.1)
-
-  other_place : (s i j k : ℕ) → (i * w + j ≡ k → ⊥) → s + i ≡ s + k / w → j ≡ k % w → ⊥
-  other_place s i j k other row col =
-      let same : i ≡ k / w = omega (arith, row) in
-      other (ap (λ n. n * w + j) same ∙ ap (λ n. k / w * w + n) col ∙ div-add-mod' k w)
-
-  pub went_on : (s k n : ℕ) (cells : ℕ → ℕ → StyledCell) (hand : Hand) (p : PictureOf StyledCell) → k + n ≤ h * w → hand.col ≤ w → hand_index w hand ≡ k → p.row < h
-      → ((m : ℕ) → k ≤ m → m < k + n → is_printable (indexed w cells m).ch ≡ true) → Holds s hand p
-      → WentOn s k n cells hand (indices_redrawn w cells k n hand) p
-  went_on s k zero cells hand p room edge at inside printable holds =
-      let fixed : top_after s hand.row ≡ s = omega (arith, holds.row, inside) in
-      record {
-        leads = subst (λ t. Leads h w t hand (indices_redrawn w cells k 0 hand) p) (sym fixed) (leads_ease h w s hand p holds);
-        down = omega arith;
-        edge = edge;
-        at = at ∙ omega arith;
-        low = λ limit from to. from;
-        inside = λ i j left from to. absurd (omega (arith, from, to));
-        before = λ i j left to. ap (λ n. p.cell (n + i) j) fixed;
-        behind = λ i j left from. ap (λ n. p.cell (n + i) j) fixed;
-        above = λ i j up. ap (λ n. p.cell n j) (let e : i ≡ i + (s - top_after s hand.row) = omega (arith, fixed) in e);
-      }
-  went_on s k (suc n) cells hand p room edge at inside printable holds =
-      let x : StyledCell = indexed w cells k in
-      let low : k / w < h = (div-lt_iff_lt-mul some).1 (omega (arith, room)) in
-      let first : Redrawing = index_redrawn w cells k hand in
-      let more : Hand → Redrawing = indices_redrawn w cells (suc k) n in
-      let a = index_inked s k cells hand p low edge at inside (printable k (omega arith) (omega arith)) holds in
-      let mid : ℕ = top_after s (k / w) in
-      let q : PictureOf StyledCell = redrawn_on h w hand first p in
-      let next_at : hand_index w first.hand ≡ suc k = (let whole : k / w * w + k % w ≡ k = div-add-mod' k w in omega (arith, whole)) in
-      let next_edge : first.hand.col ≤ w = (let within : k % w < w = mod-lt k some in omega (arith, within)) in
-      let b = went_on (top_after s (k / w)) (suc k) n cells first.hand q (omega (arith, room)) next_edge next_at (rows_inside h w (strokes_of styled hand.attributes first.changes) p inside)
-      (λ m from to. printable m (omega (arith, from)) (omega (arith, to))) a.leads.holds in
-      let d : Redrawing = indices_redrawn w cells k (suc n) hand in
-      let last : PictureOf StyledCell = redrawn_on h w first.hand (more first.hand) q in
-      let to_last : (i j : ℕ) → (redrawn_on h w hand d p).cell i j ≡ last.cell i j = λ i j. ap (λ (v : PictureOf StyledCell). v.cell i j) (redrawn_both h w hand first more p a.leads.kept) in
-      let end : top_after (top_after s (k / w)) d.hand.row ≡ top_after s d.hand.row = (let down = b.down in omega (arith, down)) in
-      let from_row : hand.row ≤ k / w = first_row in
-      let elsewhere : (i j : ℕ) → (i * w + j ≡ k → ⊥) → q.cell (mid + i) j ≡ p.cell (s + i) j =
-      λ i j other. a.cells (top_after s (k / w) + i) j ∙ ap (λ n. put_in p.cell (s + k / w) (k % w) x n j) (let e : mid + i + (s - mid) ≡ s + i = omega arith in e)
-      ∙ put_elsewhere p.cell (s + k / w) (k % w) x (s + i) j (other_place s i j k other) in
-      record {
-        leads = subst (λ t. Leads h w t hand (indices_redrawn w cells k (suc n) hand) p) end (leads_then h w (top_after s (k / w)) _ hand first more p a.leads b.leads);
-        down = (let later = b.down in omega (arith, later, from_row));
-        edge = b.edge;
-        at = b.at ∙ omega arith;
-        low = λ limit from to. b.low limit ((div-lt_iff_lt-mul some).1 (omega (arith, to))) (omega (arith, to));
-        inside = λ i j left from to. ap (λ t. (redrawn_on h w hand d p).cell (t + i) j) (sym end) ∙ to_last _ j ∙ elim (cases_eq (i * w + j) k) [
-          | inl e ↦
-              let place = index_is i j k left e in
-              b.before i j left (omega (arith, e)) ∙ a.cells (top_after s (k / w) + i) j
-              ∙ ap (λ n. put_in p.cell (s + k / w) (k % w) x n j) (let e : mid + i + (s - mid) ≡ s + k / w = omega (arith, place.0) in e)
-              ∙ put_there p.cell (s + k / w) (k % w) x j place.1 ∙ ap (λ r. cells r (k % w)) (sym place.0) ∙ ap (λ c. cells i c) (sym place.1)
-          | inr other ↦ b.inside i j left (omega (arith, from, other)) (omega (arith, to))
-        ];
-        before = λ i j left to.
-            ap (λ t. (redrawn_on h w hand d p).cell (t + i) j) (sym end) ∙ to_last _ j ∙ b.before i j left (omega (arith, to)) ∙ elsewhere i j (λ e. omega (arith, e, to));
-        behind = λ i j left from.
-            ap (λ t. (redrawn_on h w hand d p).cell (t + i) j) (sym end) ∙ to_last _ j ∙ b.behind i j left (omega (arith, from)) ∙ elsewhere i j (λ e. omega (arith, e, from));
-        above = λ i j up.
-            to_last i j ∙ b.above i j (omega (arith, up, end)) ∙ a.cells (i + (top_after s (k / w) - top_after (top_after s (k / w)) d.hand.row)) j
-            ∙ ap (λ n. put_in p.cell (s + k / w) (k % w) x n j) (let down = b.down in let e : i + (mid - top_after mid d.hand.row) + (s - mid) ≡ i + (s - top_after s d.hand.row) = omega (arith, end) in e)
-            ∙ put_away p.cell (s + k / w) (k % w) x (i + (s - top_after s d.hand.row)) j (λ e. omega (arith, e, up));
-      }
-    where
-      first_row : hand.row ≤ k / w
-      first_row = elim (cases_lt hand.col w) [
-        | inl left ↦ let place = inside_row w k hand.row hand.col at left in omega (arith, place.0)
-        | inr past ↦ let place = after_row w k hand.row hand.col at some (omega (arith, edge, past)) in omega (arith, place.0)
-      ]

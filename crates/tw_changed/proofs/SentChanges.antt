@@ -1,5 +1,5 @@
 -- The changes of a redrawing are such that their bytes do what they do.
-use Rattle.std.proofs.Common.{◌≡◌, ◌<◌, ◌≤◌, ◌+◌, ◌-◌, ◌&&◌, ◌||◌, ℕ, ℤ, zero, suc, pos, negsuc, ◌-ℤ◌, Bool, true, false, cond, eqb, leb, Some, [], ◌∷◌, ◌++◌, ap, ◌∙◌, refl, inl, inr, arith}
+use Rattle.std.proofs.Common.{◌≡◌, ◌<◌, ◌≤◌, ◌+◌, ◌-◌, ◌*◌, ◌/◌, ◌%◌, ◌&&◌, ◌||◌, ℕ, ℤ, zero, suc, pos, negsuc, ◌-ℤ◌, Bool, true, false, cond, eqb, leb, Some, [], ◌∷◌, ◌++◌, ap, subst, ◌∙◌, sym, refl, inl, inr, arith}
 use Rattle.std.specs.List.{list_all, AllByRecursion}
 use Rattle.std.proofs.lemmas.Bool.{eqb-true, and_parts, leb-false}
 use Rattle.std.proofs.lemmas.Int.{ints}
@@ -18,9 +18,10 @@ use Rattle.tw_ansi.specs.Encoding.{sent_change}
 use Rattle.tw_ansi.specs.EcmaBatches.{IsReached, IsSendable, AreSendable}
 use Rattle.tw_changed.specs.Differences.{differ_in, first_changed, last_changed}
 use Rattle.tw_changed.specs.declared.hand.Hand.{Hand}
-use Rattle.tw_changed.specs.Redrawings.{Redrawing, at_ease, redraw_then, led_to, under, typed_once, cell_redrawn, run_redrawn, span_redrawn, row_redrawn, rows_redrawn, indexed, typed_at, index_redrawn, indices_redrawn, fed_once, fed, lowest_reached, sunk_to, handed_to, lowered}
+use Rattle.tw_changed.specs.Redrawings.{Redrawing, at_ease, redraw_then, led_to, under, indexed, typed_at, cell_redrawn, cells_redrawn, span_redrawn, row_redrawn, rows_redrawn, fed_once, fed, lowest_reached, sunk_to, handed_to, lowered}
 use Rattle.tw_changed.specs.ChangedScreens.{AreByBytes, IsInk}
 use Rattle.tw_changed.proofs.FoundColumns.{least_cases, greatest_cases}
+use Rattle.tw_changed.proofs.TypedCells.{inside_row}
 
 -- changes that can be sent whatever a terminal shows
 abbrev pub IsEasy : ChangeView → Type 0
@@ -73,22 +74,12 @@ sent_move row col hand to from = by_place (eqb hand.row row && eqb hand.col col)
     by_place true = sent_ease hand from
     by_place false = record { easy = (reached hand.row row from to, tt); low = to }
 
-under_easy : (to : CellAttributes) (hand : Hand) → AreByBytes to → AllByRecursion IsEasy (under to hand).changes
-under_easy to hand colors = by_same (attributes.eq hand.attributes to)
-  where
-    by_same : (b : Bool) → AllByRecursion IsEasy (cond b (at_ease hand) (record { changes = AllAttributes to ∷ []; hand = record hand { attributes = to } })).changes
-    by_same true = tt
-    by_same false = (colors, tt)
-
-under_row : (to : CellAttributes) (hand : Hand) → (under to hand).hand.row ≡ hand.row
-under_row to hand = by_same (attributes.eq hand.attributes to)
-  where
-    by_same : (b : Bool) → (cond b (at_ease hand) (record { changes = AllAttributes to ∷ []; hand = record hand { attributes = to } })).hand.row ≡ hand.row
-    by_same true = refl
-    by_same false = refl
-
 pub sent_under : (to : CellAttributes) (hand : Hand) → AreByBytes to → hand.row ≤ most_rows → IsSent (under to hand)
-sent_under to hand colors low = record { easy = under_easy to hand colors; low = omega (arith, under_row to hand, low) }
+sent_under to hand colors low = by_same (attributes.eq hand.attributes to)
+  where
+    by_same : (b : Bool) → IsSent (cond b (at_ease hand) (record { changes = AllAttributes to ∷ []; hand = record hand { attributes = to } }))
+    by_same true = sent_ease hand low
+    by_same false = record { easy = (colors, tt); low = low }
 
 -- a printable character is plain
 pub printable_plain : (b : ℕ) → is_printable b ≡ true → is_plain b ≡ true
@@ -98,53 +89,47 @@ printable_plain b is = ap (λ x. (eqb b 13 || eqb b 10) || x) is ∙ either (eqb
     either true = refl
     either false = refl
 
-sent_cell : (x : StyledCell) (hand : Hand) → IsInk x → hand.row ≤ most_rows → IsSent (cell_redrawn x hand)
-sent_cell x hand ink low =
-    let a = sent_under x.attributes hand ink.1 low in
-    let b : IsSent (typed_once x.ch (under x.attributes hand).hand) = record { easy = (ap (λ x. x && true) (printable_plain x.ch ink.0), tt); low = a.low } in
-    sent_both (under x.attributes hand) (typed_once x.ch) a b
-
-sent_run : (line : ℕ → StyledCell) (c n : ℕ) (hand : Hand) → ((j : ℕ) → c ≤ j → j < c + n → IsInk (line j)) → hand.row ≤ most_rows → IsSent (run_redrawn line c n hand)
-sent_run line c zero hand ink low = sent_ease hand low
-sent_run line c (suc n) hand ink low =
-    let a = sent_cell (line c) hand (ink c (omega arith) (omega arith)) low in
-    sent_both (cell_redrawn (line c) hand) (run_redrawn line (suc c) n) a
-    (sent_run line (suc c) n (cell_redrawn (line c) hand).hand (λ j from to. ink j (omega (arith, from)) (omega (arith, to))) a.low)
-
--- cells that are typed on, from an index on
-pub indices_easy : (w k n : ℕ) (cells : ℕ → ℕ → StyledCell) (hand : Hand) → ((m : ℕ) → k ≤ m → m < k + n → IsInk (indexed w cells m))
-    → AllByRecursion IsEasy (indices_redrawn w cells k n hand).changes
-indices_easy w k zero cells hand ink = tt
-indices_easy w k (suc n) cells hand ink =
+-- cells that are typed one after the other
+pub sent_cells : (w k n : ℕ) (cells : ℕ → ℕ → StyledCell) (hand : Hand) → ((m : ℕ) → k ≤ m → m < k + n → IsInk (indexed w cells m) × (m / w ≤ most_rows)) → hand.row ≤ most_rows
+    → IsSent (cells_redrawn w cells k n hand)
+sent_cells w k zero cells hand ink low = sent_ease hand low
+sent_cells w k (suc n) cells hand ink low =
     let x : StyledCell = indexed w cells k in
-    let here : IsInk x = ink k (omega arith) (omega arith) in
+    let here = ink k (omega arith) (omega arith) in
     let first : Redrawing = under x.attributes hand in
-    let char : Redrawing = typed_at w k x.ch first.hand in
-    both_easy (index_redrawn w cells k hand).changes (indices_redrawn w cells (suc k) n (index_redrawn w cells k hand).hand).changes
-    (both_easy first.changes char.changes (under_easy x.attributes hand here.1) (ap (λ x. x && true) (printable_plain x.ch here.0), tt))
-    (indices_easy w (suc k) n cells (index_redrawn w cells k hand).hand (λ m from to. ink m (omega (arith, from)) (omega (arith, to))))
+    let typed : IsSent (typed_at w k x.ch first.hand) = record { easy = (ap (λ x. x && true) (printable_plain x.ch here.0.0), tt); low = here.1 } in
+    let cell = sent_both first (typed_at w k x.ch) (sent_under x.attributes hand here.0.1 low) typed in
+    sent_both (cell_redrawn w cells k hand) (cells_redrawn w cells (suc k) n) cell
+    (sent_cells w (suc k) n cells (cell_redrawn w cells k hand).hand (λ m from to. ink m (omega (arith, from)) (omega (arith, to))) cell.low)
 
-sent_row : (w r : ℕ) (old new : ℕ → StyledCell) (hand : Hand) → ((j : ℕ) → j < w → IsInk (new j)) → r ≤ most_rows → hand.row ≤ most_rows
-    → IsSent (span_redrawn r new (first_changed w old new) (last_changed w old new) hand)
-sent_row w r old new hand ink here low = elim (least_cases (differ_in old new) w 0) [
+sent_row : (w r : ℕ) (old : ℕ → StyledCell) (new : ℕ → ℕ → StyledCell) (hand : Hand) → ((j : ℕ) → j < w → IsInk (new r j)) → r ≤ most_rows → hand.row ≤ most_rows
+    → IsSent (span_redrawn w r new (first_changed w old (new r)) (last_changed w old (new r)) hand)
+sent_row w r old new hand ink here low = elim (least_cases (differ_in old (new r)) w 0) [
   | inl none ↦ rw none.0 (sent_ease hand low)
-  | inr found ↦ elim (greatest_cases (differ_in old new) w) [
+  | inr found ↦ elim (greatest_cases (differ_in old (new r)) w) [
     | inl none ↦ rw (found.1, none.0) (sent_ease hand low)
     | inr last ↦ rw (found.1, last.1) (span found.0 last.0 last.2.high)
   ]
 ]
   where
-    span : (first last : ℕ) → last < w → IsSent (span_redrawn r new (Some first) (Some last) hand)
+    typed : (first last m : ℕ) → last < w → r * w + first ≤ m → m < r * w + first + (last + 1 - first) → IsInk (indexed w new m) × (m / w ≤ most_rows)
+    typed first last m left from to =
+        let at : r * w + (m - r * w) ≡ m = omega (arith, from) in
+        let place = inside_row w m r (m - r * w) at (omega (arith, from, to, left)) in
+        let there = ink (m - r * w) (omega (arith, from, to, left)) in
+        (subst (λ i. IsInk (new i (m % w))) (sym place.0) (subst (λ j. IsInk (new r j)) (sym place.1) there), omega (arith, place.0, here))
+
+    span : (first last : ℕ) → last < w → IsSent (span_redrawn w r new (Some first) (Some last) hand)
     span first last left =
         let a = sent_move r first hand here low in
-        sent_both (led_to r first hand) (run_redrawn new first (last + 1 - first)) a
-        (sent_run new first (last + 1 - first) (led_to r first hand).hand (λ j from to. ink j (omega (arith, from, to, left))) a.low)
+        sent_both (led_to r first hand) (cells_redrawn w new (r * w + first) (last + 1 - first)) a
+        (sent_cells w (r * w + first) (last + 1 - first) new (led_to r first hand).hand (λ m from to. typed first last m left from to) a.low)
 
 pub sent_rows : (w r n : ℕ) (old new : ℕ → ℕ → StyledCell) (hand : Hand) → ((i j : ℕ) → r ≤ i → i < r + n → j < w → IsInk (new i j)) → r + n ≤ most_rows → hand.row ≤ most_rows
     → IsSent (rows_redrawn w old new r n hand)
 sent_rows w r zero old new hand ink here low = sent_ease hand low
 sent_rows w r (suc n) old new hand ink here low =
-    let a = sent_row w r (old r) (new r) hand (λ j left. ink r j (omega arith) (omega arith) left) (omega (arith, here)) low in
+    let a = sent_row w r (old r) new hand (λ j left. ink r j (omega arith) (omega arith) left) (omega (arith, here)) low in
     sent_both (row_redrawn w old new r hand) (rows_redrawn w old new (suc r) n) a
     (sent_rows w (suc r) n old new (row_redrawn w old new r hand).hand (λ i j from to left. ink i j (omega (arith, from)) (omega (arith, to)) left) (omega (arith, here)) a.low)
 

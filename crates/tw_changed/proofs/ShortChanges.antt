@@ -9,9 +9,9 @@ use Rattle.tw_extremes.proofs.ExtremesLemmas.{least_from-none}
 use Rattle.tw_screens.specs.StyledCells.{StyledCell}
 use Rattle.tw_changed.specs.declared.hand.Hand.{Hand}
 use Rattle.tw_changed.specs.Differences.{is_same_cell, differ_in, first_changed, is_used, end_of, blank_cell, behind_index}
-use Rattle.tw_changed.specs.Redrawings.{Redrawing, at_ease, redraw_then, led_to, under, row_redrawn, rows_redrawn, handed_to, rest_of, rest_emptied, left_of, lowest_reached, sunk_to, lowered, rows_drawn_on, hand_index, indices_redrawn, goes_on, gone_on}
+use Rattle.tw_changed.specs.Redrawings.{Redrawing, at_ease, redraw_then, led_to, under, row_redrawn, rows_redrawn, handed_to, rest_of, rest_emptied, left_of, lowest_reached, sunk_to, lowered, rows_drawn_on, hand_index, cells_redrawn, goes_on, gone_on}
 use Rattle.tw_changed.specs.Shortness.{NothingIsSentForNothing}
-use Rattle.tw_changed.proofs.OnwardChanges.{going_on}
+use Rattle.tw_changed.proofs.OnwardScreens.{going_on}
 
 -- equal cells are told to be the same
 same_told : (x y : StyledCell) → x ≡ y → is_same_cell x y ≡ true
@@ -96,7 +96,7 @@ nothing_is_sent w reached rows old new hand some low same = by_way (goes_on w re
     by_way true is =
         let goes = going_on w reached rows old new hand hand is in
         let none : end_of w rows new - hand_index w hand ≡ 0 = omega (arith, ends, goes.ends) in
-        ap (λ n. (redraw_then (indices_redrawn w new (hand_index w hand) n hand) (handed_to reached hand)).changes) none ∙ stays_handed reached hand hand refl
+        ap (λ n. (redraw_then (cells_redrawn w new (hand_index w hand) n hand) (handed_to reached hand)).changes) none ∙ stays_handed reached hand hand refl
     by_way false is =
         let last : Hand → Redrawing = handed_to (max reached rows) hand in
         ap (λ (x : Redrawing). x.changes) (sent_rows_alone w reached rows old new hand hand low (omega (arith, ends)))

@@ -21,16 +21,16 @@ use Rattle.tw_ansi.proofs.EcmaSequences.{received}
 use Rattle.tw_ansi.proofs.EcmaBatches.{keeps_change, terse_next, terse_batch_is_shown}
 use Rattle.tw_changed.specs.Differences.{end_of}
 use Rattle.tw_changed.specs.declared.hand.Hand.{Hand}
-use Rattle.tw_changed.specs.Redrawings.{Redrawing, at_ease, redraw_then, led_to, emptied_here, emptied, rest_of, rest_emptied, left_of, lowered, rows_redrawn, sunk_to, handed_to, rows_drawn_on, hand_index, indexed, indices_redrawn, goes_on, gone_on, redrawn}
+use Rattle.tw_changed.specs.Redrawings.{Redrawing, at_ease, redraw_then, led_to, emptied_here, emptied, rest_of, rest_emptied, left_of, lowered, rows_redrawn, sunk_to, handed_to, rows_drawn_on, hand_index, indexed, cells_redrawn, goes_on, gone_on, redrawn}
 use Rattle.tw_changed.specs.Sending.{ArePrintable}
 use Rattle.tw_changed.specs.ChangedScreens.{IsInk, IsInked, IsHandWithin, IsBlankFrom, IsSeenFrom, turned_to, ChangedIsShown}
 use Rattle.tw_changed.proofs.DrawnRows.{Holds, redrawn_on, redrawn_both, gone}
 use Rattle.tw_changed.proofs.DrawnScreens.{rows_drawn}
 use Rattle.tw_changed.proofs.DrawnEnds.{end_within, rest, rises}
 use Rattle.tw_changed.proofs.DrawnChangedScreens.{Becomes, becomes, handed}
-use Rattle.tw_changed.proofs.OnwardChanges.{GoesOn, going_on, typed_printable, typing_goes, handing, becomes_onward}
+use Rattle.tw_changed.proofs.OnwardScreens.{GoesOn, going_on, typed_printable, typing_goes, handing, becomes_onward}
 use Rattle.tw_changed.proofs.SentBatches.{both_next, both_bytes}
-use Rattle.tw_changed.proofs.SentChanges.{all_sendable, sent_move, sent_rows, sent_handed, sent_lowered, indices_easy}
+use Rattle.tw_changed.proofs.SentChanges.{all_sendable, sent_move, sent_rows, sent_handed, sent_lowered, sent_cells}
 
 -- at the end the attributes of the new hand are selected
 handed_attributes : (reached : ℕ) (to hand : Hand) → (handed_to reached to hand).hand.attributes ≡ to.attributes
@@ -184,17 +184,17 @@ module _ (h w : ℕ) where
     onward_sends =
         let k : ℕ = hand_index w hand in
         let n : ℕ = end_of w rows new - k in
-        let d : Redrawing = indices_redrawn w new (hand_index w hand) (end_of w rows new - hand_index w hand) hand in
+        let d : Redrawing = cells_redrawn w new (hand_index w hand) (end_of w rows new - hand_index w hand) hand in
         let g = typing_goes h w s reached rows old new to hand p some room low a.within.row edged reach.row reach.col blank inked.blank ink_there seen.cell holding goes in
-        let ink : (m : ℕ) → k ≤ m → m < k + n → IsInk (indexed w new m) =
+        let ink : (m : ℕ) → k ≤ m → m < k + n → IsInk (indexed w new m) × (m / w ≤ most_rows) =
         λ m from less.
         let place = typed_printable h w s reached rows old new to hand p some room low a.within.row edged reach.row reach.col blank inked.blank ink_there seen.cell holding goes m from less in
-        inked.ink (m / w) (m % w) place.0 place.1 in
-        let s1 = sends hand d e t p some small (all_sendable h w d.changes e p (indices_easy w k n new hand ink)) g.leads.stays same g.leads.kept a in
-        let held : d.hand.row ≤ most_rows = omega (arith, g.leads.holds.row, s1.shown.within.row, most) in
+        (inked.ink (m / w) (m % w) place.0 place.1, let row = place.0 in omega (arith, row, room, most)) in
+        let i1 = sent_cells w k n new hand ink (omega (arith, seen.row, a.within.row, most)) in
+        let s1 = sends hand d e t p some small (all_sendable h w d.changes e p i1.easy) g.leads.stays same g.leads.kept a in
         let last : Redrawing = handed_to reached to d.hand in
         let b = handing h w s reached rows old new to hand p some room low a.within.row edged reach.row reach.col blank inked.blank ink_there seen.cell holding goes in
-        let easy = (sent_handed reached to d.hand reach.colors (omega (arith, reach.row, room, most)) held).easy in
+        let easy = (sent_handed reached to d.hand reach.colors (omega (arith, reach.row, room, most)) i1.low).easy in
         sends_both hand d (handed_to reached to) e t p g.leads.kept
         (sends d.hand last (terse_batch d.changes e).next (receive_all styled h w (terse_batch d.changes e).bytes t) (redrawn_on h w hand d p) some small
         (all_sendable h w last.changes (terse_batch d.changes e).next (redrawn_on h w hand d p) easy) b.leads.stays s1.attributes b.leads.kept s1.shown)

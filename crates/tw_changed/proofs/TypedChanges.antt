@@ -13,12 +13,12 @@ use Rattle.tw_ansi.specs.declared.encode.Encoder.{Encoder}
 use Rattle.tw_ansi.specs.Encoding.{Sent, at_column, sent_byte, sent_return, sent_feed, sent_columns, sent_plain, sent_clusters, terse_change, terse_batch}
 use Rattle.tw_changed.specs.declared.hand.Hand.{Hand}
 use Rattle.tw_changed.specs.Differences.{is_same_cell, differ_in, first_changed, last_changed, blank_cell, is_used, end_of}
-use Rattle.tw_changed.specs.Redrawings.{Redrawing, redraw_then, typed_once, run_redrawn, span_redrawn, row_redrawn, rows_redrawn, handed_to, rows_drawn_on, hand_index, indexed, typed_at, indices_redrawn, goes_on, gone_on, under, redrawn}
+use Rattle.tw_changed.specs.Redrawings.{Redrawing, redraw_then, span_redrawn, row_redrawn, rows_redrawn, handed_to, rows_drawn_on, hand_index, indexed, typed_at, cells_redrawn, goes_on, gone_on, under, redrawn}
 use Rattle.tw_changed.specs.Shortness.{characters_from, IsTypedAt, TypedIsSentAlone}
 use Rattle.tw_changed.proofs.FoundColumns.{same_where, ends_behind}
 use Rattle.tw_changed.proofs.DrawnEnds.{unused_after}
-use Rattle.tw_changed.proofs.OnwardScreens.{inside_row}
-use Rattle.tw_changed.proofs.OnwardChanges.{going_on}
+use Rattle.tw_changed.proofs.TypedCells.{inside_row}
+use Rattle.tw_changed.proofs.OnwardScreens.{going_on}
 use Rattle.tw_changed.proofs.SentChanges.{printable_plain}
 use Rattle.tw_changed.proofs.ShortChanges.{no_difference, stays_there, stays_under, stays_handed, row_stays, rows_stay, sent_rows_alone}
 
@@ -60,36 +60,24 @@ typed_bytes line c (suc n) e room printable =
 abbrev pub moved_on : ℕ → Hand → Hand
 moved_on n hand = record hand { col = hand.col + n }
 
-run_typed : (line : ℕ → StyledCell) (c n : ℕ) (hand : Hand) → ((j : ℕ) → c ≤ j → j < c + n → (line j).attributes ≡ hand.attributes)
-    → run_redrawn line c n hand ≡ record { changes = texts_of (characters_from line c n); hand = moved_on n hand }
-run_typed line c zero hand same = ap (λ k. let x : Redrawing = record { changes = []; hand = record hand { col = k } } in x) (omega arith)
-run_typed line c (suc n) hand same =
-    let x : StyledCell = line c in
-    let next : Hand = moved_on 1 hand in
-    ap (λ d. redraw_then (redraw_then d (typed_once (line c).ch)) (run_redrawn line (suc c) n)) (stays_under (line c).attributes hand (sym (same c (omega arith) (omega arith))))
-    ∙ ap (λ (d : Redrawing). let y : Redrawing = record { changes = Text ((line c).ch ∷ []) ∷ d.changes; hand = d.hand } in y)
-    (run_typed line (suc c) n (moved_on 1 hand) (λ j from to. same j (omega (arith, from)) (omega (arith, to))))
-    ∙ ap (λ k. let y : Redrawing = record { changes = texts_of (characters_from line c (suc n)); hand = record hand { col = k } } in y) (omega arith)
-
--- so it is where they are typed on, index by index
-indices_typed : (w : ℕ) (cells : ℕ → ℕ → StyledCell) (r c n : ℕ) (hand : Hand) → hand.row ≡ r → hand.col ≡ c → c + n ≤ w
+cells_typed : (w : ℕ) (cells : ℕ → ℕ → StyledCell) (r c n : ℕ) (hand : Hand) → hand.row ≡ r → hand.col ≡ c → c + n ≤ w
     → ((j : ℕ) → c ≤ j → j < c + n → (cells r j).attributes ≡ hand.attributes)
-    → indices_redrawn w cells (r * w + c) n hand ≡ record { changes = texts_of (characters_from (cells r) c n); hand = moved_on n hand }
-indices_typed w cells r c zero hand row col room same = ap (λ k. let x : Redrawing = record { changes = []; hand = record hand { col = k } } in x) (omega arith)
-indices_typed w cells r c (suc n) hand row col room same =
+    → cells_redrawn w cells (r * w + c) n hand ≡ record { changes = texts_of (characters_from (cells r) c n); hand = moved_on n hand }
+cells_typed w cells r c zero hand row col room same = ap (λ k. let x : Redrawing = record { changes = []; hand = record hand { col = k } } in x) (omega arith)
+cells_typed w cells r c (suc n) hand row col room same =
     let k : ℕ = r * w + c in
     let place = inside_row w (r * w + c) r c refl (omega (arith, room)) in
     let ch : ℕ = (cells r c).ch in
-    let more : Hand → Redrawing = indices_redrawn w cells (suc (r * w + c)) n in
+    let more : Hand → Redrawing = cells_redrawn w cells (suc (r * w + c)) n in
     let x_is : indexed w cells k ≡ cells r c = ap (λ i. cells i (k % w)) place.0 ∙ ap (cells r) place.1 in
     let next : suc (r * w + c) ≡ r * w + (c + 1) = omega arith in
     ap (λ (x : StyledCell). redraw_then (redraw_then (under x.attributes hand) (typed_at w k x.ch)) more) x_is
     ∙ ap (λ d. redraw_then (redraw_then d (typed_at w k ch)) more) (stays_under (cells r c).attributes hand (sym (same c (omega arith) (omega arith))))
     ∙ ap (λ i. let y : Redrawing = record { changes = Text (ch ∷ []) ∷ []; hand = record hand { row = i; col = k % w + 1 } } in redraw_then y more) (place.0 ∙ sym row)
     ∙ ap (λ j. let y : Redrawing = record { changes = Text (ch ∷ []) ∷ []; hand = record hand { col = j + 1 } } in redraw_then y more) (place.1 ∙ sym col)
-    ∙ ap (λ m. let y : Redrawing = record { changes = Text (ch ∷ []) ∷ []; hand = moved_on 1 hand } in redraw_then y (indices_redrawn w cells m n)) next
+    ∙ ap (λ m. let y : Redrawing = record { changes = Text (ch ∷ []) ∷ []; hand = moved_on 1 hand } in redraw_then y (cells_redrawn w cells m n)) next
     ∙ ap (λ (d : Redrawing). let y : Redrawing = record { changes = Text (ch ∷ []) ∷ d.changes; hand = d.hand } in y)
-    (indices_typed w cells r (c + 1) n (moved_on 1 hand) row (ap (λ j. j + 1) col) (omega (arith, room)) (λ j from to. same j (omega (arith, from)) (omega (arith, to))))
+    (cells_typed w cells r (c + 1) n (moved_on 1 hand) row (ap (λ j. j + 1) col) (omega (arith, room)) (λ j from to. same j (omega (arith, from)) (omega (arith, to))))
     ∙ ap (λ m. let y : Redrawing = record { changes = Text (ch ∷ []) ∷ texts_of (characters_from (cells r) m n); hand = moved_on n (moved_on 1 hand) } in y) (let e : c + 1 ≡ suc c = omega arith in e)
     ∙ ap (λ m. let y : Redrawing = record { changes = texts_of (characters_from (cells r) c (suc n)); hand = record hand { col = m } } in y)
     (let e : hand.col + 1 + n ≡ hand.col + suc n = omega arith in e)
@@ -100,7 +88,7 @@ differs_where : (old new : ℕ → StyledCell) (j : ℕ) → (old j ≡ new j �
 differs_where old new j other = elim (cases_Bool (differ_in old new j)) [ inl is ↦ is | inr is ↦ absurd (other (same_where old new j is)) ]
 
 module _ (w rows n : ℕ) (old new : ℕ → ℕ → StyledCell) (hand to : Hand) (t : IsTypedAt w rows n old new hand to) where
-  row_typed : row_redrawn w old new hand.row hand ≡ run_redrawn (new hand.row) hand.col n hand
+  row_typed : row_redrawn w old new hand.row hand ≡ cells_redrawn w new (hand_index w hand) n hand
   row_typed =
       let r : ℕ = hand.row in
       let p : ℕ → Bool = differ_in (old hand.row) (new hand.row) in
@@ -113,16 +101,16 @@ module _ (w rows n : ℕ) (old new : ℕ → ℕ → StyledCell) (hand to : Hand
       greatest_below-is (differ_in (old hand.row) (new hand.row)) w (hand.col + n - 1) (omega (arith, some, room)) (differs_where (old hand.row) (new hand.row) (hand.col + n - 1) t.last)
       (λ k low high. no_difference (old hand.row) (new hand.row) k (t.others hand.row k t.row high (λ e from less. omega (arith, low, less, some)))) in
       let count : hand.col + n - 1 + 1 - hand.col ≡ n = omega (arith, some) in
-      ap (λ f. span_redrawn hand.row (new hand.row) f (last_changed w (old hand.row) (new hand.row)) hand) first
-      ∙ ap (λ l. span_redrawn hand.row (new hand.row) (Some hand.col) l hand) last
-      ∙ ap (λ d. redraw_then d (run_redrawn (new hand.row) hand.col (hand.col + n - 1 + 1 - hand.col))) (stays_there hand.row hand.col hand refl refl)
-      ∙ ap (λ k. run_redrawn (new hand.row) hand.col k hand) count
+      ap (λ f. span_redrawn w hand.row new f (last_changed w (old hand.row) (new hand.row)) hand) first
+      ∙ ap (λ l. span_redrawn w hand.row new (Some hand.col) l hand) last
+      ∙ ap (λ d. redraw_then d (cells_redrawn w new (hand_index w hand) (hand.col + n - 1 + 1 - hand.col))) (stays_there hand.row hand.col hand refl refl)
+      ∙ ap (λ k. cells_redrawn w new (hand_index w hand) k hand) count
 
-  rows_typed : (r count : ℕ) → r ≤ hand.row → hand.row < r + count → r + count ≤ rows → rows_redrawn w old new r count hand ≡ run_redrawn (new hand.row) hand.col n hand
+  rows_typed : (r count : ℕ) → r ≤ hand.row → hand.row < r + count → r + count ≤ rows → rows_redrawn w old new r count hand ≡ cells_redrawn w new (hand_index w hand) n hand
   rows_typed r zero from less within = absurd (omega (arith, from, less))
   rows_typed r (suc count) from less within = elim (cases_eq r hand.row) [
     | inl e ↦
-        let run : Redrawing = run_redrawn (new hand.row) hand.col n hand in
+        let run : Redrawing = cells_redrawn w new (hand_index w hand) n hand in
         ap (λ k. redraw_then (row_redrawn w old new k hand) (rows_redrawn w old new (suc r) count)) e
         ∙ ap (λ d. redraw_then d (rows_redrawn w old new (suc r) count)) row_typed
         ∙ ap (λ (d : Redrawing). let y : Redrawing = record { changes = run.changes ++ d.changes; hand = d.hand } in y)
@@ -139,7 +127,7 @@ module _ (w rows n : ℕ) (old new : ℕ → ℕ → StyledCell) (hand to : Hand
       let last : Hand → Redrawing = handed_to (max reached rows) to in
       let inside : hand.row < rows = t.row in
       ap (λ (d : Redrawing). d.changes) (sent_rows_alone w reached rows old new to hand low t.onward)
-      ∙ ap (λ (d : Redrawing). (redraw_then d last).changes) (rows_typed 0 rows (omega arith) (omega (arith, inside)) (omega arith) ∙ run_typed (new hand.row) hand.col n hand t.typed)
+      ∙ ap (λ (d : Redrawing). (redraw_then d last).changes) (rows_typed 0 rows (omega arith) (omega (arith, inside)) (omega arith) ∙ cells_typed w new hand.row hand.col n hand refl refl t.col t.typed)
       ∙ ap (λ changes. texts_of (characters_from (new hand.row) hand.col n) ++ changes) (stays_handed (max reached rows) to (moved_on n hand) (sym t.behind))
       ∙ append-nil (texts_of (characters_from (new hand.row) hand.col n))
 
@@ -200,8 +188,8 @@ module _ (w rows n : ℕ) (old new : ℕ → ℕ → StyledCell) (hand to : Hand
       by_way true is =
           let goes = going_on w reached rows old new to hand is in
           let last : Hand → Redrawing = handed_to reached to in
-          ap (λ count. (redraw_then (indices_redrawn w new (hand_index w hand) count hand) last).changes) (typed_count goes.ends)
-          ∙ ap (λ (d : Redrawing). (redraw_then d last).changes) (indices_typed w new hand.row hand.col n hand refl refl t.col t.typed)
+          ap (λ count. (redraw_then (cells_redrawn w new (hand_index w hand) count hand) last).changes) (typed_count goes.ends)
+          ∙ ap (λ (d : Redrawing). (redraw_then d last).changes) (cells_typed w new hand.row hand.col n hand refl refl t.col t.typed)
           ∙ ap (λ changes. texts_of (characters_from (new hand.row) hand.col n) ++ changes) (stays_handed reached to (moved_on n hand) (sym t.behind))
           ∙ append-nil (texts_of (characters_from (new hand.row) hand.col n))
 

@@ -36,27 +36,35 @@ led_to row col hand =
 abbrev pub under : CellAttributes → Hand → Redrawing
 under to hand = if attributes.eq hand.attributes to then at_ease hand else record { changes = AllAttributes to ∷ []; hand = record hand { attributes = to } }
 
--- a character is typed
-abbrev pub typed_once : ℕ → Hand → Redrawing
-typed_once ch hand = record { changes = Text (ch ∷ []) ∷ []; hand = record hand { col = hand.col + 1 } }
+-- the index of a hand, counted along the rows
+abbrev pub hand_index : ℕ → Hand → ℕ
+hand_index w hand = hand.row * w + hand.col
 
--- a cell at the cursor
-abbrev pub cell_redrawn : StyledCell → Hand → Redrawing
-cell_redrawn x hand = redraw_then (under x.attributes hand) (typed_once x.ch)
+-- the cell of an index
+abbrev pub indexed : ℕ → (ℕ → ℕ → StyledCell) → ℕ → StyledCell
+indexed w cells k = cells (k / w) (k % w)
 
--- so many cells of a row, from a column on, at the cursor
-abbrev pub run_redrawn : (ℕ → StyledCell) → ℕ → ℕ → Hand → Redrawing
-run_redrawn row col zero hand = at_ease hand
-run_redrawn row col (suc count) hand = redraw_then (cell_redrawn (row col) hand) (run_redrawn row (suc col) count)
+-- a character is typed in the cell of an index: from after the last column a terminal goes to the next row by itself
+abbrev pub typed_at : ℕ → ℕ → ℕ → Hand → Redrawing
+typed_at w k ch hand = record { changes = Text (ch ∷ []) ∷ []; hand = record hand { row = k / w; col = k % w + 1 } }
+
+-- the cell of an index, which the cursor stands before
+abbrev pub cell_redrawn : ℕ → (ℕ → ℕ → StyledCell) → ℕ → Hand → Redrawing
+cell_redrawn w cells k hand = redraw_then (under (indexed w cells k).attributes hand) (typed_at w k (indexed w cells k).ch)
+
+-- so many cells, from an index on, one after the other
+abbrev pub cells_redrawn : ℕ → (ℕ → ℕ → StyledCell) → ℕ → ℕ → Hand → Redrawing
+cells_redrawn w cells k zero hand = at_ease hand
+cells_redrawn w cells k (suc count) hand = redraw_then (cell_redrawn w cells k hand) (cells_redrawn w cells (suc k) count)
 
 -- the cells of row r from the first one to the last one that differ
-abbrev pub span_redrawn : ℕ → (ℕ → StyledCell) → Option ℕ → Option ℕ → Hand → Redrawing
-span_redrawn r row None last hand = at_ease hand
-span_redrawn r row (Some first) None hand = at_ease hand
-span_redrawn r row (Some first) (Some last) hand = redraw_then (led_to r first hand) (run_redrawn row first (last + 1 - first))
+abbrev pub span_redrawn : ℕ → ℕ → (ℕ → ℕ → StyledCell) → Option ℕ → Option ℕ → Hand → Redrawing
+span_redrawn w r cells None last hand = at_ease hand
+span_redrawn w r cells (Some first) None hand = at_ease hand
+span_redrawn w r cells (Some first) (Some last) hand = redraw_then (led_to r first hand) (cells_redrawn w cells (r * w + first) (last + 1 - first))
 
 abbrev pub row_redrawn : ℕ → (ℕ → ℕ → StyledCell) → (ℕ → ℕ → StyledCell) → ℕ → Hand → Redrawing
-row_redrawn w old new r hand = span_redrawn r (new r) (first_changed w (old r) (new r)) (last_changed w (old r) (new r)) hand
+row_redrawn w old new r hand = span_redrawn w r new (first_changed w (old r) (new r)) (last_changed w (old r) (new r)) hand
 
 -- so many rows, from row r on
 abbrev pub rows_redrawn : ℕ → (ℕ → ℕ → StyledCell) → (ℕ → ℕ → StyledCell) → ℕ → ℕ → Hand → Redrawing
@@ -122,27 +130,6 @@ rows_drawn_on w reached rows old new to hand =
 
 -- ---- what goes on at the cursor
 
--- the index of a hand, counted along the rows
-abbrev pub hand_index : ℕ → Hand → ℕ
-hand_index w hand = hand.row * w + hand.col
-
--- the cell of an index
-abbrev pub indexed : ℕ → (ℕ → ℕ → StyledCell) → ℕ → StyledCell
-indexed w cells k = cells (k / w) (k % w)
-
--- a character is typed in the cell of an index: from after the last column a terminal goes to the next row by itself
-abbrev pub typed_at : ℕ → ℕ → ℕ → Hand → Redrawing
-typed_at w k ch hand = record { changes = Text (ch ∷ []) ∷ []; hand = record hand { row = k / w; col = k % w + 1 } }
-
--- a cell that the cursor stands before
-abbrev pub index_redrawn : ℕ → (ℕ → ℕ → StyledCell) → ℕ → Hand → Redrawing
-index_redrawn w cells k hand = redraw_then (under (indexed w cells k).attributes hand) (typed_at w k (indexed w cells k).ch)
-
--- so many cells from an index on, through the rows
-abbrev pub indices_redrawn : ℕ → (ℕ → ℕ → StyledCell) → ℕ → ℕ → Hand → Redrawing
-indices_redrawn w cells k zero hand = at_ease hand
-indices_redrawn w cells k (suc count) hand = redraw_then (index_redrawn w cells k hand) (indices_redrawn w cells (suc k) count)
-
 -- a row ends in a blank
 abbrev pub ends_blank : ℕ → (ℕ → ℕ → StyledCell) → ℕ → Bool
 ends_blank w cells r = is_same_cell (cells r (w - 1)) blank_cell
@@ -157,7 +144,7 @@ goes_on w reached rows old new to hand =
 
 -- then the new cells are typed from there to their end, and the cursor and the attributes are led to
 abbrev pub gone_on : ℕ → ℕ → ℕ → (ℕ → ℕ → StyledCell) → Hand → Hand → Redrawing
-gone_on w reached rows new to hand = redraw_then (indices_redrawn w new (hand_index w hand) (end_of w rows new - hand_index w hand) hand) (handed_to reached to)
+gone_on w reached rows new to hand = redraw_then (cells_redrawn w new (hand_index w hand) (end_of w rows new - hand_index w hand) hand) (handed_to reached to)
 
 -- all that makes one screen of another
 abbrev pub redrawn : ℕ → ℕ → ℕ → (ℕ → ℕ → StyledCell) → (ℕ → ℕ → StyledCell) → Hand → Hand → Redrawing

@@ -82,7 +82,6 @@ pub fn last_changed(
     requires { old.now.width ≡ new.now.width }
     ensures value { result ≡ last_changed new.now.width (left_of old.now.width from (screen_cells old.now) row) (screen_cells new.now row) }
     ensures bound { IfSome result (λ col. col < new.now.width) }
-    ensures most { IfSome result (λ col. col < 65535) }
 {
     let mut end = new.width();
     while end > 0 {

@@ -2,15 +2,14 @@
 
 ghost use Rattle.std.specs.Prelude.{◌≡◌, ℕ, true, ◌<◌, ◌≤◌, ◌+◌, ◌-◌, ◌*◌, ◌/◌, ◌++◌, OnOk, OnErr, IfOk, IfSome, Option, string_bytes};
 ghost use Rattle.tw_surface.specs.Characters.{is_printable};
-ghost use Rattle.styled_screen.specs.StyledScreens.{styled_cell};
 ghost use Rattle.tw_ansi.specs.Encoding.{ExtendsBytes, terse_batch};
-ghost use Rattle.tw_changed.specs.Redrawings.{led_to, under, cell_redrawn, run_redrawn, row_redrawn, rows_redrawn, handed_to, emptied_here, rest_emptied, rest_of, left_of, fed, sunk_to, lowered, rows_drawn_on, indexed, index_redrawn, indices_redrawn, gone_on, redrawn};
+ghost use Rattle.tw_changed.specs.Redrawings.{led_to, under, row_redrawn, rows_redrawn, handed_to, emptied_here, rest_emptied, rest_of, left_of, fed, sunk_to, lowered, rows_drawn_on, indexed, cell_redrawn, cells_redrawn, gone_on, redrawn};
 ghost use Rattle.tw_changed.specs.Sending.{IsAdded, IsPrintable, screen_cells, changes_between, hand_of};
 
 use crate::difference::{cell_at, end_of, first_changed, goes_on, last_changed, rest_of};
 use crate::hand::Hand;
 use std::alloc::AllocError;
-use styled_screen::{ScreenCell, StyledScreen};
+use styled_screen::StyledScreen;
 use tw_ansi::Encoder;
 use tw_surface::{CellAttributes, Change, ColorAttribute, Position};
 
@@ -61,40 +60,46 @@ impl Redrawer {
         Ok(())
     }
 
-    /// Types a cell's character under its attributes.
-    fn write_cell(&mut self, cell: ScreenCell, out: &mut String) -> Result<(), AllocError>
-        requires printable { is_printable cell.character ≡ true }
-        requires col { self.old.hand.col ≤ 65535 }
-        ensures ok { OnOk result (IsAdded (cell_redrawn (styled_cell cell) self.old.hand) self.old (string_bytes out.old) self.new (string_bytes out.new)) }
-        ensures col { OnOk result (self.new.hand.col ≡ self.old.hand.col + 1) }
-        ensures row { self.new.hand.row ≡ self.old.hand.row }
+    /// Types the cell of an index, counted along the rows, which the cursor stands before: after the last column the
+    /// terminal goes to the next row by itself.
+    fn write_cell(
+        &mut self,
+        screen: &StyledScreen,
+        index: usize,
+        out: &mut String,
+    ) -> Result<(), AllocError>
+        requires printable { is_printable (indexed screen.now.width (screen_cells screen.now) index).ch ≡ true }
+        ensures ok { OnOk result (IsAdded (cell_redrawn screen.now.width (screen_cells screen.now) index self.old.hand) self.old (string_bytes out.old) self.new (string_bytes out.new)) }
+        ensures row { OnOk result (self.new.hand.row ≡ index / screen.now.width) }
         ensures err { OnErr result (ExtendsBytes (string_bytes out.old) (string_bytes out.new)) }
     {
+        let width = screen.width();
+        let cell = cell_at(screen, index / width, index % width);
         self.select(cell.attributes, out)?;
         self.encoder.encode_byte(cell.character as u8, out)?;
-        self.hand.col += 1;
+        self.hand.row = index / width;
+        self.hand.col = index % width + 1;
         Ok(())
     }
 
-    /// Types the cells of a row from one column to before another, the cursor standing at the first of them.
-    fn write_run(
+    /// Types the cells of a screen's rows from one index to before another, the cursor standing before the first of
+    /// them.
+    fn write_cells(
         &mut self,
         screen: &StyledScreen,
-        row: usize,
         from: usize,
         to: usize,
         out: &mut String,
     ) -> Result<(), AllocError>
-        requires within { to ≤ screen.now.width }
-        requires most { to ≤ 65535 }
-        requires printable { (j : ℕ) → j < screen.now.width → is_printable (screen_cells screen.now row j).ch ≡ true }
-        requires at { self.old.hand.col ≡ from }
-        ensures ok { OnOk result (IsAdded (run_redrawn (screen_cells screen.now row) from (to - from) self.old.hand) self.old (string_bytes out.old) self.new (string_bytes out.new)) }
-        ensures row { self.new.hand.row ≡ self.old.hand.row }
+        requires printable { (index : ℕ) → from ≤ index → index < to → is_printable (indexed screen.now.width (screen_cells screen.now) index).ch ≡ true }
+        requires to { to ≤ 4294967296 * screen.now.width }
+        requires held { self.old.hand.row ≤ 4294967295 }
+        ensures ok { OnOk result (IsAdded (cells_redrawn screen.now.width (screen_cells screen.now) from (to - from) self.old.hand) self.old (string_bytes out.old) self.new (string_bytes out.new)) }
+        ensures held { OnOk result (self.new.hand.row ≤ 4294967295) }
         ensures err { OnErr result (ExtendsBytes (string_bytes out.old) (string_bytes out.new)) }
     {
-        for col in from..to {
-            self.write_cell(cell_at(screen, row, col), out)?;
+        for index in from..to {
+            self.write_cell(screen, index, out)?;
         }
         Ok(())
     }
@@ -123,7 +128,8 @@ impl Redrawer {
             return Ok(());
         };
         self.lead_to(row, first, out)?;
-        self.write_run(new, row, first, last + 1, out)
+        let start = row * new.width();
+        self.write_cells(new, start + first, start + last + 1, out)
     }
 
     /// Types what differs in some rows of two screens, the old one being emptied from an index on.
@@ -245,50 +251,6 @@ impl Redrawer {
         self.sink_to(reached, rows - 1, 0, out)
     }
 
-    /// Types the cell of an index, counted along the rows, which the cursor stands before: after the last column the
-    /// terminal goes to the next row by itself.
-    fn write_index(
-        &mut self,
-        screen: &StyledScreen,
-        index: usize,
-        out: &mut String,
-    ) -> Result<(), AllocError>
-        requires printable { is_printable (indexed screen.now.width (screen_cells screen.now) index).ch ≡ true }
-        ensures ok { OnOk result (IsAdded (index_redrawn screen.now.width (screen_cells screen.now) index self.old.hand) self.old (string_bytes out.old) self.new (string_bytes out.new)) }
-        ensures row { OnOk result (self.new.hand.row ≡ index / screen.now.width) }
-        ensures err { OnErr result (ExtendsBytes (string_bytes out.old) (string_bytes out.new)) }
-    {
-        let width = screen.width();
-        let next = cell_at(screen, index / width, index % width);
-        self.select(next.attributes, out)?;
-        self.encoder.encode_byte(next.character as u8, out)?;
-        self.hand.row = index / width;
-        self.hand.col = index % width + 1;
-        Ok(())
-    }
-
-    /// Types the cells of a screen's rows from one index to before another, the cursor standing before the first of
-    /// them.
-    fn write_on(
-        &mut self,
-        screen: &StyledScreen,
-        from: usize,
-        to: usize,
-        out: &mut String,
-    ) -> Result<(), AllocError>
-        requires printable { (index : ℕ) → from ≤ index → index < to → is_printable (indexed screen.now.width (screen_cells screen.now) index).ch ≡ true }
-        requires to { to ≤ 65535 * screen.now.width }
-        requires held { self.old.hand.row ≤ 4294967295 }
-        ensures ok { OnOk result (IsAdded (indices_redrawn screen.now.width (screen_cells screen.now) from (to - from) self.old.hand) self.old (string_bytes out.old) self.new (string_bytes out.new)) }
-        ensures held { OnOk result (self.new.hand.row ≤ 4294967295) }
-        ensures err { OnErr result (ExtendsBytes (string_bytes out.old) (string_bytes out.new)) }
-    {
-        for index in from..to {
-            self.write_index(screen, index, out)?;
-        }
-        Ok(())
-    }
-
     /// Types what goes on at the cursor, to the end of the new screen.
     fn go_on(
         &mut self,
@@ -307,7 +269,7 @@ impl Redrawer {
         ensures err { OnErr result (ExtendsBytes (string_bytes out.old) (string_bytes out.new)) }
     {
         let from = self.hand.row * new.width() + self.hand.col;
-        self.write_on(new, from, end_of(new, rows), out)?;
+        self.write_cells(new, from, end_of(new, rows), out)?;
         self.hand_over(reached, to, out)
     }
 

@@ -9,6 +9,6 @@ returns-clause-ok c =
     let hand = c.args.self.now.hand in
     on_ok_weaker c.hand_over.result
     (going_added c.args.new.now.width c.args.reached c.args.rows (hand.row * c.width.result + hand.col) c.end_of.result (screen_cells c.args.new.now) c.args.to
-    c.args.self.now c.write_on.new.self c.hand_over.new.self (string_bytes c.args.out.now) (string_bytes c.write_on.new.out) (string_bytes c.hand_over.new.out)
-    (ap (λ w. hand.row * w + hand.col) c.width.ensures.value) c.end_of.ensures.value c.in_ok-write_on.ensures.ok)
+    c.args.self.now c.write_cells.new.self c.hand_over.new.self (string_bytes c.args.out.now) (string_bytes c.write_cells.new.out) (string_bytes c.hand_over.new.out)
+    (ap (λ w. hand.row * w + hand.col) c.width.ensures.value) c.end_of.ensures.value c.in_ok-write_cells.ensures.ok)
     c.hand_over.ensures.ok
