@@ -11,3 +11,4 @@ pub mod ShownChanges
 pub mod AddedChanges
 pub mod ShortChanges
 pub mod TypedChanges
+pub mod OnwardChanges

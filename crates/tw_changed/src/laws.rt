@@ -2,7 +2,7 @@
 
 ghost use Rattle.tw_ansi.specs.EcmaLaws.{IsColor, IsAttribute};
 ghost use Rattle.tw_changed.specs.ChangedScreens.{AreByBytes, ChangedIsShown};
-ghost use Rattle.tw_changed.specs.Shortness.{NothingIsSentForNothing, TypedIsSentAlone};
+ghost use Rattle.tw_changed.specs.Shortness.{NothingIsSentForNothing, TypedIsSentAlone, TypedOnIsSentAlone};
 
 use tw_surface::{AttributeChange, CellAttributes, ColorAttribute};
 
@@ -13,10 +13,11 @@ pub fn changed()
 {}
 
 /// Where nothing differs nothing is sent, and of printable characters that were typed at the cursor, under the attributes
-/// that are selected, these alone.
+/// that are selected, these alone: in its row, or through the rows where the screen ends with them.
 pub fn shortness()
     ensures nothing { NothingIsSentForNothing }
     ensures typed { TypedIsSentAlone }
+    ensures onward { TypedOnIsSentAlone }
 {}
 
 /// A colour is by bytes.
