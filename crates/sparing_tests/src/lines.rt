@@ -122,8 +122,6 @@ fn a_full_row_is_followed_by_the_next_one(rt: HostRuntime) -> Result<(), Fail> {
 fn a_line_that_goes_on_is_typed_through_the_rows(rt: HostRuntime) -> Result<(), Fail> {
     let size = ScreenSize { rows: 3, cols: 10 };
     let shots = [line("> 2345678", 9), line("> 23456789abcdefghijklm", 3)];
-    expect_last(&rt, rt.alloc(), size, NONE, &shots, "9abcdefghijklm")?;
-    let size = ScreenSize { rows: 2, cols: 10 };
     expect_last(&rt, rt.alloc(), size, NONE, &shots, "9abcdefghijklm")
 }
 
