@@ -163,6 +163,18 @@ fn of_more_rows_than_the_terminal_has_those_in_sight_are_sent(rt: HostRuntime) -
 }
 
 #[test]
+fn of_more_rows_than_the_terminal_has_a_new_one_scrolls(rt: HostRuntime) -> Result<(), Fail> {
+    let size = ScreenSize { rows: 2, cols: 10 };
+    let more = Shot {
+        up: -2,
+        text: "a\r\nb\r\nc\r\nd",
+        col: 1,
+    };
+    let shots = [line("a\r\nb\r\nc", 1), more];
+    expect_last(&rt, rt.alloc(), size, NONE, &shots, "\r\nd")
+}
+
+#[test]
 fn fewer_rows_than_the_terminal_has_are_sent_whole_after_more(rt: HostRuntime) -> Result<(), Fail> {
     let size = ScreenSize { rows: 2, cols: 10 };
     let fewer = Shot {

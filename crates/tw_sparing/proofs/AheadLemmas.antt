@@ -3,14 +3,14 @@ use Rattle.std.proofs.Common.{◌≡◌, ◌≤◌, ℕ, Bool, true, false, Opti
 use Rattle.tw_surface.specs.ChangeView.{Batch}
 use Rattle.tw_terminal.specs.declared.terminal.ScreenSize.{ScreenSize}
 use Rattle.tw_ansi.specs.declared.encode.Encoder.{Encoder}
-use Rattle.tw_ansi.specs.Encoding.{Sent, terse_batch}
+use Rattle.tw_ansi.specs.Encoding.{terse_batch}
 use Rattle.tw_sparing.specs.declared.shown.Shown.{Shown}
 use Rattle.tw_sparing.specs.Shown.{changes_below, gone_rows, left_behind, sent_for, IsDrawnAfter, IsFromStart, IsKnownAfter, IsPlayed, KeepsAbove}
 use Rattle.tw_sparing.specs.KnownRuns.{sent_for_all}
 use Rattle.tw_sparing.specs.SparingRuns.{AreKnownSince}
 use Rattle.tw_sparing.specs.Ahead.{AheadView, AreAhead, IsDrawnBetween, IsJoined, ahead_view, all_changes, changes_among, group_kept, groups_with, joined_group, latest_known, leaves_sight, sent_ahead}
 use Rattle.tw_sparing.proofs.GroupLemmas.{all_changes-last}
-use Rattle.tw_sparing.proofs.PlayedBatches.{drawn_known, drawn_width, known_drawn, known_width, played_width, stays_in_sight}
+use Rattle.tw_sparing.proofs.PlayedBatches.{drawn_known, drawn_row, drawn_width, known_drawn, known_width, played_width}
 
 -- ---- two batches, as one
 
@@ -106,66 +106,47 @@ module _ (size : ScreenSize) where
 
   -- ---- what is sent for what was drawn
 
-  -- what is sent for one batch that was drawn
-  drawn_sent : (batch : Batch) (old new : Shown) (e : Encoder) → IsDrawnAfter size.rows batch old new
-      → sent_for size.rows batch (Some old) (Some new) e ≡ terse_batch (changes_below (left_behind size.rows new) (left_behind size.rows new) old new) e
-  drawn_sent batch old new e drawn =
-      ap (λ b. terse_batch (changes_below (gone_rows b size.rows old new) (left_behind size.rows new) old new) e) (stays_in_sight size.rows batch old new drawn.1)
-
   -- what is sent for one group
   abbrev IsSentAlone : Batch → Shown → Shown → Encoder → Type 0
   IsSentAlone batch old new e =
       let alone = sent_for_all size.rows (Some old) (record { batch = batch; known = Some new } ∷ []) e in
-      let sent = terse_batch (changes_below (left_behind size.rows new) (left_behind size.rows new) old new) e in
+      let sent = terse_batch (changes_below (gone_rows size.rows old new) (left_behind size.rows new) old new) e in
       (alone.bytes ≡ sent.bytes) × (alone.next ≡ sent.next)
 
-  group_sent : (batch : Batch) (old new : Shown) (e : Encoder) → IsDrawnAfter size.rows batch old new → IsSentAlone batch old new e
-  group_sent batch old new e drawn = (
-    append-nil (sent_for size.rows batch (Some old) (Some new) e).bytes ∙ ap (λ (x : Sent). x.bytes) (drawn_sent batch old new e drawn),
-    ap (λ (x : Sent). x.next) (drawn_sent batch old new e drawn),
-  )
-
-  kept_sent_at : (kept : Batch) (shown drawn : Shown) (e : Encoder) → IsDrawnAfter size.rows kept shown drawn
-      → let sent = terse_batch (changes_below (left_behind size.rows drawn) (left_behind size.rows drawn) shown drawn) e in
-      ((sent_ahead (ahead_view size (Some shown) (Some drawn) kept) e).bytes ≡ sent.bytes) × ((sent_ahead (ahead_view size (Some shown) (Some drawn) kept) e).next ≡ sent.next)
-  kept_sent_at kept shown drawn e are = group_sent kept shown drawn e are
+  group_sent : (batch : Batch) (old new : Shown) (e : Encoder) → IsSentAlone batch old new e
+  group_sent batch old new e = (append-nil (sent_for size.rows batch (Some old) (Some new) e).bytes, refl)
 
   -- for what is kept back
-  pub kept_sent : (ahead : AheadView) (a b : Option Shown) (kept : Batch) (shown drawn : Shown) (e : Encoder) → ahead_view size a b kept ≡ ahead → a ≡ Some shown → b ≡ Some drawn → AreAhead size a b kept
-      → let sent = terse_batch (changes_below (left_behind size.rows drawn) (left_behind size.rows drawn) shown drawn) e in
+  pub kept_sent : (ahead : AheadView) (a b : Option Shown) (kept : Batch) (shown drawn : Shown) (e : Encoder) → ahead_view size a b kept ≡ ahead → a ≡ Some shown → b ≡ Some drawn
+      → let sent = terse_batch (changes_below (gone_rows size.rows shown drawn) (left_behind size.rows drawn) shown drawn) e in
       ((sent_ahead ahead e).bytes ≡ sent.bytes) × ((sent_ahead ahead e).next ≡ sent.next)
-  kept_sent ahead a b kept shown drawn e is is_shown is_drawn are =
+  kept_sent ahead a b kept shown drawn e is is_shown is_drawn =
       let there : ahead_view size (Some shown) (Some drawn) kept ≡ ahead =
       subst (λ x. ahead_view size (Some shown) x kept ≡ ahead) is_drawn (subst (λ x. ahead_view size x b kept ≡ ahead) is_shown is) in
-      let sent = terse_batch (changes_below (left_behind size.rows drawn) (left_behind size.rows drawn) shown drawn) e in
+      let sent = terse_batch (changes_below (gone_rows size.rows shown drawn) (left_behind size.rows drawn) shown drawn) e in
       subst (λ v. ((sent_ahead v e).bytes ≡ sent.bytes) × ((sent_ahead v e).next ≡ sent.next)) there
-      (kept_sent_at kept shown drawn e (drawn_ahead a b kept shown drawn is_shown is_drawn are))
-
-  joined_sent_at : (b : Option Shown) (kept batch : Batch) (shown then : Shown) (e : Encoder) → IsJoined batch (ahead_view size (Some shown) b kept) (Some then)
-      → let all = sent_for_all size.rows (Some shown) (groups_with true batch (ahead_view size (Some shown) b kept) (Some then)) e in
-      let sent = terse_batch (changes_below (left_behind size.rows then) (left_behind size.rows then) shown then) e in
-      (all.bytes ≡ sent.bytes) × (all.next ≡ sent.next)
-  joined_sent_at b kept batch shown then e joined = group_sent (changes_among (group_kept b kept) ++ batch) shown then e joined.1
+      (group_sent kept shown drawn e)
 
   -- and for all that one difference takes
   pub joined_sent : (ahead : AheadView) (a b next : Option Shown) (kept batch : Batch) (shown then : Shown) (e : Encoder) → ahead_view size a b kept ≡ ahead → a ≡ Some shown → next ≡ Some then
-      → IsJoined batch ahead next
       → let all = sent_for_all ahead.size.rows ahead.shown (groups_with true batch ahead next) e in
-      let sent = terse_batch (changes_below (left_behind size.rows then) (left_behind size.rows then) shown then) e in
+      let sent = terse_batch (changes_below (gone_rows size.rows shown then) (left_behind size.rows then) shown then) e in
       (all.bytes ≡ sent.bytes) × (all.next ≡ sent.next)
-  joined_sent ahead a b next kept batch shown then e is is_shown is_next joined =
+  joined_sent ahead a b next kept batch shown then e is is_shown is_next =
       let there : ahead_view size (Some shown) b kept ≡ ahead = subst (λ x. ahead_view size x b kept ≡ ahead) is_shown is in
-      let sent = terse_batch (changes_below (left_behind size.rows then) (left_behind size.rows then) shown then) e in
+      let sent = terse_batch (changes_below (gone_rows size.rows shown then) (left_behind size.rows then) shown then) e in
       let same = subst (λ (v : AheadView). let all = sent_for_all v.size.rows v.shown (groups_with true batch v (Some then)) e in (all.bytes ≡ sent.bytes) × (all.next ≡ sent.next)) there
-      (joined_sent_at b kept batch shown then e (subst (λ v. IsJoined batch v (Some then)) (sym there) (subst (λ x. IsJoined batch ahead x) is_next joined))) in
+      (group_sent (changes_among (group_kept b kept) ++ batch) shown then e) in
       subst (λ x. let all = sent_for_all ahead.size.rows ahead.shown (groups_with true batch ahead x) e in (all.bytes ≡ sent.bytes) × (all.next ≡ sent.next)) (sym is_next) same
 
   joined_fits_at : (b : Option Shown) (kept batch : Batch) (shown then : Shown) → IsJoined batch (ahead_view size (Some shown) b kept) (Some then)
-      → (shown.screen.width ≡ then.screen.width) × (left_behind size.rows then ≤ shown.screen.row)
-  joined_fits_at b kept batch shown then joined = (drawn_width size.rows (changes_among (group_kept b kept) ++ batch) shown then joined.1, joined.1.2.row)
+      → (shown.screen.width ≡ then.screen.width) × (gone_rows size.rows shown then ≤ shown.screen.row)
+  joined_fits_at b kept batch shown then joined =
+      let all : Batch = changes_among (group_kept b kept) ++ batch in
+      (drawn_width size.rows all shown then joined.1, drawn_row size.rows all shown then joined.1)
 
   pub joined_fits : (ahead : AheadView) (a b next : Option Shown) (kept batch : Batch) (shown then : Shown) → ahead_view size a b kept ≡ ahead → a ≡ Some shown → next ≡ Some then
-      → IsJoined batch ahead next → (shown.screen.width ≡ then.screen.width) × (left_behind size.rows then ≤ shown.screen.row)
+      → IsJoined batch ahead next → (shown.screen.width ≡ then.screen.width) × (gone_rows size.rows shown then ≤ shown.screen.row)
   joined_fits ahead a b next kept batch shown then is is_shown is_next joined =
       let there : ahead_view size (Some shown) b kept ≡ ahead = subst (λ x. ahead_view size x b kept ≡ ahead) is_shown is in
       joined_fits_at b kept batch shown then (subst (λ v. IsJoined batch v (Some then)) (sym there) (subst (λ x. IsJoined batch ahead x) is_next joined))

@@ -1,5 +1,5 @@
 -- A terminal that shows what is known, and is sent what differs after a batch, shows what is known then.
-use Rattle.std.proofs.Common.{◌≡◌, ◌<◌, ◌≤◌, ◌+◌, ◌-◌, ◌^◌, ◌∷◌, ℕ, pos, negsuc, ℤ, ◌+ℤ◌, min, ltb, not, Bool, true, false, Some, inl, inr, ap, subst, ◌∙◌, sym, refl, arith}
+use Rattle.std.proofs.Common.{◌≡◌, ◌<◌, ◌≤◌, ◌+◌, ◌-◌, ◌^◌, ◌∷◌, ℕ, pos, negsuc, ℤ, ◌+ℤ◌, min, max, not, Bool, true, false, Some, inl, inr, ap, subst, ◌∙◌, sym, refl, arith}
 use Rattle.std.proofs.lemmas.Bool.{cases_lt, lt-ltb, false≢true}
 use Rattle.std.proofs.lemmas.Int.{ints}
 use Rattle.tw_surface.specs.declared.cell.CellAttributes.{CellAttributes}
@@ -15,13 +15,13 @@ use Rattle.tw_ansi.specs.Encoding.{sent_change, terse_batch}
 use Rattle.tw_ansi.specs.EcmaScreen.{EcmaScreen, receive_all}
 use Rattle.tw_ansi.specs.EcmaLaws.{IsColor}
 use Rattle.styled_screen.specs.StyledScreens.{without_rows}
-use Rattle.tw_changed.specs.ChangedScreens.{IsSeenFrom}
+use Rattle.tw_changed.specs.ChangedScreens.{IsBlankFrom, IsSeenFrom}
 use Rattle.tw_changed.specs.Sending.{screen_cells, hand_of}
 use Rattle.tw_sparing.specs.declared.shown.Shown.{Shown}
 use Rattle.tw_sparing.specs.Shown.{changes_below, first_shown, goes_out_of_sight, gone_rows, left_behind, rows_above, IsDrawnAfter, IsKnownBy, IsPlayed, IsRefilled, IsShortMove}
 use Rattle.tw_sparing.specs.ShownTerminals.{IsShownBy, KnownIsShown}
 use Rattle.tw_sparing.proofs.CutScreens.{cut_cells}
-use Rattle.tw_sparing.proofs.PlayedBatches.{played_reached}
+use Rattle.tw_sparing.proofs.PlayedBatches.{drawn_gone, gone_within, played_reached}
 use Rattle.tw_sparing.proofs.SpannedPictures.{IsSpanned, seen_row}
 use Rattle.tw_sparing.proofs.PlayedPictures.{batch_spans}
 use Rattle.tw_sparing.proofs.StandingScreens.{start_spans, stands_at}
@@ -41,6 +41,23 @@ module _ (h w : ℕ) (batch : Batch) (old new : Shown) (e : Encoder) (t : EcmaSc
   some : 0 < w
   some = omega (arith, a.fits.col, a.width)
 
+  -- what is left of the old screen without some of its rows, which may have left the terminal or not
+  seen_below : (gone : ℕ) → left_behind h old ≤ gone → gone ≤ old.screen.row
+      → IsSeenFrom w (a.from + (gone - left_behind h old)) (screen_cells (without_rows gone old.screen)) (hand_of (without_rows gone old.screen)) p
+  seen_below gone low above = record {
+    cell = λ i j left.
+        ap (λ n. p.cell n j) (omega arith)
+        ∙ a.seen.cell (gone - left_behind h old + i) j left
+        ∙ cut_cells (left_behind h old) old.screen (gone - left_behind h old + i) j
+        ∙ ap (λ n. screen_cells old.screen n j) (omega (arith, low))
+        ∙ sym (cut_cells gone old.screen i j);
+    row = omega (arith, a.seen.row, low, above);
+    col = a.seen.col;
+  }
+
+  blank_below : (gone rows : ℕ) → old.reached - gone ≤ rows → IsBlankFrom rows (screen_cells (without_rows gone old.screen))
+  blank_below gone rows fewer i j far = cut_cells gone old.screen i j ∙ a.blank (gone + i) j (omega (arith, far, fewer))
+
   -- ---- a batch that was drawn on the old screen
 
   module _ (known : IsDrawnAfter h batch old new) where
@@ -58,21 +75,6 @@ module _ (h w : ℕ) (batch : Batch) (old new : Shown) (e : Encoder) (t : EcmaSc
     spans = subst (λ c. IsSpanned h w a.from p new (steps_on (Some h) w (strokes_of styled c batch) p)) a.attributes
         (batch_spans h w a.from p batch old new p (start_spans h w e t p old a) known.1)
 
-    old_seen : IsSeenFrom w old_row (screen_cells (without_rows top old.screen)) (hand_of (without_rows top old.screen)) p
-    old_seen =
-        let less : old.reached - h ≤ new.reached - h = omega (arith, mono) in
-        let above : new.reached - h ≤ old.screen.row = known.2.row in
-        record {
-          cell = λ i j left.
-              ap (λ n. p.cell n j) (omega arith)
-              ∙ a.seen.cell (top - left_behind h old + i) j left
-              ∙ cut_cells (left_behind h old) old.screen (top - left_behind h old + i) j
-              ∙ ap (λ n. screen_cells old.screen n j) (omega (arith, less))
-              ∙ sym (cut_cells top old.screen i j);
-          row = omega (arith, a.seen.row, less, above);
-          col = a.seen.col;
-        }
-
     stands : min old_row (h - (new.reached - top)) ≡ stands_at h w a.from p new drawn spans
     stands =
         let room : a.from + (old.reached - (old.reached - h)) ≤ h = a.room in
@@ -85,11 +87,12 @@ module _ (h w : ℕ) (batch : Batch) (old new : Shown) (e : Encoder) (t : EcmaSc
         ∙ sym (spans.above (r + seen_row h a.from new) c (omega (arith, up, room, mono)))
         ∙ sym (spans.seen.cell r c)
 
-    pub drawn_shown : IsShownWithout (left_behind h new)
+    pub drawn_shown : IsShownWithout (gone_rows h old new)
     drawn_shown =
         let room : a.from + (old.reached - (old.reached - h)) ≤ h = a.room in
-        redrawn_by h w top old_row a.from old new e t p p drawn some small known.0 a spans old_seen
-        (λ i j far. cut_cells top old.screen i j ∙ a.blank (top + i) j (omega (arith, far, mono))) (omega (arith, room, mono)) stands still_above
+        subst IsShownWithout (sym (drawn_gone h batch old new known))
+        (redrawn_by h w top old_row a.from old new e t p p drawn some small known.0 a spans (seen_below top (omega (arith, mono)) known.2.row)
+        (blank_below top (new.reached - top) (omega (arith, mono))) (omega (arith, room, mono)) stands still_above)
 
   -- ---- a batch that filled the terminal again
 
@@ -119,7 +122,10 @@ module _ (h w : ℕ) (batch : Batch) (old new : Shown) (e : Encoder) (t : EcmaSc
         up (pos m) is more = omega (arith, ints, is, more, at_row)
         up (negsuc m) is more = omega arith
 
-    refilled_shown : IsShownWithout (left_behind h old)
+    abbrev gone_then : ℕ
+    gone_then = gone_rows h old new
+
+    refilled_shown : IsShownWithout gone_then
     refilled_shown =
         let y : Position = r.moved.0 in
         let q : PictureOf StyledCell = led_to_first y in
@@ -130,12 +136,17 @@ module _ (h w : ℕ) (batch : Batch) (old new : Shown) (e : Encoder) (t : EcmaSc
         (subst (λ n. IsPlayed h r.rest (first_shown n) new) a.width r.played) in
         let is : drawn ≡ steps_on (Some h) w (strokes_of styled e.attributes r.rest) q = ap (λ xs. steps_on (Some h) w (strokes_of styled e.attributes xs) p) r.moved.2 in
         let spans : IsSpanned h w f.s f.first new drawn = subst (IsSpanned h w f.s f.first new) (sym is) f.spans in
-        let stands : min a.from (h - (new.reached - left_behind h new)) ≡ stands_at h w f.s f.first new drawn spans = omega (arith, from_first, r.after) in
-        redrawn_by h w (left_behind h old) a.from f.s old new e t p f.first drawn some small r.fits a spans a.seen
-        (λ i j far. cut_cells (left_behind h old) old.screen i j ∙ a.blank (left_behind h old + i) j (omega (arith, far, r.before, r.after))) a.room stands
-        (λ i c up. absurd (omega (arith, up, stands, from_first)))
+        let old_row : ℕ = a.from + (gone_then - left_behind h old) in
+        let bounds = gone_within h old new r.row in
+        let low : left_behind h old ≤ gone_then = bounds.0 in
+        let room : a.from + (old.reached - (old.reached - h)) ≤ h = a.room in
+        let most : gone_then ≤ max (left_behind h old) (left_behind h new) = bounds.2 in
+        let stands : min old_row (h - (new.reached - left_behind h new)) ≡ stands_at h w f.s f.first new drawn spans = omega (arith, r.after) in
+        redrawn_by h w gone_then old_row f.s old new e t p f.first drawn some small r.fits a spans (seen_below gone_then low bounds.1)
+        (blank_below gone_then (new.reached - left_behind h new) (omega (arith, low, r.before, r.after))) (omega (arith, low, room, from_first)) stands
+        (λ i c up. absurd (omega (arith, up, stands, r.after)))
 
-  by_sight : (b : Bool) → goes_out_of_sight (rows_above h old) batch ≡ b → IsKnownBy b h batch old new → IsShownWithout (gone_rows b h old new)
+  by_sight : (b : Bool) → goes_out_of_sight (rows_above h old) batch ≡ b → IsKnownBy b h batch old new → IsShownWithout (gone_rows h old new)
   by_sight true is known = refilled_shown known is
   by_sight false is known = drawn_shown known
 

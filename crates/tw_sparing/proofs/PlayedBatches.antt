@@ -1,7 +1,7 @@
 -- Batches that are played one after the other.
-use Rattle.std.proofs.Common.{◌≡◌, ◌+◌, ◌<◌, ◌≤◌, ℕ, zero, suc, pos, negsuc, not, Bool, true, false, Option, Some, List, [], ◌∷◌, ◌++◌, length, take, get_or, ap, subst, ◌∙◌, sym, refl, arith}
+use Rattle.std.proofs.Common.{◌≡◌, ◌+◌, ◌<◌, ◌≤◌, ℕ, zero, suc, pos, negsuc, max, cond, leb, not, Bool, true, false, Option, Some, List, [], ◌∷◌, ◌++◌, length, take, get_or, ap, subst, ◌∙◌, sym, refl, arith}
 use Rattle.std.proofs.Math.Seq.{take-suc}
-use Rattle.std.proofs.lemmas.Bool.{lt-ltb}
+use Rattle.std.proofs.lemmas.Bool.{le-leb, leb-true, lt-ltb}
 use Rattle.std.proofs.lemmas.List.{map-append}
 use Rattle.tw_surface.specs.declared.change.Change.{Change}
 use Rattle.tw_surface.specs.ChangeView.{ChangeView, Batch, batch_view, change_view}
@@ -9,7 +9,7 @@ use Rattle.tw_sparing.specs.declared.shown.Shown.{Shown}
 use Rattle.tw_surface.specs.declared.change.Position.TheVariants.{Absolute, Relative}
 use Rattle.tw_surface.specs.ChangeView.{Attribute, AllAttributes, Text, ClearScreen, ClearToEndOfScreen, CursorPosition}
 use Rattle.tw_surface.specs.Defaults.{default_color}
-use Rattle.tw_sparing.specs.Shown.{first_shown, goes_out_of_sight, gone_rows, rows_above, Empties, FitsTerminal, SetsAttributes, IsDrawnAfter, IsKnownAfter, IsKnownBy, IsPlayed, IsPlayedOnce}
+use Rattle.tw_sparing.specs.Shown.{first_shown, goes_out_of_sight, gone_rows, left_behind, rows_above, Empties, FitsTerminal, SetsAttributes, IsDrawnAfter, IsKnownAfter, IsKnownBy, IsPlayed, IsPlayedOnce}
 
 played_last : (rows : ℕ) (xs : Batch) (x : ChangeView) (a b c : Shown) → IsPlayed rows xs a b → IsPlayedOnce rows x b c → IsPlayed rows (xs ++ x ∷ []) a c
 played_last rows [] x a b c first last = (c, subst (λ (k : Shown). IsPlayedOnce rows x k c) first last, refl)
@@ -66,21 +66,40 @@ known_width cols rows batch a b old new is_old is_new known =
     let both = subst (λ x. IsKnownAfter cols rows batch (Some old) x) is_new (subst (λ x. IsKnownAfter cols rows batch x b) is_old known) in
     known_width_by (goes_out_of_sight (rows_above rows old) batch) rows batch old new both
 
--- the new screen fits the terminal, and the cursor of the old one is after the rows that have left it
-fits_by : (b : Bool) (rows : ℕ) (batch : Batch) (old new : Shown) → IsKnownBy b rows batch old new → FitsTerminal rows new × (gone_rows b rows old new ≤ old.screen.row)
-fits_by true rows batch old new known = (known.fits, known.row)
-fits_by false rows batch old new known = (known.0, known.2.row)
-
-pub known_fits : (cols rows : ℕ) (batch : Batch) (a b : Option Shown) (old new : Shown) → a ≡ Some old → b ≡ Some new → IsKnownAfter cols rows batch a b
-    → FitsTerminal rows new × (gone_rows (goes_out_of_sight (rows_above rows old) batch) rows old new ≤ old.screen.row)
-known_fits cols rows batch a b old new is_old is_new known =
-    let both = subst (λ x. IsKnownAfter cols rows batch (Some old) x) is_new (subst (λ x. IsKnownAfter cols rows batch x b) is_old known) in
-    fits_by (goes_out_of_sight (rows_above rows old) batch) rows batch old new both
-
 -- the rows that are reached do not get fewer
 pub played_reached : (rows : ℕ) (xs : Batch) (a b : Shown) → IsPlayed rows xs a b → a.reached ≤ b.reached
 played_reached rows [] a b is = omega (arith, ap (λ (k : Shown). k.reached) is)
 played_reached rows (x ∷ xs) a b is = omega (arith, is.1.reached, played_reached rows xs is.0 b is.2)
+
+-- the rows of an old screen that have left the terminal: at least those that had left it before, above the old cursor, and no more than those of either screen
+pub gone_within : (rows : ℕ) (old new : Shown) → left_behind rows old ≤ old.screen.row
+    → (left_behind rows old ≤ gone_rows rows old new) × (gone_rows rows old new ≤ old.screen.row) × (gone_rows rows old new ≤ max (left_behind rows old) (left_behind rows new))
+gone_within rows old new inside = by_row (leb (left_behind rows new) old.screen.row) refl
+  where
+    by_row : (b : Bool) → leb (left_behind rows new) old.screen.row ≡ b → let gone = cond b (max (left_behind rows old) (left_behind rows new)) (left_behind rows old) in
+        (left_behind rows old ≤ gone) × (gone ≤ old.screen.row) × (gone ≤ max (left_behind rows old) (left_behind rows new))
+    by_row true is = let up : left_behind rows new ≤ old.screen.row = leb-true _ _ is in (omega arith, omega (arith, up, inside), omega arith)
+    by_row false is = (omega arith, inside, omega arith)
+
+-- where a batch was drawn they are those of the new one
+pub drawn_gone : (rows : ℕ) (batch : Batch) (old new : Shown) → IsDrawnAfter rows batch old new → gone_rows rows old new ≡ left_behind rows new
+drawn_gone rows batch old new drawn =
+    let more = played_reached rows batch old new drawn.1 in
+    ap (λ b. cond b (max (left_behind rows old) (left_behind rows new)) (left_behind rows old)) (le-leb (left_behind rows new) old.screen.row drawn.2.row) ∙ omega (arith, more)
+
+pub drawn_row : (rows : ℕ) (batch : Batch) (old new : Shown) → IsDrawnAfter rows batch old new → gone_rows rows old new ≤ old.screen.row
+drawn_row rows batch old new drawn = let is = drawn_gone rows batch old new drawn in let row = drawn.2.row in omega (arith, is, row)
+
+-- the new screen fits the terminal, and the cursor of the old one is after the rows that have left it
+fits_by : (b : Bool) (rows : ℕ) (batch : Batch) (old new : Shown) → IsKnownBy b rows batch old new → FitsTerminal rows new × (gone_rows rows old new ≤ old.screen.row)
+fits_by true rows batch old new known = (known.fits, (gone_within rows old new known.row).1)
+fits_by false rows batch old new known = (known.0, drawn_row rows batch old new known)
+
+pub known_fits : (cols rows : ℕ) (batch : Batch) (a b : Option Shown) (old new : Shown) → a ≡ Some old → b ≡ Some new → IsKnownAfter cols rows batch a b
+    → FitsTerminal rows new × (gone_rows rows old new ≤ old.screen.row)
+known_fits cols rows batch a b old new is_old is_new known =
+    let both = subst (λ x. IsKnownAfter cols rows batch (Some old) x) is_new (subst (λ x. IsKnownAfter cols rows batch x b) is_old known) in
+    fits_by (goes_out_of_sight (rows_above rows old) batch) rows batch old new both
 
 -- a batch by its first two changes
 pub emptying : (changes : List Change) (x y : Change) → 2 ≤ length changes → x ≡ get_or changes 0 x → y ≡ get_or changes 1 y

@@ -1,20 +1,16 @@
 -- Deeds of a terminal that is sent what differs, one after the other, and what they send.
-use Rattle.std.proofs.Common.{◌≡◌, ◌≢◌, ◌≤◌, ℕ, List, [], ◌∷◌, ◌++◌, Option, Some, None, length, refl, sym, ap, ◌∙◌, subst, append_assoc, append-nil, inl, inr, arith}
-use Rattle.std.proofs.lemmas.Bool.{false≢true}
-use Rattle.std.specs.Io.KnownBytes.{Appends}
+use Rattle.std.proofs.Common.{◌≡◌, ◌≢◌, ◌≤◌, ℕ, List, [], ◌∷◌, ◌++◌, Option, length, refl, sym, ap, ◌∙◌, append_assoc, append-nil, inl, inr, arith}
 use Rattle.tw_surface.specs.ChangeView.{Batch}
 use Rattle.tw_terminal.specs.TerminalState.{usize_max}
-use Rattle.tw_terminal.specs.Uses.{Call, Took, Refused, Other, Uses}
+use Rattle.tw_terminal.specs.Uses.{Took, Refused, Other, Uses}
 use Rattle.tw_terminal.specs.declared.terminal.ScreenSize.{ScreenSize}
 use Rattle.tw_ansi.specs.declared.encode.Encoder.{Encoder}
-use Rattle.tw_ansi.specs.Encoding.{Sent}
 use Rattle.tw_lineedit.proofs.FailureLemmas.{le_count, rose_once}
 use Rattle.tw_device.specs.Deeds.{Deed, Called, Sized, Said, sizes_by, texts_by}
 use Rattle.tw_device.proofs.DeedLemmas.{appends_nothing, appends_then}
 use Rattle.tw_sparing.specs.declared.shown.Shown.{Shown}
 use Rattle.tw_sparing.specs.declared.terminal.SparingTerminal.{SparingTerminal}
-use Rattle.tw_sparing.specs.KnownRuns.{KnownBatch, batches_among, last_known, sent_for_all}
-use Rattle.tw_sparing.specs.Shown.{sent_for}
+use Rattle.tw_sparing.specs.KnownRuns.{KnownBatch, batches_among, last_known}
 use Rattle.tw_sparing.specs.SparingDeeds.{DoesSparingly, SendsSparingly}
 use Rattle.tw_sparing.specs.SparingRuns.{AreKnownSince, IsSentSparingly, SparinglyLedIsSent}
 use Rattle.tw_sparing.specs.Terminal.{sparing_state}

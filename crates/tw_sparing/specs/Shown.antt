@@ -1,5 +1,5 @@
 -- What a terminal shows, as far as it is known.
-use Rattle.std.specs.Prelude.{◌≡◌, ◌≤◌, ◌<◌, ◌+◌, ◌-◌, ◌⊎◌, ℕ, zero, pos, negsuc, ltb, max, Bool, true, false, not, Option, Some, None, [], ◌∷◌, ⊤}
+use Rattle.std.specs.Prelude.{◌≡◌, ◌≤◌, ◌<◌, ◌+◌, ◌-◌, ◌⊎◌, ℕ, zero, pos, negsuc, ltb, max, Bool, true, false, not, Option, Some, None, [], ◌∷◌, ⊤, leb, if◌then◌else◌}
 use Rattle.std.specs.List.{list_all}
 use Rattle.tw_surface.specs.declared.change.Position.{Position}
 use Rattle.tw_surface.specs.declared.change.Position.TheVariants.{Absolute, Relative}
@@ -162,10 +162,10 @@ IsKnownAfter cols rows batch None (Some new) = FitsTerminal rows new × ((rest :
 abbrev pub changes_below : ℕ → ℕ → Shown → Shown → Batch
 changes_below old_top top old new = changes_between (old.reached - old_top) (new.reached - top) (without_rows old_top old.screen) (without_rows top new.screen)
 
--- how many rows of the old screen have left the terminal: where it is filled again those that had left it before, and else those of the new screen
-abbrev pub gone_rows : Bool → ℕ → Shown → Shown → ℕ
-gone_rows true rows old new = left_behind rows old
-gone_rows false rows old new = left_behind rows new
+-- how many rows of the old screen have left the terminal once it shows the new one: those that had left it before, and those that leave it now, unless the old
+-- cursor stands in one of these
+abbrev pub gone_rows : ℕ → Shown → Shown → ℕ
+gone_rows rows old new = if leb (left_behind rows new) old.screen.row then max (left_behind rows old) (left_behind rows new) else left_behind rows old
 
 -- what is sent for a batch: where it is known what is shown before it and after it, what differs of the rows that have not left the terminal, its moves by few
 -- bytes; and else the batch itself
@@ -173,4 +173,4 @@ abbrev pub sent_for : ℕ → Batch → Option Shown → Option Shown → Encode
 sent_for rows batch None new e = sent_batch batch e
 sent_for rows batch (Some old) None e = sent_batch batch e
 sent_for rows batch (Some old) (Some new) e =
-    terse_batch (changes_below (gone_rows (goes_out_of_sight (rows_above rows old) batch) rows old new) (left_behind rows new) old new) e
+    terse_batch (changes_below (gone_rows rows old new) (left_behind rows new) old new) e

@@ -140,7 +140,7 @@ impl Ahead {
     {
         match (&self.shown, &self.drawn) {
             (Some(shown), Some(drawn)) => {
-                send_known(alloc, self.size.rows, shown, drawn, false, encoder, out)
+                send_known(alloc, self.size.rows, shown, drawn, encoder, out)
             }
             _ => Ok(encoder),
         }
@@ -165,7 +165,7 @@ impl Ahead {
     {
         match (&self.shown, next) {
             (Some(shown), Some(next)) if is_joined => {
-                send_known(alloc, self.size.rows, shown, next, false, encoder, out)
+                send_known(alloc, self.size.rows, shown, next, encoder, out)
             }
             _ => self.send_apart(alloc, changes, next, encoder, out),
         }

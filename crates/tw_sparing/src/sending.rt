@@ -22,15 +22,18 @@ fn encode(changes: &[Change], mut encoder: Encoder, out: &mut String) -> Result<
     Ok(encoder)
 }
 
-/// How many of the first rows of an old screen have left a terminal of so many, once it shows a new one. Where the
-/// terminal was filled again they have left it before.
-fn gone_rows(rows: usize, old: &Shown, new: &Shown, is_refilled: bool) -> usize
-    ensures { result ≡ gone_rows is_refilled rows old.now new.now }
+/// How many of the first rows of an old screen have left a terminal of so many once it shows a new one: those that had
+/// left it before, and those that leave it now, unless the old cursor stands in one of these.
+fn gone_rows(rows: usize, old: &Shown, new: &Shown) -> usize
+    ensures { result ≡ gone_rows rows old.now new.now }
 {
-    if is_refilled {
-        old.left_behind(rows)
+    let gone = old.left_behind(rows);
+    let leaving = new.left_behind(rows);
+    let (row, _) = old.screen.cursor();
+    if leaving <= row {
+        gone.max(leaving)
     } else {
-        new.left_behind(rows)
+        gone
     }
 }
 
@@ -40,19 +43,18 @@ pub fn send_known(
     rows: usize,
     old: &Shown,
     new: &Shown,
-    is_refilled: bool,
     encoder: Encoder,
     out: &mut String,
 ) -> Result<Encoder, AllocError>
     requires width { old.now.screen.width ≡ new.now.screen.width }
     requires fits { FitsTerminal rows new.now }
-    requires row { gone_rows is_refilled rows old.now new.now ≤ old.now.screen.row }
-    ensures bytes { let changes = changes_below (gone_rows is_refilled rows old.now new.now) (left_behind rows new.now) old.now new.now in
+    requires row { gone_rows rows old.now new.now ≤ old.now.screen.row }
+    ensures bytes { let changes = changes_below (gone_rows rows old.now new.now) (left_behind rows new.now) old.now new.now in
         OnOk result (string_bytes out.new ≡ string_bytes out.old ++ (terse_batch changes encoder).bytes) }
-    ensures next { let changes = changes_below (gone_rows is_refilled rows old.now new.now) (left_behind rows new.now) old.now new.now in
+    ensures next { let changes = changes_below (gone_rows rows old.now new.now) (left_behind rows new.now) old.now new.now in
         IfOk result (λ next. next ≡ (terse_batch changes encoder).next) }
 {
-    let old_top = gone_rows(rows, old, new, is_refilled);
+    let old_top = gone_rows(rows, old, new);
     let top = new.left_behind(rows);
     send_below(alloc, old, old_top, new, top, encoder, out)
 }
@@ -74,10 +76,7 @@ pub fn send_for(
     ensures next { IfOk result (λ next. next ≡ (sent_for size.rows (batch_view changes.now) old.now new.now encoder).next) }
 {
     match (old, new) {
-        (Some(old), Some(new)) => {
-            let is_refilled = old.is_left_by(changes, size.rows);
-            send_known(alloc, size.rows, old, new, is_refilled, encoder, out)
-        }
+        (Some(old), Some(new)) => send_known(alloc, size.rows, old, new, encoder, out),
         _ => encode(changes, encoder, out),
     }
 }

@@ -23,7 +23,7 @@ returns-in-Some-Some-clause-bytes c =
     ≡ string_bytes c.args.out.now ++ (sent_for_all now.size.rows now.shown (groups joined) c.args.encoder).bytes)) (sym c.if-is_joined.true)
     (subst (λ bytes. OnOk c.send_known.result (string_bytes c.send_known.new.out ≡ string_bytes c.args.out.now ++ bytes))
     (sym (joined_sent c.self.inside.size c.args.self.now c.self.inside.shown c.self.inside.drawn c.args.next.now (all_changes c.self.inside.kept) (batch_view c.args.changes.now)
-    c.in-Some-Some.shown c.in-Some-Some.next c.args.encoder c.self.view_is c.in-Some-Some.is-0 c.in-Some-Some.is-1 (c.requires.joined c.if-is_joined.true)).0)
+    c.in-Some-Some.shown c.in-Some-Some.next c.args.encoder c.self.view_is c.in-Some-Some.is-0 c.in-Some-Some.is-1).0)
     c.send_known.ensures.bytes)
 
 pub returns-in-Some-Some-clause-next : goal.returns-in-Some-Some-clause-next
@@ -33,5 +33,5 @@ returns-in-Some-Some-clause-next c =
     subst (λ joined. IfOk c.send_known.result (λ known. known ≡ (sent_for_all now.size.rows now.shown (groups joined) c.args.encoder).next)) (sym c.if-is_joined.true)
     (subst (λ end. IfOk c.send_known.result (λ known. known ≡ end))
     (sym (joined_sent c.self.inside.size c.args.self.now c.self.inside.shown c.self.inside.drawn c.args.next.now (all_changes c.self.inside.kept) (batch_view c.args.changes.now)
-    c.in-Some-Some.shown c.in-Some-Some.next c.args.encoder c.self.view_is c.in-Some-Some.is-0 c.in-Some-Some.is-1 (c.requires.joined c.if-is_joined.true)).1)
+    c.in-Some-Some.shown c.in-Some-Some.next c.args.encoder c.self.view_is c.in-Some-Some.is-0 c.in-Some-Some.is-1).1)
     c.send_known.ensures.next)
