@@ -9,7 +9,7 @@ use Rattle.tw_ansi.specs.Encoding.{Sent, sent_byte, terse_batch, sent_plain, sen
 use Rattle.tw_changed.specs.declared.hand.Hand.{Hand}
 use Rattle.tw_changed.specs.declared.redrawer.Redrawer.{Redrawer}
 use Rattle.tw_screens.specs.StyledCells.{StyledCell}
-use Rattle.tw_changed.specs.Redrawings.{Redrawing, at_ease, redraw_then, span_redrawn, row_redrawn, rows_redrawn, rest_of, rest_emptied, left_of, led_to, fed_once, fed, lowest_reached, sunk_to, lowered, handed_to, rows_drawn_on, under, hand_index, indexed, typed_at, cell_redrawn, cells_redrawn, goes_on, gone_on, redrawn}
+use Rattle.tw_changed.specs.Redrawings.{Redrawing, at_ease, redraw_then, span_redrawn, row_redrawn, rows_redrawn, rest_of, rest_emptied, left_of, led_to, fed_once, fed, lowest_reached, sunk_to, lowered, handed_to, rows_drawn_on, under, hand_index, indexed, typed_in_cell, cell_redrawn, cells_redrawn, goes_onward, gone_onward, redrawn}
 use Rattle.tw_changed.specs.Differences.{end_of}
 use Rattle.tw_changed.specs.Sending.{IsAdded}
 use Rattle.tw_changed.proofs.SentBatches.{both_next, both_bytes}
@@ -121,8 +121,8 @@ pub cell_added : (w index : ℕ) (cells : ℕ → ℕ → StyledCell) (x : Style
     → is_printable x.ch ≡ true → IsAdded (under x.attributes a.hand) a x0 b x1 → x2 ≡ x1 ++ (sent_byte b.encoder x.ch).bytes → next ≡ (sent_byte b.encoder x.ch).next
     → IsAdded (cell_redrawn w cells index a.hand) a x0 (record { hand = record b.hand { row = index / w; col = index % w + 1 }; encoder = next }) x2
 cell_added w index cells x a b next x0 x1 x2 is printable first bytes known =
-    subst (λ y. IsAdded (redraw_then (under y.attributes a.hand) (typed_at w index y.ch)) a x0 (record { hand = record b.hand { row = index / w; col = index % w + 1 }; encoder = next }) x2) is
-    (added_both (under x.attributes a.hand) (typed_at w index x.ch) a b _ x0 x1 x2 first
+    subst (λ y. IsAdded (redraw_then (under y.attributes a.hand) (typed_in_cell w index y.ch)) a x0 (record { hand = record b.hand { row = index / w; col = index % w + 1 }; encoder = next }) x2) is
+    (added_both (under x.attributes a.hand) (typed_in_cell w index x.ch) a b _ x0 x1 x2 first
     (let same = typed_is x.ch b.encoder (printable_plain x.ch printable) in record { bytes = bytes ∙ ap (λ v. x1 ++ v) (sym same.0); next = known ∙ sym same.1; hand = refl }))
 
 pub cells_step : (w i to : ℕ) (cells : ℕ → ℕ → StyledCell) (a b old : Redrawer) (x y before : List ℕ) (all : Redrawing) → i < to
@@ -176,7 +176,7 @@ rows_end w left new row rows a old x before all done same =
 -- ---- what goes on at the cursor
 
 pub going_added : (w reached rows from end : ℕ) (new : ℕ → ℕ → StyledCell) (to : Hand) (a b c : Redrawer) (x y z : List ℕ) → from ≡ hand_index w a.hand → end ≡ end_of w rows new
-    → IsAdded (cells_redrawn w new from (end - from) a.hand) a x b y → IsAdded (handed_to reached to b.hand) b y c z → IsAdded (gone_on w reached rows new to a.hand) a x c z
+    → IsAdded (cells_redrawn w new from (end - from) a.hand) a x b y → IsAdded (handed_to reached to b.hand) b y c z → IsAdded (gone_onward w reached rows new to a.hand) a x c z
 going_added w reached rows from end new to a b c x y z is_from is_end first last =
     added_both (cells_redrawn w new (hand_index w a.hand) (end_of w rows new - hand_index w a.hand) a.hand) (handed_to reached to) a b c x y z
     (subst (λ n. IsAdded (cells_redrawn w new n (end_of w rows new - n) a.hand) a x b y) is_from (subst (λ m. IsAdded (cells_redrawn w new from (m - from) a.hand) a x b y) is_end first)) last
@@ -185,13 +185,13 @@ going_added w reached rows from end new to a b c x y z is_from is_end first last
 
 module _ (w reached rows : ℕ) (old new : ℕ → ℕ → StyledCell) (to : Hand) (a b : Redrawer) (x y : List ℕ) where
   abbrev way : Bool → Redrawing
-  way goes = cond goes (gone_on w reached rows new to a.hand) (rows_drawn_on w reached rows old new to a.hand)
+  way goes = cond goes (gone_onward w reached rows new to a.hand) (rows_drawn_on w reached rows old new to a.hand)
 
-  pub added_onward : (goes : Bool) → goes ≡ goes_on w reached rows old new to a.hand → goes ≡ true → IsAdded (gone_on w reached rows new to a.hand) a x b y
+  pub added_onward : (goes : Bool) → goes ≡ goes_onward w reached rows old new to a.hand → goes ≡ true → IsAdded (gone_onward w reached rows new to a.hand) a x b y
       → IsAdded (redrawn w reached rows old new to a.hand) a x b y
   added_onward goes is does added = subst (λ z. IsAdded (way z) a x b y) (sym does ∙ is) added
 
-  pub added_by_rows : (goes : Bool) → goes ≡ goes_on w reached rows old new to a.hand → goes ≡ false
+  pub added_by_rows : (goes : Bool) → goes ≡ goes_onward w reached rows old new to a.hand → goes ≡ false
       → IsAdded (rows_drawn_on w reached rows old new to a.hand) a x b y → IsAdded (redrawn w reached rows old new to a.hand) a x b y
   added_by_rows goes is not_so added = subst (λ z. IsAdded (way z) a x b y) (sym not_so ∙ is) added
 

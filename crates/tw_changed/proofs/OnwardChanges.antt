@@ -9,7 +9,7 @@ use Rattle.tw_ansi.specs.declared.encode.Encoder.{Encoder}
 use Rattle.tw_ansi.specs.Encoding.{Sent, sent_byte, sent_return, sent_feed, sent_columns, sent_plain, sent_clusters, terse_change, terse_batch}
 use Rattle.tw_changed.specs.declared.hand.Hand.{Hand}
 use Rattle.tw_changed.specs.Differences.{end_of}
-use Rattle.tw_changed.specs.Redrawings.{Redrawing, redraw_then, hand_index, indexed, typed_at, cells_redrawn, handed_to, gone_on, rows_drawn_on}
+use Rattle.tw_changed.specs.Redrawings.{Redrawing, redraw_then, hand_index, indexed, typed_in_cell, cells_redrawn, handed_to, gone_onward, rows_drawn_on}
 use Rattle.tw_changed.specs.Shortness.{characters_by_index, TypedOnIsSentAlone}
 use Rattle.tw_changed.proofs.SentChanges.{printable_plain}
 use Rattle.tw_changed.proofs.ShortChanges.{stays_under, stays_handed}
@@ -60,8 +60,8 @@ cells_are w k zero cells hand same = refl
 cells_are w k (suc n) cells hand same =
     let x : StyledCell = indexed w cells k in
     let more : Hand → Redrawing = cells_redrawn w cells (suc k) n in
-    ap (λ d. (redraw_then (redraw_then d (typed_at w k x.ch)) more).changes) (stays_under x.attributes hand (sym (same k (omega arith) (omega arith))))
-    ∙ ap (λ changes. Text (x.ch ∷ []) ∷ changes) (cells_are w (suc k) n cells (typed_at w k x.ch hand).hand (λ m from to. same m (omega (arith, from)) (omega (arith, to))))
+    ap (λ d. (redraw_then (redraw_then d (typed_in_cell w k x.ch)) more).changes) (stays_under x.attributes hand (sym (same k (omega arith) (omega arith))))
+    ∙ ap (λ changes. Text (x.ch ∷ []) ∷ changes) (cells_are w (suc k) n cells (typed_in_cell w k x.ch hand).hand (λ m from to. same m (omega (arith, from)) (omega (arith, to))))
 
 pub typed_on_is_sent_alone : TypedOnIsSentAlone
 typed_on_is_sent_alone w reached rows n old new hand to e t whole =
@@ -69,7 +69,7 @@ typed_on_is_sent_alone w reached rows n old new hand to e t whole =
     let cells : Redrawing = cells_redrawn w new (hand_index w hand) n hand in
     let last : Hand → Redrawing = handed_to reached to in
     let count : end_of w rows new - k ≡ n = omega (arith, t.end) in
-    ap (λ b. (terse_batch (cond b (gone_on w reached rows new to hand) (rows_drawn_on w reached rows old new to hand)).changes e).bytes) t.goes
+    ap (λ b. (terse_batch (cond b (gone_onward w reached rows new to hand) (rows_drawn_on w reached rows old new to hand)).changes e).bytes) t.goes
     ∙ ap (λ m. (terse_batch (redraw_then (cells_redrawn w new (hand_index w hand) m hand) last).changes e).bytes) count
     ∙ ap (λ changes. (terse_batch changes e).bytes)
     (ap (λ changes. cells.changes ++ changes) (stays_handed reached to cells.hand (sym t.behind)) ∙ append-nil cells.changes ∙ cells_are w (hand_index w hand) n new hand t.typed)

@@ -9,7 +9,7 @@ use Rattle.tw_screens.specs.Pens.{strokes_of}
 use Rattle.tw_screens.specs.StyledCells.{StyledCell, styled}
 use Rattle.tw_changed.specs.declared.hand.Hand.{Hand}
 use Rattle.tw_changed.specs.Differences.{differ_in, blank_cell, end_of}
-use Rattle.tw_changed.specs.Redrawings.{Redrawing, hand_index, indexed, cells_redrawn, goes_on, gone_on, handed_to}
+use Rattle.tw_changed.specs.Redrawings.{Redrawing, hand_index, indexed, cells_redrawn, goes_onward, gone_onward, handed_to}
 use Rattle.tw_changed.specs.Sending.{ArePrintable}
 use Rattle.tw_changed.proofs.FoundColumns.{greatest_cases, same_where}
 use Rattle.tw_changed.proofs.DrawnRows.{Holds, redrawn_on, redrawn_both, kept_both, rows_inside}
@@ -23,7 +23,7 @@ pub record GoesOn (w reached rows : ℕ) (old new : ℕ → ℕ → StyledCell) 
   pub ends : end_of w rows old ≤ hand_index w hand
   pub same : NonePasses (differ_in (indexed w old) (indexed w new)) 0 (hand_index w hand)
 
-pub going_on : (w reached rows : ℕ) (old new : ℕ → ℕ → StyledCell) (to hand : Hand) → goes_on w reached rows old new to hand ≡ true → GoesOn w reached rows old new to hand
+pub going_on : (w reached rows : ℕ) (old new : ℕ → ℕ → StyledCell) (to hand : Hand) → goes_onward w reached rows old new to hand ≡ true → GoesOn w reached rows old new to hand
 going_on w reached rows old new to hand is =
     let full = and_parts _ _ is in
     let same = and_parts _ _ full.0 in
@@ -103,14 +103,14 @@ module _ (h w s reached rows : ℕ) (old new : ℕ → ℕ → StyledCell) (to h
       (handed h w top reached to typing.hand (redrawn_on h w hand typing p) (omega (arith, known)) (omega (arith, to_row, most)) to_col
       (rows_inside h w (strokes_of styled hand.attributes typing.changes) p inside) typing_goes.leads.holds)
 
-  pub becomes_onward : Becomes h w s (s - (s + rows - h)) new to hand (gone_on w reached rows new to hand) p
+  pub becomes_onward : Becomes h w s (s - (s + rows - h)) new to hand (gone_onward w reached rows new to hand) p
   becomes_onward =
       let last : Hand → Redrawing = handed_to reached to in
       let t : ℕ = s - (s + rows - h) in
       let q : PictureOf StyledCell = redrawn_on h w hand typing p in
       let is = redrawn_both h w hand typing last p typing_goes.leads.kept in
       let rests = last_row in
-      let cell_is : (i j : ℕ) → (redrawn_on h w hand (gone_on w reached rows new to hand) p).cell i j ≡ q.cell (i + (top - t)) j =
+      let cell_is : (i j : ℕ) → (redrawn_on h w hand (gone_onward w reached rows new to hand) p).cell i j ≡ q.cell (i + (top - t)) j =
       λ i j. ap (λ (v : PictureOf StyledCell). v.cell i j) is ∙ handing.cells i j in
       let up : t ≤ top = omega (arith, rests, goes.low, known, holds.row, inside, to_row, most) in
       record {

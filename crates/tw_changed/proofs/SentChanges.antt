@@ -18,7 +18,7 @@ use Rattle.tw_ansi.specs.Encoding.{sent_change}
 use Rattle.tw_ansi.specs.EcmaBatches.{IsReached, IsSendable, AreSendable}
 use Rattle.tw_changed.specs.Differences.{differ_in, first_changed, last_changed}
 use Rattle.tw_changed.specs.declared.hand.Hand.{Hand}
-use Rattle.tw_changed.specs.Redrawings.{Redrawing, at_ease, redraw_then, led_to, under, indexed, typed_at, cell_redrawn, cells_redrawn, span_redrawn, row_redrawn, rows_redrawn, fed_once, fed, lowest_reached, sunk_to, handed_to, lowered}
+use Rattle.tw_changed.specs.Redrawings.{Redrawing, at_ease, redraw_then, led_to, under, indexed, typed_in_cell, cell_redrawn, cells_redrawn, span_redrawn, row_redrawn, rows_redrawn, fed_once, fed, lowest_reached, sunk_to, handed_to, lowered}
 use Rattle.tw_changed.specs.ChangedScreens.{AreByBytes, IsInk}
 use Rattle.tw_changed.proofs.FoundColumns.{least_cases, greatest_cases}
 use Rattle.tw_changed.proofs.TypedCells.{inside_row}
@@ -97,8 +97,8 @@ sent_cells w k (suc n) cells hand ink low =
     let x : StyledCell = indexed w cells k in
     let here = ink k (omega arith) (omega arith) in
     let first : Redrawing = under x.attributes hand in
-    let typed : IsSent (typed_at w k x.ch first.hand) = record { easy = (ap (λ x. x && true) (printable_plain x.ch here.0.0), tt); low = here.1 } in
-    let cell = sent_both first (typed_at w k x.ch) (sent_under x.attributes hand here.0.1 low) typed in
+    let typed : IsSent (typed_in_cell w k x.ch first.hand) = record { easy = (ap (λ x. x && true) (printable_plain x.ch here.0.0), tt); low = here.1 } in
+    let cell = sent_both first (typed_in_cell w k x.ch) (sent_under x.attributes hand here.0.1 low) typed in
     sent_both (cell_redrawn w cells k hand) (cells_redrawn w cells (suc k) n) cell
     (sent_cells w (suc k) n cells (cell_redrawn w cells k hand).hand (λ m from to. ink m (omega (arith, from)) (omega (arith, to))) cell.low)
 

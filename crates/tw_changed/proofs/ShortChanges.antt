@@ -9,7 +9,7 @@ use Rattle.tw_extremes.proofs.ExtremesLemmas.{least_from-none}
 use Rattle.tw_screens.specs.StyledCells.{StyledCell}
 use Rattle.tw_changed.specs.declared.hand.Hand.{Hand}
 use Rattle.tw_changed.specs.Differences.{is_same_cell, differ_in, first_changed, is_used, end_of, blank_cell, behind_index}
-use Rattle.tw_changed.specs.Redrawings.{Redrawing, at_ease, redraw_then, led_to, under, row_redrawn, rows_redrawn, handed_to, rest_of, rest_emptied, left_of, lowest_reached, sunk_to, lowered, rows_drawn_on, hand_index, cells_redrawn, goes_on, gone_on}
+use Rattle.tw_changed.specs.Redrawings.{Redrawing, at_ease, redraw_then, led_to, under, row_redrawn, rows_redrawn, handed_to, rest_of, rest_emptied, left_of, lowest_reached, sunk_to, lowered, rows_drawn_on, hand_index, cells_redrawn, goes_onward, gone_onward}
 use Rattle.tw_changed.specs.Shortness.{NothingIsSentForNothing}
 use Rattle.tw_changed.proofs.OnwardScreens.{going_on}
 
@@ -86,13 +86,13 @@ sent_rows_alone w reached rows old new to hand low onward =
     ∙ ap (λ from. redraw_then (rest_emptied w from hand) (third from)) (no_rest w rows old new onward)
 
 pub nothing_is_sent : NothingIsSentForNothing
-nothing_is_sent w reached rows old new hand some low same = by_way (goes_on w reached rows old new hand hand) refl
+nothing_is_sent w reached rows old new hand some low same = by_way (goes_onward w reached rows old new hand hand) refl
   where
     ends : end_of w rows old ≡ end_of w rows new
     ends = same_ends w rows old new some same
 
-    by_way : (b : Bool) → goes_on w reached rows old new hand hand ≡ b
-        → (cond b (gone_on w reached rows new hand hand) (rows_drawn_on w reached rows old new hand hand)).changes ≡ []
+    by_way : (b : Bool) → goes_onward w reached rows old new hand hand ≡ b
+        → (cond b (gone_onward w reached rows new hand hand) (rows_drawn_on w reached rows old new hand hand)).changes ≡ []
     by_way true is =
         let goes = going_on w reached rows old new hand hand is in
         let none : end_of w rows new - hand_index w hand ≡ 0 = omega (arith, ends, goes.ends) in

@@ -21,7 +21,7 @@ use Rattle.tw_ansi.proofs.EcmaSequences.{received}
 use Rattle.tw_ansi.proofs.EcmaBatches.{keeps_change, terse_next, terse_batch_is_shown}
 use Rattle.tw_changed.specs.Differences.{end_of}
 use Rattle.tw_changed.specs.declared.hand.Hand.{Hand}
-use Rattle.tw_changed.specs.Redrawings.{Redrawing, at_ease, redraw_then, led_to, emptied_here, emptied, rest_of, rest_emptied, left_of, lowered, rows_redrawn, sunk_to, handed_to, rows_drawn_on, hand_index, indexed, cells_redrawn, goes_on, gone_on, redrawn}
+use Rattle.tw_changed.specs.Redrawings.{Redrawing, at_ease, redraw_then, led_to, emptied_here, emptied, rest_of, rest_emptied, left_of, lowered, rows_redrawn, sunk_to, handed_to, rows_drawn_on, hand_index, indexed, cells_redrawn, goes_onward, gone_onward, redrawn}
 use Rattle.tw_changed.specs.Sending.{ArePrintable}
 use Rattle.tw_changed.specs.ChangedScreens.{IsInk, IsInked, IsHandWithin, IsBlankFrom, IsSeenFrom, turned_to, ChangedIsShown}
 use Rattle.tw_changed.proofs.DrawnRows.{Holds, redrawn_on, redrawn_both, gone}
@@ -177,10 +177,10 @@ module _ (h w : ℕ) where
     ink_there : (i : ℕ) → i < rows → ArePrintable w (new i)
     ink_there i less j left = (inked.ink i j less left).0
 
-    pub onward_becomes : Becomes h w s (s - (s + rows - h)) new to hand (gone_on w reached rows new to hand) p
+    pub onward_becomes : Becomes h w s (s - (s + rows - h)) new to hand (gone_onward w reached rows new to hand) p
     onward_becomes = becomes_onward h w s reached rows old new to hand p some room low a.within.row edged reach.row reach.col blank inked.blank ink_there seen.cell holding goes
 
-    pub onward_sends : Sends hand (gone_on w reached rows new to hand) e t p
+    pub onward_sends : Sends hand (gone_onward w reached rows new to hand) e t p
     onward_sends =
         let k : ℕ = hand_index w hand in
         let n : ℕ = end_of w rows new - k in
@@ -243,13 +243,13 @@ module _ (h w s reached rows : ℕ) (old new : ℕ → ℕ → StyledCell) (hand
       ShowsPicture styled h w (terse_batch d.changes e).next (receive_all styled h w (terse_batch d.changes e).bytes t) (turned_to s (s - (s + rows - h)) new to p)
       × ((terse_batch d.changes e).next.attributes ≡ to.attributes)
 
-  way_is_shown : (b : Bool) → goes_on w reached rows old new to hand ≡ b
-      → IsShownBy (cond b (gone_on w reached rows new to hand) (rows_drawn_on w reached rows old new to hand))
+  way_is_shown : (b : Bool) → goes_onward w reached rows old new to hand ≡ b
+      → IsShownBy (cond b (gone_onward w reached rows new to hand) (rows_drawn_on w reached rows old new to hand))
   way_is_shown true is =
       let goes = going_on w reached rows old new to hand is in
       let x = onward_sends h w s reached rows old new hand to e t p some small most room low blank inked reach seen same a goes in
       let b = onward_becomes h w s reached rows old new hand to e t p some small most room low blank inked reach seen same a goes in
-      (becomes_shown h w s rows new hand to (gone_on w reached rows new to hand) e t p room inked reach b x, sym x.attributes ∙ handed_attributes _ to _)
+      (becomes_shown h w s rows new hand to (gone_onward w reached rows new to hand) e t p room inked reach b x, sym x.attributes ∙ handed_attributes _ to _)
   way_is_shown false is =
       let x = changed_sends h w s reached rows old new hand to e t p some small most room low inked reach seen same color a in
       let b = becomes h w s reached rows old new to hand p some room low a.within.row reach.row reach.col blank inked.blank
@@ -259,6 +259,6 @@ module _ (h w s reached rows : ℕ) (old new : ℕ → ℕ → StyledCell) (hand
 pub changed_is_shown : ChangedIsShown
 changed_is_shown h w s reached rows old new hand to e t p some small most room low blank inked reach seen same color a =
     let d : Redrawing = redrawn w reached rows old new to hand in
-    let both = way_is_shown h w s reached rows old new hand to e t p some small most room low blank inked reach seen same color a (goes_on w reached rows old new to hand) refl in
+    let both = way_is_shown h w s reached rows old new hand to e t p some small most room low blank inked reach seen same color a (goes_onward w reached rows old new to hand) refl in
     let first_row : s - (s + rows - h) ≡ min s (h - rows) = omega (arith, room) in
     (subst (λ n. ShowsPicture styled h w (terse_batch d.changes e).next (receive_all styled h w (terse_batch d.changes e).bytes t) (turned_to s n new to p)) first_row both.0, both.1)

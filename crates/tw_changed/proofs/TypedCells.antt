@@ -8,7 +8,7 @@ use Rattle.tw_strokes.specs.Strokes.{PictureOf, put_in, step, scrolled}
 use Rattle.tw_screens.specs.Pens.{strokes_of}
 use Rattle.tw_screens.specs.StyledCells.{StyledCell, styled}
 use Rattle.tw_changed.specs.declared.hand.Hand.{Hand}
-use Rattle.tw_changed.specs.Redrawings.{Redrawing, under, hand_index, indexed, typed_at, cell_redrawn, cells_redrawn}
+use Rattle.tw_changed.specs.Redrawings.{Redrawing, under, hand_index, indexed, typed_in_cell, cell_redrawn, cells_redrawn}
 use Rattle.tw_changed.proofs.DrawnRows.{Holds, redrawn_on, redrawn_both, Leads, leads_then, leads_ease, is_under, put_stroke, put_here, put_there, put_beside, put_away, unscrolled, rows_inside}
 
 -- the row and the column of an index
@@ -50,13 +50,13 @@ module _ (h w : ℕ) (some : 0 < w) where
     abbrev wrapped : PictureOf StyledCell
     wrapped = record { cell = put_in p.cell (p.row + 1) 0 inked; row = p.row + 1; col = 1 }
 
-    put_is : redrawn_on h w hand (typed_at w k ch hand) p ≡ scrolled (Some h) (cond (eqb p.col w) wrapped (put_here h w inked p))
+    put_is : redrawn_on h w hand (typed_in_cell w k ch hand) p ≡ scrolled (Some h) (cond (eqb p.col w) wrapped (put_here h w inked p))
     put_is = ap (λ stroke. scrolled (Some h) (step w stroke p)) (put_stroke h w hand.attributes ch printable)
 
-    typed_inside : hand.col < w → TypedAt s k inked hand (typed_at w k ch hand) p
+    typed_inside : hand.col < w → TypedAt s k inked hand (typed_in_cell w k ch hand) p
     typed_inside left =
         let place = inside_row w k hand.row hand.col at left in
-        let is : redrawn_on h w hand (typed_at w k ch hand) p ≡ scrolled (Some h) (put_here h w inked p) =
+        let is : redrawn_on h w hand (typed_in_cell w k ch hand) p ≡ scrolled (Some h) (put_here h w inked p) =
         put_is ∙ ap (λ b. scrolled (Some h) (cond b wrapped (put_here h w inked p))) (ne_eqb p.col w (λ e. omega (arith, e, holds.col, left))) in
         let still = unscrolled h (put_here h w inked p) inside in
         let fixed : s ≡ top_after s (k / w) = omega (arith, place.0, holds.row, inside) in
@@ -78,10 +78,10 @@ module _ (h w : ℕ) (some : 0 < w) where
               ∙ ap (λ n. put_in p.cell (s + k / w) (k % w) inked n j) (let e : i ≡ i + (s - top_after s (k / w)) = omega (arith, fixed) in e);
         }
 
-    typed_after : hand.col ≡ w → TypedAt s k inked hand (typed_at w k ch hand) p
+    typed_after : hand.col ≡ w → TypedAt s k inked hand (typed_in_cell w k ch hand) p
     typed_after past =
         let place = after_row w k hand.row hand.col at some past in
-        let is : redrawn_on h w hand (typed_at w k ch hand) p ≡ scrolled (Some h) wrapped =
+        let is : redrawn_on h w hand (typed_in_cell w k ch hand) p ≡ scrolled (Some h) wrapped =
         put_is ∙ ap (λ b. scrolled (Some h) (cond b wrapped (put_here h w inked p))) (eq-eqb p.col w (holds.col ∙ past)) in
         let up : p.row + 1 ≡ s + k / w = omega (arith, holds.row, place.0) in
         record {
@@ -102,7 +102,7 @@ module _ (h w : ℕ) (some : 0 < w) where
               ∙ ap (λ n. put_in p.cell (s + k / w) (k % w) inked n j) (let e : i + (p.row + 1 + 1 - h) ≡ i + (s - top_after s (k / w)) = omega (arith, up, low) in e);
         }
 
-    typed : TypedAt s k inked hand (typed_at w k ch hand) p
+    typed : TypedAt s k inked hand (typed_in_cell w k ch hand) p
     typed = elim (cases_lt hand.col w) [ inl left ↦ typed_inside left | inr past ↦ typed_after (omega (arith, edge, past)) ]
 
   -- so it is under the cell's attributes
@@ -112,7 +112,7 @@ module _ (h w : ℕ) (some : 0 < w) where
       let x : StyledCell = indexed w cells k in
       let u = is_under h w s x.attributes hand p holds in
       let first : Redrawing = under x.attributes hand in
-      let more : Hand → Redrawing = typed_at w k x.ch in
+      let more : Hand → Redrawing = typed_in_cell w k x.ch in
       let q : PictureOf StyledCell = redrawn_on h w hand first p in
       let same_index : hand_index w first.hand ≡ k = ap (λ r. r * w + first.hand.col) u.row ∙ ap (λ c. hand.row * w + c) u.col ∙ at in
       let b = typed s k x.ch first.hand q low (omega (arith, u.col, edge)) same_index (rows_inside h w (strokes_of styled hand.attributes first.changes) p inside) printable u.leads.holds in

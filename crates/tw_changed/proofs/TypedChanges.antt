@@ -13,7 +13,7 @@ use Rattle.tw_ansi.specs.declared.encode.Encoder.{Encoder}
 use Rattle.tw_ansi.specs.Encoding.{Sent, at_column, sent_byte, sent_return, sent_feed, sent_columns, sent_plain, sent_clusters, terse_change, terse_batch}
 use Rattle.tw_changed.specs.declared.hand.Hand.{Hand}
 use Rattle.tw_changed.specs.Differences.{is_same_cell, differ_in, first_changed, last_changed, blank_cell, is_used, end_of}
-use Rattle.tw_changed.specs.Redrawings.{Redrawing, redraw_then, span_redrawn, row_redrawn, rows_redrawn, handed_to, rows_drawn_on, hand_index, indexed, typed_at, cells_redrawn, goes_on, gone_on, under, redrawn}
+use Rattle.tw_changed.specs.Redrawings.{Redrawing, redraw_then, span_redrawn, row_redrawn, rows_redrawn, handed_to, rows_drawn_on, hand_index, indexed, typed_in_cell, cells_redrawn, goes_onward, gone_onward, under, redrawn}
 use Rattle.tw_changed.specs.Shortness.{characters_from, IsTypedAt, TypedIsSentAlone}
 use Rattle.tw_changed.proofs.FoundColumns.{same_where, ends_behind}
 use Rattle.tw_changed.proofs.DrawnEnds.{unused_after}
@@ -71,8 +71,8 @@ cells_typed w cells r c (suc n) hand row col room same =
     let more : Hand → Redrawing = cells_redrawn w cells (suc (r * w + c)) n in
     let x_is : indexed w cells k ≡ cells r c = ap (λ i. cells i (k % w)) place.0 ∙ ap (cells r) place.1 in
     let next : suc (r * w + c) ≡ r * w + (c + 1) = omega arith in
-    ap (λ (x : StyledCell). redraw_then (redraw_then (under x.attributes hand) (typed_at w k x.ch)) more) x_is
-    ∙ ap (λ d. redraw_then (redraw_then d (typed_at w k ch)) more) (stays_under (cells r c).attributes hand (sym (same c (omega arith) (omega arith))))
+    ap (λ (x : StyledCell). redraw_then (redraw_then (under x.attributes hand) (typed_in_cell w k x.ch)) more) x_is
+    ∙ ap (λ d. redraw_then (redraw_then d (typed_in_cell w k ch)) more) (stays_under (cells r c).attributes hand (sym (same c (omega arith) (omega arith))))
     ∙ ap (λ i. let y : Redrawing = record { changes = Text (ch ∷ []) ∷ []; hand = record hand { row = i; col = k % w + 1 } } in redraw_then y more) (place.0 ∙ sym row)
     ∙ ap (λ j. let y : Redrawing = record { changes = Text (ch ∷ []) ∷ []; hand = record hand { col = j + 1 } } in redraw_then y more) (place.1 ∙ sym col)
     ∙ ap (λ m. let y : Redrawing = record { changes = Text (ch ∷ []) ∷ []; hand = moved_on 1 hand } in redraw_then y (cells_redrawn w cells m n)) next
@@ -179,10 +179,10 @@ module _ (w rows n : ℕ) (old new : ℕ → ℕ → StyledCell) (hand to : Hand
         omega (arith, end)
 
   typed_changes : (reached : ℕ) → rows ≤ reached → (redrawn w reached rows old new to hand).changes ≡ texts_of (characters_from (new hand.row) hand.col n)
-  typed_changes reached low = by_way (goes_on w reached rows old new to hand) refl
+  typed_changes reached low = by_way (goes_onward w reached rows old new to hand) refl
     where
-      by_way : (b : Bool) → goes_on w reached rows old new to hand ≡ b
-          → (cond b (gone_on w reached rows new to hand) (rows_drawn_on w reached rows old new to hand)).changes
+      by_way : (b : Bool) → goes_onward w reached rows old new to hand ≡ b
+          → (cond b (gone_onward w reached rows new to hand) (rows_drawn_on w reached rows old new to hand)).changes
           ≡ texts_of (characters_from (new hand.row) hand.col n)
       by_way false is = rows_changes reached low
       by_way true is =

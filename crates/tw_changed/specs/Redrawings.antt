@@ -45,12 +45,12 @@ abbrev pub indexed : ℕ → (ℕ → ℕ → StyledCell) → ℕ → StyledCell
 indexed w cells k = cells (k / w) (k % w)
 
 -- a character is typed in the cell of an index: from after the last column a terminal goes to the next row by itself
-abbrev pub typed_at : ℕ → ℕ → ℕ → Hand → Redrawing
-typed_at w k ch hand = record { changes = Text (ch ∷ []) ∷ []; hand = record hand { row = k / w; col = k % w + 1 } }
+abbrev pub typed_in_cell : ℕ → ℕ → ℕ → Hand → Redrawing
+typed_in_cell w k ch hand = record { changes = Text (ch ∷ []) ∷ []; hand = record hand { row = k / w; col = k % w + 1 } }
 
 -- the cell of an index, which the cursor stands before
 abbrev pub cell_redrawn : ℕ → (ℕ → ℕ → StyledCell) → ℕ → Hand → Redrawing
-cell_redrawn w cells k hand = redraw_then (under (indexed w cells k).attributes hand) (typed_at w k (indexed w cells k).ch)
+cell_redrawn w cells k hand = redraw_then (under (indexed w cells k).attributes hand) (typed_in_cell w k (indexed w cells k).ch)
 
 -- so many cells, from an index on, one after the other
 abbrev pub cells_redrawn : ℕ → (ℕ → ℕ → StyledCell) → ℕ → ℕ → Hand → Redrawing
@@ -136,18 +136,18 @@ ends_blank w cells r = is_same_cell (cells r (w - 1)) blank_cell
 
 -- All that differs comes where the cursor stands or after it, where the old screen shows nothing, in rows that are full but for the last one; and below these
 -- no row is new but that of the new cursor.
-abbrev pub goes_on : ℕ → ℕ → ℕ → (ℕ → ℕ → StyledCell) → (ℕ → ℕ → StyledCell) → Hand → Hand → Bool
-goes_on w reached rows old new to hand =
+abbrev pub goes_onward : ℕ → ℕ → ℕ → (ℕ → ℕ → StyledCell) → (ℕ → ℕ → StyledCell) → Hand → Hand → Bool
+goes_onward w reached rows old new to hand =
     leb rows (max reached (to.row + 1)) && leb (end_of w rows old) (hand_index w hand)
     && is_none (greatest_below (differ_in (indexed w old) (indexed w new)) (hand_index w hand))
     && is_none (least_from (ends_blank w new) hand.row (end_of w rows new / w - hand.row))
 
 -- then the new cells are typed from there to their end, and the cursor and the attributes are led to
-abbrev pub gone_on : ℕ → ℕ → ℕ → (ℕ → ℕ → StyledCell) → Hand → Hand → Redrawing
-gone_on w reached rows new to hand = redraw_then (cells_redrawn w new (hand_index w hand) (end_of w rows new - hand_index w hand) hand) (handed_to reached to)
+abbrev pub gone_onward : ℕ → ℕ → ℕ → (ℕ → ℕ → StyledCell) → Hand → Hand → Redrawing
+gone_onward w reached rows new to hand = redraw_then (cells_redrawn w new (hand_index w hand) (end_of w rows new - hand_index w hand) hand) (handed_to reached to)
 
 -- all that makes one screen of another
 abbrev pub redrawn : ℕ → ℕ → ℕ → (ℕ → ℕ → StyledCell) → (ℕ → ℕ → StyledCell) → Hand → Hand → Redrawing
 redrawn w reached rows old new to hand =
-    if goes_on w reached rows old new to hand then gone_on w reached rows new to hand
+    if goes_onward w reached rows old new to hand then gone_onward w reached rows new to hand
     else rows_drawn_on w reached rows old new to hand

@@ -6,7 +6,7 @@ use Rattle.tw_ansi.specs.declared.encode.Encoder.{Encoder}
 use Rattle.tw_ansi.specs.Encoding.{terse_batch}
 use Rattle.tw_changed.specs.declared.hand.Hand.{Hand}
 use Rattle.tw_changed.specs.Differences.{end_of}
-use Rattle.tw_changed.specs.Redrawings.{hand_index, indexed, cells_redrawn, goes_on, redrawn}
+use Rattle.tw_changed.specs.Redrawings.{hand_index, indexed, cells_redrawn, goes_onward, redrawn}
 
 -- where no cell differs, no row is new, and neither cursor nor attributes are others, nothing is sent
 abbrev pub NothingIsSentForNothing : Type 0
@@ -47,7 +47,7 @@ characters_by_index w cells k (suc n) = (indexed w cells k).ch ∷ characters_by
 -- the new screen goes on at the cursor by n printable characters under the attributes that are selected, whatever rows that takes, and its cursor stands after
 -- them
 pub record IsTypedOn (w reached rows n : ℕ) (old new : ℕ → ℕ → StyledCell) (hand to : Hand) : Type 0 where
-  pub goes : goes_on w reached rows old new to hand ≡ true
+  pub goes : goes_onward w reached rows old new to hand ≡ true
   pub end : end_of w rows new ≡ hand_index w hand + n
   pub typed : (k : ℕ) → hand_index w hand ≤ k → k < hand_index w hand + n → (indexed w new k).attributes ≡ hand.attributes
   pub printable : (k : ℕ) → hand_index w hand ≤ k → k < hand_index w hand + n → is_printable (indexed w new k).ch ≡ true

@@ -5,7 +5,7 @@ ghost use Rattle.styled_screen.specs.StyledScreens.{styled_cell};
 ghost use Rattle.tw_changed.specs.ChangedScreens.{AreByBytes, AreAllByBytes};
 ghost use Rattle.tw_changed.specs.Differences.{differ_in, first_changed, last_changed, is_used, end_of};
 ghost use Rattle.tw_extremes.specs.Extremes.{greatest_below, least_from};
-ghost use Rattle.tw_changed.specs.Redrawings.{ends_blank, goes_on, indexed, left_of, rest_of};
+ghost use Rattle.tw_changed.specs.Redrawings.{ends_blank, goes_onward, indexed, left_of, rest_of};
 ghost use Rattle.tw_changed.specs.Sending.{ArePrintable, IsPrintable, screen_cells};
 
 use crate::hand::Hand;
@@ -176,7 +176,7 @@ fn are_full(screen: &StyledScreen, from: usize, to: usize) -> bool
 
 /// Whether all that differs comes at the cursor or after it, where the old screen shows nothing, in rows that are full
 /// but for the last one, below which no row is new but the cursor's.
-pub fn goes_on(
+pub fn goes_onward(
     old: &StyledScreen,
     reached: usize,
     new: &StyledScreen,
@@ -189,7 +189,7 @@ pub fn goes_on(
     requires to { to.row ≤ 4294967295 }
     requires row { hand.row ≤ 4294967295 }
     requires col { hand.col ≤ new.now.width }
-    ensures { result ≡ goes_on new.now.width reached rows (screen_cells old.now) (screen_cells new.now) to hand }
+    ensures { result ≡ goes_onward new.now.width reached rows (screen_cells old.now) (screen_cells new.now) to hand }
 {
     let width = new.width();
     let at = hand.row * width + hand.col;

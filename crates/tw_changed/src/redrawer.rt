@@ -3,10 +3,10 @@
 ghost use Rattle.std.specs.Prelude.{◌≡◌, ℕ, true, ◌<◌, ◌≤◌, ◌+◌, ◌-◌, ◌*◌, ◌/◌, ◌++◌, OnOk, OnErr, IfOk, IfSome, Option, string_bytes};
 ghost use Rattle.tw_surface.specs.Characters.{is_printable};
 ghost use Rattle.tw_ansi.specs.Encoding.{ExtendsBytes, terse_batch};
-ghost use Rattle.tw_changed.specs.Redrawings.{led_to, under, row_redrawn, rows_redrawn, handed_to, emptied_here, rest_emptied, rest_of, left_of, fed, sunk_to, lowered, rows_drawn_on, indexed, cell_redrawn, cells_redrawn, gone_on, redrawn};
+ghost use Rattle.tw_changed.specs.Redrawings.{led_to, under, row_redrawn, rows_redrawn, handed_to, emptied_here, rest_emptied, rest_of, left_of, fed, sunk_to, lowered, rows_drawn_on, indexed, cell_redrawn, cells_redrawn, gone_onward, redrawn};
 ghost use Rattle.tw_changed.specs.Sending.{IsAdded, IsPrintable, screen_cells, changes_between, hand_of};
 
-use crate::difference::{cell_at, end_of, first_changed, goes_on, last_changed, rest_of};
+use crate::difference::{cell_at, end_of, first_changed, goes_onward, last_changed, rest_of};
 use crate::hand::Hand;
 use std::alloc::AllocError;
 use styled_screen::StyledScreen;
@@ -265,7 +265,7 @@ impl Redrawer {
         requires to { to.row ≤ 4294967295 }
         requires row { self.old.hand.row ≤ 4294967295 }
         requires col { self.old.hand.col ≤ new.now.width }
-        ensures ok { OnOk result (IsAdded (gone_on new.now.width reached rows (screen_cells new.now) to self.old.hand) self.old (string_bytes out.old) self.new (string_bytes out.new)) }
+        ensures ok { OnOk result (IsAdded (gone_onward new.now.width reached rows (screen_cells new.now) to self.old.hand) self.old (string_bytes out.old) self.new (string_bytes out.new)) }
         ensures err { OnErr result (ExtendsBytes (string_bytes out.old) (string_bytes out.new)) }
     {
         let from = self.hand.row * new.width() + self.hand.col;
@@ -318,7 +318,7 @@ impl Redrawer {
         ensures ok { OnOk result (IsAdded (redrawn new.now.width reached rows (screen_cells old.now) (screen_cells new.now) to self.old.hand) self.old (string_bytes out.old) self.new (string_bytes out.new)) }
         ensures err { OnErr result (ExtendsBytes (string_bytes out.old) (string_bytes out.new)) }
     {
-        if goes_on(old, reached, new, rows, self.hand, to) {
+        if goes_onward(old, reached, new, rows, self.hand, to) {
             return self.go_on(reached, new, rows, to, out);
         }
         self.draw(old, reached, new, rows, to, out)

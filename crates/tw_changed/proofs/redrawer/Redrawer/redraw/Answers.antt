@@ -8,5 +8,5 @@ pub returns-clause-ok : goal.returns-clause-ok
 returns-clause-ok c =
     on_ok_weaker c.draw.result
     (added_by_rows c.args.new.now.width c.args.reached c.args.rows (screen_cells c.args.old.now) (screen_cells c.args.new.now) c.args.to c.args.self.now c.draw.new.self (string_bytes c.args.out.now) (string_bytes c.draw.new.out)
-    c.goes_on.result c.goes_on.ensures c.if-goes_on.false)
+    c.goes_onward.result c.goes_onward.ensures c.if-goes_onward.false)
     c.draw.ensures.ok
