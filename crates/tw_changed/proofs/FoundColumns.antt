@@ -1,11 +1,13 @@
 -- What is known of the first and the last column in which two rows differ.
-use Rattle.std.proofs.Common.{◌≡◌, ◌<◌, ◌≤◌, ◌+◌, ◌-◌, ◌*◌, ◌⊎◌, ℕ, zero, suc, Bool, true, false, not, Some, None, ap, ◌∙◌, sym, refl, inl, inr, arith}
+use Rattle.std.proofs.Common.{◌≡◌, ◌<◌, ◌≤◌, ◌+◌, ◌-◌, ◌*◌, ◌%◌, ◌⊎◌, ℕ, zero, suc, Bool, true, false, not, Some, None, ap, ◌∙◌, sym, refl, inl, inr, arith}
+use Rattle.std.proofs.lemmas.Nat.{div-mul-add, mod-mul-add}
 use Rattle.std.proofs.lemmas.Bool.{cases_Bool, cases_eq, and_parts, eqb-true, false≢true}
 use Rattle.tw_extremes.specs.Extremes.{least_from, greatest_below, NonePasses, IsLeast, IsGreatest}
 use Rattle.tw_extremes.proofs.ExtremesLemmas.{greatest_below-is, greatest_below-none}
 use Rattle.tw_surface.proofs.EqualityLemmas.{attributes_equal}
 use Rattle.tw_screens.specs.StyledCells.{StyledCell}
 use Rattle.tw_changed.specs.Differences.{is_same_cell, differ_in, is_used, end_of}
+use Rattle.tw_changed.specs.Redrawings.{indexed}
 
 -- none is found, or the least one
 pub least_cases : (p : ℕ → Bool) (count from : ℕ)
@@ -64,9 +66,17 @@ same_where old new j is = same (old j) (new j) (of_not (is_same_cell (old j) (ne
         ap (λ n. let z : StyledCell = record { ch = n; attributes = x.attributes } in z) (eqb-true x.ch y.ch both.0)
         ∙ ap (λ a. let z : StyledCell = record { ch = y.ch; attributes = a } in z) ((attributes_equal x.attributes y.attributes).0 both.1)
 
+-- whether two screens differ in a cell, by its index
+pub by_index : (w row col : ℕ) (old new : ℕ → ℕ → StyledCell) → col < w → differ_in (indexed w old) (indexed w new) (row * w + col) ≡ differ_in (old row) (new row) col
+by_index w row col old new left =
+    ap (λ i. differ_in (old i) (new i) ((row * w + col) % w)) (div-mul-add row w col left) ∙ ap (λ j. differ_in (old row) (new row) j) (mod-mul-add row w col left)
+
 -- one more that does not pass, above and below
 pub none_above : (p : ℕ → Bool) (from n : ℕ) → NonePasses p from n → p n ≡ false → NonePasses p from (n + 1)
 none_above p from n none here k low high = elim (cases_eq k n) [ inl e ↦ ap p e ∙ here | inr less ↦ none k low (omega (arith, high, less)) ]
+
+pub one_below : (p : ℕ → Bool) (n to : ℕ) → p n ≡ false → NonePasses p (n + 1) to → NonePasses p n to
+one_below p n to here none k low high = elim (cases_eq k n) [ inl e ↦ ap p e ∙ here | inr more ↦ none k (omega (arith, low, more)) high ]
 
 pub none_below : (p : ℕ → Bool) (n to : ℕ) → NonePasses p n to → p (n - 1) ≡ false → NonePasses p (n - 1) to
 none_below p n to none here k low high = elim (cases_eq k (n - 1)) [ inl e ↦ ap p e ∙ here | inr more ↦ none k (omega (arith, low, more)) high ]

@@ -1,6 +1,6 @@
 //! Where two screens differ.
 
-ghost use Rattle.std.specs.Prelude.{◌≡◌, ℕ, ◌<◌, ◌≤◌, ◌-◌, ◌*◌, IfSome, is_none, true, false};
+ghost use Rattle.std.specs.Prelude.{◌≡◌, ℕ, ◌<◌, ◌≤◌, ◌+◌, ◌-◌, ◌*◌, IfSome, is_none, true, false};
 ghost use Rattle.styled_screen.specs.StyledScreens.{styled_cell};
 ghost use Rattle.tw_changed.specs.ChangedScreens.{AreByBytes, AreAllByBytes};
 ghost use Rattle.tw_changed.specs.Differences.{differ_in, first_changed, last_changed, is_used, end_of};
@@ -131,13 +131,18 @@ pub fn rest_of(old: &StyledScreen, new: &StyledScreen, rows: usize) -> Option<us
     None
 }
 
-/// Whether two screens differ in the cell of an index, counted along the rows.
-fn differ_by_index(old: &StyledScreen, new: &StyledScreen, index: usize) -> bool
-    requires { old.now.width ≡ new.now.width }
-    ensures { result ≡ differ_in (indexed new.now.width (screen_cells old.now)) (indexed new.now.width (screen_cells new.now)) index }
+/// The place before a place, counted along the rows.
+fn place_before(row: usize, col: usize, width: usize) -> (usize, usize)
+    requires some { 0 < row * width + col }
+    requires within { col < width }
+    ensures index { result.0 * width + result.1 + 1 ≡ row * width + col }
+    ensures col { result.1 < width }
 {
-    let width = new.width();
-    differ_at(old, None, new, index / width, index % width)
+    if col > 0 {
+        (row, col - 1)
+    } else {
+        (row - 1, width - 1)
+    }
 }
 
 /// Whether two screens show the same before an index, counted along the rows.
@@ -145,10 +150,14 @@ fn is_same_before(old: &StyledScreen, new: &StyledScreen, end: usize) -> bool
     requires { old.now.width ≡ new.now.width }
     ensures { result ≡ is_none (greatest_below (differ_in (indexed new.now.width (screen_cells old.now)) (indexed new.now.width (screen_cells new.now))) end) }
 {
-    let mut index = end;
-    while index > 0 {
-        index -= 1;
-        if differ_by_index(old, new, index) {
+    let width = new.width();
+    let mut row = end / width;
+    let mut col = end % width;
+    while row > 0 || col > 0 {
+        let before = place_before(row, col, width);
+        row = before.0;
+        col = before.1;
+        if differ_at(old, None, new, row, col) {
             return false;
         }
     }

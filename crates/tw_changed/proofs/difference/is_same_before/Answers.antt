@@ -1,28 +1,42 @@
-use Rattle.std.proofs.Common.{◌-◌, is_none, ap, sym, ◌∙◌, arith}
+use Rattle.std.proofs.Common.{◌≡◌, ◌<◌, ◌+◌, ◌*◌, is_none, ap, sym, ◌∙◌, arith}
 use Rattle.tw_extremes.proofs.ExtremesLemmas.{greatest_below-is, greatest_below-none}
 use Rattle.tw_changed.specs.Differences.{differ_in}
 use Rattle.tw_changed.specs.Redrawings.{indexed}
 use Rattle.tw_changed.specs.Sending.{screen_cells}
-use Rattle.tw_changed.proofs.FoundColumns.{none_below}
+use Rattle.tw_changed.proofs.FoundColumns.{by_index, one_below}
 use Rattle.tw_changed.proofs.difference.is_same_before.Goals as goal
 
-pub returns-then-differ_by_index : goal.returns-then-differ_by_index
-returns-then-differ_by_index c =
+pub returns-then-differ_at : goal.returns-then-differ_at
+returns-then-differ_at c =
     let w = c.args.new.now.width in
     let p = differ_in (indexed w (screen_cells c.args.old.now)) (indexed w (screen_cells c.args.new.now)) in
-    let within = c.loop-index.invariant.0 in
-    sym (ap is_none (greatest_below-is p c.args.end (c.loop-index.index - 1) (omega (arith, within, c.loop-index-test.true)) (sym c.differ_by_index.ensures ∙ c.if-differ_by_index.true)
-    (λ k low high. c.loop-index.invariant.1 k (omega (arith, low)) high)))
+    let row = c.place_before-before.result.0 in
+    let col = c.place_before-before.result.1 in
+    let next = c.place_before-before.ensures.index in
+    let left : c.place_before-before.result.1 < w = omega (arith, c.place_before-before.ensures.col, c.width-width.ensures.value) in
+    let here = ap (λ v. p (row * v + col)) c.width-width.ensures.value ∙ by_index w row col (screen_cells c.args.old.now) (screen_cells c.args.new.now) left ∙ sym c.differ_at.ensures ∙ c.if-differ_at.true in
+    sym (ap is_none (greatest_below-is p c.args.end (row * c.width-width.result + col) (omega (arith, next, c.loop-row.invariant.within)) here
+    (λ k low high. c.loop-row.invariant.same k (omega (arith, low, next)) high)))
 
-pub loop-index-preserved : goal.loop-index-preserved
-loop-index-preserved c =
+pub loop-row-preserved : goal.loop-row-preserved
+loop-row-preserved c =
     let w = c.args.new.now.width in
     let p = differ_in (indexed w (screen_cells c.args.old.now)) (indexed w (screen_cells c.args.new.now)) in
-    let within = c.loop-index.invariant.0 in
-    (omega (arith, within), none_below p c.loop-index.index c.args.end c.loop-index.invariant.1 (sym c.differ_by_index.ensures ∙ c.if-differ_by_index.false))
+    let row = c.place_before-before.result.0 in
+    let col = c.place_before-before.result.1 in
+    let next = c.place_before-before.ensures.index in
+    let left : c.place_before-before.result.1 < w = omega (arith, c.place_before-before.ensures.col, c.width-width.ensures.value) in
+    let here = ap (λ v. p (row * v + col)) c.width-width.ensures.value ∙ by_index w row col (screen_cells c.args.old.now) (screen_cells c.args.new.now) left ∙ sym c.differ_at.ensures ∙ c.if-differ_at.false in
+    record {
+      within = omega (arith, next, c.loop-row.invariant.within);
+      col = c.place_before-before.ensures.col;
+      same = one_below p (row * c.width-width.result + col) c.args.end here (λ k low high. c.loop-row.invariant.same k (omega (arith, low, next)) high);
+    }
 
 pub returns : goal.returns
 returns c =
     let w = c.args.new.now.width in
     let p = differ_in (indexed w (screen_cells c.args.old.now)) (indexed w (screen_cells c.args.new.now)) in
-    sym (ap is_none (greatest_below-none p c.args.end (λ k low high. c.loop-index.invariant.1 k (omega (arith, c.loop-index-test.false)) high)))
+    let start : c.loop-row.row ≡ 0 = omega (arith, c.if-row-gt0.false) in
+    let nothing : c.loop-row.row * c.width-width.result ≡ 0 * c.width-width.result = ap (λ r. r * c.width-width.result) start in
+    sym (ap is_none (greatest_below-none p c.args.end (λ k low high. c.loop-row.invariant.same k (omega (arith, nothing, c.if-col-gt0.false)) high)))
