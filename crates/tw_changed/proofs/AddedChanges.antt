@@ -1,6 +1,7 @@
 -- What is sent for redrawings that follow one another.
-use Rattle.std.proofs.Common.{◌≡◌, ◌+◌, ◌-◌, ◌*◌, ◌/◌, ◌%◌, ℕ, suc, max, Bool, leb, Option, Some, true, false, cond, List, [], ◌∷◌, ◌++◌, append_assoc, append-nil, ap, subst, ◌∙◌, sym, refl, arith, ◌&&◌, ◌<◌, ◌≤◌}
+use Rattle.std.proofs.Common.{◌≡◌, ◌+◌, ◌-◌, ◌*◌, ◌/◌, ◌%◌, ℕ, zero, suc, max, Bool, leb, ltb, Option, Some, None, Result, Ok, Err, OnErr, true, false, cond, List, [], ◌∷◌, ◌++◌, append_assoc, append-nil, ap, subst, ◌∙◌, sym, refl, arith, ◌&&◌, ◌<◌, ◌≤◌}
 use Rattle.std.proofs.lemmas.Bool.{and_parts, leb-true, le-leb, lt-leb}
+use Rattle.std.proofs.Math.Nat.{div-lt_iff_lt-mul, mod-lt}
 use Rattle.unicode_segmentation.specs.Grapheme.{graphemes}
 use Rattle.tw_surface.specs.Characters.{is_plain, is_printable}
 use Rattle.tw_surface.specs.ChangeView.{Batch, Text}
@@ -62,6 +63,11 @@ same_step d more a b old x y before all same added =
 
 pub same_added : (a old : Redrawer) (x before : List ℕ) (all : Redrawing) → SameEnd (at_ease a.hand) a x all old before → IsAdded all old before a x
 same_added a old x before all same = record { bytes = sym (append-nil x) ∙ same.bytes; next = same.next; hand = same.hand }
+
+-- what holds in any case holds on refusal
+pub holds_on_err : {A E : Type 0} (P : Type 0) (result : Result A E) → P → OnErr result P
+holds_on_err P (Ok value) p = tt
+holds_on_err P (Err e) p = p
 
 -- ---- a row that may not be on the terminal yet
 
@@ -175,11 +181,23 @@ rows_end w left new row rows a old x before all done same =
 
 -- ---- what goes on at the cursor
 
-pub going_added : (w reached rows from end : ℕ) (new : ℕ → ℕ → StyledCell) (to : Hand) (a b c : Redrawer) (x y z : List ℕ) → from ≡ hand_index w a.hand → end ≡ end_of w rows new
-    → IsAdded (cells_redrawn w new from (end - from) a.hand) a x b y → IsAdded (handed_to reached to b.hand) b y c z → IsAdded (gone_onward w reached rows new to a.hand) a x c z
-going_added w reached rows from end new to a b c x y z is_from is_end first last =
-    added_both (cells_redrawn w new (hand_index w a.hand) (end_of w rows new - hand_index w a.hand) a.hand) (handed_to reached to) a b c x y z
-    (subst (λ n. IsAdded (cells_redrawn w new n (end_of w rows new - n) a.hand) a x b y) is_from (subst (λ m. IsAdded (cells_redrawn w new from (m - from) a.hand) a x b y) is_end first)) last
+pub going_added : (w reached from end : ℕ) (new : ℕ → ℕ → StyledCell) (to : Hand) (a b c : Redrawer) (x y z : List ℕ) → from ≡ hand_index w a.hand
+    → IsAdded (cells_redrawn w new from (end - from) a.hand) a x b y → IsAdded (handed_to reached to b.hand) b y c z
+    → IsAdded (redraw_then (cells_redrawn w new (hand_index w a.hand) (end - hand_index w a.hand) a.hand) (handed_to reached to)) a x c z
+going_added w reached from end new to a b c x y z is_from first last =
+    added_both (cells_redrawn w new (hand_index w a.hand) (end - hand_index w a.hand) a.hand) (handed_to reached to) a b c x y z
+    (subst (λ n. IsAdded (cells_redrawn w new n (end - n) a.hand) a x b y) is_from first) last
+
+-- the cells of some rows, by their indices
+pub rows_printable : (w rows end : ℕ) (cells : ℕ → ℕ → StyledCell) → end ≤ rows * w → ((i : ℕ) → i < rows → (j : ℕ) → j < w → is_printable (cells i j).ch ≡ true)
+    → (m : ℕ) → m < end → is_printable (indexed w cells m).ch ≡ true
+rows_printable w rows end cells within printable m low =
+    let wide : 0 < w = wide_by w (omega (arith, low, within)) in
+    printable (m / w) ((div-lt_iff_lt-mul wide).1 (omega (arith, low, within))) (m % w) (mod-lt m wide)
+  where
+    wide_by : (v : ℕ) → m < rows * v → 0 < v
+    wide_by zero some = absurd (omega (arith, some))
+    wide_by (suc v) some = omega arith
 
 -- ---- by which way
 
@@ -187,15 +205,24 @@ module _ (w reached rows : ℕ) (old new : ℕ → ℕ → StyledCell) (to : Han
   abbrev way : Bool → Redrawing
   way goes = cond goes (gone_onward w reached rows new to a.hand) (rows_drawn_on w reached rows old new to a.hand)
 
-  pub added_onward : (goes : Bool) → goes ≡ goes_onward w reached rows old new to a.hand → goes ≡ true → IsAdded (gone_onward w reached rows new to a.hand) a x b y
+  pub added_onward : (goes : Bool) (end : ℕ) → goes ≡ goes_onward w reached rows old new to a.hand → goes ≡ true → end ≡ end_of w rows new
+      → IsAdded (redraw_then (cells_redrawn w new (hand_index w a.hand) (end - hand_index w a.hand) a.hand) (handed_to reached to)) a x b y
       → IsAdded (redrawn w reached rows old new to a.hand) a x b y
-  added_onward goes is does added = subst (λ z. IsAdded (way z) a x b y) (sym does ∙ is) added
+  added_onward goes end is does is_end added =
+      subst (λ z. IsAdded (way z) a x b y) (sym does ∙ is)
+      (subst (λ n. IsAdded (redraw_then (cells_redrawn w new (hand_index w a.hand) (n - hand_index w a.hand) a.hand) (handed_to reached to)) a x b y) is_end added)
 
   pub added_by_rows : (goes : Bool) → goes ≡ goes_onward w reached rows old new to a.hand → goes ≡ false
       → IsAdded (rows_drawn_on w reached rows old new to a.hand) a x b y → IsAdded (redrawn w reached rows old new to a.hand) a x b y
   added_by_rows goes is not_so added = subst (λ z. IsAdded (way z) a x b y) (sym not_so ∙ is) added
 
 -- ---- all of it
+
+-- the rest of the old screen, by the end of the new one
+pub rest_by_end : (w v rows end : ℕ) (old new : ℕ → ℕ → StyledCell) (rest : Option ℕ) → v ≡ w → end ≡ end_of w rows new
+    → rest ≡ cond (ltb end (end_of v rows old)) (Some end) None → rest ≡ rest_of w rows old new
+rest_by_end w v rows end old new rest is_v is_end is =
+    subst (λ n. rest ≡ cond (ltb n (end_of w rows old)) (Some n) None) is_end (subst (λ u. rest ≡ cond (ltb end (end_of u rows old)) (Some end) None) is_v is)
 
 pub rows_added : (w v u top reached rows : ℕ) (old new : ℕ → ℕ → StyledCell) (to : Hand) (from : Option ℕ) (a b c d e : Redrawer) (x0 x1 x2 x3 x4 : List ℕ)
     → v ≡ w → u ≡ w → top ≡ max reached rows → from ≡ rest_of w rows old new

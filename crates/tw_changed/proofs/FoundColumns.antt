@@ -71,6 +71,12 @@ pub by_index : (w row col : ℕ) (old new : ℕ → ℕ → StyledCell) → col 
 by_index w row col old new left =
     ap (λ i. differ_in (old i) (new i) ((row * w + col) % w)) (div-mul-add row w col left) ∙ ap (λ j. differ_in (old row) (new row) j) (mod-mul-add row w col left)
 
+-- the same, where the columns were counted
+pub by_place : (w v row col : ℕ) (old new : ℕ → ℕ → StyledCell) (differs : Bool) → v ≡ w → col < v → differs ≡ differ_in (old row) (new row) col
+    → differ_in (indexed w old) (indexed w new) (row * v + col) ≡ differs
+by_place w v row col old new differs is_v left is =
+    ap (λ u. differ_in (indexed w old) (indexed w new) (row * u + col)) is_v ∙ by_index w row col old new (omega (arith, left, is_v)) ∙ sym is
+
 -- one more that does not pass, above and below
 pub none_above : (p : ℕ → Bool) (from n : ℕ) → NonePasses p from n → p n ≡ false → NonePasses p from (n + 1)
 none_above p from n none here k low high = elim (cases_eq k n) [ inl e ↦ ap p e ∙ here | inr less ↦ none k low (omega (arith, high, less)) ]
@@ -79,7 +85,7 @@ pub one_below : (p : ℕ → Bool) (n to : ℕ) → p n ≡ false → NonePasses
 one_below p n to here none k low high = elim (cases_eq k n) [ inl e ↦ ap p e ∙ here | inr more ↦ none k (omega (arith, low, more)) high ]
 
 pub none_below : (p : ℕ → Bool) (n to : ℕ) → NonePasses p n to → p (n - 1) ≡ false → NonePasses p (n - 1) to
-none_below p n to none here k low high = elim (cases_eq k (n - 1)) [ inl e ↦ ap p e ∙ here | inr more ↦ none k (omega (arith, low, more)) high ]
+none_below p n to none here = one_below p (n - 1) to here (λ k low high. none k (omega (arith, low)) high)
 
 -- where the cells of some rows end
 pub ends_behind : (w rows end : ℕ) (cells : ℕ → ℕ → StyledCell) → 0 < end → end ≤ rows * w → is_used w cells (end - 1) ≡ true → NonePasses (is_used w cells) end (rows * w)

@@ -1,11 +1,11 @@
 //! Where two screens differ.
 
-ghost use Rattle.std.specs.Prelude.{◌≡◌, ℕ, ◌<◌, ◌≤◌, ◌+◌, ◌-◌, ◌*◌, IfSome, is_none, true, false};
+ghost use Rattle.std.specs.Prelude.{◌≡◌, ℕ, ◌<◌, ◌≤◌, ◌+◌, ◌-◌, ◌*◌, IfSome, Some, None, is_none, ltb, true, false, if◌then◌else◌};
 ghost use Rattle.styled_screen.specs.StyledScreens.{styled_cell};
 ghost use Rattle.tw_changed.specs.ChangedScreens.{AreByBytes, AreAllByBytes};
 ghost use Rattle.tw_changed.specs.Differences.{differ_in, first_changed, last_changed, is_used, end_of};
 ghost use Rattle.tw_extremes.specs.Extremes.{greatest_below, least_from};
-ghost use Rattle.tw_changed.specs.Redrawings.{ends_blank, goes_onward, indexed, left_of, rest_of};
+ghost use Rattle.tw_changed.specs.Redrawings.{ends_blank, goes_onward, indexed, left_of};
 ghost use Rattle.tw_changed.specs.Sending.{ArePrintable, IsPrintable, screen_cells};
 
 use crate::hand::Hand;
@@ -117,14 +117,13 @@ pub fn end_of(screen: &StyledScreen, rows: usize) -> usize
     0
 }
 
-/// The index from which on the old screen is to be emptied: the end of the new one, where the old one goes on after it.
-pub fn rest_of(old: &StyledScreen, new: &StyledScreen, rows: usize) -> Option<usize>
-    requires width { old.now.width ≡ new.now.width }
-    requires rows { rows ≤ 65535 }
-    ensures value { result ≡ rest_of new.now.width rows (screen_cells old.now) (screen_cells new.now) }
-    ensures bound { IfSome result (λ from. from < rows * new.now.width) }
+/// The index from which on the old screen is to be emptied: the end of the new one's rows, where the old ones go on
+/// after it.
+pub fn rest_of(old: &StyledScreen, rows: usize, end: usize) -> Option<usize>
+    requires { rows ≤ 65535 }
+    ensures value { result ≡ (if ltb end (end_of old.now.width rows (screen_cells old.now)) then Some end else None) }
+    ensures bound { IfSome result (λ from. from < rows * old.now.width) }
 {
-    let end = end_of(new, rows);
     if end < end_of(old, rows) {
         return Some(end);
     }
@@ -184,17 +183,19 @@ fn are_full(screen: &StyledScreen, from: usize, to: usize) -> bool
 }
 
 /// Whether all that differs comes at the cursor or after it, where the old screen shows nothing, in rows that are full
-/// but for the last one, below which no row is new but the cursor's.
+/// but for the last one, below which no row is new but the cursor's. The cells of the new screen's rows end at `end`.
 pub fn goes_onward(
     old: &StyledScreen,
     reached: usize,
     new: &StyledScreen,
     rows: usize,
+    end: usize,
     hand: Hand,
     to: Hand,
 ) -> bool
     requires width { old.now.width ≡ new.now.width }
     requires rows { rows ≤ 65535 }
+    requires end { end ≡ end_of new.now.width rows (screen_cells new.now) }
     requires to { to.row ≤ 4294967295 }
     requires row { hand.row ≤ 4294967295 }
     requires col { hand.col ≤ new.now.width }
@@ -205,7 +206,7 @@ pub fn goes_onward(
     rows <= reached.max(to.row + 1)
         && end_of(old, rows) <= at
         && is_same_before(old, new, at)
-        && are_full(new, hand.row, end_of(new, rows) / width)
+        && are_full(new, hand.row, end / width)
 }
 
 /// Whether the cells of a row are printable characters.

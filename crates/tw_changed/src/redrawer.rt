@@ -3,7 +3,7 @@
 ghost use Rattle.std.specs.Prelude.{◌≡◌, ℕ, true, ◌<◌, ◌≤◌, ◌+◌, ◌-◌, ◌*◌, ◌/◌, ◌++◌, OnOk, OnErr, IfOk, IfSome, Option, string_bytes};
 ghost use Rattle.tw_surface.specs.Characters.{is_printable};
 ghost use Rattle.tw_ansi.specs.Encoding.{ExtendsBytes, terse_batch};
-ghost use Rattle.tw_changed.specs.Redrawings.{led_to, under, row_redrawn, rows_redrawn, handed_to, emptied_here, rest_emptied, rest_of, left_of, fed, sunk_to, lowered, rows_drawn_on, indexed, cell_redrawn, cells_redrawn, gone_onward, redrawn};
+ghost use Rattle.tw_changed.specs.Redrawings.{led_to, under, row_redrawn, rows_redrawn, handed_to, emptied_here, rest_emptied, rest_of, left_of, fed, sunk_to, lowered, hand_index, indexed, cell_redrawn, cells_redrawn, redraw_then, redrawn};
 ghost use Rattle.tw_changed.specs.Sending.{IsAdded, IsPrintable, screen_cells, changes_between, hand_of};
 
 use crate::difference::{cell_at, end_of, first_changed, goes_onward, last_changed, rest_of};
@@ -251,55 +251,32 @@ impl Redrawer {
         self.sink_to(reached, rows - 1, 0, out)
     }
 
-    /// Types what goes on at the cursor, to the end of the new screen.
+    /// Types the cells of a screen's rows from the cursor to before an index, and goes where a hand is.
     fn go_on(
         &mut self,
         reached: usize,
         new: &StyledScreen,
-        rows: usize,
+        end: usize,
         to: Hand,
         out: &mut String,
     ) -> Result<(), AllocError>
-        requires printable { IsPrintable rows new.now }
-        requires rows { rows ≤ 65535 }
+        requires printable { (index : ℕ) → index < end → is_printable (indexed new.now.width (screen_cells new.now) index).ch ≡ true }
+        requires end { end ≤ 4294967296 * new.now.width }
         requires to { to.row ≤ 4294967295 }
         requires row { self.old.hand.row ≤ 4294967295 }
         requires col { self.old.hand.col ≤ new.now.width }
-        ensures ok { OnOk result (IsAdded (gone_onward new.now.width reached rows (screen_cells new.now) to self.old.hand) self.old (string_bytes out.old) self.new (string_bytes out.new)) }
+        ensures ok { let start = hand_index new.now.width self.old.hand in
+            let typed = cells_redrawn new.now.width (screen_cells new.now) start (end - start) self.old.hand in
+            OnOk result (IsAdded (redraw_then typed (handed_to reached to)) self.old (string_bytes out.old) self.new (string_bytes out.new)) }
         ensures err { OnErr result (ExtendsBytes (string_bytes out.old) (string_bytes out.new)) }
     {
         let from = self.hand.row * new.width() + self.hand.col;
-        self.write_cells(new, from, end_of(new, rows), out)?;
+        self.write_cells(new, from, end, out)?;
         self.hand_over(reached, to, out)
     }
 
-    /// Makes one screen of another by its rows: its last row comes into sight, what stands after the end of the new
-    /// one is emptied, and the rows that differ are typed.
-    fn draw(
-        &mut self,
-        old: &StyledScreen,
-        reached: usize,
-        new: &StyledScreen,
-        rows: usize,
-        to: Hand,
-        out: &mut String,
-    ) -> Result<(), AllocError>
-        requires width { old.now.width ≡ new.now.width }
-        requires printable { IsPrintable rows new.now }
-        requires rows { rows ≤ 65535 }
-        requires to { to.row ≤ 4294967295 }
-        requires held { self.old.hand.row ≤ 4294967295 }
-        ensures ok { OnOk result (IsAdded (rows_drawn_on new.now.width reached rows (screen_cells old.now) (screen_cells new.now) to self.old.hand) self.old (string_bytes out.old) self.new (string_bytes out.new)) }
-        ensures err { OnErr result (ExtendsBytes (string_bytes out.old) (string_bytes out.new)) }
-    {
-        let rest = rest_of(old, new, rows);
-        self.lower(reached, rows, out)?;
-        self.empty_rest(new.width(), rest, out)?;
-        self.draw_rows(old, rest, new, rows, out)?;
-        self.hand_over(reached.max(rows), to, out)
-    }
-
-    /// Makes one screen of another: by typing on where all that differs goes on at the cursor, and else by its rows.
+    /// Makes one screen of another. What goes on at the cursor is typed. Else the last row comes into sight, what stands
+    /// after the end of the new screen is emptied, and the rows that differ are typed.
     fn redraw(
         &mut self,
         old: &StyledScreen,
@@ -318,10 +295,15 @@ impl Redrawer {
         ensures ok { OnOk result (IsAdded (redrawn new.now.width reached rows (screen_cells old.now) (screen_cells new.now) to self.old.hand) self.old (string_bytes out.old) self.new (string_bytes out.new)) }
         ensures err { OnErr result (ExtendsBytes (string_bytes out.old) (string_bytes out.new)) }
     {
-        if goes_onward(old, reached, new, rows, self.hand, to) {
-            return self.go_on(reached, new, rows, to, out);
+        let end = end_of(new, rows);
+        if goes_onward(old, reached, new, rows, end, self.hand, to) {
+            return self.go_on(reached, new, end, to, out);
         }
-        self.draw(old, reached, new, rows, to, out)
+        let rest = rest_of(old, rows, end);
+        self.lower(reached, rows, out)?;
+        self.empty_rest(new.width(), rest, out)?;
+        self.draw_rows(old, rest, new, rows, out)?;
+        self.hand_over(reached.max(rows), to, out)
     }
 }
 

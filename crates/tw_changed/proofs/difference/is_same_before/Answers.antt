@@ -1,9 +1,9 @@
-use Rattle.std.proofs.Common.{◌≡◌, ◌<◌, ◌+◌, ◌*◌, is_none, ap, sym, ◌∙◌, arith}
+use Rattle.std.proofs.Common.{◌≡◌, ◌+◌, ◌*◌, is_none, ap, sym, ◌∙◌, arith}
 use Rattle.tw_extremes.proofs.ExtremesLemmas.{greatest_below-is, greatest_below-none}
 use Rattle.tw_changed.specs.Differences.{differ_in}
 use Rattle.tw_changed.specs.Redrawings.{indexed}
 use Rattle.tw_changed.specs.Sending.{screen_cells}
-use Rattle.tw_changed.proofs.FoundColumns.{by_index, one_below}
+use Rattle.tw_changed.proofs.FoundColumns.{by_place, one_below}
 use Rattle.tw_changed.proofs.difference.is_same_before.Goals as goal
 
 pub returns-then-differ_at : goal.returns-then-differ_at
@@ -13,9 +13,8 @@ returns-then-differ_at c =
     let row = c.place_before-before.result.0 in
     let col = c.place_before-before.result.1 in
     let next = c.place_before-before.ensures.index in
-    let left : c.place_before-before.result.1 < w = omega (arith, c.place_before-before.ensures.col, c.width-width.ensures.value) in
-    let here = ap (λ v. p (row * v + col)) c.width-width.ensures.value ∙ by_index w row col (screen_cells c.args.old.now) (screen_cells c.args.new.now) left ∙ sym c.differ_at.ensures ∙ c.if-differ_at.true in
-    sym (ap is_none (greatest_below-is p c.args.end (row * c.width-width.result + col) (omega (arith, next, c.loop-row.invariant.within)) here
+    let differs = by_place w c.width-width.result row col (screen_cells c.args.old.now) (screen_cells c.args.new.now) c.differ_at.result c.width-width.ensures.value c.place_before-before.ensures.col c.differ_at.ensures in
+    sym (ap is_none (greatest_below-is p c.args.end (row * c.width-width.result + col) (omega (arith, next, c.loop-row.invariant.within)) (differs ∙ c.if-differ_at.true)
     (λ k low high. c.loop-row.invariant.same k (omega (arith, low, next)) high)))
 
 pub loop-row-preserved : goal.loop-row-preserved
@@ -25,12 +24,11 @@ loop-row-preserved c =
     let row = c.place_before-before.result.0 in
     let col = c.place_before-before.result.1 in
     let next = c.place_before-before.ensures.index in
-    let left : c.place_before-before.result.1 < w = omega (arith, c.place_before-before.ensures.col, c.width-width.ensures.value) in
-    let here = ap (λ v. p (row * v + col)) c.width-width.ensures.value ∙ by_index w row col (screen_cells c.args.old.now) (screen_cells c.args.new.now) left ∙ sym c.differ_at.ensures ∙ c.if-differ_at.false in
+    let differs = by_place w c.width-width.result row col (screen_cells c.args.old.now) (screen_cells c.args.new.now) c.differ_at.result c.width-width.ensures.value c.place_before-before.ensures.col c.differ_at.ensures in
     record {
       within = omega (arith, next, c.loop-row.invariant.within);
       col = c.place_before-before.ensures.col;
-      same = one_below p (row * c.width-width.result + col) c.args.end here (λ k low high. c.loop-row.invariant.same k (omega (arith, low, next)) high);
+      same = one_below p (row * c.width-width.result + col) c.args.end (differs ∙ c.if-differ_at.false) (λ k low high. c.loop-row.invariant.same k (omega (arith, low, next)) high);
     }
 
 pub returns : goal.returns
