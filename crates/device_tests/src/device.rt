@@ -1,5 +1,7 @@
 //! Lines that are read at a device.
 
+ghost use Rattle.std.specs.Prelude.{◌==◌, length, not};
+
 use std::alloc::{AllocError, Global};
 use std::io;
 use std::io::Read;
@@ -51,6 +53,8 @@ impl EventSource for Typed {
     ghost told = { λ it. it.told };
 
     ghost state = { λ it. it.state };
+
+    ghost at_hand = { λ it. not (length it.characters.now == 0) };
 
     fn next_event(&mut self) -> Result<Option<InputEvent>, TerminalFault> {
         self.asked = self.asked.saturating_add(1);

@@ -29,7 +29,7 @@ no-texts [] = refl
 no-texts (size ∷ sizes) = no-texts sizes
 
 -- what a run has taken where it waits
-comes-taken : {V : Type 0} (rules : HostRules V) (overrides : Overrides) (before between events : List EventView) (f g : Frame V)
+pub comes-taken : {V : Type 0} (rules : HostRules V) (overrides : Overrides) (before between events : List EventView) (f g : Frame V)
     → ComesBy rules overrides before between f g → between ≡ before ++ events → taken_on rules f events ≡ g.terminal.batches
 comes-taken rules overrides before between events f g (came, told, comes) same =
     let is : events ≡ came = append_cancel_left before events came (sym same ∙ told) in
@@ -83,10 +83,6 @@ module _ {T : Type 0} (state : T → TerminalState) (Leads : T → T → Deed �
       let told = sizes_in (event ∷ []) in
       let set : IsLedBy Leads (event ∷ []) old sized = (map Sized told, sizes, sizes-are told, no-texts told) in
       led_then Leads (event ∷ []) [] old sized new set (led_by_calls Leads sized new calls)
-
-  -- and calls may follow
-  pub event_then_calls : (event : EventView) (old between new : T) → IsLedByEvent Leads event old between → IsLedByCalls Leads between new → IsLedByEvent Leads event old new
-  event_then_calls event old between new (sized, sizes, calls) last = (sized, sizes, calls_then sized between new calls last)
 
   -- one call
   pub one_call : (call : Call) (old new : T) → Leads old new (Called call) → IsLedByCalls Leads old new

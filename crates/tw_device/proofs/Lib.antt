@@ -1,3 +1,4 @@
+pub mod AskedLemmas
 pub mod CallLemmas
 pub mod DeedLemmas
 pub mod LedLemmas

@@ -1,3 +1,4 @@
+pub mod Asked
 pub mod Calls
 pub mod Deeds
 pub mod EventLog

@@ -1,6 +1,6 @@
 //! A terminal at a device: its events are fed to the editor, its owner gives it its size, and sends what is no line's.
 
-ghost use Rattle.std.specs.Prelude.{◌≡◌, [], OnOk};
+ghost use Rattle.std.specs.Prelude.{◌≡◌, [], OnOk, false};
 ghost use Rattle.tw_terminal.specs.Uses.{Call, Other};
 ghost use Rattle.tw_device.specs.Deeds.{Called, Said, Sized};
 
@@ -9,10 +9,14 @@ use tw_terminal::{ScreenSize, Terminal, TerminalFault};
 /// A terminal at a device, at which a line is read. What is done to it are deeds: the calls of `Terminal`, the sizes
 /// that its owner gives it, and the texts that its owner sends.
 pub trait DeviceTerminal: Terminal {
+    ghost use Rattle.std.specs.Prelude.{Bool};
     ghost use Rattle.tw_device.specs.Deeds.{Deed};
 
     // What a deed did: from such a terminal to such a one.
     ghost does: { Self → Self → Deed → Type 0 };
+
+    // Whether it may keep back what it is to render.
+    ghost may_keep: { Self → Bool };
 
     /// Sets the size, which nothing else changes.
     fn set_screen_size(&mut self, size: ScreenSize)
@@ -23,6 +27,7 @@ pub trait DeviceTerminal: Terminal {
     /// renders next is sent where none is.
     fn set_more_at_hand(&mut self, is_more: bool)
         ensures state { Self.state self.new ≡ Self.state self.old }
+        ensures last { is_more ≡ false → may_keep self.new ≡ false }
         ensures called { does self.old self.new (Called Other) };
 
     /// Sends a text of its owner's as it is, after a reset of all attributes: a line may have ended in some. The text
@@ -36,4 +41,7 @@ pub trait DeviceTerminal: Terminal {
 
     // What a call of `Terminal` did besides is its deed.
     ghost call_does: { (old new : Self) (call : Call) → Self.follows old new call → does old new (Called call) };
+
+    // After a call of `Terminal` it may keep something back only where it might before.
+    ghost call_keeps: { (old new : Self) (call : Call) → Self.follows old new call → may_keep old ≡ false → may_keep new ≡ false };
 }

@@ -34,11 +34,15 @@ pub enum SourceState {
 
 /// A source of events, as its contracts see it: the events that it told so far, and what it answered last.
 pub trait EventSource {
+    ghost use Rattle.std.specs.Prelude.{Bool};
     ghost use Rattle.tw_device.specs.declared.keys.SourceState.{SourceState};
 
     ghost told: { Self → List EventView };
 
     ghost state: { Self → SourceState };
+
+    // Whether the next call answers with what is at hand.
+    ghost at_hand: { Self → Bool };
 
     // What a call did besides: from such a source to such a one, telling these events.
     ghost follows: { Self → Self → List EventView → Type 0 } = { λ _ _ _. ⊤ };
@@ -54,7 +58,8 @@ pub trait EventSource {
         ensures follows { follows self.old self.new (answer_events result) };
 
     /// Whether the next call answers with what is at hand. It is false where it may wait, and where that is not known.
-    fn has_at_hand(&self) -> bool;
+    fn has_at_hand(&self) -> bool
+        ensures { result ≡ at_hand self.now };
 }
 
 /// A reader of what is typed.
@@ -212,6 +217,8 @@ impl<R: Read> EventSource for KeyReader<R> {
     ghost told = { λ it. it.told };
 
     ghost state = { λ it. it.state };
+
+    ghost at_hand = { λ it. is_at_hand (held_by R.remaining it) };
 
     ghost follows = { λ old new events. TellsTyped (held_by R.remaining old) (held_by R.remaining new) events };
 

@@ -1,16 +1,18 @@
 //! Reading a line from events that nobody knows before they come.
 
-ghost use Rattle.std.specs.Prelude.{◌≡◌, ◌≢◌, ◌∷◌, [], true, None, Ok, IfOk, IfErr, OnOk};
+ghost use Rattle.std.specs.Prelude.{◌≡◌, ◌≢◌, ◌∷◌, [], true, false, None, Ok, IfOk, IfErr, OnOk};
 ghost use Rattle.tw_input.specs.EventView.{event_view};
 ghost use Rattle.tw_terminal.specs.TerminalState.{size_after};
+ghost use Rattle.tw_terminal.specs.Uses.{Other, IsUsed};
 ghost use Rattle.tw_lineedit.specs.Frame.{frame, own_frame};
 ghost use Rattle.tw_lineedit.specs.EditState.{Inactive};
 ghost use Rattle.tw_lineedit.specs.Feeding.{status_if, Begins, FailsToBegin, FailsToFinish};
 ghost use Rattle.tw_lineedit.specs.Outcomes.{answer_at, is_open, outcome_of};
 ghost use Rattle.tw_lineedit.specs.Reading.{start, Reads};
 ghost use Rattle.tw_lineedit.specs.Run.{ending};
+ghost use Rattle.tw_device.specs.Asked.{Asks, IsCalledAtOnce, IsCalledWith, IsClosedAsTold, IsFedWith, IsUntouchedOrAsked};
 ghost use Rattle.tw_device.specs.Calls.{IsCalled};
-ghost use Rattle.tw_device.specs.Deeds.{IsLedAsTold, IsLedBy};
+ghost use Rattle.tw_device.specs.Deeds.{Called, IsLedAsTold, IsLedBy};
 ghost use Rattle.tw_device.specs.Led.{taken_on, taken_over, IsLedByCalls, IsLedByEvent, IsSizedBy, IsToldAlong};
 ghost use Rattle.tw_device.specs.Live.{fresh_frame, WaitsAfter, ComesBy, FailsFrom, FailsBy, IsRead, FailsToReadTold, StopsFeeding, answer_from};
 
@@ -67,6 +69,7 @@ fn begin<T: DeviceTerminal, H: LineEditorHost>(
 ) -> Result<(), Error>
     ensures same_reference { editor.new.terminal.ghost_name ≡ editor.old.terminal.ghost_name }
     ensures calls { IsLedByCalls T.does editor.old.terminal.now editor.new.terminal.now }
+    ensures told { IsCalledWith T.state T.follows T.may_keep T.does is_more editor.old.terminal.now editor.new.terminal.now }
     ensures ok { let before = frame T.state H.value editor.old host.now in
         let after = frame T.state H.value editor.new host.now in
         before.state.mode ≡ Inactive → OnOk result (Begins H.rules H.OVERRIDES (start None before) after) }
@@ -83,7 +86,9 @@ fn begin<T: DeviceTerminal, H: LineEditorHost>(
 fn prepare<T: DeviceTerminal>(terminal: &mut T, event: &InputEvent, is_more: bool)
     ensures state { let before = T.state terminal.old in
         T.state terminal.new ≡ record before { size = size_after (event_view event.now) before.size } }
-    ensures sized { IsLedByEvent T.does (event_view event.now) terminal.old terminal.new }
+    ensures sized { (sized : T) × IsSizedBy T.does (event_view event.now) terminal.old sized
+        × T.does sized terminal.new (Called Other) × (T.state terminal.new ≡ T.state sized) }
+    ensures last { is_more ≡ false → T.may_keep terminal.new ≡ false }
 {
     resize(terminal, event);
     terminal.set_more_at_hand(is_more);
@@ -108,6 +113,8 @@ fn feed<T: DeviceTerminal, H: LineEditorHost>(
         IfErr result (FailsFrom H.rules H.OVERRIDES (event_view event.now ∷ []) before after) }
     ensures led { IsLedBy T.does (event_view event.now ∷ []) editor.old.terminal.now editor.new.terminal.now }
     ensures sized { IsLedByEvent T.does (event_view event.now) editor.old.terminal.now editor.new.terminal.now }
+    ensures fed { IsFedWith T.state T.follows T.may_keep T.does is_more (event_view event.now ∷ [])
+        editor.old.terminal.now editor.new.terminal.now }
 {
     prepare(editor.terminal(), event, is_more);
     editor.feed(host, event)
@@ -136,6 +143,8 @@ fn take_events<S: EventSource, T: DeviceTerminal, H: LineEditorHost>(
     ensures along { let before = frame T.state H.value editor.old host.old in
         IsToldAlong T.state T.does (taken_on H.rules before) (S.told source.old) (S.told source.new)
         editor.old.terminal.now editor.new.terminal.now }
+    ensures asked { IsUsed (Asks T.state T.follows T.may_keep T.does S.at_hand S.follows)
+        (source.old, editor.old.terminal.now) (source.new, editor.new.terminal.now) }
 {
     for turn in 0..u64::MAX {
         let _told = turn;
@@ -155,6 +164,7 @@ fn take_events<S: EventSource, T: DeviceTerminal, H: LineEditorHost>(
 fn finish<T: DeviceTerminal>(editor: &mut LineEditor<'_, T>) -> Result<Option<String>, Error>
     ensures same_reference { editor.new.terminal.ghost_name ≡ editor.old.terminal.ghost_name }
     ensures calls { IsLedByCalls T.does editor.old.terminal.now editor.new.terminal.now }
+    ensures closed { IsCalledAtOnce T.state T.follows T.may_keep T.does editor.old.terminal.now editor.new.terminal.now }
     ensures ok { let before = own_frame T.state editor.old in
         let after = own_frame T.state editor.new in
         let run = ending (answer_at before.state) before in
@@ -183,7 +193,9 @@ fn answer_of(line: Option<String>, stop: Stop) -> Result<Answer, Error>
 /// Reads a line with a new editor from the events of a source, up to that which ends the line or the end of the
 /// source. The answer, the batches, the screen's size and the host's value are those of the abstract editor's run
 /// over exactly the events that the source told, by calls of `next_event` and nothing else (`called`). A `Resized` sets
-/// the terminal's size, before the batches of its own and after those of the events before it (`along`).
+/// the terminal's size, before the batches of its own and after those of the events before it (`along`). Where the source
+/// may wait, the terminal was told before its last batches that nothing more is at hand (`asked`), and so it was before
+/// the batch that closes an answered line (`closed`).
 ///
 /// Where the source refuses, the line is closed as at the source's end, and the answer is the source's refusal;
 /// so it is, with `Device`, where one call was told 2^64 - 1 events and none of them ended the line. Every other
@@ -206,6 +218,11 @@ pub fn read_line_from<S: EventSource, T: DeviceTerminal, H: LineEditorHost>(
     ensures along { let begun = fresh_frame prompt.now (H.value host.old) (T.state terminal.old) in
         IsToldAlong T.state T.does (taken_over H.rules begun) (S.told source.old) (S.told source.new)
         terminal.old terminal.new }
+    ensures asked { IsUntouchedOrAsked T.state T.follows T.may_keep T.does S.at_hand S.follows source.old source.new
+        terminal.old terminal.new }
+    ensures closed { let begun = fresh_frame prompt.now (H.value host.old) (T.state terminal.old) in
+        OnOk result (IsClosedAsTold T.state T.follows T.may_keep T.does (taken_over H.rules begun)
+        (S.told source.old) (S.told source.new) terminal.old terminal.new) }
 {
     let mut editor = LineEditor::new(alloc, terminal)?;
     editor.set_prompt(prompt)?;

@@ -1,7 +1,7 @@
 //! A terminal over a writer. Its events are not its own affair: they are fed to the editor.
 
 ghost use Rattle.std.specs.Io.KnownBytes.{Appends, Keeps};
-ghost use Rattle.std.specs.Prelude.{◌≡◌, ◌++◌, [], Ok, None, IfOk, OnOk, OnErr, refl, string_bytes};
+ghost use Rattle.std.specs.Prelude.{◌≡◌, ◌++◌, [], Ok, None, IfOk, OnOk, OnErr, false, refl, string_bytes};
 ghost use Rattle.tw_surface.specs.ChangeView.{batch_view};
 ghost use Rattle.tw_surface.specs.Defaults.{default_attributes};
 ghost use Rattle.tw_terminal.specs.TerminalState.{fresh_terminal, Fails, Flushes, RenderFails, Renders};
@@ -189,9 +189,13 @@ impl<W: Write> Terminal for AnsiTerminal<W> {
 impl<W: Write> DeviceTerminal for AnsiTerminal<W> {
     ghost does = { Does W.contents };
 
+    ghost may_keep = { λ it. false };
+
     ghost no_event = { λ it. refl };
 
     ghost call_does = { λ old new call follows. follows };
+
+    ghost call_keeps = { λ old new call follows keeps. refl };
 
     fn set_screen_size(&mut self, size: ScreenSize) {
         AnsiTerminal::set_screen_size(self, size);

@@ -1,12 +1,13 @@
 //! Reading a line from the bytes that are typed.
 
-ghost use Rattle.std.specs.Prelude.{◌≡◌, ◌++◌, List, IfOk, IfErr};
+ghost use Rattle.std.specs.Prelude.{◌≡◌, ◌++◌, List, IfOk, IfErr, OnOk};
 ghost use Rattle.tw_input.specs.EventView.{EventView};
+ghost use Rattle.tw_device.specs.Asked.{IsClosedAsTold, IsUntouchedOrAsked};
 ghost use Rattle.tw_device.specs.Deeds.{IsLedAsTold};
 ghost use Rattle.tw_device.specs.Keys.{held_by};
 ghost use Rattle.tw_device.specs.Led.{taken_over, IsToldAlong};
 ghost use Rattle.tw_device.specs.Live.{fresh_frame, IsRead, FailsToReadTold};
-ghost use Rattle.tw_device.specs.Typed.{TellsTyped};
+ghost use Rattle.tw_device.specs.Typed.{TellsTyped, is_at_hand};
 
 use crate::device::DeviceTerminal;
 use crate::keys::KeyReader;
@@ -35,6 +36,13 @@ pub fn read_typed_line<R: Read, T: DeviceTerminal, H: LineEditorHost>(
     ensures led { IsLedAsTold T.does keys.old.told keys.new.told terminal.old terminal.new }
     ensures along { let begun = fresh_frame prompt.now (H.value host.old) (T.state terminal.old) in
         IsToldAlong T.state T.does (taken_over H.rules begun) keys.old.told keys.new.told terminal.old terminal.new }
+    ensures asked { IsUntouchedOrAsked T.state T.follows T.may_keep T.does
+        (λ it. is_at_hand (held_by R.remaining it))
+        (λ old new events. TellsTyped (held_by R.remaining old) (held_by R.remaining new) events)
+        keys.old keys.new terminal.old terminal.new }
+    ensures closed { let begun = fresh_frame prompt.now (H.value host.old) (T.state terminal.old) in
+        OnOk result (IsClosedAsTold T.state T.follows T.may_keep T.does (taken_over H.rules begun)
+        keys.old.told keys.new.told terminal.old terminal.new) }
 {
     read_line_from(alloc, keys, terminal, host, prompt)
 }

@@ -63,6 +63,8 @@ impl<R: Read, C: Clock> EventSource for PromptEvents<R, C> {
 
     ghost state = { λ it. it.state };
 
+    ghost at_hand = { λ it. ⟦<KeyReader<Typed<R, C>> as EventSource>⟧.at_hand it.keys };
+
     fn next_event(&mut self) -> Result<Option<InputEvent>, TerminalFault> {
         match next_fitting(&mut self.keys) {
             Ok(Some(event)) => {

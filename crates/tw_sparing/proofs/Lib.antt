@@ -14,3 +14,4 @@ pub mod SparingDeedLemmas
 pub mod GroupLemmas
 pub mod AheadLemmas
 pub mod PatientDeedLemmas
+pub mod AnsweredReadings

@@ -3,7 +3,7 @@ use Rattle.std.specs.Prelude.{◌≡◌, ◌≤◌, ◌++◌, ℕ, Bool, true, f
 use Rattle.std.specs.Io.KnownBytes.{Appends}
 use Rattle.tw_surface.specs.ChangeView.{Batch}
 use Rattle.tw_terminal.specs.TerminalState.{count_up}
-use Rattle.tw_terminal.specs.Uses.{Took, Refused, Other}
+use Rattle.tw_terminal.specs.Uses.{Call, Took, Refused, Other}
 use Rattle.tw_terminal.specs.declared.terminal.ScreenSize.{ScreenSize}
 use Rattle.tw_ansi.specs.Encoding.{sent_then}
 use Rattle.tw_device.specs.Deeds.{Deed, Called, Sized, Said, sent_deed}
@@ -90,3 +90,7 @@ module _ {W : Type 0} (contents : W → Option (List ℕ)) where
   DoesPatiently old new (Called Other) = RestsPatiently old new
   DoesPatiently old new (Sized size) = SizesPatiently size old new
   DoesPatiently old new (Said text) = SaysPatiently text old new
+
+  -- A call of `Terminal` is such a deed, and more is at hand after it only where it was before.
+  abbrev pub FollowsPatiently : PatientTerminal W → PatientTerminal W → Call → Type 0
+  FollowsPatiently old new call = DoesPatiently old new (Called call) × (old.is_more ≡ false → new.is_more ≡ false)

@@ -1,15 +1,23 @@
 -- What a reading has written at a terminal that waits while more is at hand.
-use Rattle.std.specs.Prelude.{◌≡◌, ◌≢◌, ◌++◌, ℕ, List, [], Option}
+use Rattle.std.specs.Prelude.{◌≡◌, ◌≢◌, ◌++◌, ℕ, false, List, [], Option}
 use Rattle.std.specs.Io.KnownBytes.{Appends}
 use Rattle.tw_input.specs.EventView.{EventView}
 use Rattle.tw_surface.specs.ChangeView.{Batch}
 use Rattle.tw_terminal.specs.TerminalState.{usize_max}
+use Rattle.tw_terminal.specs.Uses.{IsUsed}
+use Rattle.tw_lineedit.specs.Frame.{Frame}
+use Rattle.tw_lineedit.specs.HostRules.{HostRules}
+use Rattle.tw_device.specs.Asked.{IsClosedAsTold}
 use Rattle.tw_device.specs.Deeds.{IsLedBy, sizes_in}
+use Rattle.tw_device.specs.Led.{taken_over}
+use Rattle.tw_device.specs.Live.{IsRead}
+use Rattle.tw_device.specs.declared.keys.SourceState.{SourceState}
+use Rattle.tw_device.specs.declared.reading.Answer.{Answer}
 use Rattle.tw_sparing.specs.declared.patient.PatientTerminal.{PatientTerminal}
 use Rattle.tw_sparing.specs.KnownRuns.{KnownBatch, last_known, sent_for_all}
 use Rattle.tw_sparing.specs.SparingRuns.{AreKnownSince}
 use Rattle.tw_sparing.specs.Ahead.{all_changes, changes_among}
-use Rattle.tw_sparing.specs.PatientDeeds.{DoesPatiently}
+use Rattle.tw_sparing.specs.PatientDeeds.{DoesPatiently, FollowsPatiently}
 use Rattle.tw_sparing.specs.Patient.{patient_state}
 
 module _ {W : Type 0} (contents : W → Option (List ℕ)) where
@@ -34,3 +42,15 @@ module _ {W : Type 0} (contents : W → Option (List ℕ)) where
   SettledIsSent = (events : List EventView) (old new : PatientTerminal W) → IsLedBy (DoesPatiently contents) events old new
       → new.failures ≡ old.failures → old.failures ≢ usize_max → sizes_in events ≡ [] → old.ahead.kept ≡ [] → new.ahead.kept ≡ []
       → (groups : List KnownBatch) × (batches : List Batch) × (changes_among groups ≡ all_changes batches) × IsSentPatiently groups batches old new
+
+  -- After calls that took a batch, no more being at hand, nothing is kept back.
+  abbrev pub LastBatchIsSent : Type 0
+  LastBatchIsSent = (old new : PatientTerminal W) → IsUsed (FollowsPatiently contents) old new → old.is_more ≡ false
+      → (patient_state new).batches ≢ (patient_state old).batches → new.ahead.kept ≡ []
+
+  -- Nothing is kept back once a reading that was closed so has answered.
+  abbrev pub AnsweredReadingIsSent : {V : Type 0} → HostRules V → Type 0
+  AnsweredReadingIsSent {V} rules = (told_before told_after : List EventView) (source : SourceState) (f : Frame V) (v : V) (answer : Answer) (old new : PatientTerminal W)
+      → IsRead rules told_before told_after source f v (patient_state new) answer
+      → IsClosedAsTold patient_state (FollowsPatiently contents) (λ it. it.is_more) (DoesPatiently contents) (taken_over rules f) told_before told_after old new
+      → new.ahead.kept ≡ []

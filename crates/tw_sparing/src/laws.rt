@@ -1,12 +1,13 @@
 //! Laws of this crate's definitions: each function does nothing, and its contract is the law.
 
 ghost use Rattle.tw_sparing.specs.KnownRuns.{LooksTheSame, RunsAreShown};
-ghost use Rattle.tw_sparing.specs.PatientRuns.{PatientlyLedIsSent, SettledIsSent};
+ghost use Rattle.tw_sparing.specs.PatientRuns.{AnsweredReadingIsSent, LastBatchIsSent, PatientlyLedIsSent, SettledIsSent};
 ghost use Rattle.tw_sparing.specs.Shortness.{NoBatchIsSentForNothing, TypedBatchIsSentAlone};
 ghost use Rattle.tw_sparing.specs.ShownTerminals.{FirstIsKnown, KnownIsShown};
 ghost use Rattle.tw_sparing.specs.SparingRuns.{SparinglyLedIsSent};
 
 use std::io::Write;
+use tw_lineedit::LineEditorHost;
 
 /// A terminal after ECMA-48 that shows what is known of it, and is sent what differs after a batch, shows the picture
 /// on which the batch was drawn, and what is then known stands in it.
@@ -46,4 +47,12 @@ pub fn readings<W: Write>()
 pub fn patience<W: Write>()
     ensures led { PatientlyLedIsSent W.contents }
     ensures settled { SettledIsSent W.contents }
+{}
+
+/// At a terminal that waits while more is at hand, nothing is kept back after the last batch, where it was said before
+/// it that no more is at hand. So it is where `read_line_from` has answered (`answered`): its own clauses say what the
+/// law asks for.
+pub fn answered<H: LineEditorHost, W: Write>()
+    ensures last { LastBatchIsSent W.contents }
+    ensures answered { AnsweredReadingIsSent W.contents H.rules }
 {}

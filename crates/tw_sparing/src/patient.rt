@@ -8,7 +8,7 @@ ghost use Rattle.tw_ansi.specs.Encoding.{first_known, sent_then};
 ghost use Rattle.tw_terminal.specs.Uses.{Other, Refused, Took};
 ghost use Rattle.tw_device.specs.Deeds.{Called, Said, Sized, sent_deed};
 ghost use Rattle.tw_sparing.specs.Ahead.{groups_with, sent_ahead, latest_known, settled_at, IsJoined};
-ghost use Rattle.tw_sparing.specs.PatientDeeds.{DoesPatiently, IsTakenPatiently, SendsGroups};
+ghost use Rattle.tw_sparing.specs.PatientDeeds.{DoesPatiently, FollowsPatiently, IsTakenPatiently, SendsGroups};
 ghost use Rattle.tw_sparing.specs.Patient.{patient_state};
 ghost use Rattle.tw_sparing.specs.Shown.{IsKnownAfter};
 ghost use Rattle.tw_sparing.specs.SparingRuns.{AreKnownSince};
@@ -232,13 +232,13 @@ impl<W: Write> PatientTerminal<W> {
 impl<W: Write> Terminal for PatientTerminal<W> {
     ghost state = { patient_state };
 
-    ghost follows = { λ old new call. DoesPatiently W.contents old new (Called call) };
+    ghost follows = { FollowsPatiently W.contents };
 
     /// The size that its owner gave it. It is never refused.
     fn get_screen_size(&mut self) -> Result<ScreenSize, TerminalFault>
         ensures size { result ≡ Ok (patient_state self.old).size }
         ensures kept { self.new ≡ self.old }
-        ensures follows { DoesPatiently W.contents self.old self.new (Called Other) }
+        ensures follows { FollowsPatiently W.contents self.old self.new Other }
     {
         Ok(self.ahead.size())
     }
@@ -247,7 +247,7 @@ impl<W: Write> Terminal for PatientTerminal<W> {
     fn poll_input(&mut self) -> Result<Option<InputEvent>, TerminalFault>
         ensures none { result ≡ Ok None }
         ensures kept { self.new ≡ self.old }
-        ensures follows { DoesPatiently W.contents self.old self.new (Called Other) }
+        ensures follows { FollowsPatiently W.contents self.old self.new Other }
     {
         Ok(None)
     }
@@ -260,8 +260,8 @@ impl<W: Write> Terminal for PatientTerminal<W> {
     fn render(&mut self, changes: &[Change]) -> Result<(), TerminalFault>
         ensures ok { OnOk result (Renders (batch_view changes.now) (patient_state self.old) (patient_state self.new)) }
         ensures err { OnErr result (RenderFails (batch_view changes.now) (patient_state self.old) (patient_state self.new)) }
-        ensures took { OnOk result (DoesPatiently W.contents self.old self.new (Called (Took (batch_view changes.now)))) }
-        ensures refused { OnErr result (DoesPatiently W.contents self.old self.new (Called Refused)) }
+        ensures took { OnOk result (FollowsPatiently W.contents self.old self.new (Took (batch_view changes.now))) }
+        ensures refused { OnErr result (FollowsPatiently W.contents self.old self.new Refused) }
     {
         match self.take(changes) {
             Ok(()) => Ok(()),
@@ -282,7 +282,7 @@ impl<W: Write> Terminal for PatientTerminal<W> {
         ensures more { self.new.is_more ≡ self.old.is_more }
         ensures writer { Keeps (W.contents self.old.writer) (W.contents self.new.writer) }
         ensures waits { (self.old.ahead.kept ≡ [] → ⊥) → (result ≡ Ok tt) × (self.new.writer ≡ self.old.writer) }
-        ensures follows { DoesPatiently W.contents self.old self.new (Called Other) }
+        ensures follows { FollowsPatiently W.contents self.old self.new Other }
     {
         if self.ahead.is_settled() && self.writer.flush().is_err() {
             self.failures = self.failures.saturating_add(1);
@@ -296,9 +296,13 @@ impl<W: Write> Terminal for PatientTerminal<W> {
 impl<W: Write> DeviceTerminal for PatientTerminal<W> {
     ghost does = { DoesPatiently W.contents };
 
+    ghost may_keep = { λ it. it.is_more };
+
     ghost no_event = { λ it. refl };
 
-    ghost call_does = { λ old new call follows. follows };
+    ghost call_does = { λ old new call follows. follows.0 };
+
+    ghost call_keeps = { λ old new call follows. follows.1 };
 
     fn set_screen_size(&mut self, size: ScreenSize) {
         PatientTerminal::set_screen_size(self, size);

@@ -1,7 +1,7 @@
 //! A terminal over a writer that is sent what differs.
 
 ghost use Rattle.std.specs.Io.KnownBytes.{Appends, Keeps};
-ghost use Rattle.std.specs.Prelude.{◌≡◌, ◌++◌, [], Ok, None, OnOk, OnErr, refl};
+ghost use Rattle.std.specs.Prelude.{◌≡◌, ◌++◌, [], Ok, None, OnOk, OnErr, false, refl};
 ghost use Rattle.tw_surface.specs.ChangeView.{batch_view};
 ghost use Rattle.tw_surface.specs.Defaults.{default_attributes};
 ghost use Rattle.tw_terminal.specs.TerminalState.{fresh_terminal, Fails, Flushes, RenderFails, Renders};
@@ -218,9 +218,13 @@ impl<W: Write> Terminal for SparingTerminal<W> {
 impl<W: Write> DeviceTerminal for SparingTerminal<W> {
     ghost does = { DoesSparingly W.contents };
 
+    ghost may_keep = { λ it. false };
+
     ghost no_event = { λ it. refl };
 
     ghost call_does = { λ old new call follows. follows };
+
+    ghost call_keeps = { λ old new call follows keeps. refl };
 
     fn set_screen_size(&mut self, size: ScreenSize) {
         SparingTerminal::set_screen_size(self, size);

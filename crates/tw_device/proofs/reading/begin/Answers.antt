@@ -3,8 +3,9 @@ use Rattle.tw_terminal.specs.TerminalState.{TerminalState}
 use Rattle.tw_terminal.specs.Uses.{Other}
 use Rattle.tw_lineedit.specs.EditState.{Inactive}
 use Rattle.tw_lineedit.specs.Feeding.{Begins, FailsToBegin}
-use Rattle.tw_lineedit.specs.Frame.{Frame, frame}
+use Rattle.tw_lineedit.specs.Frame.{frame}
 use Rattle.tw_lineedit.specs.Reading.{start}
+use Rattle.tw_device.proofs.AskedLemmas.{called_with_seen}
 use Rattle.tw_device.proofs.DeedLemmas.{used_leads}
 use Rattle.tw_device.proofs.LedLemmas.{one_call_then}
 use Rattle.tw_device.proofs.reading.begin.Goals as goal
@@ -14,6 +15,12 @@ returns-clause-calls g c =
     one_call_then g.T.Terminal.state g.T.DeviceTerminal.does Other c.args.editor.now.terminal.now c.terminal.result.now c.set_more_at_hand.new.self c.begin_line.new.self.terminal.now
     c.terminal.ensures.shows c.set_more_at_hand.ensures.called
     (used_leads g.T.DeviceTerminal.does g.T.Terminal.follows g.met.T.DeviceTerminal.call_does _ _ c.begin_line.ensures.used)
+
+pub returns-clause-told : goal.returns-clause-told
+returns-clause-told g c =
+    called_with_seen g.T.Terminal.state g.T.Terminal.follows g.T.DeviceTerminal.may_keep g.T.DeviceTerminal.does g.met.T.DeviceTerminal.call_does c.args.is_more
+    c.args.editor.now.terminal.now c.terminal.result.now c.set_more_at_hand.new.self c.begin_line.new.self.terminal.now
+    c.terminal.ensures.shows c.set_more_at_hand.ensures.called c.set_more_at_hand.ensures.state c.set_more_at_hand.ensures.last c.begin_line.ensures.used
 
 -- what the editor sees of its terminal is as before
 pub returns-clause-ok : goal.returns-clause-ok

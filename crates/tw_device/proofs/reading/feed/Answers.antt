@@ -1,9 +1,7 @@
-use Rattle.std.proofs.Common.{[], ◌∷◌, ap, subst}
+use Rattle.std.proofs.Common.{ap}
 use Rattle.tw_input.specs.EventView.{event_view}
-use Rattle.tw_device.specs.Deeds.{IsLedBy}
-use Rattle.tw_device.specs.Led.{IsLedByEvent}
-use Rattle.tw_device.proofs.DeedLemmas.{used_leads}
-use Rattle.tw_device.proofs.LedLemmas.{event_is_led, event_then_calls}
+use Rattle.tw_device.proofs.AskedLemmas.{fed_with, led_by_told}
+use Rattle.tw_device.proofs.LedLemmas.{event_is_led}
 use Rattle.tw_device.proofs.LiveLemmas.{resized_is, comes_if, refused_if}
 use Rattle.tw_device.proofs.reading.feed.Goals as goal
 use Rattle.tw_lineedit.specs.Frame.{frame}
@@ -24,11 +22,13 @@ returns-clause-err g c =
 
 pub returns-clause-sized : goal.returns-clause-sized
 returns-clause-sized g c =
-    let does = g.T.DeviceTerminal.does in
-    let event = event_view c.args.event.now in
-    event_then_calls g.T.Terminal.state does event c.args.editor.now.terminal.now c.prepare.new.terminal c.feed.new.self.terminal.now
-    (subst (λ it. IsLedByEvent does event it c.prepare.new.terminal) c.terminal.ensures.shows c.prepare.ensures.sized)
-    (used_leads does g.T.Terminal.follows g.met.T.DeviceTerminal.call_does _ _ c.feed.ensures.used)
+    led_by_told g.T.Terminal.state g.T.Terminal.follows g.T.DeviceTerminal.may_keep g.T.DeviceTerminal.does g.met.T.DeviceTerminal.call_does (event_view c.args.event.now)
+    c.args.editor.now.terminal.now c.terminal.result.now c.prepare.new.terminal c.feed.new.self.terminal.now c.terminal.ensures.shows c.prepare.ensures.sized c.feed.ensures.used
+
+pub returns-clause-fed : goal.returns-clause-fed
+returns-clause-fed g c =
+    fed_with g.T.Terminal.state g.T.Terminal.follows g.T.DeviceTerminal.may_keep g.T.DeviceTerminal.does g.met.T.DeviceTerminal.call_does c.args.is_more (event_view c.args.event.now)
+    c.args.editor.now.terminal.now c.terminal.result.now c.prepare.new.terminal c.feed.new.self.terminal.now c.terminal.ensures.shows c.prepare.ensures.sized c.prepare.ensures.last c.feed.ensures.used
 
 pub returns-clause-led : goal.returns-clause-led
 returns-clause-led g c =

@@ -1,8 +1,9 @@
-use Rattle.std.proofs.Common.{rules}
+use Rattle.std.proofs.Common.{inl, inr, refl, rules}
 use Rattle.std.proofs.lemmas.Result.{err_from_is_err_and}
 use Rattle.tw_device.specs.Led.{taken_over}
 use Rattle.tw_device.specs.Live.{fresh_frame}
-use Rattle.tw_device.proofs.DeedLemmas.{led_between, led_from_calls, led_to_calls, led_told_nothing, led_unmoved, used_leads}
+use Rattle.tw_device.proofs.AskedLemmas.{asked_from, closed_as_told, closed_from, holds_on_ok, not_asked, untouched}
+use Rattle.tw_device.proofs.DeedLemmas.{led_between, led_from_calls, led_to_calls, led_told_nothing, led_unmoved}
 use Rattle.tw_device.proofs.LedLemmas.{told_along_between, told_along_nothing, told_along_opened, told_along_to_calls, told_along_unmoved}
 use Rattle.tw_device.proofs.LiveLemmas.{opened_at, unbegun_at, stopped_at, ended_at, closed_at, read_as, cut_as}
 use Rattle.tw_device.proofs.reading.read_line_from.Goals as goal
@@ -189,3 +190,63 @@ returns-clause-along g c =
     let along = told_along_opened g.T.Terminal.state does rules_of overrides before after f painted set begun fed opens c.begin.ensures.calls c.take_events.ensures.along in
     told_along_between g.T.Terminal.state does (taken_over rules_of f) before after c.args.terminal.now set _ c.finish.new.editor.terminal.now (search rules) (search rules)
     (told_along_to_calls g.T.Terminal.state does (taken_over rules_of f) before after set fed c.finish.new.editor.terminal.now along c.finish.ensures.calls)
+
+-- ---- what it is told, and when
+
+pub returns-in_err-set_prompt-clause-asked : goal.returns-in_err-set_prompt-clause-asked
+returns-in_err-set_prompt-clause-asked g c =
+    untouched g.T.Terminal.state g.T.Terminal.follows g.T.DeviceTerminal.may_keep g.T.DeviceTerminal.does g.S.EventSource.at_hand g.S.EventSource.follows c.args.source.now _ _ (search rules)
+
+pub returns-in_err-begin-clause-asked : goal.returns-in_err-begin-clause-asked
+returns-in_err-begin-clause-asked g c =
+    let source = c.args.source.now in
+    let begun = c.begin.new.editor.terminal.now in
+    asked_from g.T.Terminal.state g.T.Terminal.follows g.T.DeviceTerminal.may_keep g.T.DeviceTerminal.does g.S.EventSource.at_hand g.S.EventSource.follows source source c.has_at_hand.result c.args.terminal.now c.set_prompt.new.self.terminal.now begun begun _ begun
+    (search rules) (search rules) c.has_at_hand.ensures c.begin.ensures.told
+    (not_asked g.T.Terminal.state g.T.Terminal.follows g.T.DeviceTerminal.may_keep g.T.DeviceTerminal.does g.S.EventSource.at_hand g.S.EventSource.follows source begun) (inl refl)
+
+pub returns-in_err-stop-clause-asked : goal.returns-in_err-stop-clause-asked
+returns-in_err-stop-clause-asked g c =
+    let begun = c.begin.new.editor.terminal.now in
+    let fed = c.take_events.new.editor.terminal.now in
+    asked_from g.T.Terminal.state g.T.Terminal.follows g.T.DeviceTerminal.may_keep g.T.DeviceTerminal.does g.S.EventSource.at_hand g.S.EventSource.follows c.args.source.now c.take_events.new.source c.has_at_hand.result c.args.terminal.now c.set_prompt.new.self.terminal.now begun fed _ fed
+    (search rules) (search rules) c.has_at_hand.ensures c.begin.ensures.told c.take_events.ensures.asked (inl refl)
+
+pub returns-in_err-line-clause-asked : goal.returns-in_err-line-clause-asked
+returns-in_err-line-clause-asked g c =
+    let begun = c.begin.new.editor.terminal.now in
+    let fed = c.take_events.new.editor.terminal.now in
+    asked_from g.T.Terminal.state g.T.Terminal.follows g.T.DeviceTerminal.may_keep g.T.DeviceTerminal.does g.S.EventSource.at_hand g.S.EventSource.follows c.args.source.now c.take_events.new.source c.has_at_hand.result c.args.terminal.now c.set_prompt.new.self.terminal.now begun fed _ c.finish.new.editor.terminal.now
+    (search rules) (search rules) c.has_at_hand.ensures c.begin.ensures.told c.take_events.ensures.asked (inr c.finish.ensures.closed)
+
+pub returns-clause-asked : goal.returns-clause-asked
+returns-clause-asked g c =
+    let begun = c.begin.new.editor.terminal.now in
+    let fed = c.take_events.new.editor.terminal.now in
+    asked_from g.T.Terminal.state g.T.Terminal.follows g.T.DeviceTerminal.may_keep g.T.DeviceTerminal.does g.S.EventSource.at_hand g.S.EventSource.follows c.args.source.now c.take_events.new.source c.has_at_hand.result c.args.terminal.now c.set_prompt.new.self.terminal.now begun fed _ c.finish.new.editor.terminal.now
+    (search rules) (search rules) c.has_at_hand.ensures c.begin.ensures.told c.take_events.ensures.asked (inr c.finish.ensures.closed)
+
+pub returns-clause-closed : goal.returns-clause-closed
+returns-clause-closed g c =
+    let does = g.T.DeviceTerminal.does in
+    let rules_of = g.H.LineEditorHost.rules in
+    let overrides = g.H.LineEditorHost.OVERRIDES in
+    let state = g.T.Terminal.state in
+    let follows = g.T.Terminal.follows in
+    let may_keep = g.T.DeviceTerminal.may_keep in
+    let value = g.H.LineEditorHost.value in
+    let i = frame state value c.set_prompt.new.self c.args.host.now in
+    let f = fresh_frame c.args.prompt.now (value c.args.host.now) (state c.args.terminal.now) in
+    let painted = frame state value c.begin.new.editor c.args.host.now in
+    let waiting = frame state value c.take_events.new.editor c.take_events.new.host in
+    let before = g.S.EventSource.told c.args.source.now in
+    let after = g.S.EventSource.told c.take_events.new.source in
+    let set = c.set_prompt.new.self.terminal.now in
+    let begun = c.begin.new.editor.terminal.now in
+    let fed = c.take_events.new.editor.terminal.now in
+    let finished = c.finish.new.editor.terminal.now in
+    let opens = opened_at rules_of overrides i f painted (search rules) (c.in_ok-begin.ensures.ok (search rules)) in
+    let along = told_along_opened state does rules_of overrides before after f painted set begun fed opens c.begin.ensures.calls c.take_events.ensures.along in
+    holds_on_ok _ c.answer_of.result
+    (closed_from state follows may_keep does (taken_over rules_of f) before after c.args.terminal.now set _ finished (search rules) (search rules)
+    (closed_as_told state follows may_keep does rules_of overrides before after f painted waiting set fed finished opens c.in_ok-stop.ensures.ok refl along c.finish.ensures.closed))

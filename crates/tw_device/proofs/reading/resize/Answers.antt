@@ -1,5 +1,4 @@
-use Rattle.std.proofs.Common.{[], ◌∷◌, refl}
-use Rattle.tw_device.specs.Deeds.{Sized}
+use Rattle.std.proofs.Common.{refl}
 use Rattle.tw_device.proofs.reading.resize.Goals as goal
 
 pub returns-in-Resized-clause-sized : goal.returns-in-Resized-clause-sized

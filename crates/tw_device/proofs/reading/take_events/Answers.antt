@@ -1,7 +1,9 @@
-use Rattle.std.proofs.Common.{[], ◌∷◌, arith, refl, rules}
+use Rattle.std.proofs.Common.{[], ◌∷◌, Ok, ap, ◌∙◌, arith, refl, rules}
 use Rattle.std.proofs.lemmas.Result.{err_from_is_err_and}
 use Rattle.tw_input.specs.EventView.{event_view}
+use Rattle.tw_terminal.specs.declared.terminal.TerminalFault.{TerminalFault}
 use Rattle.tw_device.specs.Told.{answer_events}
+use Rattle.tw_device.proofs.AskedLemmas.{asked_more}
 use Rattle.tw_device.proofs.CallLemmas.{called_more, told_answer}
 use Rattle.tw_device.proofs.DeedLemmas.{led_on, led_still}
 use Rattle.tw_device.specs.Led.{taken_on}
@@ -117,6 +119,36 @@ returns-in-Err-clause-along g c =
     (source.told c.args.source.now) (source.told c.loop-turn.source) (source.told c.next_event.new.self)
     c.args.editor.now.terminal.now c.loop-turn.editor.terminal.now c.loop-turn.invariant.along c.in-Err.ensures.told
 
+pub returns-in_err-feed-in-Ok-Some-clause-asked : goal.returns-in_err-feed-in-Ok-Some-clause-asked
+returns-in_err-feed-in-Ok-Some-clause-asked g c =
+    asked_more g.T.Terminal.state g.T.Terminal.follows g.T.DeviceTerminal.may_keep g.T.DeviceTerminal.does g.S.EventSource.at_hand g.S.EventSource.follows
+    c.args.source.now c.loop-turn.source c.next_event.new.self c.args.editor.now.terminal.now c.loop-turn.editor.terminal.now c.feed.new.editor.terminal.now
+    (answer_events c.next_event.result) (event_view c.in-Ok-Some.event ∷ []) c.has_at_hand.result c.loop-turn.invariant.asked c.next_event.ensures.follows
+    (ap answer_events c.in-Ok-Some.is ∙ ap (λ event. answer_events {E = TerminalFault} (Ok event)) c.in-Ok-Some.field-0-is) c.has_at_hand.ensures c.in_err-feed-in-Ok-Some.ensures.fed
+
+pub returns-in-Ended-clause-asked : goal.returns-in-Ended-clause-asked
+returns-in-Ended-clause-asked g c =
+    asked_more g.T.Terminal.state g.T.Terminal.follows g.T.DeviceTerminal.may_keep g.T.DeviceTerminal.does g.S.EventSource.at_hand g.S.EventSource.follows
+    c.args.source.now c.loop-turn.source c.next_event.new.self c.args.editor.now.terminal.now c.loop-turn.editor.terminal.now c.feed.new.editor.terminal.now
+    (answer_events c.next_event.result) (event_view c.in-Ok-Some.event ∷ []) c.has_at_hand.result c.loop-turn.invariant.asked c.next_event.ensures.follows
+    (ap answer_events c.in-Ok-Some.is ∙ ap (λ event. answer_events {E = TerminalFault} (Ok event)) c.in-Ok-Some.field-0-is) c.has_at_hand.ensures c.in_ok-feed-in-Ok-Some.ensures.fed
+
+pub returns-in-Ok-None-clause-asked : goal.returns-in-Ok-None-clause-asked
+returns-in-Ok-None-clause-asked g c =
+    let source = g.S.EventSource in
+    asked_more g.T.Terminal.state g.T.Terminal.follows g.T.DeviceTerminal.may_keep g.T.DeviceTerminal.does g.S.EventSource.at_hand g.S.EventSource.follows
+    c.args.source.now c.loop-turn.source c.next_event.new.self c.args.editor.now.terminal.now c.loop-turn.editor.terminal.now c.loop-turn.editor.terminal.now
+    (answer_events c.next_event.result) [] (source.at_hand c.next_event.new.self) c.loop-turn.invariant.asked c.next_event.ensures.follows
+    (ap answer_events c.in-Ok-None.is ∙ ap (λ event. answer_events {E = TerminalFault} (Ok event)) c.in-Ok-None.field-0-is) refl refl
+
+pub returns-in-Err-clause-asked : goal.returns-in-Err-clause-asked
+returns-in-Err-clause-asked g c =
+    let source = g.S.EventSource in
+    asked_more g.T.Terminal.state g.T.Terminal.follows g.T.DeviceTerminal.may_keep g.T.DeviceTerminal.does g.S.EventSource.at_hand g.S.EventSource.follows
+    c.args.source.now c.loop-turn.source c.next_event.new.self c.args.editor.now.terminal.now c.loop-turn.editor.terminal.now c.loop-turn.editor.terminal.now
+    (answer_events c.next_event.result) [] (source.at_hand c.next_event.new.self) c.loop-turn.invariant.asked c.next_event.ensures.follows
+    (ap answer_events c.in-Err.is) refl refl
+
 pub returns-clause-along : goal.returns-clause-along
 returns-clause-along g c = c.loop-turn.invariant.along
 
@@ -143,5 +175,9 @@ loop-turn-preserved g c =
           (frame state g.H.LineEditorHost.value c.args.editor.now c.args.host.now) (frame state g.H.LineEditorHost.value c.loop-turn.editor c.loop-turn.host)
           c.args.editor.now.terminal.now c.loop-turn.editor.terminal.now c.feed.new.editor.terminal.now c.loop-turn.invariant.along c.loop-turn.invariant.comes refl
           told c.in_ok-feed-in-Ok-Some.ensures.sized;
+      asked = asked_more g.T.Terminal.state g.T.Terminal.follows g.T.DeviceTerminal.may_keep g.T.DeviceTerminal.does g.S.EventSource.at_hand g.S.EventSource.follows
+          c.args.source.now c.loop-turn.source c.next_event.new.self c.args.editor.now.terminal.now c.loop-turn.editor.terminal.now c.feed.new.editor.terminal.now
+          (answer_events c.next_event.result) (event_view c.in-Ok-Some.event ∷ []) c.has_at_hand.result c.loop-turn.invariant.asked c.next_event.ensures.follows
+          (ap answer_events c.in-Ok-Some.is ∙ ap (λ event. answer_events {E = TerminalFault} (Ok event)) c.in-Ok-Some.field-0-is) c.has_at_hand.ensures c.in_ok-feed-in-Ok-Some.ensures.fed;
       still_open = search rules;
     }
