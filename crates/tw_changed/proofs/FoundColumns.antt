@@ -1,7 +1,7 @@
 -- What is known of the first and the last column in which two rows differ.
-use Rattle.std.proofs.Common.{◌≡◌, ◌<◌, ◌≤◌, ◌+◌, ◌-◌, ◌*◌, ◌%◌, ◌⊎◌, ℕ, zero, suc, Bool, true, false, not, Some, None, ap, ◌∙◌, sym, refl, inl, inr, arith}
+use Rattle.std.proofs.Common.{◌≡◌, ◌<◌, ◌≤◌, ◌+◌, ◌-◌, ◌*◌, ◌/◌, ◌%◌, is_none, mod-lt, div-add-mod', ◌⊎◌, ℕ, zero, suc, Bool, true, false, not, Some, None, ap, ◌∙◌, sym, refl, inl, inr, arith}
 use Rattle.std.proofs.lemmas.Nat.{div-mul-add, mod-mul-add}
-use Rattle.std.proofs.lemmas.Bool.{cases_Bool, cases_eq, and_parts, eqb-true, false≢true}
+use Rattle.std.proofs.lemmas.Bool.{cases_Bool, cases_eq, cases_lt, and_parts, eqb-true, false≢true}
 use Rattle.tw_extremes.specs.Extremes.{least_from, greatest_below, NonePasses, IsLeast, IsGreatest}
 use Rattle.tw_extremes.proofs.ExtremesLemmas.{greatest_below-is, greatest_below-none}
 use Rattle.tw_surface.proofs.EqualityLemmas.{attributes_equal}
@@ -71,12 +71,6 @@ pub by_index : (w row col : ℕ) (old new : ℕ → ℕ → StyledCell) → col 
 by_index w row col old new left =
     ap (λ i. differ_in (old i) (new i) ((row * w + col) % w)) (div-mul-add row w col left) ∙ ap (λ j. differ_in (old row) (new row) j) (mod-mul-add row w col left)
 
--- the same, where the columns were counted
-pub by_place : (w v row col : ℕ) (old new : ℕ → ℕ → StyledCell) (differs : Bool) → v ≡ w → col < v → differs ≡ differ_in (old row) (new row) col
-    → differ_in (indexed w old) (indexed w new) (row * v + col) ≡ differs
-by_place w v row col old new differs is_v left is =
-    ap (λ u. differ_in (indexed w old) (indexed w new) (row * u + col)) is_v ∙ by_index w row col old new (omega (arith, left, is_v)) ∙ sym is
-
 -- one more that does not pass, above and below
 pub none_above : (p : ℕ → Bool) (from n : ℕ) → NonePasses p from n → p n ≡ false → NonePasses p from (n + 1)
 none_above p from n none here k low high = elim (cases_eq k n) [ inl e ↦ ap p e ∙ here | inr less ↦ none k low (omega (arith, high, less)) ]
@@ -86,6 +80,68 @@ one_below p n to here none k low high = elim (cases_eq k n) [ inl e ↦ ap p e �
 
 pub none_below : (p : ℕ → Bool) (n to : ℕ) → NonePasses p n to → p (n - 1) ≡ false → NonePasses p (n - 1) to
 none_below p n to none here = one_below p (n - 1) to here (λ k low high. none k (omega (arith, low)) high)
+
+-- ---- what is the same before an index
+
+-- whether the first columns of a row are the same
+module _ (w row cols : ℕ) (old new : ℕ → ℕ → StyledCell) (left : cols ≤ w) where
+  abbrev here : ℕ → Bool
+  here = differ_in (indexed w old) (indexed w new)
+
+  -- none of their indices differs
+  same_in_row : is_none (least_from (differ_in (old row) (new row)) 0 cols) ≡ true → NonePasses here (row * w) (row * w + cols)
+  same_in_row is k low high =
+      elim (least_cases (differ_in (old row) (new row)) cols 0) [
+        | inl none ↦
+            (let at : k ≡ row * w + (k - row * w) = omega (arith, low) in
+            ap here at ∙ by_index w row (k - row * w) old new (omega (arith, high, left)) ∙ none.1 (k - row * w) (omega arith) (omega (arith, high)))
+        | inr found ↦ absurd (false≢true (sym (ap is_none found.1) ∙ is))
+      ]
+
+  -- or one does
+  other_in_row : is_none (least_from (differ_in (old row) (new row)) 0 cols) ≡ false → (k : ℕ) × (k < row * w + cols) × (here k ≡ true)
+  other_in_row is =
+      elim (least_cases (differ_in (old row) (new row)) cols 0) [
+        | inl none ↦ absurd (false≢true (sym is ∙ ap is_none none.0))
+        | inr found ↦
+            (row * w + found.0, omega (arith, found.2.high), by_index w row found.0 old new (omega (arith, found.2.high, left)) ∙ found.2.passes)
+      ]
+
+-- no index up to a row differs, and none in its first columns
+pub same_to : (w row cols : ℕ) (old new : ℕ → ℕ → StyledCell) (same : Bool) → cols ≤ w → same ≡ is_none (least_from (differ_in (old row) (new row)) 0 cols) → same ≡ true
+    → NonePasses (differ_in (indexed w old) (indexed w new)) 0 (row * w) → NonePasses (differ_in (indexed w old) (indexed w new)) 0 (row * w + cols)
+same_to w row cols old new same left is did before k low high =
+    elim (cases_lt k (row * w)) [
+      | inl less ↦ before k low less
+      | inr more ↦ same_in_row w row cols old new left (sym is ∙ did) k more high
+    ]
+
+-- some index before another one differs
+some_before : (p : ℕ → Bool) (to k : ℕ) → k < to → p k ≡ true → false ≡ is_none (greatest_below p to)
+some_before p to k less here = elim (greatest_cases p to) [
+  | inl none ↦ absurd (false≢true (sym (none.1 k (omega arith) less) ∙ here))
+  | inr found ↦ sym (ap is_none found.1)
+]
+
+-- one of the first columns of a row differs
+pub other_before : (w row cols to : ℕ) (old new : ℕ → ℕ → StyledCell) (same : Bool) → cols ≤ w → row * w + cols ≤ to
+    → same ≡ is_none (least_from (differ_in (old row) (new row)) 0 cols) → same ≡ false → false ≡ is_none (greatest_below (differ_in (indexed w old) (indexed w new)) to)
+other_before w row cols to old new same left within is did_not =
+    let found = other_in_row w row cols old new left (sym is ∙ did_not) in
+    some_before (differ_in (indexed w old) (indexed w new)) to found.0 (omega (arith, found.1, within)) found.2
+
+-- by the rows before that of an index, and the columns before it
+pub same_before : (w to : ℕ) (old new : ℕ → ℕ → StyledCell) (same : Bool) → 0 < w → same ≡ is_none (least_from (differ_in (old (to / w)) (new (to / w))) 0 (to % w))
+    → NonePasses (differ_in (indexed w old) (indexed w new)) 0 (to / w * w) → same ≡ is_none (greatest_below (differ_in (indexed w old) (indexed w new)) to)
+same_before w to old new true wide is before =
+    let p = differ_in (indexed w old) (indexed w new) in
+    let left : to % w ≤ w = (let less : to % w < w = mod-lt to wide in omega (arith, less)) in
+    let whole : to / w * w + to % w ≡ to = div-add-mod' to w in
+    sym (ap is_none (greatest_below-none p to (λ k low high. same_to w (to / w) (to % w) old new true left is refl before k low (omega (arith, high, whole)))))
+same_before w to old new false wide is before =
+    let left : to % w ≤ w = (let less : to % w < w = mod-lt to wide in omega (arith, less)) in
+    let whole : to / w * w + to % w ≡ to = div-add-mod' to w in
+    other_before w (to / w) (to % w) to old new false left (omega (arith, whole)) is refl
 
 -- where the cells of some rows end
 pub ends_behind : (w rows end : ℕ) (cells : ℕ → ℕ → StyledCell) → 0 < end → end ≤ rows * w → is_used w cells (end - 1) ≡ true → NonePasses (is_used w cells) end (rows * w)

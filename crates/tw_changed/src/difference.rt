@@ -130,18 +130,18 @@ pub fn rest_of(old: &StyledScreen, rows: usize, end: usize) -> Option<usize>
     None
 }
 
-/// The place before a place, counted along the rows.
-fn place_before(row: usize, col: usize, width: usize) -> (usize, usize)
-    requires some { 0 < row * width + col }
-    requires within { col < width }
-    ensures index { result.0 * width + result.1 + 1 ≡ row * width + col }
-    ensures col { result.1 < width }
+/// Whether two screens show the same in the first columns of a row.
+fn is_same_in_row(old: &StyledScreen, new: &StyledScreen, row: usize, cols: usize) -> bool
+    requires width { old.now.width ≡ new.now.width }
+    requires cols { cols ≤ new.now.width }
+    ensures { result ≡ is_none (least_from (differ_in (screen_cells old.now row) (screen_cells new.now row)) 0 cols) }
 {
-    if col > 0 {
-        (row, col - 1)
-    } else {
-        (row - 1, width - 1)
+    for col in 0..cols {
+        if differ_at(old, None, new, row, col) {
+            return false;
+        }
     }
+    true
 }
 
 /// Whether two screens show the same before an index, counted along the rows.
@@ -150,17 +150,12 @@ fn is_same_before(old: &StyledScreen, new: &StyledScreen, end: usize) -> bool
     ensures { result ≡ is_none (greatest_below (differ_in (indexed new.now.width (screen_cells old.now)) (indexed new.now.width (screen_cells new.now))) end) }
 {
     let width = new.width();
-    let mut row = end / width;
-    let mut col = end % width;
-    while row > 0 || col > 0 {
-        let before = place_before(row, col, width);
-        row = before.0;
-        col = before.1;
-        if differ_at(old, None, new, row, col) {
+    for row in 0..end / width {
+        if !is_same_in_row(old, new, row, width) {
             return false;
         }
     }
-    true
+    is_same_in_row(old, new, end / width, end % width)
 }
 
 /// Whether a row ends in a blank.

@@ -1,40 +1,41 @@
-use Rattle.std.proofs.Common.{◌≡◌, ◌+◌, ◌*◌, is_none, ap, sym, ◌∙◌, arith}
-use Rattle.tw_extremes.proofs.ExtremesLemmas.{greatest_below-is, greatest_below-none}
+use Rattle.std.proofs.Common.{◌≡◌, ◌≤◌, ◌+◌, ◌*◌, ◌/◌, ◌%◌, suc, is_none, div-add-mod', subst, arith}
+use Rattle.std.proofs.lemmas.Nat.{mul-le}
+use Rattle.tw_extremes.specs.Extremes.{least_from}
 use Rattle.tw_changed.specs.Differences.{differ_in}
-use Rattle.tw_changed.specs.Redrawings.{indexed}
 use Rattle.tw_changed.specs.Sending.{screen_cells}
-use Rattle.tw_changed.proofs.FoundColumns.{by_place, one_below}
+use Rattle.tw_changed.proofs.FoundColumns.{other_before, same_before, same_to}
 use Rattle.tw_changed.proofs.difference.is_same_before.Goals as goal
 
-pub returns-then-differ_at : goal.returns-then-differ_at
-returns-then-differ_at c =
+pub returns-then-not-is_same_in_row : goal.returns-then-not-is_same_in_row
+returns-then-not-is_same_in_row c =
     let w = c.args.new.now.width in
-    let p = differ_in (indexed w (screen_cells c.args.old.now)) (indexed w (screen_cells c.args.new.now)) in
-    let row = c.place_before-before.result.0 in
-    let col = c.place_before-before.result.1 in
-    let next = c.place_before-before.ensures.index in
-    let differs = by_place w c.width-width.result row col (screen_cells c.args.old.now) (screen_cells c.args.new.now) c.differ_at.result c.width-width.ensures.value c.place_before-before.ensures.col c.differ_at.ensures in
-    sym (ap is_none (greatest_below-is p c.args.end (row * c.width-width.result + col) (omega (arith, next, c.loop-row.invariant.within)) (differs ∙ c.if-differ_at.true)
-    (λ k low high. c.loop-row.invariant.same k (omega (arith, low, next)) high)))
+    let v = c.width-width.result in
+    let row = c.loop-row.row in
+    let old = screen_cells c.args.old.now in
+    let new = screen_cells c.args.new.now in
+    let rows : suc row * v ≤ c.args.end / v * v = mul-le (suc row) v (c.args.end / v) v (omega (arith, c.loop-row-test.true)) (omega arith) in
+    let whole : c.args.end / v * v + c.args.end % v ≡ c.args.end = div-add-mod' c.args.end v in
+    let within : row * v + v ≤ c.args.end = omega (arith, rows, whole) in
+    other_before w row w c.args.end old new c.is_same_in_row.result (omega arith) (subst (λ u. row * u + u ≤ c.args.end) c.width-width.ensures.value within)
+    (subst (λ u. c.is_same_in_row.result ≡ is_none (least_from (differ_in (old row) (new row)) 0 u)) c.width-width.ensures.value c.is_same_in_row.ensures) c.if-not-is_same_in_row.true
 
 pub loop-row-preserved : goal.loop-row-preserved
-loop-row-preserved c =
+loop-row-preserved c k low high =
     let w = c.args.new.now.width in
-    let p = differ_in (indexed w (screen_cells c.args.old.now)) (indexed w (screen_cells c.args.new.now)) in
-    let row = c.place_before-before.result.0 in
-    let col = c.place_before-before.result.1 in
-    let next = c.place_before-before.ensures.index in
-    let differs = by_place w c.width-width.result row col (screen_cells c.args.old.now) (screen_cells c.args.new.now) c.differ_at.result c.width-width.ensures.value c.place_before-before.ensures.col c.differ_at.ensures in
-    record {
-      within = omega (arith, next, c.loop-row.invariant.within);
-      col = c.place_before-before.ensures.col;
-      same = one_below p (row * c.width-width.result + col) c.args.end (differs ∙ c.if-differ_at.false) (λ k low high. c.loop-row.invariant.same k (omega (arith, low, next)) high);
-    }
+    let row = c.loop-row.row in
+    let old = screen_cells c.args.old.now in
+    let new = screen_cells c.args.new.now in
+    same_to w row w old new c.is_same_in_row.result (omega arith)
+    (subst (λ u. c.is_same_in_row.result ≡ is_none (least_from (differ_in (old row) (new row)) 0 u)) c.width-width.ensures.value c.is_same_in_row.ensures) c.if-not-is_same_in_row.false
+    c.loop-row.invariant k low (omega (arith, high))
 
 pub returns : goal.returns
 returns c =
     let w = c.args.new.now.width in
-    let p = differ_in (indexed w (screen_cells c.args.old.now)) (indexed w (screen_cells c.args.new.now)) in
-    let start : c.loop-row.row ≡ 0 = omega (arith, c.if-row-gt0.false) in
-    let nothing : c.loop-row.row * c.width-width.result ≡ 0 * c.width-width.result = ap (λ r. r * c.width-width.result) start in
-    sym (ap is_none (greatest_below-none p c.args.end (λ k low high. c.loop-row.invariant.same k (omega (arith, nothing, c.if-col-gt0.false)) high)))
+    let old = screen_cells c.args.old.now in
+    let new = screen_cells c.args.new.now in
+    let row : c.args.end / w ≤ c.loop-row.row = subst (λ u. c.args.end / u ≤ c.loop-row.row) c.width-width.ensures.value c.loop-row-test.false in
+    let rows : c.args.end / w * w ≤ c.loop-row.row * w = mul-le (c.args.end / w) w c.loop-row.row w row (omega arith) in
+    same_before w c.args.end old new c.is_same_in_row-2.result (omega (arith, c.width-width.ensures.above, c.width-width.ensures.value))
+    (subst (λ u. c.is_same_in_row-2.result ≡ is_none (least_from (differ_in (old (c.args.end / u)) (new (c.args.end / u))) 0 (c.args.end % u))) c.width-width.ensures.value c.is_same_in_row-2.ensures)
+    (λ k low high. c.loop-row.invariant k low (omega (arith, high, rows)))
