@@ -1,4 +1,4 @@
-use Rattle.std.proofs.Common.{subst}
+use Rattle.std.proofs.Common.{subst, rules}
 use Rattle.tw_surface.specs.ChangeView.{batch_view}
 use Rattle.tw_sparing.specs.Ahead.{all_changes}
 use Rattle.tw_sparing.specs.Shown.{IsFromStart, IsKnownAfter}
@@ -14,3 +14,6 @@ returns-clause-groups c e start =
     (batch_view c.args.changes.now) e c.self.view_is c.self.invariant
     (subst (λ x. IsKnownAfter size.cols size.rows batch x next) c.latest.ensures c.shown_after-next.ensures.known)
     (subst (λ x. IsFromStart e.x batch x next) c.latest.ensures (c.shown_after-next.ensures.start e.x start)) c.is_joined-is_joined.ensures.joined
+
+pub is_joined-is_joined-requires : goal.is_joined-is_joined-requires
+is_joined-is_joined-requires c = search rules

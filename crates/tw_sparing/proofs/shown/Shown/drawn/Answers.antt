@@ -1,4 +1,4 @@
-use Rattle.std.proofs.Common.{ap, sym, ◌∙◌, refl}
+use Rattle.std.proofs.Common.{ap, sym, ◌∙◌, refl, rules}
 use Rattle.styled_screen.specs.StyledScreens.{StyledView}
 use Rattle.tw_sparing.proofs.PlayedBatches.{played_width}
 use Rattle.tw_sparing.proofs.shown.Shown.drawn.Goals as goal
@@ -6,3 +6,6 @@ use Rattle.tw_sparing.proofs.shown.Shown.drawn.Goals as goal
 pub is_same_above-requires : goal.is_same_above-requires
 is_same_above-requires c =
     sym (played_width c.args.rows _ _ c.play_all.new.self (c.if-not-play_all.ensures refl) ∙ ap (λ (v : StyledView). v.width) c.in-Ok.ensures)
+
+pub returns-then-is_same_above : goal.returns-then-is_same_above
+returns-then-is_same_above c = search rules

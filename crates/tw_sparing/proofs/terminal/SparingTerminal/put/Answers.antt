@@ -1,0 +1,11 @@
+use Rattle.std.proofs.Common.{rules}
+use Rattle.tw_sparing.proofs.terminal.SparingTerminal.put.Goals as goal
+
+pub returns-clause-ok : goal.returns-clause-ok
+returns-clause-ok g c = search rules
+
+pub returns-clause-start : goal.returns-clause-start
+returns-clause-start g c = search rules
+
+pub returns-then-is_err-clause-lost : goal.returns-then-is_err-clause-lost
+returns-then-is_err-clause-lost g c = search rules
