@@ -9,8 +9,6 @@ mod completion;
 mod host;
 mod preview;
 mod shown;
-#[cfg(test)]
-mod tests;
 
 pub use completion::complete_sql;
 pub use host::SqlHost;

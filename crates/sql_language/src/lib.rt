@@ -12,8 +12,6 @@ pub mod laws;
 mod lexer;
 mod names;
 mod statements;
-#[cfg(test)]
-mod tests;
 mod tokens;
 mod words;
 

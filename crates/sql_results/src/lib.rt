@@ -7,8 +7,6 @@ mod cells;
 mod columns;
 mod comma;
 mod table;
-#[cfg(test)]
-mod tests;
 
 pub use cells::{Cell, Results, visible};
 pub use columns::{CUT, fitting_len, padding};

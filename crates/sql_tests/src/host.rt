@@ -1,4 +1,6 @@
-use crate::{SqlStyles, complete_sql, preview_sql, show_sql};
+//! What is shown, previewed and completed.
+
+use sql_host::{SqlStyles, complete_sql, preview_sql, show_sql};
 use sql_language::{Catalog, SqlTable};
 use std::alloc::{AllocError, Global};
 use std::test::Fail;

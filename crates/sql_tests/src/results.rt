@@ -1,4 +1,6 @@
-use crate::{Cell, Results, csv_text, table_text};
+//! Tables and CSV.
+
+use sql_results::{Cell, Results, csv_text, table_text};
 use std::alloc::{AllocError, Global};
 use std::test::Fail;
 

@@ -1,4 +1,6 @@
-use crate::{
+//! Tokens, names, statements and completions.
+
+use sql_language::{
     Catalog, Inside, SqlTable, TokenKind, bare_tokens, completing_texts, first_token, inside_after,
     is_named, is_unclosed, last_table, open_brackets, statement_len, table_row, written_name,
 };
