@@ -1,9 +1,9 @@
 -- What is known of the first and the last column in which two rows differ.
 use Rattle.std.proofs.Common.{◌≡◌, ◌<◌, ◌≤◌, ◌+◌, ◌-◌, ◌*◌, ◌/◌, ◌%◌, is_none, mod-lt, div-add-mod', ◌⊎◌, ℕ, zero, suc, Bool, true, false, not, Some, None, ap, ◌∙◌, sym, refl, inl, inr, arith}
 use Rattle.std.proofs.lemmas.Nat.{div-mul-add, mod-mul-add}
-use Rattle.std.proofs.lemmas.Bool.{cases_Bool, cases_eq, cases_lt, and_parts, eqb-true, false≢true}
+use Rattle.std.proofs.lemmas.Bool.{cases_Bool, cases_eq, cases_lt, and_parts, eqb-true, eq-eqb, and_from, false≢true}
 use Rattle.tw_extremes.specs.Extremes.{least_from, greatest_below, NonePasses, IsLeast, IsGreatest}
-use Rattle.tw_extremes.proofs.ExtremesLemmas.{greatest_below-is, greatest_below-none}
+use Rattle.tw_extremes.proofs.ExtremesLemmas.{least_from-none, greatest_below-is, greatest_below-none}
 use Rattle.tw_surface.proofs.EqualityLemmas.{attributes_equal}
 use Rattle.tw_screens.specs.StyledCells.{StyledCell}
 use Rattle.tw_changed.specs.Differences.{is_same_cell, differ_in, is_used, end_of}
@@ -65,6 +65,26 @@ same_where old new j is = same (old j) (new j) (of_not (is_same_cell (old j) (ne
         let both = and_parts _ _ e in
         ap (λ n. let z : StyledCell = record { ch = n; attributes = x.attributes } in z) (eqb-true x.ch y.ch both.0)
         ∙ ap (λ a. let z : StyledCell = record { ch = y.ch; attributes = a } in z) ((attributes_equal x.attributes y.attributes).0 both.1)
+
+-- and those that hold the same cell do not differ
+pub no_difference : (old new : ℕ → StyledCell) (j : ℕ) → old j ≡ new j → differ_in old new j ≡ false
+no_difference old new j same = ap not (told (old j) (new j) same)
+  where
+    told : (x y : StyledCell) → x ≡ y → is_same_cell x y ≡ true
+    told x y e =
+        and_from _ _ (eq-eqb x.ch y.ch (ap (λ (z : StyledCell). z.ch) e)) ((attributes_equal x.attributes y.attributes).1 (ap (λ (z : StyledCell). z.attributes) e))
+
+-- rows of w columns of which none differs are the same
+pub none_differs : (w : ℕ) (old new : ℕ → StyledCell) → is_none (least_from (differ_in old new) 0 w) ≡ true → (j : ℕ) → j < w → old j ≡ new j
+none_differs w old new is j left =
+    elim (least_cases (differ_in old new) w 0) [
+      | inl none ↦ same_where old new j (none.1 j (omega arith) (omega (arith, left)))
+      | inr found ↦ absurd (false≢true (sym (ap is_none found.1) ∙ is))
+    ]
+
+-- and in rows that are the same none differs
+pub same_differ_nowhere : (w : ℕ) (old new : ℕ → StyledCell) → ((j : ℕ) → j < w → old j ≡ new j) → is_none (least_from (differ_in old new) 0 w) ≡ true
+same_differ_nowhere w old new same = ap is_none (least_from-none (differ_in old new) w 0 (λ k low high. no_difference old new k (same k (omega (arith, high)))))
 
 -- whether two screens differ in a cell, by its index
 pub by_index : (w row col : ℕ) (old new : ℕ → ℕ → StyledCell) → col < w → differ_in (indexed w old) (indexed w new) (row * w + col) ≡ differ_in (old row) (new row) col

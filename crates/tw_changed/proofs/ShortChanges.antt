@@ -11,14 +11,8 @@ use Rattle.tw_changed.specs.declared.hand.Hand.{Hand}
 use Rattle.tw_changed.specs.Differences.{is_same_cell, differ_in, first_changed, is_used, end_of, blank_cell, behind_index}
 use Rattle.tw_changed.specs.Redrawings.{Redrawing, at_ease, redraw_then, led_to, under, row_redrawn, rows_redrawn, handed_to, rest_of, rest_emptied, left_of, lowest_reached, sunk_to, lowered, rows_drawn_on, hand_index, cells_redrawn, goes_onward, gone_onward}
 use Rattle.tw_changed.specs.Shortness.{NothingIsSentForNothing}
+use Rattle.tw_changed.proofs.FoundColumns.{no_difference}
 use Rattle.tw_changed.proofs.OnwardScreens.{going_on}
-
--- equal cells are told to be the same
-same_told : (x y : StyledCell) → x ≡ y → is_same_cell x y ≡ true
-same_told x y e = and_from _ _ (eq-eqb x.ch y.ch (ap (λ (z : StyledCell). z.ch) e)) ((attributes_equal x.attributes y.attributes).1 (ap (λ (z : StyledCell). z.attributes) e))
-
-pub no_difference : (old new : ℕ → StyledCell) (j : ℕ) → old j ≡ new j → differ_in old new j ≡ false
-no_difference old new j e = ap not (same_told (old j) (new j) e)
 
 -- ---- ends
 

@@ -15,12 +15,12 @@ use Rattle.tw_changed.specs.declared.hand.Hand.{Hand}
 use Rattle.tw_changed.specs.Differences.{is_same_cell, differ_in, first_changed, last_changed, blank_cell, is_used, end_of}
 use Rattle.tw_changed.specs.Redrawings.{Redrawing, redraw_then, span_redrawn, row_redrawn, rows_redrawn, handed_to, rows_drawn_on, hand_index, indexed, typed_in_cell, cells_redrawn, goes_onward, gone_onward, under, redrawn}
 use Rattle.tw_changed.specs.Shortness.{characters_from, IsTypedAt, TypedIsSentAlone}
-use Rattle.tw_changed.proofs.FoundColumns.{same_where, ends_behind}
+use Rattle.tw_changed.proofs.FoundColumns.{same_where, ends_behind, no_difference}
 use Rattle.tw_changed.proofs.DrawnEnds.{unused_after}
 use Rattle.tw_changed.proofs.TypedCells.{inside_row}
 use Rattle.tw_changed.proofs.OnwardScreens.{going_on}
 use Rattle.tw_changed.proofs.SentChanges.{printable_plain}
-use Rattle.tw_changed.proofs.ShortChanges.{no_difference, stays_there, stays_under, stays_handed, row_stays, rows_stay, sent_rows_alone}
+use Rattle.tw_changed.proofs.ShortChanges.{stays_there, stays_under, stays_handed, row_stays, rows_stay, sent_rows_alone}
 
 -- ---- the bytes of characters that have room in the row
 

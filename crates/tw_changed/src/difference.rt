@@ -130,8 +130,8 @@ pub fn rest_of(old: &StyledScreen, rows: usize, end: usize) -> Option<usize>
     None
 }
 
-/// Whether two screens show the same in the first columns of a row.
-fn is_same_in_row(old: &StyledScreen, new: &StyledScreen, row: usize, cols: usize) -> bool
+/// Whether two screens of one width show the same in the first `cols` columns of a row.
+pub fn is_same_in_row(old: &StyledScreen, new: &StyledScreen, row: usize, cols: usize) -> bool
     requires width { old.now.width ≡ new.now.width }
     requires cols { cols ≤ new.now.width }
     ensures { result ≡ is_none (least_from (differ_in (screen_cells old.now row) (screen_cells new.now row)) 0 cols) }

@@ -9,6 +9,6 @@ mod hand;
 pub mod laws;
 mod redrawer;
 
-pub use difference::{cell_at, is_printable};
+pub use difference::{cell_at, is_printable, is_same_in_row};
 pub use hand::Hand;
 pub use redrawer::send_changed;

@@ -11,7 +11,7 @@ use std::alloc::{AllocError, Global};
 use styled_screen::StyledScreen;
 use tw_ansi::Encoder;
 use tw_changed::laws::{attribute, colors};
-use tw_changed::{cell_at, is_printable, send_changed};
+use tw_changed::{is_printable, is_same_in_row, send_changed};
 use tw_surface::{Change, ColorAttribute, Position, is_plain_text};
 use tw_terminal::ScreenSize;
 
@@ -182,20 +182,6 @@ impl Shown {
     }
 }
 
-/// Whether a row of two screens shows the same.
-fn is_same_row(old: &StyledScreen, new: &StyledScreen, row: usize) -> bool
-    requires { old.now.width ≡ new.now.width }
-    ensures same { result ≡ true → (j : ℕ) → j < new.now.width → screen_cells old.now row j ≡ screen_cells new.now row j }
-    ensures found { ((j : ℕ) → j < new.now.width → screen_cells old.now row j ≡ screen_cells new.now row j) → result ≡ true }
-{
-    for col in 0..new.width() {
-        if cell_at(old, row, col) != cell_at(new, row, col) {
-            return false;
-        }
-    }
-    true
-}
-
 /// Whether the first rows of two screens show the same, and the cursor of the old one is after them.
 pub fn is_same_above(old: &StyledScreen, new: &StyledScreen, top: usize) -> bool
     requires { old.now.width ≡ new.now.width }
@@ -207,7 +193,7 @@ pub fn is_same_above(old: &StyledScreen, new: &StyledScreen, top: usize) -> bool
         return false;
     }
     for row in 0..top {
-        if !is_same_row(old, new, row) {
+        if !is_same_in_row(old, new, row, new.width()) {
             return false;
         }
     }
