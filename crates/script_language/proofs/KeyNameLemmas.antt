@@ -1,7 +1,10 @@
 -- Each key that has a name has one of those listed.
-use Rattle.std.proofs.Common.{◌≡◌, ℕ, Bool, true, false, cond, eqb, List, codes, Some, None, Contains, inl, inr, lit<, ap}
+use Rattle.std.proofs.Common.{◌≡◌, ◌≢◌, ℕ, Bool, true, false, cond, eqb, List, codes, Some, None, Contains, inl, inr, lit<, ap, sym, ◌∙◌, refl, All}
 use Rattle.std.specs.Prelude.{◌⊎◌}
+use Rattle.std.proofs.Math.Logic.{Ne-symm}
+use Rattle.std.proofs.lemmas.List.Elements.{All-contains, All-from_recursion}
 use Rattle.std.specs.Char.{IsScalar}
+use Rattle.std.specs.Cmp.Lexicographic.{other_text}
 use Rattle.tw_input.specs.Modifiers.{modifier_bits, none, shift, alt, ctrl}
 use Rattle.tw_input.specs.declared.key.KeyCode.{KeyCode}
 use Rattle.tw_input.specs.declared.key.KeyCode.TheVariants.{Char, Backspace, Tab, Enter, Escape, Delete, Home, End, LeftArrow, RightArrow, UpArrow, DownArrow, ApplicationLeftArrow, ApplicationRightArrow, ApplicationUpArrow, ApplicationDownArrow}
@@ -73,12 +76,59 @@ no_key line name word behind unknown no_character (utf8, (directive, is)) = by d
     unlisted (inr (c, scalar, in_list)) = no_character c scalar in_list
 
     by : (directive : Directive) → ¬ (IsLineOf line directive)
-    by (Cols n) is = let other = is.0 in cc
-    by (Prompt text) is = let other = is.0 in cc
-    by (Preview text) is = let other = is.0 in cc
-    by (History text) is = let other = is.0 in cc
-    by (Candidate range text) is = let other = is.0 in cc
-    by («Type» text) is = let other = is.0 in cc
-    by (Paste text) is = let other = is.0 in cc
+    by (Cols n) is = other_text _ _ refl (sym word ∙ is.0)
+    by (Prompt text) is = other_text _ _ refl (sym word ∙ is.0)
+    by (Preview text) is = other_text _ _ refl (sym word ∙ is.0)
+    by (History text) is = other_text _ _ refl (sym word ∙ is.0)
+    by (Candidate range text) is = other_text _ _ refl (sym word ∙ is.0)
+    by («Type» text) is = other_text _ _ refl (sym word ∙ is.0)
+    by (Paste text) is = other_text _ _ refl (sym word ∙ is.0)
     by (Key key) is = let named = is.2 in unlisted (key_listed key name is.1 (cc))
-    by Read is = let other = ap first_word is in cc
+    by Read is = other_text _ _ refl (sym word ∙ ap first_word is)
+
+-- a name with no letter of a modifier, other than each of a key's names, is none
+pub no_plain : (name : List ℕ)
+    → name ≢ codes "Enter" → name ≢ codes "Tab" → name ≢ codes "Backspace" → name ≢ codes "Delete" → name ≢ codes "Home"
+    → name ≢ codes "End" → name ≢ codes "Left" → name ≢ codes "Right" → name ≢ codes "Up" → name ≢ codes "Down"
+    → name ≢ codes "AppLeft" → name ≢ codes "AppRight" → name ≢ codes "AppUp" → name ≢ codes "AppDown" → name ≢ codes "Escape"
+    → (key : KeyCode) → ¬ (plain_name key ≡ Some name)
+no_plain name enter tab backspace delete home end left right up down app_left app_right app_up app_down escape = by
+  where
+    by : (key : KeyCode) → ¬ (plain_name key ≡ Some name)
+    by Enter is = enter (cc)
+    by Tab is = tab (cc)
+    by Backspace is = backspace (cc)
+    by Delete is = delete (cc)
+    by Home is = home (cc)
+    by End is = end (cc)
+    by LeftArrow is = left (cc)
+    by RightArrow is = right (cc)
+    by UpArrow is = up (cc)
+    by DownArrow is = down (cc)
+    by ApplicationLeftArrow is = app_left (cc)
+    by ApplicationRightArrow is = app_right (cc)
+    by ApplicationUpArrow is = app_up (cc)
+    by ApplicationDownArrow is = app_down (cc)
+    by Escape is = escape (cc)
+    by _ is = cc
+
+infixr 10 ◌and◌
+◌and◌ : {A B : Type 0} → A → B → A × B
+a and b = (a, b)
+
+-- a name that is neither that of a key with no modifier nor of an arrow with ALT is not listed
+pub no_listed : (name : List ℕ) → ((key : KeyCode) → ¬ (plain_name key ≡ Some name))
+    → name ≢ codes "A-Left" → name ≢ codes "A-Right" → name ≢ codes "A-AppLeft" → name ≢ codes "A-AppRight"
+    → ¬ (Contains key_names name)
+no_listed name plain left right app_left app_right listed = All-contains (λ known. known ≢ name) key_names name others listed refl
+  where
+    by : (key : KeyCode) (known : List ℕ) → plain_name key ≡ Some known → known ≢ name
+    by key known is same = plain key (is ∙ ap Some same)
+
+    others : All (λ known. known ≢ name) key_names
+    others = All-from_recursion (λ known. known ≢ name) key_names
+        (by Enter _ refl and by Tab _ refl and by Backspace _ refl and by Delete _ refl and by Home _ refl and by End _ refl
+        and by LeftArrow _ refl and by RightArrow _ refl and by UpArrow _ refl and by DownArrow _ refl
+        and by ApplicationLeftArrow _ refl and by ApplicationRightArrow _ refl
+        and by ApplicationUpArrow _ refl and by ApplicationDownArrow _ refl and by Escape _ refl
+        and Ne-symm left and Ne-symm right and Ne-symm app_left and Ne-symm app_right and tt)

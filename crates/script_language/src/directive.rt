@@ -1,6 +1,6 @@
 //! What the lines of a script ask for.
 
-ghost use Rattle.std.specs.Prelude.{◌≡◌, ℕ, IfSome, IsSome, IsUtf8};
+ghost use Rattle.std.specs.Prelude.{◌≡◌, ℕ, IfSome, IsSome, MatchOption, IsUtf8};
 ghost use Rattle.script_language.specs.Directives.{IsDirective, IsLineOf, IsRangeAndText, behind_word, first_word};
 
 use crate::keys::key_named;
@@ -38,7 +38,13 @@ pub fn parse_line(line: &[u8]) -> Option<Directive<'_>>
     ensures utf8 { IsSome result → IsUtf8 line.now }
     ensures found { IsDirective line.now → IsSome result }
 {
-    let line = std::str::from_utf8(line).ok()?;
+    parse_text(std::str::from_utf8(line).ok()?)
+}
+
+/// The directive on a line of text.
+fn parse_text(line: &str) -> Option<Directive<'_>>
+    ensures { MatchOption result (¬ (IsDirective line.now)) (IsLineOf line.now) }
+{
     let (word, text) = split_word(line);
     match word {
         "cols" => Some(Directive::Cols(parse_number(text)?)),

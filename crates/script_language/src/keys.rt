@@ -1,8 +1,8 @@
 //! The names of keys.
 
-ghost use Rattle.std.specs.Prelude.{◌≡◌, ℕ, Some, IfSome, IsSome, Contains};
+ghost use Rattle.std.specs.Prelude.{◌≡◌, ℕ, Some, IfSome, IsSome, MatchOption, Contains};
 ghost use Rattle.std.specs.Char.{IsScalar};
-ghost use Rattle.script_language.specs.KeyNames.{key_name, key_names, character_names, IsKey};
+ghost use Rattle.script_language.specs.KeyNames.{key_name, key_names, plain_name, character_names, IsKey};
 
 use tw_input::{KeyCode, KeyEvent, Modifiers};
 
@@ -13,29 +13,47 @@ pub fn key_named(name: &str) -> Option<KeyEvent>
     ensures known { Contains key_names name.now → IsSome result }
     ensures character { (c : ℕ) → IsScalar c → Contains (character_names c) name.now → IsSome result }
 {
-    let (key, modifiers) = match name {
-        "Enter" => (KeyCode::Enter, Modifiers::NONE),
-        "Tab" => (KeyCode::Tab, Modifiers::NONE),
-        "Backspace" => (KeyCode::Backspace, Modifiers::NONE),
-        "Delete" => (KeyCode::Delete, Modifiers::NONE),
-        "Home" => (KeyCode::Home, Modifiers::NONE),
-        "End" => (KeyCode::End, Modifiers::NONE),
-        "Left" => (KeyCode::LeftArrow, Modifiers::NONE),
-        "Right" => (KeyCode::RightArrow, Modifiers::NONE),
-        "Up" => (KeyCode::UpArrow, Modifiers::NONE),
-        "Down" => (KeyCode::DownArrow, Modifiers::NONE),
-        "AppLeft" => (KeyCode::ApplicationLeftArrow, Modifiers::NONE),
-        "AppRight" => (KeyCode::ApplicationRightArrow, Modifiers::NONE),
-        "AppUp" => (KeyCode::ApplicationUpArrow, Modifiers::NONE),
-        "AppDown" => (KeyCode::ApplicationDownArrow, Modifiers::NONE),
-        "Escape" => (KeyCode::Escape, Modifiers::NONE),
-        "A-Left" => (KeyCode::LeftArrow, Modifiers::ALT),
-        "A-Right" => (KeyCode::RightArrow, Modifiers::ALT),
-        "A-AppLeft" => (KeyCode::ApplicationLeftArrow, Modifiers::ALT),
-        "A-AppRight" => (KeyCode::ApplicationRightArrow, Modifiers::ALT),
+    if let Some(key) = plain_named(name) {
+        return Some(KeyEvent {
+            key,
+            modifiers: Modifiers::NONE,
+        });
+    }
+    let key = match name {
+        "A-Left" => KeyCode::LeftArrow,
+        "A-Right" => KeyCode::RightArrow,
+        "A-AppLeft" => KeyCode::ApplicationLeftArrow,
+        "A-AppRight" => KeyCode::ApplicationRightArrow,
         _ => return character_named(name),
     };
-    Some(KeyEvent { key, modifiers })
+    Some(KeyEvent {
+        key,
+        modifiers: Modifiers::ALT,
+    })
+}
+
+/// The key of a name such as `Enter`, with no modifier.
+fn plain_named(name: &str) -> Option<KeyCode>
+    ensures { MatchOption result ((key : KeyCode) → ¬ (plain_name key ≡ Some name.now)) (λ key. plain_name key ≡ Some name.now) }
+{
+    match name {
+        "Enter" => Some(KeyCode::Enter),
+        "Tab" => Some(KeyCode::Tab),
+        "Backspace" => Some(KeyCode::Backspace),
+        "Delete" => Some(KeyCode::Delete),
+        "Home" => Some(KeyCode::Home),
+        "End" => Some(KeyCode::End),
+        "Left" => Some(KeyCode::LeftArrow),
+        "Right" => Some(KeyCode::RightArrow),
+        "Up" => Some(KeyCode::UpArrow),
+        "Down" => Some(KeyCode::DownArrow),
+        "AppLeft" => Some(KeyCode::ApplicationLeftArrow),
+        "AppRight" => Some(KeyCode::ApplicationRightArrow),
+        "AppUp" => Some(KeyCode::ApplicationUpArrow),
+        "AppDown" => Some(KeyCode::ApplicationDownArrow),
+        "Escape" => Some(KeyCode::Escape),
+        _ => None,
+    }
 }
 
 /// The key of a name such as `C-x`: a letter for the modifier, a hyphen, and the character.
