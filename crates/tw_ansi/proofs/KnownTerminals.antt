@@ -1,5 +1,5 @@
 -- What changes leave of what is known of a terminal.
-use Rattle.std.proofs.Common.{◌≡◌, ◌+◌, ◌-◌, ℕ, Bool, true, false, ◌&&◌, not, cond, eqb, leb, List, [], ◌∷◌, ap, ◌∙◌, refl}
+use Rattle.std.proofs.Common.{◌≡◌, ◌+◌, ℕ, Bool, true, false, ◌&&◌, not, cond, eqb, leb, List, [], ◌∷◌, ap, ◌∙◌, refl}
 use Rattle.std.specs.Cmp.Lexicographic.{pointwise}
 use Rattle.std.specs.List.{list_all}
 use Rattle.unicode_segmentation.specs.Grapheme.{graphemes}
@@ -9,7 +9,7 @@ use Rattle.tw_surface.specs.ChangeView.{ChangeView, Batch, Attribute, AllAttribu
 use Rattle.tw_surface.specs.Characters.{is_plain, cr, lf}
 use Rattle.tw_surface.specs.Width.{cluster_width}
 use Rattle.tw_ansi.specs.declared.encode.Encoder.{Encoder}
-use Rattle.tw_ansi.specs.Encoding.{Sent, sent_feed, sent_beginning, sent_byte, sent_cluster, sent_plain, sent_clusters, sent_text, sent_clear, sent_change, sent_batch}
+use Rattle.tw_ansi.specs.Encoding.{Sent, sent_feed, sent_beginning, sent_byte, sent_cluster, sent_plain, sent_clusters, sent_text, sent_change, sent_batch}
 
 -- either of two that leave the same
 either : {K : Type 0} (known : Encoder → K) (t : Bool) (x y : Sent) (k : K) → known x.next ≡ k → known y.next ≡ k → known (cond t x y).next ≡ k

@@ -1,4 +1,4 @@
-use Rattle.std.proofs.Common.{◌≡◌, ◌∙◌, ◌+◌, ◌<◌, length, drop, get_or, ap, sym, subst, arith}
+use Rattle.std.proofs.Common.{◌≡◌, ◌∙◌, ◌+◌, ◌<◌, length, drop, get_or, ap, sym, subst, arith, rules}
 use Rattle.std.specs.Str.{IsCharBoundary}
 use Rattle.std.proofs.lemmas.Str.{IsCharBoundary-after_ascii}
 use Rattle.sql_language.specs.Statements.{end_len}
@@ -33,3 +33,6 @@ returns-clause-value c =
     let text = c.as_bytes-bytes.result.now in
     let end : c.loop-at.at ≡ length text = omega arith in
     sym (end-none c.loop-at.inside text c.loop-at.at end) ∙ c.loop-at.invariant ∙ ap (end_len c.args.before) c.as_bytes-bytes.ensures.value
+
+pub loop-at-init : goal.loop-at-init
+loop-at-init c = search rules

@@ -1,4 +1,5 @@
 use Rattle.std.proofs.Common.{◌≡◌, ◌∙◌, length, ap, subst, arith}
+use Rattle.std.proofs.lemmas.Grind.{common_steps}
 use Rattle.std.specs.Str.{IsCharBoundary}
 use Rattle.sql_language.specs.SqlWords.{name_start}
 use Rattle.sql_language.proofs.NameLemmas.{start-is, start-boundary}
@@ -17,3 +18,6 @@ returns-clause-boundary c =
     let end : c.loop-at.at ≡ length text = omega arith in
     subst (λ bytes. IsCharBoundary bytes c.loop-at.start) c.as_bytes-bytes.ensures.value
     (start-boundary text c.loop-at.start c.as_bytes-bytes.ensures.utf8 (omega (arith, c.loop-at.invariant.low)) c.loop-at.invariant.before)
+
+pub loop-at-preserved : goal.loop-at-preserved
+loop-at-preserved c = grind (arith, common_steps)

@@ -250,3 +250,6 @@ returns-clause-closed g c =
     holds_on_ok _ c.answer_of.result
     (closed_from state follows may_keep does (taken_over rules_of f) before after c.args.terminal.now set _ finished (search rules) (search rules)
     (closed_as_told state follows may_keep does rules_of overrides before after f painted waiting set fed finished opens c.in_ok-stop.ensures.ok refl along c.finish.ensures.closed))
+
+pub returns-clause-called : goal.returns-clause-called
+returns-clause-called g c = search rules

@@ -181,3 +181,6 @@ loop-turn-preserved g c =
           (ap answer_events c.in-Ok-Some.is ∙ ap (λ event. answer_events {E = TerminalFault} (Ok event)) c.in-Ok-Some.field-0-is) c.has_at_hand.ensures c.in_ok-feed-in-Ok-Some.ensures.fed;
       still_open = search rules;
     }
+
+pub returns-in-Err-clause-stopped : goal.returns-in-Err-clause-stopped
+returns-in-Err-clause-stopped g c = search rules

@@ -1,4 +1,5 @@
 use Rattle.std.proofs.Common.{◌≡◌, ◌≤◌, ◌+◌, length, length-take, take, vec_len, arith}
+use Rattle.std.proofs.lemmas.Grind.{common_steps}
 use Rattle.tw_device.proofs.ReadLemmas.{read_behind}
 use Rattle.tw_device.proofs.unread.read_more.Goals as goal
 
@@ -14,3 +15,6 @@ returns-in-Ok-clause-ok g c =
       came,
       c.in-Ok.ensures.bytes.0,
     )
+
+pub returns-in-Err-clause-err : goal.returns-in-Err-clause-err
+returns-in-Err-clause-err g c = grind (arith, common_steps)

@@ -1,4 +1,4 @@
-use Rattle.std.proofs.Common.{◌≡◌, ◌∙◌, refl, sym, ap, arith}
+use Rattle.std.proofs.Common.{◌≡◌, ◌∙◌, refl, sym, ap, arith, rules}
 use Rattle.tw_screens.specs.StyledCells.{styled}
 use Rattle.styled_screen.specs.StyledScreens.{styled_cell}
 use Rattle.ecma_terminal.proofs.TerminalSteps.{same_rule, becomes_redrawn, led_there}
@@ -51,3 +51,9 @@ returns-in-100-default c =
     rw c.in-100-default.is-0
     (same_rule _ _ _ _ c.lead_to-in-100-default.ensures
     (λ t s. led_there t _ _ _ _ (omega (arith, rows, c.rows-last_row.ensures.value, c.told_steps-steps.ensures, c.min-in-100-default.ensures)) (s.col ∙ sym c.cursor-row.ensures.col)))
+
+pub returns-in-74-eq0 : goal.returns-in-74-eq0
+returns-in-74-eq0 c = search rules
+
+pub returns-in-75-eq0 : goal.returns-in-75-eq0
+returns-in-75-eq0 c = search rules

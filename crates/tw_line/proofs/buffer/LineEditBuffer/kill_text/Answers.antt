@@ -1,4 +1,4 @@
-use Rattle.std.proofs.Common.{min, ap, ◌∙◌}
+use Rattle.std.proofs.Common.{min, ap, ◌∙◌, rules}
 use Rattle.tw_line.specs.Boundaries.{boundary_below}
 use Rattle.tw_line.specs.Cut.{cut_at}
 use Rattle.tw_line.specs.Movements.{destination}
@@ -16,3 +16,6 @@ returns c =
     ap (cut_at line) (c.boundary_below-boundary.ensures.value ∙ ap (boundary_below line) limit)
     ∙ without-is _ line c.self.inside.cursor c.destination-end.result c.destination-target.result left
     ∙ without_same _ _ _ _ _ _ end_is target_is c.self.view_is
+
+pub invariant_of-self : goal.invariant_of-self
+invariant_of-self c = search rules

@@ -1,4 +1,4 @@
-use Rattle.std.proofs.Common.{◌≡◌, length, ap, ◌∙◌, sym}
+use Rattle.std.proofs.Common.{◌≡◌, length, ap, ◌∙◌, sym, rules}
 use Rattle.std.proofs.lemmas.List.{with_items_is}
 use Rattle.tw_surface.specs.Pictures.{play_text}
 use Rattle.tw_surface.specs.Cells.{IsGrown, AreSoundCells}
@@ -40,3 +40,12 @@ returns-clause-played c =
     ap (λ cell. record { cell = cell; row = played.result.0; col = played.result.1 }) (far ∙ sym near)
     ∙ played.ensures.played
     ∙ rw (c.deref_mut.ensures.value, ← c.self.view_is) (ap (λ cell. play_text now.width c.args.text.now (record { cell = cell; row = now.row; col = now.col })) c.make_room.ensures.shown)
+
+pub returns-then-not-ends_in_range-clause-plain : goal.returns-then-not-ends_in_range-clause-plain
+returns-then-not-ends_in_range-clause-plain c = search rules
+
+pub returns-then-is_err-clause-plain : goal.returns-then-is_err-clause-plain
+returns-then-is_err-clause-plain c = search rules
+
+pub play_bytes-row-requires-clause-plain : goal.play_bytes-row-requires-clause-plain
+play_bytes-row-requires-clause-plain c = search rules

@@ -1,3 +1,5 @@
+use Rattle.std.proofs.Common.{arith}
+use Rattle.std.proofs.lemmas.Grind.{common_steps}
 use Rattle.tw_surface.proofs.CellClears.{cell_in-trimmed, sparse_take}
 use Rattle.tw_surface.proofs.screen.far.trim_cells.Goals as goal
 
@@ -6,3 +8,6 @@ returns-clause-shown c = rw c.truncate.ensures.items (cell_in-trimmed c.args.cel
 
 pub returns-clause-sparse : goal.returns-clause-sparse
 returns-clause-sparse c = rw c.truncate.ensures.items (sparse_take c.args.cells.now.items c.loop-end.end c.loop-end.invariant.in_range)
+
+pub returns-clause-ended : goal.returns-clause-ended
+returns-clause-ended c = grind (arith, common_steps)

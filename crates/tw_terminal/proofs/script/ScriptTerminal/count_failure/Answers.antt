@@ -1,0 +1,5 @@
+use Rattle.std.proofs.Common.{rules}
+use Rattle.tw_terminal.proofs.script.ScriptTerminal.count_failure.Goals as goal
+
+pub returns : goal.returns
+returns c = search rules
