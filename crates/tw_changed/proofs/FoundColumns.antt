@@ -6,7 +6,7 @@ use Rattle.tw_extremes.specs.Extremes.{least_from, greatest_below, NonePasses, I
 use Rattle.tw_extremes.proofs.ExtremesLemmas.{least_from-none, greatest_below-is, greatest_below-none}
 use Rattle.tw_surface.proofs.EqualityLemmas.{attributes_equal}
 use Rattle.tw_screens.specs.StyledCells.{StyledCell}
-use Rattle.tw_changed.specs.Differences.{is_same_cell, differ_in, is_used, end_of}
+use Rattle.tw_changed.specs.Differences.{is_same_cell, differ_in, first_changed, is_used, end_of}
 use Rattle.tw_changed.specs.Redrawings.{indexed}
 
 -- none is found, or the least one
@@ -29,6 +29,13 @@ least_cases p (suc count) from = elim (cases_Bool (p from)) [
       },
     )
   ]
+]
+
+-- where none is found, none passes
+none_passes : (p : ℕ → Bool) (count : ℕ) → is_none (least_from p 0 count) ≡ true → NonePasses p 0 count
+none_passes p count is = elim (least_cases p count 0) [
+  | inl none ↦ λ k low high. none.1 k low (omega (arith, high))
+  | inr found ↦ absurd (false≢true (sym (ap is_none found.1) ∙ is))
 ]
 
 -- none is found, or the greatest one
@@ -76,15 +83,11 @@ no_difference old new j same = ap not (told (old j) (new j) same)
 
 -- rows of w columns of which none differs are the same
 pub none_differs : (w : ℕ) (old new : ℕ → StyledCell) → is_none (least_from (differ_in old new) 0 w) ≡ true → (j : ℕ) → j < w → old j ≡ new j
-none_differs w old new is j left =
-    elim (least_cases (differ_in old new) w 0) [
-      | inl none ↦ same_where old new j (none.1 j (omega arith) (omega (arith, left)))
-      | inr found ↦ absurd (false≢true (sym (ap is_none found.1) ∙ is))
-    ]
+none_differs w old new is j left = same_where old new j (none_passes (differ_in old new) w is j (omega arith) left)
 
 -- and in rows that are the same none differs
-pub same_differ_nowhere : (w : ℕ) (old new : ℕ → StyledCell) → ((j : ℕ) → j < w → old j ≡ new j) → is_none (least_from (differ_in old new) 0 w) ≡ true
-same_differ_nowhere w old new same = ap is_none (least_from-none (differ_in old new) w 0 (λ k low high. no_difference old new k (same k (omega (arith, high)))))
+pub no_change : (w : ℕ) (old new : ℕ → StyledCell) → ((j : ℕ) → j < w → old j ≡ new j) → first_changed w old new ≡ None
+no_change w old new same = least_from-none (differ_in old new) w 0 (λ k low high. no_difference old new k (same k (omega (arith, high))))
 
 -- whether two screens differ in a cell, by its index
 pub by_index : (w row col : ℕ) (old new : ℕ → ℕ → StyledCell) → col < w → differ_in (indexed w old) (indexed w new) (row * w + col) ≡ differ_in (old row) (new row) col
@@ -111,12 +114,10 @@ module _ (w row cols : ℕ) (old new : ℕ → ℕ → StyledCell) (left : cols 
   -- none of their indices differs
   same_in_row : is_none (least_from (differ_in (old row) (new row)) 0 cols) ≡ true → NonePasses here (row * w) (row * w + cols)
   same_in_row is k low high =
-      elim (least_cases (differ_in (old row) (new row)) cols 0) [
-        | inl none ↦
-            (let at : k ≡ row * w + (k - row * w) = omega (arith, low) in
-            ap here at ∙ by_index w row (k - row * w) old new (omega (arith, high, left)) ∙ none.1 (k - row * w) (omega arith) (omega (arith, high)))
-        | inr found ↦ absurd (false≢true (sym (ap is_none found.1) ∙ is))
-      ]
+      let at : k ≡ row * w + (k - row * w) = omega (arith, low) in
+      ap here at
+      ∙ by_index w row (k - row * w) old new (omega (arith, high, left))
+      ∙ none_passes (differ_in (old row) (new row)) cols is (k - row * w) (omega arith) (omega (arith, high))
 
   -- or one does
   other_in_row : is_none (least_from (differ_in (old row) (new row)) 0 cols) ≡ false → (k : ℕ) × (k < row * w + cols) × (here k ≡ true)

@@ -11,7 +11,7 @@ use Rattle.tw_changed.specs.declared.hand.Hand.{Hand}
 use Rattle.tw_changed.specs.Differences.{is_same_cell, differ_in, first_changed, is_used, end_of, blank_cell, behind_index}
 use Rattle.tw_changed.specs.Redrawings.{Redrawing, at_ease, redraw_then, led_to, under, row_redrawn, rows_redrawn, handed_to, rest_of, rest_emptied, left_of, lowest_reached, sunk_to, lowered, rows_drawn_on, hand_index, cells_redrawn, goes_onward, gone_onward}
 use Rattle.tw_changed.specs.Shortness.{NothingIsSentForNothing}
-use Rattle.tw_changed.proofs.FoundColumns.{no_difference}
+use Rattle.tw_changed.proofs.FoundColumns.{no_change}
 use Rattle.tw_changed.proofs.OnwardScreens.{going_on}
 
 -- ---- ends
@@ -57,9 +57,7 @@ not_lowered reached rows hand low = rw (le-leb rows reached low) refl
 -- ---- rows that do not differ
 
 pub row_stays : (w r : ℕ) (old new : ℕ → ℕ → StyledCell) (hand : Hand) → ((j : ℕ) → j < w → old r j ≡ new r j) → row_redrawn w old new r hand ≡ at_ease hand
-row_stays w r old new hand same =
-    let none : first_changed w (old r) (new r) ≡ None = least_from-none (differ_in (old r) (new r)) w 0 (λ k low high. no_difference (old r) (new r) k (same k (omega (arith, high)))) in
-    rw none refl
+row_stays w r old new hand same = rw (no_change w (old r) (new r) same) refl
 
 pub rows_stay : (w r n : ℕ) (old new : ℕ → ℕ → StyledCell) (hand : Hand) → ((i j : ℕ) → r ≤ i → i < r + n → j < w → old i j ≡ new i j) → rows_redrawn w old new r n hand ≡ at_ease hand
 rows_stay w r zero old new hand same = refl

@@ -3,7 +3,7 @@ use Rattle.std.proofs.lemmas.Bool.{cases_eq}
 use Rattle.tw_extremes.specs.Extremes.{least_from}
 use Rattle.tw_changed.specs.Differences.{differ_in}
 use Rattle.tw_changed.specs.Sending.{screen_cells}
-use Rattle.tw_changed.proofs.FoundColumns.{none_differs, same_differ_nowhere}
+use Rattle.tw_changed.proofs.FoundColumns.{none_differs, no_change}
 use Rattle.tw_sparing.proofs.shown.is_same_above.Goals as goal
 
 pub returns-then-not-is_same_in_row-clause-found : goal.returns-then-not-is_same_in_row-clause-found
@@ -12,7 +12,7 @@ returns-then-not-is_same_in_row-clause-found c keeps =
     let old = screen_cells c.args.old.now row in
     let new = screen_cells c.args.new.now row in
     let is = subst (λ w. c.is_same_in_row.result ≡ is_none (least_from (differ_in old new) 0 w)) c.width.ensures.value c.is_same_in_row.ensures in
-    sym c.if-not-is_same_in_row.true ∙ is ∙ same_differ_nowhere c.args.new.now.width old new (λ j left. keeps.cell row j c.loop-row-test.true left)
+    sym c.if-not-is_same_in_row.true ∙ is ∙ ap is_none (no_change c.args.new.now.width old new (λ j left. keeps.cell row j c.loop-row-test.true left))
 
 pub loop-row-preserved : goal.loop-row-preserved
 loop-row-preserved c i j low left =
