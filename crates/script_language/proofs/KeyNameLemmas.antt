@@ -12,7 +12,8 @@ use Rattle.tw_input.specs.declared.key.KeyEvent.{KeyEvent}
 use Rattle.script_language.specs.Directives.{IsDirective, IsLineOf, first_word, behind_word}
 use Rattle.script_language.specs.KeyNames.{IsKey, IsKeyCode, key_name, key_names, character_name, character_names, plain_name, alt_name}
 use Rattle.script_language.specs.declared.directive.Directive.{Directive}
-use Rattle.script_language.specs.declared.directive.Directive.TheVariants.{Cols, Prompt, Preview, History, Candidate, «Type», Paste, Key, Read}
+use Rattle.script_language.specs.declared.directive.Directive.TheVariants.{Key}
+use Rattle.script_language.proofs.DirectiveLemmas.{begins_with, word_of}
 
 -- a name of the list, or of a character's key
 abbrev IsListed : List ℕ → Type 0
@@ -69,22 +70,15 @@ key_listed key name k e =
 -- a line of the word `key` with any other name is no directive
 pub no_key : (line name : List ℕ) → first_word line ≡ codes "key" → behind_word line ≡ name → ¬ (Contains key_names name)
     → ((c : ℕ) → IsScalar c → ¬ (Contains (character_names c) name)) → ¬ (IsDirective line)
-no_key line name word behind unknown no_character (utf8, (directive, is)) = by directive is
+no_key line name word behind unknown no_character (utf8, (directive, is)) = by directive is (sym word ∙ begins_with line directive is)
   where
     unlisted : ¬ (IsListed name)
     unlisted (inl in_list) = unknown in_list
     unlisted (inr (c, scalar, in_list)) = no_character c scalar in_list
 
-    by : (directive : Directive) → ¬ (IsLineOf line directive)
-    by (Cols n) is = other_text _ _ refl (sym word ∙ is.0)
-    by (Prompt text) is = other_text _ _ refl (sym word ∙ is.0)
-    by (Preview text) is = other_text _ _ refl (sym word ∙ is.0)
-    by (History text) is = other_text _ _ refl (sym word ∙ is.0)
-    by (Candidate range text) is = other_text _ _ refl (sym word ∙ is.0)
-    by («Type» text) is = other_text _ _ refl (sym word ∙ is.0)
-    by (Paste text) is = other_text _ _ refl (sym word ∙ is.0)
-    by (Key key) is = let named = is.2 in unlisted (key_listed key name is.1 (cc))
-    by Read is = other_text _ _ refl (sym word ∙ ap first_word is)
+    by : (directive : Directive) → IsLineOf line directive → codes "key" ≡ word_of directive → ⊥
+    by (Key key) is same = let named = is.2 in unlisted (key_listed key name is.1 (cc))
+    by _ is same = other_text _ _ refl same
 
 -- a name with no letter of a modifier, other than each of a key's names, is none
 pub no_plain : (name : List ℕ)
