@@ -1,20 +1,12 @@
 //! What is shown, previewed and completed.
 
+use crate::words::words;
 use sql_host::{SqlStyles, complete_sql, preview_sql, show_sql};
 use sql_language::{Catalog, SqlTable};
 use std::alloc::{AllocError, Global};
 use std::test::Fail;
 use tw_host::OutputElement;
 use tw_surface::{CellAttributes, ColorAttribute};
-
-/// The words of a text, which spaces part.
-fn words(alloc: Global, text: &str) -> Result<Vec<String>, AllocError> {
-    let mut words = Vec::new(alloc);
-    for word in text.split(' ') {
-        words.push(String::from_str(alloc, word)?)?;
-    }
-    Ok(words)
-}
 
 /// A colour of the palette.
 fn coloured(index: u8) -> CellAttributes {
@@ -50,7 +42,7 @@ fn parts_are_shown_in_their_styles(rt: HostRuntime) -> Result<(), Fail> {
         number: coloured(3),
         comment: coloured(4),
     };
-    let keywords = words(alloc, "SELECT FROM")?;
+    let keywords = words(alloc, "SELECT,FROM")?;
     let line = "select 'it''s', \"from\", x1 From t -- 7";
     let elements = show_sql(alloc, styles, keywords.as_slice(), line)?;
     let shown = marked(alloc, elements.as_slice())?;
@@ -64,10 +56,10 @@ fn catalog(alloc: Global) -> Result<Catalog, AllocError> {
     let mut tables = Vec::new(alloc);
     tables.push(SqlTable {
         name: String::from_str(alloc, "people")?,
-        columns: words(alloc, "id name height")?,
+        columns: words(alloc, "id,name,height")?,
     })?;
     Ok(Catalog {
-        names: words(alloc, "height id name people")?,
+        names: words(alloc, "height,id,name,people")?,
         tables,
     })
 }
@@ -75,7 +67,7 @@ fn catalog(alloc: Global) -> Result<Catalog, AllocError> {
 #[test]
 fn words_are_completed_in_either_case(rt: HostRuntime) -> Result<(), Fail> {
     let alloc = rt.alloc();
-    let keywords = words(alloc, "NULL SELECT")?;
+    let keywords = words(alloc, "NULL,SELECT")?;
     let catalog = catalog(alloc)?;
     for (begun, line, completed) in [
         ("", "select NA", "7name "),

@@ -1,5 +1,6 @@
 //! Tokens, names, statements and completions.
 
+use crate::words::words;
 use sql_language::{
     Catalog, Inside, SqlTable, TokenKind, bare_tokens, completing_texts, first_token, inside_after,
     is_named, is_unclosed, last_table, open_brackets, statement_len, table_row, written_name,
@@ -81,15 +82,6 @@ fn names_in_statements(rt: HostRuntime) -> Result<(), Fail> {
         assert!(rt; is_named(tokens.as_slice(), name) == there, "{text:?}");
     }
     Ok(())
-}
-
-/// The words of a text, which commas part.
-fn words(alloc: Global, text: &str) -> Result<Vec<String>, AllocError> {
-    let mut words = Vec::new(alloc);
-    for word in text.split(',') {
-        words.push(String::from_str(alloc, word)?)?;
-    }
-    Ok(words)
 }
 
 /// The keywords of the tests.

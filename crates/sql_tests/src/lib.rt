@@ -7,3 +7,5 @@ mod host;
 mod language;
 #[cfg(test)]
 mod results;
+#[cfg(test)]
+mod words;
