@@ -82,17 +82,7 @@ fn with_change(attributes: CellAttributes, change: AttributeChange) -> CellAttri
     ensures { result ≡ with_attribute change attributes }
 {
     let mut changed = attributes;
-    match change {
-        AttributeChange::Intensity(to) => changed.intensity = to,
-        AttributeChange::Underline(to) => changed.underline = to,
-        AttributeChange::Italic(to) => changed.italic = to,
-        AttributeChange::Blink(to) => changed.blink = to,
-        AttributeChange::Reverse(to) => changed.reverse = to,
-        AttributeChange::StrikeThrough(to) => changed.strikethrough = to,
-        AttributeChange::Invisible(to) => changed.invisible = to,
-        AttributeChange::Foreground(to) => changed.foreground = to,
-        AttributeChange::Background(to) => changed.background = to,
-    }
+    changed.apply_change(&change);
     changed
 }
 

@@ -9,7 +9,7 @@ ghost use Rattle.tw_screens.specs.Pens.{change_strokes, char_stroke, kept_after,
 ghost use Rattle.tw_screens.specs.StyledCells.{styled};
 ghost use Rattle.styled_screen.specs.StyledScreens.{AreDrawn, IsRefusedAt, IsSameBut, IsSure, WritesBeginning, blank_styled, paper_cell, styled_cell, without_rows};
 
-use crate::cell::{ScreenCell, with_change};
+use crate::cell::ScreenCell;
 use std::alloc::{AllocError, Global};
 use std::marker::Model;
 use tw_surface::{CellAttributes, Change, ColorAttribute, Position, ScreenFault, SizeFault};
@@ -138,7 +138,7 @@ impl StyledScreen {
     {
         match change {
             Change::Attribute(change) => {
-                self.kept = with_change(self.kept, *change);
+                self.kept.apply_change(change);
                 Ok(())
             }
             Change::AllAttributes(attributes) => {

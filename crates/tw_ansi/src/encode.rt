@@ -16,9 +16,7 @@ use crate::sequence::{
     send_attributes,
 };
 use std::alloc::AllocError;
-use tw_surface::{
-    AttributeChange, Blink, CellAttributes, Change, ColorAttribute, Intensity, Position, Underline,
-};
+use tw_surface::{AttributeChange, CellAttributes, Change, ColorAttribute, Position};
 use unicode_segmentation::UnicodeSegmentation;
 use unicode_width::UnicodeWidthStr;
 
@@ -46,17 +44,7 @@ impl Encoder {
             cols,
             x: 0,
             parted: false,
-            attributes: CellAttributes {
-                intensity: Intensity::Normal,
-                underline: Underline::None,
-                blink: Blink::None,
-                italic: false,
-                reverse: false,
-                strikethrough: false,
-                invisible: false,
-                foreground: ColorAttribute::Default,
-                background: ColorAttribute::Default,
-            },
+            attributes: CellAttributes::default(),
         }
     }
 
@@ -146,17 +134,7 @@ impl Encoder {
         ensures next { self.new ≡ record self.old { attributes = with_attribute change self.old.attributes } }
         ensures err { OnErr result (ExtendsBytes (string_bytes out.old) (string_bytes out.new)) }
     {
-        match change {
-            AttributeChange::Intensity(to) => self.attributes.intensity = to,
-            AttributeChange::Underline(to) => self.attributes.underline = to,
-            AttributeChange::Italic(to) => self.attributes.italic = to,
-            AttributeChange::Blink(to) => self.attributes.blink = to,
-            AttributeChange::Reverse(to) => self.attributes.reverse = to,
-            AttributeChange::StrikeThrough(to) => self.attributes.strikethrough = to,
-            AttributeChange::Invisible(to) => self.attributes.invisible = to,
-            AttributeChange::Foreground(to) => self.attributes.foreground = to,
-            AttributeChange::Background(to) => self.attributes.background = to,
-        }
+        self.attributes.apply_change(&change);
         send_attribute(change, out)
     }
 

@@ -3,6 +3,7 @@
 ghost use Rattle.std.specs.Prelude.{◌≡◌, ◌*◌, ◌≤◌, length, true};
 ghost use Rattle.std.specs.List.{sum_by};
 ghost use Rattle.unicode_segmentation.specs.Grapheme.{graphemes};
+ghost use Rattle.tw_surface.specs.Attributes.{with_attribute};
 ghost use Rattle.tw_surface.specs.Width.{cluster_width, column_width};
 
 use crate::characters::is_printable_text;
@@ -82,6 +83,25 @@ pub struct CellAttributes {
     pub invisible: bool,
     pub foreground: ColorAttribute,
     pub background: ColorAttribute,
+}
+
+impl CellAttributes {
+    /// Sets one attribute, and leaves the others as they are.
+    pub fn apply_change(&mut self, change: &AttributeChange)
+        ensures { self.new ≡ with_attribute change.now self.old }
+    {
+        match *change {
+            AttributeChange::Intensity(to) => self.intensity = to,
+            AttributeChange::Underline(to) => self.underline = to,
+            AttributeChange::Italic(to) => self.italic = to,
+            AttributeChange::Blink(to) => self.blink = to,
+            AttributeChange::Reverse(to) => self.reverse = to,
+            AttributeChange::StrikeThrough(to) => self.strikethrough = to,
+            AttributeChange::Invisible(to) => self.invisible = to,
+            AttributeChange::Foreground(to) => self.foreground = to,
+            AttributeChange::Background(to) => self.background = to,
+        }
+    }
 }
 
 impl Default for CellAttributes {
