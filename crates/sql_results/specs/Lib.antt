@@ -1,1 +1,2 @@
 pub mod Comma
+pub mod Cells

@@ -1,5 +1,8 @@
 //! What a cell shows.
 
+ghost use Rattle.std.specs.Prelude.{◌≡◌, IfOk, string_bytes};
+ghost use Rattle.sql_results.specs.Cells.{is_number, pictured, shown, visible};
+
 use std::alloc::{AllocError, Global};
 
 /// A value of a row.
@@ -23,7 +26,9 @@ pub struct Results {
 }
 
 /// What stands for a character: a picture for a control character, which would move the cursor.
-fn pictured(character: char) -> char {
+fn pictured(character: char) -> char
+    ensures { result ≡ pictured character }
+{
     let code = character as u32;
     if code < 32 {
         return char::from_u32(0x2400 + code).unwrap_or('?');
@@ -36,7 +41,9 @@ fn pictured(character: char) -> char {
 }
 
 /// A text with a picture for each control character.
-pub fn visible(alloc: Global, text: &str) -> Result<String, AllocError> {
+pub fn visible(alloc: Global, text: &str) -> Result<String, AllocError>
+    ensures { IfOk result (λ shown. string_bytes shown ≡ visible text.now) }
+{
     let mut shown = String::new(alloc);
     for character in text.chars() {
         shown.push(pictured(character))?;
@@ -46,7 +53,9 @@ pub fn visible(alloc: Global, text: &str) -> Result<String, AllocError> {
 
 impl Cell {
     /// What a table shows of the cell. No value is `NULL`, and an empty text is empty.
-    pub fn shown(&self, alloc: Global) -> Result<String, AllocError> {
+    pub fn shown(&self, alloc: Global) -> Result<String, AllocError>
+        ensures { IfOk result (λ text. string_bytes text ≡ shown self.now) }
+    {
         match self {
             Cell::Null => String::from_str(alloc, "NULL"),
             Cell::Number(text) | Cell::Text(text) => visible(alloc, text.as_str()),
@@ -54,7 +63,9 @@ impl Cell {
     }
 
     /// Whether it is a number, which stands at the right of its column.
-    pub fn is_number(&self) -> bool {
+    pub fn is_number(&self) -> bool
+        ensures { result ≡ is_number self.now }
+    {
         match self {
             Cell::Number(_) => true,
             _ => false,

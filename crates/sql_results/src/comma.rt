@@ -1,8 +1,8 @@
 //! Results as CSV.
 
-ghost use Rattle.std.specs.Prelude.{◌≡◌};
+ghost use Rattle.std.specs.Prelude.{◌≡◌, ◌++◌, IfOk, OnOk, string_bytes};
 ghost use Rattle.std.specs.List.{list_any};
-ghost use Rattle.sql_results.specs.Comma.{is_special, needs_quotes};
+ghost use Rattle.sql_results.specs.Comma.{cell_field, csv_line, csv_text, is_special, needs_quotes, quoted_field, text_field};
 
 use crate::cells::{Cell, Results};
 use std::alloc::{AllocError, Global};
@@ -29,19 +29,24 @@ pub fn needs_quotes(text: &str) -> bool
 }
 
 /// Adds a text in quotes, each quote in it doubled.
-fn push_quoted(out: &mut String, text: &str) -> Result<(), AllocError> {
+fn push_quoted(out: &mut String, text: &str) -> Result<(), AllocError>
+    ensures { OnOk result (string_bytes out.new ≡ string_bytes out.old ++ quoted_field text.now) }
+{
     out.push('"')?;
     for character in text.chars() {
         if character == '"' {
-            out.push('"')?;
+            out.push_str("\"\"")?;
+        } else {
+            out.push(character)?;
         }
-        out.push(character)?;
     }
     out.push('"')
 }
 
 /// Adds a text as a field.
-fn push_field(out: &mut String, text: &str) -> Result<(), AllocError> {
+fn push_field(out: &mut String, text: &str) -> Result<(), AllocError>
+    ensures { OnOk result (string_bytes out.new ≡ string_bytes out.old ++ text_field text.now) }
+{
     if needs_quotes(text) {
         push_quoted(out, text)
     } else {
@@ -50,7 +55,9 @@ fn push_field(out: &mut String, text: &str) -> Result<(), AllocError> {
 }
 
 /// Adds a cell as a field. No value is an empty field without quotes.
-fn push_cell(out: &mut String, cell: &Cell) -> Result<(), AllocError> {
+fn push_cell(out: &mut String, cell: &Cell) -> Result<(), AllocError>
+    ensures { OnOk result (string_bytes out.new ≡ string_bytes out.old ++ cell_field cell.now) }
+{
     match cell {
         Cell::Null => Ok(()),
         Cell::Number(text) | Cell::Text(text) => push_field(out, text.as_str()),
@@ -58,7 +65,9 @@ fn push_cell(out: &mut String, cell: &Cell) -> Result<(), AllocError> {
 }
 
 /// Adds the line of the names.
-fn push_names(out: &mut String, names: &[String]) -> Result<(), AllocError> {
+fn push_names(out: &mut String, names: &[String]) -> Result<(), AllocError>
+    ensures { OnOk result (string_bytes out.new ≡ string_bytes out.old ++ csv_line (λ name. text_field (string_bytes name)) names.now) }
+{
     let mut is_first = true;
     for name in names {
         if !is_first {
@@ -71,7 +80,9 @@ fn push_names(out: &mut String, names: &[String]) -> Result<(), AllocError> {
 }
 
 /// Adds the line of a row.
-fn push_row(out: &mut String, row: &[Cell]) -> Result<(), AllocError> {
+fn push_row(out: &mut String, row: &[Cell]) -> Result<(), AllocError>
+    ensures { OnOk result (string_bytes out.new ≡ string_bytes out.old ++ csv_line cell_field row.now) }
+{
     let mut is_first = true;
     for cell in row {
         if !is_first {
@@ -84,7 +95,9 @@ fn push_row(out: &mut String, row: &[Cell]) -> Result<(), AllocError> {
 }
 
 /// The results as CSV: the names, then the rows, each on a line.
-pub fn csv_text(alloc: Global, results: &Results) -> Result<String, AllocError> {
+pub fn csv_text(alloc: Global, results: &Results) -> Result<String, AllocError>
+    ensures { IfOk result (λ text. string_bytes text ≡ csv_text results.now) }
+{
     let mut out = String::new(alloc);
     push_names(&mut out, results.names.as_slice())?;
     for row in &results.rows {
