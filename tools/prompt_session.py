@@ -50,7 +50,7 @@ class Session:
         try:
             os.close(self.master)
             os.login_tty(self.slave) if hasattr(os, "login_tty") else self.login()
-            os.environ["TMPDIR"] = self.room.name
+            os.environ.update(TMPDIR=self.room.name, TERM="xterm")
             for number in range(1, signal.NSIG):
                 if number not in (signal.SIGKILL, signal.SIGSTOP) and not 32 <= number < 35:
                     signal.signal(number, signal.SIG_DFL)

@@ -1,11 +1,13 @@
 """What people do at sql_prompt's terminal, for tools/prompt_checks."""
 import os
 import re
+import shutil
 import signal
 import sqlite3
+import subprocess
 import tempfile
 
-from prompt_session import ROOT, Session, want
+from prompt_session import LIMIT, ROOT, Session, want
 
 START = f"{ROOT}/tools/at_terminal"
 PROGRAM = f"{ROOT}/crates/sql_prompt/out/sql_prompt"
@@ -268,10 +270,71 @@ def sql_no_database(path):
         want(path.encode() in session.shown, f"it says {session.shown}")
 
 
+def play(path, script, *options, folder=None):
+    """Plays a script on a file. Returns how it ended."""
+    return subprocess.run([PROGRAM, *options, path], input=script.encode(), capture_output=True, timeout=LIMIT, check=False, cwd=folder)
+
+
+@with_file
+def sql_file_alone_has_all(path):
+    copy = f"{path}.copy"
+    for end in (".quit", "", "selct;"):
+        ran = play(path, f"create table if not exists t (a); insert into t values (1);\n{end}")
+        want(ran.returncode == (end == "selct;"), f"the status is {ran.returncode}")
+        shutil.copyfile(path, copy)
+    want(rows_of(copy, "SELECT a FROM t") == [(1,)] * 3, "a copy of the file lacks rows")
+    with Database(path) as session:
+        session.ask(b"insert into t values (2);\rselect count(*) as n from t;\r", b"4\r\n(1 row)\r\n")
+        session.quit()
+    shutil.copyfile(path, copy)
+    want(len(rows_of(copy, "SELECT a FROM t")) == 4, "a copy lacks what was typed")
+
+
+@with_file
+def sql_dump_with_triggers(path):
+    other = sqlite3.connect(":memory:")
+    other.executescript("""create table t (a integer primary key, b text); create table log (c);
+        insert into t (b) values ('x; end;'), ('y');
+        create trigger seen after insert on t begin insert into log values (new.a); delete from log where c < 0; end;
+        create temp trigger passing before delete on t begin select raise(abort, 'no'); end;
+        create view v as select a from t;""")
+    dump = "".join(f"{line}\n" for line in other.iterdump()).replace("COMMIT;", "insert into log values (7);\nCOMMIT;")
+    other.close()
+    ran = play(path, dump)
+    lines = ran.stderr.decode().splitlines()
+    want(ran.returncode == 1 and len(lines) == 1, f"status {ran.returncode}, errors {lines}")
+    want("triggers are not supported: CREATE TRIGGER seen" in lines[0], f"it says {lines}")
+    want(rows_of(path, "SELECT a, b FROM t") == [(1, "x; end;"), (2, "y")], "the rows differ")
+    want(rows_of(path, "SELECT c FROM log") == [(7,)], "a statement of a trigger was run")
+
+
+@with_file
+def sql_errors_of_scripts(path):
+    script = "create table t (a);\n\ninsert into u\n  values (1); select 2 as two;\n.nonsense\nselect 3 as last"
+    ran = play(path, script)
+    want(ran.returncode == 1, f"the status is {ran.returncode}")
+    want(ran.stdout == b"two\n---\n  2\n(1 row)\nlast\n----\n   3\n(1 row)\n", f"it wrote {ran.stdout}")
+    lines = ran.stderr.decode().splitlines()
+    want(len(lines) == 2 and lines[0].startswith("line 3: ") and lines[0].endswith(": insert into u values (1);"), f"errors: {lines}")
+    want(lines[1].startswith("line 5: ") and lines[1].endswith(": .nonsense"), f"errors: {lines}")
+    with open(f"{path}.sql", "w", encoding="utf-8") as file:
+        file.write("select 1;\nselct;\n")
+    ran = play(path, f".read {path}.sql\n")
+    want(ran.stderr.decode().startswith(f"{path}.sql: line 2: "), f"it says {ran.stderr}")
+
+
+@with_file
+def sql_wrong_arguments(path):
+    for words in (["-nonsense", path], [path, "more"], [path, "-bails"], []):
+        ran = subprocess.run([PROGRAM, *words], stdin=subprocess.DEVNULL, capture_output=True, timeout=LIMIT, check=False)
+        want((ran.returncode, ran.stdout) == (2, b"") and b"usage" in ran.stderr, f"{words}: status {ran.returncode}")
+    want(not os.path.exists(path), "the file was made")
+
+
 SQL_CHECKS = [
     sql_of_several_lines, sql_quotes_over_lines, sql_names_are_completed,
     sql_columns_of_the_tables_that_are_named, sql_columns_stand_under_the_line, sql_names_stand_in_a_menu,
     sql_hint_is_taken, sql_history_is_kept, sql_history_that_is_not_written, sql_error_is_edited,
     sql_statement_is_abandoned, sql_size_within_a_line, sql_end_of_input, sql_controls_are_pictures, sql_signal,
-    sql_no_database,
+    sql_no_database, sql_file_alone_has_all, sql_dump_with_triggers, sql_errors_of_scripts, sql_wrong_arguments,
 ]

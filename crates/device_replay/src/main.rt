@@ -23,20 +23,26 @@ use crate::replay::replay;
 use crate::trial::Trial;
 use fresh_table::RandomNumbers;
 use std::alloc::Global;
+use std::env;
 use std::time::Instant;
 
 const SEED: u64 = 20_251_125;
 
-/// How many trials are played, in parts that are told one after the other.
+/// The number of parts, if no argument gives another one.
 const PARTS: usize = 10;
 
+/// The trials of a part.
 const TRIALS: usize = 400;
 
 fn main(rt: HostRuntime) -> Result<(), anyhow::Error> {
     let start = Instant::now(&rt)?;
     let mut numbers = RandomNumbers::new(SEED);
+    let parts = match env::args(&rt)?.nth(1) {
+        Some(word) => word.as_str().parse()?,
+        None => PARTS,
+    };
     let mut all = Count::default();
-    for part in 1..=PARTS {
+    for part in 1..=parts {
         let count = play_part(&rt, &mut numbers)?;
         println!(rt; "part {part}: {count}")?;
         all.add(count);

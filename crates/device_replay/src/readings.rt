@@ -19,13 +19,13 @@ pub enum Ending {
     EndOfFile,
 }
 
-/// How a reading of a line ended that answered so.
-fn ended_by(answer: Result<Answer, Error>) -> Result<Ending, Error> {
+/// Returns how a reading ended. An end of the input that is not that of the bytes is a key's.
+fn ended_by(answer: Answer, is_at_end: bool) -> Ending {
     match answer {
-        Ok(Answer::Line(line) | Answer::End(line)) => Ok(Ending::Line(line)),
-        Ok(Answer::Cancelled) => Ok(Ending::Cancelled),
-        Err(Error::EndOfFile) => Ok(Ending::EndOfFile),
-        Err(other) => Err(other),
+        Answer::Line(line) => Ending::Line(line),
+        Answer::Cancelled => Ending::Cancelled,
+        Answer::End(line) if is_at_end => Ending::Line(line),
+        Answer::End(_) => Ending::EndOfFile,
     }
 }
 
@@ -41,10 +41,9 @@ pub fn read_bytes(
     let mut host = trial.host(alloc)?;
     let mut endings = Vec::new(alloc);
     for _ in 0..u64::MAX {
-        let answer = read_typed_line(alloc, &mut keys, &mut terminal, &mut host, trial.prompt);
-        let is_last = matches!(&answer, Ok(Answer::End(_)));
-        endings.push(ended_by(answer)?)?;
-        if is_last {
+        let answer = read_typed_line(alloc, &mut keys, &mut terminal, &mut host, trial.prompt)?;
+        endings.push(ended_by(answer, keys.is_at_end()))?;
+        if keys.is_at_end() {
             break;
         }
     }

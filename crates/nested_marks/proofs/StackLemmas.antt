@@ -1,11 +1,13 @@
 -- The open marks as a stack of pairs, the innermost one first.
-use Rattle.std.proofs.Common.{◌≡◌, ℕ, ◌+◌, ◌-◌, ◌==◌, ◌⊎◌, Bool, true, false, List, [], ◌∷◌, ◌++◌, length, map, Option, Some, None, refl, ap, sym, ◌∙◌, inl, inr, if◌then◌else◌, arith}
+use Rattle.std.proofs.Common.{◌≡◌, ℕ, ◌+◌, ◌-◌, ◌⊎◌, Bool, true, false, List, [], ◌∷◌, ◌++◌, length, map, Option, Some, None, refl, ap, sym, ◌∙◌, inl, inr, if◌then◌else◌, arith}
 use Rattle.std.specs.Prelude.{encode_utf8, slice_get, option_map, reverse}
 use Rattle.std.proofs.lemmas.List.{map-append, reverse-append, length-append, length-map, length-reverse, nil_from_length, take_at}
 use Rattle.std.specs.Str.{chars}
-use Rattle.nested_marks.specs.Marks.{is_closing, opened_pair}
-use Rattle.nested_marks.specs.Nesting.{NestingView, Open, Wrong, after_character, behind_opening, innermost, nesting_from, open_behind, without_innermost}
+use Rattle.nested_marks.specs.Marks.{closes, escape_pair, escapes, is_closing, opened_pair}
+use Rattle.nested_marks.specs.Nesting.{NestingView, Open, Wrong, after_character, after_text, behind_opening, innermost, nesting_from, open_behind, without_innermost}
 use Rattle.nested_marks.specs.NestingLaws.{IsWhole}
+use Rattle.nested_marks.specs.declared.marks.MarkKind.{MarkKind}
+use Rattle.nested_marks.specs.declared.marks.MarkKind.TheVariants.{Brackets, Quotation, Escape}
 use Rattle.nested_marks.specs.declared.marks.MarkPair.{MarkPair}
 use Rattle.nested_marks.specs.declared.marks.OpenMark.{OpenMark}
 use Rattle.nested_marks.proofs.NestingLemmas.{nesting-right, nesting-wrong}
@@ -57,21 +59,22 @@ opening-same opens at (Some pair) closing = ap Some (stack-last opens (record { 
 opening-same opens at None true = refl
 opening-same opens at None false = refl
 
--- what is read off one of three answers
-of-three : (closes quotes : Bool) (x y : List OpenMark) (z : Option (List OpenMark))
-    → option_map stack_of (if closes then Some x else if quotes then Some y else z) ≡ (if closes then Some (stack_of x) else if quotes then Some (stack_of y) else option_map stack_of z)
-of-three true quotes x y z = refl
-of-three false true x y z = refl
-of-three false false x y z = refl
+-- what is read off one of two answers
+of-two : (b : Bool) (x : List OpenMark) (z : Option (List OpenMark)) → option_map stack_of (if b then Some x else z) ≡ (if b then Some (stack_of x) else option_map stack_of z)
+of-two true x z = refl
+of-two false x z = refl
 
 module _ (pairs : List MarkPair) where
+  -- a stack after a character that does not close its innermost pair
+  abbrev pub text_on : MarkKind → List MarkPair → ℕ → Option (List MarkPair)
+  text_on Brackets stack c = opened_on stack (opened_pair pairs c) (is_closing pairs c)
+  text_on (Quotation escape) stack c = if escapes escape c then Some (escape_pair c ∷ stack) else Some stack
+  text_on Escape stack c = Some stack
+
   -- a stack after a character
   abbrev pub stack_step : List MarkPair → ℕ → Option (List MarkPair)
   stack_step [] c = opened_on [] (opened_pair pairs c) (is_closing pairs c)
-  stack_step (pair ∷ stack) c =
-      if pair.closing == c then Some stack
-      else if pair.is_quotation then Some (pair ∷ stack)
-      else opened_on (pair ∷ stack) (opened_pair pairs c) (is_closing pairs c)
+  stack_step (pair ∷ stack) c = if closes pair c then Some stack else text_on pair.kind (pair ∷ stack) c
 
   -- a stack after characters
   abbrev pub stack_run : List ℕ → List MarkPair → Option (List MarkPair)
@@ -84,7 +87,15 @@ module _ (pairs : List MarkPair) where
   pub run-wrong : (c : ℕ) (cs : List ℕ) (stack : List MarkPair) → stack_step stack c ≡ None → stack_run (c ∷ cs) stack ≡ None
   run-wrong c cs stack e = rw (stack_run, e) refl
 
-  -- a character does to marks what it does to their stack
+  -- a character that closes nothing does to marks what it does to their stack
+  text-same : (kind : MarkKind) (opens : List OpenMark) (at c : ℕ) → option_map stack_of (after_text pairs kind opens at c) ≡ text_on kind (stack_of opens) c
+  text-same Brackets opens at c = opening-same opens at (opened_pair pairs c) (is_closing pairs c)
+  text-same (Quotation escape) opens at c =
+      of-two (escapes escape c) (opens ++ record { pair = escape_pair c; at = at } ∷ []) (Some opens)
+      ∙ ap (λ stack. if escapes escape c then Some stack else Some (stack_of opens)) (stack-last opens (record { pair = escape_pair c; at = at }))
+  text-same Escape opens at c = refl
+
+  -- and so does each character
   step-same : (opens : List OpenMark) (at c : ℕ) → option_map stack_of (after_character pairs opens at c) ≡ stack_step (stack_of opens) c
   step-same opens at c = by (snoc opens)
     where
@@ -95,13 +106,13 @@ module _ (pairs : List MarkPair) where
       by (inl e) = ap on e ∙ opening-same [] at (opened_pair pairs c) (is_closing pairs c) ∙ sym (ap (λ marks. stack_step (stack_of marks) c) e)
       by (inr (front, last, e)) =
           let whole = front ++ last ∷ [] in
-          let other = opened_on (stack_of whole) (opened_pair pairs c) (is_closing pairs c) in
+          let kind = last.pair.kind in
           ap on e
           ∙ ap (λ inner. option_map stack_of (open_behind pairs inner whole at c)) (innermost-last front last)
-          ∙ of-three (last.pair.closing == c) last.pair.is_quotation (without_innermost whole) whole (behind_opening whole at (opened_pair pairs c) (is_closing pairs c))
-          ∙ ap (λ z. if last.pair.closing == c then Some (stack_of (without_innermost whole)) else if last.pair.is_quotation then Some (stack_of whole) else z) (opening-same whole at (opened_pair pairs c) (is_closing pairs c))
-          ∙ ap (λ marks. if last.pair.closing == c then Some (stack_of marks) else if last.pair.is_quotation then Some (stack_of whole) else other) (without-last front last)
-          ∙ ap (λ stack. if last.pair.closing == c then Some (stack_of front) else if last.pair.is_quotation then Some stack else opened_on stack (opened_pair pairs c) (is_closing pairs c)) (stack-last front last)
+          ∙ of-two (closes last.pair c) (without_innermost whole) (after_text pairs kind whole at c)
+          ∙ ap (λ z. if closes last.pair c then Some (stack_of (without_innermost whole)) else z) (text-same kind whole at c)
+          ∙ ap (λ marks. if closes last.pair c then Some (stack_of marks) else text_on kind (stack_of whole) c) (without-last front last)
+          ∙ ap (λ stack. if closes last.pair c then Some (stack_of front) else text_on kind stack c) (stack-last front last)
           ∙ sym (ap (λ stack. stack_step stack c) (stack-last front last))
           ∙ sym (ap (λ marks. stack_step (stack_of marks) c) e)
 

@@ -1,5 +1,7 @@
 -- The marks of a language.
 use Rattle.std.specs.Prelude.{ℕ, ◌==◌, Bool, true, false, List, [], ◌∷◌, Option, Some, None, if◌then◌else◌}
+use Rattle.nested_marks.specs.declared.marks.MarkKind.{MarkKind}
+use Rattle.nested_marks.specs.declared.marks.MarkKind.TheVariants.{Brackets, Quotation, Escape}
 use Rattle.nested_marks.specs.declared.marks.MarkPair.{MarkPair}
 
 -- the first pair that a character opens
@@ -12,13 +14,32 @@ abbrev pub is_closing : List MarkPair → ℕ → Bool
 is_closing [] c = false
 is_closing (pair ∷ pairs) c = if pair.closing == c then true else is_closing pairs c
 
+-- whether a character closes what stands between marks: any character closes an escape
+abbrev pub closes_kind : MarkKind → ℕ → ℕ → Bool
+closes_kind Escape closing c = true
+closes_kind Brackets closing c = closing == c
+closes_kind (Quotation escape) closing c = closing == c
+
+-- whether a character closes an open pair
+abbrev pub closes : MarkPair → ℕ → Bool
+closes pair c = closes_kind pair.kind pair.closing c
+
+-- whether a character is the escape character
+abbrev pub escapes : Option ℕ → ℕ → Bool
+escapes None c = false
+escapes (Some escape) c = escape == c
+
+-- the pair that an escape character opens
+abbrev pub escape_pair : ℕ → MarkPair
+escape_pair escape = record { opening = escape; closing = escape; kind = Escape }
+
 -- brackets
 abbrev pub brackets : ℕ → ℕ → MarkPair
-brackets opening closing = record { opening = opening; closing = closing; is_quotation = false }
+brackets opening closing = record { opening = opening; closing = closing; kind = Brackets }
 
--- a quotation between two marks of one kind
+-- a quotation between two equal marks, with \ as its escape character
 abbrev pub quotation : ℕ → MarkPair
-quotation mark = record { opening = mark; closing = mark; is_quotation = true }
+quotation mark = record { opening = mark; closing = mark; kind = Quotation (Some 92) }
 
 -- ( and ), [ and ], { and }, " and '
 abbrev pub common_pairs : List MarkPair

@@ -1,6 +1,8 @@
 -- What a text leaves open, or the first of its marks that is wrong.
-use Rattle.std.specs.Prelude.{ℕ, ◌==◌, ◌+◌, ◌-◌, Bool, true, false, List, [], ◌∷◌, ◌++◌, length, take, Option, Some, None, if◌then◌else◌, slice_get, encode_utf8, chars}
-use Rattle.nested_marks.specs.Marks.{is_closing, opened_pair}
+use Rattle.std.specs.Prelude.{ℕ, ◌+◌, ◌-◌, Bool, true, false, List, [], ◌∷◌, ◌++◌, length, take, Option, Some, None, if◌then◌else◌, slice_get, encode_utf8, chars}
+use Rattle.nested_marks.specs.Marks.{closes, escape_pair, escapes, is_closing, opened_pair}
+use Rattle.nested_marks.specs.declared.marks.MarkKind.{MarkKind}
+use Rattle.nested_marks.specs.declared.marks.MarkKind.TheVariants.{Brackets, Quotation, Escape}
 use Rattle.nested_marks.specs.declared.marks.MarkPair.{MarkPair}
 use Rattle.nested_marks.specs.declared.marks.OpenMark.{OpenMark}
 use Rattle.nested_marks.specs.declared.nesting.Nesting.{Nesting}
@@ -39,13 +41,17 @@ module _ (pairs : List MarkPair) where
   abbrev pub opens_behind : List OpenMark → ℕ → ℕ → Option (List OpenMark)
   opens_behind opens at c = behind_opening opens at (opened_pair pairs c) (is_closing pairs c)
 
-  -- a character closes the last open mark, or is text of its quotation
+  -- what a character does that does not close the last open mark: in a quotation only the escape character is a mark
+  abbrev pub after_text : MarkKind → List OpenMark → ℕ → ℕ → Option (List OpenMark)
+  after_text Brackets opens at c = opens_behind opens at c
+  after_text (Quotation escape) opens at c = if escapes escape c then Some (opens ++ record { pair = escape_pair c; at = at } ∷ []) else Some opens
+  after_text Escape opens at c = Some opens
+
+  -- a character closes the last open mark, or is text behind it
   abbrev pub open_behind : Option OpenMark → List OpenMark → ℕ → ℕ → Option (List OpenMark)
   open_behind None opens at c = opens_behind opens at c
   open_behind (Some last) opens at c =
-      if last.pair.closing == c then Some (without_innermost opens)
-      else if last.pair.is_quotation then Some opens
-      else opens_behind opens at c
+      if closes last.pair c then Some (without_innermost opens) else after_text last.pair.kind opens at c
 
   -- the open marks after one more character, or none where it is wrong
   abbrev pub after_character : List OpenMark → ℕ → ℕ → Option (List OpenMark)

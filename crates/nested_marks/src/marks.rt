@@ -1,9 +1,23 @@
-//! The marks of a language, and those that are open.
+//! The marks of a language.
 
 ghost use Rattle.std.specs.Prelude.{◌≡◌, IfOk};
-ghost use Rattle.nested_marks.specs.Marks.{brackets, common_pairs, is_closing, opened_pair, quotation};
+ghost use Rattle.nested_marks.specs.Marks.{brackets, closes, common_pairs, escape_pair, escapes, is_closing, opened_pair, quotation};
 
 use std::alloc::{AllocError, Global};
+
+/// What stands between two marks.
+#[derive(Clone, Copy, Debug, PartialEq, Eq)]
+pub enum MarkKind {
+    /// Text with marks of its own.
+    Brackets,
+    /// Text up to the closing mark. After the escape character, if there is one, any character is text.
+    Quotation {
+        /// The escape character.
+        escape: Option<char>,
+    },
+    /// One character, whichever it is: the mark is an escape character.
+    Escape,
+}
 
 /// Two marks that belong together: brackets, or the marks around a quotation.
 #[derive(Clone, Copy, Debug, PartialEq, Eq)]
@@ -12,20 +26,33 @@ pub struct MarkPair {
     pub opening: char,
     /// The mark that closes. It may be the same one.
     pub closing: char,
-    /// Whether what stands between them is a quotation: there every character is text, up to the mark that closes.
-    pub is_quotation: bool,
+    /// What stands between them.
+    pub kind: MarkKind,
 }
 
-/// A pair of marks of which the first one stands in a text, and where.
+impl MarkPair {
+    /// Returns true if a character closes the pair once it is open.
+    pub fn closes(&self, c: char) -> bool
+        ensures { result ≡ closes self.now c }
+    {
+        match self.kind {
+            MarkKind::Escape => true,
+            MarkKind::Brackets | MarkKind::Quotation { .. } => self.closing == c,
+        }
+    }
+}
+
+/// An opening mark in a text.
 #[derive(Clone, Copy, Debug, PartialEq, Eq)]
 pub struct OpenMark {
-    /// The pair.
+    /// Its pair.
     pub pair: MarkPair,
-    /// How many bytes stand before the mark.
+    /// The byte offset of the mark.
     pub at: usize,
 }
 
-/// The pairs of many languages: round, square and curly brackets, and quotations between single or double marks.
+/// Returns the pairs of many languages: round, square and curly brackets, and quotations in single or double marks with
+/// a backslash as their escape character.
 pub fn common_pairs(alloc: Global) -> Result<Vec<MarkPair>, AllocError>
     ensures { IfOk result (λ pairs. pairs.items ≡ common_pairs) }
 {
@@ -39,29 +66,50 @@ pub fn common_pairs(alloc: Global) -> Result<Vec<MarkPair>, AllocError>
     Ok(pairs)
 }
 
-/// A pair of brackets.
+/// Returns a pair of brackets.
 fn brackets(opening: char, closing: char) -> MarkPair
     ensures { result ≡ brackets opening closing }
 {
     MarkPair {
         opening,
         closing,
-        is_quotation: false,
+        kind: MarkKind::Brackets,
     }
 }
 
-/// A quotation between two marks of one kind.
+/// Returns a quotation between two marks of one kind, with a backslash as its escape character.
 fn quotation(mark: char) -> MarkPair
     ensures { result ≡ quotation mark }
 {
     MarkPair {
         opening: mark,
         closing: mark,
-        is_quotation: true,
+        kind: MarkKind::Quotation { escape: Some('\\') },
     }
 }
 
-/// The first pair that a character opens.
+/// Returns the pair that an escape character opens in a quotation.
+pub fn escape_pair(escape: char) -> MarkPair
+    ensures { result ≡ escape_pair escape }
+{
+    MarkPair {
+        opening: escape,
+        closing: escape,
+        kind: MarkKind::Escape,
+    }
+}
+
+/// Returns true if a character is the escape character.
+pub fn escapes(escape: Option<char>, c: char) -> bool
+    ensures { result ≡ escapes escape c }
+{
+    match escape {
+        Some(escape) => escape == c,
+        None => false,
+    }
+}
+
+/// Returns the first pair that a character opens.
 pub fn opened_pair(pairs: &[MarkPair], c: char) -> Option<MarkPair>
     ensures { result ≡ opened_pair pairs.now c }
 {
@@ -73,7 +121,7 @@ pub fn opened_pair(pairs: &[MarkPair], c: char) -> Option<MarkPair>
     None
 }
 
-/// Whether a character closes one of the pairs.
+/// Returns true if a character is the closing mark of one of the pairs.
 pub fn is_closing(pairs: &[MarkPair], c: char) -> bool
     ensures { result ≡ is_closing pairs.now c }
 {

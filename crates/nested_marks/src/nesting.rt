@@ -1,29 +1,29 @@
-//! What a text leaves open, or which of its marks is wrong.
+//! The marks that a text leaves open.
 
 ghost use Rattle.std.specs.Prelude.{◌≡◌, ◌+◌, ◌^◌, ◌<◌, IfOk, length, encode_utf8};
-ghost use Rattle.nested_marks.specs.Nesting.{after_character, innermost, nesting_of, nesting_view, opens_behind, where_right};
+ghost use Rattle.nested_marks.specs.Nesting.{after_character, after_text, innermost, nesting_of, nesting_view, opens_behind, where_right};
 
-use crate::marks::{MarkPair, OpenMark, is_closing, opened_pair};
+use crate::marks::{MarkKind, MarkPair, OpenMark, escape_pair, escapes, is_closing, opened_pair};
 use std::alloc::{AllocError, Global};
 
-/// What a text leaves open.
+/// The marks that a text leaves open, or its first wrong one.
 #[derive(Debug, Drop)]
 pub enum Nesting {
-    /// These marks are open at the end of the text, in the order in which they stand in it. Where there are none, each
-    /// bracket and each quotation is whole.
+    /// The marks that are open at the end of the text, the outermost first. If there are none the text is whole. An escape
+    /// character at the end is open too.
     Open(Vec<OpenMark>),
-    /// A mark closes what is not open: the first such mark, and how many bytes stand before it.
+    /// The first mark that closes what is not open, and its byte offset.
     Wrong(char, usize),
 }
 
-/// The last of the open marks.
+/// Returns the last of the open marks.
 fn innermost(opens: &[OpenMark]) -> Option<OpenMark>
     ensures { result ≡ innermost opens.now }
 {
     opens.last().copied()
 }
 
-/// Takes in a character outside of a quotation, which closes none of the open marks. Whether it is right.
+/// Takes in a character outside of quotations that does not close the innermost open mark. Returns false if it is wrong.
 fn take_opening(
     pairs: &[MarkPair],
     opens: &mut Vec<OpenMark>,
@@ -41,7 +41,32 @@ fn take_opening(
     }
 }
 
-/// Takes in one more character. Whether it is right.
+/// Takes in a character that does not close the innermost open mark. Returns false if it is wrong.
+fn take_text(
+    pairs: &[MarkPair],
+    opens: &mut Vec<OpenMark>,
+    kind: MarkKind,
+    at: usize,
+    c: char,
+) -> Result<bool, AllocError>
+    ensures { IfOk result (λ right. after_text pairs.now kind opens.old.items at c ≡ where_right right opens.new.items) }
+{
+    match kind {
+        MarkKind::Brackets => take_opening(pairs, opens, at, c),
+        MarkKind::Quotation { escape } => {
+            if escapes(escape, c) {
+                opens.push(OpenMark {
+                    pair: escape_pair(c),
+                    at,
+                })?;
+            }
+            Ok(true)
+        }
+        MarkKind::Escape => Ok(true),
+    }
+}
+
+/// Takes in one more character. Returns false if it is wrong.
 fn take_in(
     pairs: &[MarkPair],
     opens: &mut Vec<OpenMark>,
@@ -53,18 +78,15 @@ fn take_in(
     let Some(last) = innermost(opens.as_slice()) else {
         return take_opening(pairs, opens, at, c);
     };
-    if last.pair.closing == c {
+    if last.pair.closes(c) {
         opens.pop();
         return Ok(true);
     }
-    if last.pair.is_quotation {
-        return Ok(true);
-    }
-    take_opening(pairs, opens, at, c)
+    take_text(pairs, opens, last.pair.kind, at, c)
 }
 
-/// What a text leaves open by these pairs, or the first of its marks that is wrong. Of pairs that one mark opens the
-/// first one counts, and a mark that closes the innermost open one does nothing else.
+/// Returns the marks that a text leaves open, or its first wrong mark. If two pairs have one opening mark the first of
+/// them counts. A mark that closes the innermost open one does nothing else.
 pub fn nesting_in(alloc: Global, pairs: &[MarkPair], text: &str) -> Result<Nesting, AllocError>
     ensures { IfOk result (λ nesting. nesting_view nesting ≡ nesting_of pairs.now text.now) }
 {

@@ -3,7 +3,8 @@
 //! its state shows. The program plays trials at widths from 2 to 17, on a blank screen and on a full one,
 //! without a bottom row and with one, at heights from 1 to 30. After each batch it compares the screen with a
 //! table whose places are found by division alone; with a bottom row only while no painting has more rows. What
-//! it found goes to standard output, and the times to standard error.
+//! it found goes to standard output, and the times to standard error. With a number as its argument it plays only the first
+//! worked trials and widths, as many as it says.
 #![tactic(auto)]
 
 mod generator;
@@ -17,6 +18,7 @@ use crate::trial::Trial;
 use crate::worked::{WORKED, Worked};
 use fresh_table::Entry;
 use std::alloc::Global;
+use std::env;
 use std::ops::RangeInclusive;
 use std::time::Instant;
 
@@ -34,15 +36,19 @@ const SEED: u64 = 20_250_719;
 const TRIALS: usize = 250;
 
 fn main(rt: HostRuntime) -> Result<(), anyhow::Error> {
+    let most = match env::args(&rt)?.nth(1) {
+        Some(word) => word.as_str().parse()?,
+        None => usize::MAX,
+    };
     let mut all = Count::default();
     let start = Instant::now(&rt)?;
-    for worked in &WORKED {
+    for worked in WORKED.iter().take(most) {
         all.add(play_worked(&rt, worked)?);
     }
     let worked = start.elapsed(&rt)?;
     let start = Instant::now(&rt)?;
     let mut generator = Generator::new(SEED);
-    for width in FIRST_WIDTH..=LAST_WIDTH {
+    for width in (FIRST_WIDTH..=LAST_WIDTH).take(most.saturating_sub(WORKED.len())) {
         all.add(play_generated(&rt, width, &mut generator)?);
     }
     let generated = start.elapsed(&rt)?;

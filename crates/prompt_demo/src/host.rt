@@ -1,17 +1,15 @@
-//! The host of the prompt, of ready parts alone.
+//! The host of the prompt, of ready parts.
 
 use crate::completers::completers;
 use crate::tables::tables;
 use nested_marks::common_pairs;
 use std::alloc::{AllocError, Global};
-use tw_completion_parts::{Listing, WithBeginnings, WithCompleters};
-use tw_hosts::{PromptScreen, SettledHost, TableHost};
-use tw_lineedit::{BasicHistory, BoundedHistory};
-use tw_menu_parts::{MenuStyle, WithMenu};
-use tw_parts::{WithHint, WithReadlineKeys, WithRing, WithUndo};
-use tw_prompt_parts::{
-    NestedLines, WithLastWords, WithLetterWords, WithPrefixSearch, WithValidator, WithWordKeys,
+use tw_hosts::{PromptScreen, TableHost};
+use tw_key_parts::{
+    Keys, KillRing, LastWords, LetterWords, PrefixSearch, ReadlineKeys, UndoSteps, WordKeys,
 };
+use tw_lineedit::{BasicHistory, BoundedHistory};
+use tw_prompt_host::{Going, MenuStyle, NestedLines, PromptHost};
 
 /// How many lines the history keeps.
 const LINES_KEPT: usize = 100;
@@ -19,60 +17,45 @@ const LINES_KEPT: usize = 100;
 /// How many rows a menu of completions takes.
 const MENU_ROWS: usize = 4;
 
-/// A host of tables, which completes words up to where they part, and arguments by their commands.
-type CommandHost = WithBeginnings<WithCompleters<TableHost<BasicHistory>>>;
+/// Keys for words.
+type WordParts = (Keys<LetterWords>, (Keys<ReadlineKeys>, Keys<WordKeys>));
 
-/// That host, with hints from a history.
-type WordHost = WithHint<CommandHost, BoundedHistory>;
+/// Keys for lines of the history.
+type HistoryParts = (LastWords, PrefixSearch);
 
-/// That host, which accepts whole lines alone, with the keys of readline, for words of letters and digits.
-type WholeHost = WithReadlineKeys<WithLetterWords<WithValidator<WordHost, NestedLines>>>;
+/// The keys of the prompt.
+type DemoKeys = (WordParts, (HistoryParts, (KillRing, UndoSteps)));
 
-/// That one, with the keys of words, the last words of lines, and lines that begin as the line does.
-type KeyHost = WithPrefixSearch<WithLastWords<WithWordKeys<WholeHost>>>;
+/// The host of the prompt.
+pub type DemoHost = PromptHost<TableHost<BasicHistory>, BoundedHistory, DemoKeys, NestedLines>;
 
-/// The host of the prompt: that one, with kills and edits that come back, and a menu of completions.
-pub type PromptHost = SettledHost<WithMenu<WithUndo<WithRing<KeyHost>>>>;
+/// The keys of the prompt.
+fn demo_keys(alloc: Global) -> DemoKeys {
+    let words = (Keys(LetterWords), (Keys(ReadlineKeys), Keys(WordKeys)));
+    let history = (LastWords::new(), PrefixSearch::new());
+    (
+        words,
+        (history, (KillRing::new(alloc), UndoSteps::new(alloc))),
+    )
+}
 
-/// The host that knows the commands, and no files yet, over an empty history.
-fn word_host(alloc: Global) -> Result<WordHost, AllocError> {
-    let host = WithCompleters {
+/// Creates the host of a prompt on a screen of `cols` columns. It knows no files yet.
+pub fn demo_host(alloc: Global, prompt: &str, cols: usize) -> Result<DemoHost, AllocError> {
+    Ok(PromptHost {
         host: TableHost::new(tables(alloc)?, BasicHistory::new(alloc)),
+        history: BoundedHistory::with_limit(alloc, LINES_KEPT),
         completers: completers(alloc)?,
         listings: Vec::new(alloc),
-    };
-    let history = BoundedHistory::with_limit(alloc, LINES_KEPT);
-    Ok(WithHint::new(WithBeginnings { host }, history))
-}
-
-/// The host with its keys.
-fn key_host(alloc: Global) -> Result<KeyHost, AllocError> {
-    let validator = NestedLines {
-        pairs: common_pairs(alloc)?,
-    };
-    let host = WithValidator::new(word_host(alloc)?, validator);
-    let host = WithReadlineKeys {
-        host: WithLetterWords::new(host),
-    };
-    let host = WithLastWords::new(WithWordKeys::new(host));
-    Ok(WithPrefixSearch::new(host))
-}
-
-/// The host of a prompt on a screen with so many columns.
-pub fn prompt_host(alloc: Global, prompt: &str, cols: usize) -> Result<PromptHost, AllocError> {
-    let edited = WithUndo::new(alloc, WithRing::new(alloc, key_host(alloc)?));
-    Ok(SettledHost {
-        host: WithMenu::new(edited, MenuStyle::in_reverse(cols, MENU_ROWS)),
+        keys: demo_keys(alloc),
+        hints: true,
+        validator: NestedLines {
+            pairs: common_pairs(alloc)?,
+        },
+        menu: MenuStyle::in_reverse(cols, MENU_ROWS),
         screen: PromptScreen {
             cols,
             prompt: String::from_str(alloc, prompt)?,
         },
+        going: Going::new(),
     })
-}
-
-/// Tells a host the files that paths may name.
-pub fn set_files(alloc: Global, host: &mut PromptHost, listing: Listing) -> Result<(), AllocError> {
-    let whole_host = &mut host.host.host.host.host.host.host.host;
-    whole_host.host.host.host.host.host.listings = vec![in alloc; listing]?;
-    Ok(())
 }

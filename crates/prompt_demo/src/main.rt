@@ -14,14 +14,14 @@ mod host;
 mod options;
 mod tables;
 
-use host::{PromptHost, prompt_host, set_files};
+use host::{DemoHost, demo_host};
 use options::{Options, Way, read_options};
 use std::alloc::Global;
-use std::io::Read;
+use std::io::{BufRead, BufReader, Read};
 use std::time::Clock;
 use tw_device::{AnsiTerminal, Answer, DeviceTerminal, read_line_from};
-use tw_lineedit::{Error, LineEditorHost};
-use tw_prompt::{BEGIN, END, PromptEvents, read_listing, usable};
+use tw_lineedit::LineEditorHost;
+use tw_prompt::{BEGIN, END, PromptEvents, TypedEvents, read_listing, usable};
 use tw_sparing::{PatientTerminal, SparingTerminal};
 use tw_terminal::ScreenSize;
 
@@ -33,9 +33,9 @@ const PROMPT: &str = "> ";
 struct Prompt<R, C, T> {
     rt: HostRuntime,
     alloc: Global,
-    events: PromptEvents<R, C>,
+    events: TypedEvents<R, C>,
     terminal: T,
-    host: PromptHost,
+    host: DemoHost,
 }
 
 impl<R: Read, C: Clock, T: DeviceTerminal> Prompt<R, C, T> {
@@ -56,7 +56,8 @@ impl<R: Read, C: Clock, T: DeviceTerminal> Prompt<R, C, T> {
     /// directory has now.
     fn read_and_obey(&mut self) -> Result<bool, anyhow::Error> {
         let files = read_listing(self.rt, ".", "")?;
-        set_files(self.alloc, &mut self.host, files)?;
+        self.host.listings = vec![in self.alloc; files]?;
+        self.host.begin_line();
         let answer = read_line_from(
             self.alloc,
             &mut self.events,
@@ -70,7 +71,7 @@ impl<R: Read, C: Clock, T: DeviceTerminal> Prompt<R, C, T> {
                 self.terminal.send("cancelled\r\n")?;
                 Ok(true)
             }
-            Ok(Answer::End(_)) | Err(Error::EndOfFile) => Ok(false),
+            Ok(Answer::End(_)) => Ok(false),
             Err(refused) => Err(refused.into()),
         }
     }
@@ -105,14 +106,30 @@ fn prompt_at<T: DeviceTerminal + Drop>(
         alloc,
         events,
         terminal,
-        host: prompt_host(alloc, PROMPT, size.cols)?,
+        host: demo_host(alloc, PROMPT, size.cols)?,
     };
     prompt.run()
+}
+
+/// Reads lines up to `quit` where there is no terminal. Only the answers are written.
+fn answer_plainly(rt: HostRuntime) -> Result<(), anyhow::Error> {
+    let alloc = rt.alloc();
+    for line in BufReader::new(alloc, rt.stdin())?.lines(alloc) {
+        let line = line?;
+        if line.as_str() == "quit" {
+            break;
+        }
+        println!(rt; "read {line:?}")?;
+    }
+    Ok(())
 }
 
 fn main(rt: HostRuntime) -> Result<(), anyhow::Error> {
     let alloc = rt.alloc();
     let Options { size, way } = read_options(rt)?;
+    let Some(size) = size else {
+        return answer_plainly(rt);
+    };
     match way {
         Way::Plain => {
             let terminal = AnsiTerminal::new(alloc, rt.stdout(), size);

@@ -19,8 +19,8 @@ pub enum Way {
 /// What the arguments ask for.
 #[derive(Clone, Copy)]
 pub struct Options {
-    /// The size of the screen: 80 columns and 24 rows where none is told.
-    pub size: ScreenSize,
+    /// The size of the terminal, or `None` if there is no terminal.
+    pub size: Option<ScreenSize>,
     pub way: Way,
 }
 
@@ -36,7 +36,7 @@ fn number(argument: Option<String>) -> Result<usize, anyhow::Error> {
 pub fn read_options(rt: HostRuntime) -> Result<Options, anyhow::Error> {
     let mut arguments = env::args(&rt)?;
     let _name = arguments.next();
-    let mut size = ScreenSize { rows: 0, cols: 0 };
+    let mut size = None;
     let mut way = Way::Plain;
     for _ in 0..u64::MAX {
         let Some(word) = arguments.next() else {
@@ -44,16 +44,14 @@ pub fn read_options(rt: HostRuntime) -> Result<Options, anyhow::Error> {
         };
         match word.as_str() {
             "-at" => {
-                size.cols = number(arguments.next())?;
-                size.rows = number(arguments.next())?;
+                let cols = number(arguments.next())?;
+                let rows = number(arguments.next())?;
+                size = Some(usable(ScreenSize { rows, cols }));
             }
             "sparing" => way = Way::Sparing,
             "patient" => way = Way::Patient,
             _ => return Err(anyhow!("no argument has the name {word}")),
         }
     }
-    Ok(Options {
-        size: usable(size),
-        way,
-    })
+    Ok(Options { size, way })
 }

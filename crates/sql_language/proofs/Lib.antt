@@ -5,3 +5,4 @@ pub mod PieceLemmas
 pub mod WordLemmas
 pub mod NameLemmas
 pub mod TokenLemmas
+pub mod TriggerLemmas

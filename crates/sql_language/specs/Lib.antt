@@ -5,3 +5,4 @@ pub mod SqlWords
 pub mod Names
 pub mod Catalog
 pub mod Completion
+pub mod Triggers

@@ -1,4 +1,4 @@
--- The first statement of an SQL text, and the brackets that are open at its end.
+-- The semicolons of an SQL text that are tokens, and the brackets that are open at its end.
 use Rattle.std.specs.Prelude.{ℕ, suc, ◌≡◌, ◌+◌, ◌-◌, ◌==◌, Bool, ◌&&◌, List, [], ◌∷◌, ◌++◌, length, Option, Some, None, is_none, option_map, if◌then◌else◌}
 use Rattle.sql_language.specs.declared.lexer.Inside.{Inside}
 use Rattle.sql_language.specs.declared.lexer.Inside.TheVariants.{White}
@@ -18,10 +18,6 @@ unfoldable pub inside_after : Inside → List ℕ → Inside
 inside_after inside [] = inside
 inside_after inside (byte ∷ bytes) = inside_after (following inside byte) bytes
 
--- the length of the first statement
-abbrev pub statement_len : List ℕ → Option ℕ
-statement_len text = end_len White text
-
 -- how many brackets are open after a byte
 abbrev pub counted : ℕ → Inside → ℕ → ℕ
 counted count inside byte =
@@ -38,7 +34,7 @@ open_after count inside (byte ∷ bytes) = open_after (counted count inside byte
 abbrev pub open_brackets : List ℕ → ℕ
 open_brackets text = open_after 0 White text
 
--- a text that comes in two pieces has its first statement's end in the first one, or else where the second one has it as it goes on
+-- a text that comes in two pieces has its first semicolon in the first one, or else where the second one has it as it goes on
 abbrev pub EndsInPieces : Type 0
 EndsInPieces = (inside : Inside) (a b : List ℕ)
     → end_len inside (a ++ b) ≡ elim (end_len inside a) [ Some n ↦ Some n | None ↦ option_map (λ n. length a + n) (end_len (inside_after inside a) b) ]

@@ -13,12 +13,14 @@ mod lexer;
 mod names;
 mod statements;
 mod tokens;
+mod triggers;
 mod words;
 
 pub use catalog::{Catalog, SqlTable, last_table, table_row};
 pub use completion::completing_texts;
 pub use lexer::{Inside, Quote, continued, following, fresh, is_part};
 pub use names::{bare_tokens, is_named, is_unclosed, quoted_name, written_name};
-pub use statements::{end_len, inside_after, open_brackets, statement_len};
+pub use statements::{end_len, inside_after, open_brackets};
 pub use tokens::{Token, TokenKind, first_token, token_kind};
+pub use triggers::{is_body_end, is_trigger, statement_len};
 pub use words::{begins_but_case, is_keyword, name_start};

@@ -1,7 +1,7 @@
-//! The first statement of a text, and the brackets that it leaves open.
+//! Semicolons and brackets that are tokens.
 
 ghost use Rattle.std.specs.Prelude.{◌≡◌, ◌<◌, ◌-◌, ◌^◌, IfSome, IsCharBoundary};
-ghost use Rattle.sql_language.specs.Statements.{begins_mark, counted, end_len, inside_after, open_brackets, statement_len};
+ghost use Rattle.sql_language.specs.Statements.{begins_mark, counted, end_len, inside_after, open_brackets};
 
 use crate::lexer::{Inside, continued, following};
 
@@ -27,14 +27,6 @@ pub fn end_len(before: Inside, text: &str) -> Option<usize>
         inside = following(inside, bytes[at]);
     }
     None
-}
-
-/// The length of the first statement in bytes, up to the semicolon that ends it and with it; none where none does.
-pub fn statement_len(text: &str) -> Option<usize>
-    ensures value { result ≡ statement_len text.now }
-    ensures boundary { IfSome result (IsCharBoundary text.now) }
-{
-    end_len(Inside::White, text)
 }
 
 /// What the last byte of a text stands in, before which a byte stands in `before`: that one, where the text is empty.

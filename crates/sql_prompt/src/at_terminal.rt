@@ -1,11 +1,11 @@
 //! A session at a terminal in raw mode.
 
 use crate::history::{kept_history, no_statements};
-use crate::host::{PromptHost, prompt_host, set_begun, set_catalog, set_files};
+use crate::host::{SqlPromptHost, prompt_host};
 use crate::lines::{Flow, take_line, tell};
 use crate::output::Output;
 use sql_results::visible;
-use sql_session::{Session, one_line};
+use sql_session::{Session, Told, one_line};
 use sqlite::Alter;
 use std::alloc::Global;
 use std::io::{self, Read, Write};
@@ -13,7 +13,7 @@ use std::time::Clock;
 use tw_device::{AnsiTerminal, Answer, DeviceTerminal, read_line_from};
 use tw_history_parts::WrittenHistory;
 use tw_lineedit::{BoundedHistory, Error, LineEditorHost};
-use tw_prompt::{BEGIN, END, PromptEvents, read_listing};
+use tw_prompt::{BEGIN, END, PromptEvents, TypedEvents, read_listing};
 use tw_terminal::ScreenSize;
 
 /// What stands before a line with which a statement begins.
@@ -32,8 +32,9 @@ struct Screen<T> {
     terminal: T,
 }
 
-impl<T: DeviceTerminal> Output for Screen<T> {
-    fn show(&mut self, text: &str) -> Result<(), anyhow::Error> {
+impl<T: DeviceTerminal> Screen<T> {
+    /// Shows lines, with pictures for control characters.
+    fn show_lines(&mut self, text: &str) -> Result<(), anyhow::Error> {
         let mut shown = String::new(self.alloc);
         for line in text.lines() {
             shown.push_str(visible(self.alloc, line)?.as_str())?;
@@ -46,13 +47,22 @@ impl<T: DeviceTerminal> Output for Screen<T> {
     }
 }
 
+impl<T: DeviceTerminal> Output for Screen<T> {
+    fn show(&mut self, told: &Told) -> Result<(), anyhow::Error> {
+        match told {
+            Told::Text(text) => self.show_lines(text.as_str()),
+            Told::Failure(failure) => self.show_lines(failure.at_prompt(self.alloc)?.as_str()),
+        }
+    }
+}
+
 /// What is typed, what shows it, and the host between them.
 #[derive(Drop)]
 struct Prompt<R, C, T, W> {
     rt: HostRuntime,
-    events: PromptEvents<R, C>,
+    events: TypedEvents<R, C>,
     screen: Screen<T>,
-    host: PromptHost<W>,
+    host: SqlPromptHost<W>,
     /// The lines that were entered since a statement has begun.
     entered: String,
 }
@@ -75,10 +85,10 @@ impl<R: Read, C: Clock, T: DeviceTerminal, W: Write + Drop> Prompt<R, C, T, W> {
     /// Reads a line and takes it. Where no statement is begun a command may be typed, and the files that it may name are
     /// those that the directory has now.
     fn read_and_take<S: Alter>(&mut self, session: &mut Session<S>) -> Result<Flow, anyhow::Error> {
-        set_begun(self.screen.alloc, &mut self.host, session.begun())?;
+        self.host.host.begun = String::from_str(self.screen.alloc, session.begun())?;
         if !session.has_begun() {
             let files = read_listing(self.rt, ".", "")?;
-            set_files(self.screen.alloc, &mut self.host, files)?;
+            self.host.listings = vec![in self.screen.alloc; files]?;
         }
         match self.read(session.has_begun()) {
             Ok(Answer::Line(line)) => self.take(session, line.as_str()),
@@ -88,7 +98,7 @@ impl<R: Read, C: Clock, T: DeviceTerminal, W: Write + Drop> Prompt<R, C, T, W> {
                 self.tell_failure()?;
                 Ok(Flow::GoesOn)
             }
-            Ok(Answer::End(_)) | Err(Error::EndOfFile) => {
+            Ok(Answer::End(_)) => {
                 session.finish()?;
                 tell(session, &mut self.screen)?;
                 Ok(Flow::Ends)
@@ -100,6 +110,7 @@ impl<R: Read, C: Clock, T: DeviceTerminal, W: Write + Drop> Prompt<R, C, T, W> {
     /// Reads a line, with which a statement may go on.
     fn read(&mut self, goes_on: bool) -> Result<Answer, Error> {
         let prompt = if goes_on { GOES_ON } else { PROMPT };
+        self.host.begin_line();
         self.host.screen.prompt = String::from_str(self.screen.alloc, prompt)?;
         read_line_from(
             self.screen.alloc,
@@ -158,14 +169,14 @@ impl<R: Read, C: Clock, T: DeviceTerminal, W: Write + Drop> Prompt<R, C, T, W> {
 
     /// Tells the host the names of the database.
     fn learn_names<S: Alter>(&mut self, session: &mut Session<S>) -> Result<(), anyhow::Error> {
-        set_catalog(&mut self.host, session.catalog()?);
+        self.host.host.catalog = session.catalog()?;
         Ok(())
     }
 
     /// Tells where the history can't be written, once.
     fn tell_failure(&mut self) -> Result<(), anyhow::Error> {
         if self.host.history().take_failure() {
-            self.screen.show(NOT_KEPT)?;
+            self.screen.show_lines(NOT_KEPT)?;
         }
         Ok(())
     }

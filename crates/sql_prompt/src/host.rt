@@ -6,13 +6,11 @@ use sql_host::{SqlHost, SqlStyles};
 use sql_language::Catalog;
 use std::alloc::{AllocError, Global};
 use std::io::Write;
-use tw_completion_parts::{Listing, WithBeginnings, WithCompleters};
 use tw_history_parts::WrittenHistory;
-use tw_hosts::{PromptScreen, SettledHost};
+use tw_hosts::PromptScreen;
+use tw_key_parts::{Keys, KillRing, LetterWords, PrefixSearch, ReadlineKeys, UndoSteps};
 use tw_lineedit::{BoundedHistory, NopLineEditorHost};
-use tw_menu_parts::{MenuStyle, WithMenu};
-use tw_parts::{WithHint, WithReadlineKeys, WithRing, WithUndo};
-use tw_prompt_parts::{WithLetterWords, WithPrefixSearch};
+use tw_prompt_host::{AllLines, Going, MenuStyle, PromptHost};
 use tw_surface::{CellAttributes, ColorAttribute, Intensity};
 
 /// The words that are shown as keywords, and completed.
@@ -30,20 +28,19 @@ const MENU_ROWS: usize = 4;
 /// The history of a prompt, whose statements are written too.
 pub type PromptHistory<W> = WrittenHistory<BoundedHistory, W>;
 
-/// Hints from the history, and keys of readline, for words of letters and digits.
-type KeyHost<W> = WithReadlineKeys<WithLetterWords<WithHint<NopLineEditorHost, PromptHistory<W>>>>;
-
-/// The host for lines of SQL over that one.
-type StatementHost<W> = SqlHost<KeyHost<W>>;
-
-/// That host, with completers of the commands, and lines of the history that begin as the line does.
-type LineHost<W> = WithPrefixSearch<WithBeginnings<WithCompleters<StatementHost<W>>>>;
-
-/// That one, with kills and edits that come back.
-type EditedHost<W> = WithUndo<WithRing<LineHost<W>>>;
+/// The keys of the prompt: for words, then for lines of the history, kills and undos.
+type SqlKeys = (
+    (Keys<LetterWords>, Keys<ReadlineKeys>),
+    (PrefixSearch, (KillRing, UndoSteps)),
+);
 
 /// The host of the prompt.
-pub type PromptHost<W> = SettledHost<WithMenu<EditedHost<W>>>;
+pub type SqlPromptHost<W> = PromptHost<
+    SqlHost<NopLineEditorHost>,
+    PromptHistory<W>,
+    SqlKeys,
+    AllLines,
+>;
 
 /// A style of one colour of the palette.
 fn coloured(index: u8) -> CellAttributes {
@@ -72,73 +69,40 @@ fn no_catalog(alloc: Global) -> Catalog {
     }
 }
 
-/// A host for lines, which knows no files yet.
-fn line_host<W: Write + Drop>(
-    alloc: Global,
-    host: StatementHost<W>,
-) -> Result<LineHost<W>, AllocError> {
-    let host = WithCompleters {
-        host,
-        completers: completers(alloc)?,
-        listings: Vec::new(alloc),
-    };
-    Ok(WithPrefixSearch::new(WithBeginnings { host }))
+/// The keys of the prompt.
+fn sql_keys(alloc: Global) -> SqlKeys {
+    let words = (Keys(LetterWords), Keys(ReadlineKeys));
+    let edits = (KillRing::new(alloc), UndoSteps::new(alloc));
+    (words, (PrefixSearch::new(), edits))
 }
 
-/// The host of a prompt on a screen with so many columns, which knows no names yet.
+/// Creates the host of a prompt on a screen of `cols` columns. It knows no names and no files yet.
 pub fn prompt_host<W: Write + Drop>(
     alloc: Global,
     history: PromptHistory<W>,
     prompt: &str,
     cols: usize,
-) -> Result<PromptHost<W>, AllocError> {
-    let hints = WithHint::new(NopLineEditorHost::new(alloc), history);
-    let keys = WithReadlineKeys {
-        host: WithLetterWords::new(hints),
-    };
+) -> Result<SqlPromptHost<W>, AllocError> {
     let host = SqlHost {
-        host: keys,
+        host: NopLineEditorHost::new(alloc),
         keywords: words(alloc, KEYWORDS)?,
         catalog: no_catalog(alloc),
         begun: String::new(alloc),
         styles: styles(),
     };
-    let edited = WithUndo::new(alloc, WithRing::new(alloc, line_host(alloc, host)?));
-    Ok(SettledHost {
-        host: WithMenu::new(edited, MenuStyle::in_reverse(cols, MENU_ROWS)),
+    Ok(PromptHost {
+        host,
+        history,
+        completers: completers(alloc)?,
+        listings: Vec::new(alloc),
+        keys: sql_keys(alloc),
+        hints: true,
+        validator: AllLines,
+        menu: MenuStyle::in_reverse(cols, MENU_ROWS),
         screen: PromptScreen {
             cols,
             prompt: String::from_str(alloc, prompt)?,
         },
+        going: Going::new(),
     })
-}
-
-/// The host within, which completes.
-fn completing<W: Write + Drop>(host: &mut PromptHost<W>) -> &mut WithCompleters<StatementHost<W>> {
-    &mut host.host.host.host.host.host.host
-}
-
-/// Tells a host the names of the database.
-pub fn set_catalog<W: Write + Drop>(host: &mut PromptHost<W>, catalog: Catalog) {
-    completing(host).host.catalog = catalog;
-}
-
-/// Tells a host the files that paths may name.
-pub fn set_files<W: Write + Drop>(
-    alloc: Global,
-    host: &mut PromptHost<W>,
-    listing: Listing,
-) -> Result<(), AllocError> {
-    completing(host).listings = vec![in alloc; listing]?;
-    Ok(())
-}
-
-/// Tells a host what has begun of a statement before the line.
-pub fn set_begun<W: Write + Drop>(
-    alloc: Global,
-    host: &mut PromptHost<W>,
-    begun: &str,
-) -> Result<(), AllocError> {
-    completing(host).host.begun = String::from_str(alloc, begun)?;
-    Ok(())
 }

@@ -28,7 +28,10 @@ pub fn tell<S: Alter, O: Output>(
     session: &mut Session<S>,
     output: &mut O,
 ) -> Result<(), anyhow::Error> {
-    output.show(session.take_told().as_str())
+    for told in &session.take_told() {
+        output.show(told)?;
+    }
+    Ok(())
 }
 
 /// Takes a line of a file that is read.
@@ -36,7 +39,7 @@ fn take_read_line<S: Alter>(session: &mut Session<S>, line: &str) -> Result<Flow
     match session.take_line(line)? {
         Next::Line => {}
         Next::Quit => return Ok(Flow::Ends),
-        Next::Read(_) => session.refuse("a file that is read can't read another one")?,
+        Next::Read(_) => session.refuse("a file that is read can't read another one", line)?,
     }
     Ok(flow_after(session))
 }
@@ -65,7 +68,12 @@ fn read_file<S: Alter, O: Output>(
     path: &str,
 ) -> Result<Flow, anyhow::Error> {
     match fs::read_to_string(&rt, path) {
-        Ok(text) => take_text(session, output, text.as_str()),
+        Ok(text) => {
+            let (file, line) = session.enter(String::from_str(rt.alloc(), path)?, 0);
+            let flow = take_text(session, output, text.as_str())?;
+            session.enter(file, line);
+            Ok(flow)
+        }
         Err(_) => {
             session.refuse_file(path)?;
             tell(session, output)?;

@@ -20,25 +20,30 @@ use at_terminal::take_typed;
 use options::{Options, read_options};
 use piped::take_all;
 use sql_session::Session;
-use sqlite::{Alter, Connection};
+use sqlite::{Alter, Connection, Error};
 use std::io::Write;
 use std::process::ExitCode;
 
 /// What is told where the arguments are wrong.
 const USAGE: &str = "usage: sql_prompt [-at COLS ROWS] [-bail] [-history FILE] FILE\n";
 
-/// Runs a session over a database. The status tells whether it was stopped by an error.
+/// Runs a session. The status is 1 if an error stopped it, or if a script had one.
 fn serve<S: Alter + Drop>(
     rt: HostRuntime,
-    connection: Connection<S>,
+    session: &mut Session<S>,
     options: &Options,
 ) -> Result<ExitCode, anyhow::Error> {
-    let mut session = Session::new(rt.alloc(), connection, options.bails);
-    match options.screen {
-        Some(size) => take_typed(rt, &mut session, size, options.history.as_ref())?,
-        None => take_all(rt, &mut session)?,
-    }
-    Ok(if session.has_stopped() {
+    let has_failed = match options.screen {
+        Some(size) => {
+            take_typed(rt, session, size, options.history.as_ref())?;
+            session.has_stopped()
+        }
+        None => {
+            take_all(rt, session)?;
+            session.has_failed()
+        }
+    };
+    Ok(if has_failed {
         ExitCode::from(1)
     } else {
         ExitCode::SUCCESS
@@ -49,19 +54,33 @@ fn serve<S: Alter + Drop>(
 fn serve_memory(rt: HostRuntime, options: &Options) -> Result<ExitCode, anyhow::Error> {
     let mut connection = Connection::open_in_memory(rt.alloc())?;
     connection.set_clock(&rt);
-    serve(rt, connection, options)
+    serve(
+        rt,
+        &mut Session::new(rt.alloc(), connection, options.bails),
+        options,
+    )
 }
 
-/// Runs a session over a file.
+/// Writes an error of a database to standard error.
+fn fail(rt: HostRuntime, path: &str, error: Error) -> Result<ExitCode, anyhow::Error> {
+    let message = format!(in rt.alloc(); "sql_prompt: {path}: {error}\n")?;
+    rt.stderr().write_all(message.as_bytes())?;
+    Ok(ExitCode::from(1))
+}
+
+/// Runs a session over a file. However it ends the connection is closed, so that the file by itself has all that was
+/// committed.
 fn serve_file(rt: HostRuntime, options: &Options) -> Result<ExitCode, anyhow::Error> {
     let path = options.path.as_str();
-    match Connection::open(&rt, path) {
-        Ok(connection) => serve(rt, connection, options),
-        Err(error) => {
-            let told = format!(in rt.alloc(); "sql_prompt: {path}: {error}\n")?;
-            rt.stderr().write_all(told.as_bytes())?;
-            Ok(ExitCode::from(1))
-        }
+    let connection = match Connection::open(&rt, path) {
+        Ok(connection) => connection,
+        Err(error) => return fail(rt, path, error),
+    };
+    let mut session = Session::new(rt.alloc(), connection, options.bails);
+    let served = serve(rt, &mut session, options);
+    match session.into_connection().close() {
+        Ok(()) => served,
+        Err(error) => fail(rt, path, error),
     }
 }
 

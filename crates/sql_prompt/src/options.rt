@@ -22,13 +22,14 @@ fn number(argument: Option<String>) -> Option<usize> {
     argument?.as_str().parse().ok()
 }
 
-/// What the arguments ask for, `[-at COLS ROWS] [-bail] [-history FILE] FILE`, and none where they are wrong.
+/// Parses the arguments `[-at COLS ROWS] [-bail] [-history FILE] FILE`, in any order. Returns `None` if they are wrong.
 pub fn read_options(rt: HostRuntime) -> Result<Option<Options>, anyhow::Error> {
     let mut arguments = env::args(&rt)?;
     let _name = arguments.next();
     let mut bails = false;
     let mut screen = None;
     let mut history = None;
+    let mut path = None;
     for _ in 0..u64::MAX {
         let Some(word) = arguments.next() else {
             break;
@@ -37,21 +38,24 @@ pub fn read_options(rt: HostRuntime) -> Result<Option<Options>, anyhow::Error> {
             "-bail" => bails = true,
             "-at" => match (number(arguments.next()), number(arguments.next())) {
                 (Some(cols), Some(rows)) => screen = Some(usable(ScreenSize { rows, cols })),
-                _ => break,
+                _ => return Ok(None),
             },
             "-history" => match arguments.next() {
-                Some(path) => history = Some(path),
-                None => break,
+                Some(file) => history = Some(file),
+                None => return Ok(None),
             },
-            _ => {
-                return Ok(Some(Options {
-                    path: word,
-                    bails,
-                    screen,
-                    history,
-                }));
-            }
+            option if option.starts_with('-') => return Ok(None),
+            _ if path.is_some() => return Ok(None),
+            _ => path = Some(word),
         }
     }
-    Ok(None)
+    let Some(path) = path else {
+        return Ok(None);
+    };
+    Ok(Some(Options {
+        path,
+        bails,
+        screen,
+        history,
+    }))
 }

@@ -15,6 +15,6 @@ pub fn take_all<S: Alter>(rt: HostRuntime, session: &mut Session<S>) -> Result<(
             return Ok(());
         }
     }
-    session.finish()?;
+    session.finish_script()?;
     tell(session, &mut output)
 }

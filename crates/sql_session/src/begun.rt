@@ -1,6 +1,8 @@
 //! The statement that has begun.
 
-use sql_language::{Inside, TokenKind, end_len, first_token, following, inside_after};
+use sql_language::{
+    Inside, TokenKind, end_len, first_token, following, inside_after, is_body_end, is_trigger,
+};
 use std::alloc::{AllocError, Global};
 
 /// Whether a text has nothing but white space and comments.
@@ -24,15 +26,21 @@ pub struct Begun {
     inside: Inside,
     /// Whether the text is known to have more than white space and comments.
     has_token: bool,
+    /// Whether the statement makes a trigger and its body has begun, in which semicolons end no statement.
+    in_body: bool,
+    /// The byte offset behind the last semicolon of the body.
+    piece_start: usize,
 }
 
 impl Begun {
-    /// No statement has begun. It takes no memory.
+    /// Creates the state in which no statement has begun.
     pub fn new(alloc: Global) -> Self {
         Begun {
             text: String::new(alloc),
             inside: Inside::White,
             has_token: false,
+            in_body: false,
+            piece_start: 0,
         }
     }
 
@@ -46,23 +54,44 @@ impl Begun {
         self.text.as_str()
     }
 
-    /// Takes the statement that a part of a line ends, with what has begun before it, and what follows it in the line;
-    /// none where the line ends none.
+    /// Returns true if the semicolon at the end of the text ends the statement. That of a statement that makes a trigger
+    /// stands behind the `END` of its body.
+    fn is_whole(&mut self) -> bool {
+        if self.in_body {
+            let text = self.text.as_str();
+            return is_body_end(text.get(self.piece_start..).unwrap_or(text));
+        }
+        self.in_body = is_trigger(self.text.as_str());
+        !self.in_body
+    }
+
+    /// Takes the first statement that a part of a line ends, with what has begun before it, and returns what follows it.
+    /// If the part ends none, what it has of pieces of a trigger is taken in, and the rest is returned.
     pub fn take_statement<'a>(
         &mut self,
         alloc: Global,
         line: &'a str,
-    ) -> Result<Option<(String, &'a str)>, AllocError> {
-        let Some(len) = end_len(self.inside, line) else {
-            return Ok(None);
-        };
-        let (end, rest) = line.split_at(len);
-        self.text.push_str(end)?;
-        let Begun { text, .. } = std::mem::replace(self, Begun::new(alloc));
-        Ok(Some((text, rest)))
+    ) -> Result<(Option<String>, &'a str), AllocError> {
+        let mut rest = line;
+        for _ in 0..line.len() {
+            let Some(len) = end_len(self.inside, rest) else {
+                break;
+            };
+            let (piece, after) = rest.split_at(len);
+            self.text.push_str(piece)?;
+            rest = after;
+            if self.is_whole() {
+                let Begun { text, .. } = std::mem::replace(self, Begun::new(alloc));
+                return Ok((Some(text), rest));
+            }
+            self.inside = Inside::Mark;
+            self.piece_start = self.text.len();
+            self.has_token = true;
+        }
+        Ok((None, rest))
     }
 
-    /// Adds the rest of a line, which ends no statement, and the line's end. White space and comments begin none.
+    /// Appends the rest of a line, which ends no statement, and a line feed. White space and comments begin no statement.
     pub fn push_line(&mut self, line: &str) -> Result<(), AllocError> {
         self.text.push_str(line)?;
         self.text.push('\n')?;

@@ -49,7 +49,7 @@ impl<S: Alter> Session<S> {
     fn list(&mut self, sql: &str, params: &[ValueRef<'_>]) -> Result<(), AllocError> {
         match self.texts(sql, params) {
             Ok(texts) => self.tell_lines(texts.as_slice()),
-            Err(error) => self.fail(error),
+            Err(error) => self.fail(error, sql),
         }
     }
 
@@ -76,7 +76,7 @@ impl<S: Alter> Session<S> {
         match name {
             "table" => self.set_mode(Mode::Table),
             "csv" => self.set_mode(Mode::Csv),
-            _ => return self.refuse("a mode is table or csv"),
+            _ => return self.refuse("a mode is table or csv", name),
         }
         Ok(())
     }
@@ -88,7 +88,7 @@ impl<S: Alter> Session<S> {
                 self.set_limit(steps);
                 Ok(())
             }
-            Err(_) => self.refuse("a limit is a number of steps"),
+            Err(_) => self.refuse("a limit is a number of steps", steps),
         }
     }
 
@@ -100,7 +100,7 @@ impl<S: Alter> Session<S> {
             ".mode" => self.choose_mode(argument),
             ".schema" => self.list_schema(argument),
             ".tables" => self.list(TABLES, &[]),
-            _ => self.refuse("no such command; .help tells them"),
+            _ => self.refuse("no such command; .help tells them", word),
         }
     }
 

@@ -1,7 +1,6 @@
 //! A session with a database: what each line of input does, and what it tells.
 //!
-//! `session` has the statements, `begun` the one that has begun, `commands` the commands that begin with a point,
-//! `values` the cells of a row, `names` the names that a database has, and `lines` statements of several lines as one.
+//! A script is a session over its lines, and so is what is typed at a prompt; what it tells comes out as `Told`.
 #![tactic(auto)]
 
 mod begun;
@@ -9,7 +8,9 @@ mod commands;
 mod lines;
 mod names;
 mod session;
+mod told;
 mod values;
 
 pub use lines::one_line;
 pub use session::{Mode, Next, Session};
+pub use told::{Failure, Told};

@@ -2,8 +2,9 @@
 
 use crate::begun::Begun;
 use crate::names::{catalog_of, column_names, name_text};
+use crate::told::{Failure, Told};
 use crate::values::{as_results, names};
-use sql_language::{Catalog, SqlTable, quoted_name};
+use sql_language::{Catalog, SqlTable, is_trigger, quoted_name};
 use sql_results::{Results, csv_text, table_text};
 use sqlite::types::ValueRef;
 use sqlite::{Alter, Connection, Error, Row};
@@ -37,11 +38,17 @@ pub struct Session<S: Alter> {
     alloc: Global,
     connection: Connection<S>,
     begun: Begun,
-    told: String,
+    told: Vec<Told>,
     mode: Mode,
     columns: usize,
     bails: bool,
     has_failed: bool,
+    /// The file that is read, or nothing for the input itself.
+    file: String,
+    /// The number of the last line, from 1.
+    line: u64,
+    /// The line on which the statement that has begun begins.
+    begun_line: u64,
 }
 
 impl<S: Alter + Drop> Drop for Session<S> {
@@ -55,24 +62,55 @@ impl<S: Alter + Drop> Drop for Session<S> {
             columns: _,
             bails: _,
             has_failed: _,
+            file: _,
+            line: _,
+            begun_line: _,
         } = self;
     }
 }
 
 impl<S: Alter> Session<S> {
-    /// A session with a database, which stops at the first error where `bails` says so. It takes no memory.
+    /// Creates a session with a database. If `bails`, the first error stops it.
     pub fn new(alloc: Global, mut connection: Connection<S>, bails: bool) -> Self {
         connection.set_step_limit(Some(STEPS));
         Session {
             alloc,
             connection,
             begun: Begun::new(alloc),
-            told: String::new(alloc),
+            told: Vec::new(alloc),
             mode: Mode::Table,
             columns: usize::MAX,
             bails,
             has_failed: false,
+            file: String::new(alloc),
+            line: 0,
+            begun_line: 0,
         }
+    }
+
+    /// Ends the session and gives its connection back. What has begun of a transaction is open in it.
+    pub fn into_connection(self) -> Connection<S> {
+        let Session {
+            alloc: _,
+            connection,
+            begun: _,
+            told: _,
+            mode: _,
+            columns: _,
+            bails: _,
+            has_failed: _,
+            file: _,
+            line: _,
+            begun_line: _,
+        } = self;
+        connection
+    }
+
+    /// Counts lines from 1, as those of a file, or with an empty name as those of the input. Returns the name and the
+    /// count before.
+    pub fn enter(&mut self, file: String, line: u64) -> (String, u64) {
+        let before = std::mem::replace(&mut self.line, line);
+        (std::mem::replace(&mut self.file, file), before)
     }
 
     /// The allocator.
@@ -85,12 +123,12 @@ impl<S: Alter> Session<S> {
         self.mode = mode;
     }
 
-    /// Lets a statement take so many steps from now on.
+    /// Sets the most steps that a statement may take.
     pub fn set_limit(&mut self, steps: u64) {
         self.connection.set_step_limit(Some(steps));
     }
 
-    /// Shows no line of a table in more than so many columns from now on.
+    /// Sets the most columns of a line of a table.
     pub fn set_columns(&mut self, columns: usize) {
         self.columns = columns;
     }
@@ -150,39 +188,60 @@ impl<S: Alter> Session<S> {
         catalog_of(self.alloc, tables)
     }
 
-    /// Whether an error has ended the session.
+    /// Returns true once a statement or a command has failed.
+    pub fn has_failed(&self) -> bool {
+        self.has_failed
+    }
+
+    /// Returns true if an error has ended the session.
     pub fn has_stopped(&self) -> bool {
         self.bails && self.has_failed
     }
 
-    /// Adds to what is to be told.
+    /// Appends to what is to be told.
     pub fn tell(&mut self, text: &str) -> Result<(), AllocError> {
-        self.told.push_str(text)
+        if let Some(Told::Text(last)) = self.told.last_mut() {
+            return last.push_str(text);
+        }
+        self.told
+            .push(Told::Text(String::from_str(self.alloc, text)?))?;
+        Ok(())
     }
 
     /// Takes what is to be told.
-    pub fn take_told(&mut self) -> String {
-        let none = String::new(self.alloc);
+    pub fn take_told(&mut self) -> Vec<Told> {
+        let none = Vec::new(self.alloc);
         std::mem::replace(&mut self.told, none)
     }
 
-    /// Tells an error in these words.
-    pub fn refuse(&mut self, words: &str) -> Result<(), AllocError> {
+    /// Appends a failure of a statement or a command that begins on a line.
+    fn fail_on(&mut self, line: u64, words: &str, statement: &str) -> Result<(), AllocError> {
         self.has_failed = true;
-        let told = format!(in self.alloc; "Error: {words}\n")?;
-        self.tell(told.as_str())
+        let failure = Failure {
+            file: self.file.clone()?,
+            line,
+            words: String::from_str(self.alloc, words)?,
+            statement: String::from_str(self.alloc, statement)?,
+        };
+        self.told.push(Told::Failure(failure))?;
+        Ok(())
     }
 
-    /// Tells that a file can't be read.
+    /// Appends a failure of a command.
+    pub fn refuse(&mut self, words: &str, command: &str) -> Result<(), AllocError> {
+        self.fail_on(self.line, words, command)
+    }
+
+    /// Appends that a file can't be read.
     pub fn refuse_file(&mut self, path: &str) -> Result<(), AllocError> {
-        let told = format!(in self.alloc; "{path}: can't be read as a text")?;
-        self.refuse(told.as_str())
+        let words = format!(in self.alloc; "{path}: can't be read as a text")?;
+        self.refuse(words.as_str(), ".read")
     }
 
-    /// Tells an error of the database.
-    pub fn fail(&mut self, error: Error) -> Result<(), AllocError> {
-        let told = format!(in self.alloc; "{error}")?;
-        self.refuse(told.as_str())
+    /// Appends an error of the database at a command.
+    pub fn fail(&mut self, error: Error, command: &str) -> Result<(), AllocError> {
+        let words = format!(in self.alloc; "{error}")?;
+        self.refuse(words.as_str(), command)
     }
 
     /// The rows of an answer.
@@ -211,12 +270,18 @@ impl<S: Alter> Session<S> {
         self.tell(text.as_str())
     }
 
-    /// Runs a statement, and tells its results or its error.
+    /// Runs a statement that begins on the line `begun_line`, and tells its results or its error.
     fn run(&mut self, sql: &str) -> Result<(), AllocError> {
         match self.answer(sql) {
             Ok(Some(found)) => self.show(&found),
             Ok(None) => Ok(()),
-            Err(error) => self.fail(error),
+            Err(_) if is_trigger(sql) => {
+                self.fail_on(self.begun_line, "triggers are not supported", sql.trim())
+            }
+            Err(error) => {
+                let words = format!(in self.alloc; "{error}")?;
+                self.fail_on(self.begun_line, words.as_str(), sql.trim())
+            }
         }
     }
 
@@ -227,10 +292,14 @@ impl<S: Alter> Session<S> {
             if self.has_stopped() {
                 break;
             }
-            let Some((sql, after)) = self.begun.take_statement(self.alloc, rest)? else {
+            if !self.has_begun() {
+                self.begun_line = self.line;
+            }
+            let (statement, after) = self.begun.take_statement(self.alloc, rest)?;
+            rest = after;
+            let Some(sql) = statement else {
                 break;
             };
-            rest = after;
             self.run(sql.as_str())?;
         }
         self.begun.push_line(rest)
@@ -244,6 +313,7 @@ impl<S: Alter> Session<S> {
     /// Takes a line of input: a command where none of a statement has begun and a point stands first, and else a part
     /// of statements, of which those run that are whole.
     pub fn take_line(&mut self, line: &str) -> Result<Next, AllocError> {
+        self.line = self.line.saturating_add(1);
         if !self.has_begun() && line.starts_with('.') {
             return self.obey(line);
         }
@@ -251,11 +321,25 @@ impl<S: Alter> Session<S> {
         Ok(Next::Line)
     }
 
-    /// Ends the input: a statement that has begun is an error.
-    pub fn finish(&mut self) -> Result<(), AllocError> {
-        if self.has_begun() {
-            return self.refuse("the last statement has no end");
+    /// Ends a script: a last statement runs without its semicolon.
+    pub fn finish_script(&mut self) -> Result<(), AllocError> {
+        if !self.has_begun() || self.has_stopped() {
+            return Ok(());
         }
-        Ok(())
+        let begun = std::mem::replace(&mut self.begun, Begun::new(self.alloc));
+        self.run(begun.as_str())
+    }
+
+    /// Ends the input at a prompt: a statement that has begun does not run, and fails.
+    pub fn finish(&mut self) -> Result<(), AllocError> {
+        if !self.has_begun() {
+            return Ok(());
+        }
+        let begun = std::mem::replace(&mut self.begun, Begun::new(self.alloc));
+        self.fail_on(
+            self.begun_line,
+            "the last statement has no end",
+            begun.as_str(),
+        )
     }
 }

@@ -1,14 +1,13 @@
 -- Completers by the context.
-use Rattle.std.specs.Prelude.{ℕ, List, [], ◌∷◌, Option, Some, None, take, if◌then◌else◌}
+use Rattle.std.specs.Prelude.{ℕ, List, [], ◌∷◌, Option, Some, None, option_map, take, if◌then◌else◌}
 use Rattle.tw_host.specs.CandidateView.{CandidateView}
-use Rattle.tw_host.specs.HostRules.{HostRules, Resolution}
 use Rattle.tw_line.specs.Cut.{Cut}
 use Rattle.tw_completion_parts.specs.Contexts.{ContextView, context_view, is_in}
 use Rattle.tw_completion_parts.specs.FileNames.{ListingView, file_candidates}
 use Rattle.tw_completion_parts.specs.WordLists.{WordListView, listed_candidates, word_list_view}
-use Rattle.tw_completion_parts.specs.declared.with_completers.Completer.{Completer}
-use Rattle.tw_completion_parts.specs.declared.with_completers.Completer.TheVariants as completer
-use Rattle.tw_completion_parts.specs.declared.with_completers.ContextCompleter.{ContextCompleter}
+use Rattle.tw_completion_parts.specs.declared.completers.Completer.{Completer}
+use Rattle.tw_completion_parts.specs.declared.completers.Completer.TheVariants as completer
+use Rattle.tw_completion_parts.specs.declared.completers.ContextCompleter.{ContextCompleter}
 
 -- words of a list, file names, or nothing
 pub data CompleterView : Type 0 where
@@ -41,29 +40,6 @@ candidates_by listings (Words list) cut = listed_candidates list cut
 candidates_by listings FileNames cut = file_candidates listings cut
 candidates_by listings Nothing cut = []
 
--- what another host holds, the completers, and listings of directories
-pub record WithCompleted (V : Type 0) : Type 0 where
-  pub host : V
-  pub completers : List ContextCompleterView
-  pub listings : List ListingView
-
--- what a completer offers where there is one, and else other candidates
-abbrev pub candidates_or : List ListingView → Option CompleterView → Cut → List CandidateView → List CandidateView
-candidates_or listings (Some completer) cut others = candidates_by listings completer cut
-candidates_or listings None cut others = others
-
-module _ {V : Type 0} (rules : HostRules V) where
-  -- the host's answer, with what is held here
-  abbrev pub with_completers : WithCompleted V → Resolution V → Resolution (WithCompleted V)
-  with_completers v r = record { value = record v { host = r.value }; cut = r.cut; action = r.action }
-
-  -- the host's answers, but for what is completed in these contexts
-  abbrev pub completer_rules : HostRules (WithCompleted V)
-  completer_rules = record {
-    lines = λ v. rules.lines v.host;
-    prompt = λ v text. rules.prompt v.host text;
-    preview = λ v line. rules.preview v.host line;
-    highlight = λ v cut. rules.highlight v.host cut;
-    candidates = λ v cut. candidates_or v.listings (completer_for v.completers (take cut.cursor cut.line)) cut (rules.candidates v.host cut);
-    resolve = λ v event cut. with_completers v (rules.resolve v.host event cut);
-  }
+-- what completers offer, if one of them is asked there
+abbrev pub completed_by : List ContextCompleterView → List ListingView → Cut → Option (List CandidateView)
+completed_by rows listings cut = option_map (λ completer. candidates_by listings completer cut) (completer_for rows (take cut.cursor cut.line))

@@ -2,7 +2,6 @@
 use Rattle.std.specs.Prelude.{ℕ, ◌-◌, ◌==◌, Bool, ◌&&◌, List, [], ◌∷◌, length, map, nat_lt, Option, Some, None, if◌then◌else◌}
 use Rattle.std.specs.List.{list_all}
 use Rattle.tw_host.specs.CandidateView.{CandidateView}
-use Rattle.tw_host.specs.HostRules.{HostRules}
 use Rattle.tw_completion_parts.specs.Beginnings.{common_beginning}
 
 -- the texts of candidates
@@ -36,7 +35,3 @@ alone_or None candidates = candidates
 
 abbrev pub beginning_first : List CandidateView → List CandidateView
 beginning_first candidates = alone_or (shared_candidate candidates) candidates
-
--- another host's answers, but for the candidates
-abbrev pub beginning_rules : {V : Type 0} → HostRules V → HostRules V
-beginning_rules rules = record rules { candidates = λ v cut. beginning_first (rules.candidates v cut) }

@@ -10,3 +10,4 @@ pub mod Pieces
 pub mod Terminal
 pub mod Told
 pub mod Typed
+pub mod Unread

@@ -1,5 +1,5 @@
 -- A line that is read from events that nobody knows before they come.
-use Rattle.std.specs.Prelude.{◌≡◌, ℕ, ◌+◌, ◌++◌, ◌⊎◌, length, Bool, true, false, List, Option, Some, None, Result, Ok, Err, String, string_bytes}
+use Rattle.std.specs.Prelude.{◌≡◌, ◌≢◌, ℕ, [], ◌+◌, ◌++◌, ◌⊎◌, length, Bool, true, false, List, Option, Some, None, Result, Ok, Err, String, string_bytes}
 use Rattle.std.specs.declared.alloc.Global.{Global}
 use Rattle.tw_input.specs.EventView.{EventView}
 use Rattle.tw_terminal.specs.TerminalState.{TerminalState, size_after}
@@ -14,7 +14,7 @@ use Rattle.tw_lineedit.specs.Refusal.{IsMemory}
 use Rattle.tw_lineedit.specs.Run.{Ending, Moment, Cause, want, fault, run, progress_of, CanStop, Quiet}
 use Rattle.tw_lineedit.specs.SessionView.{SessionView, new_state}
 use Rattle.tw_lineedit.specs.declared.Error.{Error}
-use Rattle.tw_lineedit.specs.declared.Error.TheVariants.{Terminal}
+use Rattle.tw_lineedit.specs.declared.Error.TheVariants.{EndOfFile, Terminal}
 use Rattle.tw_device.specs.declared.keys.SourceState.{SourceState}
 use Rattle.tw_device.specs.declared.keys.SourceState.TheVariants.{AtEnd, Refused}
 use Rattle.tw_device.specs.declared.reading.Answer.{Answer}
@@ -32,6 +32,11 @@ outcome_in (End line) = Ok (Some (string_bytes line))
 abbrev pub was_ended : Answer → Bool
 was_ended (End line) = false
 was_ended _ = true
+
+-- the input ended before anything was typed
+abbrev pub IsEmptyEnd : Answer → Type 0
+IsEmptyEnd (End line) = string_bytes line ≡ []
+IsEmptyEnd _ = ⊥
 
 -- these are all the events that one call can be told
 abbrev pub IsEndless : List EventView → List EventView → Type 0
@@ -133,3 +138,12 @@ module _ {V : Type 0} (rules : HostRules V) (overrides : Overrides) where
   FailsToReadTold old new state f v t e = Left v t (λ g. FailsTold old new f g e)
       ⊎ ((IsCutShort old new state e × Left v t (λ g. (answer : Outcome) × ReadsTold rules old new f g answer false))
       ⊎ (IsMemory e × (new ≡ old) × (v ≡ f.value) × (t ≡ f.terminal)))
+
+  -- What an answer says: a line was read, and closed so; or the action EndOfFile ended the input, with an empty line.
+  abbrev pub IsToldAnswer : List EventView → List EventView → SourceState → Frame V → V → TerminalState → Type 0 → Answer → Type 0
+  IsToldAnswer old new state f v t closed answer = (IsRead rules old new state f v t answer × closed)
+      ⊎ (IsEmptyEnd answer × FailsToReadTold old new state f v t EndOfFile)
+
+  -- what a refusal leaves that is not the end of the input
+  abbrev pub IsRefusedTold : List EventView → List EventView → SourceState → Frame V → V → TerminalState → Error → Type 0
+  IsRefusedTold old new state f v t e = (e ≢ EndOfFile) × FailsToReadTold old new state f v t e

@@ -22,7 +22,7 @@ pub record Held : Type 0 where
 
 -- how many bytes are asked for at once
 abbrev pub piece : ℕ
-piece = 1024
+piece = 16384
 
 -- an ESC, and nothing after it
 abbrev pub is_lone_escape : List ℕ → Bool

@@ -4,7 +4,7 @@ ghost use Rattle.std.specs.Prelude.{◌≡◌, ◌≤◌, ◌==◌, ◌++◌, �
 ghost use Rattle.std.specs.Io.KnownBytes.{Consumes, IsAtEnd, Keeps};
 ghost use Rattle.tw_input.specs.EventView.{event_view, EventView};
 ghost use Rattle.tw_device.specs.Faults.{fault_of};
-ghost use Rattle.tw_device.specs.Keys.{held_by};
+ghost use Rattle.tw_device.specs.Keys.{held_by, is_at_end};
 ghost use Rattle.tw_device.specs.Told.{pasted_text, token_events, events_in_option, answer_events};
 ghost use Rattle.tw_device.specs.Typed.{piece, next_token, is_at_hand, IsPasted, TellsTyped, IsHeldUp};
 ghost use Rattle.tw_device.specs.declared.keys.SourceState.TheVariants.{Going, AtEnd, Refused as HasRefused};
@@ -115,6 +115,13 @@ impl<R: Read> KeyReader<R> {
             state: SourceState::Going,
             told: EventLog::new(),
         }
+    }
+
+    /// Returns true if the last answer was that there are no more events.
+    pub fn is_at_end(&self) -> bool
+        ensures { result ≡ is_at_end self.now.state }
+    {
+        matches!(self.state, SourceState::AtEnd)
     }
 
     /// The next event, or none at the end of what is typed.

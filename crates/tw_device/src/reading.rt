@@ -1,4 +1,4 @@
-//! Reading a line from events that nobody knows before they come.
+//! Reads a line from a live source of events.
 
 ghost use Rattle.std.specs.Prelude.{◌≡◌, ◌≢◌, ◌∷◌, [], true, false, None, Ok, IfOk, IfErr, OnOk};
 ghost use Rattle.tw_input.specs.EventView.{event_view};
@@ -14,7 +14,7 @@ ghost use Rattle.tw_device.specs.Asked.{Asks, IsCalledAtOnce, IsCalledWith, IsCl
 ghost use Rattle.tw_device.specs.Calls.{IsCalled};
 ghost use Rattle.tw_device.specs.Deeds.{Called, IsLedAsTold, IsLedBy};
 ghost use Rattle.tw_device.specs.Led.{taken_on, taken_over, IsLedByCalls, IsLedByEvent, IsSizedBy, IsToldAlong};
-ghost use Rattle.tw_device.specs.Live.{fresh_frame, WaitsAfter, ComesBy, FailsFrom, FailsBy, IsRead, FailsToReadTold, StopsFeeding, answer_from};
+ghost use Rattle.tw_device.specs.Live.{fresh_frame, WaitsAfter, ComesBy, FailsFrom, FailsBy, IsToldAnswer, IsRead, IsRefusedTold, FailsToReadTold, StopsFeeding, answer_from};
 
 use crate::device::DeviceTerminal;
 use crate::keys::EventSource;
@@ -30,7 +30,8 @@ pub enum Answer {
     Line(String),
     /// The line was cancelled.
     Cancelled,
-    /// The source had no more events, with this line.
+    /// The input ended: the source had no more events, with this line typed so far; or a key asked for the end, as Ctrl-D
+    /// does, with an empty line.
     End(String),
 }
 
@@ -190,17 +191,8 @@ fn answer_of(line: Option<String>, stop: Stop) -> Result<Answer, Error>
     }
 }
 
-/// Reads a line with a new editor from the events of a source, up to that which ends the line or the end of the
-/// source. The answer, the batches, the screen's size and the host's value are those of the abstract editor's run
-/// over exactly the events that the source told, by calls of `next_event` and nothing else (`called`). A `Resized` sets
-/// the terminal's size, before the batches of its own and after those of the events before it (`along`). Where the source
-/// may wait, the terminal was told before its last batches that nothing more is at hand (`asked`), and so it was before
-/// the batch that closes an answered line (`closed`).
-///
-/// Where the source refuses, the line is closed as at the source's end, and the answer is the source's refusal;
-/// so it is, with `Device`, where one call was told 2^64 - 1 events and none of them ended the line. Every other
-/// refusal is as one of `read_line`.
-pub fn read_line_from<S: EventSource, T: DeviceTerminal, H: LineEditorHost>(
+/// Reads a line with a new editor from the events of a source, up to that which ends the line or the end of the source.
+fn read_events<S: EventSource, T: DeviceTerminal, H: LineEditorHost>(
     alloc: Global,
     source: &mut S,
     terminal: &mut T,
@@ -230,4 +222,44 @@ pub fn read_line_from<S: EventSource, T: DeviceTerminal, H: LineEditorHost>(
     let stop = take_events(source, &mut editor, host)?;
     let line = finish(&mut editor)?;
     answer_of(line, stop)
+}
+
+/// Reads a line with a new editor from the events of a source, up to the event that ends the line or the end of the
+/// source. The answer, the batches, the screen's size and the host's value are those of the abstract editor's run over
+/// exactly the events that the source told by calls of `next_event` (`called`). The action `EndOfFile`, as Ctrl-D of the
+/// key table, is answered by `Answer::End` with an empty line, as is the end of the source with the line typed so far. A
+/// `Resized` sets the terminal's size, before the batches of its own and after those of the events before it (`along`).
+/// Before the last batches that come before the source may wait, the terminal learns that nothing more is at hand
+/// (`asked`), and so it does before the batch that closes an answered line (`ok`).
+///
+/// If the source refuses, the line is closed as at the source's end, and the call fails with the source's refusal. It
+/// fails with `Device` if one call was told 2^64 - 1 events and none of them ended the line. Every other refusal is as
+/// one of `read_line`.
+pub fn read_line_from<S: EventSource, T: DeviceTerminal, H: LineEditorHost>(
+    alloc: Global,
+    source: &mut S,
+    terminal: &mut T,
+    host: &mut H,
+    prompt: &str,
+) -> Result<Answer, Error>
+    ensures ok { let begun = fresh_frame prompt.now (H.value host.old) (T.state terminal.old) in
+        IfOk result (IsToldAnswer H.rules H.OVERRIDES (S.told source.old) (S.told source.new) (S.state source.new) begun
+        (H.value host.new) (T.state terminal.new)
+        (IsClosedAsTold T.state T.follows T.may_keep T.does (taken_over H.rules begun)
+        (S.told source.old) (S.told source.new) terminal.old terminal.new)) }
+    ensures err { let begun = fresh_frame prompt.now (H.value host.old) (T.state terminal.old) in
+        IfErr result (IsRefusedTold H.rules H.OVERRIDES (S.told source.old) (S.told source.new) (S.state source.new) begun
+        (H.value host.new) (T.state terminal.new)) }
+    ensures called { IsCalled S.told S.follows source.old source.new }
+    ensures led { IsLedAsTold T.does (S.told source.old) (S.told source.new) terminal.old terminal.new }
+    ensures along { let begun = fresh_frame prompt.now (H.value host.old) (T.state terminal.old) in
+        IsToldAlong T.state T.does (taken_over H.rules begun) (S.told source.old) (S.told source.new)
+        terminal.old terminal.new }
+    ensures asked { IsUntouchedOrAsked T.state T.follows T.may_keep T.does S.at_hand S.follows source.old source.new
+        terminal.old terminal.new }
+{
+    match read_events(alloc, source, terminal, host, prompt) {
+        Err(Error::EndOfFile) => Ok(Answer::End(String::new(alloc))),
+        read => read,
+    }
 }

@@ -1,48 +1,54 @@
 //! Bytes that were read and are not yet taken.
 
-ghost use Rattle.std.specs.Prelude.{◌≡◌, ◌≤◌, ◌++◌, ℕ, List, [], length, drop, false, IfSome, IfOk, OnErr};
+ghost use Rattle.std.specs.Prelude.{◌≡◌, ◌≤◌, ◌+◌, ◌++◌, ℕ, List, [], length, drop, take, false, IfSome, IfOk, OnErr};
 ghost use Rattle.std.specs.Io.KnownBytes.{Consumes, IsAtEnd, Keeps};
 ghost use Rattle.tw_ansi.specs.KeyBytes.{token_at};
 ghost use Rattle.tw_ansi.specs.Resuming.{Fits};
 ghost use Rattle.tw_device.specs.Typed.{is_lone_escape};
+ghost use Rattle.tw_device.specs.Unread.{unread_in};
 
 use crate::refused::Refused;
 use std::alloc::Global;
-use std::io::Read;
+use std::io::{self, ErrorKind, Read};
 use std::marker::Model;
 use tw_ansi::{Progress, Scanned, scan_on};
 
 /// How many bytes are asked for at once.
-pub(crate) const PIECE: usize = 1024;
+pub(crate) const PIECE: usize = 16_384;
 
 const ESC: u8 = 0x1b;
 
-/// Bytes that were read and are not yet taken. Contracts see their list, and not how far they were read for a token.
+/// Bytes that were read and are not yet taken. Contracts see their list.
 #[derive(Drop)]
 pub(crate) struct Unread {
+    /// The bytes, and room behind them for more.
     buffer: Vec<u8>,
-    /// How many bytes of the buffer are taken.
+    /// The number of bytes of the buffer that are taken.
     taken: usize,
-    /// How far those after them were read.
+    /// The number of bytes of the buffer that were read.
+    filled: usize,
+    /// How far those that are not taken were scanned for a token.
     progress: Progress,
 }
 
 impl Model for Unread {
     ghost Value = { List ℕ };
 
-    ghost view = { λ it. drop it.taken it.buffer.items };
+    ghost view = { λ it. unread_in it.taken it.filled it.buffer.items };
 
-    ghost invariant = { λ it. (it.taken ≤ length it.buffer.items) × Fits it.progress (drop it.taken it.buffer.items) };
+    ghost invariant = { λ it. (it.taken ≤ it.filled) × (it.filled ≤ length it.buffer.items)
+        × Fits it.progress (unread_in it.taken it.filled it.buffer.items) };
 }
 
 impl Unread {
-    /// No bytes. It takes no memory.
+    /// No bytes.
     pub(crate) fn new(alloc: Global) -> Unread
         ensures { result ≡ [] }
     {
         Unread {
             buffer: Vec::new(alloc),
             taken: 0,
+            filled: 0,
             progress: Progress::Start,
         }
     }
@@ -51,7 +57,7 @@ impl Unread {
     pub(crate) fn bytes(&self) -> &[u8]
         ensures { result.now ≡ self.now }
     {
-        &self.buffer.as_slice()[self.taken..]
+        &self.buffer.as_slice()[self.taken..self.filled]
     }
 
     /// Whether they are an ESC, and nothing after it.
@@ -71,11 +77,7 @@ impl Unread {
         ensures within { IfSome result (λ s. s.used ≤ length self.old) }
         ensures kept { self.new ≡ self.old }
     {
-        match scan_on(
-            &self.buffer.as_slice()[self.taken..],
-            self.progress,
-            is_last,
-        ) {
+        match scan_on(self.bytes(), self.progress, is_last) {
             Ok(found) => Some(found),
             Err(progress) => {
                 self.progress = progress;
@@ -88,7 +90,7 @@ impl Unread {
     pub(crate) fn front(&self) -> Option<Scanned>
         ensures { result ≡ token_at false self.now }
     {
-        scan_on(&self.buffer.as_slice()[self.taken..], self.progress, false).ok()
+        scan_on(self.bytes(), self.progress, false).ok()
     }
 
     /// Takes bytes at the front.
@@ -100,16 +102,8 @@ impl Unread {
         self.progress = Progress::Start;
     }
 
-    /// Gives up the room of the bytes that are taken.
-    fn close_up(&mut self)
-        ensures { self.new ≡ self.old }
-    {
-        self.buffer.drain(..self.taken);
-        self.taken = 0;
-    }
-
-    /// Reads what there is, and waits where there is nothing. It returns how many bytes came, none at the end. It finds
-    /// room for the bytes before it reads, so that none is lost for want of memory.
+    /// Reads what there is, and waits if there is nothing. Returns the number of bytes that came, or 0 at the end. Room
+    /// for the bytes is found before the reader is asked, so that none is lost for want of memory.
     pub(crate) fn read_from<R: Read>(&mut self, reader: &mut R) -> Result<usize, Refused>
         ensures ok { IfOk result (λ count. (more : List ℕ) × (self.new ≡ self.old ++ more) × (length more ≡ count)
             × Consumes (R.remaining reader.old) (R.remaining reader.new) more) }
@@ -117,29 +111,50 @@ impl Unread {
         ensures err { OnErr result (self.new ≡ self.old) }
         ensures kept { OnErr result (Keeps (R.remaining reader.old) (R.remaining reader.new)) }
     {
-        self.close_up();
-        read_more(reader, &mut self.buffer)
+        self.filled = close_up(&mut self.buffer, self.taken, self.filled);
+        self.taken = 0;
+        let count = read_more(reader, &mut self.buffer, self.filled)?;
+        self.filled += count;
+        Ok(count)
     }
 }
 
-/// Reads what there is after the bytes of a buffer, and returns how many came. Room is found before bytes are read.
-fn read_more<R: Read>(reader: &mut R, buffer: &mut Vec<u8>) -> Result<usize, Refused>
-    ensures ok { IfOk result (λ count. (more : List ℕ) × (buffer.new.items ≡ buffer.old.items ++ more)
+/// Moves the bytes of a buffer that are not taken to its front, and returns their number.
+fn close_up(buffer: &mut Vec<u8>, taken: usize, filled: usize) -> usize
+    requires taken { taken ≤ filled }
+    requires filled { filled ≤ length buffer.old.items }
+    ensures within { result ≤ length buffer.new.items }
+    ensures same { take result buffer.new.items ≡ unread_in taken filled buffer.old.items }
+{
+    if taken == filled {
+        return 0;
+    }
+    buffer.drain(..taken);
+    filled - taken
+}
+
+/// Returns `Memory` if a reader failed for want of memory, and `Device` for every other error.
+fn read_refusal(error: &io::Error) -> Refused {
+    match error.kind() {
+        ErrorKind::OutOfMemory => Refused::Memory,
+        _ => Refused::Device,
+    }
+}
+
+/// Reads what there is behind the first bytes of a buffer, and returns the number of bytes that came. The buffer gets room
+/// for a piece before the reader is asked: mostly it has it, and nothing is written.
+fn read_more<R: Read>(reader: &mut R, buffer: &mut Vec<u8>, held: usize) -> Result<usize, Refused>
+    requires { held ≤ length buffer.old.items }
+    ensures ok { IfOk result (λ count. (more : List ℕ) × (held + count ≤ length buffer.new.items)
+        × (take (held + count) buffer.new.items ≡ take held buffer.old.items ++ more)
         × (length more ≡ count) × Consumes (R.remaining reader.old) (R.remaining reader.new) more) }
     ensures end { IfOk result (λ count. count ≡ 0 → IsAtEnd (R.remaining reader.new)) }
-    ensures err { OnErr result (buffer.new.items ≡ buffer.old.items) }
+    ensures err { OnErr result ((held ≤ length buffer.new.items) × (take held buffer.new.items ≡ take held buffer.old.items)) }
     ensures kept { OnErr result (Keeps (R.remaining reader.old) (R.remaining reader.new)) }
 {
-    let held = buffer.len();
     buffer.resize(held.saturating_add(PIECE), 0)?;
     match reader.read(&mut buffer.as_mut_slice()[held..]) {
-        Ok(count) => {
-            buffer.truncate(held.saturating_add(count));
-            Ok(count)
-        }
-        Err(_) => {
-            buffer.truncate(held);
-            Err(Refused::Device)
-        }
+        Ok(count) => Ok(count),
+        Err(error) => Err(read_refusal(&error)),
     }
 }

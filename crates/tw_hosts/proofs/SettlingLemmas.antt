@@ -281,6 +281,6 @@ whole_is_measured cols prompt before h = ap (λ ps. end_of_pieces cols ps (line_
 
 -- over a faithful host a printable line is answered as by that host
 pub printable_is_unchanged : {V : Type 0} (rules : HostRules V) → PrintableIsUnchanged rules
-printable_is_unchanged rules faithful v cut h =
-    ap (λ column. record (rules.highlight v.host cut) { column = column })
-    (printable_is_plain v.screen.cols v.screen.prompt cut h ∙ sym (faithful.column v.host cut))
+printable_is_unchanged rules faithful screen v cut h =
+    ap (λ column. record (rules.highlight v cut) { column = column })
+    (printable_is_plain screen.cols screen.prompt cut h ∙ sym (faithful.column v cut))

@@ -3,8 +3,8 @@ use Rattle.std.proofs.Common.{◌≡◌, ◌≢◌, ℕ, ◌+◌, ◌<◌, ◌�
 use Rattle.std.specs.Str.{IsUtf8, IsCharBoundary}
 use Rattle.std.proofs.lemmas.Bool.{eq-eqb, ne_eqb, cases_eq, true≢false}
 use Rattle.std.proofs.lemmas.Bool.Decides.{eqb_tells}
-use Rattle.std.proofs.lemmas.List.{get_or-drop, length-drop}
-use Rattle.std.proofs.lemmas.List.Sums.{position_or_len_is, passes_at_first}
+use Rattle.std.proofs.lemmas.List.{get_or-drop, get_or-take, length-drop, length-take}
+use Rattle.std.proofs.lemmas.List.Sums.{position_or_len_is, fails_before_first, passes_at_first}
 use Rattle.std.proofs.lemmas.Str.{IsCharBoundary-after_ascii}
 use Rattle.tw_host.specs.ElementView.{ElementView}
 use Rattle.tw_hosts.specs.Tokens.{up_to, is_quote, token_len, styled_token, styled_tokens}
@@ -14,6 +14,18 @@ use Rattle.tw_hosts.specs.declared.tokens.Styles.{Styles}
 pub up_to-is : (mark : ℕ) (text : List ℕ) (k : ℕ) → k ≤ length text → ((i : ℕ) → i < k → get_or text i 0 ≢ mark) → (k < length text → get_or text k 0 ≡ mark) → up_to mark text ≡ k
 up_to-is mark text k low before there =
     position_or_len_is (λ byte. byte == mark) text k 0 low (λ i below. ne_eqb _ mark (before i below)) (λ h. eq-eqb _ _ (there h))
+
+-- a mark in the front of a text is looked for only there
+pub up_to-front : (mark : ℕ) (text : List ℕ) (n : ℕ) → n ≤ length text → up_to mark (take n text) ≡ min n (up_to mark text)
+up_to-front mark text n low =
+    let test = λ (byte : ℕ). byte == mark in
+    let first = up_to mark text in
+    let len : length (take n text) ≡ n = omega (arith, length-take n text) in
+    position_or_len_is test (take n text) (min n first) 0 (omega (arith, len))
+    (λ k below. ap test (get_or-take n text k 0 (omega (arith, below))) ∙ fails_before_first test text k 0 (omega (arith, below)))
+    (λ inside. let here : min n first ≡ first = omega (arith, inside, len) in
+    ap test (get_or-take n text (min n first) 0 (omega (arith, inside, len)) ∙ ap (λ i. get_or text i 0) here)
+    ∙ passes_at_first test text 0 (omega (arith, inside, len, low)))
 
 -- a byte that passes the test is that byte
 same-byte : (byte mark : ℕ) → (byte == mark) ≡ true → byte ≡ mark

@@ -1,11 +1,11 @@
--- What a host answers that counts in the cells which wide characters leave empty.
+-- What is known of a screen, and the column of the cursor on it.
 use Rattle.std.specs.Prelude.{ℕ, ◌≡◌, true, List, string_bytes}
 use Rattle.std.specs.List.{list_all}
 use Rattle.tw_surface.specs.Characters.{is_printable}
 use Rattle.tw_input.specs.EventView.{EventView, Key, Resized, Paste, Wake}
 use Rattle.tw_line.specs.Cut.{Cut}
 use Rattle.tw_host.specs.Faithful.{IsFaithful}
-use Rattle.tw_host.specs.HostRules.{HostRules, Highlight, Resolution}
+use Rattle.tw_host.specs.HostRules.{HostRules, Highlight}
 use Rattle.tw_hosts.specs.Settling.{settled_column}
 use Rattle.tw_hosts.specs.declared.settling.PromptScreen.{PromptScreen}
 
@@ -29,31 +29,11 @@ screen_after (Key key) screen = screen
 screen_after (Paste text) screen = screen
 screen_after Wake screen = screen
 
--- what another host holds, and a screen
-pub record Settled (V : Type 0) : Type 0 where
-  pub host : V
-  pub screen : PromptScreenView
-
--- what the other host shows, with the column on the screen
+-- what a host shows, with the column on the screen
 abbrev pub settled_highlight : PromptScreenView → Cut → Highlight → Highlight
 settled_highlight screen cut shown = record { elements = shown.elements; column = column_on screen cut }
 
--- what the other host makes of an event, beside a screen
-abbrev pub beside : {V : Type 0} → PromptScreenView → Resolution V → Resolution (Settled V)
-beside screen r = record { value = record { host = r.value; screen = screen }; cut = r.cut; action = r.action }
-
--- the other host's answers, but for the column
-abbrev pub settled_rules : {V : Type 0} → HostRules V → HostRules (Settled V)
-settled_rules rules = record {
-  lines = λ v. rules.lines v.host;
-  prompt = λ v text. rules.prompt v.host text;
-  preview = λ v line. rules.preview v.host line;
-  highlight = λ v cut. settled_highlight v.screen cut (rules.highlight v.host cut);
-  candidates = λ v cut. rules.candidates v.host cut;
-  resolve = λ v event cut. beside (screen_after event v.screen) (rules.resolve v.host event cut);
-}
-
--- over a faithful host a printable line is answered as by that host, whatever the screen is said to be
+-- a faithful host shows a printable line with the column on any screen
 abbrev pub PrintableIsUnchanged : {V : Type 0} → HostRules V → Type 0
-PrintableIsUnchanged {V} rules = IsFaithful rules → (v : Settled V) (cut : Cut) → list_all is_printable cut.line ≡ true
-    → (settled_rules rules).highlight v cut ≡ rules.highlight v.host cut
+PrintableIsUnchanged {V} rules = IsFaithful rules → (screen : PromptScreenView) (v : V) (cut : Cut) → list_all is_printable cut.line ≡ true
+    → settled_highlight screen cut (rules.highlight v cut) ≡ rules.highlight v cut

@@ -34,7 +34,7 @@ pub fn settling()
     ensures whole { WholeIsMeasured }
 {}
 
-/// Over a faithful host a printable line is answered as by that host, whatever the screen is said to be.
-pub fn settled_host<H: LineEditorHost>()
+/// The settled column of a printable line is that of a faithful host, whatever the screen is said to be.
+pub fn printable<H: LineEditorHost>()
     ensures { PrintableIsUnchanged H.rules }
 {}

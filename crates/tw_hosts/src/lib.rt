@@ -4,13 +4,12 @@
 //! `words` has the words of a line and what completes them; `tokens` how a line is cut into tokens and shown with
 //! keywords and quoted texts in their styles; `bindings` a host's own keys; `hints` what is shown under the line;
 //! `table_host` the host that holds these as plain data. `settling` has the column of the cursor where wide characters
-//! leave cells empty at the screen's edge, and `settled_host` the host that answers it over any other one.
+//! leave cells empty at the screen's edge.
 #![tactic(auto)]
 
 mod bindings;
 mod hints;
 pub mod laws;
-mod settled_host;
 mod settling;
 mod table_host;
 mod tokens;
@@ -18,7 +17,6 @@ mod words;
 
 pub use bindings::{Binding, KeyBinding, binding_action, bound, resolve_key};
 pub use hints::{Hint, show_hint};
-pub use settled_host::SettledHost;
 pub use settling::{PromptScreen, settled_column};
 pub use table_host::{TableHost, Tables};
 pub use tokens::{Styles, highlight_tokens, split_token, styled};

@@ -1,8 +1,8 @@
 //! How a line is cut into tokens, and how each is shown.
 
-ghost use Rattle.std.specs.Prelude.{◌≡◌, ◌<◌, IfOk, IsCharBoundary, drop, length, map, string_bytes, take};
+ghost use Rattle.std.specs.Prelude.{◌≡◌, ◌<◌, true, IfOk, IsCharBoundary, drop, length, map, string_bytes, take};
 ghost use Rattle.tw_host.specs.ElementView.{element_view};
-ghost use Rattle.tw_hosts.specs.Tokens.{is_quote, styled_text, styled_line, styled_token, token_len, up_to};
+ghost use Rattle.tw_hosts.specs.Tokens.{is_quote, quote_len, styled_text, styled_line, styled_token, token_len, up_to, word_len};
 
 use crate::words::is_known;
 use std::alloc::{AllocError, Global};
@@ -37,22 +37,44 @@ fn is_quote(text: &str) -> bool
     text.starts_with('\'')
 }
 
-/// The length of the first token of a text, in bytes.
+/// Returns the length of a quoted text in bytes: up to its second mark, or to the end.
+fn quote_len(text: &str) -> usize
+    requires some { 0 < length text.now }
+    requires quote { is_quote text.now ≡ true }
+    ensures value { result ≡ quote_len text.now }
+    ensures boundary { IsCharBoundary text.now result }
+{
+    let (_, body) = text.split_at(1);
+    let end = up_to(body, '\'');
+    if end < body.len() {
+        return end + 2;
+    }
+    text.len()
+}
+
+/// Returns the length in bytes of what stands before the first space or mark, or of that one byte. Only bytes up to the
+/// space are read.
+fn word_len(text: &str) -> usize
+    requires { 0 < length text.now }
+    ensures value { result ≡ word_len text.now }
+    ensures boundary { IsCharBoundary text.now result }
+{
+    let (word, _) = text.split_at(up_to(text, ' '));
+    let end = up_to(word, '\'');
+    if end == 0 { 1 } else { end }
+}
+
+/// Returns the length of the first token of a text in bytes.
 fn token_len(text: &str) -> usize
     requires { 0 < length text.now }
     ensures value { result ≡ token_len text.now }
     ensures boundary { IsCharBoundary text.now result }
 {
     if is_quote(text) {
-        let (_, body) = text.split_at(1);
-        let end = up_to(body, '\'');
-        if end < body.len() {
-            return end + 2;
-        }
-        return text.len();
+        quote_len(text)
+    } else {
+        word_len(text)
     }
-    let end = up_to(text, ' ').min(up_to(text, '\''));
-    if end == 0 { 1 } else { end }
 }
 
 /// The first token of a text that is not empty, and what follows it. A token is a text in single quotation marks, or

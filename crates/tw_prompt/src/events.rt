@@ -1,72 +1,208 @@
 //! What is typed, as events for the prompt.
 
-use crate::sizes::fitting;
+ghost use Rattle.std.specs.Prelude.{◌≡◌, ◌++◌, ◌||◌, ℕ, List, [], true, map, string_bytes, IfSome};
+ghost use Rattle.std.specs.List.{list_all};
+ghost use Rattle.tw_input.specs.EventView.{event_view};
+ghost use Rattle.tw_device.specs.Told.{answer_events};
+ghost use Rattle.tw_surface.specs.Characters.{is_printable};
+ghost use Rattle.tw_prompt.specs.Joined.{Moves, Piece, Pieced, is_pending, keys_of, pending_events, run_event, told_in_all, typed_key};
+
+use crate::joined::{fitted, printable_in, typed_key};
 use crate::typed::{PIECE, Typed};
 use std::alloc::Global;
 use std::io::Read;
 use std::time::Clock;
 use tw_device::{EventLog, EventSource, KeyReader, SourceState};
 use tw_input::InputEvent;
-use tw_terminal::{ScreenSize, TerminalFault};
+use tw_terminal::TerminalFault;
 
-/// The events of what is typed. A report of a size that no screen has is none.
+/// What is held back behind a run of characters.
+#[derive(Debug, Drop)]
+pub enum Pending {
+    /// Nothing.
+    Nothing,
+    /// An event.
+    Event(InputEvent),
+    /// A refusal of the source.
+    Fault(TerminalFault),
+}
+
+/// The events of a source, as a prompt takes them. A size that no screen has is no event. If the owner lets characters
+/// join, printable ASCII characters that are at hand at once come as one pasted text, so that one edit and one painting
+/// stand for all of them.
 #[derive(Drop)]
-pub struct PromptEvents<R, C> {
-    keys: KeyReader<Typed<R, C>>,
+pub struct PromptEvents<S> {
+    alloc: Global,
+    source: S,
+    joins: bool,
+    pending: Pending,
     state: SourceState,
     told: EventLog,
 }
 
-impl<R: Read, C: Clock> PromptEvents<R, C> {
-    /// The events of what a reader gives. A byte is read only where one is wanted, so that what is typed after the last
-    /// line is left to others, and no event is at hand. It takes no memory.
+/// The events of what is typed at a terminal.
+pub type TypedEvents<R, C> = PromptEvents<KeyReader<Typed<R, C>>>;
+
+impl<R: Read, C: Clock> PromptEvents<KeyReader<Typed<R, C>>> {
+    /// The events of a reader that is asked for one byte at a time, so that what is typed behind the last line is left to
+    /// others. Characters join.
     pub fn new(alloc: Global, reader: R, clock: C) -> Self {
-        PromptEvents::of(alloc, Typed::new(alloc, reader, clock, 1))
+        let typed = Typed::new(alloc, reader, clock, 1);
+        PromptEvents::over(alloc, KeyReader::new(alloc, typed), true)
     }
 
-    /// The events of what a reader gives, where all that was typed is read, so that it is known which events are at
-    /// hand. What was read after the last line is lost. It takes no memory.
+    /// The events of a reader of which all is read that was typed, so that the source knows what is at hand. What was
+    /// read behind the last line is lost. Characters join.
     pub fn reading_ahead(alloc: Global, reader: R, clock: C) -> Self {
-        PromptEvents::of(alloc, Typed::new(alloc, reader, clock, PIECE))
+        let typed = Typed::new(alloc, reader, clock, PIECE);
+        PromptEvents::over(alloc, KeyReader::new(alloc, typed), true)
     }
+}
 
-    /// The events of what is typed.
-    fn of(alloc: Global, typed: Typed<R, C>) -> Self {
+impl<S: EventSource> PromptEvents<S> {
+    /// The events of a source, of which no event was told. `joins`: characters at hand at once come as one pasted text,
+    /// which is wrong for a host that binds characters.
+    pub fn over(alloc: Global, source: S, joins: bool) -> Self
+        ensures told { ⟦<PromptEvents<S> as EventSource>⟧.told result ≡ [] }
+        ensures source { result.source ≡ source }
+        ensures joins { result.joins ≡ joins }
+        ensures held { pending_events result.pending ≡ [] }
+    {
         PromptEvents {
-            keys: KeyReader::new(alloc, typed),
+            alloc,
+            source,
+            joins,
+            pending: Pending::Nothing,
             state: SourceState::Going,
             told: EventLog::new(),
         }
     }
-}
 
-/// The next event that is one for the prompt.
-fn next_fitting<R: Read, C: Clock>(
-    keys: &mut KeyReader<Typed<R, C>>,
-) -> Result<Option<InputEvent>, TerminalFault> {
-    for _ in 0..u64::MAX {
-        match keys.next_event()? {
-            Some(InputEvent::Resized { cols, rows }) => {
-                if let Some(size) = fitting(ScreenSize { rows, cols }) {
-                    let ScreenSize { rows, cols } = size;
-                    return Ok(Some(InputEvent::Resized { cols, rows }));
-                }
-            }
-            other => return Ok(other),
+    /// Takes what is held back, or else the next event of the source.
+    fn next_typed(&mut self) -> Result<Option<InputEvent>, TerminalFault>
+        ensures moves { Moves S.told S.follows self.old.source (pending_events self.old.pending)
+            self.new.source (pending_events self.new.pending) (answer_events result) }
+        ensures empty { pending_events self.new.pending ≡ [] }
+        ensures joins { self.new.joins ≡ self.old.joins }
+        ensures told { self.new.told ≡ self.old.told }
+    {
+        match std::mem::replace(&mut self.pending, Pending::Nothing) {
+            Pending::Nothing => self.source.next_event(),
+            Pending::Event(event) => Ok(Some(event)),
+            Pending::Fault(fault) => Err(fault),
         }
     }
-    Err(TerminalFault::Device)
+
+    /// Takes the printable character that is at hand, if there is one. Another event is held back.
+    fn next_character(&mut self) -> Option<char>
+        ensures moves { Moves S.told S.follows self.old.source (pending_events self.old.pending)
+            self.new.source (pending_events self.new.pending) (keys_of result) }
+        ensures printable { IfSome result (λ c. (is_printable c ≡ true) × (pending_events self.new.pending ≡ [])) }
+        ensures joins { self.new.joins ≡ self.old.joins }
+        ensures told { self.new.told ≡ self.old.told }
+    {
+        if !self.source.has_at_hand() {
+            return None;
+        }
+        match self.next_typed() {
+            Ok(Some(event)) => match printable_in(&event) {
+                Some(c) => Some(c),
+                None => {
+                    self.pending = Pending::Event(event);
+                    None
+                }
+            },
+            Ok(None) => None,
+            Err(fault) => {
+                self.pending = Pending::Fault(fault);
+                None
+            }
+        }
+    }
+
+    /// Appends to a run the printable characters that are at hand. One for which there is no memory is held back.
+    fn gather(&mut self, run: &mut String)
+        ensures moves { (more : List ℕ) × (list_all is_printable more ≡ true)
+            × (string_bytes run.new ≡ string_bytes run.old ++ more)
+            × Moves S.told S.follows self.old.source (pending_events self.old.pending)
+            self.new.source (pending_events self.new.pending) (map typed_key more) }
+        ensures joins { self.new.joins ≡ self.old.joins }
+        ensures told { self.new.told ≡ self.old.told }
+    {
+        for turn in 0..u64::MAX {
+            let _steps = turn;
+            let Some(c) = self.next_character() else {
+                break;
+            };
+            match run.push(c) {
+                Ok(()) => {}
+                Err(_) => {
+                    self.pending = Pending::Event(typed_key(c));
+                    break;
+                }
+            }
+        }
+    }
+
+    /// Returns a character, with those that are at hand behind it as one pasted text.
+    fn joined(&mut self, first: char) -> InputEvent
+        requires { is_printable first ≡ true }
+        ensures moves { (more : List ℕ) × (list_all is_printable more ≡ true) × (event_view result ≡ run_event first more)
+            × Moves S.told S.follows self.old.source (pending_events self.old.pending)
+            self.new.source (pending_events self.new.pending) (map typed_key more) }
+        ensures joins { self.new.joins ≡ self.old.joins }
+        ensures told { self.new.told ≡ self.old.told }
+    {
+        let mut run = String::new(self.alloc);
+        if run.push(first).is_err() {
+            return typed_key(first);
+        }
+        self.gather(&mut run);
+        if run.len() > 1 {
+            InputEvent::Paste(run)
+        } else {
+            typed_key(first)
+        }
+    }
+
+    /// Returns the next event that is one for the prompt.
+    fn find(&mut self) -> Result<Option<InputEvent>, TerminalFault>
+        ensures pieces { (pieces : List Piece) × (answer_events result ≡ told_in_all pieces)
+            × Pieced S.told S.follows self.old.joins self.old.source (pending_events self.old.pending)
+            self.new.source (pending_events self.new.pending) pieces }
+        ensures joins { self.new.joins ≡ self.old.joins }
+        ensures told { self.new.told ≡ self.old.told }
+    {
+        for turn in 0..u64::MAX {
+            let _steps = turn;
+            let Some(event) = self.next_typed()? else {
+                return Ok(None);
+            };
+            match (self.joins, printable_in(&event)) {
+                (true, Some(c)) => return Ok(Some(self.joined(c))),
+                _ => {}
+            }
+            if let Some(event) = fitted(event) {
+                return Ok(Some(event));
+            }
+        }
+        Err(TerminalFault::Device)
+    }
 }
 
-impl<R: Read, C: Clock> EventSource for PromptEvents<R, C> {
+impl<S: EventSource> EventSource for PromptEvents<S> {
     ghost told = { λ it. it.told };
 
     ghost state = { λ it. it.state };
 
-    ghost at_hand = { λ it. ⟦<KeyReader<Typed<R, C>> as EventSource>⟧.at_hand it.keys };
+    ghost at_hand = { λ it. is_pending it.pending || S.at_hand it.source };
+
+    ghost follows = { λ old new events. (pieces : List Piece) × (events ≡ told_in_all pieces)
+        × Pieced S.told S.follows old.joins old.source (pending_events old.pending) new.source (pending_events new.pending) pieces
+        × (new.joins ≡ old.joins) };
 
     fn next_event(&mut self) -> Result<Option<InputEvent>, TerminalFault> {
-        match next_fitting(&mut self.keys) {
+        match self.find() {
             Ok(Some(event)) => {
                 self.told = self.told.with_event(&event);
                 self.state = SourceState::Going;
@@ -84,6 +220,6 @@ impl<R: Read, C: Clock> EventSource for PromptEvents<R, C> {
     }
 
     fn has_at_hand(&self) -> bool {
-        self.keys.has_at_hand()
+        !matches!(self.pending, Pending::Nothing) || self.source.has_at_hand()
     }
 }

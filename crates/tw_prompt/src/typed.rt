@@ -26,6 +26,15 @@ const SHORTEST_REPORT: usize = 6;
 /// The most bytes that are asked for at once.
 pub const PIECE: usize = 1024;
 
+/// The most bytes of a text without marks that are handed out together.
+const LONGEST_RUN: usize = 16_384;
+
+/// The number of printable bytes in a row that have to come at once before more are gathered.
+const BURST: usize = 8;
+
+/// Within these milliseconds a read came at once: nobody had to type.
+const AT_ONCE: u128 = 2;
+
 /// What a reader answers.
 #[derive(Clone, Copy)]
 enum Found {
@@ -37,19 +46,31 @@ enum Found {
     End,
 }
 
-/// What is typed. It reads a byte only where one is wanted, so what is typed after the last line is left to others; or
-/// it reads what there is, so that it is known what is at hand.
-/// An ESC is handed out with the byte after it, so that the key Escape, which has none, is told from other keys: it
-/// comes before a pause.
+/// The reader of a terminal in raw mode. It asks for one byte at a time, so that what is typed behind the last line is
+/// left to others, or for all that there is, so that it is known what is at hand.
 ///
-/// A terminal that was asked for its size may answer within a pasted text, where that is typed slowly. The answer is
-/// no part of the text: the last one is handed out after it.
+/// An ESC is handed out with the byte behind it, so that the key Escape, which has none, differs from other keys: it
+/// comes before a pause. A terminal that was asked for its size may answer within a pasted text, if that is typed slowly.
+/// The answer is no part of the text: the last one is handed out behind it.
+///
+/// If printable bytes come at once, many in a row, as a text does that is pasted without marks, they are handed out
+/// together: at the first other byte, or at a pause. No byte behind that one is read before. A file has no pauses: its
+/// bytes are gathered only if there was one.
+///
+/// If there is no memory a call fails with `ErrorKind::OutOfMemory`, and the bytes that were read are kept for the next.
 #[derive(Drop)]
 pub struct Typed<R, C> {
     reader: R,
     clock: C,
-    /// How many bytes are asked for at once.
+    /// The most bytes to ask for at once.
     most: usize,
+    /// The bytes of the last read, of which the first `taken` are taken.
+    piece: Vec<u8>,
+    taken: usize,
+    /// Whether there was a pause, as there is at a terminal.
+    has_paused: bool,
+    /// The number of printable bytes that came at once, one behind the other.
+    streak: usize,
     /// The bytes that are to be handed out.
     ready: Vec<u8>,
     /// Whether a pasted text is being read.
@@ -60,7 +81,17 @@ pub struct Typed<R, C> {
     report: Vec<u8>,
 }
 
-/// Whether these are digits and semicolons alone.
+/// Returns true if all bytes are printable ASCII.
+fn are_printable(bytes: &[u8]) -> bool {
+    for byte in bytes {
+        if *byte < b' ' || b'~' < *byte {
+            return false;
+        }
+    }
+    true
+}
+
+/// Returns true if all bytes are digits and semicolons.
 fn are_numbers(bytes: &[u8]) -> bool {
     for byte in bytes {
         if !byte.is_ascii_digit() && *byte != b';' {
@@ -86,12 +117,16 @@ fn is_report(bytes: &[u8]) -> bool {
 }
 
 impl<R: Read, C: Clock> Typed<R, C> {
-    /// What a reader gives, asked for so many bytes at once, up to `PIECE`. It takes no memory.
+    /// A reader over another one, which is asked for up to `most` bytes at once, and for no more than `PIECE`.
     pub fn new(alloc: Global, reader: R, clock: C, most: usize) -> Self {
         Typed {
             reader,
             clock,
             most: most.min(PIECE),
+            piece: Vec::new(alloc),
+            taken: 0,
+            has_paused: false,
+            streak: 0,
             ready: Vec::new(alloc),
             is_paste: false,
             sequence: Vec::new(alloc),
@@ -137,39 +172,88 @@ impl<R: Read, C: Clock> Typed<R, C> {
         Ok(())
     }
 
+    /// Finds the room that taking a byte needs, so that a byte is taken whole or not at all.
+    fn make_room(&mut self) -> Result<(), AllocError> {
+        let held = self.sequence.len().saturating_add(1);
+        self.sequence.reserve(1)?;
+        self.report.reserve(held)?;
+        self.ready.reserve(held.saturating_add(self.report.len()))
+    }
+
     /// Takes a byte.
-    fn take(&mut self, byte: u8) -> io::Result<()> {
-        let taken = if self.is_paste {
+    fn take(&mut self, byte: u8) -> Result<(), AllocError> {
+        self.make_room()?;
+        if self.is_paste {
             self.take_pasted(byte)
         } else {
             self.take_key(byte)
-        };
-        taken.map_err(|_| io::Error::from(ErrorKind::OutOfMemory))
+        }
     }
 
-    /// Reads what there is, and takes it.
+    /// Takes the bytes that were read.
+    fn take_piece(&mut self) -> io::Result<()> {
+        for _ in 0..self.piece.len() {
+            let Some(byte) = self.piece.get(self.taken).copied() else {
+                break;
+            };
+            let taken = self.take(byte);
+            taken.map_err(|_| io::Error::from(ErrorKind::OutOfMemory))?;
+            self.taken = self.taken.saturating_add(1);
+        }
+        Ok(())
+    }
+
+    /// Counts the bytes of a read that took this long into the streak, or ends it.
+    fn count_streak(&mut self, passed: u128) {
+        let is_text = !self.is_paste && are_printable(self.piece.as_slice());
+        self.streak = if is_text && passed < AT_ONCE {
+            self.streak.saturating_add(self.piece.len())
+        } else {
+            0
+        };
+    }
+
+    /// Reads what there is, and takes it. What was read before and is not taken comes first.
     fn find(&mut self) -> io::Result<Found> {
-        let begun = Instant::now(&self.clock)?;
-        let mut bytes = [0; PIECE];
-        let count = self.reader.read(&mut bytes[..self.most.min(PIECE)])?;
-        if count > 0 {
-            for byte in &bytes[..count.min(PIECE)] {
-                self.take(*byte)?;
-            }
+        if self.taken < self.piece.len() {
+            self.take_piece()?;
             return Ok(Found::Bytes);
         }
-        let passed = begun.elapsed(&self.clock)?;
-        Ok(if passed.as_millis() < SHORTEST_PAUSE {
-            Found::End
-        } else {
-            Found::Pause
-        })
+        self.taken = 0;
+        self.piece.clear();
+        let room = self.piece.resize(self.most, 0);
+        room.map_err(|_| io::Error::from(ErrorKind::OutOfMemory))?;
+        let begun = Instant::now(&self.clock)?;
+        let count = match self.reader.read(self.piece.as_mut_slice()) {
+            Ok(count) => count,
+            Err(error) => {
+                self.piece.clear();
+                return Err(error);
+            }
+        };
+        self.piece.truncate(count);
+        let passed = begun.elapsed(&self.clock)?.as_millis();
+        self.count_streak(passed);
+        if count > 0 {
+            self.take_piece()?;
+            return Ok(Found::Bytes);
+        }
+        if passed < SHORTEST_PAUSE {
+            return Ok(Found::End);
+        }
+        self.has_paused = true;
+        Ok(Found::Pause)
     }
 
-    /// Whether bytes are to be handed out at once.
+    /// Returns true while printable bytes come at once, many in a row.
+    fn gathers(&self) -> bool {
+        self.has_paused && self.streak >= BURST && self.ready.len() < LONGEST_RUN
+    }
+
+    /// Returns true if bytes are to be handed out at once.
     fn is_ready(&self) -> bool {
         match self.ready.as_slice().last() {
-            Some(last) => self.is_paste || *last != ESCAPE,
+            Some(last) => self.is_paste || (*last != ESCAPE && !self.gathers()),
             None => false,
         }
     }

@@ -21,6 +21,6 @@ returns-clause-bracketed c = λ pairs pair text are utf8 all whole.
     (ap (λ cs. stack_run pairs cs []) (chars-between pair text are.character utf8 all) ∙ run-bracketed pairs pair (chars text) are (whole-to pairs text whole))
 
 pub returns-clause-quoted : goal.returns-clause-quoted
-returns-clause-quoted c = λ pairs pair text is utf8 all none.
+returns-clause-quoted c = λ pairs pair escape text is utf8 all quoted.
     whole-from pairs (between pair text)
-    (ap (λ cs. stack_run pairs cs []) (chars-between pair text is.character utf8 all) ∙ run-quoted pairs pair (chars text) is none)
+    (ap (λ cs. stack_run pairs cs []) (chars-between pair text is.character utf8 all) ∙ run-quoted pairs pair escape (chars text) is quoted)

@@ -12,9 +12,6 @@ returns-clause-typed g c =
 pub returns-clause-along : goal.returns-clause-along
 returns-clause-along g c = search rules
 
-pub returns-clause-closed : goal.returns-clause-closed
-returns-clause-closed g c = search rules
-
 pub returns-clause-err : goal.returns-clause-err
 returns-clause-err g c = search rules
 

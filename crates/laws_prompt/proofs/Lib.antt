@@ -1,0 +1,4 @@
+pub mod ActionLemmas
+pub mod SearchRunLemmas
+pub mod MenuLemmas
+pub mod MenuRunLemmas

@@ -1,0 +1,2 @@
+pub mod SearchRuns
+pub mod MenuRuns

@@ -1,0 +1,134 @@
+//! What an editor is to do, as text, and how it does it.
+
+use crate::events::events_named;
+use crate::told::answer_text;
+use script_player::ScriptHost;
+use std::alloc::{AllocError, Global};
+use std::test::Fail;
+use tw_lineedit::{History, LineEditor, LineEditorHost};
+use tw_terminal::{ScreenSize, ScriptTerminal};
+
+/// What an editor is to do, by the lines of `case_of`.
+#[derive(Drop)]
+pub struct Case<'a> {
+    pub size: ScreenSize,
+    pub history: Vec<&'a str>,
+    pub preview: &'a str,
+    pub candidates: Vec<(usize, usize, &'a str)>,
+    pub prompt: &'a str,
+    pub initial: Option<&'a str>,
+    pub events: &'a str,
+    pub readings: usize,
+    pub host: &'a str,
+    pub shows: &'a str,
+    pub steps: Vec<&'a str>,
+    pub fault: Option<(usize, usize)>,
+}
+
+/// Two numbers with a space between them.
+pub fn pair_of(text: &str) -> Result<(usize, usize), Fail> {
+    let (first, second) = text.split_once(' ').ok_or("no pair")?;
+    Ok((first.parse()?, second.parse()?))
+}
+
+fn candidate_of(text: &str) -> Result<(usize, usize, &str), Fail> {
+    let (start, rest) = text.split_once(' ').ok_or("no end")?;
+    let (end, text) = rest.split_once(' ').ok_or("no text")?;
+    Ok((start.parse()?, end.parse()?, text))
+}
+
+/// The case of lines `size ROWS COLS`, `history TEXT` for each line of the history, `preview TEXT`,
+/// `cand START END TEXT` for each candidate, `prompt TEXT`, `initial TEXT`, `events NAMES`, `readings COUNT`,
+/// `host NAME`, `show NAME` (`told_of`) and `fail CALL TAKEN`, each of which may be left out, and of steps (`steps_of`). A line `# TEXT` says what
+/// the case shows.
+pub fn case_of(alloc: Global, lines: &str) -> Result<Case<'_>, Fail> {
+    let mut case = Case {
+        size: ScreenSize { rows: 24, cols: 80 },
+        history: Vec::new(alloc),
+        preview: "",
+        candidates: Vec::new(alloc),
+        prompt: "> ",
+        initial: None,
+        events: "",
+        readings: 1,
+        host: "",
+        shows: "",
+        steps: Vec::new(alloc),
+        fault: None,
+    };
+    for line in lines.lines() {
+        let (word, text) = line.split_once(' ').unwrap_or((line, ""));
+        match word {
+            "size" => {
+                let (rows, cols) = pair_of(text)?;
+                case.size = ScreenSize { rows, cols };
+            }
+            "history" => case.history.push(text)?,
+            "preview" => case.preview = text,
+            "cand" => case.candidates.push(candidate_of(text)?)?,
+            "prompt" => case.prompt = text,
+            "initial" => case.initial = Some(text),
+            "events" => case.events = text,
+            "readings" => case.readings = text.parse()?,
+            "host" => case.host = text,
+            "show" => case.shows = text,
+            "line" | "set" | "ask" | "remember" | "act" | "do" | "actions" | "read" => {
+                case.steps.push(line)?;
+            }
+            "#" => {}
+            "fail" => case.fault = Some(pair_of(text)?),
+            _ => return Err(Fail::from("no such word")),
+        }
+    }
+    Ok(case)
+}
+
+/// Adds the lines to the host's history.
+pub fn remember_all<H: LineEditorHost>(host: &mut H, lines: &[&str]) -> Result<(), AllocError> {
+    for line in lines {
+        host.history().add(line)?;
+    }
+    Ok(())
+}
+
+/// The host of a case, over a history that is empty at first.
+pub fn host_of<L: History + Drop>(
+    alloc: Global,
+    history: L,
+    case: &Case<'_>,
+) -> Result<ScriptHost<L>, AllocError> {
+    let mut host = ScriptHost::new(alloc, history);
+    remember_all(&mut host, case.history.as_slice())?;
+    let preview = case.preview.replace(alloc, "\\n", "\r\n")?;
+    host.set_preview(preview.as_str())?;
+    for candidate in &case.candidates {
+        let (start, end, text) = *candidate;
+        host.offer(start..end, text)?;
+    }
+    Ok(host)
+}
+
+/// Reads the lines of a case with one editor, and gives the answers as text and the terminal.
+pub fn readings_of<H: LineEditorHost>(
+    alloc: Global,
+    case: &Case<'_>,
+    host: &mut H,
+) -> Result<(String, ScriptTerminal), Fail> {
+    let events = events_named(alloc, case.events)?;
+    let mut terminal = ScriptTerminal::new(alloc, case.size, events);
+    if let Some((call, taken)) = case.fault {
+        terminal.fail_at(call, taken);
+    }
+    let mut answers = String::new(alloc);
+    {
+        let mut editor = LineEditor::new(alloc, &mut terminal)?;
+        editor.set_prompt(case.prompt)?;
+        for number in 0..case.readings {
+            let answer = editor.read_line_with_optional_initial_value(host, case.initial);
+            let answer = answer_text(alloc, &answer)?;
+            let parting = if number == 0 { "" } else { ", " };
+            write!(answers, "{parting}{answer}")?;
+        }
+    }
+    Ok((answers, terminal))
+}

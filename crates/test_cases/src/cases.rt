@@ -1,0 +1,64 @@
+//! Cases in one text: what is done, and what is to come of it.
+
+use std::alloc::Global;
+use std::process::Abort;
+use std::test::Fail;
+
+/// Fails with the case if something does not hold.
+pub fn hold(holds: bool, case: &str, what: &str) -> Result<(), Fail> {
+    if holds {
+        return Ok(());
+    }
+    Err(Fail::new(format_args!("{case}: {what}")))
+}
+
+/// Whether what comes is what is wanted. Below a line `..` stand ends of some of the lines that come.
+fn is_wanted(came: &str, wanted: &str) -> bool {
+    match wanted.split_once("\n..\n") {
+        None => came.trim_end_matches('\n') == wanted.trim_end_matches('\n'),
+        Some((first, ends)) => {
+            came.starts_with(first)
+                && ends
+                    .lines()
+                    .all(|end| came.lines().any(|line| line.ends_with(end)))
+        }
+    }
+}
+
+/// Returns the cases from which something else comes than is wanted, each with what comes.
+fn unlike_cases<F: Fn(Global, &str) -> Result<String, Fail>>(
+    alloc: Global,
+    cases: &str,
+    play: F,
+) -> Result<String, Fail>
+    requires { F.IsAlwaysCallable play }
+{
+    let mut unlike = String::new(alloc);
+    for case in cases.split("==\n") {
+        if case.is_empty() {
+            continue;
+        }
+        let (done, wanted) = case.split_once("--\n").ok_or("a case without `--`")?;
+        let came = play(alloc, done)?;
+        if !is_wanted(came.as_str(), wanted) {
+            write!(unlike, "{done}-- came:\n{came}\n==\n")?;
+        }
+    }
+    Ok(unlike)
+}
+
+/// Plays cases and stops the test if something else comes from one than is wanted. A case has the lines of what is done,
+/// below `--` the lines that are wanted, and ends with `==`. Below a line `..` of these stand ends of some of the lines
+/// that come.
+pub fn expect_cases<F: Fn(Global, &str) -> Result<String, Fail>>(
+    rt: &impl Abort,
+    alloc: Global,
+    cases: &str,
+    play: F,
+) -> Result<(), Fail>
+    requires { F.IsAlwaysCallable play }
+{
+    let unlike = unlike_cases(alloc, cases, play)?;
+    assert!(rt; unlike.is_empty(), "{unlike}");
+    Ok(())
+}

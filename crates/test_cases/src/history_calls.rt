@@ -1,0 +1,117 @@
+//! Calls of a history.
+
+use crate::cases::hold;
+use crate::marks::mark;
+use std::alloc::{AllocError, Global};
+use std::test::Fail;
+use tw_lineedit::{History, SearchDirection, SearchStyle};
+
+/// The lines of a history, each with a bar after it.
+pub fn lines_of<L: History>(alloc: Global, history: &L) -> Result<String, AllocError> {
+    let mut lines = String::new(alloc);
+    for at in 0..history.last().map_or(0, |last| last.saturating_add(1)) {
+        if let Some(line) = history.get(alloc, at)? {
+            lines.push_str(&line)?;
+            lines.push('|')?;
+        }
+    }
+    Ok(lines)
+}
+
+/// Adds a line between marks. If it is refused, the lines are as before, and it is added again.
+fn add<L: History>(alloc: Global, history: &mut L, line: &str) -> Result<(), Fail> {
+    let before = lines_of(alloc, history)?;
+    mark(alloc)?;
+    let added = history.add(line);
+    mark(alloc)?;
+    if added.is_err() {
+        let left = lines_of(alloc, history)?;
+        hold(left == before, line, left.as_str())?;
+        history.add(line)?;
+    }
+    Ok(())
+}
+
+/// Searches from `INDEX PATTERN`, between marks, and adds the index, the offset and the text of the line that is found.
+fn search<L: History>(
+    alloc: Global,
+    history: &L,
+    direction: SearchDirection,
+    text: &str,
+    outcome: &mut String,
+) -> Result<(), Fail> {
+    let (idx, pattern) = text.split_once(' ').ok_or("no pattern")?;
+    let idx = idx.parse()?;
+    mark(alloc)?;
+    let found = history.search(alloc, idx, SearchStyle::Substring, direction, pattern);
+    mark(alloc)?;
+    match found? {
+        Some(found) => {
+            let line: &str = &found.line;
+            write!(outcome, "{} {} {line:?}\n", found.idx, found.cursor)?;
+        }
+        None => outcome.push_str("None\n")?,
+    }
+    Ok(())
+}
+
+fn get<L: History>(
+    alloc: Global,
+    history: &L,
+    text: &str,
+    outcome: &mut String,
+) -> Result<(), Fail> {
+    let idx = text.parse()?;
+    mark(alloc)?;
+    let line = history.get(alloc, idx);
+    mark(alloc)?;
+    match line? {
+        Some(line) => {
+            let line: &str = &line;
+            write!(outcome, "{line:?}\n")?;
+        }
+        None => outcome.push_str("None\n")?,
+    }
+    Ok(())
+}
+
+/// Makes the calls of these lines on a history, and returns what comes of them. `have TEXT` adds a line; `add TEXT` does
+/// so between marks, and shows all lines; `last` shows the last index, `get INDEX` a line, and `back INDEX PATTERN` and
+/// `forth INDEX PATTERN` what a search finds.
+pub fn play_history<L: History>(
+    alloc: Global,
+    history: &mut L,
+    calls: &str,
+) -> Result<String, Fail> {
+    let mut outcome = String::new(alloc);
+    for call in calls.lines() {
+        let (word, text) = call.split_once(' ').unwrap_or((call, ""));
+        match word {
+            "have" => history.add(text)?,
+            "add" => {
+                add(alloc, history, text)?;
+                let lines = lines_of(alloc, history)?;
+                write!(outcome, "{lines}\n")?;
+            }
+            "last" => write!(outcome, "{:?}\n", history.last())?,
+            "get" => get(alloc, history, text, &mut outcome)?,
+            "back" => search(
+                alloc,
+                history,
+                SearchDirection::Backwards,
+                text,
+                &mut outcome,
+            )?,
+            "forth" => search(
+                alloc,
+                history,
+                SearchDirection::Forwards,
+                text,
+                &mut outcome,
+            )?,
+            "#" => {}
+            _ => return Err(Fail::from("no call of a history")),
+        }
+    }
+    Ok(outcome)
+}

@@ -1,0 +1,45 @@
+//! Cases of a line editor as text: what an editor does, and what comes of it. The test crates write their rows in them.
+#![tactic(auto)]
+
+mod actions;
+mod case;
+mod cases;
+mod changes;
+mod column_host;
+mod copies;
+mod events;
+mod feeding;
+mod history_calls;
+mod marks;
+mod outcome;
+mod readings;
+mod remembering;
+mod resolving_host;
+mod script_runs;
+mod shown;
+mod steps;
+mod test_rows;
+mod told;
+mod watched;
+
+pub use actions::{action_named, movement_named, movements_named};
+pub use case::{Case, case_of, host_of, pair_of, readings_of, remember_all};
+pub use cases::{expect_cases, hold};
+pub use changes::change_of;
+pub use column_host::ColumnHost;
+pub use copies::expanded;
+pub use events::{
+    event_of, event_text, events_named, script_events, script_terminal, terminal_of, terminal_sized,
+};
+pub use feeding::{Call, refused_feeding};
+pub use history_calls::{lines_of, play_history};
+pub use marks::{mark, mark_if};
+pub use outcome::told_of;
+pub use readings::refused_reading;
+pub use remembering::refused_remembering;
+pub use resolving_host::ResolvingHost;
+pub use script_runs::play_script;
+pub use shown::{last_painting, marked_text, painted_text, rows};
+pub use steps::{is_memory, steps_of};
+pub use test_rows::{bytes_of, expect_rows, expect_runs, fault_text, parted, unescaped};
+pub use told::{answer_text, batches_text, terminal_text, write_batch};

@@ -1,0 +1,65 @@
+//! What comes of a case.
+
+use crate::case::{Case, readings_of};
+use crate::steps::steps_of;
+use crate::told::{terminal_text, write_batch};
+use script_player::{play_all, show_screen};
+use std::alloc::Global;
+use std::test::Fail;
+use tw_lineedit::LineEditorHost;
+use tw_surface::{Change, Screen};
+
+/// What comes of a case: the answers of its readings, or what comes of its steps. If it shows `batches`, what the
+/// terminal has taken follows; if it shows `screen`, `painting` with the last painting, `closing` with the closing batch,
+/// `screen` with the rows of the screen, and where its cursor was before the closing batch and after it.
+pub fn told_of<H: LineEditorHost>(
+    alloc: Global,
+    case: &Case<'_>,
+    host: &mut H,
+) -> Result<String, Fail> {
+    let (outcome, terminal) = if case.steps.is_empty() {
+        readings_of(alloc, case, host)?
+    } else {
+        steps_of(alloc, case, host)?
+    };
+    match case.shows {
+        "" => Ok(outcome),
+        "batches" => {
+            let taken = terminal_text(alloc, &terminal)?;
+            Ok(format!(in alloc; "{}, {taken}", outcome.as_str().trim_end())?)
+        }
+        _ => {
+            let shown = shown_text(alloc, case.size.cols, terminal.batches())?;
+            Ok(format!(in alloc; "{outcome}\n{shown}")?)
+        }
+    }
+}
+
+fn shown_text(alloc: Global, cols: usize, batches: &[Vec<Change>]) -> Result<String, Fail> {
+    let (closing, paintings) = batches.split_last().ok_or("no batch")?;
+    let mut outcome = String::new(alloc);
+    if let Some(painting) = paintings.last() {
+        outcome.push_str("painting ")?;
+        write_batch(&mut outcome, painting.as_slice())?;
+    }
+    outcome.push_str("\nclosing ")?;
+    write_batch(&mut outcome, closing.as_slice())?;
+    let screen = screen_text(alloc, cols, paintings, closing.as_slice())?;
+    outcome.push_str("\nscreen ")?;
+    outcome.push_str(screen.as_str())?;
+    Ok(outcome)
+}
+
+/// The rows that a screen shows of batches, and below them where the cursor was before the last one.
+fn screen_text(
+    alloc: Global,
+    cols: usize,
+    paintings: &[Vec<Change>],
+    closing: &[Change],
+) -> Result<String, Fail> {
+    let mut screen = Screen::new(alloc, cols)?;
+    let cursor = play_all(&mut screen, paintings, closing)?;
+    let mut shown = String::new(alloc);
+    show_screen(&screen, cols, cursor, &mut shown)?;
+    Ok(shown.replace(alloc, "|\n|", "|")?)
+}

@@ -1,0 +1,133 @@
+//! Lines that are read and remembered, with each request refused in turn.
+
+use crate::case::{Case, host_of};
+use crate::cases::hold;
+use crate::events::terminal_sized;
+use crate::history_calls::lines_of;
+use crate::marks::mark_if;
+use crate::told::answer_text;
+use crate::watched::{Seen, Watched};
+use std::alloc::Global;
+use std::test::Fail;
+use tw_lineedit::{BasicHistory, Error, LineEditor, LineEditorHost};
+use tw_surface::Change;
+use tw_terminal::{ScriptTerminal, TerminalFault};
+
+/// What an editor has at the end of a reading: the answer, the line, how far the terminal had come, and whether the
+/// editor could read again.
+#[derive(Drop)]
+struct End {
+    answer: Result<Option<String>, Error>,
+    line: String,
+    seen: Seen,
+    reads_again: bool,
+}
+
+/// A reading, the lines of the history after it, and the terminal at last.
+#[derive(Drop)]
+struct Remembered {
+    end: End,
+    lines: String,
+    terminal: ScriptTerminal,
+}
+
+impl Remembered {
+    /// The batches that the terminal took.
+    fn batches(&self) -> &[Vec<Change>] {
+        self.terminal
+            .batches()
+            .get(..self.end.seen.taken)
+            .unwrap_or(&[])
+    }
+}
+
+/// Whether the editor can read a line.
+fn reads<H: LineEditorHost>(editor: &mut LineEditor<'_, Watched>, host: &mut H) -> bool {
+    editor.read_line(host).is_ok()
+}
+
+/// Reads a line with a new editor, with marks round the call where these are wanted.
+fn end_of<H: LineEditorHost>(
+    alloc: Global,
+    host: &mut H,
+    marked: bool,
+    terminal: &mut Watched,
+) -> Result<End, Fail> {
+    let seen = terminal.seen()?;
+    let mut editor = LineEditor::new(alloc, terminal)?;
+    mark_if(alloc, marked)?;
+    let answer = editor.read_line_and_remember(host);
+    mark_if(alloc, marked)?;
+    let seen = seen.get();
+    let line = String::from_str(alloc, editor.get_line_and_cursor().0)?;
+    let reads_again = reads(&mut editor, host);
+    Ok(End {
+        answer,
+        line,
+        seen,
+        reads_again,
+    })
+}
+
+/// Reads the line of a case, which the host then has in its history.
+fn reading_of(alloc: Global, case: &Case<'_>, marked: bool) -> Result<Remembered, Fail> {
+    let mut host = host_of(alloc, BasicHistory::new(alloc), case)?;
+    let script = terminal_sized(alloc, case.size, case.events)?;
+    let mut terminal = Watched::new(alloc, script)?;
+    let end = end_of(alloc, &mut host, marked, &mut terminal)?;
+    let lines = lines_of(alloc, host.history())?;
+    let terminal = terminal.into_script();
+    Ok(Remembered {
+        end,
+        lines,
+        terminal,
+    })
+}
+
+/// Tests a refused reading: the history's lines stay, and what the terminal took before the closing batch is a beginning
+/// of what it takes with memory. If the line was read, only the history lacks it.
+fn hold_refusal(
+    events: &str,
+    refused: &Remembered,
+    with_memory: &Remembered,
+    lines: &str,
+) -> Result<(), Fail> {
+    hold(refused.lines.as_str() == lines, events, "another history")?;
+    let all = with_memory.batches();
+    let is_refusal = match &refused.end.answer {
+        Err(Error::Memory(_)) => refused.end.seen.flushes == 1,
+        Err(Error::Terminal(TerminalFault::Memory)) => refused.end.seen.taken < all.len(),
+        _ => false,
+    };
+    hold(is_refusal, events, "another refusal")?;
+    let begun = match refused.batches().split_last() {
+        Some((_, begun)) => begun,
+        None => &[],
+    };
+    hold(all.starts_with(begun), events, "other paintings")?;
+    let is_read = refused.end.seen == with_memory.end.seen;
+    let is_same = refused.batches() == all && refused.end.line == with_memory.end.line;
+    hold(!is_read || is_same, events, "another line")
+}
+
+/// Reads the line of a case between marks, which the host then has in its history. Returns what the reading answers with
+/// memory, and the lines of the history after it, a bar after each. If it is refused, the history is as before.
+pub fn refused_remembering(alloc: Global, case: &Case<'_>) -> Result<String, Fail> {
+    let mut before = String::new(alloc);
+    for line in &case.history {
+        write!(before, "{line}|")?;
+    }
+    let with_memory = reading_of(alloc, case, false)?;
+    let outcome = reading_of(alloc, case, true)?;
+    hold(outcome.end.reads_again, case.events, "the mode is left")?;
+    let wanted = answer_text(alloc, &with_memory.end.answer)?;
+    if answer_text(alloc, &outcome.end.answer)? == wanted {
+        let is_same = outcome.batches() == with_memory.batches()
+            && outcome.end.seen == with_memory.end.seen
+            && outcome.lines == with_memory.lines;
+        hold(is_same, case.events, "another reading")?;
+    } else {
+        hold_refusal(case.events, &outcome, &with_memory, before.as_str())?;
+    }
+    Ok(format!(in alloc; "{wanted}\n{}", with_memory.lines)?)
+}

@@ -1,0 +1,156 @@
+//! Steps of an editor outside a reading.
+
+use crate::actions::action_named;
+use crate::case::Case;
+use crate::cases::hold;
+use crate::events::terminal_sized;
+use crate::marks::{mark, mark_if};
+use crate::told::answer_text;
+use std::alloc::{AllocError, Global};
+use std::test::Fail;
+use tw_lineedit::{Error, History, LineEditor, LineEditorHost};
+use tw_terminal::{ScriptTerminal, TerminalFault};
+
+type Editor<'term> = LineEditor<'term, ScriptTerminal>;
+
+/// Whether memory was refused, to the editor or to its terminal.
+pub fn is_memory(error: &Error) -> bool {
+    matches!(
+        error,
+        Error::Memory(_) | Error::Terminal(TerminalFault::Memory)
+    )
+}
+
+/// The line and its cursor.
+fn line_text(alloc: Global, editor: &mut Editor<'_>) -> Result<String, AllocError> {
+    let (line, cursor) = editor.get_line_and_cursor();
+    format!(in alloc; "{line:?} at {cursor}")
+}
+
+/// Applies an action between marks. If it is refused, line and cursor are as before; if it is refused for memory, it is
+/// applied again.
+fn apply<H: LineEditorHost>(
+    alloc: Global,
+    editor: &mut Editor<'_>,
+    host: &mut H,
+    name: &str,
+) -> Result<Result<(), Error>, Fail> {
+    let before = line_text(alloc, editor)?;
+    let action = action_named(alloc, name)?;
+    mark(alloc)?;
+    let applied = editor.apply_action(host, action);
+    mark(alloc)?;
+    let Err(error) = applied else {
+        return Ok(Ok(()));
+    };
+    hold(line_text(alloc, editor)? == before, name, "another line")?;
+    if is_memory(&error) {
+        let action = action_named(alloc, name)?;
+        return Ok(editor.apply_action(host, action));
+    }
+    Ok(Err(error))
+}
+
+/// Sets the line of `CURSOR TEXT`, between marks if these are wanted. If it is refused, line and cursor are as before,
+/// and it is set again.
+fn set(alloc: Global, editor: &mut Editor<'_>, text: &str, marked: bool) -> Result<(), Fail> {
+    let before = line_text(alloc, editor)?;
+    let (cursor, line) = text.split_once(' ').ok_or("no line")?;
+    let cursor = cursor.parse()?;
+    if !line.is_char_boundary(cursor) {
+        return Err(Fail::from("no boundary"));
+    }
+    mark_if(alloc, marked)?;
+    let set = editor.set_line_and_cursor(line, cursor);
+    mark_if(alloc, marked)?;
+    if set.is_err() {
+        hold(line_text(alloc, editor)? == before, text, "another line")?;
+        editor.set_line_and_cursor(line, cursor)?;
+    }
+    Ok(())
+}
+
+/// Sets the prompt between marks, and again if it is refused.
+fn ask(alloc: Global, editor: &mut Editor<'_>, prompt: &str) -> Result<(), Fail> {
+    mark(alloc)?;
+    let set = editor.set_prompt(prompt);
+    mark(alloc)?;
+    if set.is_err() {
+        editor.set_prompt(prompt)?;
+    }
+    Ok(())
+}
+
+/// Applies the actions of the events of these names.
+fn apply_all<H: LineEditorHost>(
+    alloc: Global,
+    editor: &mut Editor<'_>,
+    host: &mut H,
+    names: &str,
+) -> Result<(), Fail> {
+    for name in names.split_whitespace() {
+        editor.apply_action(host, action_named(alloc, name)?)?;
+    }
+    Ok(())
+}
+
+/// Takes a step, and adds what came of it.
+fn take_step<H: LineEditorHost>(
+    alloc: Global,
+    editor: &mut Editor<'_>,
+    host: &mut H,
+    step: &str,
+    outcome: &mut String,
+) -> Result<(), Fail> {
+    let (word, text) = step.split_once(' ').unwrap_or((step, ""));
+    match word {
+        "line" => set(alloc, editor, text, false)?,
+        "set" => set(alloc, editor, text, true)?,
+        "ask" => ask(alloc, editor, text)?,
+        "remember" => host.history().add(text)?,
+        "read" => {
+            let answer = editor.read_line(host);
+            let answer = answer_text(alloc, &answer)?;
+            write!(outcome, "{answer}\n")?;
+        }
+        "act" => apply_all(alloc, editor, host, text)?,
+        "do" => {
+            if let Err(error) = apply(alloc, editor, host, text)? {
+                write!(outcome, "refusal {}, ", error.number())?;
+            }
+            let line = line_text(alloc, editor)?;
+            write!(outcome, "{line}\n")?;
+        }
+        _ => {
+            for name in text.split_whitespace() {
+                apply(alloc, editor, host, name)??;
+            }
+            let line = line_text(alloc, editor)?;
+            write!(outcome, "{line}\n")?;
+        }
+    }
+    Ok(())
+}
+
+/// Takes the steps of a case with a new editor. Returns what came of them and the terminal. `line CURSOR TEXT` sets the
+/// line, `set CURSOR TEXT` too, between marks; `ask TEXT` sets the prompt; `remember TEXT` adds to the history; `act NAMES` applies the actions of
+/// these names; `do NAME` applies one between marks, and shows line and cursor, with its refusal if it is refused;
+/// `actions NAMES` applies each between marks, and shows line and cursor; `read` shows the answer of a reading.
+pub fn steps_of<H: LineEditorHost>(
+    alloc: Global,
+    case: &Case<'_>,
+    host: &mut H,
+) -> Result<(String, ScriptTerminal), Fail> {
+    let mut terminal = terminal_sized(alloc, case.size, case.events)?;
+    if let Some((call, taken)) = case.fault {
+        terminal.fail_at(call, taken);
+    }
+    let mut outcome = String::new(alloc);
+    {
+        let mut editor = LineEditor::new(alloc, &mut terminal)?;
+        for step in &case.steps {
+            take_step(alloc, &mut editor, host, step, &mut outcome)?;
+        }
+    }
+    Ok((outcome, terminal))
+}

@@ -1,0 +1,176 @@
+//! Rows of tests: each line has an input and the wanted output.
+
+use std::alloc::{AllocError, Global};
+use std::fmt::Debug;
+use std::process::Abort;
+use std::test::Fail;
+
+/// Parses an escape behind its backslash. Returns the character and the rest.
+fn escape_of(text: &str) -> Option<(char, &str)> {
+    let mut characters = text.chars();
+    let character = match characters.next()? {
+        'n' => '\n',
+        'r' => '\r',
+        't' => '\t',
+        'e' => '\u{1b}',
+        'u' => return scalar_of(characters.as_str()),
+        _ => return None,
+    };
+    Some((character, characters.as_str()))
+}
+
+/// Parses `{CODE}`. Returns the character and the rest.
+fn scalar_of(text: &str) -> Option<(char, &str)> {
+    let (digits, rest) = text.strip_prefix('{')?.split_once('}')?;
+    let code = u32::from_str_radix(digits, 16).ok()?;
+    Some((char::from_u32(code)?, rest))
+}
+
+/// Replaces the escapes of a text: `\n`, `\r`, `\t`, `\e` for ESC, `\u{CODE}` and `\\`. Any other backslash is itself.
+pub fn unescaped(alloc: Global, text: &str) -> Result<String, Fail> {
+    let mut plain = String::new(alloc);
+    let mut is_plain = true;
+    for part in text.split('\\') {
+        if is_plain {
+            plain.push_str(part)?;
+            is_plain = false;
+        } else if part.is_empty() {
+            plain.push('\\')?;
+            is_plain = true;
+        } else if let Some((character, rest)) = escape_of(part) {
+            plain.push(character)?;
+            plain.push_str(rest)?;
+        } else {
+            plain.push('\\')?;
+            plain.push_str(part)?;
+        }
+    }
+    Ok(plain)
+}
+
+/// Returns the bytes of a text, with `\xHH` for any byte.
+pub fn bytes_of(alloc: Global, text: &str) -> Result<Vec<u8>, Fail> {
+    let mut bytes = Vec::new(alloc);
+    let mut parts = text.split("\\x");
+    bytes.extend_from_slice(parts.next().unwrap_or("").as_bytes())?;
+    for part in parts {
+        let (digits, rest) = part.split_at_checked(2).ok_or("no byte")?;
+        bytes.push(u8::from_str_radix(digits, 16)?)?;
+        bytes.extend_from_slice(rest.as_bytes())?;
+    }
+    Ok(bytes)
+}
+
+/// Splits a text at a mark.
+pub fn parted(alloc: Global, text: &str, mark: char) -> Result<Vec<String>, AllocError> {
+    let mut parts = Vec::new(alloc);
+    for part in text.split(mark) {
+        parts.push(String::from_str(alloc, part)?)?;
+    }
+    Ok(parts)
+}
+
+/// Parses a row: its input and the wanted output. Returns `None` for an empty line or a `//` comment.
+fn parts_of_row(alloc: Global, row: &str) -> Result<Option<(String, String)>, Fail> {
+    if row.is_empty() || row.starts_with("//") {
+        return Ok(None);
+    }
+    let (done, wanted) = row.split_once(" =>").ok_or("no row")?;
+    let wanted = wanted.strip_prefix(' ').unwrap_or(wanted);
+    Ok(Some((unescaped(alloc, done)?, unescaped(alloc, wanted)?)))
+}
+
+/// Appends the row and its output if the output differs from the wanted one.
+fn add_unlike(unlike: &mut String, row: &str, output: &str, wanted: &str) -> Result<(), Fail> {
+    if output != wanted {
+        write!(unlike, "{row}\n    output: {output:?}\n")?;
+    }
+    Ok(())
+}
+
+/// Plays rows and returns the failed ones, each with its output.
+fn unlike_rows<F: FnMut(Global, &str) -> Result<String, Fail>>(
+    alloc: Global,
+    rows: &str,
+    mut play: F,
+) -> Result<String, Fail>
+    requires { F.IsAlwaysCallable play }
+{
+    let mut unlike = String::new(alloc);
+    for row in rows.lines() {
+        if let Some((done, wanted)) = parts_of_row(alloc, row)? {
+            let output = play(alloc, done.as_str())?;
+            add_unlike(&mut unlike, row, output.as_str(), wanted.as_str())?;
+        }
+    }
+    Ok(unlike)
+}
+
+/// Plays runs of commands and returns the failed ones, each with its output.
+fn unlike_runs<F: FnMut(Global, &str) -> Result<String, Fail>>(
+    alloc: Global,
+    rows: &str,
+    mut obey: F,
+) -> Result<String, Fail>
+    requires { F.IsAlwaysCallable obey }
+{
+    let mut unlike = String::new(alloc);
+    for row in rows.lines() {
+        if let Some((done, wanted)) = parts_of_row(alloc, row)? {
+            let mut output = String::new(alloc);
+            for command in done.split("; ") {
+                let answer = obey(alloc, command)?;
+                add_answer(&mut output, answer.as_str())?;
+            }
+            add_unlike(&mut unlike, row, output.as_str(), wanted.as_str())?;
+        }
+    }
+    Ok(unlike)
+}
+
+/// Plays rows and stops the test if one has another output. A row is a line `INPUT => OUTPUT`, with escapes; empty lines
+/// and `//` comments are skipped.
+pub fn expect_rows<F: FnMut(Global, &str) -> Result<String, Fail>>(
+    rt: &impl Abort,
+    alloc: Global,
+    rows: &str,
+    play: F,
+) -> Result<(), Fail>
+    requires { F.IsAlwaysCallable play }
+{
+    let unlike = unlike_rows(alloc, rows, play)?;
+    assert!(rt; unlike.is_empty(), "{unlike}");
+    Ok(())
+}
+
+/// Plays rows whose input is a list of commands and whose output is the list of their answers, both separated by `; `,
+/// and stops the test if one has another output. Empty answers are left out.
+pub fn expect_runs<F: FnMut(Global, &str) -> Result<String, Fail>>(
+    rt: &impl Abort,
+    alloc: Global,
+    rows: &str,
+    obey: F,
+) -> Result<(), Fail>
+    requires { F.IsAlwaysCallable obey }
+{
+    let unlike = unlike_runs(alloc, rows, obey)?;
+    assert!(rt; unlike.is_empty(), "{unlike}");
+    Ok(())
+}
+
+/// Appends an answer, with a separator if it is needed.
+fn add_answer(output: &mut String, answer: &str) -> Result<(), Fail> {
+    if !output.is_empty() && !answer.is_empty() {
+        output.push_str("; ")?;
+    }
+    output.push_str(answer)?;
+    Ok(())
+}
+
+/// Returns the fault of a failed call, or an empty text.
+pub fn fault_text<E: Debug>(alloc: Global, answer: &Result<(), E>) -> Result<String, AllocError> {
+    match answer {
+        Ok(()) => Ok(String::new(alloc)),
+        Err(fault) => format!(in alloc; "{fault:?}"),
+    }
+}

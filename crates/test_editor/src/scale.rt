@@ -1,0 +1,180 @@
+//! Long lines, wide prompts, long histories, and hosts with many candidates or elements.
+
+ghost use Rattle.std.specs.Prelude.{map, string_bytes, refl};
+ghost use Rattle.test_editor.specs.PiecesHost.{Pieces, pieces_rules, preview_override, pieces_is_plain};
+
+use std::alloc::{AllocError, Global};
+use std::test::Fail;
+use test_cases::{case_of, expanded, expect_cases, host_of, told_of};
+use tw_lineedit::{BasicHistory, LineEditorHost, OutputElement, Overrides};
+
+/// Plays a case over the host of a script.
+fn play(alloc: Global, lines: &str) -> Result<String, Fail> {
+    let case = case_of(alloc, lines)?;
+    told_of(
+        alloc,
+        &case,
+        &mut host_of(alloc, BasicHistory::new(alloc), &case)?,
+    )
+}
+
+/// Characters of many kinds, and how often each is repeated.
+const KINDS: &str = "\
+100000|a
+2000|\u{e9}
+2000|\u{6f22}
+1000|\u{1f1e9}\u{1f1ea}
+1000|a\u{301}
+2000|\u{301}
+1000|\u{1f469}\u{200d}
+1000|\u{915}\u{94d}
+2000|\u{1100}
+";
+
+/// Movements leave the line, and a line without a space is one word.
+#[test]
+fn long_lines_of_one_word_are_moved_through_and_killed(rt: HostRuntime) -> Result<(), Fail> {
+    let alloc = rt.alloc();
+    for kind in KINDS.lines() {
+        let (count, piece) = kind.split_once('|').ok_or("no count")?;
+        let word = piece.repeat(alloc, count.parse()?)?;
+        let cases = format!(in alloc;
+            "initial {word}\nevents Home Right Right Left End Left A-b A-f Enter\n--\nSome({word:?})\n==\n\
+            initial {word}\nevents C-W\n--\nSome(\"\")\n==\n\
+            initial {word}\nevents Home C-K X\n--\nSome(\"X\")\n==\n"
+        )?;
+        expect_cases(&rt, alloc, cases.as_str(), play)?;
+    }
+    Ok(())
+}
+
+const LONG: &str = "\
+initial {100000|\u{6f22}}
+--
+Some(\"{100000|\u{6f22}}\")
+==
+# the last of many words is killed
+initial {33333|ab }
+events C-W Enter
+--
+Some(\"{33332|ab }\")
+==
+# a long text is pasted before and after a long line
+events paste:{50000|xy} Home paste:{50000|xy} Right Enter paste:{50000|xy}
+--
+Some(\"{100000|xy}\")
+==
+# a hundred rows of prompt, and the line in the row below them
+size 24 10
+prompt {1000|p}
+events a b C-L c
+show screen
+--
+Some(\"abc\")
+..
+screen {100||pppppppppp}|abc       |
+cursor 100 3
+end 101 0
+==
+# thousands of candidates come in in turn
+{3000|cand 0 1 c#
+}initial fx
+readings 3
+events Left Tab Enter Left {3000|Tab }Enter Left {3002|Tab }Enter
+--
+Some(\"c0x\"), Some(\"c2999x\"), Some(\"c1x\")
+==
+# a history of a hundred thousand lines is searched and walked through
+{100000|history line #
+}initial x
+readings 5
+events C-R 9 9 9 5 0 Enter C-R n e z Enter C-R paste:50000 C-S C-S C-S Enter {1000|Up }Enter {1000|Up }{1000|Down }
+--
+Some(\"line 99950\"), Some(\"line 99999\"), Some(\"line 50000\"), Some(\"line 99000\"), Some(\"x\")
+==
+";
+
+#[test]
+fn long_lines_prompts_histories_and_lists_are_read(rt: HostRuntime) -> Result<(), Fail> {
+    let cases = expanded(rt.alloc(), LONG)?;
+    expect_cases(&rt, rt.alloc(), cases.as_str(), play)
+}
+
+/// A host whose preview is a list of texts.
+#[derive(Drop)]
+struct PiecesHost {
+    history: BasicHistory,
+    pieces: Vec<String>,
+}
+
+impl LineEditorHost for PiecesHost {
+    type Hist = BasicHistory;
+
+    ghost Value = { Pieces };
+
+    ghost value = { λ host. record { lines = host.history; pieces = map string_bytes host.pieces.items } };
+
+    ghost rules = { pieces_rules };
+
+    ghost history_of = { λ host. host.history };
+
+    ghost with_history = { λ host history. record host { history = history } };
+
+    ghost OVERRIDES = { preview_override };
+
+    const OVERRIDES: Overrides = Overrides {
+        render_preview: true,
+        ..Overrides::NONE
+    };
+
+    fn history(&mut self) -> &mut BasicHistory {
+        &mut self.history
+    }
+
+    fn render_preview(&self, alloc: Global, _line: &str) -> Result<Vec<OutputElement>, AllocError> {
+        let mut elements = Vec::new(alloc);
+        for piece in &self.pieces {
+            let text = String::from_str(alloc, piece.as_str())?;
+            elements.push(OutputElement::Text(text))?;
+        }
+        Ok(elements)
+    }
+
+    ghost plain_answers = { pieces_is_plain };
+
+    ghost history_put_back = { λ host. refl };
+
+    ghost held_put = { λ host history. refl };
+
+    ghost held_lines = { λ host. refl };
+}
+
+/// Plays a case over a host with a preview of three thousand texts of three characters.
+fn play_pieces(alloc: Global, lines: &str) -> Result<String, Fail> {
+    let mut pieces = Vec::new(alloc);
+    for _ in 0..3_000 {
+        pieces.push(String::from_str(alloc, "ab ")?)?;
+    }
+    let history = BasicHistory::new(alloc);
+    let mut host = PiecesHost { history, pieces };
+    told_of(alloc, &case_of(alloc, lines)?, &mut host)
+}
+
+/// The preview fills nine hundred rows of ten columns.
+const PIECES: &str = "\
+size 24 10
+events x
+show screen
+--
+Some(\"x\")
+..
+Text(\"ab \"), Text(\"ab \"), CP(R(-7), R(-900))
+cursor 0 3
+end 901 0
+==
+";
+
+#[test]
+fn a_preview_of_thousands_of_elements_is_shown(rt: HostRuntime) -> Result<(), Fail> {
+    expect_cases(&rt, rt.alloc(), PIECES, play_pieces)
+}

@@ -1,0 +1,42 @@
+//! Tests of the parts of a prompt: keys of readline, completion, menus, hints, validators, kept histories.
+#![tactic(auto)]
+
+#[cfg(test)]
+mod beginnings;
+#[cfg(test)]
+mod completers;
+#[cfg(test)]
+#[cfg(test)]
+mod file;
+#[cfg(test)]
+mod hints;
+#[cfg(test)]
+mod hosts;
+#[cfg(test)]
+mod last_words;
+#[cfg(test)]
+mod letter_words;
+#[cfg(test)]
+mod menu;
+#[cfg(test)]
+mod nesting;
+#[cfg(test)]
+mod prefix_search;
+#[cfg(test)]
+mod prompt;
+#[cfg(test)]
+mod readline;
+#[cfg(test)]
+mod refusals;
+#[cfg(test)]
+mod settling;
+#[cfg(test)]
+mod tables;
+#[cfg(test)]
+mod unique;
+#[cfg(test)]
+mod validator;
+#[cfg(test)]
+mod word_keys;
+#[cfg(test)]
+mod word_swaps;

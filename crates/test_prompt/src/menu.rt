@@ -1,0 +1,38 @@
+//! Menus of completions under the line, by how they are to lie there.
+
+use crate::prompt::read_all;
+use std::test::Fail;
+use test_cases::expect_rows;
+
+const MENUS: &str = r"
+// candidates stand in columns
+menu 80 4 ab ac ad; type a\nkey Tab; ends ab\r\n{}{bold}ab{}  ac  ad => ab; yes
+menu 80 4 ab ac ad; type a\nkey Tab\nkey Tab; ends ac\r\n{}ab  {bold}ac{}  ad => ac; yes
+menu 8 4 ab ac ad; type a\nkey Tab\nkey Tab\nkey Tab; ends ad\r\n{}ab  ac\r\n{bold}ad{} => ad; yes
+menu 7 4 ab ac ad; type a\nkey Tab\nkey Tab; ends ac\r\n{}ab\r\n{bold}ac{}\r\nad => ac; yes
+menu 8 1 ab ac ad; type a\nkey Tab; ends ab\r\n{}{bold}ab{}  ac => ab; yes
+menu 8 1 ab ac ad; type a\nkey Tab\nkey Tab\nkey Tab; ends ad\r\n{}{bold}ad{} => ad; yes
+menu 0 0 ab ac ad; type a\nkey Tab\nkey Tab; ends ac\r\n{}{bold}ac{} => ac; yes
+menu 80 4 a1 a2345; type a\nkey Tab; ends a1\r\n{}{bold}a1   {}  a2345 => a1; yes
+menu 80 4 a我 ab; type a\nkey Tab\nkey Tab; ends ab\r\n{}a我  {bold}ab {} => ab; yes
+
+// other keys take the menu away
+type us\nkey Tab; ends user => user; yes
+type us\nkey Tab\nkey Tab; ends users\r\n{}{bold}users     {}  user_roles => users; yes
+type us\nkey Tab\nkey Tab\nkey Tab\nkey Tab; ends users\r\n{}{bold}users     {}  user_roles => users; yes
+type us\nkey Tab\nkey Tab\nkey C-L; ends users\r\n{}{bold}users     {}  user_roles => users; yes
+type us\nkey Tab\nkey Tab\ntype x; ends usersx => usersx; yes
+type us\nkey Tab\nkey Tab\nkey Left; ends users => users; yes
+type o\nkey Tab; ends orders => orders; yes
+type x\nkey Tab; ends x => x; yes
+type us\nkey Tab\nkey Tab\nkey Enter; ends users => users; yes
+
+// what ends a search has no menu
+remember us; key C-R\ntype s\nkey Tab; ends users => users; yes
+remember us; key C-R\ntype s\nkey Tab\nkey Tab; ends userss => userss; yes
+";
+
+#[test]
+fn menus_stand_under_the_line(rt: HostRuntime) -> Result<(), Fail> {
+    expect_rows(&rt, rt.alloc(), MENUS, read_all)
+}

@@ -1,0 +1,127 @@
+//! A prompt with all parts, and scripts that are played on it.
+
+use crate::tables::table_host;
+use nested_marks::common_pairs;
+use std::alloc::Global;
+use std::process::Abort;
+use std::test::Fail;
+use test_cases::{expect_rows, painted_text, script_terminal};
+use tw_hosts::{PromptScreen, TableHost};
+use tw_key_parts::{
+    Keys, KillRing, LastWords, LetterWords, PrefixSearch, ReadlineKeys, UndoSteps, WordKeys,
+};
+use tw_lineedit::{BasicHistory, LineEditor, LineEditorHost};
+use tw_prompt_host::{Going, MenuStyle, NestedLines, PromptHost};
+use tw_surface::{CellAttributes, Intensity};
+
+type WordParts = (Keys<LetterWords>, (Keys<ReadlineKeys>, Keys<WordKeys>));
+
+type AllKeys = (
+    WordParts,
+    ((LastWords, PrefixSearch), (KillRing, UndoSteps)),
+);
+
+/// A prompt with all parts.
+pub type Prompt = PromptHost<TableHost<BasicHistory>, BasicHistory, AllKeys, NestedLines>;
+
+fn all_keys(alloc: Global) -> AllKeys {
+    let words = (Keys(LetterWords), (Keys(ReadlineKeys), Keys(WordKeys)));
+    let history = (LastWords::new(), PrefixSearch::new());
+    (
+        words,
+        (history, (KillRing::new(alloc), UndoSteps::new(alloc))),
+    )
+}
+
+/// Returns a menu whose chosen candidate is bold.
+fn bold_menu(cols: usize, rows: usize) -> MenuStyle {
+    let mut chosen = CellAttributes::default();
+    chosen.intensity = Intensity::Bold;
+    MenuStyle { cols, rows, chosen }
+}
+
+/// Returns a prompt on 80 columns that completes some words.
+pub fn new_prompt(alloc: Global) -> Result<Prompt, Fail> {
+    Ok(PromptHost {
+        host: table_host(alloc, "users user_roles orders")?,
+        history: BasicHistory::new(alloc),
+        completers: Vec::new(alloc),
+        listings: Vec::new(alloc),
+        keys: all_keys(alloc),
+        hints: true,
+        validator: NestedLines {
+            pairs: common_pairs(alloc)?,
+        },
+        menu: bold_menu(80, 4),
+        screen: PromptScreen {
+            cols: 80,
+            prompt: String::from_str(alloc, "> ")?,
+        },
+        going: Going::new(),
+    })
+}
+
+/// Changes the menu and the words that are completed: `COLS ROWS WORDS`.
+fn set_menu(alloc: Global, prompt: &mut Prompt, setup: &str) -> Result<(), Fail> {
+    let (cols, rest) = setup.split_once(' ').ok_or("no rows")?;
+    let (rows, words) = rest.split_once(' ').ok_or("no words")?;
+    prompt.menu = bold_menu(cols.parse()?, rows.parse()?);
+    prompt.host = table_host(alloc, words)?;
+    Ok(())
+}
+
+/// Reads a line from a script. Returns the line and the text of the last painting.
+fn read_script(alloc: Global, prompt: &mut Prompt, script: &str) -> Result<(String, String), Fail> {
+    prompt.begin_line();
+    let mut terminal = script_terminal(alloc, script)?;
+    let answer = LineEditor::new(alloc, &mut terminal)?.read_line(prompt);
+    let line = match answer {
+        Ok(line) => line.ok_or("cancelled")?,
+        Err(error) => format!(in alloc; "refusal {}", error.number())?,
+    };
+    Ok((line, painted_text(alloc, &terminal)?))
+}
+
+/// Obeys `remember LINE` or `menu COLS ROWS WORDS`. Returns false for any other command.
+fn is_setup(alloc: Global, prompt: &mut Prompt, command: &str) -> Result<bool, Fail> {
+    if let Some(line) = command.strip_prefix("remember ") {
+        prompt.remember(line)?;
+    } else if let Some(setup) = command.strip_prefix("menu ") {
+        set_menu(alloc, prompt, setup)?;
+    } else {
+        return Ok(false);
+    }
+    Ok(true)
+}
+
+/// Runs commands, separated by `; `, on a new prompt, and returns their answers: a script (its line), `ends TEXT` (`yes`
+/// if the last painting ends with the text, and else the painting), or those of `is_setup`.
+pub fn read_all(alloc: Global, commands: &str) -> Result<String, Fail> {
+    let mut prompt = new_prompt(alloc)?;
+    let mut answers = Vec::new(alloc);
+    let mut shown = String::new(alloc);
+    for command in commands.split("; ") {
+        if let Some(end) = command.strip_prefix("ends ") {
+            let is_shown = shown.ends_with(end);
+            answers.push(String::from_str(alloc, if is_shown { "yes" } else { shown.as_str() })?)?;
+        } else if !is_setup(alloc, &mut prompt, command)? {
+            let (line, painted) = read_script(alloc, &mut prompt, command)?;
+            answers.push(line)?;
+            shown = painted;
+        }
+    }
+    Ok(answers.join(alloc, "; ")?)
+}
+
+/// Plays rows of commands. The first ones of each remember the lines of a history, separated by `;`, but for rows with
+/// `no history; `.
+pub fn expect_lines(rt: &impl Abort, alloc: Global, history: &str, rows: &str) -> Result<(), Fail> {
+    let lines = history.replace(alloc, ";", "; remember ")?;
+    expect_rows(rt, alloc, rows, |alloc: Global, commands: &str| {
+        if let Some(commands) = commands.strip_prefix("no history; ") {
+            return read_all(alloc, commands);
+        }
+        let commands = format!(in alloc; "remember {lines}; {commands}")?;
+        read_all(alloc, commands.as_str())
+    })
+}

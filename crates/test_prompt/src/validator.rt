@@ -1,0 +1,29 @@
+//! Lines that are not whole are not accepted.
+
+use crate::prompt::expect_lines;
+use std::test::Fail;
+
+const HISTORY: &str = "copy a;open(";
+
+const SCRIPTS: &str = r#"
+type f(x\nkey Enter; ends ( is open => f(x; yes
+type f(x\nkey Enter\nkey Enter; ends ( is open => f(x; yes
+type f(x\nkey Enter\ntype )\nkey Enter\ntype z; ends f(x) => f(x); yes
+type 'a\nkey C-J; ends ' is open => 'a; yes
+type a)\nkey Enter; ends ) closes nothing => a); yes
+type f(x; ends f(x => f(x; yes
+type f(x\nkey Enter\nkey Left; ends f(x => f(x; yes
+type "a\"b"\nkey Enter\ntype z => "a\"b"
+type "a\"\nkey Enter; ends " is open => "a\"; yes
+
+// a validator judges no pattern, and judges the line that a search finds
+key C-R\ntype op\nkey Enter\ntype z; ends open( => open(; yes
+key C-R\ntype c\nkey C-Left\ntype (\nkey Enter\ntype z => (zcopy a
+// a key of the parts ends what is said of the line
+type f(x y\nkey Enter\nkey A-t; ends y f(x => y f(x; yes
+"#;
+
+#[test]
+fn enter_stays_in_a_line_that_is_open(rt: HostRuntime) -> Result<(), Fail> {
+    expect_lines(&rt, rt.alloc(), HISTORY, SCRIPTS)
+}

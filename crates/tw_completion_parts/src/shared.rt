@@ -1,0 +1,80 @@
+//! What several candidates share, as a candidate of its own.
+
+ghost use Rattle.std.specs.Prelude.{◌≡◌, IfOk, map, option_map, string_bytes};
+ghost use Rattle.tw_host.specs.CandidateView.{candidate_view};
+ghost use Rattle.tw_completion_parts.specs.SharedCandidate.{beginning_first, candidate_texts, is_for_part, is_one_part, shared_candidate};
+
+use crate::beginnings::common_beginning;
+use std::alloc::{AllocError, Global};
+use tw_host::CompletionCandidate;
+
+/// The texts of candidates.
+fn candidate_texts(
+    alloc: Global,
+    candidates: &[CompletionCandidate],
+) -> Result<Vec<String>, AllocError>
+    ensures { IfOk result (λ texts. map string_bytes texts.items ≡ candidate_texts (map candidate_view candidates.now)) }
+{
+    let mut texts = Vec::new(alloc);
+    for candidate in candidates {
+        texts.push(candidate.text.clone()?)?;
+    }
+    Ok(texts)
+}
+
+/// Whether a candidate is for the bytes of the line from `start` to `end`.
+fn is_for_part(start: usize, end: usize, candidate: &CompletionCandidate) -> bool
+    ensures { result ≡ is_for_part start end (candidate_view candidate.now) }
+{
+    candidate.range.start == start && candidate.range.end == end
+}
+
+/// Whether all candidates are for the bytes of the line from `start` to `end`.
+fn is_one_part(start: usize, end: usize, candidates: &[CompletionCandidate]) -> bool
+    ensures { result ≡ is_one_part start end (map candidate_view candidates.now) }
+{
+    candidates
+        .iter()
+        .all(|candidate| is_for_part(start, end, candidate))
+}
+
+/// The candidate for what several candidates share, where all are for one part of the line, and it is longer than that
+/// part.
+fn shared_candidate(
+    alloc: Global,
+    candidates: &[CompletionCandidate],
+) -> Result<Option<CompletionCandidate>, AllocError>
+    ensures { IfOk result (λ shared. option_map candidate_view shared ≡ shared_candidate (map candidate_view candidates.now)) }
+{
+    let [first, _, ..] = candidates else {
+        return Ok(None);
+    };
+    let (start, end) = (first.range.start, first.range.end);
+    let texts = candidate_texts(alloc, candidates)?;
+    let text = common_beginning(&texts);
+    if is_one_part(start, end, candidates) && text.len() > end.saturating_sub(start) {
+        Ok(Some(CompletionCandidate {
+            range: start..end,
+            text: String::from_str(alloc, text)?,
+        }))
+    } else {
+        Ok(None)
+    }
+}
+
+/// Returns the longest text with which all candidates begin as the one candidate, if they are for one part of the line
+/// and the text is longer than that part; otherwise the candidates. So the first Tab completes a word up to where the
+/// candidates part, and the next one offers them in turn.
+pub fn beginning_first(
+    alloc: Global,
+    candidates: Vec<CompletionCandidate>,
+) -> Result<Vec<CompletionCandidate>, AllocError>
+    ensures { IfOk result (λ first. map candidate_view first.items ≡ beginning_first (map candidate_view candidates.items)) }
+{
+    let Some(shared) = shared_candidate(alloc, &candidates)? else {
+        return Ok(candidates);
+    };
+    let mut first = Vec::new(alloc);
+    first.push(shared)?;
+    Ok(first)
+}

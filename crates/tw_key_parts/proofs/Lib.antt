@@ -1,0 +1,6 @@
+pub mod RingLemmas
+pub mod UndoLemmas
+pub mod PrefixLemmas
+pub mod KillLemmas
+pub mod GivenBackLemmas
+pub mod UndoLawLemmas

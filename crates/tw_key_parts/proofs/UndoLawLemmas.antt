@@ -1,0 +1,69 @@
+-- What undos lead to.
+use Rattle.std.proofs.Common.{◌≡◌, ◌≤◌, ◌<◌, ℕ, zero, suc, List, [], ◌∷◌, length, take, eqb, Option, Some, None, Bool, true, false, not, refl, sym, ◌∙◌, arith, rules, unwrap_or, if◌then◌else◌}
+use Rattle.std.proofs.lemmas.Slice.Eq.{bytes_eq-Decides}
+use Rattle.std.specs.Prelude.{option_map}
+use Rattle.std.specs.Cmp.Lexicographic.{pointwise}
+use Rattle.tw_extremes.specs.Extremes.{greatest_below, iterate}
+use Rattle.tw_line.specs.Cut.{Cut}
+use Rattle.tw_key_parts.specs.Undo.{Undo, is_other, last_change, left_behind, step_at, undo_behind, undone}
+use Rattle.tw_key_parts.specs.UndoLaws.{oldest_line, undo_once, UndosGiveOldest, UndoKeepsOldest}
+
+some_is : (m n : ℕ) → Some m ≡ Some n → m ≡ n
+some_is m n e = cc
+
+-- a number that is found is below the limit
+found_below : (p : ℕ → Bool) (to i : ℕ) → greatest_below p to ≡ Some i → i < to
+unfolding greatest_below
+found_below p zero i e = cc
+found_below p (suc to) i e = by (p to) e (found_below p to i)
+  where
+    by : (b : Bool) → (if b then Some to else greatest_below p to) ≡ Some i → (greatest_below p to ≡ Some i → i < to) → i < suc to
+    by true e below = let same : to ≡ i = some_is to i e in omega (arith, same)
+    by false e below = let low = below e in omega (arith, low)
+
+-- where none is found 0 is none
+none_at_zero : (p : ℕ → Bool) (to : ℕ) → greatest_below p (suc to) ≡ None → p 0 ≡ false
+unfolding greatest_below
+none_at_zero p zero e = by (p 0) refl e
+  where
+    by : (b : Bool) → p 0 ≡ b → (if b then Some zero else None) ≡ None → p 0 ≡ false
+    by true is e = cc
+    by false is e = is
+none_at_zero p (suc to) e = by (p (suc to)) e (none_at_zero p to)
+  where
+    by : (b : Bool) → (if b then Some (suc to) else greatest_below p (suc to)) ≡ None → (greatest_below p (suc to) ≡ None → p 0 ≡ false) → p 0 ≡ false
+    by true e below = cc
+    by false e below = below e
+
+-- the oldest line, where an undo leads to this index
+oldest_kept : (before : List Cut) (cut : Cut) (i : Option ℕ) → last_change cut.line before ≡ i
+    → oldest_line (take (unwrap_or i 0) before) (unwrap_or (option_map (step_at before) i) cut) ≡ oldest_line before cut
+oldest_kept [] cut None e = refl
+oldest_kept [] cut (Some i) e = let low : i < 0 = found_below (is_other cut.line []) 0 i e in absurd (omega (arith, low))
+oldest_kept (first ∷ later) cut None e =
+    let same : not (pointwise eqb first.line cut.line) ≡ false = none_at_zero (is_other cut.line (first ∷ later)) (length later) e in
+    sym ((bytes_eq-Decides first.line cut.line).0 (search (rules, same)))
+oldest_kept (first ∷ later) cut (Some zero) e = refl
+oldest_kept (first ∷ later) cut (Some (suc i)) e = refl
+
+pub undo_keeps_oldest : UndoKeepsOldest
+undo_keeps_oldest u cut = oldest_kept u.before cut (last_change cut.line u.before) refl
+
+-- an undo leaves fewer steps
+fewer : (before : List Cut) (line : List ℕ) (n : ℕ) (i : Option ℕ) → last_change line before ≡ i → length before ≤ suc n → length (take (unwrap_or i 0) before) ≤ n
+fewer before line n None e few = search (rules)
+fewer before line n (Some i) e few = let low = found_below (is_other line before) (length before) i e in search (rules, low)
+
+-- `n` undos give the oldest line, if there are at most `n` steps
+undone_all : (n : ℕ) (u : Undo) (cut : Cut) → length u.before ≤ n → (iterate undo_once n (u, cut)).1.line ≡ oldest_line u.before cut
+unfolding iterate
+undone_all zero u cut few = none_yet u.before few
+  where
+    none_yet : (before : List Cut) → length before ≤ 0 → cut.line ≡ oldest_line before cut
+    none_yet [] few = refl
+    none_yet (first ∷ later) few = absurd (omega (arith, few))
+undone_all (suc n) u cut few =
+    undone_all n (undo_behind (left_behind u cut) u) (undone u cut) (fewer u.before cut.line n (last_change cut.line u.before) refl few) ∙ undo_keeps_oldest u cut
+
+pub undos_give_oldest : UndosGiveOldest
+undos_give_oldest u cut = undone_all (length u.before) u cut (omega arith)

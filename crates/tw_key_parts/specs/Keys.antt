@@ -1,0 +1,36 @@
+-- The keys of the parts.
+use Rattle.std.specs.Prelude.{Bool, false, ◌||◌, codes}
+use Rattle.tw_input.specs.declared.key.KeyCode.TheVariants.{Backspace, Delete}
+use Rattle.tw_input.specs.declared.key.KeyEvent.{KeyEvent}
+use Rattle.tw_input.specs.EventView.{EventView, Key, Resized, Paste, Wake}
+use Rattle.tw_input.specs.Modifiers.{none, alt, ctrl}
+use Rattle.tw_host.specs.KeyTable.{is_same_key, key_press, letter}
+
+-- whether an event is this key
+abbrev pub is_key : KeyEvent → EventView → Bool
+is_key key (Key other) = is_same_key other key
+is_key key (Resized cols rows) = false
+is_key key (Paste text) = false
+is_key key Wake = false
+
+-- brings the newest kill back
+abbrev pub yank_key : KeyEvent
+yank_key = key_press ctrl (letter (codes "Y"))
+
+-- brings another one back in its place
+abbrev pub rotate_key : KeyEvent
+rotate_key = key_press alt (letter (codes "y"))
+
+-- brings the line before the last step back
+abbrev pub undo_key : KeyEvent
+undo_key = key_press ctrl (letter (codes "_"))
+
+-- puts in the last word of a line
+abbrev pub last_word_key : KeyEvent
+last_word_key = key_press alt (letter (codes "."))
+
+-- whether an event is a key that deletes a character: Delete, Backspace, Ctrl-H, Ctrl-D
+abbrev pub deletes_character : EventView → Bool
+deletes_character event =
+    is_key (key_press none Delete) event || (is_key (key_press none Backspace) event
+    || (is_key (key_press ctrl (letter (codes "H"))) event || is_key (key_press ctrl (letter (codes "D"))) event))

@@ -1,0 +1,15 @@
+pub mod KeyRules
+pub mod EditView
+pub mod Pairs
+pub mod Keys
+pub mod SearchWatch
+pub mod PlainKeys
+pub mod ReadlineKeys
+pub mod Undo
+pub mod Ring
+pub mod LastWords
+pub mod WordKeys
+pub mod LetterKeys
+pub mod PrefixSearch
+pub mod RingLaws
+pub mod UndoLaws

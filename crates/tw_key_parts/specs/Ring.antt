@@ -1,0 +1,157 @@
+-- What was killed, and how it comes back.
+use Rattle.std.specs.Prelude.{ℕ, ◌-◌, ◌==◌, ◌&&◌, ◌||◌, nat_lt, Bool, not, List, [], ◌∷◌, ◌++◌, length, take, drop, map, min, max, eqb, string_bytes, Option, Some, None, option_map, if◌then◌else◌, slice_get, slice_range}
+use Rattle.std.specs.List.{ends_with, remove_range, slice_index_or}
+use Rattle.tw_input.specs.EventView.{EventView}
+use Rattle.tw_line.specs.Cut.{Cut, cut_at}
+use Rattle.tw_line.specs.Movements.{destination}
+use Rattle.tw_line.specs.declared.movements.Movement.{Movement}
+use Rattle.tw_host.specs.ActionView.{ActionView, InsertText, Kill, KillAndMove}
+use Rattle.std.specs.Cmp.Lexicographic.{pointwise}
+use Rattle.tw_key_parts.specs.KeyRules.{Edited, KeyRules, Step}
+use Rattle.tw_key_parts.specs.Keys.{deletes_character, is_key, yank_key, rotate_key}
+use Rattle.tw_key_parts.specs.declared.ring.KillRing.{KillRing}
+use Rattle.tw_key_parts.specs.declared.ring.Yank.{Yank}
+use Rattle.tw_key_parts.specs.declared.ring.Latest.{Latest}
+use Rattle.tw_key_parts.specs.declared.ring.Latest.TheVariants as latest
+
+-- the kills, the oldest first, and what was done last
+pub record Ring : Type 0 where
+  pub kills : List (List ℕ)
+  pub latest : Latest
+
+-- a kill that comes back: the cut text into which it comes, its text and its index
+pub record Yanked : Type 0 where
+  pub cut : Cut
+  pub text : List ℕ
+  pub index : ℕ
+
+-- the view of a ring
+abbrev pub ring_view : KillRing → Ring
+ring_view r = record { kills = map string_bytes r.kills.items; latest = r.latest }
+
+-- the view of a kill that comes back
+abbrev pub yank_view : Yank → Yanked
+yank_view y = record { cut = y.line; text = string_bytes y.text; index = y.index }
+
+-- ---- what is killed
+
+-- how far an action kills
+abbrev pub kill_movement : Option ActionView → Option Movement
+kill_movement (Some (Kill m)) = Some m
+kill_movement (Some (KillAndMove k m)) = Some k
+kill_movement _ = None
+
+-- how far the action of an event kills, unless its key deletes a character
+abbrev pub killing : EventView → Option ActionView → Option Movement
+killing event action = if deletes_character event then None else kill_movement action
+
+-- what lies between the cursor and where a movement leads
+abbrev pub killed_by : Movement → Cut → List ℕ
+killed_by m cut = slice_range cut.line (min cut.cursor (destination m cut)) (max cut.cursor (destination m cut))
+
+-- whether it lies after the cursor
+abbrev pub leads_onward : Movement → Cut → Bool
+leads_onward m cut = nat_lt cut.cursor (destination m cut)
+
+-- ---- what is kept
+
+-- the number of kills that are kept
+abbrev pub most_kills : ℕ
+most_kills = 10
+
+-- the kills but for the oldest, where there are that many
+abbrev pub with_room : List (List ℕ) → List (List ℕ)
+with_room kills = if nat_lt (length kills) most_kills then kills else drop 1 kills
+
+-- the newest kill
+abbrev pub newest_kill : List (List ℕ) → List ℕ
+newest_kill kills = slice_index_or kills (length kills - 1) []
+
+-- the newest kill with more: what lay after the cursor comes after it, and else before it
+abbrev pub joined : Bool → List ℕ → List ℕ → List ℕ
+joined ahead newest text = if ahead then newest ++ text else text ++ newest
+
+-- the kills with one more, which joins the newest one where a kill was the last thing done
+abbrev pub kills_with : Latest → Bool → List ℕ → List (List ℕ) → List (List ℕ)
+kills_with latest.Kill ahead text kills = take (length kills - 1) kills ++ joined ahead (newest_kill kills) text ∷ []
+kills_with (latest.Yank i) ahead text kills = with_room kills ++ text ∷ []
+kills_with latest.Other ahead text kills = with_room kills ++ text ∷ []
+
+-- what was done last, where nothing was there to be killed: kills go on, and all else is over
+abbrev pub after_nothing : Latest → Latest
+after_nothing latest.Kill = latest.Kill
+after_nothing (latest.Yank i) = latest.Other
+after_nothing latest.Other = latest.Other
+
+-- a text was killed; an empty one is no kill
+abbrev pub with_killed : Bool → List ℕ → Ring → Ring
+with_killed ahead text r =
+    if length text == 0 then record r { latest = after_nothing r.latest }
+    else record r { kills = kills_with r.latest ahead text r.kills; latest = latest.Kill }
+
+-- a kill by a movement, if there is one; all else ends kills and yanks
+abbrev pub with_killing : Option Movement → Cut → Ring → Ring
+with_killing None cut r = record r { latest = latest.Other }
+with_killing (Some m) cut r = with_killed (leads_onward m cut) (killed_by m cut) r
+
+-- whether two cut texts are the same
+abbrev pub is_same_cut : Cut → Cut → Bool
+is_same_cut a b = pointwise eqb a.line b.line && (a.cursor == b.cursor)
+
+-- how far an action kills a cut text that the host left as it was, while the editor does not search
+abbrev pub kill_of : Bool → EventView → Option ActionView → Cut → Cut → Option Movement
+kill_of searching event action cut new = if searching || not (is_same_cut cut new) then None else killing event action
+
+-- the ring after an action, if there is one
+abbrev pub ring_after : Step → Ring → Ring
+ring_after step r = with_killing (kill_of step.searching step.event step.action step.before step.after) step.before r
+
+-- ---- what comes back
+
+-- the kill at an index comes back into a cut text, if there is one
+abbrev pub yank_of : List (List ℕ) → ℕ → Cut → Option Yanked
+yank_of kills index cut = option_map (λ text. record { cut = cut; text = text; index = index }) (slice_get kills index)
+
+-- the cut text without the `n` bytes before the cursor
+abbrev pub without_before : ℕ → Cut → Cut
+without_before n cut = cut_at (remove_range cut.line (cut.cursor - n) cut.cursor) (cut.cursor - n)
+
+-- the cut text without a text before the cursor, if the text is there and stands there
+abbrev pub taken_out : Option (List ℕ) → Cut → Option Cut
+taken_out None cut = None
+taken_out (Some text) cut = if ends_with eqb (take cut.cursor cut.line) text then Some (without_before (length text) cut) else None
+
+-- the index before another, and before the first one the last
+abbrev pub index_below : List (List ℕ) → ℕ → ℕ
+index_below kills i = if i == 0 then length kills - 1 else i - 1
+
+-- a kill comes back into a cut text, if there is one
+abbrev pub yank_into : List (List ℕ) → ℕ → Option Cut → Option Yanked
+yank_into kills index None = None
+yank_into kills index (Some cut) = yank_of kills index cut
+
+-- in the place of the kill that came back last comes the one before it
+abbrev pub rotated : List (List ℕ) → Latest → Cut → Option Yanked
+rotated kills (latest.Yank i) cut = yank_into kills (index_below kills i) (taken_out (slice_get kills i) cut)
+rotated kills latest.Kill cut = None
+rotated kills latest.Other cut = None
+
+-- what an event brings back, but during a search
+abbrev pub yank_by : Bool → EventView → Ring → Cut → Option Yanked
+yank_by searching event r cut =
+    if searching then None
+    else if is_key yank_key event then yank_of r.kills (length r.kills - 1) cut
+    else if is_key rotate_key event then rotated r.kills r.latest cut
+    else None
+
+-- a kill that comes back, as an edit
+abbrev pub yank_edit : Yanked → Edited ℕ
+yank_edit y = record { cut = Some y.cut; action = InsertText 1 y.text; kept = y.index }
+
+-- where a kill came back, another one can take its place; all else may be a kill
+abbrev pub ring_follows : Ring → Option ℕ → Step → Ring
+ring_follows r (Some index) step = record r { latest = latest.Yank index }
+ring_follows r None step = ring_after step r
+
+abbrev pub ring_key_rules : KeyRules Ring ℕ
+ring_key_rules = record { edits = λ r asked. option_map yank_edit (yank_by asked.searching asked.event r asked.cut); follows = ring_follows; leaves = λ r. record r { latest = latest.Other } }

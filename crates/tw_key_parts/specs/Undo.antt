@@ -1,0 +1,141 @@
+-- The lines before the steps of a reading.
+use Rattle.std.specs.Prelude.{ℕ, ◌&&◌, ◌||◌, Bool, true, false, not, List, [], ◌∷◌, ◌++◌, length, take, eqb, Option, Some, None, if◌then◌else◌, option_map, unwrap_or}
+use Rattle.std.specs.Cmp.Lexicographic.{pointwise}
+use Rattle.std.specs.List.{slice_index_or}
+use Rattle.tw_extremes.specs.Extremes.{greatest_below}
+use Rattle.tw_line.specs.Cut.{Cut, empty_cut}
+use Rattle.tw_host.specs.ActionView.{ActionView, AcceptLine, Cancel, EndOfFile, InsertChar, InsertText, Repaint, Kill, KillAndMove, HistoryPrevious, HistoryNext, Complete, NoAction, HistoryIncSearchBackwards, HistoryIncSearchForwards}
+use Rattle.tw_key_parts.specs.KeyRules.{Asked, Edited, KeyRules, Step}
+use Rattle.tw_key_parts.specs.Keys.{is_key, undo_key}
+use Rattle.tw_key_parts.specs.declared.undo.UndoSteps.{UndoSteps}
+
+-- the cut texts before the steps, the oldest first, and whether the last step is typing that goes on
+pub record Undo : Type 0 where
+  pub before : List Cut
+  pub typing : Bool
+
+-- the view of the steps
+abbrev pub undo_view : UndoSteps → Undo
+undo_view u = record { before = u.before.items; typing = u.typing }
+
+-- no steps
+abbrev pub no_steps : Undo
+no_steps = record { before = []; typing = false }
+
+-- ---- what a step is
+
+-- an action that changes the line, or a search, which puts in the line that it ends at
+abbrev pub is_edit : ActionView → Bool
+is_edit (InsertChar r x) = true
+is_edit (InsertText r text) = true
+is_edit (Kill m) = true
+is_edit (KillAndMove k m) = true
+is_edit HistoryPrevious = true
+is_edit HistoryNext = true
+is_edit Complete = true
+is_edit HistoryIncSearchBackwards = true
+is_edit HistoryIncSearchForwards = true
+is_edit _ = false
+
+-- an action that types a character
+abbrev pub types_character : ActionView → Bool
+types_character (InsertChar r x) = true
+types_character _ = false
+
+-- an action that ends a reading
+abbrev pub is_end : ActionView → Bool
+is_end AcceptLine = true
+is_end Cancel = true
+is_end EndOfFile = true
+is_end _ = false
+
+-- whether there is an action that passes a test
+abbrev pub if_any : (ActionView → Bool) → Option ActionView → Bool
+if_any test None = false
+if_any test (Some action) = test action
+
+-- the lines of two cut texts are the same
+abbrev pub is_same_line : Cut → Cut → Bool
+is_same_line a b = pointwise eqb a.line b.line
+
+-- the typing goes on: a character is typed right after others, and the host left the line as it was
+abbrev pub typing_goes_on : Option ActionView → Cut → Cut → Bool → Bool
+typing_goes_on action cut new typing = typing && (if_any types_character action && is_same_line cut new)
+
+-- a step begins: an edit, or a host that changed the line itself
+abbrev pub is_step : Option ActionView → Cut → Cut → Bool
+is_step action cut new = if_any is_edit action || not (is_same_line cut new)
+
+-- the cut texts before the steps, with one more where a step begins; typing that goes on is none
+abbrev pub steps_with : Option ActionView → Cut → Cut → Undo → List Cut
+steps_with action cut new u = if is_step action cut new && not (typing_goes_on action cut new u.typing) then u.before ++ cut ∷ [] else u.before
+
+-- whether the last step is typing that goes on: where a character was typed it is, and where nothing is done it is as before
+abbrev pub typing_after : Option ActionView → Bool → Bool
+typing_after None typing = typing
+typing_after (Some NoAction) typing = typing
+typing_after (Some Repaint) typing = typing
+typing_after (Some action) typing = types_character action
+
+-- the steps after an action of a line that is edited: a reading that ends leaves none
+abbrev pub steps_after : Bool → Option ActionView → Cut → Cut → Undo → List Cut
+steps_after searching action cut new u =
+    if if_any is_end action then []
+    else if searching then u.before
+    else steps_with action cut new u
+
+-- all of it after an action, if there is one
+abbrev pub undo_after : Step → Undo → Undo
+undo_after step u = record {
+  before = steps_after step.searching step.action step.before step.after u;
+  typing = not step.searching && (typing_after step.action u.typing && is_same_line step.before step.after);
+}
+
+-- ---- what comes back
+
+-- the cut text at an index
+abbrev pub step_at : List Cut → ℕ → Cut
+step_at before i = slice_index_or before i empty_cut
+
+-- whether the line at an index is another one
+abbrev pub is_other : List ℕ → List Cut → ℕ → Bool
+is_other line before i = not (pointwise eqb (step_at before i).line line)
+
+-- the index of the last step that changed the line
+abbrev pub last_change : List ℕ → List Cut → Option ℕ
+last_change line before = greatest_below (is_other line before) (length before)
+
+-- the cut text before the last step that changed the line, if one did
+abbrev pub before_change : Undo → Cut → Option Cut
+before_change u cut = option_map (step_at u.before) (last_change cut.line u.before)
+
+-- the cut text that an undo brings back: where no step changed the line it stays
+abbrev pub undone : Undo → Cut → Cut
+undone u cut = unwrap_or (before_change u cut) cut
+
+-- the number of steps that an undo leaves
+abbrev pub left_behind : Undo → Cut → ℕ
+left_behind u cut = unwrap_or (last_change cut.line u.before) 0
+
+-- the steps after an undo
+abbrev pub undo_behind : ℕ → Undo → Undo
+undo_behind left u = record { before = take left u.before; typing = false }
+
+-- nothing is typed, which ends a completion
+abbrev pub type_nothing : ActionView
+type_nothing = InsertChar 0 32
+
+-- the key undoes, but during a search
+abbrev pub undo_edit : Undo → Asked → Option (Edited ℕ)
+undo_edit u asked =
+    if is_key undo_key asked.event && not asked.searching
+    then Some (record { cut = Some (undone u asked.cut); action = type_nothing; kept = left_behind u asked.cut })
+    else None
+
+-- an undo leaves its steps, and all else may be one more
+abbrev pub undo_follows : Undo → Option ℕ → Step → Undo
+undo_follows u (Some left) step = undo_behind left u
+undo_follows u None step = undo_after step u
+
+abbrev pub undo_key_rules : KeyRules Undo ℕ
+undo_key_rules = record { edits = undo_edit; follows = undo_follows; leaves = λ u. no_steps }

@@ -1,0 +1,35 @@
+//! What follows from the definitions: each function does nothing, and its contract is the law.
+
+ghost use Rattle.tw_input.specs.Equality.{ComparesValues};
+ghost use Rattle.tw_key_parts.specs.ReadlineKeys.{RowsAreDistinct, RowsAreNew};
+ghost use Rattle.tw_key_parts.specs.RingLaws.{KillIsLatest, KillsKeepLine, YankGivesBack};
+ghost use Rattle.tw_key_parts.specs.UndoLaws.{UndoKeepsOldest, UndosGiveOldest};
+
+use crate::ring::Latest;
+use crate::word_keys::WordEdit;
+
+/// `==` is equality of values.
+pub fn equality()
+    ensures latest { ComparesValues ⟦<Latest as PartialEq>⟧.eq }
+    ensures edits { ComparesValues ⟦<WordEdit as PartialEq>⟧.eq }
+{}
+
+/// One kill, or many in a row, each of which leaves the cursor where it killed, and a yank right after them give back
+/// the line before the first.
+pub fn kills()
+    ensures kept { KillsKeepLine }
+    ensures latest { KillIsLatest }
+    ensures given_back { YankGivesBack }
+{}
+
+/// As many undos as there are steps give the oldest line, and each of them keeps it.
+pub fn undos()
+    ensures kept { UndoKeepsOldest }
+    ensures given { UndosGiveOldest }
+{}
+
+/// The keys of readline are not in the key table, and none of them stands in two rows.
+pub fn readline_table()
+    ensures new { RowsAreNew }
+    ensures distinct { RowsAreDistinct }
+{}

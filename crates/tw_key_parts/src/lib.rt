@@ -1,0 +1,34 @@
+//! Parts with keys, which a prompt puts together.
+//!
+//! `part` has what a part is, `pair` two parts as one, and `plain_keys` parts that hold nothing; `readline_keys`,
+//! `letter_keys`, `word_keys`, `ring`, `undo`, `last_words` and `prefix_search` the parts; `watch` whether the editor
+//! searches; `keys` which key an event is; `laws` what follows from the definitions.
+#![tactic(auto)]
+
+mod edit;
+mod keys;
+mod last_words;
+pub mod laws;
+mod letter_keys;
+mod pair;
+mod part;
+mod plain_keys;
+mod prefix_search;
+mod readline_keys;
+mod ring;
+mod undo;
+mod watch;
+mod word_keys;
+
+pub use edit::Edit;
+pub use keys::is_key;
+pub use last_words::{LastWords, WordPlace};
+pub use letter_keys::LetterWords;
+pub use part::KeyPart;
+pub use plain_keys::{Keys, PlainKeys};
+pub use prefix_search::PrefixSearch;
+pub use readline_keys::{ReadlineKeys, readline_key};
+pub use ring::{KillRing, Latest};
+pub use undo::UndoSteps;
+pub use watch::{is_filled, searches_after};
+pub use word_keys::{WordEdit, WordKeys, edited_line, word_edit};

@@ -1,0 +1,86 @@
+//! Keys without a state.
+
+ghost use Rattle.std.specs.Prelude.{◌≡◌, IfOk, option_map};
+ghost use Rattle.tw_input.specs.EventView.{event_view};
+ghost use Rattle.tw_key_parts.specs.EditView.{edit_view};
+
+use crate::edit::Edit;
+use crate::part::KeyPart;
+use std::alloc::{AllocError, Global};
+use tw_history::History;
+use tw_host::Action;
+use tw_input::InputEvent;
+use tw_line::LineEditBuffer;
+
+/// Keys without a state: each edit is a function of the event, the line and the history.
+pub trait PlainKeys {
+    ghost use Rattle.std.specs.Prelude.{Option};
+    ghost use Rattle.tw_key_parts.specs.KeyRules.{Asked, Edited};
+
+    ghost edits: { Asked → Option (Edited (Unit {0})) };
+
+    /// Returns the edit of an event, if it is one of the keys.
+    fn edit<L: History>(
+        &self,
+        alloc: Global,
+        searching: bool,
+        history: &L,
+        event: &InputEvent,
+        line: &LineEditBuffer,
+    ) -> Result<Option<Edit<()>>, AllocError>
+        ensures { IfOk result (λ edit. option_map (edit_view (λ note. note)) edit
+            ≡ edits (record { event = event_view event.now; searching = searching; lines = L.lines history.now; cut = line.now })) };
+}
+
+/// Plain keys as a part.
+#[derive(Debug, Drop)]
+pub struct Keys<K>(pub K);
+
+impl<K: PlainKeys> KeyPart for Keys<K> {
+    ghost use Rattle.tw_key_parts.specs.PlainKeys.{plain_key_rules};
+
+    type Note = ();
+
+    ghost State = { Unit {0} };
+
+    ghost Kept = { Unit {0} };
+
+    ghost state = { λ it. tt };
+
+    ghost kept = { λ note. note };
+
+    ghost keys = { plain_key_rules K.edits };
+
+    ghost is_ready = { λ it cut. Unit {0} };
+
+    fn edit<L: History>(
+        &self,
+        alloc: Global,
+        searching: bool,
+        history: &L,
+        event: &InputEvent,
+        line: &LineEditBuffer,
+    ) -> Result<Option<Edit<()>>, AllocError> {
+        self.0.edit(alloc, searching, history, event, line)
+    }
+
+    fn prepare(&mut self, _alloc: Global, _line: &LineEditBuffer) -> Result<(), AllocError> {
+        Ok(())
+    }
+
+    fn follow(
+        &mut self,
+        _alloc: Global,
+        _note: Option<()>,
+        _searching: bool,
+        _event: &InputEvent,
+        _before: &LineEditBuffer,
+        _after: &LineEditBuffer,
+        _action: Option<&Action>,
+    )
+        requires ready { Unit {0} }
+        ensures { tt {0} ≡ tt }
+    {}
+
+    fn leave_line(&mut self) {}
+}

@@ -1,0 +1,359 @@
+//! Lines of a history that begin as a line does.
+
+ghost use Rattle.std.specs.Prelude.{◌≡◌, IfOk, None, Some, if◌then◌else◌, length, option_map};
+ghost use Rattle.tw_hosts.specs.Words.{begins_with};
+ghost use Rattle.tw_input.specs.EventView.{event_view};
+ghost use Rattle.tw_line.specs.Cut.{cut_at};
+ghost use Rattle.tw_key_parts.specs.Keys.{is_key};
+ghost use Rattle.tw_host.specs.ActionView.{action_view};
+ghost use Rattle.tw_key_parts.specs.KeyRules.{step_of};
+ghost use Rattle.tw_key_parts.specs.PrefixSearch.{is_prefix_key, is_prefix_match, newer_key, newer_match, newer_step, older_key, older_match, older_start, older_step, prefix_match_at, prefix_match_view, prefix_step, prefix_step_view, recalled_after, recalled_step, recalled_view, typed_in};
+
+use crate::edit::Edit;
+use crate::keys::is_key;
+use crate::part::KeyPart;
+use std::alloc::{AllocError, Global};
+use tw_history::{History, SearchDirection};
+use tw_host::Action;
+use tw_input::{InputEvent, KeyCode, KeyEvent, Modifiers};
+use tw_line::LineEditBuffer;
+
+/// Asks for an older line.
+const OLDER: KeyEvent = KeyEvent {
+    key: KeyCode::PageUp,
+    modifiers: Modifiers::NONE,
+};
+
+/// Asks for a newer line.
+const NEWER: KeyEvent = KeyEvent {
+    key: KeyCode::PageDown,
+    modifiers: Modifiers::NONE,
+};
+
+/// A line of the history that matches.
+#[derive(Debug, Drop)]
+pub struct PrefixMatch {
+    /// The line, with the cursor of the current line.
+    pub line: LineEditBuffer,
+    /// Its index in the history.
+    pub index: usize,
+}
+
+/// A search in progress.
+#[derive(Debug, Drop)]
+pub struct Recalled {
+    /// The line before the search.
+    pub typed: LineEditBuffer,
+    /// The index of the line that was found last.
+    pub index: usize,
+}
+
+/// The result of a key.
+#[derive(Debug, Drop)]
+pub struct PrefixStep {
+    /// The line.
+    pub line: LineEditBuffer,
+    /// The search, unless it is over.
+    pub recalled: Option<Recalled>,
+}
+
+/// Returns true for Page Up.
+pub fn is_older_key(event: &InputEvent) -> bool
+    ensures { result ≡ is_key older_key (event_view event.now) }
+{
+    is_key(OLDER, event)
+}
+
+/// Returns true for Page Down.
+pub fn is_newer_key(event: &InputEvent) -> bool
+    ensures { result ≡ is_key newer_key (event_view event.now) }
+{
+    is_key(NEWER, event)
+}
+
+/// Returns true for Page Up and Page Down.
+pub fn is_prefix_key(event: &InputEvent) -> bool
+    ensures { result ≡ is_prefix_key (event_view event.now) }
+{
+    is_older_key(event) || is_newer_key(event)
+}
+
+/// Returns a line with the cursor after the text that it begins with, or `None` if it begins otherwise.
+fn line_from(alloc: Global, text: &str, line: &str) -> Result<Option<LineEditBuffer>, AllocError>
+    ensures { IfOk result (λ found. found ≡ (if begins_with text.now line.now then Some (cut_at line.now (length text.now)) else None)) }
+{
+    match line.strip_prefix(text) {
+        Some(_) => Ok(Some(LineEditBuffer::new(alloc, line, text.len())?)),
+        None => Ok(None),
+    }
+}
+
+/// Returns the line at an index if it begins like the current line up to its cursor and differs from it.
+fn match_at<L: History>(
+    alloc: Global,
+    lines: &L,
+    editor: &LineEditBuffer,
+    index: usize,
+) -> Result<Option<PrefixMatch>, AllocError>
+    ensures { IfOk result (λ found. option_map prefix_match_view found
+        ≡ (if is_prefix_match (L.lines lines.now) editor.now index then Some (prefix_match_at (L.lines lines.now) editor.now index) else None)) }
+{
+    let Some(line) = lines.get(alloc, index)? else {
+        return Ok(None);
+    };
+    if line.as_str() == editor.get_line() {
+        return Ok(None);
+    }
+    let text = &editor.get_line()[..editor.get_cursor()];
+    match line_from(alloc, text, line.as_str())? {
+        Some(line) => Ok(Some(PrefixMatch { line, index })),
+        None => Ok(None),
+    }
+}
+
+/// Returns the newest match up to an index.
+fn older_match_from<L: History>(
+    alloc: Global,
+    lines: &L,
+    editor: &LineEditBuffer,
+    from: usize,
+) -> Result<Option<PrefixMatch>, AllocError>
+    ensures { IfOk result (λ found. option_map prefix_match_view found ≡ older_match (L.lines lines.now) editor.now (Some from)) }
+{
+    for index in (0..=from).rev() {
+        if let Some(found) = match_at(alloc, lines, editor, index)? {
+            return Ok(Some(found));
+        }
+    }
+    Ok(None)
+}
+
+/// Returns the oldest match from an index on.
+fn newer_match_from<L: History>(
+    alloc: Global,
+    lines: &L,
+    editor: &LineEditBuffer,
+    from: usize,
+) -> Result<Option<PrefixMatch>, AllocError>
+    ensures { IfOk result (λ found. option_map prefix_match_view found ≡ newer_match (L.lines lines.now) editor.now (Some from)) }
+{
+    let Some(last) = lines.last() else {
+        return Ok(None);
+    };
+    for index in from..=last {
+        if let Some(found) = match_at(alloc, lines, editor, index)? {
+            return Ok(Some(found));
+        }
+    }
+    Ok(None)
+}
+
+/// Returns the index where the search for older lines starts: before the last match, or at the last line.
+fn older_start<L: History>(recalled: Option<&Recalled>, lines: &L) -> Option<usize>
+    ensures { result ≡ older_start (option_map (λ recalled. recalled_view recalled.now) recalled.entry) (L.lines lines.now) }
+{
+    match recalled {
+        Some(recalled) => SearchDirection::Backwards.next(recalled.index),
+        None => lines.last(),
+    }
+}
+
+/// Returns the line before the search.
+fn typed_in(
+    alloc: Global,
+    recalled: Option<&Recalled>,
+    editor: &LineEditBuffer,
+) -> Result<LineEditBuffer, AllocError>
+    ensures { IfOk result (λ typed. typed ≡ typed_in (option_map (λ recalled. recalled_view recalled.now) recalled.entry) editor.now) }
+{
+    match recalled {
+        Some(recalled) => recalled.typed.try_clone(alloc),
+        None => editor.try_clone(alloc),
+    }
+}
+
+/// Returns the step to a match.
+fn recalled_step(typed: LineEditBuffer, found: PrefixMatch) -> PrefixStep
+    ensures { prefix_step_view result ≡ recalled_step typed (prefix_match_view found) }
+{
+    PrefixStep {
+        line: found.line,
+        recalled: Some(Recalled {
+            typed,
+            index: found.index,
+        }),
+    }
+}
+
+/// Returns the step to the next older match.
+fn older_step<L: History>(
+    alloc: Global,
+    lines: &L,
+    recalled: Option<&Recalled>,
+    editor: &LineEditBuffer,
+) -> Result<Option<PrefixStep>, AllocError>
+    ensures { IfOk result (λ step. option_map prefix_step_view step
+        ≡ older_step (L.lines lines.now) (option_map (λ recalled. recalled_view recalled.now) recalled.entry) editor.now) }
+{
+    let Some(from) = older_start(recalled, lines) else {
+        return Ok(None);
+    };
+    match older_match_from(alloc, lines, editor, from)? {
+        Some(found) => {
+            let typed = typed_in(alloc, recalled, editor)?;
+            Ok(Some(recalled_step(typed, found)))
+        }
+        None => Ok(None),
+    }
+}
+
+/// Returns the oldest match from an index on, if there is an index.
+fn newer_match<L: History>(
+    alloc: Global,
+    lines: &L,
+    editor: &LineEditBuffer,
+    from: Option<usize>,
+) -> Result<Option<PrefixMatch>, AllocError>
+    ensures { IfOk result (λ found. option_map prefix_match_view found ≡ newer_match (L.lines lines.now) editor.now from) }
+{
+    match from {
+        Some(from) => newer_match_from(alloc, lines, editor, from),
+        None => Ok(None),
+    }
+}
+
+/// Returns the step to the next newer match, or else to the line before the search.
+fn newer_step<L: History>(
+    alloc: Global,
+    lines: &L,
+    recalled: Option<&Recalled>,
+    editor: &LineEditBuffer,
+) -> Result<Option<PrefixStep>, AllocError>
+    ensures { IfOk result (λ step. option_map prefix_step_view step
+        ≡ newer_step (L.lines lines.now) (option_map (λ recalled. recalled_view recalled.now) recalled.entry) editor.now) }
+{
+    let Some(recalled) = recalled else {
+        return Ok(None);
+    };
+    let from = SearchDirection::Forwards.next(recalled.index);
+    let found = newer_match(alloc, lines, editor, from)?;
+    let typed = recalled.typed.try_clone(alloc)?;
+    match found {
+        Some(found) => Ok(Some(recalled_step(typed, found))),
+        None => Ok(Some(PrefixStep {
+            line: typed,
+            recalled: None,
+        })),
+    }
+}
+
+/// Page Up shows the newest line of the history that begins like the line up to its cursor, and then older ones. Page
+/// Down goes back to newer ones, and at last to the line before the search. Lines equal to the current one are skipped,
+/// and the cursor stays where it is. Any other key ends the search. The keys have no action during an incremental
+/// search.
+#[derive(Debug, Drop)]
+pub struct PrefixSearch {
+    recalled: Option<Recalled>,
+}
+
+impl PrefixSearch {
+    /// Creates the part with no search in progress.
+    pub fn new() -> Self
+        ensures { option_map recalled_view result.recalled ≡ None }
+    {
+        PrefixSearch { recalled: None }
+    }
+
+    /// Returns the result of Page Up or Page Down outside an incremental search.
+    fn step_by<L: History>(
+        &self,
+        alloc: Global,
+        searching: bool,
+        history: &L,
+        event: &InputEvent,
+        line: &LineEditBuffer,
+    ) -> Result<Option<PrefixStep>, AllocError>
+        ensures { IfOk result (λ step. option_map prefix_step_view step
+            ≡ prefix_step searching (event_view event.now) (option_map recalled_view self.now.recalled) (L.lines history.now) line.now) }
+    {
+        if searching {
+            return Ok(None);
+        }
+        if is_older_key(event) {
+            return older_step(alloc, history, self.recalled.as_ref(), line);
+        }
+        if is_newer_key(event) {
+            return newer_step(alloc, history, self.recalled.as_ref(), line);
+        }
+        Ok(None)
+    }
+}
+
+impl KeyPart for PrefixSearch {
+    ghost use Rattle.std.specs.Prelude.{Option, option_map};
+    ghost use Rattle.tw_key_parts.specs.PrefixSearch.{RecalledView, prefix_key_rules, recalled_view};
+
+    type Note = Option<Recalled>;
+
+    ghost State = { Option RecalledView };
+
+    ghost Kept = { Option RecalledView };
+
+    ghost state = { λ it. option_map recalled_view it.recalled };
+
+    ghost kept = { λ recalled. option_map recalled_view recalled };
+
+    ghost keys = { prefix_key_rules };
+
+    ghost is_ready = { λ it cut. Unit {0} };
+
+    fn edit<L: History>(
+        &self,
+        alloc: Global,
+        searching: bool,
+        history: &L,
+        event: &InputEvent,
+        line: &LineEditBuffer,
+    ) -> Result<Option<Edit<Option<Recalled>>>, AllocError> {
+        match self.step_by(alloc, searching, history, event, line)? {
+            Some(PrefixStep { line, recalled }) => Ok(Some(Edit {
+                line: Some(line),
+                action: Action::InsertChar(0, ' '),
+                note: recalled,
+            })),
+            None => Ok(None),
+        }
+    }
+
+    fn prepare(&mut self, _alloc: Global, _line: &LineEditBuffer) -> Result<(), AllocError> {
+        Ok(())
+    }
+
+    fn follow(
+        &mut self,
+        _alloc: Global,
+        note: Option<Option<Recalled>>,
+        _searching: bool,
+        event: &InputEvent,
+        _before: &LineEditBuffer,
+        _after: &LineEditBuffer,
+        action: Option<&Action>,
+    )
+        requires ready { Unit {0} }
+        ensures { option_map recalled_view self.new.recalled ≡ recalled_after (option_map recalled_view self.old.recalled) (option_map (λ recalled. option_map recalled_view recalled) note)
+            (step_of (event_view event.now) _searching _before.now _after.now (option_map (λ action. action_view action.now) action.entry)) }
+    {
+        match note {
+            Some(recalled) => self.recalled = recalled,
+            None => {
+                if action.is_some() || !is_prefix_key(event) {
+                    self.recalled = None;
+                }
+            }
+        }
+    }
+
+    fn leave_line(&mut self) {
+        self.recalled = None;
+    }
+}

@@ -1,0 +1,112 @@
+//! Keys of readline that are not in the key table.
+
+ghost use Rattle.std.specs.Prelude.{◌≡◌, option_map};
+ghost use Rattle.tw_host.specs.ActionView.{action_view};
+ghost use Rattle.tw_host.specs.KeyTable.{key_press, looked_up};
+ghost use Rattle.tw_input.specs.EventView.{event_view};
+ghost use Rattle.tw_input.specs.Modifiers.{alt, ctrl};
+ghost use Rattle.tw_key_parts.specs.ReadlineKeys.{delete_action, readline_action, readline_key, readline_table};
+
+use crate::edit::Edit;
+use crate::plain_keys::PlainKeys;
+use std::alloc::{AllocError, Global};
+use tw_history::History;
+use tw_host::Action;
+use tw_input::{InputEvent, KeyCode, KeyEvent, Modifiers};
+use tw_line::{LineEditBuffer, Movement};
+
+/// Returns the action of a key with CTRL.
+fn ctrl_action(key: KeyCode) -> Option<Action>
+    ensures { option_map action_view result ≡ looked_up readline_table (key_press ctrl key) }
+{
+    match key {
+        KeyCode::Char('U') => Some(Action::Kill(Movement::StartOfLine)),
+        KeyCode::LeftArrow => Some(Action::Move(Movement::BackwardWord(1))),
+        KeyCode::RightArrow => Some(Action::Move(Movement::ForwardWord(1))),
+        _ => None,
+    }
+}
+
+/// Returns the action of a key with ALT.
+fn alt_action(key: KeyCode) -> Option<Action>
+    ensures { option_map action_view result ≡ looked_up readline_table (key_press alt key) }
+{
+    match key {
+        KeyCode::Char('d') => Some(Action::KillAndMove(Movement::ForwardWord(1), Movement::None)),
+        KeyCode::Backspace => Some(Action::Kill(Movement::BackwardWord(1))),
+        _ => None,
+    }
+}
+
+/// Returns the action of a key in the table.
+fn row_action(key: KeyEvent) -> Option<Action>
+    ensures { option_map action_view result ≡ looked_up readline_table key }
+{
+    match key.modifiers {
+        Modifiers::CTRL => ctrl_action(key.key),
+        Modifiers::ALT => alt_action(key.key),
+        _ => None,
+    }
+}
+
+/// Returns the action of Ctrl-D in a line that is not empty.
+fn delete_action(key: KeyEvent, editor: &LineEditBuffer) -> Option<Action>
+    ensures { option_map action_view result ≡ delete_action key editor.now }
+{
+    let delete = KeyEvent {
+        key: KeyCode::Char('D'),
+        modifiers: Modifiers::CTRL,
+    };
+    if key == delete && !editor.get_line().is_empty() {
+        Some(Action::KillAndMove(Movement::ForwardChar(1), Movement::None))
+    } else {
+        None
+    }
+}
+
+/// Returns the action of a key of readline in a line.
+pub fn readline_key(key: KeyEvent, editor: &LineEditBuffer) -> Option<Action>
+    ensures { option_map action_view result ≡ readline_key key editor.now }
+{
+    match row_action(key) {
+        Some(action) => Some(action),
+        None => delete_action(key, editor),
+    }
+}
+
+/// Returns the action of an event in a line.
+fn readline_action(event: &InputEvent, editor: &LineEditBuffer) -> Option<Action>
+    ensures { option_map action_view result ≡ readline_action (event_view event.now) editor.now }
+{
+    match event {
+        InputEvent::Key(key) => readline_key(*key, editor),
+        _ => None,
+    }
+}
+
+/// Keys of readline: Ctrl-U kills to the start of the line, Alt-d the next word and Alt-Backspace the previous one;
+/// Ctrl-Left and Ctrl-Right move by words; Ctrl-D deletes a character, and on an empty line ends the input. Words end
+/// at whitespace.
+#[derive(Debug, Drop)]
+pub struct ReadlineKeys;
+
+impl PlainKeys for ReadlineKeys {
+    ghost use Rattle.tw_key_parts.specs.ReadlineKeys.{readline_edit};
+
+    ghost edits = { readline_edit };
+
+    fn edit<L: History>(
+        &self,
+        _alloc: Global,
+        _searching: bool,
+        _history: &L,
+        event: &InputEvent,
+        line: &LineEditBuffer,
+    ) -> Result<Option<Edit<()>>, AllocError> {
+        Ok(readline_action(event, line).map(|action| Edit {
+            line: None,
+            action,
+            note: (),
+        }))
+    }
+}

@@ -1,0 +1,360 @@
+//! The kill ring.
+
+ghost use Rattle.std.specs.Prelude.{◌≡◌, ◌≤◌, ◌+◌, ◌<◌, ◌-◌, ◌++◌, ◌∷◌, [], false, length, map, take, IfOk, OnOk, Some, option_map, string_bytes};
+ghost use Rattle.std.specs.String.{string_capacity};
+ghost use Rattle.std.specs.Vec.{vec_capacity, vec_len};
+ghost use Rattle.tw_input.specs.EventView.{event_view};
+ghost use Rattle.tw_host.specs.ActionView.{action_view};
+ghost use Rattle.tw_key_parts.specs.declared.ring.Latest.TheVariants as Latest;
+ghost use Rattle.tw_key_parts.specs.Ring.{index_below, is_same_cut, joined, kill_movement, killing, newest_kill, ring_view, rotated, taken_out, with_killed, with_killing, with_room, yank_by, yank_of, yank_view};
+ghost use Rattle.tw_key_parts.specs.KeyRules.{step_of};
+ghost use Rattle.tw_key_parts.specs.Ring.{ring_follows};
+
+use crate::edit::Edit;
+use crate::keys::{ROTATE, YANK, deletes_character, is_key};
+use crate::part::KeyPart;
+use std::alloc::{AllocError, Global};
+use tw_history::History;
+use tw_host::Action;
+use tw_input::InputEvent;
+use tw_line::{LineEditBuffer, Movement};
+
+/// The number of kills that are kept.
+const MOST_KILLS: usize = 10;
+
+/// The last edit.
+#[derive(Clone, Copy, Debug, PartialEq, Eq)]
+pub enum Latest {
+    /// A kill: the next one joins it.
+    Kill,
+    /// A yank of the kill with this index: another one can replace it.
+    Yank(usize),
+    /// Any other.
+    Other,
+}
+
+/// A kill ring: Ctrl-Y inserts the newest kill, and Alt-y right after it, or after another Alt-y, replaces it by the
+/// kill before, and after the oldest one by the newest.
+///
+/// Every kill goes into the ring, except those of the keys that delete a character: Delete, Backspace, Ctrl-H and
+/// Ctrl-D. Consecutive kills join. The ring keeps ten kills, over all lines. A change of the line by the application's
+/// host is no kill.
+#[derive(Debug, Drop)]
+pub struct KillRing {
+    kills: Vec<String>,
+    latest: Latest,
+    spare: String,
+    probe: LineEditBuffer,
+}
+
+/// A yank.
+#[derive(Debug, Drop)]
+pub struct Yank {
+    /// The line before it.
+    pub line: LineEditBuffer,
+    /// Its text.
+    pub text: String,
+    /// Its index.
+    pub index: usize,
+}
+
+/// Compares two lines with their cursors.
+fn is_same(editor: &LineEditBuffer, other: &LineEditBuffer) -> bool
+    ensures { result ≡ is_same_cut editor.now other.now }
+{
+    editor.get_line() == other.get_line() && editor.get_cursor() == other.get_cursor()
+}
+
+/// Returns how far an action kills.
+fn kill_movement(action: Option<&Action>) -> Option<Movement>
+    ensures { result ≡ kill_movement (option_map (λ action. action_view action.now) action.entry) }
+{
+    match action {
+        Some(Action::Kill(movement)) | Some(Action::KillAndMove(movement, _)) => Some(*movement),
+        _ => None,
+    }
+}
+
+/// Returns how far the action of an event kills, unless its key deletes a character.
+fn killing(event: &InputEvent, action: Option<&Action>) -> Option<Movement>
+    ensures { result ≡ killing (event_view event.now) (option_map (λ action. action_view action.now) action.entry) }
+{
+    if deletes_character(event) {
+        None
+    } else {
+        kill_movement(action)
+    }
+}
+
+/// Removes a text before the cursor, if it is there.
+fn taken_out(
+    alloc: Global,
+    text: &str,
+    editor: &LineEditBuffer,
+) -> Result<Option<LineEditBuffer>, AllocError>
+    ensures { IfOk result (λ line. line ≡ taken_out (Some text.now) editor.now) }
+{
+    let (before, behind) = editor.get_line().split_at(editor.get_cursor());
+    let Some(rest) = before.strip_suffix(text) else {
+        return Ok(None);
+    };
+    let mut line = LineEditBuffer::new(alloc, behind, 0)?;
+    line.insert_text(rest)?;
+    Ok(Some(line))
+}
+
+impl KillRing {
+    /// Creates an empty ring.
+    pub fn new(alloc: Global) -> Self
+        ensures { ring_view result ≡ record { kills = []; latest = Latest.Other } }
+    {
+        KillRing {
+            kills: Vec::new(alloc),
+            latest: Latest::Other,
+            spare: String::new(alloc),
+            probe: LineEditBuffer::empty(alloc),
+        }
+    }
+
+    /// Joins a kill to the newest one.
+    fn join(&mut self, ahead: bool, killed: &str, mut text: String)
+        requires empty { string_bytes text ≡ [] }
+        requires text { length (newest_kill (map string_bytes self.old.kills.items)) + length killed.now ≤ string_capacity text }
+        requires kills { vec_len self.old.kills < vec_capacity self.old.kills }
+        ensures kills { map string_bytes self.new.kills.items
+            ≡ take (length self.old.kills.items - 1) (map string_bytes self.old.kills.items)
+            ++ joined ahead (newest_kill (map string_bytes self.old.kills.items)) killed.now ∷ [] }
+        ensures latest { self.new.latest ≡ self.old.latest }
+    {
+        let newest = self.kills.pop();
+        let newest = match &newest {
+            Some(newest) => newest.as_str(),
+            None => "",
+        };
+        let (front, back) = if ahead {
+            (newest, killed)
+        } else {
+            (killed, newest)
+        };
+        let Ok(()) = text.push_str(front) else {
+            unreachable!()
+        };
+        let Ok(()) = text.push_str(back) else {
+            unreachable!()
+        };
+        let Ok(()) = self.kills.push(text) else {
+            unreachable!()
+        };
+    }
+
+    /// Adds a kill, and drops the oldest one if there are ten.
+    fn add(&mut self, killed: &str, mut text: String)
+        requires empty { string_bytes text ≡ [] }
+        requires text { length killed.now ≤ string_capacity text }
+        requires kills { vec_len self.old.kills < vec_capacity self.old.kills }
+        ensures kills { map string_bytes self.new.kills.items ≡ with_room (map string_bytes self.old.kills.items) ++ killed.now ∷ [] }
+        ensures latest { self.new.latest ≡ self.old.latest }
+    {
+        let Ok(()) = text.push_str(killed) else {
+            unreachable!()
+        };
+        if self.kills.len() >= MOST_KILLS {
+            let _oldest = self.kills.remove(0);
+        }
+        let Ok(()) = self.kills.push(text) else {
+            unreachable!()
+        };
+    }
+
+    /// Adds or joins a kill, unless it is empty.
+    fn take_in(&mut self, ahead: bool, killed: &str, text: String)
+        requires empty { string_bytes text ≡ [] }
+        requires text { length (newest_kill (map string_bytes self.old.kills.items)) + length killed.now ≤ string_capacity text }
+        requires kills { vec_len self.old.kills < vec_capacity self.old.kills }
+        ensures { ring_view self.new ≡ with_killed ahead killed.now (ring_view self.old) }
+    {
+        match (killed.is_empty(), self.latest) {
+            (true, Latest::Kill) => {}
+            (true, _) => self.latest = Latest::Other,
+            (false, Latest::Kill) => self.join(ahead, killed, text),
+            (false, _) => {
+                self.add(killed, text);
+                self.latest = Latest::Kill;
+            }
+        }
+    }
+
+    /// Keeps what a movement kills; `None` ends a run of kills or yanks.
+    fn kill(&mut self, alloc: Global, movement: Option<Movement>)
+        requires empty { string_bytes self.old.spare ≡ [] }
+        requires text { length (newest_kill (map string_bytes self.old.kills.items)) + length self.old.probe.line ≤ string_capacity self.old.spare }
+        requires kills { vec_len self.old.kills < vec_capacity self.old.kills }
+        ensures { ring_view self.new ≡ with_killing movement self.old.probe (ring_view self.old) }
+    {
+        let Some(movement) = movement else {
+            self.latest = Latest::Other;
+            return;
+        };
+        let text = std::mem::replace(&mut self.spare, String::new(alloc));
+        let mut line = std::mem::replace(&mut self.probe, LineEditBuffer::empty(alloc));
+        let from = line.get_cursor();
+        line.exec_movement(movement);
+        let to = line.get_cursor();
+        let killed = &line.get_line()[from.min(to)..from.max(to)];
+        self.take_in(from < to, killed, text);
+    }
+
+    /// Yanks the kill with an index into a line.
+    fn yank(
+        &self,
+        alloc: Global,
+        index: usize,
+        line: LineEditBuffer,
+    ) -> Result<Option<Yank>, AllocError>
+        ensures { IfOk result (λ yank. option_map yank_view yank ≡ yank_of (map string_bytes self.now.kills.items) index line) }
+    {
+        let Some(kill) = self.kills.get(index) else {
+            return Ok(None);
+        };
+        let text = String::from_str(alloc, kill.as_str())?;
+        Ok(Some(Yank { line, text, index }))
+    }
+
+    /// Returns the index before another one; before the first one it is the last.
+    fn index_below(&self, index: usize) -> usize
+        ensures { result ≡ index_below (map string_bytes self.now.kills.items) index }
+    {
+        match index.checked_sub(1) {
+            Some(below) => below,
+            None => self.kills.len().saturating_sub(1),
+        }
+    }
+
+    /// Replaces the last yank by the kill before.
+    fn rotate(&self, alloc: Global, editor: &LineEditBuffer) -> Result<Option<Yank>, AllocError>
+        ensures { IfOk result (λ yank. option_map yank_view yank ≡ rotated (map string_bytes self.now.kills.items) self.now.latest editor.now) }
+    {
+        let Latest::Yank(index) = self.latest else {
+            return Ok(None);
+        };
+        let Some(kill) = self.kills.get(index) else {
+            return Ok(None);
+        };
+        match taken_out(alloc, kill.as_str(), editor)? {
+            Some(line) => self.yank(alloc, self.index_below(index), line),
+            None => Ok(None),
+        }
+    }
+
+    /// Returns the yank of an event outside a search.
+    fn yank_by(
+        &self,
+        alloc: Global,
+        searching: bool,
+        event: &InputEvent,
+        editor: &LineEditBuffer,
+    ) -> Result<Option<Yank>, AllocError>
+        ensures { IfOk result (λ yank. option_map yank_view yank ≡ yank_by searching (event_view event.now) (ring_view self.now) editor.now) }
+    {
+        if searching {
+            return Ok(None);
+        }
+        if is_key(YANK, event) {
+            return self.yank(
+                alloc,
+                self.kills.len().saturating_sub(1),
+                editor.try_clone(alloc)?,
+            );
+        }
+        if is_key(ROTATE, event) {
+            return self.rotate(alloc, editor);
+        }
+        Ok(None)
+    }
+}
+
+impl KeyPart for KillRing {
+    ghost use Rattle.std.specs.Prelude.{◌≡◌, ◌<◌, ◌≤◌, ◌+◌, ℕ, [], length, map, string_bytes};
+    ghost use Rattle.std.specs.String.{string_capacity};
+    ghost use Rattle.std.specs.Vec.{vec_capacity, vec_len};
+    ghost use Rattle.tw_key_parts.specs.Ring.{Ring, newest_kill, ring_key_rules, ring_view};
+
+    type Note = usize;
+
+    ghost State = { Ring };
+
+    ghost Kept = { ℕ };
+
+    ghost state = { ring_view };
+
+    ghost kept = { λ index. index };
+
+    ghost keys = { ring_key_rules };
+
+    ghost is_ready = { λ it cut. (it.probe ≡ cut) × (string_bytes it.spare ≡ [])
+        × (length (newest_kill (map string_bytes it.kills.items)) + length cut.line ≤ string_capacity it.spare)
+        × (vec_len it.kills < vec_capacity it.kills) };
+
+    fn edit<L: History>(
+        &self,
+        alloc: Global,
+        searching: bool,
+        _history: &L,
+        event: &InputEvent,
+        line: &LineEditBuffer,
+    ) -> Result<Option<Edit<usize>>, AllocError> {
+        match self.yank_by(alloc, searching, event, line)? {
+            Some(Yank { line, text, index }) => Ok(Some(Edit {
+                line: Some(line),
+                action: Action::InsertText(1, text),
+                note: index,
+            })),
+            None => Ok(None),
+        }
+    }
+
+    fn prepare(&mut self, _alloc: Global, line: &LineEditBuffer) -> Result<(), AllocError> {
+        self.kills.reserve(1)?;
+        let newest = match self.kills.last() {
+            Some(newest) => newest.len(),
+            None => 0,
+        };
+        self.spare.clear();
+        self.spare.reserve(newest + line.get_line().len())?;
+        self.probe
+            .set_line_and_cursor(line.get_line(), line.get_cursor())
+    }
+
+    fn follow(
+        &mut self,
+        alloc: Global,
+        note: Option<usize>,
+        searching: bool,
+        event: &InputEvent,
+        before: &LineEditBuffer,
+        after: &LineEditBuffer,
+        action: Option<&Action>,
+    )
+        requires ready { (self.old.probe ≡ before.now) × (string_bytes self.old.spare ≡ [])
+            × (length (newest_kill (map string_bytes self.old.kills.items)) + length before.now.line ≤ string_capacity self.old.spare)
+            × (vec_len self.old.kills < vec_capacity self.old.kills) }
+        ensures { ring_view self.new ≡ ring_follows (ring_view self.old) (option_map (λ index. index) note)
+            (step_of (event_view event.now) searching before.now after.now (option_map (λ action. action_view action.now) action.entry)) }
+    {
+        match note {
+            Some(index) => self.latest = Latest::Yank(index),
+            None => {
+                let movement = if searching || !is_same(before, after) {
+                    None
+                } else {
+                    killing(event, action)
+                };
+                self.kill(alloc, movement);
+            }
+        }
+    }
+
+    fn leave_line(&mut self) {
+        self.latest = Latest::Other;
+    }
+}

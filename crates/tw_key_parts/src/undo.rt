@@ -1,0 +1,248 @@
+//! Undo.
+
+ghost use Rattle.std.specs.Prelude.{◌≡◌, ◌<◌, IfOk, IfSome, length, option_map};
+ghost use Rattle.std.specs.Vec.{vec_capacity, vec_len};
+ghost use Rattle.tw_input.specs.EventView.{event_view};
+ghost use Rattle.tw_host.specs.ActionView.{action_view};
+ghost use Rattle.tw_key_parts.specs.Undo.{if_any, is_edit, is_end, is_same_line, last_change, types_character, no_steps, steps_with, typing_after, undo_after, undo_behind, undo_view, undone};
+ghost use Rattle.tw_key_parts.specs.KeyRules.{step_of};
+ghost use Rattle.tw_key_parts.specs.Undo.{undo_follows};
+
+use crate::edit::Edit;
+use crate::keys::{UNDO, is_key};
+use crate::part::KeyPart;
+use std::alloc::{AllocError, Global};
+use tw_history::History;
+use tw_host::Action;
+use tw_input::InputEvent;
+use tw_line::LineEditBuffer;
+
+/// Ctrl-_ undoes the last step: it restores the line before it, with its cursor.
+///
+/// A run of typed characters is one step, and so are a kill, a paste, a completion, a step through the history, and a
+/// search. A movement ends a run. Steps that left the line as it was are skipped. The end of a line drops its steps.
+#[derive(Debug, Drop)]
+pub struct UndoSteps {
+    before: Vec<LineEditBuffer>,
+    typing: bool,
+    spare: LineEditBuffer,
+}
+
+/// Compares two lines.
+fn is_same_line(editor: &LineEditBuffer, other: &LineEditBuffer) -> bool
+    ensures { result ≡ is_same_line editor.now other.now }
+{
+    editor.get_line() == other.get_line()
+}
+
+/// Returns true for an action that changes the line, or searches.
+fn is_edit(action: Option<&Action>) -> bool
+    ensures { result ≡ if_any is_edit (option_map (λ action. action_view action.now) action.entry) }
+{
+    matches!(
+        action,
+        Some(
+            Action::InsertChar(_, _)
+                | Action::InsertText(_, _)
+                | Action::Kill(_)
+                | Action::KillAndMove(_, _)
+                | Action::HistoryPrevious
+                | Action::HistoryNext
+                | Action::Complete
+                | Action::HistoryIncSearchBackwards
+                | Action::HistoryIncSearchForwards,
+        )
+    )
+}
+
+/// Returns true for an action that types a character.
+fn types_character(action: Option<&Action>) -> bool
+    ensures { result ≡ if_any types_character (option_map (λ action. action_view action.now) action.entry) }
+{
+    matches!(action, Some(Action::InsertChar(_, _)))
+}
+
+/// Returns true for an action that ends the line.
+fn is_end(action: Option<&Action>) -> bool
+    ensures { result ≡ if_any is_end (option_map (λ action. action_view action.now) action.entry) }
+{
+    matches!(
+        action,
+        Some(Action::AcceptLine | Action::Cancel | Action::EndOfFile)
+    )
+}
+
+/// Returns true if the last step is a run of typed characters that may go on.
+fn typing_after(action: Option<&Action>, typing: bool) -> bool
+    ensures { result ≡ typing_after (option_map (λ action. action_view action.now) action.entry) typing }
+{
+    match action {
+        None | Some(Action::NoAction | Action::Repaint) => typing,
+        Some(_) => types_character(action),
+    }
+}
+
+impl UndoSteps {
+    /// Creates the part without steps.
+    pub fn new(alloc: Global) -> Self
+        ensures { undo_view result ≡ no_steps }
+    {
+        UndoSteps {
+            before: Vec::new(alloc),
+            typing: false,
+            spare: LineEditBuffer::empty(alloc),
+        }
+    }
+
+    /// Returns the index of the last step that changed the line.
+    fn last_change(&self, line: &LineEditBuffer) -> Option<usize>
+        ensures index { result ≡ last_change line.now.line self.now.before.items }
+        ensures inside { IfSome result (λ at. at < length self.now.before.items) }
+    {
+        let mut at = self.before.len();
+        while at > 0 {
+            at -= 1;
+            if !is_same_line(&self.before[at], line) {
+                return Some(at);
+            }
+        }
+        None
+    }
+
+    /// Returns the line after an undo.
+    fn undone(&self, alloc: Global, line: &LineEditBuffer) -> Result<LineEditBuffer, AllocError>
+        ensures { IfOk result (λ made. made ≡ undone (undo_view self.now) line.now) }
+    {
+        match self.last_change(line) {
+            Some(at) => self.before[at].try_clone(alloc),
+            None => line.try_clone(alloc),
+        }
+    }
+
+    /// Adds a step if one begins.
+    fn begin_step(
+        &mut self,
+        alloc: Global,
+        action: Option<&Action>,
+        before: &LineEditBuffer,
+        after: &LineEditBuffer,
+    )
+        requires spare { self.old.spare ≡ before.now }
+        requires room { vec_len self.old.before < vec_capacity self.old.before }
+        ensures before { self.new.before.items ≡ steps_with (option_map (λ action. action_view action.now) action.entry) before.now after.now (undo_view self.old) }
+        ensures typing { self.new.typing ≡ self.old.typing }
+    {
+        let is_same = is_same_line(before, after);
+        let goes_on = self.typing && types_character(action) && is_same;
+        if (is_edit(action) || !is_same) && !goes_on {
+            let line = std::mem::replace(&mut self.spare, LineEditBuffer::empty(alloc));
+            let Ok(()) = self.before.push(line) else {
+                unreachable!()
+            };
+        }
+    }
+
+    /// Follows any event but an undo.
+    fn follow_other(
+        &mut self,
+        alloc: Global,
+        searching: bool,
+        before: &LineEditBuffer,
+        after: &LineEditBuffer,
+        action: Option<&Action>,
+        event: &InputEvent,
+    )
+        requires spare { self.old.spare ≡ before.now }
+        requires room { vec_len self.old.before < vec_capacity self.old.before }
+        ensures { undo_view self.new
+            ≡ undo_after (record {
+              event = event_view event.now;
+              searching = searching;
+              before = before.now;
+              after = after.now;
+              action = option_map (λ action. action_view action.now) action.entry;
+            }) (undo_view self.old) }
+    {
+        let typing = !searching && typing_after(action, self.typing) && is_same_line(before, after);
+        if is_end(action) {
+            self.before.clear();
+        } else if !searching {
+            self.begin_step(alloc, action, before, after);
+        }
+        self.typing = typing;
+    }
+}
+
+impl KeyPart for UndoSteps {
+    ghost use Rattle.std.specs.Prelude.{◌≡◌, ◌<◌, ℕ};
+    ghost use Rattle.std.specs.Vec.{vec_capacity, vec_len};
+    ghost use Rattle.tw_key_parts.specs.Undo.{Undo, undo_key_rules, undo_view};
+
+    type Note = usize;
+
+    ghost State = { Undo };
+
+    ghost Kept = { ℕ };
+
+    ghost state = { undo_view };
+
+    ghost kept = { λ left. left };
+
+    ghost keys = { undo_key_rules };
+
+    ghost is_ready = { λ it cut. (it.spare ≡ cut) × (vec_len it.before < vec_capacity it.before) };
+
+    fn edit<L: History>(
+        &self,
+        alloc: Global,
+        searching: bool,
+        _history: &L,
+        event: &InputEvent,
+        line: &LineEditBuffer,
+    ) -> Result<Option<Edit<usize>>, AllocError> {
+        if !is_key(UNDO, event) || searching {
+            return Ok(None);
+        }
+        let left = self.last_change(line).unwrap_or(0);
+        let undone = self.undone(alloc, line)?;
+        Ok(Some(Edit {
+            line: Some(undone),
+            action: Action::InsertChar(0, ' '),
+            note: left,
+        }))
+    }
+
+    fn prepare(&mut self, _alloc: Global, line: &LineEditBuffer) -> Result<(), AllocError> {
+        self.before.reserve(1)?;
+        self.spare
+            .set_line_and_cursor(line.get_line(), line.get_cursor())
+    }
+
+    fn follow(
+        &mut self,
+        alloc: Global,
+        note: Option<usize>,
+        searching: bool,
+        event: &InputEvent,
+        before: &LineEditBuffer,
+        after: &LineEditBuffer,
+        action: Option<&Action>,
+    )
+        requires ready { (self.old.spare ≡ before.now) × (vec_len self.old.before < vec_capacity self.old.before) }
+        ensures { undo_view self.new ≡ undo_follows (undo_view self.old) (option_map (λ left. left) note)
+            (step_of (event_view event.now) searching before.now after.now (option_map (λ action. action_view action.now) action.entry)) }
+    {
+        match note {
+            Some(left) => {
+                self.before.truncate(left);
+                self.typing = false;
+            }
+            None => self.follow_other(alloc, searching, before, after, action, event),
+        }
+    }
+
+    fn leave_line(&mut self) {
+        self.before.clear();
+        self.typing = false;
+    }
+}

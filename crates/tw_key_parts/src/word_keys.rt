@@ -1,0 +1,118 @@
+//! Keys that edit words and characters.
+
+ghost use Rattle.std.specs.Prelude.{◌≡◌, IfOk};
+ghost use Rattle.tw_host.specs.KeyTable.{key_press};
+ghost use Rattle.tw_input.specs.EventView.{event_view};
+ghost use Rattle.tw_input.specs.Modifiers.{alt, ctrl};
+ghost use Rattle.tw_key_parts.specs.WordKeys.{edit_in, edited_cut, word_edit, word_keys};
+
+use crate::edit::Edit;
+use crate::plain_keys::PlainKeys;
+use std::alloc::{AllocError, Global};
+use tw_history::History;
+use tw_host::Action;
+use tw_input::{InputEvent, KeyCode, KeyEvent, Modifiers};
+use tw_line::LineEditBuffer;
+use tw_word_parts::{WordCase, with_swapped_clusters, with_swapped_words, with_word_in};
+
+/// An edit of the words or characters around the cursor.
+#[derive(Clone, Copy, Debug, PartialEq, Eq)]
+pub enum WordEdit {
+    /// Swaps the grapheme clusters around the cursor.
+    SwapClusters,
+    /// Swaps the word at the cursor, or the next one, with the previous word.
+    SwapWords,
+    /// Changes the case of the next word.
+    Write(WordCase),
+}
+
+/// Returns the edit of a key with CTRL.
+fn ctrl_edit(key: KeyCode) -> Option<WordEdit>
+    ensures { result ≡ edit_in word_keys (key_press ctrl key) }
+{
+    match key {
+        KeyCode::Char('T') => Some(WordEdit::SwapClusters),
+        _ => None,
+    }
+}
+
+/// Returns the edit of a key with ALT.
+fn alt_edit(key: KeyCode) -> Option<WordEdit>
+    ensures { result ≡ edit_in word_keys (key_press alt key) }
+{
+    match key {
+        KeyCode::Char('t') => Some(WordEdit::SwapWords),
+        KeyCode::Char('u') => Some(WordEdit::Write(WordCase::Upper)),
+        KeyCode::Char('l') => Some(WordEdit::Write(WordCase::Lower)),
+        KeyCode::Char('c') => Some(WordEdit::Write(WordCase::Capitalized)),
+        _ => None,
+    }
+}
+
+/// Returns the edit of a key.
+fn key_edit(key: KeyEvent) -> Option<WordEdit>
+    ensures { result ≡ edit_in word_keys key }
+{
+    match key.modifiers {
+        Modifiers::CTRL => ctrl_edit(key.key),
+        Modifiers::ALT => alt_edit(key.key),
+        _ => None,
+    }
+}
+
+/// Returns the edit of Ctrl-T, Alt-t, Alt-u, Alt-l or Alt-c.
+pub fn word_edit(event: &InputEvent) -> Option<WordEdit>
+    ensures { result ≡ word_edit (event_view event.now) }
+{
+    match event {
+        InputEvent::Key(key) => key_edit(*key),
+        _ => None,
+    }
+}
+
+/// Returns the line after an edit.
+pub fn edited_line(
+    alloc: Global,
+    edit: WordEdit,
+    editor: &LineEditBuffer,
+) -> Result<LineEditBuffer, AllocError>
+    ensures { IfOk result (λ edited. edited ≡ edited_cut edit editor.now) }
+{
+    match edit {
+        WordEdit::SwapClusters => with_swapped_clusters(alloc, editor),
+        WordEdit::SwapWords => with_swapped_words(alloc, editor),
+        WordEdit::Write(case) => with_word_in(alloc, case, editor),
+    }
+}
+
+/// Ctrl-T swaps the characters around the cursor, and Alt-t the words. Alt-u, Alt-l and Alt-c change the next word to
+/// upper case, to lower case, and to a capital. They have no action during a search.
+#[derive(Debug, Drop)]
+pub struct WordKeys;
+
+impl PlainKeys for WordKeys {
+    ghost use Rattle.tw_key_parts.specs.WordKeys.{word_key_edit};
+
+    ghost edits = { word_key_edit };
+
+    fn edit<L: History>(
+        &self,
+        alloc: Global,
+        searching: bool,
+        _history: &L,
+        event: &InputEvent,
+        line: &LineEditBuffer,
+    ) -> Result<Option<Edit<()>>, AllocError> {
+        if searching {
+            return Ok(None);
+        }
+        match word_edit(event) {
+            Some(edit) => Ok(Some(Edit {
+                line: Some(edited_line(alloc, edit, line)?),
+                action: Action::InsertChar(0, ' '),
+                note: (),
+            })),
+            None => Ok(None),
+        }
+    }
+}

@@ -1,5 +1,0 @@
-use Rattle.std.proofs.Common.{rules}
-use Rattle.tw_keyword_parts.proofs.with_keywords.WithKeywordsLineEditorHost.complete.Goals as goal
-
-pub returns : goal.returns
-returns g c = search rules

@@ -1,3 +1,0 @@
-pub mod LayoutLemmas
-pub mod MenuLemmas
-pub mod MenuRunLemmas

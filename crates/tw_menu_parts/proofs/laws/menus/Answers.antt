@@ -1,8 +1,0 @@
-use Rattle.tw_menu_parts.proofs.MenuRunLemmas.{closes_after_lines, tells_cycles}
-use Rattle.tw_menu_parts.proofs.laws.menus.Goals as goal
-
-pub returns-clause-told : goal.returns-clause-told
-returns-clause-told g c = tells_cycles g.H.LineEditorHost.rules
-
-pub returns-clause-closed : goal.returns-clause-closed
-returns-clause-closed g c = closes_after_lines g.H.LineEditorHost.rules

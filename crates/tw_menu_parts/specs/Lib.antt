@@ -1,4 +1,0 @@
-pub mod MenuLaws
-pub mod MenuLayout
-pub mod MenuRules
-pub mod MenuState

@@ -1,0 +1,101 @@
+-- The events of a prompt: characters that are at hand at once come as one pasted text.
+use Rattle.std.specs.Prelude.{◌≡◌, ℕ, ◌≤◌, ◌==◌, Bool, true, false, List, [], ◌∷◌, ◌++◌, length, map, Option, Some, None, ⊤, if◌then◌else◌}
+use Rattle.std.specs.List.{flat_map, list_all}
+use Rattle.tw_input.specs.declared.key.KeyCode.{KeyCode}
+use Rattle.tw_input.specs.declared.key.KeyCode.TheVariants.{Char}
+use Rattle.tw_input.specs.EventView.{EventView, event_view, Key, Resized, Paste, Wake}
+use Rattle.tw_input.specs.Modifiers.{modifier_bits, modifiers_of, none}
+use Rattle.tw_surface.specs.Characters.{is_printable}
+use Rattle.tw_terminal.specs.declared.terminal.ScreenSize.{ScreenSize}
+use Rattle.tw_device.specs.Calls.{IsCalled, all_events}
+use Rattle.tw_prompt.specs.Sizes.{fitting}
+use Rattle.tw_prompt.specs.declared.events.Pending.{Pending}
+use Rattle.tw_prompt.specs.declared.events.Pending.TheVariants.{Nothing, Event, Fault}
+
+-- the key that types a character
+abbrev pub typed_key : ℕ → EventView
+typed_key c = Key (record { key = Char c; modifiers = modifiers_of none })
+
+-- the printable character of a key
+abbrev pub printable_code : KeyCode → Option ℕ
+printable_code (Char c) = if is_printable c then Some c else None
+printable_code _ = None
+
+-- the printable character that an event types without a modifier
+abbrev pub printable_in : EventView → Option ℕ
+printable_in (Key key) = if modifier_bits key.modifiers == none then printable_code key.key else None
+printable_in (Resized cols rows) = None
+printable_in (Paste text) = None
+printable_in Wake = None
+
+-- a piece of what was typed: a run of characters, or one event
+pub data Piece : Type 0 where
+  Run : List ℕ → Piece
+  Single : EventView → Piece
+
+-- the events of the source that a piece is
+abbrev pub typed_in : Piece → List EventView
+typed_in (Run text) = map typed_key text
+typed_in (Single event) = event ∷ []
+
+-- an event for the prompt: a size that no screen has is none
+abbrev pub sized : Option ScreenSize → List EventView
+sized None = []
+sized (Some size) = Resized size.cols size.rows ∷ []
+
+abbrev pub fitted : EventView → List EventView
+fitted (Key key) = Key key ∷ []
+fitted (Resized cols rows) = sized (fitting (record { rows = rows; cols = cols }))
+fitted (Paste text) = Paste text ∷ []
+fitted Wake = Wake ∷ []
+
+-- the events of a prompt for a piece: a run is one pasted text
+abbrev pub told_in : Piece → List EventView
+told_in (Run text) = Paste text ∷ []
+told_in (Single event) = fitted event
+
+-- a run has two characters or more, all of them printable, and there is none unless characters may join
+abbrev pub IsRight : Bool → Piece → Type 0
+IsRight joins (Run text) = (joins ≡ true) × (2 ≤ length text) × (list_all is_printable text ≡ true)
+IsRight joins (Single event) = ⊤
+
+abbrev pub AreRight : Bool → List Piece → Type 0
+AreRight joins [] = ⊤
+AreRight joins (piece ∷ pieces) = IsRight joins piece × AreRight joins pieces
+
+-- the events of the source in pieces, and those of the prompt
+abbrev pub typed_in_all : List Piece → List EventView
+typed_in_all pieces = flat_map typed_in pieces
+
+abbrev pub told_in_all : List Piece → List EventView
+told_in_all pieces = flat_map told_in pieces
+
+-- a character and more of them: the key, or a pasted text
+abbrev pub run_event : ℕ → List ℕ → EventView
+run_event first [] = typed_key first
+run_event first (c ∷ more) = Paste (first ∷ c ∷ more)
+
+-- the key of a character that was taken, if one was
+abbrev pub keys_of : Option ℕ → List EventView
+keys_of None = []
+keys_of (Some c) = typed_key c ∷ []
+
+-- what is held back
+abbrev pub pending_events : Pending → List EventView
+pending_events Nothing = []
+pending_events (Event event) = event_view event ∷ []
+pending_events (Fault fault) = []
+
+abbrev pub is_pending : Pending → Bool
+is_pending Nothing = false
+is_pending (Event event) = true
+is_pending (Fault fault) = true
+
+module _ {S : Type 0} (told : S → List EventView) (Follows : S → S → List EventView → Type 0) where
+  -- Calls of the source lead from one to the other. What was held back and what it told since is what was taken, and then what is held back now.
+  abbrev pub Moves : S → List EventView → S → List EventView → List EventView → Type 0
+  Moves old held new left taken = (calls : IsCalled told Follows old new) × (held ++ all_events calls.0 ≡ taken ++ left)
+
+  -- so these pieces were taken, in this order: no event is lost, and none comes twice
+  abbrev pub Pieced : Bool → S → List EventView → S → List EventView → List Piece → Type 0
+  Pieced joins old held new left pieces = AreRight joins pieces × Moves old held new left (typed_in_all pieces)

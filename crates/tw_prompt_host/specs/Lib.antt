@@ -1,0 +1,9 @@
+pub mod MenuLayout
+pub mod MenuState
+pub mod MenuView
+pub mod Hint
+pub mod Validation
+pub mod Going
+pub mod PromptRules
+pub mod PromptLaws
+pub mod NestedLines

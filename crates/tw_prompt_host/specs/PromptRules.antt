@@ -1,0 +1,122 @@
+-- A prompt: a host with a history, completers, keys, hints, a validator, a menu and a screen.
+use Rattle.std.specs.Prelude.{ℕ, ◌&&◌, Bool, true, false, List, Option, Some, None, option_map, unwrap_or, if◌then◌else◌}
+use Rattle.tw_input.specs.EventView.{EventView}
+use Rattle.tw_line.specs.Cut.{Cut}
+use Rattle.tw_host.specs.ActionView.{ActionView, InsertText, NoAction}
+use Rattle.tw_host.specs.CandidateView.{CandidateView}
+use Rattle.tw_host.specs.HostRules.{HostRules, Resolution, or_default}
+use Rattle.tw_host.specs.KeyTable.{action_of}
+use Rattle.tw_hosts.specs.SettledRules.{PromptScreenView, screen_after, settled_highlight}
+use Rattle.tw_completion_parts.specs.Completers.{ContextCompleterView, completed_by}
+use Rattle.tw_completion_parts.specs.FileNames.{ListingView}
+use Rattle.tw_completion_parts.specs.SharedCandidate.{beginning_first}
+use Rattle.tw_key_parts.specs.KeyRules.{Edited, KeyRules, step_of}
+use Rattle.tw_key_parts.specs.SearchWatch.{has_lines}
+use Rattle.tw_prompt_host.specs.Going.{GoingView, going_after}
+use Rattle.tw_prompt_host.specs.Hint.{hint_of, hint_taken_by, shown_under}
+use Rattle.tw_prompt_host.specs.MenuLayout.{style_after}
+use Rattle.tw_prompt_host.specs.MenuView.{known, known_unless, offered, page_or}
+use Rattle.tw_prompt_host.specs.Validation.{is_accepting, keeps_line, shown_lack}
+use Rattle.tw_prompt_host.specs.declared.layout.MenuStyle.{MenuStyle}
+
+-- what the application's host holds, the lines of the history and those of them that are lent, the completers with listings of directories, what the keys hold, whether there are hints, what lines lack, how the menu is shown, the screen, and what belongs to one line
+pub record Prompted (V S : Type 0) : Type 0 where
+  pub host : V
+  pub lines : List (List ℕ)
+  pub lent : List (List ℕ)
+  pub completers : List ContextCompleterView
+  pub listings : List ListingView
+  pub keys : S
+  pub hints : Bool
+  pub lacks : List ℕ → Option (List ℕ)
+  pub style : MenuStyle
+  pub screen : PromptScreenView
+  pub going : GoingView
+
+-- what is answered to an event: the line, an action if there is one, and what a part keeps of it if it was its edit
+pub record Answer (K : Type 0) : Type 0 where
+  pub cut : Cut
+  pub action : Option ActionView
+  pub kept : Option K
+
+module _ {K : Type 0} where
+  -- an edit of the keys
+  abbrev pub of_keys : Edited K → Edited (Option K)
+  of_keys edit = record { cut = edit.cut; action = edit.action; kept = Some edit.kept }
+
+  -- a hint that is taken, or else the edit of the keys
+  abbrev pub hint_or : Cut → Option (List ℕ) → Option (Edited K) → Option (Edited (Option K))
+  hint_or cut (Some rest) edit = Some (record { cut = Some cut; action = InsertText 1 rest; kept = None })
+  hint_or cut None edit = option_map of_keys edit
+
+  -- the host's action goes first, and then such an edit
+  abbrev pub answered : Option ActionView → Option (Edited (Option K)) → Cut → Answer K
+  answered (Some own) edit cut = record { cut = cut; action = Some own; kept = None }
+  answered None (Some edit) cut = record { cut = unwrap_or edit.cut cut; action = Some edit.action; kept = edit.kept }
+  answered None None cut = record { cut = cut; action = None; kept = None }
+
+-- an action that is kept back does nothing
+abbrev pub said : Bool → Option ActionView → Option ActionView
+said true action = Some NoAction
+said false action = action
+
+-- what completers offer, or else these
+abbrev pub completed_or : Option (List CandidateView) → List CandidateView → List CandidateView
+completed_or (Some candidates) others = candidates
+completed_or None others = others
+
+module _ {V S K : Type 0} (keys : KeyRules S K) (rules : HostRules V) where
+  -- the hint under a line
+  abbrev pub hint_under : Prompted V S → List ℕ → Option (List ℕ)
+  hint_under v line = if v.hints then hint_of v.lent line else None
+
+  -- the hint that an event takes
+  abbrev pub hint_at : Prompted V S → EventView → Cut → Option (List ℕ)
+  hint_at v event cut = if v.hints then hint_taken_by v.lent v.going.searching (action_of event) cut else None
+
+  -- the candidates, but for the menu
+  abbrev pub found : Prompted V S → Cut → List CandidateView
+  found v cut = beginning_first (completed_or (completed_by v.completers v.listings cut) (rules.candidates v.host cut))
+
+  -- those with which a completion would begin at an event
+  abbrev pub known_at : Prompted V S → EventView → Cut → Option (List CandidateView)
+  known_at v event cut = known v.going.searching v.going.menu (action_of event) (found v cut)
+
+  -- the edit that an event has
+  abbrev pub edit_at : Prompted V S → EventView → Cut → Option (Edited (Option K))
+  edit_at v event cut =
+      hint_or cut (hint_at v event cut) (keys.edits v.keys (record { event = event; searching = v.going.searching; lines = v.lines; cut = cut }))
+
+  -- an answer would accept a line that lacks something
+  abbrev pub is_back : Prompted V S → EventView → Cut → Option ActionView → Bool
+  is_back v event cut action = keeps_line v.going.searching (v.lacks cut.line) && is_accepting (or_default action event)
+
+  -- all follow the same step: what came of the event in the end
+  abbrev pub followed : Prompted V S → EventView → Cut → V → Answer K → Bool → Option ActionView → Resolution (Prompted V S)
+  followed v event cut value answer back action = record {
+    value = record v {
+      host = value;
+      keys = keys.follows v.keys answer.kept (step_of event v.going.searching cut answer.cut (or_default action event));
+      style = style_after event v.style;
+      screen = screen_after event v.screen;
+      going = going_after (has_lines v.lines) back (known_unless action (known_at v event cut)) (or_default action event) v.going;
+    };
+    cut = answer.cut;
+    action = action;
+  }
+
+  abbrev pub judged : Prompted V S → EventView → Cut → V → Answer K → Bool → Resolution (Prompted V S)
+  judged v event cut value answer back = followed v event cut value answer back (said back answer.action)
+
+  abbrev pub resolved : Prompted V S → EventView → Cut → V → Answer K → Resolution (Prompted V S)
+  resolved v event cut value answer = judged v event cut value answer (is_back v event cut answer.action)
+
+  abbrev pub prompt_rules : HostRules (Prompted V S)
+  prompt_rules = record {
+    lines = λ v. v.lines;
+    prompt = λ v text. rules.prompt v.host text;
+    preview = λ v line. page_or v.style v.going.menu (shown_lack v.going.kept (v.lacks line) (shown_under (rules.preview v.host line) (hint_under v line)));
+    highlight = λ v cut. settled_highlight v.screen cut (rules.highlight v.host cut);
+    candidates = λ v cut. offered v.going.menu (found v cut);
+    resolve = λ v event cut. let r = rules.resolve v.host event cut in resolved v event cut r.value (answered r.action (edit_at v event cut) r.cut);
+  }

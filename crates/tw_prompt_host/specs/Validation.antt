@@ -1,0 +1,27 @@
+-- Only whole lines are accepted.
+use Rattle.std.specs.Prelude.{ℕ, Bool, true, false, List, Option, Some, None}
+use Rattle.tw_host.specs.ActionView.{ActionView, AcceptLine}
+use Rattle.tw_host.specs.ElementView.{ElementView}
+use Rattle.tw_host.specs.HostRules.{plain_text}
+
+-- a line that lacks this is kept, but during a search
+abbrev pub keeps_line : Bool → Option (List ℕ) → Bool
+keeps_line true lack = false
+keeps_line false (Some text) = true
+keeps_line false None = false
+
+-- the action accepts the line
+abbrev pub is_accepting : Option ActionView → Bool
+is_accepting (Some AcceptLine) = true
+is_accepting _ = false
+
+-- there is no action
+abbrev pub is_idle : Option ActionView → Bool
+is_idle None = true
+is_idle (Some _) = false
+
+-- what is shown under a line: what it lacks, where it was kept and lacks something, and else the other host's
+abbrev pub shown_lack : Bool → Option (List ℕ) → List ElementView → List ElementView
+shown_lack true (Some text) elements = plain_text text
+shown_lack true None elements = elements
+shown_lack false lack elements = elements

@@ -1,0 +1,60 @@
+//! Hints from a history.
+
+ghost use Rattle.std.specs.Prelude.{◌≡◌, option_map};
+ghost use Rattle.tw_host.specs.ActionView.{action_view};
+ghost use Rattle.tw_prompt_host.specs.Hint.{hint_of, is_taking, newest_rest, rest_behind, continuation_of};
+
+use tw_history::LentLines;
+use tw_host::Action;
+use tw_line::{LineEditBuffer, Movement};
+
+/// Returns the rest of a line that begins with a text.
+fn behind<'line>(text: &str, line: &'line str) -> Option<&'line str>
+    ensures { option_map (λ rest. rest.now) result ≡ rest_behind text.now line.now }
+{
+    line.strip_prefix(text)
+}
+
+/// Returns the rest of a line that begins with a text, unless it is empty.
+fn continuation_of<'line>(text: &str, line: &'line str) -> Option<&'line str>
+    ensures { option_map (λ rest. rest.now) result ≡ continuation_of text.now line.now }
+{
+    match behind(text, line) {
+        Some(rest) if !rest.is_empty() => Some(rest),
+        _ => None,
+    }
+}
+
+/// Returns the rest of the newest longer line that begins with a text.
+fn newest_rest<'a, L: LentLines>(lines: &'a L, text: &str) -> Option<&'a str>
+    ensures { option_map (λ rest. rest.now) result ≡ newest_rest (L.lines lines.now) text.now }
+{
+    let mut at = lines.line_count();
+    while at > 0 {
+        at -= 1;
+        if let Some(rest) = continuation_of(text, lines.line(at)) {
+            return Some(rest);
+        }
+    }
+    None
+}
+
+/// Returns the rest of the newest longer line that begins with a text, or `None` for the empty text.
+pub fn history_hint<'a, L: LentLines>(lines: &'a L, text: &str) -> Option<&'a str>
+    ensures { option_map (λ rest. rest.now) result ≡ hint_of (L.lines lines.now) text.now }
+{
+    if text.is_empty() {
+        return None;
+    }
+    newest_rest(lines, text)
+}
+
+/// Returns true for an action that moves forward at the end of the line.
+pub fn is_taking(action: Option<&Action>, editor: &LineEditBuffer) -> bool
+    ensures { result ≡ is_taking (option_map (λ action. action_view action.now) action.entry) editor.now }
+{
+    matches!(
+        action,
+        Some(Action::Move(Movement::ForwardChar(_) | Movement::EndOfLine))
+    ) && editor.get_cursor() == editor.get_line().len()
+}

@@ -1,0 +1,26 @@
+//! A prompt as one host, with the comforts of readline as its fields.
+//!
+//! ```
+//! let mut host = PromptHost::new(alloc, "> ", 80)?;
+//! host.hints = true;
+//! host.begin_line();
+//! ```
+//!
+//! Use [`PromptHost::new`] and set its fields, or write the literal to choose other types for them.
+#![tactic(auto)]
+
+mod going;
+mod hint;
+pub mod laws;
+mod layout;
+mod menu;
+mod nested_lines;
+mod plain;
+mod prompt;
+mod validator;
+
+pub use going::Going;
+pub use layout::MenuStyle;
+pub use nested_lines::NestedLines;
+pub use prompt::PromptHost;
+pub use validator::{AllLines, Validator};

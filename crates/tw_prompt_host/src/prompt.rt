@@ -1,0 +1,426 @@
+//! The prompt, and the order in which its parts answer.
+
+ghost use Rattle.std.specs.Prelude.{◌≡◌, ◌&&◌, IfOk, IsCharBoundary, None, if◌then◌else◌, map, option_map, refl, string_bytes};
+ghost use Rattle.tw_host.specs.ActionView.{action_view};
+ghost use Rattle.tw_host.specs.CandidateView.{candidate_view};
+ghost use Rattle.tw_host.specs.HostRules.{or_default};
+ghost use Rattle.tw_host.specs.KeyTable.{action_of};
+ghost use Rattle.tw_host.specs.PlainAnswers.{all_overrides, no_plain_left};
+ghost use Rattle.tw_hosts.specs.SettledRules.{screen_after, screen_view};
+ghost use Rattle.tw_input.specs.EventView.{event_view};
+ghost use Rattle.tw_line.specs.Cut.{cut_at};
+ghost use Rattle.tw_completion_parts.specs.Completers.{context_completer_view};
+ghost use Rattle.tw_completion_parts.specs.FileNames.{listing_view};
+ghost use Rattle.tw_key_parts.specs.EditView.{edit_view};
+ghost use Rattle.tw_key_parts.specs.KeyRules.{step_of};
+ghost use Rattle.tw_key_parts.specs.SearchWatch.{has_lines};
+ghost use Rattle.tw_prompt_host.specs.Going.{at_rest, going_after, going_view};
+ghost use Rattle.tw_prompt_host.specs.Hint.{hint_taken_by};
+ghost use Rattle.tw_prompt_host.specs.MenuLayout.{style_after};
+ghost use Rattle.tw_prompt_host.specs.MenuView.{known, menu_view};
+ghost use Rattle.tw_prompt_host.specs.PromptRules.{Prompted, answered, edit_at, found, hint_under, prompt_rules, said};
+ghost use Rattle.tw_prompt_host.specs.Validation.{is_accepting, keeps_line};
+
+use crate::going::Going;
+use crate::hint::{history_hint, is_taking};
+use crate::layout::{MenuStyle, menu_page};
+use crate::menu::{Menu, copied};
+use crate::validator::Validator;
+use std::alloc::{AllocError, Global};
+use tw_completion_parts::{ContextCompleter, Listing, beginning_first, completed_by};
+use tw_history::{History, LentLines};
+use tw_host::{
+    Action, CompletionCandidate, LineEditorHost, OutputElement, Overrides, default_action,
+    plain_element,
+};
+use tw_hosts::PromptScreen;
+use tw_input::InputEvent;
+use tw_key_parts::{Edit, KeyPart, is_filled};
+use tw_line::LineEditBuffer;
+
+/// A prompt with the comforts of readline. Each event goes to the application's host first, then a hint may be taken,
+/// then the parts with keys are asked, and at last the key table. Accepting a line that is not whole does nothing. Every
+/// part then follows the action that is done in the end, whoever answered it.
+#[derive(Debug, Drop)]
+pub struct PromptHost<H, L, K, V> {
+    /// The application's host: how the prompt and the line are shown, candidates if no completer applies, and keys of
+    /// its own. Its history is not used.
+    pub host: H,
+    /// The history.
+    pub history: L,
+    /// Completers by context, asked before the host.
+    pub completers: Vec<ContextCompleter>,
+    /// Listings of directories for file names. Set them between lines.
+    pub listings: Vec<Listing>,
+    /// The parts with keys: one part, or a pair of parts.
+    pub keys: K,
+    /// Shows the rest of the newest line that begins with the line; Right or End at the end of the line inserts it.
+    pub hints: bool,
+    /// Decides whether a line may be accepted.
+    pub validator: V,
+    /// The style of the menu of completions.
+    pub menu: MenuStyle,
+    /// The screen and the prompt, for the column of the cursor.
+    pub screen: PromptScreen,
+    /// The state of the current line.
+    pub going: Going,
+}
+
+/// Returns true if an action accepts the line.
+fn is_accepting(action: Option<&Action>) -> bool
+    ensures { result ≡ is_accepting (option_map (λ action. action_view action.now) action.entry) }
+{
+    matches!(action, Some(Action::AcceptLine))
+}
+
+/// Returns the host's action, or else the edit's, whose line replaces the line.
+fn answered<K: KeyPart>(
+    own: Option<Action>,
+    edit: Option<Edit<Option<K::Note>>>,
+    editor: &mut LineEditBuffer,
+) -> (Option<Action>, Option<K::Note>)
+    ensures { record { cut = editor.new; action = option_map action_view result.0; kept = option_map K.kept result.1 }
+        ≡ answered (option_map action_view own) (option_map (edit_view (option_map K.kept)) edit) editor.old }
+{
+    match (own, edit) {
+        (Some(action), _) => (Some(action), None),
+        (None, Some(Edit { line, action, note })) => {
+            if let Some(line) = line {
+                *editor = line;
+            }
+            (Some(action), note)
+        }
+        (None, None) => (None, None),
+    }
+}
+
+/// Holds back an action, or else the key table's, that would accept a line which is not whole.
+fn judged(
+    keeps: bool,
+    _event: &InputEvent,
+    action: Option<Action>,
+    default: Option<&Action>,
+) -> (bool, Option<Action>)
+    requires { option_map (λ action. action_view action.now) default ≡ action_of (event_view _event.now) }
+    ensures back { result.0 ≡ (keeps && is_accepting (or_default (option_map action_view action) (event_view _event.now))) }
+    ensures action { option_map action_view result.1 ≡ said result.0 (option_map action_view action) }
+{
+    let current = match &action {
+        Some(action) => Some(action),
+        None => default,
+    };
+    if keeps && is_accepting(current) {
+        (true, Some(Action::NoAction))
+    } else {
+        (false, action)
+    }
+}
+
+impl<H: LineEditorHost, L: History + LentLines, K: KeyPart, V: Validator> PromptHost<H, L, K, V> {
+    /// Resets the state of the current line. Call it before each line: the last one may have been left in a search or a
+    /// completion.
+    pub fn begin_line(&mut self)
+        ensures { ⟦<PromptHost<H, L, K, V> as LineEditorHost>⟧.value self.new
+            ≡ record (⟦<PromptHost<H, L, K, V> as LineEditorHost>⟧.value self.old) { keys = K.keys.leaves (K.state self.old.keys); going = at_rest } }
+    {
+        self.keys.leave_line();
+        self.going = Going::new();
+    }
+
+    /// Returns true if the line is not whole and the editor does not search.
+    fn keeps(&self, alloc: Global, line: &str) -> Result<bool, AllocError>
+        ensures { IfOk result (λ keeps. keeps ≡ keeps_line self.now.going.searching (V.lacks self.now.validator line.now)) }
+    {
+        if self.going.searching {
+            return Ok(false);
+        }
+        Ok(self.validator.lack(alloc, line)?.is_some())
+    }
+
+    /// Returns the hint under a line.
+    fn hint_under<'a>(&'a self, line: &str) -> Option<&'a str>
+        ensures { option_map (λ rest. rest.now) result ≡ hint_under K.keys H.rules (⟦<PromptHost<H, L, K, V> as LineEditorHost>⟧.value self.now) line.now }
+    {
+        if !self.hints {
+            return None;
+        }
+        history_hint(&self.history, line)
+    }
+
+    /// Returns the hint that an action inserts.
+    fn hint_taken(
+        &self,
+        alloc: Global,
+        action: Option<&Action>,
+        line: &LineEditBuffer,
+    ) -> Result<Option<String>, AllocError>
+        ensures { IfOk result (λ rest. option_map string_bytes rest
+            ≡ (if self.now.hints then hint_taken_by (L.LentLines.lines self.now.history) self.now.going.searching (option_map (λ action. action_view action.now) action.entry) line.now else None)) }
+    {
+        if !self.hints || self.going.searching || !is_taking(action, line) {
+            return Ok(None);
+        }
+        match history_hint(&self.history, line.get_line()) {
+            Some(rest) => Ok(Some(String::from_str(alloc, rest)?)),
+            None => Ok(None),
+        }
+    }
+
+    /// Returns the edit of an event: a hint that is inserted, or else that of the parts.
+    fn edit_at(
+        &self,
+        alloc: Global,
+        event: &InputEvent,
+        default: Option<&Action>,
+        line: &LineEditBuffer,
+    ) -> Result<Option<Edit<Option<K::Note>>>, AllocError>
+        requires { option_map (λ action. action_view action.now) default ≡ action_of (event_view event.now) }
+        ensures { IfOk result (λ edit. option_map (edit_view (option_map K.kept)) edit
+            ≡ edit_at K.keys H.rules (⟦<PromptHost<H, L, K, V> as LineEditorHost>⟧.value self.now) (event_view event.now) line.now) }
+    {
+        if let Some(rest) = self.hint_taken(alloc, default, line)? {
+            return Ok(Some(Edit {
+                line: Some(line.try_clone(alloc)?),
+                action: Action::InsertText(1, rest),
+                note: None,
+            }));
+        }
+        match self
+            .keys
+            .edit(alloc, self.going.searching, &self.history, event, line)?
+        {
+            Some(Edit { line, action, note }) => {
+                let note = Some(note);
+                Ok(Some(Edit { line, action, note }))
+            }
+            None => Ok(None),
+        }
+    }
+
+    /// Completes a line, whatever the menu has.
+    fn found(
+        &self,
+        alloc: Global,
+        line: &str,
+        cursor: usize,
+    ) -> Result<Vec<CompletionCandidate>, AllocError>
+        requires { IsCharBoundary line.now cursor }
+        ensures { IfOk result (λ candidates. map candidate_view candidates.items
+            ≡ found K.keys H.rules (⟦<PromptHost<H, L, K, V> as LineEditorHost>⟧.value self.now) (cut_at line.now cursor)) }
+    {
+        let completed = completed_by(
+            alloc,
+            self.completers.as_slice(),
+            self.listings.as_slice(),
+            line,
+            cursor,
+        )?;
+        let candidates = match completed {
+            Some(candidates) => candidates,
+            None => self.host.complete(alloc, line, cursor)?,
+        };
+        beginning_first(alloc, candidates)
+    }
+
+    /// Completes a line buffer, whatever the menu has.
+    fn found_in(
+        &self,
+        alloc: Global,
+        line: &LineEditBuffer,
+    ) -> Result<Vec<CompletionCandidate>, AllocError>
+        ensures { IfOk result (λ candidates. map candidate_view candidates.items
+            ≡ found K.keys H.rules (⟦<PromptHost<H, L, K, V> as LineEditorHost>⟧.value self.now) line.now) }
+    {
+        self.found(alloc, line.get_line(), line.get_cursor())
+    }
+
+    /// Returns the candidates if an action begins a completion: no menu is open, and the editor does not search.
+    fn known(
+        &self,
+        alloc: Global,
+        action: Option<&Action>,
+        line: &LineEditBuffer,
+    ) -> Result<Option<Vec<CompletionCandidate>>, AllocError>
+        ensures { IfOk result (λ it. option_map (λ candidates. map candidate_view candidates.items) it
+            ≡ known self.now.going.searching (menu_view self.now.going.menu) (option_map (λ action. action_view action.now) action.entry)
+            (found K.keys H.rules (⟦<PromptHost<H, L, K, V> as LineEditorHost>⟧.value self.now) line.now)) }
+    {
+        if !self.going.asks(action) {
+            return Ok(None);
+        }
+        let found = self.found_in(alloc, line)?;
+        Ok(Some(found))
+    }
+
+    /// Lets every part follow the action of an event.
+    fn follow(
+        &mut self,
+        alloc: Global,
+        note: Option<K::Note>,
+        event: &InputEvent,
+        before: &LineEditBuffer,
+        after: &LineEditBuffer,
+        found: Option<Vec<CompletionCandidate>>,
+        back: bool,
+        action: Option<&Action>,
+    )
+        requires { K.is_ready self.old.keys before.now }
+        ensures { ⟦<PromptHost<H, L, K, V> as LineEditorHost>⟧.value self.new
+            ≡ record (⟦<PromptHost<H, L, K, V> as LineEditorHost>⟧.value self.old) {
+              keys = K.keys.follows (K.state self.old.keys) (option_map K.kept note)
+                  (step_of (event_view event.now) self.old.going.searching before.now after.now (option_map (λ action. action_view action.now) action.entry));
+              style = style_after (event_view event.now) self.old.menu;
+              screen = screen_after (event_view event.now) (screen_view self.old.screen);
+              going = going_after (has_lines (L.History.lines self.old.history)) back (option_map (λ candidates. map candidate_view candidates.items) found)
+                  (option_map (λ action. action_view action.now) action.entry) (going_view self.old.going);
+            } }
+    {
+        self.keys.follow(
+            alloc,
+            note,
+            self.going.searching,
+            event,
+            before,
+            after,
+            action,
+        );
+        let lines = is_filled(&self.history);
+        self.going.follow(lines, back, found, action);
+        self.menu.resize(event);
+        self.screen.resize(event);
+    }
+}
+
+impl<H: LineEditorHost, L: History + LentLines, K: KeyPart, V: Validator> LineEditorHost
+    for PromptHost<H, L, K, V> {
+    type Hist = L;
+
+    ghost Value = { Prompted H.Value K.State };
+
+    ghost value = { λ it. record {
+      host = H.value it.host;
+      lines = L.History.lines it.history;
+      lent = L.LentLines.lines it.history;
+      completers = map context_completer_view it.completers.items;
+      listings = map listing_view it.listings.items;
+      keys = K.state it.keys;
+      hints = it.hints;
+      lacks = V.lacks it.validator;
+      style = it.menu;
+      screen = screen_view it.screen;
+      going = going_view it.going;
+    } };
+
+    ghost rules = { prompt_rules K.keys H.rules };
+
+    ghost history_of = { λ it. it.history };
+
+    ghost with_history = { λ it history. record it { history = history } };
+
+    ghost OVERRIDES = { all_overrides };
+
+    const OVERRIDES: Overrides = Overrides::ALL;
+
+    fn history(&mut self) -> &mut L {
+        &mut self.history
+    }
+
+    fn render_prompt(&self, alloc: Global, prompt: &str) -> Result<Vec<OutputElement>, AllocError> {
+        self.host.render_prompt(alloc, prompt)
+    }
+
+    fn render_preview(&self, alloc: Global, line: &str) -> Result<Vec<OutputElement>, AllocError> {
+        if let Menu::Open(menu) = &self.going.menu {
+            return menu_page(alloc, self.menu, &menu.candidates, menu.chosen);
+        }
+        if self.going.kept {
+            if let Some(text) = self.validator.lack(alloc, line)? {
+                return plain_element(alloc, text.as_str());
+            }
+        }
+        let elements = self.host.render_preview(alloc, line)?;
+        if !elements.is_empty() {
+            return Ok(elements);
+        }
+        match self.hint_under(line) {
+            Some(rest) => plain_element(alloc, rest),
+            None => Ok(elements),
+        }
+    }
+
+    fn highlight_line(
+        &self,
+        alloc: Global,
+        line: &str,
+        cursor_position: usize,
+    ) -> Result<(Vec<OutputElement>, usize), AllocError> {
+        let (elements, _) = self.host.highlight_line(alloc, line, cursor_position)?;
+        Ok((elements, self.screen.column(line, cursor_position)))
+    }
+
+    fn complete(
+        &self,
+        alloc: Global,
+        line: &str,
+        cursor_position: usize,
+    ) -> Result<Vec<CompletionCandidate>, AllocError> {
+        match &self.going.menu {
+            Menu::Open(menu) => copied(alloc, &menu.candidates),
+            Menu::Few(candidates) => copied(alloc, candidates),
+            _ => self.found(alloc, line, cursor_position),
+        }
+    }
+
+    fn resolve_action(
+        &mut self,
+        alloc: Global,
+        event: &InputEvent,
+        editor: &mut LineEditBuffer,
+    ) -> Result<Option<Action>, AllocError> {
+        let default = default_action(alloc, event)?;
+        let before = editor.try_clone(alloc)?;
+        let keeps = self.keeps(alloc, editor.get_line())?;
+        let found = self.known(alloc, default.as_ref(), editor)?;
+        let edit = self.edit_at(alloc, event, default.as_ref(), editor)?;
+        self.keys.prepare(alloc, editor)?;
+        let own = self.host.resolve_action(alloc, event, editor)?;
+        let (action, note) = answered::<K>(own, edit, editor);
+        let (back, action) = judged(keeps, event, action, default.as_ref());
+        match action {
+            Some(action) => {
+                self.follow(
+                    alloc,
+                    note,
+                    event,
+                    &before,
+                    editor,
+                    None,
+                    back,
+                    Some(&action),
+                );
+                Ok(Some(action))
+            }
+            None => {
+                self.follow(
+                    alloc,
+                    note,
+                    event,
+                    &before,
+                    editor,
+                    found,
+                    back,
+                    default.as_ref(),
+                );
+                Ok(None)
+            }
+        }
+    }
+
+    ghost plain_answers = { no_plain_left };
+
+    ghost history_put_back = { λ it. refl };
+
+    ghost held_put = { λ it history. refl };
+
+    ghost held_lines = { λ it. refl };
+}

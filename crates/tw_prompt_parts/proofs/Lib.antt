@@ -1,2 +1,0 @@
-pub mod PrefixLemmas
-pub mod WatchLemmas
