@@ -1,7 +1,6 @@
 //! Cases in one text: what is done, and what is to come of it.
 
 use std::alloc::Global;
-use std::process::Abort;
 use std::test::Fail;
 
 /// Fails with the case if something does not hold.
@@ -10,6 +9,14 @@ pub fn hold(holds: bool, case: &str, what: &str) -> Result<(), Fail> {
         return Ok(());
     }
     Err(Fail::new(format_args!("{case}: {what}")))
+}
+
+/// Fails with a text unless it is empty.
+pub(crate) fn fail_with(unlike: &str) -> Result<(), Fail> {
+    if unlike.is_empty() {
+        return Ok(());
+    }
+    Err(Fail::new(format_args!("{unlike}")))
 }
 
 /// Whether what comes is what is wanted. Below a line `..` stand ends of some of the lines that come.
@@ -47,11 +54,10 @@ fn unlike_cases<F: Fn(Global, &str) -> Result<String, Fail>>(
     Ok(unlike)
 }
 
-/// Plays cases and stops the test if something else comes from one than is wanted. A case has the lines of what is done,
+/// Plays cases and fails with those from which something else comes than is wanted. A case has the lines of what is done,
 /// below `--` the lines that are wanted, and ends with `==`. Below a line `..` of these stand ends of some of the lines
 /// that come.
 pub fn expect_cases<F: Fn(Global, &str) -> Result<String, Fail>>(
-    rt: &impl Abort,
     alloc: Global,
     cases: &str,
     play: F,
@@ -59,6 +65,5 @@ pub fn expect_cases<F: Fn(Global, &str) -> Result<String, Fail>>(
     requires { F.IsAlwaysCallable play }
 {
     let unlike = unlike_cases(alloc, cases, play)?;
-    assert!(rt; unlike.is_empty(), "{unlike}");
-    Ok(())
+    fail_with(unlike.as_str())
 }

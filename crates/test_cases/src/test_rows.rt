@@ -1,8 +1,8 @@
 //! Rows of tests: each line has an input and the wanted output.
 
+use crate::cases::fail_with;
 use std::alloc::{AllocError, Global};
 use std::fmt::Debug;
-use std::process::Abort;
 use std::test::Fail;
 
 /// Parses an escape behind its backslash. Returns the character and the rest.
@@ -128,10 +128,9 @@ fn unlike_runs<F: FnMut(Global, &str) -> Result<String, Fail>>(
     Ok(unlike)
 }
 
-/// Plays rows and stops the test if one has another output. A row is a line `INPUT => OUTPUT`, with escapes; empty lines
+/// Plays rows and fails with those that have another output. A row is a line `INPUT => OUTPUT`, with escapes; empty lines
 /// and `//` comments are skipped.
 pub fn expect_rows<F: FnMut(Global, &str) -> Result<String, Fail>>(
-    rt: &impl Abort,
     alloc: Global,
     rows: &str,
     play: F,
@@ -139,14 +138,12 @@ pub fn expect_rows<F: FnMut(Global, &str) -> Result<String, Fail>>(
     requires { F.IsAlwaysCallable play }
 {
     let unlike = unlike_rows(alloc, rows, play)?;
-    assert!(rt; unlike.is_empty(), "{unlike}");
-    Ok(())
+    fail_with(unlike.as_str())
 }
 
 /// Plays rows whose input is a list of commands and whose output is the list of their answers, both separated by `; `,
-/// and stops the test if one has another output. Empty answers are left out.
+/// and fails with those that have another output. Empty answers are left out.
 pub fn expect_runs<F: FnMut(Global, &str) -> Result<String, Fail>>(
-    rt: &impl Abort,
     alloc: Global,
     rows: &str,
     obey: F,
@@ -154,8 +151,7 @@ pub fn expect_runs<F: FnMut(Global, &str) -> Result<String, Fail>>(
     requires { F.IsAlwaysCallable obey }
 {
     let unlike = unlike_runs(alloc, rows, obey)?;
-    assert!(rt; unlike.is_empty(), "{unlike}");
-    Ok(())
+    fail_with(unlike.as_str())
 }
 
 /// Appends an answer, with a separator if it is needed.

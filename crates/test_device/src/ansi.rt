@@ -100,7 +100,7 @@ a => 1 Char a
 
 #[test]
 fn keys_and_other_tokens_are_found(rt: HostRuntime) -> Result<(), Fail> {
-    expect_rows(&rt, rt.alloc(), TOKENS, token_text)
+    expect_rows(rt.alloc(), TOKENS, token_text)
 }
 
 /// Encodes changes: `COLS; CHANGE; ..`. Behind `tersely CHANGE` only that one is returned.
@@ -148,7 +148,7 @@ const CHANGES: &str = r"
 
 #[test]
 fn changes_are_sent(rt: HostRuntime) -> Result<(), Fail> {
-    expect_rows(&rt, rt.alloc(), CHANGES, sent)
+    expect_rows(rt.alloc(), CHANGES, sent)
 }
 
 #[test]

@@ -92,7 +92,7 @@ new; type cop copy\nkey Enter; shown => Some("cop copy"); {}> {}cop copy
 #[test]
 fn commands_are_read(rt: HostRuntime) -> Result<(), Fail> {
     let mut session = Session::new(rt.alloc())?;
-    expect_runs(&rt, rt.alloc(), READINGS, |alloc: Global, command: &str| {
+    expect_runs(rt.alloc(), READINGS, |alloc: Global, command: &str| {
         obey(alloc, &mut session, command)
     })
 }

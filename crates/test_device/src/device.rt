@@ -232,5 +232,5 @@ at_once 1 1 a b\ebc\r => line a bbc
 
 #[test]
 fn lines_are_read(rt: HostRuntime) -> Result<(), Fail> {
-    expect_rows(&rt, rt.alloc(), READINGS, reading)
+    expect_rows(rt.alloc(), READINGS, reading)
 }

@@ -82,5 +82,5 @@ paste:g => Some(InsertText(1, "g"))
 
 #[test]
 fn keys_have_actions(rt: HostRuntime) -> Result<(), Fail> {
-    expect_rows(&rt, rt.alloc(), ACTIONS, action_text)
+    expect_rows(rt.alloc(), ACTIONS, action_text)
 }

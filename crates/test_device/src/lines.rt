@@ -218,5 +218,5 @@ patient 24 80 2; line 0 2 >\u{20}; more 0 3 > a; line 0 4 > ab; line 0 5 > abc =
 
 #[test]
 fn what_changed_is_sent(rt: HostRuntime) -> Result<(), Fail> {
-    expect_rows(&rt, rt.alloc(), LINES, last_sent)
+    expect_rows(rt.alloc(), LINES, last_sent)
 }

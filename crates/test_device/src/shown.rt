@@ -76,5 +76,5 @@ painting text first; text last; text closing => last
 
 #[test]
 fn texts_are_made(rt: HostRuntime) -> Result<(), Fail> {
-    expect_rows(&rt, rt.alloc(), SHOWN, shown)
+    expect_rows(rt.alloc(), SHOWN, shown)
 }

@@ -43,12 +43,12 @@ ab\\x1b[70000;5Rc => Char a, Char b, Char c
 
 #[test]
 fn characters_at_hand_are_one_text(rt: HostRuntime) -> Result<(), Fail> {
-    expect_rows(&rt, rt.alloc(), JOINED, |alloc, row| {
+    expect_rows(rt.alloc(), JOINED, |alloc, row| {
         let bytes = bytes_of(alloc, row)?;
         let keys = KeyReader::new(alloc, bytes.as_slice());
         told_by(alloc, PromptEvents::over(alloc, keys, true))
     })?;
-    expect_rows(&rt, rt.alloc(), APART, |alloc, row| {
+    expect_rows(rt.alloc(), APART, |alloc, row| {
         let bytes = bytes_of(alloc, row)?;
         let keys = KeyReader::new(alloc, bytes.as_slice());
         told_by(alloc, PromptEvents::over(alloc, keys, false))

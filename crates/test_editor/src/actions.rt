@@ -156,7 +156,7 @@ Some(\"foooo\")
 
 #[test]
 fn actions_change_the_line(rt: HostRuntime) -> Result<(), Fail> {
-    expect_cases(&rt, rt.alloc(), ACTIONS, play)
+    expect_cases(rt.alloc(), ACTIONS, play)
 }
 
 /// Completes each line `CURSOR TEXT; START END CANDIDATE`.
@@ -229,5 +229,5 @@ refusal 5, \"\u{e9}ab\" at 3
 
 #[test]
 fn a_candidate_is_put_in_if_it_fits(rt: HostRuntime) -> Result<(), Fail> {
-    expect_cases(&rt, rt.alloc(), CANDIDATES, play_completions)
+    expect_cases(rt.alloc(), CANDIDATES, play_completions)
 }

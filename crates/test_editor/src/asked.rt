@@ -140,5 +140,5 @@ a 80x65536
 /// before; a refused size asks the host nothing.
 #[test]
 fn the_host_is_asked_once_for_a_painting(rt: HostRuntime) -> Result<(), Fail> {
-    expect_cases(&rt, rt.alloc(), ASKED, play_asked)
+    expect_cases(rt.alloc(), ASKED, play_asked)
 }

@@ -186,5 +186,5 @@ Some(\"abcdefghij\"), 0 left, size render poll size render poll size render poll
 
 #[test]
 fn each_event_has_one_painting(rt: HostRuntime) -> Result<(), Fail> {
-    expect_cases(&rt, rt.alloc(), CALLS, play_calls)
+    expect_cases(rt.alloc(), CALLS, play_calls)
 }

@@ -145,7 +145,7 @@ size render poll size render render
 /// flushed, unless the closing batch itself is refused.
 #[test]
 fn a_fault_ends_the_calls(rt: HostRuntime) -> Result<(), Fail> {
-    expect_cases(&rt, rt.alloc(), FAULTS, play_calls)?;
+    expect_cases(rt.alloc(), FAULTS, play_calls)?;
     for call in 0..14 {
         let case = format!(in rt.alloc(); "events a C-L Enter\nfail {call} 0\n")?;
         let outcome = play_calls(rt.alloc(), case.as_str())?;

@@ -157,7 +157,7 @@ Some(\"git push\")
 
 #[test]
 fn a_search_goes_through_the_matching_lines(rt: HostRuntime) -> Result<(), Fail> {
-    expect_cases(&rt, rt.alloc(), SEARCHES, play)
+    expect_cases(rt.alloc(), SEARCHES, play)
 }
 
 const WALKS: &str = "\
@@ -316,5 +316,5 @@ actions Up
 
 #[test]
 fn steps_walk_through_the_lines(rt: HostRuntime) -> Result<(), Fail> {
-    expect_cases(&rt, rt.alloc(), WALKS, play)
+    expect_cases(rt.alloc(), WALKS, play)
 }

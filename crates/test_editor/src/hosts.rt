@@ -67,7 +67,7 @@ None
 
 #[test]
 fn hosts_answer_for_themselves(rt: HostRuntime) -> Result<(), Fail> {
-    expect_cases(&rt, rt.alloc(), HOSTS, play)
+    expect_cases(rt.alloc(), HOSTS, play)
 }
 
 const SCREENS: &str = "\
@@ -144,7 +144,7 @@ end 1 0
 
 #[test]
 fn paintings_leave_nothing_stale(rt: HostRuntime) -> Result<(), Fail> {
-    expect_cases(&rt, rt.alloc(), SCREENS, play)
+    expect_cases(rt.alloc(), SCREENS, play)
 }
 
 /// What the default host shows of each line `CURSOR TEXT`, the column, and the number of its candidates; and its name.
@@ -192,5 +192,5 @@ NopLineEditorHost
 /// complete nothing.
 #[test]
 fn the_default_answers_know_the_cursor(rt: HostRuntime) -> Result<(), Fail> {
-    expect_cases(&rt, rt.alloc(), DEFAULTS, play_defaults)
+    expect_cases(rt.alloc(), DEFAULTS, play_defaults)
 }

@@ -184,7 +184,7 @@ CP(A(0), R(1)), ClearToEndOfScreen
 
 #[test]
 fn lines_are_painted_at_each_event(rt: HostRuntime) -> Result<(), Fail> {
-    expect_cases(&rt, rt.alloc(), LINES, play_with_batches)
+    expect_cases(rt.alloc(), LINES, play_with_batches)
 }
 
 const SIZES: &str = "\
@@ -255,7 +255,7 @@ CP(A(0), R(1)), ClearToEndOfScreen
 
 #[test]
 fn sizes_are_measured_and_refused(rt: HostRuntime) -> Result<(), Fail> {
-    expect_cases(&rt, rt.alloc(), SIZES, play_with_batches)
+    expect_cases(rt.alloc(), SIZES, play_with_batches)
 }
 
 /// A size that comes while a line is read, and one that stands from the beginning on.
@@ -297,7 +297,7 @@ fn a_size_beyond_the_limits_is_refused(rt: HostRuntime) -> Result<(), Fail> {
         let cases = BEYOND.replace(alloc, "COLS", cols)?;
         let cases = cases.as_str().replace(alloc, "ROWS", rows)?;
         let cases = cases.as_str().replace(alloc, "NUMBER", number)?;
-        expect_cases(&rt, alloc, cases.as_str(), play_with_batches)?;
+        expect_cases(alloc, cases.as_str(), play_with_batches)?;
     }
     Ok(())
 }

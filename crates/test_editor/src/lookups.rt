@@ -206,6 +206,6 @@ None
 
 #[test]
 fn added_lines_are_found(rt: HostRuntime) -> Result<(), Fail> {
-    expect_cases(&rt, rt.alloc(), ADDED, play_lookups)?;
-    expect_cases(&rt, rt.alloc(), SEARCHES, play_lookups)
+    expect_cases(rt.alloc(), ADDED, play_lookups)?;
+    expect_cases(rt.alloc(), SEARCHES, play_lookups)
 }

@@ -66,5 +66,5 @@ Char(' ') CTRL
 
 #[test]
 fn each_key_has_its_name(rt: HostRuntime) -> Result<(), Fail> {
-    expect_cases(&rt, rt.alloc(), NAMES, play_names)
+    expect_cases(rt.alloc(), NAMES, play_names)
 }

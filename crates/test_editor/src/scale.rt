@@ -43,7 +43,7 @@ fn long_lines_of_one_word_are_moved_through_and_killed(rt: HostRuntime) -> Resul
             initial {word}\nevents C-W\n--\nSome(\"\")\n==\n\
             initial {word}\nevents Home C-K X\n--\nSome(\"X\")\n==\n"
         )?;
-        expect_cases(&rt, alloc, cases.as_str(), play)?;
+        expect_cases(alloc, cases.as_str(), play)?;
     }
     Ok(())
 }
@@ -97,7 +97,7 @@ Some(\"line 99950\"), Some(\"line 99999\"), Some(\"line 50000\"), Some(\"line 99
 #[test]
 fn long_lines_prompts_histories_and_lists_are_read(rt: HostRuntime) -> Result<(), Fail> {
     let cases = expanded(rt.alloc(), LONG)?;
-    expect_cases(&rt, rt.alloc(), cases.as_str(), play)
+    expect_cases(rt.alloc(), cases.as_str(), play)
 }
 
 /// A host whose preview is a list of texts.
@@ -176,5 +176,5 @@ end 901 0
 
 #[test]
 fn a_preview_of_thousands_of_elements_is_shown(rt: HostRuntime) -> Result<(), Fail> {
-    expect_cases(&rt, rt.alloc(), PIECES, play_pieces)
+    expect_cases(rt.alloc(), PIECES, play_pieces)
 }

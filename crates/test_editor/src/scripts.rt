@@ -456,7 +456,6 @@ end 3 0
 #[test]
 fn scripts_show_what_the_editor_shows(rt: HostRuntime) -> Result<(), Fail> {
     expect_cases(
-        &rt,
         rt.alloc(),
         SCRIPTS,
         |alloc, script| play_script(alloc, script.as_bytes()),

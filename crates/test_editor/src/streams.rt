@@ -143,7 +143,7 @@ Err(Io) 0
 
 #[test]
 fn readers_give_the_whole_script_or_fail(rt: HostRuntime) -> Result<(), Fail> {
-    expect_cases(&rt, rt.alloc(), READS, play_reads)
+    expect_cases(rt.alloc(), READS, play_reads)
 }
 
 #[test]
@@ -206,5 +206,5 @@ Err(Io) 41
 
 #[test]
 fn writers_take_the_whole_output_or_fail(rt: HostRuntime) -> Result<(), Fail> {
-    expect_cases(&rt, rt.alloc(), WRITES, play_writes)
+    expect_cases(rt.alloc(), WRITES, play_writes)
 }

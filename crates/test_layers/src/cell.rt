@@ -32,5 +32,5 @@ ab\u{200b} => 2
 
 #[test]
 fn texts_have_columns(rt: HostRuntime) -> Result<(), Fail> {
-    expect_rows(&rt, rt.alloc(), COLUMNS, columns)
+    expect_rows(rt.alloc(), COLUMNS, columns)
 }

@@ -42,7 +42,7 @@ Memory => 7 terminal fault
 
 #[test]
 fn errors_have_numbers_and_texts(rt: HostRuntime) -> Result<(), Fail> {
-    expect_rows(&rt, rt.alloc(), ERRORS, error_text)
+    expect_rows(rt.alloc(), ERRORS, error_text)
 }
 
 #[test]

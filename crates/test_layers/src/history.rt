@@ -70,5 +70,5 @@ find b|\u{1f600}b => Some(4)
 
 #[test]
 fn lines_and_patterns_are_found(rt: HostRuntime) -> Result<(), Fail> {
-    expect_rows(&rt, rt.alloc(), INDICES, index_text)
+    expect_rows(rt.alloc(), INDICES, index_text)
 }

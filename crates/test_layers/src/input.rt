@@ -73,7 +73,7 @@ held 12 => several
 
 #[test]
 fn modifiers_have_bits_and_names(rt: HostRuntime) -> Result<(), Fail> {
-    expect_rows(&rt, rt.alloc(), MODIFIERS, modifiers_text)
+    expect_rows(rt.alloc(), MODIFIERS, modifiers_text)
 }
 
 #[test]

@@ -212,5 +212,5 @@ e|\u{301}b; find => 1 e|\u{301}b
 
 #[test]
 fn lines_are_edited(rt: HostRuntime) -> Result<(), Fail> {
-    expect_rows(&rt, rt.alloc(), LINES, edited)
+    expect_rows(rt.alloc(), LINES, edited)
 }

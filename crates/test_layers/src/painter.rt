@@ -126,7 +126,7 @@ paint; same => CP(A(0), R(-1)), ClearToEndOfScreen, AllAttributes, Text("> "), A
 #[test]
 fn lines_are_painted(rt: HostRuntime) -> Result<(), Fail> {
     let mut painted = Painted::new(rt.alloc());
-    expect_runs(&rt, rt.alloc(), PAINTINGS, |alloc: Global, command: &str| {
+    expect_runs(rt.alloc(), PAINTINGS, |alloc: Global, command: &str| {
         obey(alloc, &mut painted, command)
     })
 }

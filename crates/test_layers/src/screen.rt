@@ -210,7 +210,7 @@ new 65535; lines 100; kept; last; trimmed 99 65535 => 6 594; Some(99); 65535 "> 
 #[test]
 fn screens_show_what_they_are_sent(rt: HostRuntime) -> Result<(), Fail> {
     let mut screen = Screen::new(rt.alloc(), 5)?;
-    expect_runs(&rt, rt.alloc(), SCREENS, |alloc: Global, command: &str| {
+    expect_runs(rt.alloc(), SCREENS, |alloc: Global, command: &str| {
         obey(alloc, &mut screen, command)
     })
 }

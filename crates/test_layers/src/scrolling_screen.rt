@@ -99,7 +99,7 @@ char 59000 0; char 59997 0; char 59999 0 => ' '; 'c'; ' '
 #[test]
 fn screens_scroll(rt: HostRuntime) -> Result<(), Fail> {
     let mut screen = ScrollingScreen::new(rt.alloc(), 2, 3)?;
-    expect_runs(&rt, rt.alloc(), SCREENS, |alloc: Global, command: &str| {
+    expect_runs(rt.alloc(), SCREENS, |alloc: Global, command: &str| {
         obey(alloc, &mut screen, command)
     })
 }

@@ -123,7 +123,7 @@ text \r\n; place; height => OutOfRange; 5 2147483647; 2147483647
 #[test]
 fn changes_lead_to_their_places(rt: HostRuntime) -> Result<(), Fail> {
     let mut sequence = ChangeSequence::new(rt.alloc(), 24, 5)?;
-    expect_runs(&rt, rt.alloc(), SEQUENCES, |alloc: Global, command: &str| {
+    expect_runs(rt.alloc(), SEQUENCES, |alloc: Global, command: &str| {
         obey(alloc, &mut sequence, command)
     })
 }

@@ -115,7 +115,7 @@ left; poll; left; poll; failures => 0; none; 0; none; 0
 #[test]
 fn a_script_is_played(rt: HostRuntime) -> Result<(), Fail> {
     let mut terminal = two_events(rt.alloc())?;
-    expect_runs(&rt, rt.alloc(), CALLS, |alloc: Global, command: &str| {
+    expect_runs(rt.alloc(), CALLS, |alloc: Global, command: &str| {
         obey(alloc, &mut terminal, command)
     })
 }

@@ -43,5 +43,5 @@ type x\nkey Tab\nkey Enter => x
 
 #[test]
 fn words_are_completed_up_to_where_they_part(rt: HostRuntime) -> Result<(), Fail> {
-    expect_rows(&rt, rt.alloc(), ROWS, completed)
+    expect_rows(rt.alloc(), ROWS, completed)
 }

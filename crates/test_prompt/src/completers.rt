@@ -121,5 +121,5 @@ select customers1 =>
 
 #[test]
 fn contexts_choose_what_is_completed(rt: HostRuntime) -> Result<(), Fail> {
-    expect_rows(&rt, rt.alloc(), LINES, offers)
+    expect_rows(rt.alloc(), LINES, offers)
 }

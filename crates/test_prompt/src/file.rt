@@ -127,5 +127,5 @@ full 1 one|two|three => false true false "one" "two" "three"
 
 #[test]
 fn lines_are_written_and_read(rt: HostRuntime) -> Result<(), Fail> {
-    expect_rows(&rt, rt.alloc(), FILES, obey)
+    expect_rows(rt.alloc(), FILES, obey)
 }

@@ -21,5 +21,5 @@ type z; ends z => z; yes
 
 #[test]
 fn hints_are_taken(rt: HostRuntime) -> Result<(), Fail> {
-    expect_lines(&rt, rt.alloc(), HISTORY, SCRIPTS)
+    expect_lines(rt.alloc(), HISTORY, SCRIPTS)
 }

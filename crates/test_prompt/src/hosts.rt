@@ -214,5 +214,5 @@ known mov => false
 
 #[test]
 fn hosts_know_lines(rt: HostRuntime) -> Result<(), Fail> {
-    expect_rows(&rt, rt.alloc(), ROWS, obey)
+    expect_rows(rt.alloc(), ROWS, obey)
 }

@@ -21,5 +21,5 @@ no history; type ab\nkey A-.\nkey A-. => ab
 
 #[test]
 fn last_words_come_back_in_turn(rt: HostRuntime) -> Result<(), Fail> {
-    expect_lines(&rt, rt.alloc(), HISTORY, SCRIPTS)
+    expect_lines(rt.alloc(), HISTORY, SCRIPTS)
 }

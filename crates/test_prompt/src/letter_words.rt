@@ -27,5 +27,5 @@ key Up\nkey C-R\nkey C-Right\nkey C-Right\ntype X => foo-bar bazX-x
 
 #[test]
 fn words_are_of_letters_and_digits(rt: HostRuntime) -> Result<(), Fail> {
-    expect_lines(&rt, rt.alloc(), HISTORY, SCRIPTS)
+    expect_lines(rt.alloc(), HISTORY, SCRIPTS)
 }

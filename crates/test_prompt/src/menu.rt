@@ -34,5 +34,5 @@ remember us; key C-R\ntype s\nkey Tab\nkey Tab; ends userss => userss; yes
 
 #[test]
 fn menus_stand_under_the_line(rt: HostRuntime) -> Result<(), Fail> {
-    expect_rows(&rt, rt.alloc(), MENUS, read_all)
+    expect_rows(rt.alloc(), MENUS, read_all)
 }

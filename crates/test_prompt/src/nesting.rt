@@ -51,5 +51,5 @@ say "it's => "4
 
 #[test]
 fn texts_leave_marks_open(rt: HostRuntime) -> Result<(), Fail> {
-    expect_rows(&rt, rt.alloc(), TEXTS, left)
+    expect_rows(rt.alloc(), TEXTS, left)
 }

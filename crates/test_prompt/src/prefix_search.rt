@@ -29,5 +29,5 @@ key C-R\ntype l\nkey PageUp\nkey Enter => git log
 
 #[test]
 fn lines_that_begin_so_come_back(rt: HostRuntime) -> Result<(), Fail> {
-    expect_lines(&rt, rt.alloc(), HISTORY, SCRIPTS)
+    expect_lines(rt.alloc(), HISTORY, SCRIPTS)
 }

@@ -3,7 +3,6 @@
 use crate::tables::table_host;
 use nested_marks::common_pairs;
 use std::alloc::Global;
-use std::process::Abort;
 use std::test::Fail;
 use test_cases::{expect_rows, painted_text, script_terminal};
 use tw_hosts::{PromptScreen, TableHost};
@@ -115,9 +114,9 @@ pub fn read_all(alloc: Global, commands: &str) -> Result<String, Fail> {
 
 /// Plays rows of commands. The first ones of each remember the lines of a history, separated by `;`, but for rows with
 /// `no history; `.
-pub fn expect_lines(rt: &impl Abort, alloc: Global, history: &str, rows: &str) -> Result<(), Fail> {
+pub fn expect_lines(alloc: Global, history: &str, rows: &str) -> Result<(), Fail> {
     let lines = history.replace(alloc, ";", "; remember ")?;
-    expect_rows(rt, alloc, rows, |alloc: Global, commands: &str| {
+    expect_rows(alloc, rows, |alloc: Global, commands: &str| {
         if let Some(commands) = commands.strip_prefix("no history; ") {
             return read_all(alloc, commands);
         }

@@ -44,5 +44,5 @@ type a\nkey C-A\nkey C-D\nkey C-D => refusal 1
 
 #[test]
 fn keys_are_those_of_readline(rt: HostRuntime) -> Result<(), Fail> {
-    expect_lines(&rt, rt.alloc(), HISTORY, SCRIPTS)
+    expect_lines(rt.alloc(), HISTORY, SCRIPTS)
 }

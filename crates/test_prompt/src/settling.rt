@@ -78,5 +78,5 @@ resized 7x9 \u{65e5}\u{672c}\u{8a9e} => 6 7
 
 #[test]
 fn cursors_stand_in_their_columns(rt: HostRuntime) -> Result<(), Fail> {
-    expect_rows(&rt, rt.alloc(), CURSORS, column)
+    expect_rows(rt.alloc(), CURSORS, column)
 }

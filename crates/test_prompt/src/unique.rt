@@ -64,5 +64,5 @@ find 1 b; make a;ls;make b;make a => 1 5
 
 #[test]
 fn no_line_is_kept_twice(rt: HostRuntime) -> Result<(), Fail> {
-    expect_rows(&rt, rt.alloc(), HISTORIES, kept)
+    expect_rows(rt.alloc(), HISTORIES, kept)
 }

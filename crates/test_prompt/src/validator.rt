@@ -25,5 +25,5 @@ type f(x y\nkey Enter\nkey A-t; ends y f(x => y f(x; yes
 
 #[test]
 fn enter_stays_in_a_line_that_is_open(rt: HostRuntime) -> Result<(), Fail> {
-    expect_lines(&rt, rt.alloc(), HISTORY, SCRIPTS)
+    expect_lines(rt.alloc(), HISTORY, SCRIPTS)
 }

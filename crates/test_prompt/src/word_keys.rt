@@ -20,5 +20,5 @@ key C-R\ntype cop\nkey C-T\nkey Enter => copy
 
 #[test]
 fn words_and_characters_are_edited(rt: HostRuntime) -> Result<(), Fail> {
-    expect_lines(&rt, rt.alloc(), HISTORY, SCRIPTS)
+    expect_lines(rt.alloc(), HISTORY, SCRIPTS)
 }

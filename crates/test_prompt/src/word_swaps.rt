@@ -49,5 +49,5 @@ one two | three => one three  two|
 
 #[test]
 fn words_change_places_as_in_readline(rt: HostRuntime) -> Result<(), Fail> {
-    expect_rows(&rt, rt.alloc(), LINES, swapped)
+    expect_rows(rt.alloc(), LINES, swapped)
 }

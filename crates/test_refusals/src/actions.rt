@@ -46,7 +46,7 @@ do NoAction
 
 #[test]
 fn insertions_refused_in_turn(rt: HostRuntime) -> Result<(), Fail> {
-    expect_cases(&rt, rt.alloc(), INSERTIONS, play_steps)
+    expect_cases(rt.alloc(), INSERTIONS, play_steps)
 }
 
 const STEPS: &str = "\
@@ -155,7 +155,7 @@ Some(\"\")
 
 #[test]
 fn actions_refused_in_turn(rt: HostRuntime) -> Result<(), Fail> {
-    expect_cases(&rt, rt.alloc(), STEPS, play_steps)
+    expect_cases(rt.alloc(), STEPS, play_steps)
 }
 
 /// What the key table and a host make of an event. A refused resolution leaves the line and its cursor.

@@ -183,7 +183,7 @@ set 9 why hello there
 
 #[test]
 fn edits_refused_in_turn(rt: HostRuntime) -> Result<(), Fail> {
-    expect_cases(&rt, rt.alloc(), EDITS, play_buffer)
+    expect_cases(rt.alloc(), EDITS, play_buffer)
 }
 
 /// The text grows and the list of the offsets at which its characters start: both are asked for before anything is
@@ -191,7 +191,6 @@ fn edits_refused_in_turn(rt: HostRuntime) -> Result<(), Fail> {
 #[test]
 fn one_insertion_refused_in_turn(rt: HostRuntime) -> Result<(), Fail> {
     expect_cases(
-        &rt,
         rt.alloc(),
         "new 0 \nchar a\n--\n\"a\" at 1\n==\n",
         play_buffer,
@@ -218,7 +217,7 @@ a\u{e9}\u{4e00} ba\u{e9}\u{4e00} ba\u{e9}\u{4e00} ba\u{e9}\u{4e00} ba\u{e9}\u{4e
 
 #[test]
 fn insertions_one_by_one_refused_in_turn(rt: HostRuntime) -> Result<(), Fail> {
-    expect_cases(&rt, rt.alloc(), GROWING, play_growing)
+    expect_cases(rt.alloc(), GROWING, play_growing)
 }
 
 /// Edits that insert nothing, and lines that are empty.
@@ -244,7 +243,7 @@ new 0
 
 #[test]
 fn nothing_is_inserted_without_memory(rt: HostRuntime) -> Result<(), Fail> {
-    expect_cases(&rt, rt.alloc(), NOTHING, play_buffer)
+    expect_cases(rt.alloc(), NOTHING, play_buffer)
 }
 
 const LINE: &str = "foo  a\u{301}b \u{1f1e9}\u{1f1ea} \u{4e00}\u{e9}x";
@@ -291,5 +290,5 @@ None
 
 #[test]
 fn lines_move_and_shrink_without_memory(rt: HostRuntime) -> Result<(), Fail> {
-    expect_cases(&rt, rt.alloc(), MOVEMENTS, play_moves)
+    expect_cases(rt.alloc(), MOVEMENTS, play_moves)
 }

@@ -130,7 +130,7 @@ Text(\"a\"), CP(R(1), R(2)), ClearToEndOfScreen
 
 #[test]
 fn added_changes_refused_in_turn(rt: HostRuntime) -> Result<(), Fail> {
-    expect_cases(&rt, rt.alloc(), SEQUENCES, play_sequence)
+    expect_cases(rt.alloc(), SEQUENCES, play_sequence)
 }
 
 /// The rows of a screen of 5 columns, each ended by a bar, and its cursor.
@@ -198,5 +198,5 @@ hello| w   | 1 2
 
 #[test]
 fn screens_refused_in_turn(rt: HostRuntime) -> Result<(), Fail> {
-    expect_cases(&rt, rt.alloc(), SCREENS, play_screen)
+    expect_cases(rt.alloc(), SCREENS, play_screen)
 }

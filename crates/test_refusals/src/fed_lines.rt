@@ -36,7 +36,6 @@ Some(\"abcdefgh\")
 #[test]
 fn begun_lines_refused_in_turn(rt: HostRuntime) -> Result<(), Fail> {
     expect_cases(
-        &rt,
         rt.alloc(),
         BEGUN,
         |alloc, lines| play_feeding(alloc, lines, Call::Begin),
@@ -82,7 +81,6 @@ None
 #[test]
 fn fed_events_refused_in_turn(rt: HostRuntime) -> Result<(), Fail> {
     expect_cases(
-        &rt,
         rt.alloc(),
         FED,
         |alloc, lines| play_feeding(alloc, lines, Call::Feed),
@@ -112,7 +110,6 @@ None
 #[test]
 fn finished_lines_refused_in_turn(rt: HostRuntime) -> Result<(), Fail> {
     expect_cases(
-        &rt,
         rt.alloc(),
         FINISHED,
         |alloc, lines| play_feeding(alloc, lines, Call::Finish),

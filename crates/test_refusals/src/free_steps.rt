@@ -71,7 +71,7 @@ KillAndMove StartOfLine, None
 
 #[test]
 fn movements_kills_and_ends_without_memory(rt: HostRuntime) -> Result<(), Fail> {
-    expect_cases(&rt, rt.alloc(), MODES, play_modes)
+    expect_cases(rt.alloc(), MODES, play_modes)
 }
 
 /// Steps through an empty history and searches of it, completions without candidates, and insertions of nothing.
@@ -97,7 +97,7 @@ do HistoryIncSearchForwards
 
 #[test]
 fn actions_with_nothing_to_do_without_memory(rt: HostRuntime) -> Result<(), Fail> {
-    expect_cases(&rt, rt.alloc(), NOTHING_TO_DO, play_steps)
+    expect_cases(rt.alloc(), NOTHING_TO_DO, play_steps)
 }
 
 /// A new editor and its line, calls of a line that is fed its events while none is open, and readings in a mode that was

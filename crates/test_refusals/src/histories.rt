@@ -57,14 +57,14 @@ None
 
 #[test]
 fn added_lines_refused_in_turn(rt: HostRuntime) -> Result<(), Fail> {
-    expect_cases(&rt, rt.alloc(), ADDED, play_basic)?;
-    expect_cases(&rt, rt.alloc(), ADDED, play_list)
+    expect_cases(rt.alloc(), ADDED, play_basic)?;
+    expect_cases(rt.alloc(), ADDED, play_list)
 }
 
 /// The text of all lines grows and the list of their end offsets: both are asked for before the line is added.
 #[test]
 fn one_added_line_refused_in_turn(rt: HostRuntime) -> Result<(), Fail> {
-    expect_cases(&rt, rt.alloc(), "add ls\n--\nls|\n==\n", play_basic)
+    expect_cases(rt.alloc(), "add ls\n--\nls|\n==\n", play_basic)
 }
 
 const FORGOTTEN: &str = "\
@@ -84,7 +84,7 @@ c|d|
 
 #[test]
 fn forgotten_lines_refused_in_turn(rt: HostRuntime) -> Result<(), Fail> {
-    expect_cases(&rt, rt.alloc(), FORGOTTEN, play_bounded)
+    expect_cases(rt.alloc(), FORGOTTEN, play_bounded)
 }
 
 /// A line that is the last one already, and what the histories are asked.
@@ -149,6 +149,6 @@ None
 
 #[test]
 fn histories_are_asked_without_memory(rt: HostRuntime) -> Result<(), Fail> {
-    expect_cases(&rt, rt.alloc(), ASKED, play_basic)?;
-    expect_cases(&rt, rt.alloc(), ASKED_OF_TWO, play_bounded)
+    expect_cases(rt.alloc(), ASKED, play_basic)?;
+    expect_cases(rt.alloc(), ASKED_OF_TWO, play_bounded)
 }

@@ -74,7 +74,7 @@ Some(\"b\")
 
 #[test]
 fn typed_lines_refused_in_turn(rt: HostRuntime) -> Result<(), Fail> {
-    expect_cases(&rt, rt.alloc(), TYPED, play_reading)
+    expect_cases(rt.alloc(), TYPED, play_reading)
 }
 
 const SIZES: &str = "\
@@ -117,7 +117,7 @@ refusal 7
 
 #[test]
 fn sizes_and_faulty_terminals_refused_in_turn(rt: HostRuntime) -> Result<(), Fail> {
-    expect_cases(&rt, rt.alloc(), SIZES, play_reading)
+    expect_cases(rt.alloc(), SIZES, play_reading)
 }
 
 const SEARCHES: &str = "\
@@ -188,7 +188,7 @@ Some(\"ls\")
 
 #[test]
 fn walks_and_searches_refused_in_turn(rt: HostRuntime) -> Result<(), Fail> {
-    expect_cases(&rt, rt.alloc(), SEARCHES, play_reading)
+    expect_cases(rt.alloc(), SEARCHES, play_reading)
 }
 
 const HOSTS: &str = "\
@@ -231,5 +231,5 @@ None
 
 #[test]
 fn lines_of_hosts_refused_in_turn(rt: HostRuntime) -> Result<(), Fail> {
-    expect_cases(&rt, rt.alloc(), HOSTS, play_reading)
+    expect_cases(rt.alloc(), HOSTS, play_reading)
 }

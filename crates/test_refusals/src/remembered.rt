@@ -37,5 +37,5 @@ one|two|one|
 
 #[test]
 fn remembered_lines_refused_in_turn(rt: HostRuntime) -> Result<(), Fail> {
-    expect_cases(&rt, rt.alloc(), CASES, play_remembering)
+    expect_cases(rt.alloc(), CASES, play_remembering)
 }

@@ -193,7 +193,6 @@ bad line 3
 #[test]
 fn scripts_refused_in_turn(rt: HostRuntime) -> Result<(), Fail> {
     expect_cases(
-        &rt,
         rt.alloc(),
         SCRIPTS,
         |alloc, script| play_script(alloc, script.as_bytes()),

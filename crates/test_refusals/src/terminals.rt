@@ -98,5 +98,5 @@ ClearScreen, Text(\"a\")
 
 #[test]
 fn batches_refused_in_turn(rt: HostRuntime) -> Result<(), Fail> {
-    expect_cases(&rt, rt.alloc(), BATCHES, play_terminal)
+    expect_cases(rt.alloc(), BATCHES, play_terminal)
 }

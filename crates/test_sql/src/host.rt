@@ -108,5 +108,5 @@ preview select (1) =>
 
 #[test]
 fn lines_are_shown_and_completed(rt: HostRuntime) -> Result<(), Fail> {
-    expect_rows(&rt, rt.alloc(), LINES, answered)
+    expect_rows(rt.alloc(), LINES, answered)
 }

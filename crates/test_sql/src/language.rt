@@ -147,5 +147,5 @@ table select 'people' =>
 
 #[test]
 fn statements_are_known(rt: HostRuntime) -> Result<(), Fail> {
-    expect_rows(&rt, rt.alloc(), STATEMENTS, known)
+    expect_rows(rt.alloc(), STATEMENTS, known)
 }

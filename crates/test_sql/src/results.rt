@@ -67,5 +67,5 @@ csv a b,/- ./x"y 1 => a,"b,"\n,""\n"x""y",1\n
 
 #[test]
 fn results_are_written(rt: HostRuntime) -> Result<(), Fail> {
-    expect_rows(&rt, rt.alloc(), RESULTS, written)
+    expect_rows(rt.alloc(), RESULTS, written)
 }
