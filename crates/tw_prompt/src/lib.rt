@@ -5,15 +5,23 @@
 //! is sent at first and in the end, and `read_listing` the names in a directory.
 #![tactic(auto)]
 
+mod arguments;
 mod events;
 mod joined;
+mod keys;
 mod listings;
 mod marks;
+mod prompt;
 mod sizes;
+mod streams;
 mod typed;
 
+pub use arguments::Arguments;
 pub use events::{Pending, PromptEvents, TypedEvents};
+pub use keys::{AllKeys, all_keys};
 pub use listings::read_listing;
 pub use marks::{BEGIN, END};
+pub use prompt::{Prompt, PromptTerminal};
 pub use sizes::{fitting, usable};
+pub use streams::{TerminalInput, TerminalOutput, open_streams};
 pub use typed::Typed;

@@ -1,0 +1,23 @@
+//! All keys of a prompt.
+
+use std::alloc::Global;
+use tw_key_parts::{
+    Keys, KillRing, LastWords, LetterWords, PrefixSearch, ReadlineKeys, UndoSteps, WordKeys,
+};
+
+/// Keys for words.
+type WordParts = (Keys<LetterWords>, (Keys<ReadlineKeys>, Keys<WordKeys>));
+
+/// Keys for lines of the history.
+type HistoryParts = (LastWords, PrefixSearch);
+
+/// All parts with keys: for words, then for lines of the history, kills and undos.
+pub type AllKeys = (WordParts, (HistoryParts, (KillRing, UndoSteps)));
+
+/// Creates all parts with keys.
+pub fn all_keys(alloc: Global) -> AllKeys {
+    let words = (Keys(LetterWords), (Keys(ReadlineKeys), Keys(WordKeys)));
+    let history = (LastWords::new(), PrefixSearch::new());
+    let edits = (KillRing::new(alloc), UndoSteps::new(alloc));
+    (words, (history, edits))
+}

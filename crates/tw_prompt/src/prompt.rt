@@ -1,0 +1,178 @@
+//! A prompt in a program: lines are read at its terminal, or plainly at a pipe.
+
+use crate::arguments::Arguments;
+use crate::events::{PromptEvents, TypedEvents};
+use crate::keys::{AllKeys, all_keys};
+use crate::marks::{BEGIN, END};
+use crate::streams::{TerminalInput, TerminalOutput, open_streams};
+use std::io::{self, ErrorKind, Write};
+use tw_device::{Answer, DeviceTerminal, read_line_from};
+use tw_history::{BasicHistory, History, LentLines};
+use tw_key_parts::KeyPart;
+use tw_lineedit::{Error, LineEditorHost, NopLineEditorHost};
+use tw_prompt_host::{AllLines, PromptHost, Validator};
+use tw_sparing::SparingTerminal;
+use tw_terminal::{ScreenSize, TerminalFault};
+
+/// The columns of a prompt before it is opened at a terminal.
+const COLS: usize = 80;
+
+/// Where lines are read.
+#[derive(Drop)]
+enum Place<T> {
+    /// A terminal in raw mode.
+    Terminal {
+        events: TypedEvents<TerminalInput, HostRuntime>,
+        terminal: T,
+    },
+    /// Standard input, which is no terminal.
+    Pipe,
+}
+
+/// The terminal of a prompt, which is sent what differs from what it shows.
+pub type PromptTerminal = SparingTerminal<TerminalOutput>;
+
+/// A prompt in a program that `tools/at_terminal` starts. At a pipe it reads plain lines and shows no prompt.
+#[derive(Drop)]
+pub struct Prompt<T, H, L, K, V> {
+    /// The host: what shows and completes the line, the history, the keys.
+    pub host: PromptHost<H, L, K, V>,
+    /// True if accepted lines that are not empty go into the history.
+    pub remembers: bool,
+    rt: HostRuntime,
+    place: Place<T>,
+}
+
+/// Returns the editor's error for an error of a stream.
+fn refused(error: io::Error) -> Error {
+    match error.kind() {
+        ErrorKind::OutOfMemory => Error::Terminal(TerminalFault::Memory),
+        _ => Error::Terminal(TerminalFault::Device),
+    }
+}
+
+/// Reads a line of standard input.
+fn read_plainly(rt: HostRuntime) -> Result<Answer, Error> {
+    let mut line = String::new(rt.alloc());
+    let count = rt.read_line(&mut line).map_err(refused)?;
+    if count == 0 {
+        return Ok(Answer::End(line));
+    }
+    if line.as_str().ends_with('\n') {
+        let _end = line.pop();
+    }
+    Ok(Answer::Line(line))
+}
+
+impl Prompt<PromptTerminal, NopLineEditorHost, BasicHistory, AllKeys, AllLines> {
+    /// Opens a prompt with this text, all keys and an empty history.
+    pub fn open(rt: HostRuntime, prompt: &str) -> Result<Self, Error> {
+        let alloc = rt.alloc();
+        let host = PromptHost::new(alloc, prompt, COLS)?.with_keys(all_keys(alloc));
+        Prompt::over(rt, host)
+    }
+}
+
+impl<H: LineEditorHost + Drop, L: History + LentLines + Drop, K: KeyPart + Drop, V: Validator + Drop>
+    Prompt<PromptTerminal, H, L, K, V> {
+    /// Opens a prompt with this host, which gets the columns of the terminal.
+    pub fn over(rt: HostRuntime, host: PromptHost<H, L, K, V>) -> Result<Self, Error> {
+        let arguments = Arguments::read(rt).map_err(refused)?;
+        let Some(size) = arguments.size else {
+            return Ok(Prompt::at_pipe(rt, host));
+        };
+        let file = arguments.file.as_ref().map(|file| file.as_str());
+        let (input, output) = open_streams(rt, file).map_err(refused)?;
+        let events = PromptEvents::new(rt.alloc(), input, rt);
+        let terminal = SparingTerminal::new(rt.alloc(), output, size);
+        Prompt::at_terminal(rt, host, events, terminal, size)
+    }
+
+    /// Creates a prompt at standard input, which is no terminal.
+    pub fn at_pipe(rt: HostRuntime, host: PromptHost<H, L, K, V>) -> Self {
+        Prompt {
+            host,
+            remembers: true,
+            rt,
+            place: Place::Pipe,
+        }
+    }
+}
+
+impl<
+    T: DeviceTerminal + Drop,
+    H: LineEditorHost + Drop,
+    L: History + LentLines + Drop,
+    K: KeyPart + Drop,
+    V: Validator + Drop,
+> Prompt<T, H, L, K, V> {
+    /// Creates a prompt at a terminal of this size, which is asked to mark pasted texts and to tell its new sizes. The
+    /// host gets its columns.
+    pub fn at_terminal(
+        rt: HostRuntime,
+        mut host: PromptHost<H, L, K, V>,
+        events: TypedEvents<TerminalInput, HostRuntime>,
+        mut terminal: T,
+        size: ScreenSize,
+    ) -> Result<Self, Error> {
+        terminal.send(BEGIN)?;
+        host.menu.cols = size.cols;
+        host.screen.cols = size.cols;
+        Ok(Prompt {
+            host,
+            remembers: true,
+            rt,
+            place: Place::Terminal { events, terminal },
+        })
+    }
+
+    /// Reads a line. The prompt is `host.screen.prompt`. What the last line left, accepted or not, is forgotten first.
+    pub fn read(&mut self) -> Result<Answer, Error> {
+        self.host.begin_line();
+        let answer = match &mut self.place {
+            Place::Pipe => read_plainly(self.rt)?,
+            Place::Terminal { events, terminal } => {
+                let prompt = self.host.screen.prompt.clone()?;
+                let alloc = self.rt.alloc();
+                read_line_from(alloc, events, terminal, &mut self.host, prompt.as_str())?
+            }
+        };
+        if let Answer::Line(line) = &answer {
+            self.remember(line.as_str());
+        }
+        Ok(answer)
+    }
+
+    /// Adds an accepted line to the history. If there is no memory for it, the line is not kept.
+    fn remember(&mut self, line: &str) {
+        if self.remembers && !line.is_empty() {
+            let _kept = self.host.remember(line);
+        }
+    }
+
+    /// Prints lines. At a terminal each ends with CR LF. An unfinished last line is ended.
+    pub fn print(&mut self, text: &str) -> Result<(), Error> {
+        let alloc = self.rt.alloc();
+        let mut shown = String::new(alloc);
+        let end = match &self.place {
+            Place::Pipe => "\n",
+            Place::Terminal { .. } => "\r\n",
+        };
+        for line in text.lines() {
+            shown.push_str(line)?;
+            shown.push_str(end)?;
+        }
+        match &mut self.place {
+            Place::Pipe => self.rt.stdout().write_all(shown.as_bytes()).map_err(refused),
+            Place::Terminal { terminal, .. } => Ok(terminal.send(shown.as_str())?),
+        }
+    }
+
+    /// Has the terminal mark nothing and tell no sizes any more, as before the prompt.
+    pub fn close(mut self) -> Result<(), Error> {
+        match &mut self.place {
+            Place::Pipe => Ok(()),
+            Place::Terminal { terminal, .. } => Ok(terminal.send(END)?),
+        }
+    }
+}
