@@ -1,2 +1,3 @@
 pub mod SearchRuns
 pub mod MenuRuns
+pub mod SearchEnds

@@ -3,6 +3,7 @@
 
 ghost use Rattle.std.specs.Prelude.{Bool};
 ghost use Rattle.laws_prompt.specs.MenuRuns.{ClosesAfterLines, TellsCycles};
+ghost use Rattle.laws_prompt.specs.SearchEnds.{BringsFound, CompletesFound};
 ghost use Rattle.laws_prompt.specs.SearchRuns.{IsOffBehindLines, KnowsSearches, LeavesSearches, TellsReadings, TellsRuns};
 
 use tw_host::LineEditorHost;
@@ -22,6 +23,13 @@ pub fn watch<H: LineEditorHost>()
 pub fn searches<H: LineEditorHost, K: KeyPart>()
     ensures known { KnowsSearches K.keys H.rules }
     ensures left { LeavesSearches K.keys H.rules }
+{}
+
+/// No action gives back the line before a search in its place: where the line is edited after one that ends a search, it
+/// is the line that was found, or a completion of it, whose cursor stands as far from the end as in that line.
+pub fn search_ends<H: LineEditorHost>()
+    ensures brought { BringsFound H.rules }
+    ensures completed { CompletesFound H.rules }
 {}
 
 /// At each event of a reading that begins with no menu, an open one has the candidates of the editor's completion and

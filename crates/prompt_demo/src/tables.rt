@@ -1,8 +1,7 @@
-//! What the prompt knows: its commands, a hint and a key.
+//! What the prompt knows: its commands and a hint.
 
 use std::alloc::{AllocError, Global};
-use tw_hosts::{Binding, Hint, KeyBinding, Styles, Tables};
-use tw_input::{KeyCode, KeyEvent, Modifiers};
+use tw_hosts::{Hint, Styles, Tables};
 use tw_surface::{CellAttributes, ColorAttribute, Intensity};
 
 /// The commands, which are shown in bold and completed.
@@ -29,21 +28,6 @@ fn styles() -> Styles {
     Styles { keyword, quote }
 }
 
-/// Escape cancels.
-fn keys(alloc: Global) -> Result<Vec<KeyBinding>, AllocError> {
-    let escape = KeyEvent {
-        key: KeyCode::Escape,
-        modifiers: Modifiers::NONE,
-    };
-    let keys = vec![in alloc;
-        KeyBinding {
-            key: escape,
-            binding: Binding::Cancel
-        },
-    ]?;
-    Ok(keys)
-}
-
 /// The tables of the prompt.
 pub fn tables(alloc: Global) -> Result<Tables, AllocError> {
     let hint = Hint {
@@ -54,7 +38,7 @@ pub fn tables(alloc: Global) -> Result<Tables, AllocError> {
         keywords: words(alloc, COMMANDS)?,
         words: words(alloc, COMMANDS)?,
         hints: vec![in alloc; hint]?,
-        keys: keys(alloc)?,
+        keys: Vec::new(alloc),
         styles: styles(),
     })
 }

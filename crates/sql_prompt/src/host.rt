@@ -28,10 +28,13 @@ const MENU_ROWS: usize = 4;
 /// The history of a prompt, whose statements are written too.
 pub type PromptHistory<W> = WrittenHistory<BoundedHistory, W>;
 
-/// The keys of the prompt: for words, then for lines of the history, kills and undos.
+/// The keys of the prompt: for undos, which have Ctrl-U after Ctrl-X, then for words, lines of the history and kills.
 type SqlKeys = (
-    (Keys<LetterWords>, Keys<ReadlineKeys>),
-    (PrefixSearch, (KillRing, UndoSteps)),
+    UndoSteps,
+    (
+        (Keys<LetterWords>, Keys<ReadlineKeys>),
+        (PrefixSearch, KillRing),
+    ),
 );
 
 /// The host of the prompt.
@@ -72,8 +75,8 @@ fn no_catalog(alloc: Global) -> Catalog {
 /// The keys of the prompt.
 fn sql_keys(alloc: Global) -> SqlKeys {
     let words = (Keys(LetterWords), Keys(ReadlineKeys));
-    let edits = (KillRing::new(alloc), UndoSteps::new(alloc));
-    (words, (PrefixSearch::new(), edits))
+    let others = (PrefixSearch::new(), KillRing::new(alloc));
+    (UndoSteps::new(alloc), (words, others))
 }
 
 /// Creates the host of a prompt on a screen of `cols` columns. It knows no names and no files yet.

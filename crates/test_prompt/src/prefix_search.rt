@@ -25,6 +25,14 @@ type lx\nkey Left\nkey PageUp\nkey PageDown => lx
 type git\nkey PageUp\nkey Left\nkey PageDown => git log
 type git\nkey PageUp\nkey Left\nkey PageUp => git push
 key C-R\ntype l\nkey PageUp\nkey Enter => git log
+type lx\nkey Left\nkey A-<\ntype x => git logx
+type lx\nkey Left\nkey A-<\nkey A->\ntype y => lyx
+type l\nkey PageUp\nkey A-<\nkey PageUp\nkey A-> => l
+type l\nkey A-<\nkey PageDown => l
+type l\nkey A-> => l
+type l\nkey A-<\nkey C-_ => l
+key C-R\ntype l\nkey A-<\nkey Enter => git log
+no history; type l\nkey A-< => l
 ";
 
 #[test]

@@ -15,10 +15,9 @@ use tw_surface::{CellAttributes, Intensity};
 
 type WordParts = (Keys<LetterWords>, (Keys<ReadlineKeys>, Keys<WordKeys>));
 
-type AllKeys = (
-    WordParts,
-    ((LastWords, PrefixSearch), (KillRing, UndoSteps)),
-);
+type HistoryParts = (LastWords, PrefixSearch);
+
+type AllKeys = (UndoSteps, (WordParts, (HistoryParts, KillRing)));
 
 /// A prompt with all parts.
 pub type Prompt = PromptHost<TableHost<BasicHistory>, BasicHistory, AllKeys, NestedLines>;
@@ -27,8 +26,8 @@ fn all_keys(alloc: Global) -> AllKeys {
     let words = (Keys(LetterWords), (Keys(ReadlineKeys), Keys(WordKeys)));
     let history = (LastWords::new(), PrefixSearch::new());
     (
-        words,
-        (history, (KillRing::new(alloc), UndoSteps::new(alloc))),
+        UndoSteps::new(alloc),
+        (words, (history, KillRing::new(alloc))),
     )
 }
 

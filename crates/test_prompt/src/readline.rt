@@ -27,6 +27,10 @@ type ab\npaste  cd\nkey C-_\nkey Enter => ab
 type ab\nkey Up\nkey C-_\nkey Enter => ab
 type ab\nkey C-K\nkey C-_\nkey Enter =>
 key C-_\ntype x\nkey Enter => x
+type ab cd\nkey C-W\nkey C-X\nkey C-U\nkey Enter => ab cd
+type ab cd\nkey C-W\nkey C-_\nkey C-X\nkey C-U\ntype x\nkey Enter => x
+type ab cd\nkey C-W\nkey C-X\nkey C-U\nkey C-U\ntype x\nkey Enter => x
+type ab cd\nkey C-X\nkey C-B\nkey C-U\nkey Enter => d
 
 // undo changes nothing during a search, and takes back the line that it found
 type mine\nkey C-R\ntype co\nkey C-_\nkey Enter => copy a

@@ -15,6 +15,8 @@ type one two\nkey C-A\nkey A-u\nkey Enter => ONE two
 type ONE TWO\nkey C-A\nkey A-l\nkey Enter => one TWO
 type oNE two\nkey C-A\nkey A-c\nkey A-c\nkey Enter => One Two
 type one\nkey A-u\nkey Enter => one
+type one two\nkey A-T\nkey C-A\nkey A-U\nkey A-C\nkey Enter => TWO One
+type ONE\nkey Left\nkey A-L\nkey Enter => ONe
 key C-R\ntype cop\nkey C-T\nkey Enter => copy
 ";
 

@@ -25,6 +25,13 @@ rotate_key = key_press alt (letter (codes "y"))
 abbrev pub undo_key : KeyEvent
 undo_key = key_press ctrl (letter (codes "_"))
 
+-- so do these two, one right after the other
+abbrev pub undo_prefix : KeyEvent
+undo_prefix = key_press ctrl (letter (codes "X"))
+
+abbrev pub prefixed_undo_key : KeyEvent
+prefixed_undo_key = key_press ctrl (letter (codes "U"))
+
 -- puts in the last word of a line
 abbrev pub last_word_key : KeyEvent
 last_word_key = key_press alt (letter (codes "."))

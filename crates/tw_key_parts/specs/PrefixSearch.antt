@@ -1,15 +1,15 @@
--- A host with a search for lines of the history that begin as the line does.
-use Rattle.std.specs.Prelude.{ℕ, ◌+◌, ◌-◌, ◌&&◌, Bool, true, false, not, List, length, take, Option, Some, None, option_map, slice_get, if◌then◌else◌}
+-- A search for lines of the history that begin as the line does.
+use Rattle.std.specs.Prelude.{ℕ, ◌+◌, ◌-◌, ◌&&◌, ◌||◌, Bool, true, false, not, List, length, take, codes, Option, Some, None, option_map, slice_get, if◌then◌else◌}
 use Rattle.tw_extremes.specs.Extremes.{greatest_below, least_from}
 use Rattle.tw_history.specs.NearestMatch.{last_index, line_at, next_index}
 use Rattle.tw_history.specs.declared.history.SearchDirection.TheVariants.{Backwards, Forwards}
 use Rattle.tw_input.specs.declared.key.KeyCode.TheVariants.{PageUp, PageDown}
 use Rattle.tw_input.specs.declared.key.KeyEvent.{KeyEvent}
 use Rattle.tw_input.specs.EventView.{EventView}
-use Rattle.tw_input.specs.Modifiers.{none}
-use Rattle.tw_line.specs.Cut.{Cut, cut_at}
+use Rattle.tw_input.specs.Modifiers.{none, alt}
+use Rattle.tw_line.specs.Cut.{Cut, at_end, cut_at}
 use Rattle.tw_host.specs.ActionView.{ActionView, InsertChar}
-use Rattle.tw_host.specs.KeyTable.{key_press}
+use Rattle.tw_host.specs.KeyTable.{key_press, letter}
 use Rattle.tw_hosts.specs.Words.{begins_with, is_same}
 use Rattle.tw_key_parts.specs.KeyRules.{Edited, KeyRules, Step}
 use Rattle.tw_key_parts.specs.Keys.{is_key}
@@ -23,6 +23,13 @@ older_key = key_press none PageUp
 
 abbrev pub newer_key : KeyEvent
 newer_key = key_press none PageDown
+
+-- ask for the oldest line, and for the line before the search
+abbrev pub oldest_key : KeyEvent
+oldest_key = key_press alt (letter (codes "<"))
+
+abbrev pub typed_key : KeyEvent
+typed_key = key_press alt (letter (codes ">"))
 
 -- a line that was found, cut at the cursor, and its index
 pub record PrefixMatchView : Type 0 where
@@ -90,18 +97,29 @@ recalled_step typed found = record { cut = found.cut; recalled = Some (record { 
 abbrev pub older_step : List (List ℕ) → Option RecalledView → Cut → Option PrefixStepView
 older_step lines recalled cut = option_map (recalled_step (typed_in recalled cut)) (older_match lines cut (older_start recalled lines))
 
+-- to the oldest line, if there is one, with the cursor at its end
+abbrev pub oldest_step : List (List ℕ) → Option RecalledView → Cut → Option PrefixStepView
+oldest_step lines recalled cut = option_map (λ line. recalled_step (typed_in recalled cut) (record { cut = at_end line; index = 0 })) (slice_get lines 0)
+
+-- back to the line before the search, which is over with that
+abbrev pub back_to : Cut → PrefixStepView
+back_to typed = record { cut = typed; recalled = None }
+
+abbrev pub typed_step : Option RecalledView → Option PrefixStepView
+typed_step recalled = option_map (λ recalled. back_to recalled.typed) recalled
+
 -- to a newer line, or else back to the line before the search
 abbrev pub newer_or_typed : Cut → Option PrefixMatchView → PrefixStepView
 newer_or_typed typed (Some found) = recalled_step typed found
-newer_or_typed typed None = record { cut = typed; recalled = None }
+newer_or_typed typed None = back_to typed
 
 abbrev pub newer_step : List (List ℕ) → Option RecalledView → Cut → Option PrefixStepView
 newer_step lines None cut = None
 newer_step lines (Some recalled) cut = Some (newer_or_typed recalled.typed (newer_match lines cut (next_index Forwards recalled.index)))
 
--- whether an event is one of the two keys
+-- whether an event is one of the keys
 abbrev pub is_prefix_key : EventView → Bool
-is_prefix_key event = if is_key older_key event then true else is_key newer_key event
+is_prefix_key event = is_key older_key event || (is_key newer_key event || (is_key oldest_key event || is_key typed_key event))
 
 -- what an event brings, but during a search of the editor's
 abbrev pub prefix_step : Bool → EventView → Option RecalledView → List (List ℕ) → Cut → Option PrefixStepView
@@ -109,6 +127,8 @@ prefix_step true event recalled lines cut = None
 prefix_step false event recalled lines cut =
     if is_key older_key event then older_step lines recalled cut
     else if is_key newer_key event then newer_step lines recalled cut
+    else if is_key oldest_key event then oldest_step lines recalled cut
+    else if is_key typed_key event then typed_step recalled
     else None
 
 -- what is brought, as an edit; nothing is typed, which ends a completion

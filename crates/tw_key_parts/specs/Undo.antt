@@ -3,24 +3,26 @@ use Rattle.std.specs.Prelude.{ℕ, ◌&&◌, ◌||◌, Bool, true, false, not, L
 use Rattle.std.specs.Cmp.Lexicographic.{pointwise}
 use Rattle.std.specs.List.{slice_index_or}
 use Rattle.tw_extremes.specs.Extremes.{greatest_below}
+use Rattle.tw_input.specs.EventView.{EventView}
 use Rattle.tw_line.specs.Cut.{Cut, empty_cut}
 use Rattle.tw_host.specs.ActionView.{ActionView, AcceptLine, Cancel, EndOfFile, InsertChar, InsertText, Repaint, Kill, KillAndMove, HistoryPrevious, HistoryNext, Complete, NoAction, HistoryIncSearchBackwards, HistoryIncSearchForwards}
 use Rattle.tw_key_parts.specs.KeyRules.{Asked, Edited, KeyRules, Step}
-use Rattle.tw_key_parts.specs.Keys.{is_key, undo_key}
+use Rattle.tw_key_parts.specs.Keys.{is_key, prefixed_undo_key, undo_key, undo_prefix}
 use Rattle.tw_key_parts.specs.declared.undo.UndoSteps.{UndoSteps}
 
--- the cut texts before the steps, the oldest first, and whether the last step is typing that goes on
+-- the cut texts before the steps, the oldest first, whether the last step is typing that goes on, and whether the last event was the prefix of the undo key
 pub record Undo : Type 0 where
   pub before : List Cut
   pub typing : Bool
+  pub prefixed : Bool
 
 -- the view of the steps
 abbrev pub undo_view : UndoSteps → Undo
-undo_view u = record { before = u.before.items; typing = u.typing }
+undo_view u = record { before = u.before.items; typing = u.typing; prefixed = u.prefixed }
 
 -- no steps
 abbrev pub no_steps : Undo
-no_steps = record { before = []; typing = false }
+no_steps = record { before = []; typing = false; prefixed = false }
 
 -- ---- what a step is
 
@@ -84,11 +86,17 @@ steps_after searching action cut new u =
     else if searching then u.before
     else steps_with action cut new u
 
+-- the event is the prefix, and nothing is done
+abbrev pub is_prefix : Option ActionView → EventView → Bool
+is_prefix None event = is_key undo_prefix event
+is_prefix (Some _) event = false
+
 -- all of it after an action, if there is one
 abbrev pub undo_after : Step → Undo → Undo
 undo_after step u = record {
   before = steps_after step.searching step.action step.before step.after u;
   typing = not step.searching && (typing_after step.action u.typing && is_same_line step.before step.after);
+  prefixed = is_prefix step.action step.event;
 }
 
 -- ---- what comes back
@@ -119,16 +127,20 @@ left_behind u cut = unwrap_or (last_change cut.line u.before) 0
 
 -- the steps after an undo
 abbrev pub undo_behind : ℕ → Undo → Undo
-undo_behind left u = record { before = take left u.before; typing = false }
+undo_behind left u = record { before = take left u.before; typing = false; prefixed = false }
 
 -- nothing is typed, which ends a completion
 abbrev pub type_nothing : ActionView
 type_nothing = InsertChar 0 32
 
--- the key undoes, but during a search
+-- the undo key, or the second one right after the prefix
+abbrev pub is_undo : Undo → EventView → Bool
+is_undo u event = is_key undo_key event || (u.prefixed && is_key prefixed_undo_key event)
+
+-- the keys undo, but during a search
 abbrev pub undo_edit : Undo → Asked → Option (Edited ℕ)
 undo_edit u asked =
-    if is_key undo_key asked.event && not asked.searching
+    if is_undo u asked.event && not asked.searching
     then Some (record { cut = Some (undone u asked.cut); action = type_nothing; kept = left_behind u asked.cut })
     else None
 

@@ -21,6 +21,10 @@ word_keys =
     ∷ (key_press alt (letter (codes "u")), Write Upper)
     ∷ (key_press alt (letter (codes "l")), Write Lower)
     ∷ (key_press alt (letter (codes "c")), Write Capitalized)
+    ∷ (key_press alt (letter (codes "T")), SwapWords)
+    ∷ (key_press alt (letter (codes "U")), Write Upper)
+    ∷ (key_press alt (letter (codes "L")), Write Lower)
+    ∷ (key_press alt (letter (codes "C")), Write Capitalized)
     ∷ []
 
 -- the edit of the first row with this key

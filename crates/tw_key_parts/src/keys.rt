@@ -25,6 +25,18 @@ pub const UNDO: KeyEvent = KeyEvent {
     modifiers: Modifiers::CTRL,
 };
 
+/// The first of the two keys that also undo it.
+pub const UNDO_PREFIX: KeyEvent = KeyEvent {
+    key: KeyCode::Char('X'),
+    modifiers: Modifiers::CTRL,
+};
+
+/// The second one.
+pub const PREFIXED_UNDO: KeyEvent = KeyEvent {
+    key: KeyCode::Char('U'),
+    modifiers: Modifiers::CTRL,
+};
+
 /// Inserts the last word of a line.
 pub const LAST_WORD: KeyEvent = KeyEvent {
     key: KeyCode::Char('.'),

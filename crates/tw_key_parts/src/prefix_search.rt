@@ -4,10 +4,9 @@ ghost use Rattle.std.specs.Prelude.{◌≡◌, IfOk, None, Some, if◌then◌els
 ghost use Rattle.tw_hosts.specs.Words.{begins_with};
 ghost use Rattle.tw_input.specs.EventView.{event_view};
 ghost use Rattle.tw_line.specs.Cut.{cut_at};
-ghost use Rattle.tw_key_parts.specs.Keys.{is_key};
 ghost use Rattle.tw_host.specs.ActionView.{action_view};
 ghost use Rattle.tw_key_parts.specs.KeyRules.{step_of};
-ghost use Rattle.tw_key_parts.specs.PrefixSearch.{is_prefix_key, is_prefix_match, newer_key, newer_match, newer_step, older_key, older_match, older_start, older_step, prefix_match_at, prefix_match_view, prefix_step, prefix_step_view, recalled_after, recalled_step, recalled_view, typed_in};
+ghost use Rattle.tw_key_parts.specs.PrefixSearch.{back_to, is_prefix_key, is_prefix_match, newer_match, newer_step, older_match, older_start, older_step, oldest_step, prefix_match_at, prefix_match_view, prefix_step, prefix_step_view, recalled_after, recalled_step, recalled_view, typed_in, typed_step};
 
 use crate::edit::Edit;
 use crate::keys::is_key;
@@ -30,10 +29,22 @@ const NEWER: KeyEvent = KeyEvent {
     modifiers: Modifiers::NONE,
 };
 
-/// A line of the history that matches.
+/// Asks for the oldest line.
+const OLDEST: KeyEvent = KeyEvent {
+    key: KeyCode::Char('<'),
+    modifiers: Modifiers::ALT,
+};
+
+/// Asks for the line before the search.
+const TYPED: KeyEvent = KeyEvent {
+    key: KeyCode::Char('>'),
+    modifiers: Modifiers::ALT,
+};
+
+/// A line of the history that is found.
 #[derive(Debug, Drop)]
 pub struct PrefixMatch {
-    /// The line, with the cursor of the current line.
+    /// The line.
     pub line: LineEditBuffer,
     /// Its index in the history.
     pub index: usize,
@@ -57,25 +68,11 @@ pub struct PrefixStep {
     pub recalled: Option<Recalled>,
 }
 
-/// Returns true for Page Up.
-pub fn is_older_key(event: &InputEvent) -> bool
-    ensures { result ≡ is_key older_key (event_view event.now) }
-{
-    is_key(OLDER, event)
-}
-
-/// Returns true for Page Down.
-pub fn is_newer_key(event: &InputEvent) -> bool
-    ensures { result ≡ is_key newer_key (event_view event.now) }
-{
-    is_key(NEWER, event)
-}
-
-/// Returns true for Page Up and Page Down.
+/// Returns true for Page Up, Page Down, Alt-< and Alt->.
 pub fn is_prefix_key(event: &InputEvent) -> bool
     ensures { result ≡ is_prefix_key (event_view event.now) }
 {
-    is_older_key(event) || is_newer_key(event)
+    is_key(OLDER, event) || is_key(NEWER, event) || is_key(OLDEST, event) || is_key(TYPED, event)
 }
 
 /// Returns a line with the cursor after the text that it begins with, or `None` if it begins otherwise.
@@ -207,6 +204,45 @@ fn older_step<L: History>(
     }
 }
 
+/// Returns the step to the oldest line, with the cursor at its end.
+fn oldest_step<L: History>(
+    alloc: Global,
+    lines: &L,
+    recalled: Option<&Recalled>,
+    editor: &LineEditBuffer,
+) -> Result<Option<PrefixStep>, AllocError>
+    ensures { IfOk result (λ step. option_map prefix_step_view step
+        ≡ oldest_step (L.lines lines.now) (option_map (λ recalled. recalled_view recalled.now) recalled.entry) editor.now) }
+{
+    let Some(oldest) = lines.get(alloc, 0)? else {
+        return Ok(None);
+    };
+    let line = LineEditBuffer::new(alloc, oldest.as_str(), oldest.as_str().len())?;
+    let typed = typed_in(alloc, recalled, editor)?;
+    Ok(Some(recalled_step(typed, PrefixMatch { line, index: 0 })))
+}
+
+/// Returns the step back to the line before the search.
+fn back_to(typed: LineEditBuffer) -> PrefixStep
+    ensures { prefix_step_view result ≡ back_to typed }
+{
+    PrefixStep {
+        line: typed,
+        recalled: None,
+    }
+}
+
+/// Returns the step back to the line before the search, if there is a search.
+fn typed_step(alloc: Global, recalled: Option<&Recalled>) -> Result<Option<PrefixStep>, AllocError>
+    ensures { IfOk result (λ step. option_map prefix_step_view step
+        ≡ typed_step (option_map (λ recalled. recalled_view recalled.now) recalled.entry)) }
+{
+    match recalled {
+        Some(recalled) => Ok(Some(back_to(recalled.typed.try_clone(alloc)?))),
+        None => Ok(None),
+    }
+}
+
 /// Returns the oldest match from an index on, if there is an index.
 fn newer_match<L: History>(
     alloc: Global,
@@ -240,17 +276,14 @@ fn newer_step<L: History>(
     let typed = recalled.typed.try_clone(alloc)?;
     match found {
         Some(found) => Ok(Some(recalled_step(typed, found))),
-        None => Ok(Some(PrefixStep {
-            line: typed,
-            recalled: None,
-        })),
+        None => Ok(Some(back_to(typed))),
     }
 }
 
 /// Page Up shows the newest line of the history that begins like the line up to its cursor, and then older ones. Page
 /// Down goes back to newer ones, and at last to the line before the search. Lines equal to the current one are skipped,
-/// and the cursor stays where it is. Any other key ends the search. The keys have no action during an incremental
-/// search.
+/// and the cursor stays where it is. Alt-< shows the oldest line, with the cursor at its end, and Alt-> the line before
+/// the search. Any other key ends the search. The keys have no action during an incremental search.
 #[derive(Debug, Drop)]
 pub struct PrefixSearch {
     recalled: Option<Recalled>,
@@ -264,7 +297,7 @@ impl PrefixSearch {
         PrefixSearch { recalled: None }
     }
 
-    /// Returns the result of Page Up or Page Down outside an incremental search.
+    /// Returns the result of a key outside an incremental search.
     fn step_by<L: History>(
         &self,
         alloc: Global,
@@ -279,11 +312,17 @@ impl PrefixSearch {
         if searching {
             return Ok(None);
         }
-        if is_older_key(event) {
+        if is_key(OLDER, event) {
             return older_step(alloc, history, self.recalled.as_ref(), line);
         }
-        if is_newer_key(event) {
+        if is_key(NEWER, event) {
             return newer_step(alloc, history, self.recalled.as_ref(), line);
+        }
+        if is_key(OLDEST, event) {
+            return oldest_step(alloc, history, self.recalled.as_ref(), line);
+        }
+        if is_key(TYPED, event) {
+            return typed_step(alloc, self.recalled.as_ref());
         }
         Ok(None)
     }

@@ -4,12 +4,12 @@ ghost use Rattle.std.specs.Prelude.{◌≡◌, ◌<◌, IfOk, IfSome, length, op
 ghost use Rattle.std.specs.Vec.{vec_capacity, vec_len};
 ghost use Rattle.tw_input.specs.EventView.{event_view};
 ghost use Rattle.tw_host.specs.ActionView.{action_view};
-ghost use Rattle.tw_key_parts.specs.Undo.{if_any, is_edit, is_end, is_same_line, last_change, types_character, no_steps, steps_with, typing_after, undo_after, undo_behind, undo_view, undone};
+ghost use Rattle.tw_key_parts.specs.Undo.{if_any, is_edit, is_end, is_prefix, is_same_line, is_undo, last_change, types_character, no_steps, steps_with, typing_after, undo_after, undo_behind, undo_view, undone};
 ghost use Rattle.tw_key_parts.specs.KeyRules.{step_of};
 ghost use Rattle.tw_key_parts.specs.Undo.{undo_follows};
 
 use crate::edit::Edit;
-use crate::keys::{UNDO, is_key};
+use crate::keys::{PREFIXED_UNDO, UNDO, UNDO_PREFIX, is_key};
 use crate::part::KeyPart;
 use std::alloc::{AllocError, Global};
 use tw_history::History;
@@ -17,7 +17,8 @@ use tw_host::Action;
 use tw_input::InputEvent;
 use tw_line::LineEditBuffer;
 
-/// Ctrl-_ undoes the last step: it restores the line before it, with its cursor.
+/// Ctrl-_ undoes the last step: it restores the line before it, with its cursor. So does Ctrl-X Ctrl-U, if this part
+/// stands before any other with Ctrl-U.
 ///
 /// A run of typed characters is one step, and so are a kill, a paste, a completion, a step through the history, and a
 /// search. A movement ends a run. Steps that left the line as it was are skipped. The end of a line drops its steps.
@@ -25,6 +26,7 @@ use tw_line::LineEditBuffer;
 pub struct UndoSteps {
     before: Vec<LineEditBuffer>,
     typing: bool,
+    prefixed: bool,
     spare: LineEditBuffer,
 }
 
@@ -82,6 +84,13 @@ fn typing_after(action: Option<&Action>, typing: bool) -> bool
     }
 }
 
+/// Returns true for the prefix of the undo key, if nothing is done.
+fn is_prefix(action: Option<&Action>, event: &InputEvent) -> bool
+    ensures { result ≡ is_prefix (option_map (λ action. action_view action.now) action.entry) (event_view event.now) }
+{
+    action.is_none() && is_key(UNDO_PREFIX, event)
+}
+
 impl UndoSteps {
     /// Creates the part without steps.
     pub fn new(alloc: Global) -> Self
@@ -90,8 +99,16 @@ impl UndoSteps {
         UndoSteps {
             before: Vec::new(alloc),
             typing: false,
+            prefixed: false,
             spare: LineEditBuffer::empty(alloc),
         }
+    }
+
+    /// Returns true for Ctrl-_, and for Ctrl-U right after Ctrl-X.
+    fn is_undo(&self, event: &InputEvent) -> bool
+        ensures { result ≡ is_undo (undo_view self.now) (event_view event.now) }
+    {
+        is_key(UNDO, event) || (self.prefixed && is_key(PREFIXED_UNDO, event))
     }
 
     /// Returns the index of the last step that changed the line.
@@ -131,6 +148,7 @@ impl UndoSteps {
         requires room { vec_len self.old.before < vec_capacity self.old.before }
         ensures before { self.new.before.items ≡ steps_with (option_map (λ action. action_view action.now) action.entry) before.now after.now (undo_view self.old) }
         ensures typing { self.new.typing ≡ self.old.typing }
+        ensures prefixed { self.new.prefixed ≡ self.old.prefixed }
     {
         let is_same = is_same_line(before, after);
         let goes_on = self.typing && types_character(action) && is_same;
@@ -170,6 +188,7 @@ impl UndoSteps {
             self.begin_step(alloc, action, before, after);
         }
         self.typing = typing;
+        self.prefixed = is_prefix(action, event);
     }
 }
 
@@ -200,7 +219,7 @@ impl KeyPart for UndoSteps {
         event: &InputEvent,
         line: &LineEditBuffer,
     ) -> Result<Option<Edit<usize>>, AllocError> {
-        if !is_key(UNDO, event) || searching {
+        if !self.is_undo(event) || searching {
             return Ok(None);
         }
         let left = self.last_change(line).unwrap_or(0);
@@ -236,6 +255,7 @@ impl KeyPart for UndoSteps {
             Some(left) => {
                 self.before.truncate(left);
                 self.typing = false;
+                self.prefixed = false;
             }
             None => self.follow_other(alloc, searching, before, after, action, event),
         }
@@ -244,5 +264,6 @@ impl KeyPart for UndoSteps {
     fn leave_line(&mut self) {
         self.before.clear();
         self.typing = false;
+        self.prefixed = false;
     }
 }

@@ -41,10 +41,10 @@ fn alt_edit(key: KeyCode) -> Option<WordEdit>
     ensures { result ≡ edit_in word_keys (key_press alt key) }
 {
     match key {
-        KeyCode::Char('t') => Some(WordEdit::SwapWords),
-        KeyCode::Char('u') => Some(WordEdit::Write(WordCase::Upper)),
-        KeyCode::Char('l') => Some(WordEdit::Write(WordCase::Lower)),
-        KeyCode::Char('c') => Some(WordEdit::Write(WordCase::Capitalized)),
+        KeyCode::Char('t' | 'T') => Some(WordEdit::SwapWords),
+        KeyCode::Char('u' | 'U') => Some(WordEdit::Write(WordCase::Upper)),
+        KeyCode::Char('l' | 'L') => Some(WordEdit::Write(WordCase::Lower)),
+        KeyCode::Char('c' | 'C') => Some(WordEdit::Write(WordCase::Capitalized)),
         _ => None,
     }
 }
@@ -60,7 +60,7 @@ fn key_edit(key: KeyEvent) -> Option<WordEdit>
     }
 }
 
-/// Returns the edit of Ctrl-T, Alt-t, Alt-u, Alt-l or Alt-c.
+/// Returns the edit of Ctrl-T, Alt-t, Alt-u, Alt-l or Alt-c, whose letters may be of either case.
 pub fn word_edit(event: &InputEvent) -> Option<WordEdit>
     ensures { result ≡ word_edit (event_view event.now) }
 {
@@ -86,7 +86,8 @@ pub fn edited_line(
 }
 
 /// Ctrl-T swaps the characters around the cursor, and Alt-t the words. Alt-u, Alt-l and Alt-c change the next word to
-/// upper case, to lower case, and to a capital. They have no action during a search.
+/// upper case, to lower case, and to a capital. The letters of keys with Alt may be of either case. They have no action
+/// during a search.
 #[derive(Debug, Drop)]
 pub struct WordKeys;
 

@@ -11,13 +11,13 @@ type WordParts = (Keys<LetterWords>, (Keys<ReadlineKeys>, Keys<WordKeys>));
 /// Keys for lines of the history.
 type HistoryParts = (LastWords, PrefixSearch);
 
-/// All parts with keys: for words, then for lines of the history, kills and undos.
-pub type AllKeys = (WordParts, (HistoryParts, (KillRing, UndoSteps)));
+/// All parts with keys. Undo stands before Ctrl-U, which it has after Ctrl-X.
+pub type AllKeys = (UndoSteps, (WordParts, (HistoryParts, KillRing)));
 
 /// Creates all parts with keys.
 pub fn all_keys(alloc: Global) -> AllKeys {
     let words = (Keys(LetterWords), (Keys(ReadlineKeys), Keys(WordKeys)));
     let history = (LastWords::new(), PrefixSearch::new());
-    let edits = (KillRing::new(alloc), UndoSteps::new(alloc));
-    (words, (history, edits))
+    let others = (words, (history, KillRing::new(alloc)));
+    (UndoSteps::new(alloc), others)
 }
