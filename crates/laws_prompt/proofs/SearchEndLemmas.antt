@@ -1,33 +1,29 @@
 -- What an action leads to from a search.
-use Rattle.std.proofs.Common.{◌≡◌, ◌≢◌, ◌+◌, ◌-◌, ℕ, List, length, take, drop, ◌++◌, Bool, true, false, ◌||◌, refl, sym, ◌∙◌, ap, rw, subst, arith, Option, Some, None, Result, Ok, Err, if◌then◌else◌}
+use Rattle.std.proofs.Common.{◌≡◌, ◌≢◌, ◌+◌, ◌-◌, ℕ, List, length, take, drop, ◌++◌, Bool, true, false, refl, sym, ◌∙◌, ap, subst, arith, Option, Some, None, Result, Ok, Err, if◌then◌else◌}
 use Rattle.std.proofs.lemmas.Bool.{false≢true}
 use Rattle.std.proofs.lemmas.List.{length-append, length-take-le, length-drop}
 use Rattle.tw_line.specs.Cut.{Cut, cut_at}
-use Rattle.tw_line.specs.Movements.{after_move}
-use Rattle.tw_line.specs.declared.movements.Movement.{Movement}
 use Rattle.tw_host.specs.ActionView.{ActionView, AcceptLine, Cancel, EndOfFile, InsertChar, InsertText, Repaint, Move, Kill, KillAndMove, HistoryPrevious, HistoryNext, Complete, NoAction, HistoryIncSearchBackwards, HistoryIncSearchForwards}
-use Rattle.tw_host.specs.CandidateView.{CandidateView, completed_by, fits, landing, line_with}
+use Rattle.tw_host.specs.CandidateView.{CandidateView, fits, landing, line_with}
 use Rattle.tw_host.specs.HostRules.{HostRules}
-use Rattle.tw_history.specs.declared.history.SearchStyle.{SearchStyle}
-use Rattle.tw_history.specs.declared.history.SearchDirection.{SearchDirection}
-use Rattle.tw_painter.specs.EditState.{CycleView, EditState, ModeView, Accepted, Cancelled, Editing, Searching}
+use Rattle.tw_painter.specs.EditState.{CycleView, EditState, Editing}
 use Rattle.tw_painter.specs.Refusal.{Refusal}
-use Rattle.tw_session.specs.Completion.{completed_from, completion_step, cycle_of, with_candidate, with_completion}
+use Rattle.tw_session.specs.Completion.{completed_from, completion_step, with_candidate, with_completion}
 use Rattle.tw_session.specs.Search.{search_left, search_left_in}
-use Rattle.tw_session.specs.Steps.{apply, move_step}
+use Rattle.tw_session.specs.Steps.{apply}
 use Rattle.tw_session.proofs.CandidateLemmas.{IsFitting-from}
 use Rattle.tw_key_parts.specs.SearchWatch.{has_lines, searches_after}
-use Rattle.laws_prompt.specs.SearchEnds.{BringsFound, CompletesFound, EndsSearch}
+use Rattle.laws_prompt.specs.SearchEnds.{BringsFound, CompletesFound}
 use Rattle.laws_prompt.specs.SearchRuns.{is_searching}
 use Rattle.laws_prompt.proofs.ActionLemmas.{leads_as_told}
 
 -- a state that is edited has this line
-Brings : List ℕ → Result EditState Refusal → Type 0
+abbrev Brings : List ℕ → Result EditState Refusal → Type 0
 Brings line (Ok after) = after.mode ≡ Editing → after.cut.line ≡ line
 Brings line (Err r) = Unit {0}
 
 -- the cursor stands as far from the line's end as in another one
-Keeps : Cut → Result EditState Refusal → Type 0
+abbrev Keeps : Cut → Result EditState Refusal → Type 0
 Keeps found (Ok after) = after.cut.cursor + length found.line ≡ found.cursor + length after.cut.line
 Keeps found (Err r) = Unit {0}
 
@@ -54,7 +50,7 @@ module _ {V : Type 0} (rules : HostRules V) where
   -- an action that goes on with a search does not lead back to editing
   goes_on : (v : V) (action : ActionView) (line : List ℕ) (before : EditState) (r : Result EditState Refusal) → is_searching before.mode ≡ true
       → apply rules v action before ≡ r → searches_after (has_lines (rules.lines v)) (Some action) true ≡ true → Brings line r
-  goes_on v action line before (Err r) searching leads on = tt
+  goes_on v _ line before (Err r) searching leads on = tt
   goes_on v action line before (Ok after) searching leads on = λ editing.
       let told = leads_as_told rules v (Some action) before after leads in
       let from = ap (searches_after (has_lines (rules.lines v)) (Some action)) searching in
