@@ -2,6 +2,7 @@ pub mod MenuLayout
 pub mod MenuState
 pub mod MenuView
 pub mod Hint
+pub mod Prepared
 pub mod Validation
 pub mod Going
 pub mod PromptRules

@@ -16,11 +16,13 @@ mod layout;
 mod menu;
 mod nested_lines;
 mod plain;
+mod prepared;
 mod prompt;
 mod validator;
 
 pub use going::Going;
 pub use layout::MenuStyle;
 pub use nested_lines::NestedLines;
+pub use prepared::{PreparedHost, StyledRange, styled_ranges};
 pub use prompt::PromptHost;
 pub use validator::{AllLines, Validator};
