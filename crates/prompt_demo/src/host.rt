@@ -7,7 +7,7 @@ use std::alloc::{AllocError, Global};
 use tw_hosts::TableHost;
 use tw_lineedit::{BasicHistory, BoundedHistory};
 use tw_prompt::{AllKeys, all_keys};
-use tw_prompt_host::{NestedLines, PromptHost};
+use tw_prompt_host::{Hints, NestedLines, PromptHost};
 
 /// How many lines the history keeps.
 const LINES_KEPT: usize = 100;
@@ -18,13 +18,12 @@ pub type DemoHost = PromptHost<TableHost<BasicHistory>, BoundedHistory, AllKeys,
 /// Creates the host. It knows no files and no terminal yet.
 pub fn demo_host(alloc: Global, prompt: &str) -> Result<DemoHost, AllocError> {
     let pairs = common_pairs(alloc)?;
-    let host = PromptHost::new(alloc, prompt, 80)?
+    let mut host = PromptHost::new(alloc, prompt, 80)?
         .with_host(TableHost::new(tables(alloc)?, BasicHistory::new(alloc)))
         .with_history(BoundedHistory::with_limit(alloc, LINES_KEPT))
         .with_keys(all_keys(alloc))
         .with_validator(NestedLines { pairs });
-    let mut host = host;
     host.completers = completers(alloc)?;
-    host.hints = true;
+    host.hints = Hints::dim();
     Ok(host)
 }

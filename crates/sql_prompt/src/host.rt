@@ -10,7 +10,7 @@ use tw_history_parts::WrittenHistory;
 use tw_hosts::PromptScreen;
 use tw_key_parts::{Keys, KillRing, LetterWords, PrefixSearch, ReadlineKeys, UndoSteps};
 use tw_lineedit::{BoundedHistory, NopLineEditorHost};
-use tw_prompt_host::{AllLines, Going, MenuStyle, PromptHost};
+use tw_prompt_host::{AllLines, Going, Hints, MenuStyle, PromptHost};
 use tw_surface::{CellAttributes, ColorAttribute, Intensity};
 
 /// The words that are shown as keywords, and completed.
@@ -99,7 +99,8 @@ pub fn prompt_host<W: Write + Drop>(
         completers: completers(alloc)?,
         listings: Vec::new(alloc),
         keys: sql_keys(alloc),
-        hints: true,
+        hints: Hints::dim(),
+        stops_failing_searches: true,
         validator: AllLines,
         menu: MenuStyle::in_reverse(cols, MENU_ROWS),
         screen: PromptScreen {

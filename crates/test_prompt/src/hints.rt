@@ -14,9 +14,36 @@ type copy\nkey Left\nkey Right\nkey Enter => copy
 key Right\ntype z\nkey Right\nkey Enter => z
 key C-R\ntype copy\nkey Right\nkey Enter => copy x
 
-// a hint is shown under the line
-type cop; ends cop\r\n{}y x => cop; yes
-type z; ends z => z; yes
+// Alt-f takes a word of it, with the spaces before
+type c\nkey A-f\nkey Enter => copy
+type cop\nkey A-f\nkey A-f\nkey Enter => copy x
+type copy\nkey A-Right\nkey Enter => copy x
+type copy\nkey Home\nkey A-f\ntype z\nkey Enter => copyz
+
+// a hint stands after the cursor, at the end of the line
+type cop; ends {}cop{half}y x{} => cop; yes
+type z; ends {}z => z; yes
+type cop\nkey Left; ends {}cop => cop; yes
+type cop\nkey C-L; ends {}cop{half}y x{} => cop; yes
+type cop\nkey Enter; ends {}cop => cop; yes
+remember (c d; type (c\nkey Enter; ends {}(c\r\n{}( is open => (c; yes
+remember copyist a; menu 80 4 copyist copying; type copy\nkey Tab\nkey Tab; ends {}copyist\r\n{}{bold}copyist{}  copying => copyist; yes
+
+// in the row of the cursor, and not in its last column
+cols 9; type cop; ends {}cop{half}y x{} => cop; yes
+cols 8; type cop; ends {}cop{half}y…{} => cop; yes
+cols 7; type cop; ends {}cop{half}…{} => cop; yes
+cols 6; type cop; ends {}cop => cop; yes
+cols 5; type cop; ends {}cop{half}y x{} => cop; yes
+cols 0; type cop; ends {}cop => cop; yes
+remember 日本語x; cols 10; type 日; ends {}日{half}本語x{} => 日; yes
+remember 日本語x; cols 9; type 日; ends {}日{half}本…{} => 日; yes
+remember 日本語x; cols 5; type 日; ends {}日 => 日; yes
+remember ab\tcd; type a; ends {}a{half}b…{} => a; yes
+
+// or under the line
+hints under; type cop; ends cop\r\n{}y x => cop; yes
+hints under; type z; ends z => z; yes
 ";
 
 #[test]

@@ -10,9 +10,9 @@ menu 80 4 ab ac ad; type a\nkey Tab; ends ab\r\n{}{bold}ab{}  ac  ad => ab; yes
 menu 80 4 ab ac ad; type a\nkey Tab\nkey Tab; ends ac\r\n{}ab  {bold}ac{}  ad => ac; yes
 menu 8 4 ab ac ad; type a\nkey Tab\nkey Tab\nkey Tab; ends ad\r\n{}ab  ac\r\n{bold}ad{} => ad; yes
 menu 7 4 ab ac ad; type a\nkey Tab\nkey Tab; ends ac\r\n{}ab\r\n{bold}ac{}\r\nad => ac; yes
-menu 8 1 ab ac ad; type a\nkey Tab; ends ab\r\n{}{bold}ab{}  ac => ab; yes
-menu 8 1 ab ac ad; type a\nkey Tab\nkey Tab\nkey Tab; ends ad\r\n{}{bold}ad{} => ad; yes
-menu 0 0 ab ac ad; type a\nkey Tab\nkey Tab; ends ac\r\n{}{bold}ac{} => ac; yes
+menu 8 1 ab ac ad; type a\nkey Tab; ends ab\r\n{}{bold}ab{}  ac\r\n.. 1 more => ab; yes
+menu 8 1 ab ac ad; type a\nkey Tab\nkey Tab\nkey Tab; ends ad\r\n{}{bold}ad{}\r\n.. 2 more => ad; yes
+menu 0 0 ab ac ad; type a\nkey Tab\nkey Tab; ends ac\r\n{}{bold}ac{}\r\n.. 2 more => ac; yes
 menu 80 4 a1 a2345; type a\nkey Tab; ends a1\r\n{}{bold}a1   {}  a2345 => a1; yes
 menu 80 4 a我 ab; type a\nkey Tab\nkey Tab; ends ab\r\n{}a我  {bold}ab {} => ab; yes
 

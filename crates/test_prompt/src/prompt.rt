@@ -10,8 +10,9 @@ use tw_key_parts::{
     Keys, KillRing, LastWords, LetterWords, PrefixSearch, ReadlineKeys, UndoSteps, WordKeys,
 };
 use tw_lineedit::{BasicHistory, LineEditor, LineEditorHost};
-use tw_prompt_host::{Going, MenuStyle, NestedLines, PromptHost};
+use tw_prompt_host::{Going, Hints, MenuStyle, NestedLines, PromptHost};
 use tw_surface::{CellAttributes, Intensity};
+use tw_terminal::ScriptTerminal;
 
 type WordParts = (Keys<LetterWords>, (Keys<ReadlineKeys>, Keys<WordKeys>));
 
@@ -46,7 +47,8 @@ pub fn new_prompt(alloc: Global) -> Result<Prompt, Fail> {
         completers: Vec::new(alloc),
         listings: Vec::new(alloc),
         keys: all_keys(alloc),
-        hints: true,
+        hints: Hints::dim(),
+        stops_failing_searches: true,
         validator: NestedLines {
             pairs: common_pairs(alloc)?,
         },
@@ -68,6 +70,15 @@ fn set_menu(alloc: Global, prompt: &mut Prompt, setup: &str) -> Result<(), Fail>
     Ok(())
 }
 
+/// Returns the text of the last painting, with `{half}` for the attributes of a hint.
+fn shown_text(alloc: Global, terminal: &ScriptTerminal) -> Result<String, Fail> {
+    let mut attributes = CellAttributes::default();
+    attributes.intensity = Intensity::Half;
+    let half = format!(in alloc; "{attributes:?}")?;
+    let painted = painted_text(alloc, terminal)?;
+    Ok(painted.replace(alloc, half.as_str(), "half")?)
+}
+
 /// Reads a line from a script. Returns the line and the text of the last painting.
 fn read_script(alloc: Global, prompt: &mut Prompt, script: &str) -> Result<(String, String), Fail> {
     prompt.begin_line();
@@ -77,13 +88,19 @@ fn read_script(alloc: Global, prompt: &mut Prompt, script: &str) -> Result<(Stri
         Ok(line) => line.ok_or("cancelled")?,
         Err(error) => format!(in alloc; "refusal {}", error.number())?,
     };
-    Ok((line, painted_text(alloc, &terminal)?))
+    Ok((line, shown_text(alloc, &terminal)?))
 }
 
-/// Obeys `remember LINE` or `menu COLS ROWS WORDS`. Returns false for any other command.
+/// Obeys `remember LINE`, `cols COLS`, `hints under`, `searches accept` or `menu COLS ROWS WORDS`. Returns false for any other command.
 fn is_setup(alloc: Global, prompt: &mut Prompt, command: &str) -> Result<bool, Fail> {
     if let Some(line) = command.strip_prefix("remember ") {
-        prompt.remember(line)?;
+        prompt.remember(line.replace(alloc, r"\t", "\t")?.as_str())?;
+    } else if let Some(cols) = command.strip_prefix("cols ") {
+        prompt.screen.cols = cols.parse()?;
+    } else if command == "hints under" {
+        prompt.hints = Hints::Under;
+    } else if command == "searches accept" {
+        prompt.stops_failing_searches = false;
     } else if let Some(setup) = command.strip_prefix("menu ") {
         set_menu(alloc, prompt, setup)?;
     } else {

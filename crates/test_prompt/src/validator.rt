@@ -19,6 +19,11 @@ type "a\"\nkey Enter; ends " is open => "a\"; yes
 // a validator judges no pattern, and judges the line that a search finds
 key C-R\ntype op\nkey Enter\ntype z; ends open( => open(; yes
 key C-R\ntype c\nkey C-Left\ntype (\nkey Enter\ntype z => (zcopy a
+// a search that fails accepts no line, and says so after the one that it found last
+key C-R\ntype zz\nkey Enter; ends {}open({}  failing: no line has it{}{}\r\nbck-i-search: zz_ => zz; yes
+key C-R\ntype zz\nkey Enter\nkey Backspace; ends {}open({}\r\nbck-i-search: z_ => z; yes
+key C-R\ntype copz\nkey Enter\nkey Backspace\nkey Enter => copy a
+searches accept; key C-R\ntype copz\nkey Enter => copy a
 // a key of the parts ends what is said of the line
 type f(x y\nkey Enter\nkey A-t; ends y f(x => y f(x; yes
 "#;

@@ -10,7 +10,7 @@ use tw_device::{Answer, DeviceTerminal, read_line_from};
 use tw_history::{BasicHistory, History, LentLines};
 use tw_key_parts::KeyPart;
 use tw_lineedit::{Error, LineEditorHost, NopLineEditorHost};
-use tw_prompt_host::{AllLines, PromptHost, Validator};
+use tw_prompt_host::{AllLines, Hints, PromptHost, Validator};
 use tw_sparing::SparingTerminal;
 use tw_terminal::{ScreenSize, TerminalFault};
 
@@ -65,10 +65,11 @@ fn read_plainly(rt: HostRuntime) -> Result<Answer, Error> {
 }
 
 impl Prompt<PromptTerminal, NopLineEditorHost, BasicHistory, AllKeys, AllLines> {
-    /// Opens a prompt with this text, all keys and an empty history.
+    /// Opens a prompt with this text, all keys, hints after the cursor, and an empty history.
     pub fn open(rt: HostRuntime, prompt: &str) -> Result<Self, Error> {
         let alloc = rt.alloc();
-        let host = PromptHost::new(alloc, prompt, COLS)?.with_keys(all_keys(alloc));
+        let mut host = PromptHost::new(alloc, prompt, COLS)?.with_keys(all_keys(alloc));
+        host.hints = Hints::dim();
         Prompt::over(rt, host)
     }
 }

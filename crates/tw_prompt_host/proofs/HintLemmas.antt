@@ -1,11 +1,15 @@
 -- What stands after the beginning of a line, and the newest line that has more.
-use Rattle.std.proofs.Common.{◌≡◌, ◌<◌, ◌+◌, ◌-◌, ℕ, List, length, drop, eqb, Option, Some, None, Bool, true, false, refl, ap, sym, ◌∙◌, if◌then◌else◌, arith}
+use Rattle.std.proofs.Common.{◌≡◌, ◌<◌, ◌≤◌, ◌+◌, ◌-◌, ℕ, List, length, drop, eqb, leb, Option, Some, None, Bool, true, false, refl, ap, sym, subst, ◌∙◌, if◌then◌else◌, arith}
 use Rattle.std.specs.Prelude.{MatchOption, option_map}
 use Rattle.std.specs.List.{starts_with}
 use Rattle.std.specs.Borrow.{Bor}
+use Rattle.std.specs.Str.{IsCharBoundary, IsUtf8}
 use Rattle.std.specs.Str.Pattern.{FindsTextPrefix, StripsPrefix}
+use Rattle.std.proofs.lemmas.Bool.{leb-false, leb-true}
 use Rattle.std.proofs.lemmas.Bool.Decides.{Decides-eqb}
+use Rattle.std.proofs.lemmas.List.{drop-drop, length-drop}
 use Rattle.std.proofs.lemmas.Slice.Eq.{starts_is}
+use Rattle.std.proofs.lemmas.Str.{IsCharBoundary-end, IsCharBoundary-from_drop}
 use Rattle.std.proofs.lemmas.Str.Pattern.{starts_text}
 use Rattle.tw_extremes.specs.Extremes.{greatest_below}
 use Rattle.tw_history.specs.NearestMatch.{line_at}
@@ -49,3 +53,20 @@ module _ (lines : List (List ℕ)) (text : List ℕ) where
   pub is_none : (at : ℕ) → at ≡ 0 → newest_below at ≡ newest_below (length lines) → None ≡ newest_rest lines text
   unfolding greatest_below
   is_none at e found = ap (option_map (λ i. drop (length text) (line_at lines i))) (sym (ap newest_below e) ∙ found)
+
+-- what begins behind some bytes of the beginning of a text begins at a boundary
+pub behind_boundary : (text words after : List ℕ) (n k : ℕ) → words ≡ drop n text → after ≡ drop k words → IsUtf8 after → IsCharBoundary text (length text - length after)
+behind_boundary text words after n k from e utf8 =
+    let all : after ≡ drop (n + k) text = e ∙ ap (drop k) from ∙ drop-drop k n text in
+    let long : length after ≡ length text - (n + k) = ap length all ∙ length-drop (n + k) text in
+    by (leb (n + k) (length text)) refl all long
+  where
+    by : (b : Bool) → leb (n + k) (length text) ≡ b → after ≡ drop (n + k) text → length after ≡ length text - (n + k) → IsCharBoundary text (length text - length after)
+    by true inside all long =
+        let low : n + k ≤ length text = leb-true (n + k) (length text) inside in
+        let at : n + k ≡ length text - length after = omega (arith, long, low) in
+        subst (λ i. IsCharBoundary text i) at (IsCharBoundary-from_drop text (n + k) low (subst (λ bytes. IsUtf8 bytes) all utf8))
+    by false inside all long =
+        let past : length text < n + k = leb-false (n + k) (length text) inside in
+        let at : length text ≡ length text - length after = omega (arith, long, past) in
+        subst (λ i. IsCharBoundary text i) at (IsCharBoundary-end text)

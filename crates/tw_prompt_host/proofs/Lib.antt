@@ -1,2 +1,4 @@
+pub mod AfterLineLemmas
+pub mod FailingLemmas
 pub mod LayoutLemmas
 pub mod HintLemmas

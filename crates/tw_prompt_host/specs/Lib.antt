@@ -3,6 +3,8 @@ pub mod MenuState
 pub mod MenuView
 pub mod Hint
 pub mod Prepared
+pub mod AfterLine
+pub mod FailingSearch
 pub mod Validation
 pub mod Going
 pub mod PromptRules

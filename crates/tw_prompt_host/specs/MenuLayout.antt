@@ -1,5 +1,6 @@
 -- How a menu lies under the line: candidates in columns, one of them marked.
 use Rattle.std.specs.Prelude.{ℕ, zero, suc, ◌+◌, ◌-◌, ◌*◌, ◌/◌, ◌%◌, ◌==◌, Bool, true, false, List, [], ◌∷◌, ◌++◌, length, get_or, map, codes, max, min, replicate, if◌then◌else◌}
+use Rattle.std.specs.Fmt.{decimal}
 use Rattle.std.specs.List.{fold}
 use Rattle.tw_surface.specs.Defaults.{default_attributes}
 use Rattle.tw_surface.specs.Width.{column_width}
@@ -68,10 +69,16 @@ abbrev pub cells_from : (ℕ → List ElementView) → ℕ → ℕ → List Elem
 cells_from cell start zero = []
 cells_from cell start (suc count) = cells_from cell start count ++ cell (start + count)
 
--- the page of the chosen one of some candidates
+-- the row that says how many more there are, if there are any
+abbrev pub more_row : ℕ → List ElementView
+more_row zero = []
+more_row (suc n) = Text (13 ∷ 10 ∷ codes ".. " ++ decimal (suc n) ++ codes " more") ∷ []
+
+-- the page of the chosen one of some candidates, and how many it does not show
 abbrev pub menu_page : MenuStyle → List CandidateView → ℕ → List ElementView
 menu_page style candidates chosen =
     let texts = menu_texts candidates in
     let page = page_len (row_len style.cols (widest texts)) style.rows (length texts) in
     let start = page_start page chosen in
-    cells_from (page_cell style texts start chosen) start (min page (length texts - start))
+    let count = min page (length texts - start) in
+    cells_from (page_cell style texts start chosen) start count ++ more_row (length texts - count)

@@ -16,6 +16,11 @@ menu_view menu.Unseen = Unseen
 menu_view (menu.Few candidates) = Few (map candidate_view candidates.items)
 menu_view (menu.Open m) = Open m
 
+-- whether a menu is open
+abbrev pub is_open : MenuView → Bool
+is_open (Open m) = true
+is_open _ = false
+
 -- the page of an open menu, or else the other host's elements
 abbrev pub page_or : MenuStyle → MenuView → List ElementView → List ElementView
 page_or style Closed elements = elements

@@ -1,10 +1,12 @@
 -- A prompt: a host with a history, completers, keys, hints, a validator, a menu and a screen.
-use Rattle.std.specs.Prelude.{ℕ, ◌&&◌, Bool, true, false, List, Option, Some, None, option_map, unwrap_or, if◌then◌else◌}
+use Rattle.std.specs.Prelude.{ℕ, ◌==◌, ◌&&◌, Bool, true, false, not, List, [], ◌++◌, length, Option, Some, None, option_map, unwrap_or, if◌then◌else◌}
+use Rattle.tw_surface.specs.Defaults.{default_attributes}
 use Rattle.tw_input.specs.EventView.{EventView}
 use Rattle.tw_line.specs.Cut.{Cut}
 use Rattle.tw_host.specs.ActionView.{ActionView, InsertText, NoAction}
 use Rattle.tw_host.specs.CandidateView.{CandidateView}
-use Rattle.tw_host.specs.HostRules.{HostRules, Resolution, or_default}
+use Rattle.tw_host.specs.ElementView.{ElementView}
+use Rattle.tw_host.specs.HostRules.{Highlight, HostRules, Resolution, or_default}
 use Rattle.tw_host.specs.KeyTable.{action_of}
 use Rattle.tw_hosts.specs.SettledRules.{PromptScreenView, screen_after, settled_highlight}
 use Rattle.tw_completion_parts.specs.Completers.{ContextCompleterView, completed_by}
@@ -13,13 +15,17 @@ use Rattle.tw_completion_parts.specs.SharedCandidate.{beginning_first}
 use Rattle.tw_key_parts.specs.KeyRules.{Edited, KeyRules, step_of}
 use Rattle.tw_key_parts.specs.SearchWatch.{has_lines}
 use Rattle.tw_prompt_host.specs.Going.{GoingView, going_after}
-use Rattle.tw_prompt_host.specs.Hint.{hint_of, hint_taken_by, shown_under}
+use Rattle.tw_prompt_host.specs.Hint.{are_on, hint_if_under, hint_of, hint_taken_by, shown_under}
+use Rattle.tw_prompt_host.specs.AfterLine.{after_line_on}
+use Rattle.tw_prompt_host.specs.FailingSearch.{failing_text, is_failing}
 use Rattle.tw_prompt_host.specs.MenuLayout.{style_after}
-use Rattle.tw_prompt_host.specs.MenuView.{known, known_unless, offered, page_or}
+use Rattle.tw_prompt_host.specs.MenuView.{is_open, known, known_unless, offered, page_or}
 use Rattle.tw_prompt_host.specs.Validation.{is_accepting, keeps_line, shown_lack}
+use Rattle.tw_prompt_host.specs.declared.hint.Hints.{Hints}
+use Rattle.tw_prompt_host.specs.declared.hint.Hints.TheVariants.{After}
 use Rattle.tw_prompt_host.specs.declared.layout.MenuStyle.{MenuStyle}
 
--- what the application's host holds, the lines of the history and those of them that are lent, the completers with listings of directories, what the keys hold, whether there are hints, what lines lack, how the menu is shown, the screen, and what belongs to one line
+-- what the application's host holds, the lines of the history and those of them that are lent, the completers with listings of directories, what the keys hold, how hints are shown, whether a search that fails is not accepted, what lines lack, how the menu is shown, the screen, and what belongs to one line
 pub record Prompted (V S : Type 0) : Type 0 where
   pub host : V
   pub lines : List (List ℕ)
@@ -27,7 +33,8 @@ pub record Prompted (V S : Type 0) : Type 0 where
   pub completers : List ContextCompleterView
   pub listings : List ListingView
   pub keys : S
-  pub hints : Bool
+  pub hints : Hints
+  pub stops_failing_searches : Bool
   pub lacks : List ℕ → Option (List ℕ)
   pub style : MenuStyle
   pub screen : PromptScreenView
@@ -65,14 +72,38 @@ abbrev pub completed_or : Option (List CandidateView) → List CandidateView →
 completed_or (Some candidates) others = candidates
 completed_or None others = others
 
+-- that a search fails, after the line of one that was kept
+abbrev pub failing_if : Bool → PromptScreenView → List ℕ → List ElementView
+failing_if true screen line = after_line_on screen line default_attributes failing_text
+failing_if false screen line = []
+
+-- a hint after a line, if hints stand there
+abbrev pub hint_if_after : Hints → PromptScreenView → List ℕ → Option (List ℕ) → List ElementView
+hint_if_after (After style) screen line (Some rest) = after_line_on screen line style rest
+hint_if_after _ screen line _ = []
+
+-- a line with more elements after it
+abbrev pub with_more : Highlight → List ElementView → Highlight
+with_more shown more = record shown { elements = shown.elements ++ more }
+
 module _ {V S K : Type 0} (keys : KeyRules S K) (rules : HostRules V) where
   -- the hint under a line
   abbrev pub hint_under : Prompted V S → List ℕ → Option (List ℕ)
-  hint_under v line = if v.hints then hint_of v.lent line else None
+  hint_under v line = hint_if_under v.hints (hint_of v.lent line)
+
+  -- a hint may stand after the line: at its end, if it is not over and was not kept, while no menu is open
+  abbrev pub is_hinted : Prompted V S → Cut → Bool
+  is_hinted v cut = (not v.going.over && not v.going.kept) && (not (is_open v.going.menu) && (cut.cursor == length cut.line))
+
+  -- what stands after the line: in a search that was kept that it fails, and else the hint
+  abbrev pub after_line : Prompted V S → Cut → List ElementView
+  after_line v cut =
+      if v.going.searching then failing_if v.going.kept v.screen cut.line
+      else if is_hinted v cut then hint_if_after v.hints v.screen cut.line (hint_of v.lent cut.line) else []
 
   -- the hint that an event takes
   abbrev pub hint_at : Prompted V S → EventView → Cut → Option (List ℕ)
-  hint_at v event cut = if v.hints then hint_taken_by v.lent v.going.searching (action_of event) cut else None
+  hint_at v event cut = if are_on v.hints then hint_taken_by v.lent v.going.searching (action_of event) cut else None
 
   -- the candidates, but for the menu
   abbrev pub found : Prompted V S → Cut → List CandidateView
@@ -87,9 +118,13 @@ module _ {V S K : Type 0} (keys : KeyRules S K) (rules : HostRules V) where
   edit_at v event cut =
       hint_or cut (hint_at v event cut) (keys.edits v.keys (record { event = event; searching = v.going.searching; lines = v.lines; cut = cut }))
 
-  -- an answer would accept a line that lacks something
+  -- a line is not to be accepted; during a search it is the pattern
+  abbrev pub is_kept : Prompted V S → List ℕ → Bool
+  is_kept v line = keeps_line v.going.searching (v.stops_failing_searches && is_failing v.lines line) (v.lacks line)
+
+  -- an answer would accept it
   abbrev pub is_back : Prompted V S → EventView → Cut → Option ActionView → Bool
-  is_back v event cut action = keeps_line v.going.searching (v.lacks cut.line) && is_accepting (or_default action event)
+  is_back v event cut action = is_kept v cut.line && is_accepting (or_default action event)
 
   -- all follow the same step: what came of the event in the end
   abbrev pub followed : Prompted V S → EventView → Cut → V → Answer K → Bool → Option ActionView → Resolution (Prompted V S)
@@ -116,7 +151,7 @@ module _ {V S K : Type 0} (keys : KeyRules S K) (rules : HostRules V) where
     lines = λ v. v.lines;
     prompt = λ v text. rules.prompt v.host text;
     preview = λ v line. page_or v.style v.going.menu (shown_lack v.going.kept (v.lacks line) (shown_under (rules.preview v.host line) (hint_under v line)));
-    highlight = λ v cut. settled_highlight v.screen cut (rules.highlight v.host cut);
+    highlight = λ v cut. with_more (settled_highlight v.screen cut (rules.highlight v.host cut)) (after_line v cut);
     candidates = λ v cut. offered v.going.menu (found v cut);
     resolve = λ v event cut. let r = rules.resolve v.host event cut in resolved v event cut r.value (answered r.action (edit_at v event cut) r.cut);
   }

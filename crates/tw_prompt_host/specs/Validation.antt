@@ -4,11 +4,11 @@ use Rattle.tw_host.specs.ActionView.{ActionView, AcceptLine}
 use Rattle.tw_host.specs.ElementView.{ElementView}
 use Rattle.tw_host.specs.HostRules.{plain_text}
 
--- a line that lacks this is kept, but during a search
-abbrev pub keeps_line : Bool → Option (List ℕ) → Bool
-keeps_line true lack = false
-keeps_line false (Some text) = true
-keeps_line false None = false
+-- a line that lacks this is kept, and during a search a pattern that fails
+abbrev pub keeps_line : Bool → Bool → Option (List ℕ) → Bool
+keeps_line true fails lack = fails
+keeps_line false fails (Some text) = true
+keeps_line false fails None = false
 
 -- the action accepts the line
 abbrev pub is_accepting : Option ActionView → Bool

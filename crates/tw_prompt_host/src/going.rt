@@ -3,7 +3,7 @@
 ghost use Rattle.std.specs.Prelude.{◌≡◌, map, option_map};
 ghost use Rattle.tw_host.specs.ActionView.{action_view};
 ghost use Rattle.tw_host.specs.CandidateView.{candidate_view};
-ghost use Rattle.tw_prompt_host.specs.Going.{at_rest, going_after, going_view, kept_after};
+ghost use Rattle.tw_prompt_host.specs.Going.{at_rest, going_after, going_view, is_last, kept_after};
 ghost use Rattle.tw_prompt_host.specs.MenuView.{asks, menu_view};
 
 use crate::menu::Menu;
@@ -17,6 +17,8 @@ pub struct Going {
     pub(crate) searching: bool,
     /// True once the line was not accepted, up to the next action.
     pub(crate) kept: bool,
+    /// True once an action ended the line.
+    pub(crate) over: bool,
     /// The menu.
     pub(crate) menu: Menu,
 }
@@ -28,6 +30,16 @@ fn kept_after(back: bool, action: Option<&Action>, kept: bool) -> bool
     back || (kept && action.is_none())
 }
 
+/// Returns true for an action that ends the line.
+fn is_last(action: Option<&Action>) -> bool
+    ensures { result ≡ is_last (option_map (λ action. action_view action.now) action.entry) }
+{
+    matches!(
+        action,
+        Some(Action::AcceptLine | Action::Cancel | Action::EndOfFile)
+    )
+}
+
 impl Going {
     /// Creates the state before a line.
     pub fn new() -> Self
@@ -36,6 +48,7 @@ impl Going {
         Going {
             searching: false,
             kept: false,
+            over: false,
             menu: Menu::Closed,
         }
     }
@@ -66,6 +79,7 @@ impl Going {
     {
         self.searching = searches_after(lines, action, self.searching);
         self.kept = kept_after(back, action, self.kept);
+        self.over = is_last(action);
         self.menu.follow(action, found);
     }
 }

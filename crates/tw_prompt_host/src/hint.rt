@@ -2,11 +2,43 @@
 
 ghost use Rattle.std.specs.Prelude.{◌≡◌, option_map};
 ghost use Rattle.tw_host.specs.ActionView.{action_view};
-ghost use Rattle.tw_prompt_host.specs.Hint.{hint_of, is_taking, newest_rest, rest_behind, continuation_of};
+ghost use Rattle.tw_prompt_host.specs.Hint.{are_on, continuation_of, dim_hints, hint_of, is_taking, newest_rest, part_taken, rest_behind, word_of};
 
 use tw_history::LentLines;
 use tw_host::Action;
+use tw_hosts::split_first_word;
 use tw_line::{LineEditBuffer, Movement};
+use tw_surface::{CellAttributes, Intensity};
+
+/// How the rest of the newest line that begins with the line is shown. Right or End at the end of the line takes it,
+/// and Alt-f a word of it.
+#[derive(Clone, Copy, Debug, PartialEq, Eq)]
+pub enum Hints {
+    /// Not at all, and no key takes it.
+    Off,
+    /// Under the line, if nothing else stands there.
+    Under,
+    /// After the cursor in these attributes, as much of it as fits into the row.
+    After(CellAttributes),
+}
+
+impl Hints {
+    /// Creates hints after the cursor in half intensity.
+    pub fn dim() -> Self
+        ensures { result ≡ dim_hints }
+    {
+        let mut style = CellAttributes::default();
+        style.intensity = Intensity::Half;
+        Hints::After(style)
+    }
+
+    /// Returns true if there are hints.
+    pub(crate) fn are_on(self) -> bool
+        ensures { result ≡ are_on self }
+    {
+        !matches!(self, Hints::Off)
+    }
+}
 
 /// Returns the rest of a line that begins with a text.
 fn behind<'line>(text: &str, line: &'line str) -> Option<&'line str>
@@ -55,6 +87,26 @@ pub fn is_taking(action: Option<&Action>, editor: &LineEditBuffer) -> bool
 {
     matches!(
         action,
-        Some(Action::Move(Movement::ForwardChar(_) | Movement::EndOfLine))
+        Some(Action::Move(
+            Movement::ForwardChar(_) | Movement::ForwardWord(_) | Movement::EndOfLine
+        ))
     ) && editor.get_cursor() == editor.get_line().len()
+}
+
+/// Returns a hint up to the end of its first word.
+fn word_of(rest: &str) -> &str
+    ensures { result.now ≡ word_of rest.now }
+{
+    let (_, after) = split_first_word(rest.trim_start());
+    &rest[..rest.len() - after.len()]
+}
+
+/// Returns what an action takes of a hint.
+pub fn part_taken<'rest>(action: Option<&Action>, rest: &'rest str) -> &'rest str
+    ensures { result.now ≡ part_taken (option_map (λ action. action_view action.now) action.entry) rest.now }
+{
+    match action {
+        Some(Action::Move(Movement::ForwardWord(_))) => word_of(rest),
+        _ => rest,
+    }
 }

@@ -4,7 +4,7 @@ ghost use Rattle.std.specs.Prelude.{◌≡◌, ◌<◌, IfOk, map, string_bytes,
 ghost use Rattle.tw_host.specs.CandidateView.{candidate_view};
 ghost use Rattle.tw_host.specs.ElementView.{element_view};
 ghost use Rattle.tw_input.specs.EventView.{event_view};
-ghost use Rattle.tw_prompt_host.specs.MenuLayout.{filled_cell, gap, menu_cell, menu_page, menu_texts, page_len, reverse_style, row_len, style_after, widest};
+ghost use Rattle.tw_prompt_host.specs.MenuLayout.{filled_cell, gap, menu_cell, menu_page, menu_texts, more_row, page_len, reverse_style, row_len, style_after, widest};
 
 use std::alloc::{AllocError, Global};
 use tw_host::{CompletionCandidate, OutputElement, plain_element};
@@ -17,7 +17,7 @@ use tw_surface::{CellAttributes, unicode_column_width};
 pub struct MenuStyle {
     /// The columns of the screen.
     pub cols: usize,
-    /// The most rows of the menu; 0 counts as 1.
+    /// The most rows of candidates; 0 counts as 1. One more row says how many more there are.
     pub rows: usize,
     /// The attributes of the chosen candidate.
     pub chosen: CellAttributes,
@@ -119,7 +119,19 @@ fn menu_cell(
     Ok(cell)
 }
 
-/// Lays out the page with the chosen candidate, in rows separated by CR LF.
+/// Returns the row that says how many more candidates there are, if there are any.
+fn more_row(alloc: Global, count: usize) -> Result<Vec<OutputElement>, AllocError>
+    ensures { IfOk result (λ row. map element_view row.items ≡ more_row count) }
+{
+    if count == 0 {
+        return Ok(Vec::new(alloc));
+    }
+    let text = format!(in alloc; "\r\n.. {count} more")?;
+    plain_element(alloc, text.as_str())
+}
+
+/// Lays out the page with the chosen candidate, in rows separated by CR LF. A last row says how many candidates it does
+/// not show.
 pub fn menu_page(
     alloc: Global,
     style: MenuStyle,
@@ -141,5 +153,7 @@ pub fn menu_page(
         let mut cell = menu_cell(alloc, style, before, at == chosen, text.as_str())?;
         elements.append(&mut cell)?;
     }
+    let mut more = more_row(alloc, candidates.len() - count)?;
+    elements.append(&mut more)?;
     Ok(elements)
 }

@@ -2,13 +2,15 @@
 //!
 //! ```
 //! let mut host = PromptHost::new(alloc, "> ", 80)?;
-//! host.hints = true;
+//! host.hints = Hints::dim();
 //! host.begin_line();
 //! ```
 //!
 //! Use [`PromptHost::new`] and set its fields, or write the literal to choose other types for them.
 #![tactic(auto)]
 
+mod after_line;
+mod failing;
 mod going;
 mod hint;
 pub mod laws;
@@ -21,6 +23,7 @@ mod prompt;
 mod validator;
 
 pub use going::Going;
+pub use hint::Hints;
 pub use layout::MenuStyle;
 pub use nested_lines::NestedLines;
 pub use prepared::{PreparedHost, StyledRange, styled_ranges};

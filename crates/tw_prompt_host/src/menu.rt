@@ -3,7 +3,7 @@
 ghost use Rattle.std.specs.Prelude.{◌≡◌, map, option_map, IfOk};
 ghost use Rattle.tw_host.specs.ActionView.{action_view};
 ghost use Rattle.tw_host.specs.CandidateView.{candidate_view};
-ghost use Rattle.tw_prompt_host.specs.MenuView.{menu_view};
+ghost use Rattle.tw_prompt_host.specs.MenuView.{is_open, menu_view};
 ghost use Rattle.tw_prompt_host.specs.MenuState.{advanced, completed, menu_after, menu_begun};
 
 use std::alloc::{AllocError, Global};
@@ -52,6 +52,13 @@ pub enum Menu {
 }
 
 impl Menu {
+    /// Returns true if it is open.
+    pub fn is_open(&self) -> bool
+        ensures { result ≡ is_open (menu_view self.now) }
+    {
+        matches!(self, Menu::Open(_))
+    }
+
     /// Returns the menu at the beginning of a completion.
     fn begun(found: Option<Vec<CompletionCandidate>>) -> Self
         ensures { menu_view result ≡ menu_begun (option_map (λ candidates. map candidate_view candidates.items) found) }

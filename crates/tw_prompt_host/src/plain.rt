@@ -1,11 +1,13 @@
 //! The prompt to begin with.
 
-ghost use Rattle.std.specs.Prelude.{◌≡◌, [], false, IfOk};
+ghost use Rattle.std.specs.Prelude.{◌≡◌, [], true, IfOk};
 ghost use Rattle.tw_hosts.specs.SettledRules.{screen_view};
 ghost use Rattle.tw_prompt_host.specs.Going.{at_rest, going_view};
 ghost use Rattle.tw_prompt_host.specs.MenuLayout.{reverse_style};
+ghost use Rattle.tw_prompt_host.specs.declared.hint.Hints.TheVariants.{Off};
 
 use crate::going::Going;
+use crate::hint::Hints;
 use crate::layout::MenuStyle;
 use crate::prompt::PromptHost;
 use crate::validator::AllLines;
@@ -23,7 +25,8 @@ impl PromptHost<NopLineEditorHost, BasicHistory, Keys<ReadlineKeys>, AllLines> {
     /// columns. Change its fields, or write the literal, for more.
     pub fn new(alloc: Global, prompt: &str, cols: usize) -> Result<Self, AllocError>
         ensures lines { IfOk result (λ it. it.history ≡ []) }
-        ensures off { IfOk result (λ it. (it.completers.items ≡ []) × (it.listings.items ≡ []) × (it.hints ≡ false)) }
+        ensures off { IfOk result (λ it. (it.completers.items ≡ []) × (it.listings.items ≡ []) × (it.hints ≡ Off)) }
+        ensures searches { IfOk result (λ it. it.stops_failing_searches ≡ true) }
         ensures menu { IfOk result (λ it. it.menu ≡ reverse_style cols 4) }
         ensures screen { IfOk result (λ it. screen_view it.screen ≡ record { cols = cols; prompt = prompt.now }) }
         ensures going { IfOk result (λ it. going_view it.going ≡ at_rest) }
@@ -38,7 +41,8 @@ impl PromptHost<NopLineEditorHost, BasicHistory, Keys<ReadlineKeys>, AllLines> {
             completers: Vec::new(alloc),
             listings: Vec::new(alloc),
             keys: Keys(ReadlineKeys),
-            hints: false,
+            hints: Hints::Off,
+            stops_failing_searches: true,
             validator: AllLines,
             menu: MenuStyle::in_reverse(cols, MENU_ROWS),
             screen,
@@ -50,7 +54,7 @@ impl PromptHost<NopLineEditorHost, BasicHistory, Keys<ReadlineKeys>, AllLines> {
 impl<H: Drop, L: Drop, K: Drop, V: Drop> PromptHost<H, L, K, V> {
     /// Replaces the application's host.
     pub fn with_host<N>(self, host: N) -> PromptHost<N, L, K, V>
-        ensures { result ≡ record { host = host; history = self.history; completers = self.completers; listings = self.listings; keys = self.keys; hints = self.hints; validator = self.validator; menu = self.menu; screen = self.screen; going = self.going } }
+        ensures { result ≡ record { host = host; history = self.history; completers = self.completers; listings = self.listings; keys = self.keys; hints = self.hints; stops_failing_searches = self.stops_failing_searches; validator = self.validator; menu = self.menu; screen = self.screen; going = self.going } }
     {
         PromptHost {
             host,
@@ -59,6 +63,7 @@ impl<H: Drop, L: Drop, K: Drop, V: Drop> PromptHost<H, L, K, V> {
             listings: self.listings,
             keys: self.keys,
             hints: self.hints,
+            stops_failing_searches: self.stops_failing_searches,
             validator: self.validator,
             menu: self.menu,
             screen: self.screen,
@@ -68,7 +73,7 @@ impl<H: Drop, L: Drop, K: Drop, V: Drop> PromptHost<H, L, K, V> {
 
     /// Replaces the history.
     pub fn with_history<N>(self, history: N) -> PromptHost<H, N, K, V>
-        ensures { result ≡ record { host = self.host; history = history; completers = self.completers; listings = self.listings; keys = self.keys; hints = self.hints; validator = self.validator; menu = self.menu; screen = self.screen; going = self.going } }
+        ensures { result ≡ record { host = self.host; history = history; completers = self.completers; listings = self.listings; keys = self.keys; hints = self.hints; stops_failing_searches = self.stops_failing_searches; validator = self.validator; menu = self.menu; screen = self.screen; going = self.going } }
     {
         PromptHost {
             host: self.host,
@@ -77,6 +82,7 @@ impl<H: Drop, L: Drop, K: Drop, V: Drop> PromptHost<H, L, K, V> {
             listings: self.listings,
             keys: self.keys,
             hints: self.hints,
+            stops_failing_searches: self.stops_failing_searches,
             validator: self.validator,
             menu: self.menu,
             screen: self.screen,
@@ -86,7 +92,7 @@ impl<H: Drop, L: Drop, K: Drop, V: Drop> PromptHost<H, L, K, V> {
 
     /// Replaces the parts with keys.
     pub fn with_keys<N>(self, keys: N) -> PromptHost<H, L, N, V>
-        ensures { result ≡ record { host = self.host; history = self.history; completers = self.completers; listings = self.listings; keys = keys; hints = self.hints; validator = self.validator; menu = self.menu; screen = self.screen; going = self.going } }
+        ensures { result ≡ record { host = self.host; history = self.history; completers = self.completers; listings = self.listings; keys = keys; hints = self.hints; stops_failing_searches = self.stops_failing_searches; validator = self.validator; menu = self.menu; screen = self.screen; going = self.going } }
     {
         PromptHost {
             host: self.host,
@@ -95,6 +101,7 @@ impl<H: Drop, L: Drop, K: Drop, V: Drop> PromptHost<H, L, K, V> {
             listings: self.listings,
             keys,
             hints: self.hints,
+            stops_failing_searches: self.stops_failing_searches,
             validator: self.validator,
             menu: self.menu,
             screen: self.screen,
@@ -104,7 +111,7 @@ impl<H: Drop, L: Drop, K: Drop, V: Drop> PromptHost<H, L, K, V> {
 
     /// Replaces the validator.
     pub fn with_validator<N>(self, validator: N) -> PromptHost<H, L, K, N>
-        ensures { result ≡ record { host = self.host; history = self.history; completers = self.completers; listings = self.listings; keys = self.keys; hints = self.hints; validator = validator; menu = self.menu; screen = self.screen; going = self.going } }
+        ensures { result ≡ record { host = self.host; history = self.history; completers = self.completers; listings = self.listings; keys = self.keys; hints = self.hints; stops_failing_searches = self.stops_failing_searches; validator = validator; menu = self.menu; screen = self.screen; going = self.going } }
     {
         PromptHost {
             host: self.host,
@@ -113,6 +120,7 @@ impl<H: Drop, L: Drop, K: Drop, V: Drop> PromptHost<H, L, K, V> {
             listings: self.listings,
             keys: self.keys,
             hints: self.hints,
+            stops_failing_searches: self.stops_failing_searches,
             validator,
             menu: self.menu,
             screen: self.screen,

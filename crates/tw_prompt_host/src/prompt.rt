@@ -3,6 +3,7 @@
 ghost use Rattle.std.specs.Prelude.{◌≡◌, ◌&&◌, IfOk, IsCharBoundary, None, if◌then◌else◌, map, option_map, refl, string_bytes};
 ghost use Rattle.tw_host.specs.ActionView.{action_view};
 ghost use Rattle.tw_host.specs.CandidateView.{candidate_view};
+ghost use Rattle.tw_host.specs.ElementView.{element_view};
 ghost use Rattle.tw_host.specs.HostRules.{or_default};
 ghost use Rattle.tw_host.specs.KeyTable.{action_of};
 ghost use Rattle.tw_host.specs.PlainAnswers.{all_overrides, no_plain_left};
@@ -15,14 +16,17 @@ ghost use Rattle.tw_key_parts.specs.EditView.{edit_view};
 ghost use Rattle.tw_key_parts.specs.KeyRules.{step_of};
 ghost use Rattle.tw_key_parts.specs.SearchWatch.{has_lines};
 ghost use Rattle.tw_prompt_host.specs.Going.{at_rest, going_after, going_view};
-ghost use Rattle.tw_prompt_host.specs.Hint.{hint_taken_by};
+ghost use Rattle.tw_prompt_host.specs.Hint.{are_on, hint_of, hint_taken_by};
+ghost use Rattle.tw_prompt_host.specs.FailingSearch.{is_failing};
 ghost use Rattle.tw_prompt_host.specs.MenuLayout.{style_after};
 ghost use Rattle.tw_prompt_host.specs.MenuView.{known, menu_view};
-ghost use Rattle.tw_prompt_host.specs.PromptRules.{Prompted, answered, edit_at, found, hint_under, prompt_rules, said};
-ghost use Rattle.tw_prompt_host.specs.Validation.{is_accepting, keeps_line};
+ghost use Rattle.tw_prompt_host.specs.PromptRules.{Prompted, after_line, answered, edit_at, failing_if, found, hint_if_after, hint_under, is_hinted, is_kept, prompt_rules, said};
+ghost use Rattle.tw_prompt_host.specs.Validation.{is_accepting};
 
+use crate::after_line::after_line_on;
+use crate::failing::{FAILING, is_failing};
 use crate::going::Going;
-use crate::hint::{history_hint, is_taking};
+use crate::hint::{Hints, history_hint, is_taking, part_taken};
 use crate::layout::{MenuStyle, menu_page};
 use crate::menu::{Menu, copied};
 use crate::validator::Validator;
@@ -37,10 +41,12 @@ use tw_hosts::PromptScreen;
 use tw_input::InputEvent;
 use tw_key_parts::{Edit, KeyPart, is_filled};
 use tw_line::LineEditBuffer;
+use tw_surface::CellAttributes;
 
 /// A prompt with the comforts of readline. Each event goes to the application's host first, then a hint may be taken,
-/// then the parts with keys are asked, and at last the key table. Accepting a line that is not whole does nothing. Every
-/// part then follows the action that is done in the end, whoever answered it.
+/// then the parts with keys are asked, and at last the key table. Accepting a line that is not whole does nothing, and
+/// so may accepting the last match of a search that fails. Every part then follows the action that is done in the end,
+/// whoever answered it.
 #[derive(Debug, Drop)]
 pub struct PromptHost<H, L, K, V> {
     /// The application's host: how the prompt and the line are shown, candidates if no completer applies, and keys of
@@ -54,8 +60,10 @@ pub struct PromptHost<H, L, K, V> {
     pub listings: Vec<Listing>,
     /// The parts with keys: one part, or a pair of parts.
     pub keys: K,
-    /// Shows the rest of the newest line that begins with the line; Right or End at the end of the line inserts it.
-    pub hints: bool,
+    /// How the rest of the newest line that begins with the line is shown.
+    pub hints: Hints,
+    /// Accepts no line during a search whose pattern stands in no line, and then says so after the line.
+    pub stops_failing_searches: bool,
     /// Decides whether a line may be accepted.
     pub validator: V,
     /// The style of the menu of completions.
@@ -94,7 +102,7 @@ fn answered<K: KeyPart>(
     }
 }
 
-/// Holds back an action, or else the key table's, that would accept a line which is not whole.
+/// Holds back an action, or else the key table's, that would accept a line which is kept.
 fn judged(
     keeps: bool,
     _event: &InputEvent,
@@ -127,12 +135,22 @@ impl<H: LineEditorHost, L: History + LentLines, K: KeyPart, V: Validator> Prompt
         self.going = Going::new();
     }
 
-    /// Returns true if the line is not whole and the editor does not search.
+    /// Returns true if the editor searches for a pattern that no line contains, and is not to accept one then.
+    fn is_failing(&self, alloc: Global, pattern: &str) -> Result<bool, AllocError>
+        ensures { IfOk result (λ fails. fails ≡ (self.now.stops_failing_searches && is_failing (L.History.lines self.now.history) pattern.now)) }
+    {
+        if !self.stops_failing_searches {
+            return Ok(false);
+        }
+        is_failing(alloc, &self.history, pattern)
+    }
+
+    /// Returns true if the line is not whole, or during a search if the pattern fails.
     fn keeps(&self, alloc: Global, line: &str) -> Result<bool, AllocError>
-        ensures { IfOk result (λ keeps. keeps ≡ keeps_line self.now.going.searching (V.lacks self.now.validator line.now)) }
+        ensures { IfOk result (λ keeps. keeps ≡ is_kept K.keys H.rules (⟦<PromptHost<H, L, K, V> as LineEditorHost>⟧.value self.now) line.now) }
     {
         if self.going.searching {
-            return Ok(false);
+            return self.is_failing(alloc, line);
         }
         Ok(self.validator.lack(alloc, line)?.is_some())
     }
@@ -141,10 +159,67 @@ impl<H: LineEditorHost, L: History + LentLines, K: KeyPart, V: Validator> Prompt
     fn hint_under<'a>(&'a self, line: &str) -> Option<&'a str>
         ensures { option_map (λ rest. rest.now) result ≡ hint_under K.keys H.rules (⟦<PromptHost<H, L, K, V> as LineEditorHost>⟧.value self.now) line.now }
     {
-        if !self.hints {
-            return None;
+        match self.hints {
+            Hints::Under => history_hint(&self.history, line),
+            Hints::Off | Hints::After(_) => None,
         }
-        history_hint(&self.history, line)
+    }
+
+    /// Returns true if a hint may stand after the line.
+    fn is_hinted(&self, line: &str, cursor: usize) -> bool
+        ensures { result ≡ is_hinted K.keys H.rules (⟦<PromptHost<H, L, K, V> as LineEditorHost>⟧.value self.now) (cut_at line.now cursor) }
+    {
+        let is_still = !self.going.over && !self.going.kept;
+        is_still && !self.going.menu.is_open() && cursor == line.len()
+    }
+
+    /// Returns the hint after a line.
+    fn hint_after(&self, alloc: Global, line: &str) -> Result<Vec<OutputElement>, AllocError>
+        ensures { IfOk result (λ elements. map element_view elements.items
+            ≡ hint_if_after self.now.hints (screen_view self.now.screen) line.now (hint_of (L.LentLines.lines self.now.history) line.now)) }
+    {
+        let Hints::After(style) = self.hints else {
+            return Ok(Vec::new(alloc));
+        };
+        match history_hint(&self.history, line) {
+            Some(rest) => after_line_on(alloc, &self.screen, line, style, rest),
+            None => Ok(Vec::new(alloc)),
+        }
+    }
+
+    /// Returns that a search fails, if it was not accepted.
+    fn failing_after(&self, alloc: Global, line: &str) -> Result<Vec<OutputElement>, AllocError>
+        ensures { IfOk result (λ elements. map element_view elements.items ≡ failing_if self.now.going.kept (screen_view self.now.screen) line.now) }
+    {
+        if !self.going.kept {
+            return Ok(Vec::new(alloc));
+        }
+        after_line_on(
+            alloc,
+            &self.screen,
+            line,
+            CellAttributes::default(),
+            FAILING,
+        )
+    }
+
+    /// Returns what stands after the line.
+    fn after_line(
+        &self,
+        alloc: Global,
+        line: &str,
+        cursor: usize,
+    ) -> Result<Vec<OutputElement>, AllocError>
+        ensures { IfOk result (λ elements. map element_view elements.items
+            ≡ after_line K.keys H.rules (⟦<PromptHost<H, L, K, V> as LineEditorHost>⟧.value self.now) (cut_at line.now cursor)) }
+    {
+        if self.going.searching {
+            return self.failing_after(alloc, line);
+        }
+        if self.is_hinted(line, cursor) {
+            return self.hint_after(alloc, line);
+        }
+        Ok(Vec::new(alloc))
     }
 
     /// Returns the hint that an action inserts.
@@ -155,13 +230,13 @@ impl<H: LineEditorHost, L: History + LentLines, K: KeyPart, V: Validator> Prompt
         line: &LineEditBuffer,
     ) -> Result<Option<String>, AllocError>
         ensures { IfOk result (λ rest. option_map string_bytes rest
-            ≡ (if self.now.hints then hint_taken_by (L.LentLines.lines self.now.history) self.now.going.searching (option_map (λ action. action_view action.now) action.entry) line.now else None)) }
+            ≡ (if are_on self.now.hints then hint_taken_by (L.LentLines.lines self.now.history) self.now.going.searching (option_map (λ action. action_view action.now) action.entry) line.now else None)) }
     {
-        if !self.hints || self.going.searching || !is_taking(action, line) {
+        if !self.hints.are_on() || self.going.searching || !is_taking(action, line) {
             return Ok(None);
         }
         match history_hint(&self.history, line.get_line()) {
-            Some(rest) => Ok(Some(String::from_str(alloc, rest)?)),
+            Some(rest) => Ok(Some(String::from_str(alloc, part_taken(action, rest))?)),
             None => Ok(None),
         }
     }
@@ -305,6 +380,7 @@ impl<H: LineEditorHost, L: History + LentLines, K: KeyPart, V: Validator> LineEd
       listings = map listing_view it.listings.items;
       keys = K.state it.keys;
       hints = it.hints;
+      stops_failing_searches = it.stops_failing_searches;
       lacks = V.lacks it.validator;
       style = it.menu;
       screen = screen_view it.screen;
@@ -354,7 +430,9 @@ impl<H: LineEditorHost, L: History + LentLines, K: KeyPart, V: Validator> LineEd
         line: &str,
         cursor_position: usize,
     ) -> Result<(Vec<OutputElement>, usize), AllocError> {
-        let (elements, _) = self.host.highlight_line(alloc, line, cursor_position)?;
+        let (mut elements, _) = self.host.highlight_line(alloc, line, cursor_position)?;
+        let mut more = self.after_line(alloc, line, cursor_position)?;
+        elements.append(&mut more)?;
         Ok((elements, self.screen.column(line, cursor_position)))
     }
 

@@ -1,0 +1,33 @@
+-- Where a prompt ends, the room after a line, and the clusters that fit.
+use Rattle.std.proofs.Common.{◌≡◌, ◌∙◌, ℕ, ◌+◌, ◌-◌, ◌%◌, ◌≤◌, true, false, List, Some, if◌then◌else◌, ap, sym, subst}
+use Rattle.std.proofs.Math.Nat.{add-mod}
+use Rattle.std.proofs.lemmas.Bool.{le-leb}
+use Rattle.std.specs.List.{list_all}
+use Rattle.tw_surface.specs.declared.measure.Extent.{Extent}
+use Rattle.tw_surface.specs.Extents.{place_of, reach_all, start_extent}
+use Rattle.tw_surface.specs.Places.{Place, end_of_pieces, is_in_range, origin, pieces, places_after}
+use Rattle.tw_line.specs.Cut.{at_end}
+use Rattle.tw_hosts.specs.Settling.{line_start}
+use Rattle.tw_hosts.specs.SettledRules.{PromptScreenView, column_on}
+use Rattle.tw_hosts.proofs.SettlingLemmas.{prompt_end}
+use Rattle.tw_prompt_host.specs.AfterLine.{has_control, prompt_column, room_after, room_from}
+
+-- where a prompt ends that is measured from the start
+pub ends_at : (cols : ℕ) (prompt : List ℕ) (t r : Extent) → 1 ≤ cols → cols ≤ 65535 → t ≡ start_extent
+    → list_all is_in_range (places_after cols (pieces prompt) (place_of t)) ≡ true → r ≡ reach_all t (places_after cols (pieces prompt) (place_of t))
+    → Some r.x ≡ prompt_column cols prompt
+ends_at cols prompt t r low high start all e =
+    let from : place_of t ≡ origin = ap place_of start in
+    let known : list_all is_in_range (places_after cols (pieces prompt) origin) ≡ true =
+    subst (λ p. list_all is_in_range (places_after cols (pieces prompt) p) ≡ true) from all in
+    let end : place_of r ≡ line_start cols prompt = prompt_end cols prompt t r e ∙ ap (λ p. end_of_pieces cols (pieces prompt) p) from in
+    rw (le-leb 1 cols low, le-leb cols 65535 high, known) (ap (λ (p : Place). Some p.x) end)
+
+-- the room after a line
+pub room_is : (screen : PromptScreenView) (line : List ℕ) (start column : ℕ) → Some start ≡ prompt_column screen.cols screen.prompt → has_control line ≡ false
+    → column ≡ column_on screen (at_end line) → screen.cols - 1 - (start % screen.cols + column % screen.cols) % screen.cols ≡ room_after screen line
+room_is screen line start column known none e =
+    let cols = screen.cols in
+    let end = column_on screen (at_end line) in
+    ap (λ n. cols - 1 - n) (ap (λ k. (start % cols + k % cols) % cols) e ∙ sym (add-mod start end cols))
+    ∙ ap (λ b. if b then 0 else cols - 1 - (start + end) % cols) (sym none) ∙ ap (λ p. room_from p screen line) known

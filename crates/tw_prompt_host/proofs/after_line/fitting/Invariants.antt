@@ -1,0 +1,15 @@
+-- What is shown so far, and what fits of the rest, is all that fits.
+use Rattle.std.proofs.Common.{◌≡◌, ◌++◌, length, string_bytes, true}
+use Rattle.std.specs.Str.{IsUtf8}
+use Rattle.unicode_segmentation.specs.Grapheme.{graphemes}
+use Rattle.tw_prompt_host.specs.AfterLine.{fitting}
+use Rattle.tw_prompt_host.proofs.after_line.fitting.Given as goal
+
+abbrev pub invariant-loop-cluster : goal.invariant-loop-cluster
+invariant-loop-cluster l = record {
+  utf8 : IsUtf8 l.rest;
+  shown : string_bytes l.shown ++ fitting l.left (graphemes true l.rest) ≡ fitting l.columns (graphemes true l.fn.text);
+}
+
+abbrev pub decreases-loop-cluster : goal.decreases-loop-cluster
+decreases-loop-cluster l = length l.rest

@@ -1,0 +1,18 @@
+use Rattle.std.proofs.Common.{◌≡◌, ◌∙◌, Some, None, ap, sym, rules}
+use Rattle.std.specs.Option.{is_none}
+use Rattle.tw_history.specs.HistoryAdditions.{match_view}
+use Rattle.tw_history.specs.NearestMatch.{last_index}
+use Rattle.tw_prompt_host.proofs.FailingLemmas.{failing_is, none_fails, none_of_map}
+use Rattle.tw_prompt_host.proofs.failing.is_failing.Goals as goal
+
+pub returns-in_default : goal.returns-in_default
+returns-in_default g c =
+    let none : None ≡ last_index (g.L.History.lines c.args.history.now) = search (rules) in
+    none_fails (g.L.History.lines c.args.history.now) c.args.pattern.now none
+
+pub returns : goal.returns
+returns g c =
+    let lines = g.L.History.lines c.args.history.now in
+    let some : Some c.in-Some.last ≡ last_index lines = search (rules) in
+    let none : c.is_none.result ≡ is_none c.in_ok-found.found = search (rules) in
+    none ∙ sym (none_of_map match_view c.in_ok-found.found) ∙ ap is_none c.in_ok-found.ensures.found ∙ failing_is lines c.args.pattern.now c.in-Some.last some

@@ -1,0 +1,53 @@
+-- What stands after the line, in the row of its end.
+use Rattle.std.specs.Prelude.{ℕ, ◌+◌, ◌-◌, ◌%◌, ◌==◌, Bool, true, not, ◌&&◌, leb, List, [], ◌∷◌, ◌++◌, length, chars, encode_utf8, if◌then◌else◌, Option, Some, None}
+use Rattle.std.specs.Char.{is_control}
+use Rattle.std.specs.List.{list_all, list_any}
+use Rattle.unicode_segmentation.specs.Grapheme.{graphemes}
+use Rattle.tw_surface.specs.Places.{is_in_range, origin, pieces, places_after}
+use Rattle.tw_surface.specs.Width.{cluster_width}
+use Rattle.tw_surface.specs.declared.cell.CellAttributes.{CellAttributes}
+use Rattle.tw_line.specs.Cut.{at_end}
+use Rattle.tw_host.specs.ElementView.{ElementView}
+use Rattle.tw_hosts.specs.Settling.{line_start}
+use Rattle.tw_hosts.specs.SettledRules.{PromptScreenView, column_on}
+use Rattle.tw_hosts.specs.Tokens.{styled_text}
+
+-- whether a control character stands in a text
+abbrev pub has_control : List ℕ → Bool
+has_control text = list_any is_control (chars text)
+
+-- the column in which a prompt ends on a screen, if it is known
+abbrev pub prompt_column : ℕ → List ℕ → Option ℕ
+prompt_column cols prompt =
+    if (leb 1 cols && leb cols 65535) && list_all is_in_range (places_after cols (pieces prompt) origin) then Some (line_start cols prompt).x else None
+
+-- the columns after the cell in which the editor shows the cursor at the end of a line, but for the last one, which stays empty; there are none after a line with a control character
+abbrev pub room_from : Option ℕ → PromptScreenView → List ℕ → ℕ
+room_from None screen line = 0
+room_from (Some start) screen line =
+    if has_control line then 0 else screen.cols - 1 - (start + column_on screen (at_end line)) % screen.cols
+
+abbrev pub room_after : PromptScreenView → List ℕ → ℕ
+room_after screen line = room_from (prompt_column screen.cols screen.prompt) screen line
+
+-- as many clusters, from the first one on, as fit into so many columns, up to a control character
+abbrev pub fitting : ℕ → List (List ℕ) → List ℕ
+fitting columns [] = []
+fitting columns (cluster ∷ more) =
+    if leb (cluster_width cluster) columns && not (has_control cluster) then cluster ++ fitting (columns - cluster_width cluster) more else []
+
+-- a text where all of it fits, and else what fits of it before …, if that does
+abbrev pub cut_to : ℕ → List ℕ → List ℕ
+cut_to columns text =
+    let clusters = graphemes true text in
+    if length (fitting columns clusters) == length text then fitting columns clusters
+    else if columns == 0 then [] else fitting (columns - 1) clusters ++ encode_utf8 8230
+
+-- a text in a style, and no element for the empty one
+abbrev pub styled_if_some : CellAttributes → List ℕ → List ElementView
+styled_if_some style [] = []
+styled_if_some style (byte ∷ bytes) = styled_text style (byte ∷ bytes)
+
+-- a text after a line on a screen
+abbrev pub after_line_on : PromptScreenView → List ℕ → CellAttributes → List ℕ → List ElementView
+after_line_on screen line style text = styled_if_some style (cut_to (room_after screen line) text)
