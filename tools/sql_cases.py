@@ -14,6 +14,8 @@ PROGRAM = f"{ROOT}/crates/sql_prompt/out/sql_prompt"
 PROMPT, GOES_ON = b"sql> ", b"   ...> "
 UP, RIGHT, CTRL_A, CTRL_C, CTRL_D, CTRL_F = b"\x1b[A", b"\x1b[C", b"\x01", b"\x03", b"\x04", b"\x06"
 PEOPLE = b"create table people (id integer primary key, name text);\rinsert into people (name) values ('Ann');\r"
+# A file of a history: a line, one that is not UTF-8, one with a wrong escape, and one that is cut off.
+DAMAGED = b"select 'kept';\nselect '\xff';\nselect '\\q';\nselect 'cut o"
 STYLES = re.compile(rb"\x1b\[[0-9;]*m")
 
 
@@ -166,6 +168,7 @@ def sql_history_is_kept(path):
     with open(history, "ab") as file:
         file.write(b"select 'cut off")
     with Database(path, history=history) as session:
+        want(session.shown.count(b"lines that can't be read: 1\r\n") == 1, f"it says {session.shown}")
         shown = session.ask(UP + UP + UP + b"\r", b"Ann\r\n(1 row)\r\n")
         want(b"sql> select name from people;" in STYLES.sub(b"", shown), f"it is not one line in {shown}")
         session.quit()
@@ -176,15 +179,58 @@ def sql_history_is_kept(path):
          f"the file has {kept}")
 
 
-@with_file
-def sql_history_that_is_not_written(path):
-    with Database(path, history=f"{path}-none/history") as session:
-        want(session.shown.count(b"the history can't be written") == 1, f"it says {session.shown}")
+def go_on_in_memory(path, history, told):
+    """Wants a text to be told once, that the history can't be written too, and that it goes on in memory."""
+    with Database(path, history=history) as session:
+        for text in (told, b"the history can't be written"):
+            want(session.shown.count(text) == 1, f"it says {session.shown}")
         session.type(PEOPLE)
         session.ask(b"select name from people;\r", b"Ann\r\n(1 row)\r\n")
         session.ask(UP + b"\r", b"Ann\r\n(1 row)\r\n")
         want(session.shown.count(b"the history can't be written") == 1, "it says so twice")
+        session.type(b"drop table people;\r")
         session.quit()
+
+
+@with_file
+def sql_history_that_is_not_written(path):
+    go_on_in_memory(path, f"{path}-none/history", b"it is kept up to the end of the session")
+
+
+@with_file
+def sql_history_that_is_a_folder(path):
+    os.mkdir(f"{path}-history")
+    go_on_in_memory(path, f"{path}-history", b"the history: the file can't be read")
+    want(os.listdir(f"{path}-history") == [], "something is written into it")
+
+
+@with_file
+def sql_history_that_is_not_read(path):
+    history = f"{path}-history"
+    os.symlink(history, f"{path}-loop")
+    os.symlink(f"{path}-loop", history)
+    for refused in (history, "/proc/self/mem"):
+        go_on_in_memory(path, refused, b"the history: the file can't be read")
+    if os.geteuid() != 0:
+        with open(f"{path}-closed", "wb") as file:
+            file.write(DAMAGED)
+        os.chmod(f"{path}-closed", 0o200)
+        go_on_in_memory(path, f"{path}-closed", b"the history: the file can't be read")
+        want(os.path.getsize(f"{path}-closed") == len(DAMAGED), "it is written")
+
+
+@with_file
+def sql_history_that_is_damaged(path):
+    history = f"{path}-history"
+    with open(history, "wb") as file:
+        file.write(DAMAGED)
+    with Database(path, history=history) as session:
+        want(session.shown.count(b"the history: lines that can't be read: 3\r\n") == 1, f"it says {session.shown}")
+        session.ask(UP + b"\r", b"kept\r\n(1 row)\r\n")
+        session.quit()
+    with open(history, "rb") as file:
+        kept = file.read()
+    want(kept == DAMAGED + b"\nselect 'kept';\n.quit\n", f"the file has {kept}")
 
 
 @with_file
@@ -334,7 +380,8 @@ def sql_wrong_arguments(path):
 SQL_CHECKS = [
     sql_of_several_lines, sql_quotes_over_lines, sql_names_are_completed,
     sql_columns_of_the_tables_that_are_named, sql_columns_stand_under_the_line, sql_names_stand_in_a_menu,
-    sql_hint_is_taken, sql_history_is_kept, sql_history_that_is_not_written, sql_error_is_edited,
+    sql_hint_is_taken, sql_history_is_kept, sql_history_that_is_not_written, sql_history_that_is_a_folder,
+    sql_history_that_is_not_read, sql_history_that_is_damaged, sql_error_is_edited,
     sql_statement_is_abandoned, sql_size_within_a_line, sql_end_of_input, sql_controls_are_pictures, sql_signal,
     sql_no_database, sql_file_alone_has_all, sql_dump_with_triggers, sql_errors_of_scripts, sql_wrong_arguments,
 ]

@@ -1,18 +1,17 @@
 //! A session at a terminal in raw mode.
 
-use crate::history::{kept_history, no_statements};
 use crate::host::{SqlPromptHost, prompt_host};
 use crate::lines::{Flow, take_line, tell};
 use crate::output::Output;
 use sql_results::visible;
 use sql_session::{Session, Told, one_line};
 use sqlite::Alter;
-use std::alloc::Global;
-use std::io::{self, Read, Write};
+use std::alloc::{AllocError, Global};
+use std::io::Read;
 use std::time::Clock;
 use tw_device::{AnsiTerminal, Answer, DeviceTerminal, read_line_from};
-use tw_history_parts::WrittenHistory;
-use tw_lineedit::{BoundedHistory, Error, LineEditorHost};
+use tw_history_parts::{FileHistory, RecentHistory};
+use tw_lineedit::{Error, LineEditorHost};
 use tw_prompt::{BEGIN, END, PromptEvents, TypedEvents, read_listing};
 use tw_terminal::ScreenSize;
 
@@ -22,7 +21,10 @@ const PROMPT: &str = "sql> ";
 /// What stands before a line with which one goes on.
 const GOES_ON: &str = "   ...> ";
 
-/// What is told where statements can't be written.
+/// How many statements the history keeps.
+const STATEMENTS_KEPT: usize = 1000;
+
+/// What is told if statements can't be written.
 const NOT_KEPT: &str = "the history can't be written: it is kept up to the end of the session\n";
 
 /// A terminal, as what shows what a session tells: control characters as pictures, so that they do nothing there.
@@ -58,20 +60,22 @@ impl<T: DeviceTerminal> Output for Screen<T> {
 
 /// What is typed, what shows it, and the host between them.
 #[derive(Drop)]
-struct Prompt<R, C, T, W> {
+struct Prompt<R, C, T> {
     rt: HostRuntime,
     events: TypedEvents<R, C>,
     screen: Screen<T>,
-    host: SqlPromptHost<W>,
+    host: SqlPromptHost,
     /// The lines that were entered since a statement has begun.
     entered: String,
 }
 
-impl<R: Read, C: Clock, T: DeviceTerminal, W: Write + Drop> Prompt<R, C, T, W> {
+impl<R: Read, C: Clock, T: DeviceTerminal> Prompt<R, C, T> {
     /// Takes lines up to the end of the session.
     fn run<S: Alter>(&mut self, session: &mut Session<S>) -> Result<(), anyhow::Error> {
         self.screen.terminal.send(BEGIN)?;
         tell(session, &mut self.screen)?;
+        self.tell_unread()?;
+        self.tell_failure()?;
         self.learn_names(session)?;
         for _ in 0..u64::MAX {
             if self.read_and_take(session)? == Flow::Ends {
@@ -173,7 +177,16 @@ impl<R: Read, C: Clock, T: DeviceTerminal, W: Write + Drop> Prompt<R, C, T, W> {
         Ok(())
     }
 
-    /// Tells where the history can't be written, once.
+    /// Tells what of the history could not be read.
+    fn tell_unread(&mut self) -> Result<(), anyhow::Error> {
+        if let Some(unread) = self.host.history().unread() {
+            let told = format!(in self.screen.alloc; "the history: {unread}")?;
+            self.screen.show_lines(told.as_str())?;
+        }
+        Ok(())
+    }
+
+    /// Tells that the history can't be written, once.
     fn tell_failure(&mut self) -> Result<(), anyhow::Error> {
         if self.host.history().take_failure() {
             self.screen.show_lines(NOT_KEPT)?;
@@ -182,17 +195,25 @@ impl<R: Read, C: Clock, T: DeviceTerminal, W: Write + Drop> Prompt<R, C, T, W> {
     }
 }
 
-/// Takes the lines that are typed at a terminal of this size, with these statements before them, and writes more of
-/// them.
-fn take_with<S: Alter, W: Write + Drop>(
+/// Opens the history of statements, which is kept in a file if one is named.
+fn open_history(rt: HostRuntime, path: Option<&String>) -> Result<FileHistory, AllocError> {
+    match path {
+        Some(path) => FileHistory::open(rt, path.as_str(), STATEMENTS_KEPT),
+        None => {
+            let statements = RecentHistory::new(rt.alloc(), STATEMENTS_KEPT);
+            Ok(FileHistory::in_memory(rt.alloc(), statements))
+        }
+    }
+}
+
+/// Takes the lines that are typed at a terminal of this size. The statements are kept in a file if one is named.
+pub fn take_typed<S: Alter>(
     rt: HostRuntime,
     session: &mut Session<S>,
     size: ScreenSize,
-    statements: BoundedHistory,
-    writer: W,
+    path: Option<&String>,
 ) -> Result<(), anyhow::Error> {
     let alloc = rt.alloc();
-    let history = WrittenHistory::new(alloc, statements, writer);
     let mut prompt = Prompt {
         rt,
         events: PromptEvents::new(alloc, rt.stdin(), rt),
@@ -200,28 +221,8 @@ fn take_with<S: Alter, W: Write + Drop>(
             alloc,
             terminal: AnsiTerminal::new(alloc, rt.stdout(), size),
         },
-        host: prompt_host(alloc, history, PROMPT, size.cols)?,
+        host: prompt_host(alloc, open_history(rt, path)?, PROMPT, size.cols)?,
         entered: String::new(alloc),
     };
     prompt.run(session)
-}
-
-/// Takes the lines that are typed at a terminal of this size. The statements are kept in a file, where one is named.
-pub fn take_typed<S: Alter>(
-    rt: HostRuntime,
-    session: &mut Session<S>,
-    size: ScreenSize,
-    path: Option<&String>,
-) -> Result<(), anyhow::Error> {
-    let Some(path) = path else {
-        return take_with(rt, session, size, no_statements(rt.alloc()), io::empty());
-    };
-    let kept = kept_history(rt, path.as_str())?;
-    match kept.file {
-        Some(file) => take_with(rt, session, size, kept.statements, file),
-        None => {
-            session.tell(NOT_KEPT)?;
-            take_with(rt, session, size, kept.statements, io::empty())
-        }
-    }
 }

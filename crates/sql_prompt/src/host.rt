@@ -5,11 +5,10 @@ use crate::completers::{completers, words};
 use sql_host::{SqlHost, SqlStyles};
 use sql_language::Catalog;
 use std::alloc::{AllocError, Global};
-use std::io::Write;
-use tw_history_parts::WrittenHistory;
+use tw_history_parts::FileHistory;
 use tw_hosts::PromptScreen;
 use tw_key_parts::{Keys, KillRing, LetterWords, PrefixSearch, ReadlineKeys, UndoSteps};
-use tw_lineedit::{BoundedHistory, NopLineEditorHost};
+use tw_lineedit::NopLineEditorHost;
 use tw_prompt_host::{AllLines, Going, Hints, MenuStyle, PromptHost};
 use tw_surface::{CellAttributes, ColorAttribute, Intensity};
 
@@ -25,9 +24,6 @@ const KEYWORDS: &str =
 /// How many rows a menu of completions takes.
 const MENU_ROWS: usize = 4;
 
-/// The history of a prompt, whose statements are written too.
-pub type PromptHistory<W> = WrittenHistory<BoundedHistory, W>;
-
 /// The keys of the prompt: for undos, which have Ctrl-U after Ctrl-X, then for words, lines of the history and kills.
 type SqlKeys = (
     UndoSteps,
@@ -38,12 +34,7 @@ type SqlKeys = (
 );
 
 /// The host of the prompt.
-pub type SqlPromptHost<W> = PromptHost<
-    SqlHost<NopLineEditorHost>,
-    PromptHistory<W>,
-    SqlKeys,
-    AllLines,
->;
+pub type SqlPromptHost = PromptHost<SqlHost<NopLineEditorHost>, FileHistory, SqlKeys, AllLines>;
 
 /// A style of one colour of the palette.
 fn coloured(index: u8) -> CellAttributes {
@@ -80,12 +71,12 @@ fn sql_keys(alloc: Global) -> SqlKeys {
 }
 
 /// Creates the host of a prompt on a screen of `cols` columns. It knows no names and no files yet.
-pub fn prompt_host<W: Write + Drop>(
+pub fn prompt_host(
     alloc: Global,
-    history: PromptHistory<W>,
+    history: FileHistory,
     prompt: &str,
     cols: usize,
-) -> Result<SqlPromptHost<W>, AllocError> {
+) -> Result<SqlPromptHost, AllocError> {
     let host = SqlHost {
         host: NopLineEditorHost::new(alloc),
         keywords: words(alloc, KEYWORDS)?,

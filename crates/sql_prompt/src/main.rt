@@ -9,7 +9,6 @@
 
 mod at_terminal;
 mod completers;
-mod history;
 mod host;
 mod lines;
 mod options;

@@ -1,12 +1,15 @@
 //! A history whose lines are written, and read again.
 
-use crate::unique::lines_text;
+use crate::recent::lines_text;
 use std::alloc::Global;
-use std::io::{self, Error, ErrorKind, Read, Write};
+use std::io::{self, Error, ErrorKind, Write};
 use std::test::Fail;
 use test_cases::{bytes_of, expect_rows};
-use tw_history::{BasicHistory, History};
-use tw_history_parts::{UniqueHistory, WrittenHistory, read_history};
+use tw_history::History;
+use tw_history_parts::{RecentHistory, WrittenHistory};
+
+/// How many lines the histories keep.
+const LINES_KEPT: usize = 10;
 
 /// A writer to memory that fails after `calls_left` calls.
 #[derive(Drop)]
@@ -32,42 +35,34 @@ impl Write for Full {
     }
 }
 
-/// A reader that refuses.
-#[derive(Drop)]
-struct Broken;
-
-impl Read for Broken {
-    fn read(&mut self, _buf: &mut [u8]) -> io::Result<usize> {
-        Err(Error::from(ErrorKind::BrokenPipe))
-    }
-}
-
-/// Returns the lines of a file.
+/// Returns the lines of a file in which lines are kept, and what was not read of it.
 fn read(alloc: Global, text: &str) -> Result<String, Fail> {
     let bytes = bytes_of(alloc, text)?;
-    let mut history = BasicHistory::new(alloc);
-    let mut reader = bytes.as_slice();
-    read_history(alloc, &mut reader, &mut history)?;
-    lines_text(alloc, &history)
-}
-
-/// Reads from a broken reader into a history with a line. Returns the fault and the lines.
-fn read_refused(alloc: Global, line: &str) -> Result<String, Fail> {
-    let mut history = BasicHistory::new(alloc);
-    history.add(line)?;
-    let read = read_history(alloc, &mut Broken, &mut history);
+    let history = resume(alloc, &bytes, Vec::new(alloc))?;
     let lines = lines_text(alloc, &history)?;
-    match read {
-        Ok(()) => Ok(lines),
-        Err(fault) => Ok(format!(in alloc; "{fault:?} {lines}")?),
+    match history.unread() {
+        Some(unread) => Ok(format!(in alloc; "{unread}; {lines}")?),
+        None => Ok(lines),
     }
 }
 
-/// Returns the bytes that are written for added lines: `LINE|LINE..`.
-fn write(alloc: Global, lines: &str) -> Result<String, Fail> {
+/// Resumes the history of a file over a writer.
+fn resume<W: Write + Drop>(
+    alloc: Global,
+    bytes: &[u8],
+    writer: W,
+) -> Result<WrittenHistory<RecentHistory, W>, Fail> {
+    let history = RecentHistory::new(alloc, LINES_KEPT);
+    Ok(WrittenHistory::resume(alloc, history, bytes, Some(writer))?)
+}
+
+/// Returns the bytes that are written for lines that are added to those of a file: `BYTES<LINE|LINE..`.
+fn write(alloc: Global, command: &str) -> Result<String, Fail> {
+    let (text, lines) = command.split_once('<').ok_or("no lines")?;
+    let before = bytes_of(alloc, text)?;
     let mut bytes = Vec::new(alloc);
     {
-        let mut history = WrittenHistory::new(alloc, UniqueHistory::new(alloc), &mut bytes);
+        let mut history = resume(alloc, &before, &mut bytes)?;
         for line in lines.split('|') {
             history.add(line)?;
         }
@@ -75,54 +70,78 @@ fn write(alloc: Global, lines: &str) -> Result<String, Fail> {
     Ok(String::from_utf8(bytes)?)
 }
 
-/// Adds lines over a writer that fails: `CALLS LINE|LINE..`. Returns the failure after each line, and the lines.
-fn write_full(alloc: Global, command: &str) -> Result<String, Fail> {
-    let (calls, lines) = command.split_once(' ').ok_or("no lines")?;
-    let full = Full {
-        bytes: Vec::new(alloc),
-        calls_left: calls.parse()?,
-    };
-    let mut history = WrittenHistory::new(alloc, BasicHistory::new(alloc), full);
+/// Returns the failure after each line that is added, and the lines.
+fn failures<W: Write + Drop>(
+    alloc: Global,
+    history: &mut WrittenHistory<RecentHistory, W>,
+    lines: &str,
+) -> Result<String, Fail> {
     let mut output = String::new(alloc);
     for line in lines.split('|') {
         history.add(line)?;
         write!(output, "{} ", history.take_failure())?;
     }
-    output.push_str(lines_text(alloc, &history)?.as_str())?;
+    output.push_str(lines_text(alloc, history)?.as_str())?;
     Ok(output)
 }
 
-/// Runs `read BYTES`, `refused LINE`, `write LINES` or `full CALLS LINES`.
+/// Adds lines over a writer that fails: `CALLS BYTES<LINE|LINE..`.
+fn write_full(alloc: Global, command: &str) -> Result<String, Fail> {
+    let (calls, command) = command.split_once(' ').ok_or("no calls")?;
+    let (text, lines) = command.split_once('<').ok_or("no lines")?;
+    let full = Full {
+        bytes: Vec::new(alloc),
+        calls_left: calls.parse()?,
+    };
+    let before = bytes_of(alloc, text)?;
+    failures(alloc, &mut resume(alloc, &before, full)?, lines)
+}
+
+/// Adds lines where none is written: `unwritten LINES` where it ought to be, `memory LINES` where it is not.
+fn write_nowhere(alloc: Global, word: &str, lines: &str) -> Result<String, Fail> {
+    let history = RecentHistory::new(alloc, LINES_KEPT);
+    let mut history: WrittenHistory<RecentHistory, Full> = match word {
+        "unwritten" => WrittenHistory::resume(alloc, history, b"", None)?,
+        _ => WrittenHistory::in_memory(alloc, history),
+    };
+    failures(alloc, &mut history, lines)
+}
+
+/// Runs `read BYTES`, `write BYTES<LINES`, `full CALLS BYTES<LINES`, `unwritten LINES` or `memory LINES`.
 fn obey(alloc: Global, command: &str) -> Result<String, Fail> {
     let (word, rest) = command.split_once(' ').unwrap_or((command, ""));
     match word {
         "read" => read(alloc, rest),
-        "refused" => read_refused(alloc, rest),
         "write" => write(alloc, rest),
-        _ => write_full(alloc, rest),
+        "full" => write_full(alloc, rest),
+        _ => write_nowhere(alloc, word, rest),
     }
 }
 
 const FILES: &str = r#"
-// what is no line loses only itself
+// what is no line loses only itself, and is counted
 read =>
 read one\ntwo\n => "one" "two"
-read one\ntwo => "one"
+read one\ntwo => lines that can't be read: 1; "one"
 read \n\n => ""
 read a\\nb\\\\n\n => "a\\nb\\\\n"
-read one\ntw\\o\nthree\\\nfour\n => "one" "four"
-read one\n\xff\n一\n => "one" "一"
+read one\ntw\\o\nthree\\\nfour\n => lines that can't be read: 2; "one" "four"
+read one\n\xff\n一\n => lines that can't be read: 1; "one" "一"
+read \xff\none\n\xfe\ntwo\ncut => lines that can't be read: 3; "one" "two"
 read one\r\n => "one\\r"
 
-// a reader that refuses adds no line
-refused a => Device "a"
-
-// lines are written as they are added
-write ls|a\nb|c:\\new| => ls\na\\nb\nc:\\\\new\n\n
+// lines are written as they are added, and a line that was cut off is ended first
+write <ls|a\nb|c:\\new| => ls\na\\nb\nc:\\\\new\n\n
+write one\n<two => two\n
+write one\ntw<two => \ntwo\n
 read ls\na\\nb\nc:\\\\new\n\n => "ls" "a\\nb" "c:\\\\new" ""
 
 // a failure is reported once, and no line is lost
-full 1 one|two|three => false true false "one" "two" "three"
+full 1 <one|two|three => false true false "one" "two" "three"
+full 1 one\ntw<two|three => true false "one" "two" "three"
+full 0 one\ntw<two|three => true false "one" "two" "three"
+unwritten one|two => true false "one" "two"
+memory one|two => false false "one" "two"
 "#;
 
 #[test]

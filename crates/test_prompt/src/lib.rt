@@ -6,7 +6,6 @@ mod beginnings;
 #[cfg(test)]
 mod completers;
 #[cfg(test)]
-#[cfg(test)]
 mod file;
 #[cfg(test)]
 mod hints;
@@ -27,13 +26,13 @@ mod prompt;
 #[cfg(test)]
 mod readline;
 #[cfg(test)]
+mod recent;
+#[cfg(test)]
 mod refusals;
 #[cfg(test)]
 mod settling;
 #[cfg(test)]
 mod tables;
-#[cfg(test)]
-mod unique;
 #[cfg(test)]
 mod validator;
 #[cfg(test)]

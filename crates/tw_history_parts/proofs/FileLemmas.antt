@@ -4,11 +4,11 @@ use Rattle.std.specs.Prelude.{◌==◌, ◌⊎◌}
 use Rattle.std.specs.List.{cons_option, filter_map}
 use Rattle.std.specs.Option.{option_to_list}
 use Rattle.std.specs.Str.{is_utf8}
-use Rattle.std.proofs.lemmas.Bool.{eqb-true}
+use Rattle.std.proofs.lemmas.Bool.{eqb-true, not-false}
 use Rattle.std.proofs.lemmas.List.Elements.{filter_map-append}
-use Rattle.tw_history_parts.specs.FileLaws.{AreTexts, BeginningIsRead, DamageStaysAlone, WrittenAreRead}
-use Rattle.tw_history_parts.specs.HistoryFile.{escaped, escaped_byte, line_of, lines_in, unescaped, whole_lines, with_byte, with_byte_in_front, written_line, written_lines}
-use Rattle.tw_history_parts.proofs.ReadingLemmas.{lines_cut}
+use Rattle.tw_history_parts.specs.FileLaws.{AreTexts, BeginningIsRead, DamageStaysAlone, ResumedAreRead, WrittenAreRead}
+use Rattle.tw_history_parts.specs.HistoryFile.{ended, escaped, escaped_byte, is_cut_off, line_of, lines_in, unescaped, whole_lines, with_byte, with_byte_in_front, written_line, written_lines}
+use Rattle.tw_history_parts.proofs.ReadingLemmas.{cut_off-behind, lines_cut}
 
 -- ---- one byte
 
@@ -165,3 +165,29 @@ damage_stays_alone before text after free =
     ap (filter_map line_of) (behind_feed before (text ++ (10 ∷ after)))
     ∙ filter_map-append line_of (whole_lines (before ++ 10 ∷ [])) (whole_lines (text ++ (10 ∷ after)))
     ∙ ap (λ l. lines_in (before ++ 10 ∷ []) ++ l) (lines_cut (text ++ (10 ∷ after)) text after (free, refl) ∙ found-list (line_of text) (lines_in after))
+
+-- ---- what is written after a file
+
+-- a file whose last text is not cut off is empty, or a line feed ends it
+not_cut_off : (bytes : List ℕ) → is_cut_off bytes ≡ false → (bytes ≡ []) ⊎ ((before : List ℕ) × (bytes ≡ before ++ 10 ∷ []))
+not_cut_off [] e = inl refl
+not_cut_off (b ∷ []) e = inr ([], ap (λ c. c ∷ []) (eqb-true b 10 (not-false (b == 10) e)))
+not_cut_off (b ∷ c ∷ bytes) e =
+    ⊎_elim
+    (λ empty. absurd (cc))
+    (λ ends. inr (b ∷ ends.0, ap (λ l. b ∷ l) ends.1)) (not_cut_off (c ∷ bytes) (sym (cut_off-behind (b ∷ []) c bytes) ∙ e))
+
+ended_ends : (bytes : List ℕ) (x : Bool) → is_cut_off bytes ≡ x → (ended bytes ≡ []) ⊎ ((before : List ℕ) × (ended bytes ≡ before ++ 10 ∷ []))
+ended_ends bytes true e = inr (bytes, rw e refl)
+ended_ends bytes false e = rw e (not_cut_off bytes e)
+
+pub resumed_are_read : ResumedAreRead
+resumed_are_read bytes lines texts =
+    ⊎_elim
+    (λ empty. rw empty (written_are_read lines texts))
+    (λ ends. ap (λ l. lines_in (l ++ written_lines lines)) ends.1
+    ∙ ap (filter_map line_of) (behind_feed ends.0 (written_lines lines))
+    ∙ filter_map-append line_of (whole_lines (ends.0 ++ 10 ∷ [])) (whole_lines (written_lines lines))
+    ∙ ap (λ l. lines_in (ends.0 ++ 10 ∷ []) ++ l) (written_are_read lines texts)
+    ∙ ap (λ l. lines_in l ++ lines) (sym ends.1))
+    (ended_ends bytes _ refl)

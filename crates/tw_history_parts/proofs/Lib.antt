@@ -1,4 +1,4 @@
 pub mod EscapeLemmas
 pub mod FileLemmas
 pub mod ReadingLemmas
-pub mod UniqueLemmas
+pub mod RecentLemmas

@@ -3,7 +3,7 @@ use Rattle.std.specs.Prelude.{◌≡◌, ◌<◌, ◌≤◌, ◌+◌, ℕ, true,
 use Rattle.std.specs.List.{All}
 use Rattle.std.specs.Option.{option_to_list}
 use Rattle.std.specs.Str.{is_utf8}
-use Rattle.tw_history_parts.specs.HistoryFile.{line_of, lines_in, written_lines}
+use Rattle.tw_history_parts.specs.HistoryFile.{ended, line_of, lines_in, written_lines}
 
 -- lines that are texts
 abbrev pub AreTexts : List (List ℕ) → Type 0
@@ -25,3 +25,7 @@ abbrev pub DamageStaysAlone : Type 0
 DamageStaysAlone = (before text after : List ℕ) → ¬ (Contains text 10)
     → lines_in ((before ++ 10 ∷ []) ++ (text ++ (10 ∷ after)))
     ≡ lines_in (before ++ 10 ∷ []) ++ (option_to_list (line_of text) ++ lines_in after)
+
+-- Lines that are written after a file, whatever it has, are read after its own.
+abbrev pub ResumedAreRead : Type 0
+ResumedAreRead = (bytes : List ℕ) (lines : List (List ℕ)) → AreTexts lines → lines_in (ended bytes ++ written_lines lines) ≡ lines_in (ended bytes) ++ lines

@@ -1,7 +1,9 @@
 -- How the lines of a history stand in a file.
-use Rattle.std.specs.Prelude.{◌≡◌, ◌==◌, ℕ, Bool, true, false, if◌then◌else◌, List, [], ◌∷◌, ◌++◌, Option, Some, None, option_map, Contains}
+use Rattle.std.specs.Prelude.{◌≡◌, ◌==◌, ◌-◌, ℕ, Bool, true, false, not, if◌then◌else◌, List, [], ◌∷◌, ◌++◌, length, Option, Some, None, option_map, slice_get, Contains}
 use Rattle.std.specs.List.{filter_map, flat_map}
 use Rattle.std.specs.Str.{is_utf8}
+use Rattle.tw_history_parts.specs.declared.file.Unread.{Unread}
+use Rattle.tw_history_parts.specs.declared.file.Unread.TheVariants.{Lines}
 
 -- what a byte of a line is written as: a backslash is two of them, and a line feed a backslash and an n
 abbrev pub escaped_byte : ℕ → List ℕ
@@ -68,6 +70,27 @@ whole_lines (b ∷ bytes) = if b == 10 then [] ∷ whole_lines bytes else with_b
 -- the lines in a file: of its texts that a line feed ends those that are one
 abbrev pub lines_in : List ℕ → List (List ℕ)
 lines_in bytes = filter_map line_of (whole_lines bytes)
+
+-- whether the last byte, if there is one, is no line feed
+abbrev pub is_no_feed : Option ℕ → Bool
+is_no_feed None = false
+is_no_feed (Some b) = not (b == 10)
+
+-- whether the last text of a file is cut off: no line feed ends it
+abbrev pub is_cut_off : List ℕ → Bool
+is_cut_off bytes = is_no_feed (slice_get bytes (length bytes - 1))
+
+-- the file with a line feed after a text that is cut off
+abbrev pub ended : List ℕ → List ℕ
+ended bytes = if is_cut_off bytes then bytes ++ 10 ∷ [] else bytes
+
+-- how many texts of a file are no lines, the one that is cut off among them
+abbrev pub lost_in : List ℕ → ℕ
+lost_in bytes = length (whole_lines (ended bytes)) - length (lines_in bytes)
+
+-- what of a file is not read
+abbrev pub unread_in : List ℕ → Option Unread
+unread_in bytes = if lost_in bytes == 0 then None else Some (Lines (lost_in bytes))
 
 -- bytes that are cut at their first line feed
 abbrev pub IsCutAtFeed : List ℕ → List ℕ → List ℕ → Type 0

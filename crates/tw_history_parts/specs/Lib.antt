@@ -1,6 +1,5 @@
 pub mod FileLaws
 pub mod HistoryFile
 pub mod Reading
-pub mod Unique
-pub mod UniqueLaws
+pub mod Recent
 pub mod Written

@@ -1,13 +1,16 @@
-//! Histories beside those of `tw_history`: one that keeps no line twice, and one whose lines are written to a file too,
-//! with what reads such a file.
+//! Histories beside those of `tw_history`: `FileHistory` is kept in a file, and `RecentHistory` keeps the newest lines,
+//! none twice if it is told so.
+//!
+//! `lines` has how a line stands in a file, `file` what reads such lines, `written` a history whose lines are written,
+//! and `laws` what follows from the definitions.
 #![tactic(auto)]
 
 mod file;
 pub mod laws;
 mod lines;
-mod unique;
+mod recent;
 mod written;
 
-pub use file::{ReadFault, read_history};
-pub use unique::UniqueHistory;
-pub use written::WrittenHistory;
+pub use file::Unread;
+pub use recent::RecentHistory;
+pub use written::{FileHistory, WrittenHistory};

@@ -1,78 +1,182 @@
 //! A history whose lines are written too.
 
 ghost use Rattle.std.specs.Cow.{cow_str_bytes};
-ghost use Rattle.std.specs.Prelude.{◌≡◌, IfOk, IfSome, IsCharBoundary, OnErr, OnOk, Some, option_map, slice_get};
+ghost use Rattle.std.specs.Prelude.{◌≡◌, ◌∷◌, [], IfOk, IfSome, IsCharBoundary, None, OnErr, OnOk, Some, false, is_none, option_map, slice_get, true};
 ghost use Rattle.tw_history.specs.NearestMatch.{last_line};
-ghost use Rattle.tw_history_parts.specs.Written.{IsPut, IsToldOnce, Writes};
-ghost use Rattle.tw_history_parts.specs.declared.written.Writing.TheVariants.{Goes};
+ghost use Rattle.tw_history_parts.specs.HistoryFile.{is_cut_off, lines_in, unread_in};
+ghost use Rattle.tw_history_parts.specs.Reading.{AddsAll};
+ghost use Rattle.tw_history_parts.specs.Recent.{at_least_one};
+ghost use Rattle.tw_history_parts.specs.Written.{IsPut, Writes};
 
+use crate::file::{Unread, is_cut_off, read_lines};
 use crate::lines::written_line;
+use crate::recent::RecentHistory;
 use std::alloc::{AllocError, Global};
 use std::borrow::CowStr;
-use std::io::Write;
+use std::fs::{self, File, OpenOptions};
+use std::io::{self, ErrorKind, Write};
 use tw_history::{History, HistoryIndex, LentLines, SearchDirection, SearchResult, SearchStyle};
 
-/// Whether lines are written.
-#[derive(Clone, Copy, Debug, PartialEq, Eq)]
-pub enum Writing {
-    /// Each line is written.
-    Goes,
-    /// The writer has refused a line, and nothing is written any more.
-    Failed,
-    /// So it is, and the owner knows.
-    FailureIsTold,
-}
-
-/// Another history, whose lines are written too, each as it is added, such as to the end of a file. What was written
-/// can be read by `read_history`. The lines that the other history has already are not written.
+/// Another history, whose lines are written too, each as it is added, such as to the end of a file.
 ///
-/// Where the writer refuses, no line is lost in memory: the line is added, and nothing is written any more.
+/// If the writer refuses, no line is lost in memory: the line is added, and nothing is written any more.
 #[derive(Debug, Drop)]
 pub struct WrittenHistory<L, W> {
     history: L,
-    writer: W,
-    writing: Writing,
+    /// None if lines are not written.
+    writer: Option<W>,
+    /// Whether lines can't be written, and the owner does not know.
+    has_failed: bool,
+    unread: Option<Unread>,
     alloc: Global,
 }
 
-impl<L: History, W: Write> WrittenHistory<L, W> {
-    /// The history, and where its lines are written from now on. Takes no memory.
-    pub fn new(alloc: Global, history: L, writer: W) -> Self
+/// A history of the newest lines that is kept in a file.
+pub type FileHistory = WrittenHistory<RecentHistory, File>;
+
+impl<L: History, W: Write + Drop> WrittenHistory<L, W> {
+    /// Creates a history whose lines are not written, which is no failure. Takes no memory.
+    pub fn in_memory(alloc: Global, history: L) -> Self
         ensures history { result.history ≡ history }
-        ensures writer { result.writer ≡ writer }
-        ensures writing { result.writing ≡ Goes }
+        ensures writer { result.writer ≡ None }
+        ensures failed { result.has_failed ≡ false }
+        ensures unread { result.unread ≡ None }
     {
         WrittenHistory {
             history,
-            writer,
-            writing: Writing::Goes,
+            writer: None,
+            has_failed: false,
+            unread: None,
             alloc,
         }
     }
 
-    /// Whether the writer has refused a line, which is told once.
-    pub fn take_failure(&mut self) -> bool
-        ensures told { IsToldOnce result self.old.writing self.new.writing }
-        ensures history { self.new.history ≡ self.old.history }
-        ensures writer { self.new.writer ≡ self.old.writer }
+    /// Adds the lines that were written before to a history, the oldest first, and writes its lines after them from now
+    /// on. If the last one was cut off, a line feed is written at once, so that the next one is a line by itself. Having
+    /// no writer is a failure.
+    pub fn resume(
+        alloc: Global,
+        history: L,
+        bytes: &[u8],
+        writer: Option<W>,
+    ) -> Result<Self, AllocError>
+    where
+        L: Drop,
+        ensures added { IfOk result (λ it. AddsAll L.add_gives (lines_in bytes.now) history it.history) }
+        ensures unread { IfOk result (λ it. it.unread ≡ unread_in bytes.now) }
+        ensures failed { IfOk result (λ it. it.has_failed ≡ is_none it.writer) }
+        ensures ended { is_cut_off bytes.now ≡ true → IfOk result (λ it.
+            IsPut W.contents (10 ∷ []) (is_none writer) writer it.has_failed it.writer) }
+        ensures whole { is_cut_off bytes.now ≡ false → IfOk result (λ it.
+            (it.writer ≡ writer) × (it.has_failed ≡ is_none writer)) }
     {
-        if self.writing == Writing::Failed {
-            self.writing = Writing::FailureIsTold;
-            return true;
+        let mut history = history;
+        let lost = read_lines(alloc, bytes, &mut history)?;
+        let mut resumed = WrittenHistory {
+            history,
+            has_failed: writer.is_none(),
+            writer,
+            unread: if lost == 0 {
+                None
+            } else {
+                Some(Unread::Lines(lost))
+            },
+            alloc,
+        };
+        if is_cut_off(bytes) {
+            resumed.put(b"\n");
         }
-        false
+        Ok(resumed)
     }
 
-    /// Writes some bytes, where lines are written.
-    fn put(&mut self, bytes: &[u8])
-        ensures put { IsPut W.contents bytes.now self.old.writing self.old.writer self.new.writing self.new.writer }
-        ensures history { self.new.history ≡ self.old.history }
+    /// Returns what of the lines that were written before could not be read. It is written there still.
+    pub fn unread(&self) -> Option<Unread>
+        ensures { result ≡ self.now.unread }
     {
-        if self.writing != Writing::Goes {
+        self.unread
+    }
+
+    /// Returns whether lines can't be written, which is told once.
+    pub fn take_failure(&mut self) -> bool
+        ensures told { result ≡ self.old.has_failed }
+        ensures known { self.new.has_failed ≡ false }
+        ensures history { self.new.history ≡ self.old.history }
+        ensures writer { self.new.writer ≡ self.old.writer }
+        ensures unread { self.new.unread ≡ self.old.unread }
+    {
+        std::mem::replace(&mut self.has_failed, false)
+    }
+
+    /// Writes some bytes, if lines are written. A writer that refuses is let go.
+    fn put(&mut self, bytes: &[u8])
+        ensures put { IsPut W.contents bytes.now self.old.has_failed self.old.writer self.new.has_failed self.new.writer }
+        ensures history { self.new.history ≡ self.old.history }
+        ensures unread { self.new.unread ≡ self.old.unread }
+    {
+        let Some(mut writer) = self.writer.take() else {
             return;
+        };
+        if writer.write_all(bytes).is_ok() && writer.flush().is_ok() {
+            self.writer = Some(writer);
+        } else {
+            self.has_failed = true;
         }
-        if self.writer.write_all(bytes).is_err() || self.writer.flush().is_err() {
-            self.writing = Writing::Failed;
+    }
+}
+
+/// Returns the bytes of a file, which are none if there is no file.
+fn bytes_of(rt: HostRuntime, path: &str) -> io::Result<Vec<u8>> {
+    match fs::read(&rt, path) {
+        Err(fault) if fault.kind() == ErrorKind::NotFound => Ok(Vec::new(rt.alloc())),
+        read => read,
+    }
+}
+
+/// Opens a file to write at its end. It is made if there is none.
+fn open_end(rt: HostRuntime, path: &str) -> io::Result<File> {
+    OpenOptions::new().append(true).create(true).open(&rt, path)
+}
+
+impl WrittenHistory<RecentHistory, File> {
+    /// Opens the history in a file, of which the newest `limit` lines are kept in memory, at least one. The file is made
+    /// if there is none, and is never cut: each line that is added is written at its end.
+    ///
+    /// A file that can't be read is not written either. `unread` returns what was not read, and `take_failure` whether
+    /// lines can't be written: they are kept in memory then.
+    pub fn open(rt: HostRuntime, path: &str, limit: usize) -> Result<Self, AllocError>
+        ensures kept { IfOk result (λ it. (it.history.limit ≡ at_least_one limit) × (it.history.is_unique ≡ false)) }
+        ensures failed { IfOk result (λ it. it.has_failed ≡ is_none it.writer) }
+    {
+        FileHistory::open_over(rt, path, RecentHistory::new(rt.alloc(), limit))
+    }
+
+    /// Opens the history in a file as `open` does, but keeps no line twice in memory: one that is added again goes to the
+    /// end.
+    pub fn open_unique(rt: HostRuntime, path: &str, limit: usize) -> Result<Self, AllocError>
+        ensures kept { IfOk result (λ it. (it.history.limit ≡ at_least_one limit) × (it.history.is_unique ≡ true)) }
+        ensures failed { IfOk result (λ it. it.has_failed ≡ is_none it.writer) }
+    {
+        FileHistory::open_over(rt, path, RecentHistory::unique(rt.alloc(), limit))
+    }
+
+    /// Opens the history in a file, over lines in memory.
+    #[tactic(auto, using(crate::proofs::RecentLemmas::adds_keep_limit, crate::proofs::RecentLemmas::adds_keep_unique))]
+    fn open_over(rt: HostRuntime, path: &str, lines: RecentHistory) -> Result<Self, AllocError>
+        ensures limit { IfOk result (λ it. it.history.limit ≡ lines.limit) }
+        ensures unique { IfOk result (λ it. it.history.is_unique ≡ lines.is_unique) }
+        ensures failed { IfOk result (λ it. it.has_failed ≡ is_none it.writer) }
+    {
+        match bytes_of(rt, path) {
+            Ok(bytes) => {
+                WrittenHistory::resume(rt.alloc(), lines, &bytes, open_end(rt, path).ok())
+            }
+            Err(_) => Ok(WrittenHistory {
+                history: lines,
+                writer: None,
+                has_failed: true,
+                unread: Some(Unread::File),
+                alloc: rt.alloc(),
+            }),
         }
     }
 }
@@ -89,7 +193,7 @@ impl<L: History + LentLines, W: Write> LentLines for WrittenHistory<L, W> {
     }
 }
 
-impl<L: History, W: Write> History for WrittenHistory<L, W> {
+impl<L: History, W: Write + Drop> History for WrittenHistory<L, W> {
     ghost lines = { λ h. L.lines h.history };
 
     ghost add_gives = { λ history line grown. Writes L.add_gives W.contents line history grown };
@@ -102,13 +206,14 @@ impl<L: History, W: Write> History for WrittenHistory<L, W> {
         self.history.last()
     }
 
-    /// Adds a line to the other history, and writes it. Where memory is lacking, nothing is written.
+    /// Adds a line to the other history, and writes it. If memory is lacking, nothing is written.
     fn add(&mut self, line: &str) -> Result<(), AllocError>
         ensures last { OnOk result (last_line (L.lines self.new.history) ≡ Some line.now) }
         ensures refused { OnErr result (L.lines self.new.history ≡ L.lines self.old.history) }
         ensures added { OnOk result (Writes L.add_gives W.contents line.now self.old self.new) }
         ensures unwritten { OnErr result (self.new.writer ≡ self.old.writer) }
-        ensures writing { OnErr result (self.new.writing ≡ self.old.writing) }
+        ensures failed { OnErr result (self.new.has_failed ≡ self.old.has_failed) }
+        ensures unread { self.new.unread ≡ self.old.unread }
     {
         let written = written_line(self.alloc, line)?;
         self.history.add(line)?;

@@ -1,10 +1,10 @@
-//! A history that keeps no line twice.
+//! A history that keeps the newest lines.
 
 use std::alloc::Global;
 use std::test::Fail;
 use test_cases::expect_rows;
 use tw_history::{History, LentLines, SearchDirection, SearchStyle};
-use tw_history_parts::UniqueHistory;
+use tw_history_parts::RecentHistory;
 
 /// Returns the lines of a history in quotation marks.
 pub fn lines_text<L: LentLines>(alloc: Global, history: &L) -> Result<String, Fail> {
@@ -16,7 +16,7 @@ pub fn lines_text<L: LentLines>(alloc: Global, history: &L) -> Result<String, Fa
 }
 
 /// Searches backwards: `INDEX PATTERN`. Returns the index and the offset.
-fn found(alloc: Global, history: &UniqueHistory, sought: &str) -> Result<String, Fail> {
+fn found(alloc: Global, history: &RecentHistory, sought: &str) -> Result<String, Fail> {
     let (index, pattern) = sought.split_once(' ').ok_or("no pattern")?;
     let (style, direction) = (SearchStyle::Substring, SearchDirection::Backwards);
     let index = index.parse()?;
@@ -26,16 +26,19 @@ fn found(alloc: Global, history: &UniqueHistory, sought: &str) -> Result<String,
     }
 }
 
-/// Returns the lines of a history after additions, `LINE;LINE..`. Prefixes: `spaced; ` forgets lines that begin with a
-/// space, `find INDEX PATTERN; ` returns what is found.
+/// Returns the lines of a history after additions: `newest LIMIT; LINE;LINE..`, or `once LIMIT; ..` if no line is kept
+/// twice. Prefix: `find INDEX PATTERN; ` returns what is found.
 fn kept(alloc: Global, command: &str) -> Result<String, Fail> {
-    let (mut history, lines) = match command.strip_prefix("spaced; ") {
-        Some(lines) => (UniqueHistory::forgetting_spaced(alloc), lines),
-        None => (UniqueHistory::new(alloc), command),
+    let (sought, command) = match command.strip_prefix("find ") {
+        Some(rest) => rest.split_once("; ").ok_or("no history")?,
+        None => ("", command),
     };
-    let (sought, lines) = match lines.strip_prefix("find ") {
-        Some(rest) => rest.split_once("; ").ok_or("no lines")?,
-        None => ("", lines),
+    let (named, lines) = command.split_once("; ").ok_or("no lines")?;
+    let (word, limit) = named.split_once(' ').ok_or("no limit")?;
+    let limit = limit.parse()?;
+    let mut history = match word {
+        "once" => RecentHistory::unique(alloc, limit),
+        _ => RecentHistory::new(alloc, limit),
     };
     for line in lines.split(';') {
         history.add(line)?;
@@ -48,21 +51,23 @@ fn kept(alloc: Global, command: &str) -> Result<String, Fail> {
 }
 
 const HISTORIES: &str = r#"
-// a line that is added again goes to the end
-a;b;;a;ab;;b => "a" "ab" "" "b"
-a;b;;a;ab;;b;b; b => "a" "ab" "" "b" " b"
+// the newest lines are kept, one at least
+newest 3; a;b;c;d => "b" "c" "d"
+newest 0; a;b => "b"
+newest 3; a;b;b;a => "a" "b" "a"
 
-// as zsh has it: a line that begins with a space can be recalled until another one is entered
-spaced; a; secret => "a" " secret"
-spaced; a; secret;b => "a" "b"
-spaced; a; secret;b; ; secret;\tb => "a" "b" "\\tb"
+// a line that is added again goes to the end
+once 9; a;b;;a;ab;;b => "a" "ab" "" "b"
+once 9; a;b;;a;ab;;b;b; b => "a" "ab" "" "b" " b"
+once 3; a;b;c;a;d => "c" "a" "d"
+once 1; a;b;a => "a"
 
 // the newest line is found
-find 2 make; make a;ls;make b;make a => 2 0
-find 1 b; make a;ls;make b;make a => 1 5
+find 2 make; once 9; make a;ls;make b;make a => 2 0
+find 1 b; once 9; make a;ls;make b;make a => 1 5
 "#;
 
 #[test]
-fn no_line_is_kept_twice(rt: HostRuntime) -> Result<(), Fail> {
+fn newest_lines_are_kept(rt: HostRuntime) -> Result<(), Fail> {
     expect_rows(rt.alloc(), HISTORIES, kept)
 }

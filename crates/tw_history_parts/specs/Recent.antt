@@ -1,0 +1,45 @@
+-- A history that keeps the newest lines, and none twice if it is told so.
+use Rattle.std.specs.Prelude.{◌≡◌, ◌≢◌, ◌==◌, ℕ, Bool, true, eqb, not, List, [], ◌∷◌, ◌++◌, Option, Some, None, if◌then◌else◌}
+use Rattle.std.specs.Cmp.Lexicographic.{pointwise}
+use Rattle.std.specs.List.{AllPairs, filter, remove}
+use Rattle.tw_history.specs.Bounded.{newest}
+use Rattle.tw_history.specs.HistoryAdditions.{is_line}
+use Rattle.tw_history.specs.NearestMatch.{last_line}
+
+-- the lines, how many are kept at most, and whether none is to stand twice
+pub record RecentLines : Type 0 where
+  pub lines : List (List ℕ)
+  pub limit : ℕ
+  pub is_unique : Bool
+
+abbrev pub at_least_one : ℕ → ℕ
+at_least_one count = if count == 0 then 1 else count
+
+-- the history of no lines
+abbrev pub no_recent_lines : ℕ → Bool → RecentLines
+no_recent_lines limit is_unique = record { lines = []; limit = at_least_one limit; is_unique = is_unique }
+
+-- whether an older line is another one
+abbrev pub is_other : List ℕ → List ℕ → Bool
+is_other line older = not (pointwise eqb older line)
+
+-- the lines that stay where one is added: the others, if none is to stand twice
+abbrev pub older_lines : RecentLines → List ℕ → List (List ℕ)
+older_lines h line = if h.is_unique then filter (is_other line) h.lines else h.lines
+
+-- the newest of these and the line; one that is the last line already changes nothing
+abbrev pub with_recent : RecentLines → List ℕ → RecentLines
+with_recent h line = if is_line line (last_line h.lines) then h else record h { lines = newest h.limit (older_lines h line ++ line ∷ []) }
+
+-- the lines without the one at an index, if there is one
+abbrev pub without : Option ℕ → List (List ℕ) → List (List ℕ)
+without None lines = lines
+without (Some at) lines = remove lines at
+
+-- no line stands twice
+abbrev pub AreUnique : List (List ℕ) → Type 0
+AreUnique lines = AllPairs (λ older newer. older ≢ newer) lines
+
+-- of lines none of which stands twice none does once a line is added
+abbrev pub StaysUnique : Type 0
+StaysUnique = (h : RecentLines) (line : List ℕ) → h.is_unique ≡ true → AreUnique h.lines → AreUnique (with_recent h line).lines

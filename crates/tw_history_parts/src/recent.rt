@@ -1,0 +1,210 @@
+//! A history that keeps the newest lines.
+
+ghost use Rattle.std.specs.Cow.{IsBorrowedStr, cow_str_bytes};
+ghost use Rattle.std.specs.List.{All, remove};
+ghost use Rattle.std.specs.Prelude.{◌≡◌, ◌≢◌, ◌≤◌, ◌<◌, ◌==◌, ◌++◌, ◌∷◌, [], IfOk, IfSome, IsCharBoundary, IsOkAnd, None, OnErr, OnOk, Some, false, if◌then◌else◌, length, option_map, slice_get, string_bytes, true};
+ghost use Rattle.tw_history.specs.Bounded.{lines_of_entries, newest};
+ghost use Rattle.tw_history.specs.HistoryAdditions.{is_line, match_view};
+ghost use Rattle.tw_history.specs.NearestMatch.{last_line, line_at, nearest_match};
+ghost use Rattle.tw_history_parts.specs.Recent.{at_least_one, no_recent_lines, older_lines, with_recent, without};
+
+use std::alloc::{AllocError, Global};
+use std::borrow::CowStr;
+use std::collections::VecDeque;
+use std::marker::Model;
+use tw_history::{
+    History, HistoryIndex, LentLines, SearchDirection, SearchResult, SearchStyle, nearest_line,
+};
+
+/// A history in memory that keeps the newest lines, and none twice if it is told so: a line that is added again goes to
+/// the end then. It lends its lines and copies none of them.
+#[derive(Debug, Drop)]
+pub struct RecentHistory {
+    entries: VecDeque<String>,
+    limit: usize,
+    is_unique: bool,
+    alloc: Global,
+}
+
+impl Model for RecentHistory {
+    ghost use Rattle.std.specs.Prelude.{◌<◌, ◌≤◌, ◌≡◌, length, map, string_bytes, true};
+    ghost use Rattle.tw_history_parts.specs.Recent.{AreUnique, RecentLines};
+
+    ghost Value = { RecentLines };
+
+    ghost view = { λ h. record { lines = map string_bytes h.entries.items; limit = h.limit; is_unique = h.is_unique } };
+
+    ghost invariant = { λ h. (0 < h.limit) × (length h.entries.items ≤ h.limit)
+        × (h.is_unique ≡ true → AreUnique (map string_bytes h.entries.items)) };
+}
+
+/// Returns the number, or 1 if it is 0.
+fn at_least_one(count: usize) -> usize
+    ensures { result ≡ at_least_one count }
+{
+    if count == 0 { 1 } else { count }
+}
+
+/// Takes an entry away.
+fn take_away(entries: &mut VecDeque<String>, at: HistoryIndex)
+    requires { at < length entries.old.items }
+    ensures { entries.new.items ≡ remove entries.old.items at }
+{
+    let _entry = entries.remove(at);
+}
+
+/// Appends an entry, and takes the one away that it doubles, or the first one if there are more than `limit` then.
+#[tactic(auto, using(crate::proofs::RecentLemmas::pushed_double))]
+fn push_recent(
+    entries: &mut VecDeque<String>,
+    entry: String,
+    double: Option<HistoryIndex>,
+    limit: usize,
+) -> Result<(), AllocError>
+    requires fits { length entries.old.items ≤ limit }
+    requires inside { IfSome double (λ at. at < length entries.old.items) }
+    ensures ok { OnOk result (lines_of_entries entries.new.items
+        ≡ newest limit (without double (lines_of_entries entries.old.items) ++ string_bytes entry ∷ [])) }
+    ensures fits { length entries.new.items ≤ limit }
+    ensures err { OnErr result (lines_of_entries entries.new.items ≡ lines_of_entries entries.old.items) }
+{
+    entries.push_back(entry)?;
+    if let Some(at) = double {
+        take_away(entries, at);
+    } else if entries.len() > limit {
+        let _oldest = entries.pop_front();
+    }
+    Ok(())
+}
+
+impl RecentHistory {
+    /// Creates a history of no lines that keeps the newest `limit`, at least one. Takes no memory: each `add` takes it
+    /// from `alloc`.
+    pub fn new(alloc: Global, limit: usize) -> Self
+        ensures { result ≡ no_recent_lines limit false }
+    {
+        RecentHistory {
+            entries: VecDeque::new(alloc),
+            limit: at_least_one(limit),
+            is_unique: false,
+            alloc,
+        }
+    }
+
+    /// Creates a history of no lines that keeps the newest `limit`, at least one, and none twice. Takes no memory: each
+    /// `add` takes it from `alloc`.
+    pub fn unique(alloc: Global, limit: usize) -> Self
+        ensures { result ≡ no_recent_lines limit true }
+    {
+        RecentHistory {
+            entries: VecDeque::new(alloc),
+            limit: at_least_one(limit),
+            is_unique: true,
+            alloc,
+        }
+    }
+
+    fn ends_with(&self, line: &str) -> bool
+        ensures { result ≡ is_line line.now (last_line self.now.lines) }
+    {
+        match self.entries.back() {
+            Some(last) => last.as_str() == line,
+            None => false,
+        }
+    }
+
+    /// Returns the index of a line, if it stands here.
+    #[tactic(auto, using(crate::proofs::RecentLemmas::none_more))]
+    fn index_of(&self, line: &str) -> Option<HistoryIndex>
+        ensures inside { IfSome result (λ at. at < length self.now.lines) }
+        ensures is { IfSome result (λ at. line_at self.now.lines at ≡ line.now) }
+        ensures none { result ≡ None → All (λ older. older ≢ line.now) self.now.lines }
+    {
+        for at in 0..self.line_count() {
+            if self.line(at) == line {
+                return Some(at);
+            }
+        }
+        None
+    }
+
+    /// Returns the index of the line that goes away if this one is added.
+    #[tactic(auto, using(crate::proofs::RecentLemmas::others_in))]
+    fn double_of(&self, line: &str) -> Option<HistoryIndex>
+        ensures inside { IfSome result (λ at. at < length self.now.lines) }
+        ensures others { without result self.now.lines ≡ older_lines self.now line.now }
+    {
+        if self.is_unique {
+            self.index_of(line)
+        } else {
+            None
+        }
+    }
+}
+
+impl LentLines for RecentHistory {
+    ghost lines = { λ h. h.lines };
+
+    fn line_count(&self) -> usize {
+        self.entries.len()
+    }
+
+    fn line(&self, at: HistoryIndex) -> &str {
+        self.entries[at].as_str()
+    }
+}
+
+impl History for RecentHistory {
+    ghost lines = { λ h. h.lines };
+
+    ghost add_gives = { λ history line grown. grown ≡ with_recent history line };
+
+    /// The line at `idx`, which is lent and not copied. Takes no memory.
+    fn get(&self, _alloc: Global, idx: HistoryIndex) -> Result<Option<CowStr<'_>>, AllocError>
+        ensures line { IsOkAnd result (λ line. option_map cow_str_bytes line ≡ slice_get self.now.lines idx) }
+        ensures borrowed { IfOk result (λ line. IfSome line IsBorrowedStr) }
+    {
+        match self.entries.get(idx) {
+            Some(line) => Ok(Some(CowStr::Borrowed(line.as_str()))),
+            None => Ok(None),
+        }
+    }
+
+    fn last(&self) -> Option<HistoryIndex> {
+        self.entries.len().checked_sub(1)
+    }
+
+    /// Adds a line at the end, unless it is the last line already. The same line goes away if none is to stand twice, or
+    /// else the oldest one if there are too many then. If memory is lacking, the lines stay as they were.
+    #[tactic(auto, using(crate::proofs::RecentLemmas::last_is_added))]
+    fn add(&mut self, line: &str) -> Result<(), AllocError>
+        ensures last { OnOk result (last_line self.new.lines ≡ Some line.now) }
+        ensures refused { OnErr result (self.new ≡ self.old) }
+        ensures added { OnOk result (self.new ≡ with_recent self.old line.now) }
+    {
+        if self.ends_with(line) {
+            return Ok(());
+        }
+        let double = self.double_of(line);
+        let entry = String::from_str(self.alloc, line)?;
+        push_recent(&mut self.entries, entry, double, self.limit)
+    }
+
+    /// The nearest match. Each line on the side is read once at most, and none is copied. Takes no memory.
+    fn search(
+        &self,
+        _alloc: Global,
+        idx: HistoryIndex,
+        style: SearchStyle,
+        direction: SearchDirection,
+        pattern: &str,
+    ) -> Result<Option<SearchResult<'_>>, AllocError>
+        ensures found { IsOkAnd result (λ found.
+            option_map match_view found ≡ nearest_match self.now.lines idx direction pattern.now) }
+        ensures boundary { IfOk result (λ found.
+            IfSome found (λ m. IsCharBoundary (cow_str_bytes m.line) m.cursor)) }
+        ensures borrowed { IfOk result (λ found. IfSome found (λ m. IsBorrowedStr m.line)) }
+    {
+        Ok(nearest_line(self, idx, style, direction, pattern))
+    }
+}
