@@ -1,18 +1,17 @@
 //! A session at a terminal in raw mode.
 
-use crate::host::{SqlPromptHost, prompt_host};
+use crate::host::{SqlTerminal, prompt_host};
 use crate::lines::{Flow, take_line, tell};
+use crate::options::Options;
 use crate::output::Output;
 use sql_results::visible;
 use sql_session::{Session, Told, one_line};
 use sqlite::Alter;
-use std::alloc::{AllocError, Global};
-use std::io::Read;
-use std::time::Clock;
-use tw_device::{AnsiTerminal, Answer, DeviceTerminal, read_line_from};
+use std::alloc::AllocError;
+use tw_device::{AnsiTerminal, Answer};
 use tw_history_parts::{FileHistory, RecentHistory};
-use tw_lineedit::{Error, LineEditorHost};
-use tw_prompt::{BEGIN, END, PromptEvents, TypedEvents, read_listing};
+use tw_lineedit::LineEditorHost;
+use tw_prompt::{Prompt, PromptEvents, open_streams, read_listing};
 use tw_terminal::ScreenSize;
 
 /// What stands before a line with which a statement begins.
@@ -24,55 +23,56 @@ const GOES_ON: &str = "   ...> ";
 /// How many statements the history keeps.
 const STATEMENTS_KEPT: usize = 1000;
 
-/// What is told if statements can't be written.
+/// The message if statements can't be written.
 const NOT_KEPT: &str = "the history can't be written: it is kept up to the end of the session\n";
 
-/// A terminal, as what shows what a session tells: control characters as pictures, so that they do nothing there.
-#[derive(Drop)]
-struct Screen<T> {
-    alloc: Global,
-    terminal: T,
-}
-
-impl<T: DeviceTerminal> Screen<T> {
-    /// Shows lines, with pictures for control characters.
-    fn show_lines(&mut self, text: &str) -> Result<(), anyhow::Error> {
-        let mut shown = String::new(self.alloc);
-        for line in text.lines() {
-            shown.push_str(visible(self.alloc, line)?.as_str())?;
-            shown.push_str("\r\n")?;
-        }
-        if !shown.is_empty() {
-            self.terminal.send(shown.as_str())?;
-        }
-        Ok(())
+/// Prints lines, with pictures for control characters, so that they do nothing at the terminal.
+fn print_visible(
+    rt: HostRuntime,
+    prompt: &mut SqlTerminal,
+    text: &str,
+) -> Result<(), anyhow::Error> {
+    let alloc = rt.alloc();
+    let mut shown = String::new(alloc);
+    for line in text.lines() {
+        shown.push_str(visible(alloc, line)?.as_str())?;
+        shown.push('\n')?;
     }
+    prompt.print(shown.as_str())?;
+    Ok(())
 }
 
-impl<T: DeviceTerminal> Output for Screen<T> {
+/// The terminal, as what shows what a session tells.
+#[derive(Drop)]
+struct Screen {
+    rt: HostRuntime,
+    prompt: SqlTerminal,
+}
+
+impl Output for Screen {
     fn show(&mut self, told: &Told) -> Result<(), anyhow::Error> {
         match told {
-            Told::Text(text) => self.show_lines(text.as_str()),
-            Told::Failure(failure) => self.show_lines(failure.at_prompt(self.alloc)?.as_str()),
+            Told::Text(text) => print_visible(self.rt, &mut self.prompt, text.as_str()),
+            Told::Failure(failure) => {
+                let text = failure.at_prompt(self.rt.alloc())?;
+                print_visible(self.rt, &mut self.prompt, text.as_str())
+            }
         }
     }
 }
 
-/// What is typed, what shows it, and the host between them.
+/// A session at the prompt.
 #[derive(Drop)]
-struct Prompt<R, C, T> {
+struct TypedSession {
     rt: HostRuntime,
-    events: TypedEvents<R, C>,
-    screen: Screen<T>,
-    host: SqlPromptHost,
+    screen: Screen,
     /// The lines that were entered since a statement has begun.
     entered: String,
 }
 
-impl<R: Read, C: Clock, T: DeviceTerminal> Prompt<R, C, T> {
+impl TypedSession {
     /// Takes lines up to the end of the session.
     fn run<S: Alter>(&mut self, session: &mut Session<S>) -> Result<(), anyhow::Error> {
-        self.screen.terminal.send(BEGIN)?;
         tell(session, &mut self.screen)?;
         self.tell_unread()?;
         self.tell_failure()?;
@@ -82,51 +82,39 @@ impl<R: Read, C: Clock, T: DeviceTerminal> Prompt<R, C, T> {
                 break;
             }
         }
-        self.screen.terminal.send(END)?;
         Ok(())
     }
 
-    /// Reads a line and takes it. Where no statement is begun a command may be typed, and the files that it may name are
-    /// those that the directory has now.
+    /// Reads a line, with which a statement may go on, and takes it. If no statement is begun a command may be typed, and
+    /// the files that it may name are those that the directory has now.
     fn read_and_take<S: Alter>(&mut self, session: &mut Session<S>) -> Result<Flow, anyhow::Error> {
-        self.host.host.begun = String::from_str(self.screen.alloc, session.begun())?;
-        if !session.has_begun() {
-            let files = read_listing(self.rt, ".", "")?;
-            self.host.listings = vec![in self.screen.alloc; files]?;
+        let alloc = self.rt.alloc();
+        let host = &mut self.screen.prompt.host;
+        host.host.begun = String::from_str(alloc, session.begun())?;
+        if session.has_begun() {
+            host.screen.prompt = String::from_str(alloc, GOES_ON)?;
+        } else {
+            host.screen.prompt = String::from_str(alloc, PROMPT)?;
+            host.listings = vec![in alloc; read_listing(self.rt, ".", "")?]?;
         }
-        match self.read(session.has_begun()) {
-            Ok(Answer::Line(line)) => self.take(session, line.as_str()),
-            Ok(Answer::Cancelled) => {
+        match self.screen.prompt.read()? {
+            Answer::Line(line) => self.take(session, line.as_str()),
+            Answer::Cancelled => {
                 session.abandon();
                 self.remember()?;
                 self.tell_failure()?;
                 Ok(Flow::GoesOn)
             }
-            Ok(Answer::End(_)) => {
+            Answer::End(_) => {
                 session.finish()?;
                 tell(session, &mut self.screen)?;
                 Ok(Flow::Ends)
             }
-            Err(refused) => Err(refused.into()),
         }
     }
 
-    /// Reads a line, with which a statement may go on.
-    fn read(&mut self, goes_on: bool) -> Result<Answer, Error> {
-        let prompt = if goes_on { GOES_ON } else { PROMPT };
-        self.host.begin_line();
-        self.host.screen.prompt = String::from_str(self.screen.alloc, prompt)?;
-        read_line_from(
-            self.screen.alloc,
-            &mut self.events,
-            &mut self.screen.terminal,
-            &mut self.host,
-            prompt,
-        )
-    }
-
-    /// Takes a line, and shows what it tells. Where no statement goes on after it, all lines since one has begun are
-    /// kept, and names that a statement may have made are learned.
+    /// Takes a line, and shows what it tells. If no statement goes on after it, all lines since one has begun are kept,
+    /// and names that a statement may have made are learned.
     fn take<S: Alter>(
         &mut self,
         session: &mut Session<S>,
@@ -134,7 +122,7 @@ impl<R: Read, C: Clock, T: DeviceTerminal> Prompt<R, C, T> {
     ) -> Result<Flow, anyhow::Error> {
         self.entered.push_str(line)?;
         self.entered.push('\n')?;
-        session.set_columns(self.host.screen.cols);
+        session.set_columns(self.screen.prompt.host.screen.cols);
         let flow = take_line(self.rt, session, &mut self.screen, line)?;
         if !session.has_begun() {
             self.remember()?;
@@ -146,18 +134,18 @@ impl<R: Read, C: Clock, T: DeviceTerminal> Prompt<R, C, T> {
 
     /// Keeps the lines that were entered: as one line, or each by itself where quotes go over several ones.
     fn remember(&mut self) -> Result<(), anyhow::Error> {
-        let none = String::new(self.screen.alloc);
+        let none = String::new(self.rt.alloc());
         let entered = std::mem::replace(&mut self.entered, none);
         let entered = entered.as_str().trim();
         if entered.is_empty() {
             return Ok(());
         }
         if !entered.contains('\n') {
-            self.host.remember(entered)?;
+            self.screen.prompt.host.remember(entered)?;
             return Ok(());
         }
-        match one_line(self.screen.alloc, entered)? {
-            Some(line) => self.host.remember(line.as_str().trim_end())?,
+        match one_line(self.rt.alloc(), entered)? {
+            Some(line) => self.screen.prompt.host.remember(line.as_str().trim_end())?,
             None => self.remember_each(entered)?,
         }
         Ok(())
@@ -166,30 +154,30 @@ impl<R: Read, C: Clock, T: DeviceTerminal> Prompt<R, C, T> {
     /// Keeps lines, each by itself.
     fn remember_each(&mut self, entered: &str) -> Result<(), anyhow::Error> {
         for line in entered.lines() {
-            self.host.remember(line)?;
+            self.screen.prompt.host.remember(line)?;
         }
         Ok(())
     }
 
     /// Tells the host the names of the database.
     fn learn_names<S: Alter>(&mut self, session: &mut Session<S>) -> Result<(), anyhow::Error> {
-        self.host.host.catalog = session.catalog()?;
+        self.screen.prompt.host.host.catalog = session.catalog()?;
         Ok(())
     }
 
     /// Tells what of the history could not be read.
     fn tell_unread(&mut self) -> Result<(), anyhow::Error> {
-        if let Some(unread) = self.host.history().unread() {
-            let told = format!(in self.screen.alloc; "the history: {unread}")?;
-            self.screen.show_lines(told.as_str())?;
+        if let Some(unread) = self.screen.prompt.host.history().unread() {
+            let told = format!(in self.rt.alloc(); "the history: {unread}")?;
+            print_visible(self.rt, &mut self.screen.prompt, told.as_str())?;
         }
         Ok(())
     }
 
     /// Tells that the history can't be written, once.
     fn tell_failure(&mut self) -> Result<(), anyhow::Error> {
-        if self.host.history().take_failure() {
-            self.screen.show_lines(NOT_KEPT)?;
+        if self.screen.prompt.host.history().take_failure() {
+            print_visible(self.rt, &mut self.screen.prompt, NOT_KEPT)?;
         }
         Ok(())
     }
@@ -211,18 +199,22 @@ pub fn take_typed<S: Alter>(
     rt: HostRuntime,
     session: &mut Session<S>,
     size: ScreenSize,
-    path: Option<&String>,
+    options: &Options,
 ) -> Result<(), anyhow::Error> {
     let alloc = rt.alloc();
-    let mut prompt = Prompt {
+    let host = prompt_host(alloc, open_history(rt, options.history.as_ref())?, PROMPT)?;
+    let file = options.terminal.as_ref().map(|file| file.as_str());
+    let (input, output) = open_streams(rt, file)?;
+    let events = PromptEvents::new(alloc, input, rt);
+    let terminal = AnsiTerminal::new(alloc, output, size);
+    let mut prompt = Prompt::at_terminal(rt, host, events, terminal, size)?;
+    prompt.remembers = false;
+    let mut typed = TypedSession {
         rt,
-        events: PromptEvents::new(alloc, rt.stdin(), rt),
-        screen: Screen {
-            alloc,
-            terminal: AnsiTerminal::new(alloc, rt.stdout(), size),
-        },
-        host: prompt_host(alloc, open_history(rt, path)?, PROMPT, size.cols)?,
+        screen: Screen { rt, prompt },
         entered: String::new(alloc),
     };
-    prompt.run(session)
+    typed.run(session)?;
+    typed.screen.prompt.close()?;
+    Ok(())
 }

@@ -5,11 +5,11 @@ use crate::completers::{completers, words};
 use sql_host::{SqlHost, SqlStyles};
 use sql_language::Catalog;
 use std::alloc::{AllocError, Global};
+use tw_device::AnsiTerminal;
 use tw_history_parts::FileHistory;
-use tw_hosts::PromptScreen;
-use tw_key_parts::{Keys, KillRing, LetterWords, PrefixSearch, ReadlineKeys, UndoSteps};
 use tw_lineedit::NopLineEditorHost;
-use tw_prompt_host::{AllLines, Going, Hints, MenuStyle, PromptHost};
+use tw_prompt::{AllKeys, Prompt, TerminalOutput, all_keys};
+use tw_prompt_host::{AllLines, Hints, PromptHost};
 use tw_surface::{CellAttributes, ColorAttribute, Intensity};
 
 /// The words that are shown as keywords, and completed.
@@ -21,20 +21,17 @@ const KEYWORDS: &str =
     ROLLBACK SELECT SET TABLE TEMP TEXT THEN TO TRANSACTION TRIGGER UNION UNIQUE UPDATE USING VALUES VIEW WHEN WHERE \
     WITH WITHOUT";
 
-/// How many rows a menu of completions takes.
-const MENU_ROWS: usize = 4;
-
-/// The keys of the prompt: for undos, which have Ctrl-U after Ctrl-X, then for words, lines of the history and kills.
-type SqlKeys = (
-    UndoSteps,
-    (
-        (Keys<LetterWords>, Keys<ReadlineKeys>),
-        (PrefixSearch, KillRing),
-    ),
-);
-
 /// The host of the prompt.
-pub type SqlPromptHost = PromptHost<SqlHost<NopLineEditorHost>, FileHistory, SqlKeys, AllLines>;
+pub type SqlPromptHost = PromptHost<SqlHost<NopLineEditorHost>, FileHistory, AllKeys, AllLines>;
+
+/// The prompt at a terminal.
+pub type SqlTerminal = Prompt<
+    AnsiTerminal<TerminalOutput>,
+    SqlHost<NopLineEditorHost>,
+    FileHistory,
+    AllKeys,
+    AllLines,
+>;
 
 /// A style of one colour of the palette.
 fn coloured(index: u8) -> CellAttributes {
@@ -63,19 +60,11 @@ fn no_catalog(alloc: Global) -> Catalog {
     }
 }
 
-/// The keys of the prompt.
-fn sql_keys(alloc: Global) -> SqlKeys {
-    let words = (Keys(LetterWords), Keys(ReadlineKeys));
-    let others = (PrefixSearch::new(), KillRing::new(alloc));
-    (UndoSteps::new(alloc), (words, others))
-}
-
-/// Creates the host of a prompt on a screen of `cols` columns. It knows no names and no files yet.
+/// Creates the host of a prompt. It knows no names, no files and no terminal yet.
 pub fn prompt_host(
     alloc: Global,
     history: FileHistory,
     prompt: &str,
-    cols: usize,
 ) -> Result<SqlPromptHost, AllocError> {
     let host = SqlHost {
         host: NopLineEditorHost::new(alloc),
@@ -84,20 +73,11 @@ pub fn prompt_host(
         begun: String::new(alloc),
         styles: styles(),
     };
-    Ok(PromptHost {
-        host,
-        history,
-        completers: completers(alloc)?,
-        listings: Vec::new(alloc),
-        keys: sql_keys(alloc),
-        hints: Hints::dim(),
-        stops_failing_searches: true,
-        validator: AllLines,
-        menu: MenuStyle::in_reverse(cols, MENU_ROWS),
-        screen: PromptScreen {
-            cols,
-            prompt: String::from_str(alloc, prompt)?,
-        },
-        going: Going::new(),
-    })
+    let mut host = PromptHost::new(alloc, prompt, 80)?
+        .with_host(host)
+        .with_history(history)
+        .with_keys(all_keys(alloc));
+    host.completers = completers(alloc)?;
+    host.hints = Hints::dim();
+    Ok(host)
 }

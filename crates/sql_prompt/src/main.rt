@@ -32,9 +32,9 @@ fn serve<S: Alter + Drop>(
     session: &mut Session<S>,
     options: &Options,
 ) -> Result<ExitCode, anyhow::Error> {
-    let has_failed = match options.screen {
+    let has_failed = match options.size {
         Some(size) => {
-            take_typed(rt, session, size, options.history.as_ref())?;
+            take_typed(rt, session, size, options)?;
             session.has_stopped()
         }
         None => {

@@ -1,7 +1,6 @@
 //! The arguments.
 
-use std::env;
-use tw_prompt::usable;
+use tw_prompt::Arguments;
 use tw_terminal::ScreenSize;
 
 /// What the arguments ask for.
@@ -11,36 +10,30 @@ pub struct Options {
     pub path: String,
     /// Whether the first error ends the session.
     pub bails: bool,
-    /// The size of the terminal where it is a prompt at one.
-    pub screen: Option<ScreenSize>,
-    /// The file of the history, where it has one.
+    /// The size of the terminal, if it is a prompt at one.
+    pub size: Option<ScreenSize>,
+    /// The file of the terminal, if it is not standard input and output.
+    pub terminal: Option<String>,
+    /// The file of the history, if it has one.
     pub history: Option<String>,
-}
-
-/// The number that an argument writes, and none where it writes none.
-fn number(argument: Option<String>) -> Option<usize> {
-    argument?.as_str().parse().ok()
 }
 
 /// Parses the arguments `[-at COLS ROWS] [-bail] [-history FILE] FILE`, in any order. Returns `None` if they are wrong.
 pub fn read_options(rt: HostRuntime) -> Result<Option<Options>, anyhow::Error> {
-    let mut arguments = env::args(&rt)?;
-    let _name = arguments.next();
+    let Ok(arguments) = Arguments::read(rt) else {
+        return Ok(None);
+    };
     let mut bails = false;
-    let mut screen = None;
     let mut history = None;
     let mut path = None;
+    let mut words = arguments.own.into_iter();
     for _ in 0..u64::MAX {
-        let Some(word) = arguments.next() else {
+        let Some(word) = words.next() else {
             break;
         };
         match word.as_str() {
             "-bail" => bails = true,
-            "-at" => match (number(arguments.next()), number(arguments.next())) {
-                (Some(cols), Some(rows)) => screen = Some(usable(ScreenSize { rows, cols })),
-                _ => return Ok(None),
-            },
-            "-history" => match arguments.next() {
+            "-history" => match words.next() {
                 Some(file) => history = Some(file),
                 None => return Ok(None),
             },
@@ -55,7 +48,8 @@ pub fn read_options(rt: HostRuntime) -> Result<Option<Options>, anyhow::Error> {
     Ok(Some(Options {
         path,
         bails,
-        screen,
+        size: arguments.size,
+        terminal: arguments.file,
         history,
     }))
 }

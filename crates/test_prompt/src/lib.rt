@@ -26,6 +26,7 @@ mod prompt;
 #[cfg(test)]
 mod readline;
 #[cfg(test)]
+mod ranges;
 mod recent;
 #[cfg(test)]
 mod refusals;

@@ -56,7 +56,7 @@ texts_cut bytes text after (free, cut) = ap (λ l. whole_lines (ended l)) cut �
 texts_free : (b : ℕ) (text : List ℕ) → ¬ (Contains (b ∷ text) 10) → whole_lines (ended (b ∷ text)) ≡ (b ∷ text) ∷ []
 texts_free b text free = rw (cut_off-free b text free) (ended_line (b ∷ text) [] free)
 
--- so many texts are lost of all but the rest
+-- this many texts are lost of all but the rest
 pub record Counts (bytes rest : List ℕ) (lost : ℕ) : Type 0 where
   pub all : (lost + length (whole_lines (ended rest))) + length (lines_in bytes) ≡ length (whole_lines (ended bytes)) + length (lines_in rest)
   pub few : lost + length rest ≤ length bytes

@@ -1,4 +1,4 @@
--- A history that keeps the newest lines, and none twice if it is told so.
+-- A history that keeps the newest lines, and no line twice if it is unique.
 use Rattle.std.specs.Prelude.{◌≡◌, ◌≢◌, ◌==◌, ℕ, Bool, true, eqb, not, List, [], ◌∷◌, ◌++◌, Option, Some, None, if◌then◌else◌}
 use Rattle.std.specs.Cmp.Lexicographic.{pointwise}
 use Rattle.std.specs.List.{AllPairs, filter, remove}

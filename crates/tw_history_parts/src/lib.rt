@@ -1,5 +1,5 @@
 //! Histories beside those of `tw_history`: `FileHistory` is kept in a file, and `RecentHistory` keeps the newest lines,
-//! none twice if it is told so.
+//! no line twice if it is unique.
 //!
 //! `lines` has how a line stands in a file, `file` what reads such lines, `written` a history whose lines are written,
 //! and `laws` what follows from the definitions.

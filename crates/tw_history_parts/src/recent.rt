@@ -16,7 +16,7 @@ use tw_history::{
     History, HistoryIndex, LentLines, SearchDirection, SearchResult, SearchStyle, nearest_line,
 };
 
-/// A history in memory that keeps the newest lines, and none twice if it is told so: a line that is added again goes to
+/// A history in memory that keeps the newest lines, and no line twice if it is unique: a line that is added again goes to
 /// the end then. It lends its lines and copies none of them.
 #[derive(Debug, Drop)]
 pub struct RecentHistory {

@@ -96,7 +96,7 @@ impl<L: History, W: Write + Drop> WrittenHistory<L, W> {
         self.unread
     }
 
-    /// Returns whether lines can't be written, which is told once.
+    /// Returns true if lines can't be written. The next call returns false.
     pub fn take_failure(&mut self) -> bool
         ensures told { result ≡ self.old.has_failed }
         ensures known { self.new.has_failed ≡ false }

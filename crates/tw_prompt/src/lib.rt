@@ -5,6 +5,7 @@
 //! is sent at first and in the end, and `read_listing` the names in a directory.
 #![tactic(auto)]
 
+mod application;
 mod arguments;
 mod events;
 mod joined;
@@ -16,6 +17,7 @@ mod sizes;
 mod streams;
 mod typed;
 
+pub use application::{Application, read_with};
 pub use arguments::Arguments;
 pub use events::{Pending, PromptEvents, TypedEvents};
 pub use keys::{AllKeys, all_keys};

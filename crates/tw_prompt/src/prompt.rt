@@ -1,5 +1,6 @@
 //! A prompt in a program: lines are read at its terminal, or plainly at a pipe.
 
+use crate::application::{Application, read_with};
 use crate::arguments::Arguments;
 use crate::events::{PromptEvents, TypedEvents};
 use crate::keys::{AllKeys, all_keys};
@@ -9,9 +10,9 @@ use std::io::{self, ErrorKind, Write};
 use tw_device::{Answer, DeviceTerminal, read_line_from};
 use tw_history::{BasicHistory, History, LentLines};
 use tw_key_parts::KeyPart;
-use tw_lineedit::{Error, LineEditorHost, NopLineEditorHost};
-use tw_prompt_host::{AllLines, Hints, PromptHost, Validator};
-use tw_sparing::SparingTerminal;
+use tw_lineedit::{Error, LineEditorHost};
+use tw_prompt_host::{AllLines, Hints, PreparedHost, PromptHost, Validator};
+use tw_sparing::PatientTerminal;
 use tw_terminal::{ScreenSize, TerminalFault};
 
 /// The columns of a prompt before it is opened at a terminal.
@@ -30,7 +31,7 @@ enum Place<T> {
 }
 
 /// The terminal of a prompt, which is sent what differs from what it shows.
-pub type PromptTerminal = SparingTerminal<TerminalOutput>;
+pub type PromptTerminal = PatientTerminal<TerminalOutput>;
 
 /// A prompt in a program that `tools/at_terminal` starts. At a pipe it reads plain lines and shows no prompt.
 #[derive(Drop)]
@@ -64,18 +65,24 @@ fn read_plainly(rt: HostRuntime) -> Result<Answer, Error> {
     Ok(Answer::Line(line))
 }
 
-impl Prompt<PromptTerminal, NopLineEditorHost, BasicHistory, AllKeys, AllLines> {
+impl Prompt<PromptTerminal, PreparedHost, BasicHistory, AllKeys, AllLines> {
     /// Opens a prompt with this text, all keys, hints after the cursor, and an empty history.
     pub fn open(rt: HostRuntime, prompt: &str) -> Result<Self, Error> {
         let alloc = rt.alloc();
-        let mut host = PromptHost::new(alloc, prompt, COLS)?.with_keys(all_keys(alloc));
+        let mut host = PromptHost::new(alloc, prompt, COLS)?
+            .with_host(PreparedHost::new(alloc))
+            .with_keys(all_keys(alloc));
         host.hints = Hints::dim();
         Prompt::over(rt, host)
     }
 }
 
-impl<H: LineEditorHost + Drop, L: History + LentLines + Drop, K: KeyPart + Drop, V: Validator + Drop>
-    Prompt<PromptTerminal, H, L, K, V> {
+impl<
+    H: LineEditorHost + Drop,
+    L: History + LentLines + Drop,
+    K: KeyPart + Drop,
+    V: Validator + Drop,
+> Prompt<PromptTerminal, H, L, K, V> {
     /// Opens a prompt with this host, which gets the columns of the terminal.
     pub fn over(rt: HostRuntime, host: PromptHost<H, L, K, V>) -> Result<Self, Error> {
         let arguments = Arguments::read(rt).map_err(refused)?;
@@ -85,7 +92,7 @@ impl<H: LineEditorHost + Drop, L: History + LentLines + Drop, K: KeyPart + Drop,
         let file = arguments.file.as_ref().map(|file| file.as_str());
         let (input, output) = open_streams(rt, file).map_err(refused)?;
         let events = PromptEvents::new(rt.alloc(), input, rt);
-        let terminal = SparingTerminal::new(rt.alloc(), output, size);
+        let terminal = PatientTerminal::new(rt.alloc(), output, size);
         Prompt::at_terminal(rt, host, events, terminal, size)
     }
 
@@ -151,7 +158,7 @@ impl<
         }
     }
 
-    /// Prints lines. At a terminal each ends with CR LF. An unfinished last line is ended.
+    /// Prints lines, which end with CR LF at a terminal. An unfinished last line is ended, and of no line nothing is sent.
     pub fn print(&mut self, text: &str) -> Result<(), Error> {
         let alloc = self.rt.alloc();
         let mut shown = String::new(alloc);
@@ -163,8 +170,15 @@ impl<
             shown.push_str(line)?;
             shown.push_str(end)?;
         }
+        if shown.is_empty() {
+            return Ok(());
+        }
         match &mut self.place {
-            Place::Pipe => self.rt.stdout().write_all(shown.as_bytes()).map_err(refused),
+            Place::Pipe => self
+                .rt
+                .stdout()
+                .write_all(shown.as_bytes())
+                .map_err(refused),
             Place::Terminal { terminal, .. } => Ok(terminal.send(shown.as_str())?),
         }
     }
@@ -175,5 +189,35 @@ impl<
             Place::Pipe => Ok(()),
             Place::Terminal { terminal, .. } => Ok(terminal.send(END)?),
         }
+    }
+}
+
+impl<
+    T: DeviceTerminal + Drop,
+    L: History + LentLines + Drop,
+    K: KeyPart + Drop,
+    V: Validator + Drop,
+> Prompt<T, PreparedHost, L, K, V> {
+    /// Reads a line as `read` does, with an application's completions and colours.
+    pub fn read_with<A: Application>(&mut self, application: &A) -> Result<Answer, Error> {
+        self.host.begin_line();
+        let answer = match &mut self.place {
+            Place::Pipe => read_plainly(self.rt)?,
+            Place::Terminal { events, terminal } => {
+                let prompt = self.host.screen.prompt.clone()?;
+                read_with(
+                    self.rt.alloc(),
+                    application,
+                    events,
+                    terminal,
+                    &mut self.host,
+                    prompt.as_str(),
+                )?
+            }
+        };
+        if let Answer::Line(line) = &answer {
+            self.remember(line.as_str());
+        }
+        Ok(answer)
     }
 }

@@ -30,7 +30,7 @@ room_from (Some start) screen line =
 abbrev pub room_after : PromptScreenView → List ℕ → ℕ
 room_after screen line = room_from (prompt_column screen.cols screen.prompt) screen line
 
--- as many clusters, from the first one on, as fit into so many columns, up to a control character
+-- as many clusters, from the first one on, as fit into the columns, up to a control character
 abbrev pub fitting : ℕ → List (List ℕ) → List ℕ
 fitting columns [] = []
 fitting columns (cluster ∷ more) =

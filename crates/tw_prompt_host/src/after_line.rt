@@ -49,7 +49,7 @@ fn room_after(screen: &PromptScreen, line: &str) -> usize
     }
 }
 
-/// Returns as many grapheme clusters of a text as fit into so many columns, up to a control character.
+/// Returns as many grapheme clusters of a text as fit into `columns` columns, up to a control character.
 fn fitting(alloc: Global, columns: usize, text: &str) -> Result<String, AllocError>
     ensures { IfOk result (λ shown. string_bytes shown ≡ fitting columns (graphemes true text.now)) }
 {

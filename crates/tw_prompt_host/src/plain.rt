@@ -54,7 +54,19 @@ impl PromptHost<NopLineEditorHost, BasicHistory, Keys<ReadlineKeys>, AllLines> {
 impl<H: Drop, L: Drop, K: Drop, V: Drop> PromptHost<H, L, K, V> {
     /// Replaces the application's host.
     pub fn with_host<N>(self, host: N) -> PromptHost<N, L, K, V>
-        ensures { result ≡ record { host = host; history = self.history; completers = self.completers; listings = self.listings; keys = self.keys; hints = self.hints; stops_failing_searches = self.stops_failing_searches; validator = self.validator; menu = self.menu; screen = self.screen; going = self.going } }
+        ensures { result ≡ record {
+          host = host;
+          history = self.history;
+          completers = self.completers;
+          listings = self.listings;
+          keys = self.keys;
+          hints = self.hints;
+          stops_failing_searches = self.stops_failing_searches;
+          validator = self.validator;
+          menu = self.menu;
+          screen = self.screen;
+          going = self.going;
+        } }
     {
         PromptHost {
             host,
@@ -73,7 +85,19 @@ impl<H: Drop, L: Drop, K: Drop, V: Drop> PromptHost<H, L, K, V> {
 
     /// Replaces the history.
     pub fn with_history<N>(self, history: N) -> PromptHost<H, N, K, V>
-        ensures { result ≡ record { host = self.host; history = history; completers = self.completers; listings = self.listings; keys = self.keys; hints = self.hints; stops_failing_searches = self.stops_failing_searches; validator = self.validator; menu = self.menu; screen = self.screen; going = self.going } }
+        ensures { result ≡ record {
+          host = self.host;
+          history = history;
+          completers = self.completers;
+          listings = self.listings;
+          keys = self.keys;
+          hints = self.hints;
+          stops_failing_searches = self.stops_failing_searches;
+          validator = self.validator;
+          menu = self.menu;
+          screen = self.screen;
+          going = self.going;
+        } }
     {
         PromptHost {
             host: self.host,
@@ -92,7 +116,19 @@ impl<H: Drop, L: Drop, K: Drop, V: Drop> PromptHost<H, L, K, V> {
 
     /// Replaces the parts with keys.
     pub fn with_keys<N>(self, keys: N) -> PromptHost<H, L, N, V>
-        ensures { result ≡ record { host = self.host; history = self.history; completers = self.completers; listings = self.listings; keys = keys; hints = self.hints; stops_failing_searches = self.stops_failing_searches; validator = self.validator; menu = self.menu; screen = self.screen; going = self.going } }
+        ensures { result ≡ record {
+          host = self.host;
+          history = self.history;
+          completers = self.completers;
+          listings = self.listings;
+          keys = keys;
+          hints = self.hints;
+          stops_failing_searches = self.stops_failing_searches;
+          validator = self.validator;
+          menu = self.menu;
+          screen = self.screen;
+          going = self.going;
+        } }
     {
         PromptHost {
             host: self.host,
@@ -111,7 +147,19 @@ impl<H: Drop, L: Drop, K: Drop, V: Drop> PromptHost<H, L, K, V> {
 
     /// Replaces the validator.
     pub fn with_validator<N>(self, validator: N) -> PromptHost<H, L, K, N>
-        ensures { result ≡ record { host = self.host; history = self.history; completers = self.completers; listings = self.listings; keys = self.keys; hints = self.hints; stops_failing_searches = self.stops_failing_searches; validator = validator; menu = self.menu; screen = self.screen; going = self.going } }
+        ensures { result ≡ record {
+          host = self.host;
+          history = self.history;
+          completers = self.completers;
+          listings = self.listings;
+          keys = self.keys;
+          hints = self.hints;
+          stops_failing_searches = self.stops_failing_searches;
+          validator = validator;
+          menu = self.menu;
+          screen = self.screen;
+          going = self.going;
+        } }
     {
         PromptHost {
             host: self.host,

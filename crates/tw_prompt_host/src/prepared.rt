@@ -140,11 +140,7 @@ impl LineEditorHost for PreparedHost {
         styled(alloc, self.prompt, prompt)
     }
 
-    fn render_preview(
-        &self,
-        alloc: Global,
-        _line: &str,
-    ) -> Result<Vec<OutputElement>, AllocError> {
+    fn render_preview(&self, alloc: Global, _line: &str) -> Result<Vec<OutputElement>, AllocError> {
         Ok(Vec::new(alloc))
     }
 

@@ -1,4 +1,4 @@
--- What comes of the lines that are left comes of all lines, and so many texts are lost of the others.
+-- What comes of the lines that are left comes of all lines, and this many texts are lost of the others.
 use Rattle.std.proofs.Common.{length}
 use Rattle.tw_history_parts.proofs.ReadingLemmas.{Counts, Passes}
 use Rattle.tw_history_parts.proofs.file.read_lines.Given as goal
