@@ -42,7 +42,8 @@ fn resize<T: DeviceTerminal>(terminal: &mut T, event: &InputEvent)
 }
 
 /// A line that is read with the answers of an application.
-struct ApplicationLine<'line, A, T, L, K, V> {
+#[derive(Drop)]
+struct ApplicationLine<'line, A, T: DeviceTerminal, L, K, V> {
     alloc: Global,
     application: &'line A,
     editor: LineEditor<'line, T>,
