@@ -1,11 +1,8 @@
 //! What stands after the line, in the row of its end.
 
-ghost use Rattle.std.specs.Prelude.{◌≡◌, IfOk, chars, map, string_bytes, true};
+ghost use Rattle.std.specs.Prelude.{◌≡◌, IfOk, map, string_bytes, true};
 ghost use Rattle.unicode_segmentation.specs.Grapheme.{graphemes};
-ghost use Rattle.tw_surface.specs.Extents.{place_of};
-ghost use Rattle.tw_surface.specs.Places.{is_in_range, origin, pieces, places_after};
 ghost use Rattle.tw_host.specs.ElementView.{element_view};
-ghost use Rattle.tw_hosts.specs.Settling.{line_start};
 ghost use Rattle.tw_hosts.specs.SettledRules.{screen_view};
 ghost use Rattle.tw_prompt_host.specs.AfterLine.{after_line_on, cut_to, fitting, has_control, prompt_column, room_after};
 
