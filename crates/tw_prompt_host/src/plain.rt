@@ -21,8 +21,8 @@ use tw_key_parts::{Keys, ReadlineKeys};
 const MENU_ROWS: usize = 4;
 
 impl PromptHost<NopLineEditorHost, BasicHistory, Keys<ReadlineKeys>, AllLines> {
-    /// Creates a prompt with the keys of readline, an empty history, and everything else off, on a screen of `cols`
-    /// columns. Change its fields, or write the literal, for more.
+    /// Creates a prompt with the keys of readline and an empty history, on a screen of `cols` columns. It accepts no
+    /// line at a search that fails, and everything else is off. Change its fields, or write the literal, for more.
     pub fn new(alloc: Global, prompt: &str, cols: usize) -> Result<Self, AllocError>
         ensures lines { IfOk result (λ it. it.history ≡ []) }
         ensures off { IfOk result (λ it. (it.completers.items ≡ []) × (it.listings.items ≡ []) × (it.hints ≡ Off)) }
