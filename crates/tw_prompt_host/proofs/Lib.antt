@@ -1,4 +1,5 @@
 pub mod AfterLineLemmas
 pub mod FailingLemmas
 pub mod LayoutLemmas
+pub mod PreparedLemmas
 pub mod HintLemmas

@@ -1,24 +1,38 @@
 -- What an application has prepared: the colours of a line, and what completes one.
-use Rattle.std.specs.Prelude.{ℕ, ◌+◌, ◌-◌, ◌==◌, ◌&&◌, Bool, List, [], ◌∷◌, ◌++◌, length, take, drop, if◌then◌else◌}
+use Rattle.std.specs.Prelude.{ℕ, ◌-◌, List, [], ◌∷◌, ◌++◌, length, take, drop, if◌then◌else◌}
 use Rattle.tw_surface.specs.declared.cell.CellAttributes.{CellAttributes}
 use Rattle.tw_surface.specs.Width.{column_width}
 use Rattle.tw_line.specs.Boundaries.{boundary_below}
 use Rattle.tw_line.specs.Cut.{Cut}
 use Rattle.tw_host.specs.CandidateView.{CandidateView}
 use Rattle.tw_host.specs.ElementView.{ElementView, Text}
-use Rattle.tw_host.specs.HostRules.{Highlight, HostRules, plain_rules}
+use Rattle.tw_host.specs.HostRules.{HostRules, plain_rules}
 use Rattle.tw_hosts.specs.Tokens.{styled_text}
 use Rattle.tw_hosts.specs.Words.{is_same}
+use Rattle.tw_key_parts.specs.Ring.{is_same_cut}
 use Rattle.tw_prompt_host.specs.declared.prepared.StyledRange.{StyledRange}
 
--- the ranges of a line in their attributes, one after the other, where `rest` is left of its `total` bytes; what no range has is plain, and a range has only whole characters that no range before it has
+-- how many bytes of what is left of a line of `total` bytes stand before a place of the line, in whole characters
+abbrev pub bytes_before : ℕ → ℕ → List ℕ → ℕ
+bytes_before total place rest = boundary_below rest (place - (total - length rest))
+
+-- what is left from the start of a range on, and behind it
+abbrev pub from_range : ℕ → StyledRange → List ℕ → List ℕ
+from_range total range rest = drop (bytes_before total range.start rest) rest
+
+abbrev pub behind_range : ℕ → StyledRange → List ℕ → List ℕ
+behind_range total range rest = let inside = from_range total range rest in drop (bytes_before total range.end inside) inside
+
+-- what stands before a range, plain, and what stands in it, in its attributes
+abbrev pub shown_range : ℕ → StyledRange → List ℕ → List ElementView
+shown_range total range rest =
+    let inside = from_range total range rest in
+    Text (take (bytes_before total range.start rest) rest) ∷ styled_text range.attributes (take (bytes_before total range.end inside) inside)
+
+-- the ranges one after the other, each in what the ranges before it leave, and the rest of the line, plain
 unfoldable pub styled_from : ℕ → List StyledRange → List ℕ → List ElementView
 styled_from total [] rest = Text rest ∷ []
-styled_from total (range ∷ ranges) rest =
-    let before = boundary_below rest (range.start - (total - length rest)) in
-    let inside = drop before rest in
-    let within = boundary_below inside (range.end - (total - length inside)) in
-    Text (take before rest) ∷ (styled_text range.attributes (take within inside) ++ styled_from total ranges (drop within inside))
+styled_from total (range ∷ ranges) rest = shown_range total range rest ++ styled_from total ranges (behind_range total range rest)
 
 -- a line with ranges in their attributes
 abbrev pub styled_ranges : List StyledRange → List ℕ → List ElementView
@@ -32,10 +46,6 @@ pub record PreparedView : Type 0 where
   pub asked : Cut
   pub candidates : List CandidateView
   pub lines : List (List ℕ)
-
--- whether a line with its cursor is this one
-abbrev pub is_same_cut : Cut → Cut → Bool
-is_same_cut cut other = is_same cut.line other.line && (cut.cursor == other.cursor)
 
 -- another line than the prepared one is plain, and nothing completes it
 abbrev pub prepared_rules : HostRules PreparedView

@@ -1,5 +1,7 @@
 //! What follows from the definitions.
 
+ghost use Rattle.tw_host.specs.Faithful.{IsFaithful};
+ghost use Rattle.tw_prompt_host.specs.Prepared.{prepared_rules};
 ghost use Rattle.tw_prompt_host.specs.PromptLaws.{PromptHasWatch};
 
 use tw_host::LineEditorHost;
@@ -9,4 +11,9 @@ use tw_key_parts::KeyPart;
 /// are.
 pub fn watch<H: LineEditorHost, K: KeyPart>()
     ensures { PromptHasWatch K.keys H.rules }
+{}
+
+/// A prepared host shows the prompt and the line themselves, whatever the ranges are.
+pub fn prepared()
+    ensures { IsFaithful prepared_rules }
 {}

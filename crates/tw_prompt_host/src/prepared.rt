@@ -7,7 +7,8 @@ ghost use Rattle.tw_host.specs.PlainAnswers.{all_overrides, no_plain_left};
 ghost use Rattle.tw_hosts.specs.Words.{is_same};
 ghost use Rattle.tw_line.specs.Boundaries.{boundary_below};
 ghost use Rattle.tw_surface.specs.Defaults.{default_attributes};
-ghost use Rattle.tw_prompt_host.specs.Prepared.{is_same_cut, styled_ranges};
+ghost use Rattle.tw_key_parts.specs.Ring.{is_same_cut};
+ghost use Rattle.tw_prompt_host.specs.Prepared.{behind_range, bytes_before, shown_range, styled_ranges};
 
 use crate::menu::copied;
 use std::alloc::{AllocError, Global};
@@ -38,6 +39,32 @@ fn split_up_to(text: &str, at: usize) -> (&str, &str)
     text.split_at(text.floor_char_boundary(at))
 }
 
+/// Splits what is left of a line of `total` bytes at a byte offset of the line.
+fn split_before(total: usize, place: usize, rest: &str) -> (&str, &str)
+    ensures front { result.0.now ≡ take (bytes_before total place rest.now) rest.now }
+    ensures rest { result.1.now ≡ drop (bytes_before total place rest.now) rest.now }
+{
+    let at = total.saturating_sub(rest.len());
+    split_up_to(rest, place.saturating_sub(at))
+}
+
+/// Shows what is left of a line of `total` bytes, up to the end of a range. Returns what is left then.
+fn show_range<'line>(
+    alloc: Global,
+    total: usize,
+    range: &StyledRange,
+    rest: &'line str,
+) -> Result<(Vec<OutputElement>, &'line str), AllocError>
+    ensures shown { IfOk result (λ it. map element_view it.0.items ≡ shown_range total range.now rest.now) }
+    ensures left { IfOk result (λ it. it.1.now ≡ behind_range total range.now rest.now) }
+{
+    let (before, inside) = split_before(total, range.start, rest);
+    let (within, after) = split_before(total, range.end, inside);
+    let mut shown = plain_element(alloc, before)?;
+    shown.append(&mut styled(alloc, range.attributes, within)?)?;
+    Ok((shown, after))
+}
+
 /// Shows a line with ranges in their attributes. What no range has is plain. Each range is cut to whole characters of the
 /// line that no range before it has, so that the text that is shown is the line whatever the ranges are.
 pub fn styled_ranges(
@@ -49,14 +76,12 @@ pub fn styled_ranges(
 {
     let mut elements = Vec::new(alloc);
     let mut rest = line;
-    for range in ranges {
-        let at = line.len().saturating_sub(rest.len());
-        let (before, inside) = split_up_to(rest, range.start.saturating_sub(at));
-        let at = line.len().saturating_sub(inside.len());
-        let (within, after) = split_up_to(inside, range.end.saturating_sub(at));
-        elements.append(&mut plain_element(alloc, before)?)?;
-        elements.append(&mut styled(alloc, range.attributes, within)?)?;
+    let mut left = ranges;
+    while let Some((range, more)) = left.split_first() {
+        let (mut shown, after) = show_range(alloc, line.len(), range, rest)?;
+        elements.append(&mut shown)?;
         rest = after;
+        left = more;
     }
     elements.append(&mut plain_element(alloc, rest)?)?;
     Ok(elements)
