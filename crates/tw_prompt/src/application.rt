@@ -41,99 +41,100 @@ fn resize<T: DeviceTerminal>(terminal: &mut T, event: &InputEvent)
     }
 }
 
-/// A line that is read with the answers of an application.
-#[derive(Drop)]
-struct ApplicationLine<'line, A, T: DeviceTerminal, L, K, V> {
+/// Asks for the colours of the line.
+fn prepare_colours<A: Application, T: DeviceTerminal>(
     alloc: Global,
-    application: &'line A,
-    editor: LineEditor<'line, T>,
-    host: &'line mut PromptHost<PreparedHost, L, K, V>,
+    application: &A,
+    editor: &mut LineEditor<'_, T>,
+    host: &mut PreparedHost,
+) -> Result<(), Error> {
+    let (line, _) = editor.get_line_and_cursor();
+    host.ranges = application.colours(alloc, line)?;
+    host.line = String::from_str(alloc, line)?;
+    Ok(())
 }
 
-impl<
+/// Asks for what completes the line.
+fn prepare_candidates<A: Application, T: DeviceTerminal>(
+    alloc: Global,
+    application: &A,
+    editor: &mut LineEditor<'_, T>,
+    host: &mut PreparedHost,
+) -> Result<(), Error> {
+    let (line, cursor) = editor.get_line_and_cursor();
+    host.candidates = application.complete(alloc, line, cursor)?;
+    host.asked = LineEditBuffer::new(alloc, line, cursor)?;
+    Ok(())
+}
+
+/// Feeds an event, and paints the line in its colours.
+fn feed<A: Application, T: DeviceTerminal, L: History + LentLines, K: KeyPart, V: Validator>(
+    alloc: Global,
+    application: &A,
+    editor: &mut LineEditor<'_, T>,
+    host: &mut PromptHost<PreparedHost, L, K, V>,
+    event: &InputEvent,
+    is_more: bool,
+) -> Result<LineStatus, Error> {
+    if let InputEvent::Key(
+        KeyEvent {
+            key: KeyCode::Tab,
+            ..
+        },
+    ) = event
+    {
+        prepare_candidates(alloc, application, editor, &mut host.host)?;
+    }
+    editor.terminal().set_more_at_hand(true);
+    resize(editor.terminal(), event);
+    match editor.feed(host, event)? {
+        LineStatus::Ended => Ok(LineStatus::Ended),
+        LineStatus::Open => {
+            prepare_colours(alloc, application, editor, &mut host.host)?;
+            editor.terminal().set_more_at_hand(is_more);
+            editor.feed(host, &InputEvent::Wake)
+        }
+    }
+}
+
+/// Closes the line. Returns it, or `None` if it was cancelled.
+fn close<T: DeviceTerminal>(editor: &mut LineEditor<'_, T>) -> Result<Option<String>, Error> {
+    editor.terminal().set_more_at_hand(false);
+    editor.finish_line()
+}
+
+/// Feeds the events of a source to an open line, up to the end of either. Returns true if the source ended.
+fn take_events<
     A: Application,
+    S: EventSource,
     T: DeviceTerminal,
     L: History + LentLines,
     K: KeyPart,
     V: Validator,
-> ApplicationLine<'_, A, T, L, K, V> {
-    /// Asks for the colours of the line.
-    fn prepare_colours(&mut self) -> Result<(), Error> {
-        let (line, _) = self.editor.get_line_and_cursor();
-        self.host.host.ranges = self.application.colours(self.alloc, line)?;
-        self.host.host.line = String::from_str(self.alloc, line)?;
-        Ok(())
-    }
-
-    /// Asks for what completes the line.
-    fn prepare_candidates(&mut self) -> Result<(), Error> {
-        let (line, cursor) = self.editor.get_line_and_cursor();
-        self.host.host.candidates = self.application.complete(self.alloc, line, cursor)?;
-        self.host.host.asked = LineEditBuffer::new(self.alloc, line, cursor)?;
-        Ok(())
-    }
-
-    /// Feeds an event, and paints the line in its colours.
-    fn feed(&mut self, event: &InputEvent, is_more: bool) -> Result<LineStatus, Error> {
-        if matches!(
-            event,
-            InputEvent::Key(KeyEvent {
-                key: KeyCode::Tab,
-                ..
-            })
-        ) {
-            self.prepare_candidates()?;
-        }
-        self.editor.terminal().set_more_at_hand(true);
-        resize(self.editor.terminal(), event);
-        match self.editor.feed(self.host, event)? {
-            LineStatus::Ended => Ok(LineStatus::Ended),
-            LineStatus::Open => {
-                self.prepare_colours()?;
-                self.editor.terminal().set_more_at_hand(is_more);
-                self.editor.feed(self.host, &InputEvent::Wake)
-            }
+>(
+    alloc: Global,
+    application: &A,
+    events: &mut S,
+    editor: &mut LineEditor<'_, T>,
+    host: &mut PromptHost<PreparedHost, L, K, V>,
+) -> Result<bool, Error> {
+    for _ in 0..u64::MAX {
+        let Some(event) = events.next_event()? else {
+            return Ok(true);
+        };
+        match feed(
+            alloc,
+            application,
+            editor,
+            host,
+            &event,
+            events.has_at_hand(),
+        )? {
+            LineStatus::Open => {}
+            LineStatus::Ended => return Ok(false),
         }
     }
-
-    /// Closes the line. Returns it, or `None` if it was cancelled.
-    fn close(&mut self) -> Result<Option<String>, Error> {
-        self.editor.terminal().set_more_at_hand(false);
-        self.editor.finish_line()
-    }
-
-    /// Reads the events of a source, up to the end of the line or of the source.
-    fn read<S: EventSource>(&mut self, events: &mut S) -> Result<Answer, Error> {
-        for _ in 0..u64::MAX {
-            match events.next_event() {
-                Ok(Some(event)) => match self.feed(&event, events.has_at_hand()) {
-                    Ok(LineStatus::Open) => {}
-                    Ok(LineStatus::Ended) => {
-                        return Ok(match self.close()? {
-                            Some(line) => Answer::Line(line),
-                            None => Answer::Cancelled,
-                        });
-                    }
-                    Err(Error::EndOfFile) => return Ok(Answer::End(String::new(self.alloc))),
-                    Err(refused) => {
-                        let _line = self.close();
-                        return Err(refused);
-                    }
-                },
-                Ok(None) => {
-                    return Ok(match self.close()? {
-                        Some(line) => Answer::End(line),
-                        None => Answer::Cancelled,
-                    });
-                }
-                Err(fault) => {
-                    let _line = self.close();
-                    return Err(Error::Terminal(fault));
-                }
-            }
-        }
-        Err(Error::Terminal(TerminalFault::Device))
-    }
+    Err(Error::Terminal(TerminalFault::Device))
 }
 
 /// Reads a line with a new editor, as `read_line_from` of `tw_device` does, and asks the application between two events:
@@ -154,15 +155,19 @@ pub fn read_with<
     host: &mut PromptHost<PreparedHost, L, K, V>,
     prompt: &str,
 ) -> Result<Answer, Error> {
-    terminal.set_more_at_hand(false);
     let mut editor = LineEditor::new(alloc, terminal)?;
     editor.set_prompt(prompt)?;
+    editor.terminal().set_more_at_hand(false);
     editor.begin_line(host, None)?;
-    let mut line = ApplicationLine {
-        alloc,
-        application,
-        editor,
-        host,
-    };
-    line.read(events)
+    let taken = take_events(alloc, application, events, &mut editor, host);
+    let closed = close(&mut editor);
+    match taken {
+        Err(Error::EndOfFile) => Ok(Answer::End(String::new(alloc))),
+        Err(refused) => Err(refused),
+        Ok(at_end) => Ok(match (closed?, at_end) {
+            (None, _) => Answer::Cancelled,
+            (Some(line), false) => Answer::Line(line),
+            (Some(line), true) => Answer::End(line),
+        }),
+    }
 }
