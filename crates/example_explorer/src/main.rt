@@ -12,7 +12,6 @@ use tw_prompt::{Application, Arguments, Prompt};
 use tw_prompt_host::StyledRange;
 use tw_surface::{CellAttributes, ColorAttribute};
 
-
 /// A value, which is explored.
 #[derive(Drop)]
 struct Explorer {

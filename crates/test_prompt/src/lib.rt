@@ -24,9 +24,9 @@ mod prefix_search;
 #[cfg(test)]
 mod prompt;
 #[cfg(test)]
-mod readline;
-#[cfg(test)]
 mod ranges;
+#[cfg(test)]
+mod readline;
 mod recent;
 #[cfg(test)]
 mod refusals;
