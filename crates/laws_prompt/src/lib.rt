@@ -2,7 +2,7 @@
 #![tactic(auto)]
 
 ghost use Rattle.std.specs.Prelude.{Bool};
-ghost use Rattle.laws_prompt.specs.MenuRuns.{ClosesAfterLines, TellsCycles};
+ghost use Rattle.laws_prompt.specs.MenuRuns.{ClosesAfterLines, TellsLines};
 ghost use Rattle.laws_prompt.specs.SearchEnds.{BringsFound, CompletesFound};
 ghost use Rattle.laws_prompt.specs.SearchRuns.{IsOffBehindLines, KnowsSearches, LeavesSearches, TellsReadings, TellsRuns};
 
@@ -32,10 +32,9 @@ pub fn search_ends<H: LineEditorHost>()
     ensures completed { CompletesFound H.rules }
 {}
 
-/// At each event of a reading that begins with no menu, an open one has the candidates of the editor's completion and
-/// marks the one that stands in the line; without a completion none is open. After a line that was accepted or cancelled
-/// there is none.
+/// At each event of a reading that begins at rest the line under an open menu is the line before the completion with the
+/// candidate that the menu marks. After a line that was accepted or cancelled there is no menu.
 pub fn menus<H: LineEditorHost, K: KeyPart>()
-    ensures told { TellsCycles K.keys H.rules }
+    ensures told { TellsLines K.keys H.rules }
     ensures closed { ClosesAfterLines K.keys H.rules }
 {}

@@ -18,4 +18,4 @@ mod marks;
 mod nesting;
 
 pub use marks::{MarkKind, MarkPair, OpenMark, common_pairs};
-pub use nesting::{Nesting, nesting_in};
+pub use nesting::{Nesting, closed_mark, nesting_in};

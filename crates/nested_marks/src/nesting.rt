@@ -1,7 +1,7 @@
 //! The marks that a text leaves open.
 
 ghost use Rattle.std.specs.Prelude.{◌≡◌, ◌+◌, ◌^◌, ◌<◌, IfOk, length, encode_utf8};
-ghost use Rattle.nested_marks.specs.Nesting.{after_character, after_text, innermost, nesting_of, nesting_view, opens_behind, where_right};
+ghost use Rattle.nested_marks.specs.Nesting.{after_character, after_text, closed_mark, innermost, nesting_of, nesting_view, opens_behind, where_right};
 
 use crate::marks::{MarkKind, MarkPair, OpenMark, escape_pair, escapes, is_closing, opened_pair};
 use std::alloc::{AllocError, Global};
@@ -99,4 +99,22 @@ pub fn nesting_in(alloc: Global, pairs: &[MarkPair], text: &str) -> Result<Nesti
         at += c.len_utf8();
     }
     Ok(Nesting::Open(opens))
+}
+
+/// Returns the mark that a character closes behind a text, if it closes one.
+pub fn closed_mark(
+    alloc: Global,
+    pairs: &[MarkPair],
+    text: &str,
+    c: char,
+) -> Result<Option<OpenMark>, AllocError>
+    ensures { IfOk result (λ mark. mark ≡ closed_mark pairs.now text.now c) }
+{
+    let Nesting::Open(opens) = nesting_in(alloc, pairs, text)? else {
+        return Ok(None);
+    };
+    match innermost(&opens) {
+        Some(open) if open.pair.closes(c) => Ok(Some(open)),
+        _ => Ok(None),
+    }
 }

@@ -28,7 +28,7 @@ pub use part::KeyPart;
 pub use plain_keys::{Keys, PlainKeys};
 pub use prefix_search::PrefixSearch;
 pub use readline_keys::{ReadlineKeys, readline_key};
-pub use ring::{KillRing, Latest};
+pub use ring::{KillRing, Latest, is_same_cut};
 pub use undo::UndoSteps;
 pub use watch::{is_filled, searches_after};
 pub use word_keys::{WordEdit, WordKeys, edited_line, word_edit};

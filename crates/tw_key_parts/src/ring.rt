@@ -58,11 +58,11 @@ pub struct Yank {
     pub index: usize,
 }
 
-/// Compares two lines with their cursors.
-fn is_same(editor: &LineEditBuffer, other: &LineEditBuffer) -> bool
-    ensures { result ≡ is_same_cut editor.now other.now }
+/// Returns true if two lines are the same, with their cursors.
+pub fn is_same_cut(line: &LineEditBuffer, other: &LineEditBuffer) -> bool
+    ensures { result ≡ is_same_cut line.now other.now }
 {
-    editor.get_line() == other.get_line() && editor.get_cursor() == other.get_cursor()
+    line.get_line() == other.get_line() && line.get_cursor() == other.get_cursor()
 }
 
 /// Returns how far an action kills.
@@ -344,7 +344,7 @@ impl KeyPart for KillRing {
         match note {
             Some(index) => self.latest = Latest::Yank(index),
             None => {
-                let movement = if searching || !is_same(before, after) {
+                let movement = if searching || !is_same_cut(before, after) {
                     None
                 } else {
                     killing(event, action)

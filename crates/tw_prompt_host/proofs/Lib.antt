@@ -3,3 +3,6 @@ pub mod FailingLemmas
 pub mod LayoutLemmas
 pub mod PreparedLemmas
 pub mod HintLemmas
+pub mod SearchLemmas
+pub mod MenuLemmas
+pub mod AnswerLemmas

@@ -1,27 +1,61 @@
 -- The state of the line that is read.
-use Rattle.std.specs.Prelude.{◌&&◌, Bool, true, false, List, Option, Some}
+use Rattle.std.specs.Prelude.{◌&&◌, Bool, true, false, List, codes, Option, Some, None, unwrap_or}
+use Rattle.tw_input.specs.declared.key.KeyEvent.{KeyEvent}
+use Rattle.tw_input.specs.EventView.{EventView}
+use Rattle.tw_input.specs.Modifiers.{ctrl}
+use Rattle.tw_line.specs.Cut.{Cut}
 use Rattle.tw_host.specs.ActionView.{ActionView, AcceptLine, Cancel, EndOfFile}
-use Rattle.tw_host.specs.CandidateView.{CandidateView}
+use Rattle.tw_host.specs.KeyTable.{key_press, letter}
+use Rattle.tw_key_parts.specs.Keys.{is_key}
+use Rattle.tw_key_parts.specs.Ring.{is_same_cut}
 use Rattle.tw_key_parts.specs.SearchWatch.{searches_after}
-use Rattle.tw_prompt_host.specs.MenuState.{MenuView, Closed, menu_after}
+use Rattle.tw_prompt_host.specs.MenuState.{MenuView, Closed, menu_behind}
 use Rattle.tw_prompt_host.specs.MenuView.{menu_view}
 use Rattle.tw_prompt_host.specs.Validation.{is_idle}
 use Rattle.tw_prompt_host.specs.declared.going.Going.{Going}
 
--- whether the editor searches, whether the line was kept from being accepted, whether it is over, and the menu
+-- gives a search up
+abbrev pub give_up_key : KeyEvent
+give_up_key = key_press ctrl (letter (codes "G"))
+
+-- whether the editor searches and the line before that, a line that comes back with the next event, whether the line was kept from being accepted, whether it is over, and the menu
 pub record GoingView : Type 0 where
   pub searching : Bool
+  pub before_search : Option Cut
+  pub comes_back : Option Cut
   pub kept : Bool
   pub over : Bool
   pub menu : MenuView
 
 -- the view of it
 abbrev pub going_view : Going → GoingView
-going_view going = record { searching = going.searching; kept = going.kept; over = going.over; menu = menu_view going.menu }
+going_view going = record {
+  searching = going.searching;
+  before_search = going.before_search;
+  comes_back = going.comes_back;
+  kept = going.kept;
+  over = going.over;
+  menu = menu_view going.menu;
+}
 
 -- before a line
 abbrev pub at_rest : GoingView
-at_rest = record { searching = false; kept = false; over = false; menu = Closed }
+at_rest = record { searching = false; before_search = None; comes_back = None; kept = false; over = false; menu = Closed }
+
+-- the line at an event: the one that comes back, or else the editor's
+abbrev pub line_at : GoingView → Cut → Cut
+line_at going cut = unwrap_or going.comes_back cut
+
+-- the line before a search, by whether the editor searched before an event and does after it
+abbrev pub before_search_after : Bool → Bool → Cut → Option Cut → Option Cut
+before_search_after searched false line before = None
+before_search_after false true line before = Some line
+before_search_after true true line before = before
+
+-- it comes back after a search that was given up
+abbrev pub comes_back_after : Bool → Bool → Option Cut → Option Cut
+comes_back_after true false before = before
+comes_back_after given_up searches before = None
 
 -- whether a line stays kept: an action that was kept back keeps it, and another one ends that
 abbrev pub kept_after : Bool → Option ActionView → Bool → Bool
@@ -35,11 +69,24 @@ is_last (Some Cancel) = true
 is_last (Some EndOfFile) = true
 is_last _ = false
 
--- all of it after an action, if there is one, that was kept back or not, in a history that has lines or none
-abbrev pub going_after : Bool → Bool → Option (List CandidateView) → Option ActionView → GoingView → GoingView
-going_after lines back found action going = record {
-  searching = searches_after lines action going.searching;
-  kept = kept_after back action going.kept;
-  over = is_last action;
-  menu = menu_after found action going.menu;
-}
+-- an event, the line before and after it, the action that follows if there is one, whether one was kept back, and where it turns the menu
+pub record Came : Type 0 where
+  pub event : EventView
+  pub before : Cut
+  pub after : Cut
+  pub action : Option ActionView
+  pub back : Bool
+  pub turn : Option MenuView
+
+-- all of it after an event, in a history that has lines or none
+abbrev pub going_after : Bool → Came → GoingView → GoingView
+going_after lines came going =
+    let searches = searches_after lines came.action going.searching in
+    record {
+      searching = searches;
+      before_search = before_search_after going.searching searches came.before going.before_search;
+      comes_back = comes_back_after (is_key give_up_key came.event) searches going.before_search;
+      kept = kept_after came.back came.action going.kept;
+      over = is_last came.action;
+      menu = menu_behind came.turn (is_same_cut came.before came.after) came.action going.menu;
+    }

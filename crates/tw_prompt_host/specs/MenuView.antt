@@ -1,13 +1,16 @@
 -- What a menu shows and offers.
-use Rattle.std.specs.Prelude.{Bool, true, false, List, map, Option, Some, None, if◌then◌else◌}
-use Rattle.tw_host.specs.ActionView.{ActionView, Complete}
+use Rattle.std.specs.Prelude.{◌&&◌, Bool, true, false, not, List, map, take, drop, Option, Some, None, if◌then◌else◌}
+use Rattle.tw_line.specs.Cut.{Cut}
+use Rattle.tw_host.specs.ActionView.{ActionView}
 use Rattle.tw_host.specs.CandidateView.{CandidateView, candidate_view}
 use Rattle.tw_host.specs.ElementView.{ElementView}
 use Rattle.tw_prompt_host.specs.declared.layout.MenuStyle.{MenuStyle}
 use Rattle.tw_prompt_host.specs.declared.menu.Menu.{Menu}
 use Rattle.tw_prompt_host.specs.declared.menu.Menu.TheVariants as menu
+use Rattle.tw_prompt_host.specs.declared.menu.Turn.{Turn}
+use Rattle.tw_prompt_host.specs.declared.menu.Turn.TheVariants as turn
 use Rattle.tw_prompt_host.specs.MenuLayout.{menu_page}
-use Rattle.tw_prompt_host.specs.MenuState.{MenuView, Closed, Unseen, Few, Open}
+use Rattle.tw_prompt_host.specs.MenuState.{MenuView, Closed, Unseen, Few, Open, Shown, is_completing, menu_stepped}
 
 -- the view of a menu
 abbrev pub menu_view : Menu → MenuView
@@ -28,24 +31,43 @@ page_or style Unseen elements = elements
 page_or style (Few candidates) elements = elements
 page_or style (Open m) elements = menu_page style m.candidates m.chosen
 
--- the candidates that are known, or else these
+-- the candidate that is chosen, by itself
+abbrev pub chosen_of : Shown → List CandidateView
+chosen_of m = take 1 (drop m.chosen m.candidates)
+
+-- what the editor completes with: the candidate that is chosen, those that are known, or else these
 abbrev pub offered : MenuView → List CandidateView → List CandidateView
 offered Closed candidates = candidates
 offered Unseen candidates = candidates
 offered (Few few) candidates = few
-offered (Open m) candidates = m.candidates
+offered (Open m) candidates = chosen_of m
+
+-- no completion goes on
+abbrev pub is_still : MenuView → Bool
+is_still Closed = true
+is_still (Few before) = true
+is_still _ = false
 
 -- a completion of the key table begins, but not during a search
 abbrev pub asks : Bool → MenuView → Option ActionView → Bool
-asks false Closed (Some Complete) = true
-asks false (Few before) (Some Complete) = true
-asks _ _ _ = false
+asks searching menu action = not searching && (is_still menu && is_completing action)
 
 -- candidates are known where one begins
 abbrev pub known : Bool → MenuView → Option ActionView → List CandidateView → Option (List CandidateView)
 known searching menu action candidates = if asks searching menu action then Some candidates else None
 
--- they are not where the other host has an action of its own
-abbrev pub known_unless : Option ActionView → Option (List CandidateView) → Option (List CandidateView)
-known_unless None found = found
-known_unless (Some own) found = None
+-- an event turns the menu unless it has an action or an edit of its own
+abbrev pub turn_unless : {E : Type 0} → Option ActionView → Option E → Option MenuView → Option MenuView
+turn_unless None None turn = turn
+turn_unless _ _ turn = None
+
+-- the line on which the editor completes when the menu turns: that before the completion
+abbrev pub turn_line : Option MenuView → Option Cut
+turn_line (Some (Open m)) = Some m.line
+turn_line _ = None
+
+-- the menu that a turn leads to
+abbrev pub turn_view : MenuView → Turn → MenuView
+turn_view m turn.Next = menu_stepped false m
+turn_view m turn.Back = menu_stepped true m
+turn_view m (turn.Begins begun) = menu_view begun

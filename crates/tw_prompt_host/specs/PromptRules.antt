@@ -3,7 +3,8 @@ use Rattle.std.specs.Prelude.{ℕ, ◌==◌, ◌&&◌, Bool, true, false, not, L
 use Rattle.tw_surface.specs.Defaults.{default_attributes}
 use Rattle.tw_input.specs.EventView.{EventView}
 use Rattle.tw_line.specs.Cut.{Cut}
-use Rattle.tw_host.specs.ActionView.{ActionView, InsertText, NoAction}
+use Rattle.tw_line.specs.declared.movements.Movement.TheVariants as movement
+use Rattle.tw_host.specs.ActionView.{ActionView, Complete, InsertText, Move, NoAction}
 use Rattle.tw_host.specs.CandidateView.{CandidateView}
 use Rattle.tw_host.specs.ElementView.{ElementView}
 use Rattle.tw_host.specs.HostRules.{Highlight, HostRules, Resolution, or_default}
@@ -12,14 +13,16 @@ use Rattle.tw_hosts.specs.SettledRules.{PromptScreenView, screen_after, settled_
 use Rattle.tw_completion_parts.specs.Completers.{ContextCompleterView, completed_by}
 use Rattle.tw_completion_parts.specs.FileNames.{ListingView}
 use Rattle.tw_completion_parts.specs.SharedCandidate.{beginning_first}
+use Rattle.tw_key_parts.specs.Keys.{is_key}
 use Rattle.tw_key_parts.specs.KeyRules.{Edited, KeyRules, step_of}
 use Rattle.tw_key_parts.specs.SearchWatch.{has_lines}
-use Rattle.tw_prompt_host.specs.Going.{GoingView, going_after}
+use Rattle.tw_prompt_host.specs.Going.{Came, GoingView, give_up_key, going_after, line_at}
 use Rattle.tw_prompt_host.specs.Hint.{are_on, hint_if_under, hint_of, hint_taken_by, shown_under}
 use Rattle.tw_prompt_host.specs.AfterLine.{after_line_on}
 use Rattle.tw_prompt_host.specs.FailingSearch.{failing_text, is_failing}
 use Rattle.tw_prompt_host.specs.MenuLayout.{style_after}
-use Rattle.tw_prompt_host.specs.MenuView.{is_open, known, known_unless, offered, page_or}
+use Rattle.tw_prompt_host.specs.MenuState.{MenuView, menu_begun, turned}
+use Rattle.tw_prompt_host.specs.MenuView.{is_open, known, offered, page_or, turn_line, turn_unless}
 use Rattle.tw_prompt_host.specs.Validation.{is_accepting, keeps_line, shown_lack}
 use Rattle.tw_prompt_host.specs.declared.hint.Hints.{Hints}
 use Rattle.tw_prompt_host.specs.declared.hint.Hints.TheVariants.{After}
@@ -55,6 +58,17 @@ module _ {K : Type 0} where
   abbrev pub hint_or : Cut → Option (List ℕ) → Option (Edited K) → Option (Edited (Option K))
   hint_or cut (Some rest) edit = Some (record { cut = Some cut; action = InsertText 1 rest; kept = None })
   hint_or cut None edit = option_map of_keys edit
+
+  -- an edit, or else the completion of a line
+  abbrev pub completing : Option (Edited (Option K)) → Option Cut → Option (Edited (Option K))
+  completing (Some edit) line = Some edit
+  completing None (Some line) = Some (record { cut = Some line; action = Complete; kept = None })
+  completing None None = None
+
+  -- a search that is given up is left, or else such an edit
+  abbrev pub leaving : Bool → Option (Edited (Option K)) → Option (Edited (Option K))
+  leaving true edit = Some (record { cut = None; action = Move movement.None; kept = None })
+  leaving false edit = edit
 
   -- the host's action goes first, and then such an edit
   abbrev pub answered : Option ActionView → Option (Edited (Option K)) → Cut → Answer K
@@ -113,10 +127,16 @@ module _ {V S K : Type 0} (keys : KeyRules S K) (rules : HostRules V) where
   abbrev pub known_at : Prompted V S → EventView → Cut → Option (List CandidateView)
   known_at v event cut = known v.going.searching v.going.menu (action_of event) (found v cut)
 
-  -- the edit that an event has
+  -- where an event turns the menu
+  abbrev pub turn_at : Prompted V S → EventView → Cut → Option MenuView
+  turn_at v event cut =
+      turned (option_map (λ candidates. menu_begun candidates cut) (known_at v event cut)) event (action_of event) v.going.menu
+
+  -- the edit that an event has without the menu: a search is left, a hint is taken, or that of the parts
   abbrev pub edit_at : Prompted V S → EventView → Cut → Option (Edited (Option K))
   edit_at v event cut =
-      hint_or cut (hint_at v event cut) (keys.edits v.keys (record { event = event; searching = v.going.searching; lines = v.lines; cut = cut }))
+      leaving (v.going.searching && is_key give_up_key event)
+      (hint_or cut (hint_at v event cut) (keys.edits v.keys (record { event = event; searching = v.going.searching; lines = v.lines; cut = cut })))
 
   -- a line is not to be accepted; during a search it is the pattern
   abbrev pub is_kept : Prompted V S → List ℕ → Bool
@@ -126,25 +146,40 @@ module _ {V S K : Type 0} (keys : KeyRules S K) (rules : HostRules V) where
   abbrev pub is_back : Prompted V S → EventView → Cut → Option ActionView → Bool
   is_back v event cut action = is_kept v cut.line && is_accepting (or_default action event)
 
-  -- all follow the same step: what came of the event in the end
-  abbrev pub followed : Prompted V S → EventView → Cut → V → Answer K → Bool → Option ActionView → Resolution (Prompted V S)
-  followed v event cut value answer back action = record {
+  -- all follow what came of an event in the end
+  abbrev pub followed : Prompted V S → V → Option K → Came → Option ActionView → Resolution (Prompted V S)
+  followed v value kept came action = record {
     value = record v {
       host = value;
-      keys = keys.follows v.keys answer.kept (step_of event v.going.searching cut answer.cut (or_default action event));
-      style = style_after event v.style;
-      screen = screen_after event v.screen;
-      going = going_after (has_lines v.lines) back (known_unless action (known_at v event cut)) (or_default action event) v.going;
+      keys = keys.follows v.keys kept (step_of came.event v.going.searching came.before came.after came.action);
+      style = style_after came.event v.style;
+      screen = screen_after came.event v.screen;
+      going = going_after (has_lines v.lines) came v.going;
     };
-    cut = answer.cut;
+    cut = came.after;
     action = action;
   }
 
-  abbrev pub judged : Prompted V S → EventView → Cut → V → Answer K → Bool → Resolution (Prompted V S)
-  judged v event cut value answer back = followed v event cut value answer back (said back answer.action)
+  abbrev pub judged : Prompted V S → EventView → Cut → V → Answer K → Option MenuView → Bool → Resolution (Prompted V S)
+  judged v event cut value answer turn back =
+      let action = said back answer.action in
+      followed v value answer.kept
+      (record { event = event; before = cut; after = answer.cut; action = or_default action event; back = back; turn = turn }) action
 
-  abbrev pub resolved : Prompted V S → EventView → Cut → V → Answer K → Resolution (Prompted V S)
-  resolved v event cut value answer = judged v event cut value answer (is_back v event cut answer.action)
+  -- what is answered to an event at a line: the host goes first, and then the edit, which a completion is too
+  abbrev pub answer_at : Prompted V S → EventView → Cut → Answer K
+  answer_at v event cut =
+      let own = rules.resolve v.host event cut in answered own.action (completing (edit_at v event cut) (turn_line (turn_at v event cut))) own.cut
+
+  -- where the event turns the menu, if nothing else is answered
+  abbrev pub turn_taken_at : Prompted V S → EventView → Cut → Option MenuView
+  turn_taken_at v event cut = turn_unless (rules.resolve v.host event cut).action (edit_at v event cut) (turn_at v event cut)
+
+  -- an event at a line
+  abbrev pub resolved_at : Prompted V S → EventView → Cut → Resolution (Prompted V S)
+  resolved_at v event cut =
+      let answer = answer_at v event cut in
+      judged v event cut (rules.resolve v.host event cut).value answer (turn_taken_at v event cut) (is_back v event cut answer.action)
 
   abbrev pub prompt_rules : HostRules (Prompted V S)
   prompt_rules = record {
@@ -153,5 +188,5 @@ module _ {V S K : Type 0} (keys : KeyRules S K) (rules : HostRules V) where
     preview = λ v line. page_or v.style v.going.menu (shown_lack v.going.kept (v.lacks line) (shown_under (rules.preview v.host line) (hint_under v line)));
     highlight = λ v cut. with_more (settled_highlight v.screen cut (rules.highlight v.host cut)) (after_line v cut);
     candidates = λ v cut. offered v.going.menu (found v cut);
-    resolve = λ v event cut. let r = rules.resolve v.host event cut in resolved v event cut r.value (answered r.action (edit_at v event cut) r.cut);
+    resolve = λ v event cut. resolved_at v event (line_at v.going cut);
   }

@@ -1,26 +1,47 @@
 //! The state of one line.
 
-ghost use Rattle.std.specs.Prelude.{◌≡◌, map, option_map};
+ghost use Rattle.std.specs.Prelude.{◌≡◌, option_map};
 ghost use Rattle.tw_host.specs.ActionView.{action_view};
-ghost use Rattle.tw_host.specs.CandidateView.{candidate_view};
-ghost use Rattle.tw_prompt_host.specs.Going.{at_rest, going_after, going_view, is_last, kept_after};
-ghost use Rattle.tw_prompt_host.specs.MenuView.{asks, menu_view};
+ghost use Rattle.tw_input.specs.EventView.{event_view};
+ghost use Rattle.tw_key_parts.specs.Keys.{is_key};
+ghost use Rattle.tw_key_parts.specs.SearchWatch.{searches_after};
+ghost use Rattle.tw_prompt_host.specs.Going.{at_rest, before_search_after, comes_back_after, give_up_key, going_after, going_view, is_last, kept_after};
+ghost use Rattle.tw_prompt_host.specs.MenuView.{asks, menu_view, turn_view};
 
-use crate::menu::Menu;
-use tw_host::{Action, CompletionCandidate};
-use tw_key_parts::searches_after;
+use crate::menu::{Menu, Turn};
+use tw_host::Action;
+use tw_input::{InputEvent, KeyCode, KeyEvent, Modifiers};
+use tw_key_parts::{is_key, searches_after};
+use tw_line::LineEditBuffer;
+
+/// Gives a search up.
+const GIVE_UP: KeyEvent = KeyEvent {
+    key: KeyCode::Char('G'),
+    modifiers: Modifiers::CTRL,
+};
 
 /// The state of the current line, except for that of the parts with keys.
 #[derive(Debug, Drop)]
 pub struct Going {
     /// True while the editor searches.
     pub(crate) searching: bool,
+    /// The line before the search, while the editor searches.
+    pub(crate) before_search: Option<LineEditBuffer>,
+    /// The line that comes back with the next event, after a search that was given up.
+    pub(crate) comes_back: Option<LineEditBuffer>,
     /// True once the line was not accepted, up to the next action.
     pub(crate) kept: bool,
     /// True once an action ended the line.
     pub(crate) over: bool,
     /// The menu.
     pub(crate) menu: Menu,
+}
+
+/// Returns true for the key that gives a search up.
+pub fn gives_up(event: &InputEvent) -> bool
+    ensures { result ≡ is_key give_up_key (event_view event.now) }
+{
+    is_key(GIVE_UP, event)
 }
 
 /// Returns true if the line was not accepted, now or before.
@@ -47,6 +68,8 @@ impl Going {
     {
         Going {
             searching: false,
+            before_search: None,
+            comes_back: None,
             kept: false,
             over: false,
             menu: Menu::Closed,
@@ -66,20 +89,52 @@ impl Going {
         }
     }
 
-    /// Follows the action of an event. `back` is true if it was held back.
+    /// Follows a search, which goes on after an event or not.
+    fn follow_search(&mut self, event: &InputEvent, searches: bool, line: LineEditBuffer)
+        ensures { let old = going_view self.old in going_view self.new ≡ record old {
+          searching = searches;
+          before_search = before_search_after old.searching searches line old.before_search;
+          comes_back = comes_back_after (is_key give_up_key (event_view event.now)) searches old.before_search;
+        } }
+    {
+        let before = self.before_search.take();
+        self.comes_back = None;
+        match (self.searching, searches) {
+            (false, true) => self.before_search = Some(line),
+            (true, true) => self.before_search = before,
+            (_, false) => {
+                if gives_up(event) {
+                    self.comes_back = before;
+                }
+            }
+        }
+        self.searching = searches;
+    }
+
+    /// Follows an event, which leads from the line before to the one after. `back` is true if its action was held back.
     pub(crate) fn follow(
         &mut self,
         lines: bool,
-        back: bool,
-        found: Option<Vec<CompletionCandidate>>,
+        event: &InputEvent,
+        before: LineEditBuffer,
+        after: &LineEditBuffer,
         action: Option<&Action>,
+        back: bool,
+        turn: Option<Turn>,
     )
-        ensures { going_view self.new ≡ going_after lines back (option_map (λ candidates. map candidate_view candidates.items) found)
-            (option_map (λ action. action_view action.now) action.entry) (going_view self.old) }
+        ensures { going_view self.new ≡ going_after lines (record {
+          event = event_view event.now;
+          before = before;
+          after = after.now;
+          action = option_map (λ action. action_view action.now) action.entry;
+          back = back;
+          turn = option_map (turn_view (menu_view self.old.menu)) turn;
+        }) (going_view self.old) }
     {
-        self.searching = searches_after(lines, action, self.searching);
+        self.menu.follow(turn, &before, after, action);
         self.kept = kept_after(back, action, self.kept);
         self.over = is_last(action);
-        self.menu.follow(action, found);
+        let searches = searches_after(lines, action, self.searching);
+        self.follow_search(event, searches, before);
     }
 }

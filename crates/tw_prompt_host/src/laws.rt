@@ -2,7 +2,7 @@
 
 ghost use Rattle.tw_host.specs.Faithful.{IsFaithful};
 ghost use Rattle.tw_prompt_host.specs.Prepared.{prepared_rules};
-ghost use Rattle.tw_prompt_host.specs.PromptLaws.{PromptHasWatch};
+ghost use Rattle.tw_prompt_host.specs.PromptLaws.{GivesLineBack, KeepsLineOfSearch, PromptHasWatch};
 
 use tw_host::LineEditorHost;
 use tw_key_parts::KeyPart;
@@ -11,6 +11,13 @@ use tw_key_parts::KeyPart;
 /// are.
 pub fn watch<H: LineEditorHost, K: KeyPart>()
     ensures { PromptHasWatch K.keys H.rules }
+{}
+
+/// The line before a search is kept while the editor searches. At the key that gives the search up it is left, and that
+/// line stands at the next event.
+pub fn given_up<H: LineEditorHost, K: KeyPart>()
+    ensures kept { KeepsLineOfSearch K.keys H.rules }
+    ensures back { GivesLineBack K.keys H.rules }
 {}
 
 /// A prepared host shows the prompt and the line themselves, whatever the ranges are.

@@ -22,7 +22,7 @@ mod prepared;
 mod prompt;
 mod validator;
 
-pub use going::Going;
+pub use going::{Going, gives_up};
 pub use hint::Hints;
 pub use layout::MenuStyle;
 pub use nested_lines::NestedLines;

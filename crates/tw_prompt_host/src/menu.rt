@@ -1,20 +1,33 @@
-//! The menu of a completion, by the actions of the editor.
+//! The menu of a completion.
 
-ghost use Rattle.std.specs.Prelude.{◌≡◌, map, option_map, IfOk};
+ghost use Rattle.std.specs.Prelude.{◌≡◌, None, map, option_map, IfOk};
 ghost use Rattle.tw_host.specs.ActionView.{action_view};
 ghost use Rattle.tw_host.specs.CandidateView.{candidate_view};
-ghost use Rattle.tw_prompt_host.specs.MenuView.{is_open, menu_view};
-ghost use Rattle.tw_prompt_host.specs.MenuState.{advanced, completed, menu_after, menu_begun};
+ghost use Rattle.tw_input.specs.EventView.{event_view};
+ghost use Rattle.tw_key_parts.specs.Ring.{is_same_cut};
+ghost use Rattle.tw_prompt_host.specs.MenuView.{chosen_of, is_open, menu_view, turn_line, turn_view};
+ghost use Rattle.tw_prompt_host.specs.MenuState.{menu_after, menu_begun, menu_behind, menu_stepped, next_in, previous_in, stepped, turned};
 
 use std::alloc::{AllocError, Global};
 use std::marker::Model;
 use tw_host::{Action, CompletionCandidate};
+use tw_input::{InputEvent, KeyCode, KeyEvent, Modifiers};
+use tw_key_parts::{is_key, is_same_cut};
+use tw_line::LineEditBuffer;
+
+/// Goes back through the candidates.
+const BACK: KeyEvent = KeyEvent {
+    key: KeyCode::Tab,
+    modifiers: Modifiers::SHIFT,
+};
 
 /// The candidates of a completion, one of which is in the line.
 #[derive(Debug, Drop)]
 pub struct OpenMenu {
     pub candidates: Vec<CompletionCandidate>,
     pub chosen: usize,
+    /// The line before the completion.
+    pub line: LineEditBuffer,
 }
 
 impl Model for OpenMenu {
@@ -24,17 +37,42 @@ impl Model for OpenMenu {
 
     ghost Value = { Shown };
 
-    ghost view = { λ m. record { candidates = map candidate_view m.candidates.items; chosen = m.chosen } };
+    ghost view = { λ m. record { candidates = map candidate_view m.candidates.items; chosen = m.chosen; line = m.line } };
 
     ghost invariant = { λ m. m.chosen < length m.candidates.items };
 }
 
 impl OpenMenu {
-    /// Chooses the next candidate, and after the last one the first.
-    fn advance(&mut self)
-        ensures { self.new ≡ advanced self.old }
+    /// Returns the candidate after the chosen one, and after the last one the first.
+    fn next(&self) -> usize
+        ensures { result ≡ next_in self.now }
     {
-        self.chosen = (self.chosen + 1) % self.candidates.len();
+        (self.chosen + 1) % self.candidates.len()
+    }
+
+    /// Returns the candidate before the chosen one, and before the first one the last.
+    fn previous(&self) -> usize
+        ensures { result ≡ previous_in self.now }
+    {
+        if self.chosen == 0 {
+            self.candidates.len() - 1
+        } else {
+            self.chosen - 1
+        }
+    }
+
+    /// Returns a copy of the chosen candidate, by itself.
+    pub fn chosen_one(&self, alloc: Global) -> Result<Vec<CompletionCandidate>, AllocError>
+        ensures { IfOk result (λ copies. map candidate_view copies.items ≡ chosen_of self.now) }
+    {
+        copied(alloc, &self.candidates[self.chosen..self.chosen + 1])
+    }
+
+    /// Chooses the next candidate, or goes back to the one before.
+    fn step(&mut self, back: bool)
+        ensures { self.new ≡ stepped back self.old }
+    {
+        self.chosen = if back { self.previous() } else { self.next() };
     }
 }
 
@@ -51,6 +89,17 @@ pub enum Menu {
     Open(OpenMenu),
 }
 
+/// Where an event leads a menu.
+#[derive(Debug, Drop)]
+pub enum Turn {
+    /// Chooses the next candidate of an open menu.
+    Next,
+    /// Goes back to the candidate before.
+    Back,
+    /// Begins a completion.
+    Begins(Menu),
+}
+
 impl Menu {
     /// Returns true if it is open.
     pub fn is_open(&self) -> bool
@@ -59,40 +108,94 @@ impl Menu {
         matches!(self, Menu::Open(_))
     }
 
-    /// Returns the menu at the beginning of a completion.
-    fn begun(found: Option<Vec<CompletionCandidate>>) -> Self
-        ensures { menu_view result ≡ menu_begun (option_map (λ candidates. map candidate_view candidates.items) found) }
+    /// Returns the menu at the beginning of a completion of a line.
+    pub fn begun(candidates: Vec<CompletionCandidate>, line: LineEditBuffer) -> Self
+        ensures { menu_view result ≡ menu_begun (map candidate_view candidates.items) line }
     {
-        match found {
-            None => Menu::Unseen,
-            Some(candidates) if candidates.len() > 1 => Menu::Open(OpenMenu {
+        if candidates.len() > 1 {
+            Menu::Open(OpenMenu {
                 candidates,
                 chosen: 0,
-            }),
-            Some(candidates) => Menu::Few(candidates),
+                line,
+            })
+        } else {
+            Menu::Few(candidates)
         }
     }
 
-    /// Follows a completion, with its candidates if it begins.
-    fn complete(&mut self, found: Option<Vec<CompletionCandidate>>)
-        ensures { menu_view self.new ≡ completed (option_map (λ candidates. map candidate_view candidates.items) found) (menu_view self.old) }
+    /// Returns where an event leads an open menu.
+    pub fn turn(&self, event: &InputEvent, action: Option<&Action>) -> Option<Turn>
+        ensures { option_map (turn_view (menu_view self.now)) result
+            ≡ turned None (event_view event.now) (option_map (λ action. action_view action.now) action.entry) (menu_view self.now) }
     {
-        match self {
-            Menu::Closed | Menu::Few(_) => *self = Menu::begun(found),
-            Menu::Unseen => {}
-            Menu::Open(menu) => menu.advance(),
+        if !self.is_open() {
+            return None;
+        }
+        if is_key(BACK, event) {
+            return Some(Turn::Back);
+        }
+        match action {
+            Some(Action::Complete) => Some(Turn::Next),
+            _ => None,
         }
     }
 
-    /// Follows the action of an event, with the candidates if a completion begins.
-    pub fn follow(&mut self, action: Option<&Action>, found: Option<Vec<CompletionCandidate>>)
+    /// Returns a copy of the line on which the editor completes when the menu turns.
+    pub fn line_of(
+        &self,
+        alloc: Global,
+        turn: Option<&Turn>,
+    ) -> Result<Option<LineEditBuffer>, AllocError>
+        ensures { IfOk result (λ line. line ≡ turn_line (option_map (λ turn. turn_view (menu_view self.now) turn.now) turn.entry)) }
+    {
+        match (turn, self) {
+            (Some(Turn::Next | Turn::Back), Menu::Open(menu))
+            | (Some(Turn::Begins(Menu::Open(menu))), _) => { Ok(Some(menu.line.try_clone(alloc)?)) }
+            _ => Ok(None),
+        }
+    }
+
+    /// Chooses the next candidate of an open menu, or goes back to the one before.
+    fn step(&mut self, back: bool)
+        ensures { menu_view self.new ≡ menu_stepped back (menu_view self.old) }
+    {
+        if let Menu::Open(menu) = self {
+            menu.step(back);
+        }
+    }
+
+    /// Follows the action of an event that does not turn the menu.
+    fn go_on(&mut self, before: &LineEditBuffer, after: &LineEditBuffer, action: Option<&Action>)
         ensures { menu_view self.new
-            ≡ menu_after (option_map (λ candidates. map candidate_view candidates.items) found) (option_map (λ action. action_view action.now) action.entry) (menu_view self.old) }
+            ≡ menu_after (is_same_cut before.now after.now) (option_map (λ action. action_view action.now) action.entry) (menu_view self.old) }
     {
         match action {
-            Some(Action::Complete) => self.complete(found),
-            Some(Action::NoAction | Action::Repaint) | None => {}
+            Some(Action::Complete) => *self = Menu::Unseen,
+            Some(Action::NoAction | Action::Repaint) | None => {
+                if self.is_open() && !is_same_cut(before, after) {
+                    *self = Menu::Closed;
+                }
+            }
             Some(_) => *self = Menu::Closed,
+        }
+    }
+
+    /// Follows an event, which turns the menu or has an action that leads from one line to another.
+    pub fn follow(
+        &mut self,
+        turn: Option<Turn>,
+        before: &LineEditBuffer,
+        after: &LineEditBuffer,
+        action: Option<&Action>,
+    )
+        ensures { menu_view self.new ≡ menu_behind (option_map (turn_view (menu_view self.old)) turn)
+            (is_same_cut before.now after.now) (option_map (λ action. action_view action.now) action.entry) (menu_view self.old) }
+    {
+        match turn {
+            Some(Turn::Next) => self.step(false),
+            Some(Turn::Back) => self.step(true),
+            Some(Turn::Begins(menu)) => *self = menu,
+            None => self.go_on(before, after, action),
         }
     }
 }

@@ -1,6 +1,6 @@
 //! The prompt, and the order in which its parts answer.
 
-ghost use Rattle.std.specs.Prelude.{◌≡◌, ◌&&◌, IfOk, IsCharBoundary, None, if◌then◌else◌, map, option_map, refl, string_bytes};
+ghost use Rattle.std.specs.Prelude.{◌≡◌, ◌&&◌, IfOk, OnErr, OnOk, IsCharBoundary, None, if◌then◌else◌, map, option_map, refl, string_bytes};
 ghost use Rattle.tw_host.specs.ActionView.{action_view};
 ghost use Rattle.tw_host.specs.CandidateView.{candidate_view};
 ghost use Rattle.tw_host.specs.ElementView.{element_view};
@@ -15,20 +15,20 @@ ghost use Rattle.tw_completion_parts.specs.FileNames.{listing_view};
 ghost use Rattle.tw_key_parts.specs.EditView.{edit_view};
 ghost use Rattle.tw_key_parts.specs.KeyRules.{step_of};
 ghost use Rattle.tw_key_parts.specs.SearchWatch.{has_lines};
-ghost use Rattle.tw_prompt_host.specs.Going.{at_rest, going_after, going_view};
+ghost use Rattle.tw_prompt_host.specs.Going.{at_rest, give_up_key, going_after, going_view, line_at};
 ghost use Rattle.tw_prompt_host.specs.Hint.{are_on, hint_of, hint_taken_by};
 ghost use Rattle.tw_prompt_host.specs.FailingSearch.{is_failing};
 ghost use Rattle.tw_prompt_host.specs.MenuLayout.{style_after};
-ghost use Rattle.tw_prompt_host.specs.MenuView.{known, menu_view};
-ghost use Rattle.tw_prompt_host.specs.PromptRules.{Prompted, after_line, answered, edit_at, failing_if, found, hint_if_after, hint_under, is_hinted, is_kept, prompt_rules, said};
+ghost use Rattle.tw_prompt_host.specs.MenuView.{known, menu_view, turn_line, turn_unless, turn_view};
+ghost use Rattle.tw_prompt_host.specs.PromptRules.{Prompted, after_line, answer_at, answered, completing, edit_at, followed, failing_if, found, hint_if_after, hint_under, is_hinted, is_kept, leaving, prompt_rules, said, turn_at, turn_taken_at};
 ghost use Rattle.tw_prompt_host.specs.Validation.{is_accepting};
 
 use crate::after_line::after_line_on;
 use crate::failing::{FAILING, is_failing};
-use crate::going::Going;
+use crate::going::{Going, gives_up};
 use crate::hint::{Hints, history_hint, is_taking, part_taken};
 use crate::layout::{MenuStyle, menu_page};
-use crate::menu::{Menu, copied};
+use crate::menu::{Menu, Turn, copied};
 use crate::validator::Validator;
 use std::alloc::{AllocError, Global};
 use tw_completion_parts::{ContextCompleter, Listing, beginning_first, completed_by};
@@ -40,7 +40,7 @@ use tw_host::{
 use tw_hosts::PromptScreen;
 use tw_input::InputEvent;
 use tw_key_parts::{Edit, KeyPart, is_filled};
-use tw_line::LineEditBuffer;
+use tw_line::{LineEditBuffer, Movement};
 use tw_surface::CellAttributes;
 
 /// A prompt with the comforts of readline. Each event goes to the application's host first, then a hint may be taken,
@@ -99,6 +99,41 @@ fn answered<K: KeyPart>(
             (Some(action), note)
         }
         (None, None) => (None, None),
+    }
+}
+
+/// Returns the edit, or else the completion of a line.
+fn completing<K: KeyPart>(
+    edit: Option<Edit<Option<K::Note>>>,
+    line: Option<LineEditBuffer>,
+) -> Option<Edit<Option<K::Note>>>
+    ensures { option_map (edit_view (option_map K.kept)) result ≡ completing (option_map (edit_view (option_map K.kept)) edit) line }
+{
+    match (edit, line) {
+        (Some(edit), _) => Some(edit),
+        (None, Some(line)) => Some(Edit {
+            line: Some(line),
+            action: Action::Complete,
+            note: None,
+        }),
+        (None, None) => None,
+    }
+}
+
+/// Returns where an event turns the menu, unless it has an action or an edit of its own.
+fn turn_unless<K: KeyPart>(
+    _menu: &Menu,
+    own: Option<&Action>,
+    edit: Option<&Edit<Option<K::Note>>>,
+    turn: Option<Turn>,
+) -> Option<Turn>
+    ensures { option_map (turn_view (menu_view _menu.now)) result
+        ≡ turn_unless (option_map (λ action. action_view action.now) own.entry) (option_map (λ edit. edit_view (option_map K.kept) edit.now) edit.entry)
+        (option_map (turn_view (menu_view _menu.now)) turn) }
+{
+    match (own, edit) {
+        (None, None) => turn,
+        _ => None,
     }
 }
 
@@ -241,7 +276,17 @@ impl<H: LineEditorHost, L: History + LentLines, K: KeyPart, V: Validator> Prompt
         }
     }
 
-    /// Returns the edit of an event: a hint that is inserted, or else that of the parts.
+    /// Returns the line at an event: the one that comes back, or else the editor's.
+    fn line_at(&self, alloc: Global, editor: &LineEditBuffer) -> Result<LineEditBuffer, AllocError>
+        ensures { IfOk result (λ line. line ≡ line_at (going_view self.now.going) editor.now) }
+    {
+        match &self.going.comes_back {
+            Some(line) => line.try_clone(alloc),
+            None => editor.try_clone(alloc),
+        }
+    }
+
+    /// Returns the edit of an event without the menu: a search is left, a hint is taken, or that of the parts.
     fn edit_at(
         &self,
         alloc: Global,
@@ -253,6 +298,13 @@ impl<H: LineEditorHost, L: History + LentLines, K: KeyPart, V: Validator> Prompt
         ensures { IfOk result (λ edit. option_map (edit_view (option_map K.kept)) edit
             ≡ edit_at K.keys H.rules (⟦<PromptHost<H, L, K, V> as LineEditorHost>⟧.value self.now) (event_view event.now) line.now) }
     {
+        if self.going.searching && gives_up(event) {
+            return Ok(Some(Edit {
+                line: None,
+                action: Action::Move(Movement::None),
+                note: None,
+            }));
+        }
         if let Some(rest) = self.hint_taken(alloc, default, line)? {
             return Ok(Some(Edit {
                 line: Some(line.try_clone(alloc)?),
@@ -327,40 +379,129 @@ impl<H: LineEditorHost, L: History + LentLines, K: KeyPart, V: Validator> Prompt
         Ok(Some(found))
     }
 
-    /// Lets every part follow the action of an event.
+    /// Returns where an event turns the menu.
+    fn turn_at(
+        &self,
+        alloc: Global,
+        event: &InputEvent,
+        default: Option<&Action>,
+        line: &LineEditBuffer,
+    ) -> Result<Option<Turn>, AllocError>
+        requires { option_map (λ action. action_view action.now) default ≡ action_of (event_view event.now) }
+        ensures { IfOk result (λ turn. option_map (turn_view (menu_view self.now.going.menu)) turn
+            ≡ turn_at K.keys H.rules (⟦<PromptHost<H, L, K, V> as LineEditorHost>⟧.value self.now) (event_view event.now) line.now) }
+    {
+        if self.going.menu.is_open() {
+            return Ok(self.going.menu.turn(event, default));
+        }
+        match self.known(alloc, default, line)? {
+            Some(candidates) => {
+                let line = line.try_clone(alloc)?;
+                Ok(Some(Turn::Begins(Menu::begun(candidates, line))))
+            }
+            None => Ok(None),
+        }
+    }
+
+    /// Asks the application's host about an event at a line, which `editor` holds unless the line comes back.
+    fn ask_host(
+        &mut self,
+        alloc: Global,
+        event: &InputEvent,
+        line: &LineEditBuffer,
+        editor: &mut LineEditBuffer,
+    ) -> Result<Option<Action>, AllocError>
+        requires { line.now ≡ line_at (going_view self.old.going) editor.old }
+        ensures value { let r = H.rules.resolve (H.value self.old.host) (event_view event.now) line.now in
+            OnOk result (⟦<PromptHost<H, L, K, V> as LineEditorHost>⟧.value self.new
+            ≡ record (⟦<PromptHost<H, L, K, V> as LineEditorHost>⟧.value self.old) { host = r.value }) }
+        ensures line { let r = H.rules.resolve (H.value self.old.host) (event_view event.now) line.now in OnOk result (editor.new ≡ r.cut) }
+        ensures action { let r = H.rules.resolve (H.value self.old.host) (event_view event.now) line.now in
+            IfOk result (λ action. option_map action_view action ≡ r.action) }
+        ensures keys { self.new.keys ≡ self.old.keys }
+        ensures going { self.new.going ≡ self.old.going }
+        ensures err { OnErr result ((editor.new ≡ editor.old)
+            × (⟦<PromptHost<H, L, K, V> as LineEditorHost>⟧.value self.new ≡ ⟦<PromptHost<H, L, K, V> as LineEditorHost>⟧.value self.old)) }
+    {
+        if self.going.comes_back.is_none() {
+            return self.host.resolve_action(alloc, event, editor);
+        }
+        let mut line = line.try_clone(alloc)?;
+        let action = self.host.resolve_action(alloc, event, &mut line)?;
+        *editor = line;
+        Ok(action)
+    }
+
+    /// Answers an event at a line, which `editor` holds unless the line comes back, with what a part keeps of it and where
+    /// it turns the menu. Makes the parts ready to follow.
+    fn answer(
+        &mut self,
+        alloc: Global,
+        event: &InputEvent,
+        default: Option<&Action>,
+        line: &LineEditBuffer,
+        editor: &mut LineEditBuffer,
+    ) -> Result<(Option<Action>, Option<K::Note>, Option<Turn>), AllocError>
+        requires default { option_map (λ action. action_view action.now) default ≡ action_of (event_view event.now) }
+        requires line { line.now ≡ line_at (going_view self.old.going) editor.old }
+        ensures value { let v = ⟦<PromptHost<H, L, K, V> as LineEditorHost>⟧.value self.old in
+            OnOk result (⟦<PromptHost<H, L, K, V> as LineEditorHost>⟧.value self.new
+            ≡ record v { host = (H.rules.resolve v.host (event_view event.now) line.now).value }) }
+        ensures answer { IfOk result (λ it. record { cut = editor.new; action = option_map action_view it.0; kept = option_map K.kept it.1 }
+            ≡ answer_at K.keys H.rules (⟦<PromptHost<H, L, K, V> as LineEditorHost>⟧.value self.old) (event_view event.now) line.now) }
+        ensures turn { IfOk result (λ it. option_map (turn_view (menu_view self.new.going.menu)) it.2
+            ≡ turn_taken_at K.keys H.rules (⟦<PromptHost<H, L, K, V> as LineEditorHost>⟧.value self.old) (event_view event.now) line.now) }
+        ensures ready { OnOk result (K.is_ready self.new.keys line.now) }
+        ensures err { OnErr result ((editor.new ≡ editor.old)
+            × (⟦<PromptHost<H, L, K, V> as LineEditorHost>⟧.value self.new ≡ ⟦<PromptHost<H, L, K, V> as LineEditorHost>⟧.value self.old)) }
+    {
+        let edit = self.edit_at(alloc, event, default, line)?;
+        let turn = self.turn_at(alloc, event, default, line)?;
+        let original = self.going.menu.line_of(alloc, turn.as_ref())?;
+        self.keys.prepare(alloc, line)?;
+        let own = self.ask_host(alloc, event, line, editor)?;
+        let turn = turn_unless::<K>(&self.going.menu, own.as_ref(), edit.as_ref(), turn);
+        let (action, note) = answered::<K>(own, completing::<K>(edit, original), editor);
+        Ok((action, note, turn))
+    }
+
+    /// Lets every part follow an event, which leads from the line before to the one after. `back` is true if its action
+    /// was held back.
     fn follow(
         &mut self,
         alloc: Global,
         note: Option<K::Note>,
         event: &InputEvent,
-        before: &LineEditBuffer,
+        before: LineEditBuffer,
         after: &LineEditBuffer,
-        found: Option<Vec<CompletionCandidate>>,
-        back: bool,
         action: Option<&Action>,
+        back: bool,
+        turn: Option<Turn>,
     )
-        requires { K.is_ready self.old.keys before.now }
-        ensures { ⟦<PromptHost<H, L, K, V> as LineEditorHost>⟧.value self.new
-            ≡ record (⟦<PromptHost<H, L, K, V> as LineEditorHost>⟧.value self.old) {
-              keys = K.keys.follows (K.state self.old.keys) (option_map K.kept note)
-                  (step_of (event_view event.now) self.old.going.searching before.now after.now (option_map (λ action. action_view action.now) action.entry));
-              style = style_after (event_view event.now) self.old.menu;
-              screen = screen_after (event_view event.now) (screen_view self.old.screen);
-              going = going_after (has_lines (L.History.lines self.old.history)) back (option_map (λ candidates. map candidate_view candidates.items) found)
-                  (option_map (λ action. action_view action.now) action.entry) (going_view self.old.going);
-            } }
+        requires { K.is_ready self.old.keys before }
+        ensures { let v = ⟦<PromptHost<H, L, K, V> as LineEditorHost>⟧.value self.old in
+            ⟦<PromptHost<H, L, K, V> as LineEditorHost>⟧.value self.new ≡ (followed K.keys H.rules v v.host (option_map K.kept note)
+            (record {
+              event = event_view event.now;
+              before = before;
+              after = after.now;
+              action = option_map (λ action. action_view action.now) action.entry;
+              back = back;
+              turn = option_map (turn_view (menu_view self.old.going.menu)) turn;
+            }) None).value }
     {
         self.keys.follow(
             alloc,
             note,
             self.going.searching,
             event,
-            before,
+            &before,
             after,
             action,
         );
         let lines = is_filled(&self.history);
-        self.going.follow(lines, back, found, action);
+        self.going
+            .follow(lines, event, before, after, action, back, turn);
         self.menu.resize(event);
         self.screen.resize(event);
     }
@@ -443,7 +584,7 @@ impl<H: LineEditorHost, L: History + LentLines, K: KeyPart, V: Validator> LineEd
         cursor_position: usize,
     ) -> Result<Vec<CompletionCandidate>, AllocError> {
         match &self.going.menu {
-            Menu::Open(menu) => copied(alloc, &menu.candidates),
+            Menu::Open(menu) => menu.chosen_one(alloc),
             Menu::Few(candidates) => copied(alloc, candidates),
             _ => self.found(alloc, line, cursor_position),
         }
@@ -456,13 +597,9 @@ impl<H: LineEditorHost, L: History + LentLines, K: KeyPart, V: Validator> LineEd
         editor: &mut LineEditBuffer,
     ) -> Result<Option<Action>, AllocError> {
         let default = default_action(alloc, event)?;
-        let before = editor.try_clone(alloc)?;
-        let keeps = self.keeps(alloc, editor.get_line())?;
-        let found = self.known(alloc, default.as_ref(), editor)?;
-        let edit = self.edit_at(alloc, event, default.as_ref(), editor)?;
-        self.keys.prepare(alloc, editor)?;
-        let own = self.host.resolve_action(alloc, event, editor)?;
-        let (action, note) = answered::<K>(own, edit, editor);
+        let before = self.line_at(alloc, editor)?;
+        let keeps = self.keeps(alloc, before.get_line())?;
+        let (action, note, turn) = self.answer(alloc, event, default.as_ref(), &before, editor)?;
         let (back, action) = judged(keeps, event, action, default.as_ref());
         match action {
             Some(action) => {
@@ -470,11 +607,11 @@ impl<H: LineEditorHost, L: History + LentLines, K: KeyPart, V: Validator> LineEd
                     alloc,
                     note,
                     event,
-                    &before,
+                    before,
                     editor,
-                    None,
-                    back,
                     Some(&action),
+                    back,
+                    turn,
                 );
                 Ok(Some(action))
             }
@@ -483,11 +620,11 @@ impl<H: LineEditorHost, L: History + LentLines, K: KeyPart, V: Validator> LineEd
                     alloc,
                     note,
                     event,
-                    &before,
+                    before,
                     editor,
-                    found,
-                    back,
                     default.as_ref(),
+                    back,
+                    turn,
                 );
                 Ok(None)
             }

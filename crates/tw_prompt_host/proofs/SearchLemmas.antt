@@ -1,0 +1,56 @@
+-- The line before a search, and a search that is given up.
+use Rattle.std.proofs.Common.{◌≡◌, ◌∙◌, ◌&&◌, Bool, true, false, refl, ap, sym, Option, Some, None}
+use Rattle.tw_input.specs.EventView.{EventView, Key}
+use Rattle.tw_line.specs.Cut.{Cut}
+use Rattle.tw_line.specs.declared.movements.Movement.TheVariants as movement
+use Rattle.tw_host.specs.ActionView.{ActionView, Move}
+use Rattle.tw_host.specs.HostRules.{HostRules, Resolution, or_default}
+use Rattle.tw_key_parts.specs.KeyRules.{Edited, KeyRules}
+use Rattle.tw_key_parts.specs.SearchWatch.{has_lines, searches_after}
+use Rattle.tw_prompt_host.specs.FailingSearch.{is_failing}
+use Rattle.tw_prompt_host.specs.Going.{before_search_after, comes_back_after, give_up_key, line_at}
+use Rattle.tw_prompt_host.specs.MenuState.{MenuView}
+use Rattle.tw_prompt_host.specs.PromptLaws.{GivesLineBack, KeepsLineOfSearch}
+use Rattle.tw_prompt_host.specs.PromptRules.{Prompted, prompt_rules, said}
+use Rattle.tw_prompt_host.specs.Validation.{is_accepting}
+
+-- an action that does not accept the line is not kept back
+pub said_all : (kept : Bool) (a action : Option ActionView) → is_accepting a ≡ false → said (kept && is_accepting a) action ≡ action
+said_all true a action e = ap (λ b. said b action) e
+said_all false a action e = refl
+
+begun_line : (searched searches : Bool) (line : Cut) (before : Option Cut) → searched ≡ false → searches ≡ true → before_search_after searched searches line before ≡ Some line
+begun_line false true line before e d = refl
+begun_line false false line before e d = cc
+begun_line true searches line before e d = cc
+
+kept_line : (searched searches : Bool) (line : Cut) (before : Option Cut) → searched ≡ true → searches ≡ true → before_search_after searched searches line before ≡ before
+kept_line true true line before e d = refl
+kept_line true false line before e d = cc
+kept_line false searches line before e d = cc
+
+module _ {V S K : Type 0} (keys : KeyRules S K) (rules : HostRules V) where
+  abbrev Host : HostRules (Prompted V S)
+  Host = prompt_rules keys rules
+
+  pub keeps_line_of_search : KeepsLineOfSearch keys rules
+  keeps_line_of_search = record {
+    begun = λ v event cut still searches. begun_line v.going.searching _ (line_at v.going cut) v.going.before_search still searches;
+    kept = λ v event cut searching searches. kept_line v.going.searching _ (line_at v.going cut) v.going.before_search searching searches;
+  }
+
+  -- a search that is given up is left, and its line comes back
+  gave : (v : Prompted V S) (cut : Cut) → v.going.searching ≡ true → (rules.resolve v.host (Key give_up_key) (line_at v.going cut)).action ≡ None
+      → let after = Host.resolve v (Key give_up_key) cut in
+      (after.action ≡ Some (Move movement.None)) × (after.value.going.comes_back ≡ v.going.before_search)
+  gave v cut searching none =
+      let fails = v.stops_failing_searches && is_failing v.lines (line_at v.going cut).line in
+      let after = Host.resolve v (Key give_up_key) cut in
+      let answer : after.action ≡ Some (Move movement.None) = rw (searching, none) (said_all fails (Some (Move movement.None)) (Some (Move movement.None)) refl) in
+      (answer, ap (λ a. comes_back_after true (searches_after (has_lines v.lines) (or_default a (Key give_up_key)) v.going.searching) v.going.before_search) answer)
+
+  pub gives_line_back : GivesLineBack keys rules
+  gives_line_back = record {
+    left = gave;
+    stands = λ v event line cut back. rw back refl;
+  }
