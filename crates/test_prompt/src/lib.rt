@@ -31,6 +31,8 @@ mod recent;
 #[cfg(test)]
 mod refusals;
 #[cfg(test)]
+mod row_keys;
+#[cfg(test)]
 mod settling;
 #[cfg(test)]
 mod tables;
