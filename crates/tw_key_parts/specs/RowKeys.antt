@@ -1,6 +1,8 @@
 -- Keys for lines of several rows, which line feeds end.
-use Rattle.std.specs.Prelude.{ℕ, ◌≡◌, ◌+◌, ◌-◌, ◌==◌, ◌||◌, Bool, false, leb, min, max, codes, List, [], ◌∷◌, length, slice_index, Option, Some, None, option_map, unwrap_or, if◌then◌else◌}
+use Rattle.std.specs.Prelude.{ℕ, ◌≡◌, ◌≢◌, ◌+◌, ◌-◌, ◌==◌, ◌||◌, Bool, false, leb, min, max, codes, List, [], ◌∷◌, length, slice_index, Option, Some, None, option_map, unwrap_or, if◌then◌else◌}
 use Rattle.std.specs.List.{list_any}
+use Rattle.std.specs.Option.{option_flatten}
+use Rattle.tw_surface.specs.Characters.{lf}
 use Rattle.tw_extremes.specs.Extremes.{greatest_below, least_from}
 use Rattle.tw_input.specs.declared.key.KeyCode.TheVariants as keycode
 use Rattle.tw_input.specs.declared.key.KeyEvent.{KeyEvent}
@@ -12,8 +14,7 @@ use Rattle.tw_line.specs.declared.movements.Movement.{Movement}
 use Rattle.tw_line.specs.declared.movements.Movement.TheVariants as movement
 use Rattle.tw_host.specs.ActionView.{ActionView, InsertChar, KillAndMove, Move}
 use Rattle.tw_host.specs.KeyTable.{is_same_key, key_press, letter}
-use Rattle.tw_key_parts.specs.KeyRules.{Asked, Edited, KeyRules, Step}
-use Rattle.tw_key_parts.specs.Keys.{is_key}
+use Rattle.tw_key_parts.specs.KeyRules.{Asked, Edited, KeyRules}
 use Rattle.tw_key_parts.specs.declared.row_keys.RowKey.{RowKey}
 use Rattle.tw_key_parts.specs.declared.row_keys.RowKey.TheVariants.{Break, Up, Down, Start, End, KillToEnd}
 use Rattle.tw_key_parts.specs.declared.row_keys.Way.{Way}
@@ -56,13 +57,9 @@ row_key Wake = None
 
 -- ---- the rows of a line
 
--- the line feed
-abbrev pub line_feed : ℕ
-line_feed = 10
-
 -- whether a line feed stands at an offset
 abbrev pub is_line_feed : List ℕ → ℕ → Bool
-is_line_feed line at = slice_index line at == line_feed
+is_line_feed line at = slice_index line at == lf
 
 -- whether a row begins at an offset: with the line, or after a line feed
 abbrev pub begins_row : List ℕ → ℕ → Bool
@@ -151,7 +148,7 @@ row_edit kept action = option_map (λ action. record { cut = None; action = acti
 
 -- the edit of a key
 abbrev pub edit_by : RowKey → Option ℕ → Cut → Option (Edited (Option ℕ))
-edit_by Break goal cut = row_edit None (Some (InsertChar 1 line_feed))
+edit_by Break goal cut = row_edit None (Some (InsertChar 1 lf))
 edit_by Up goal cut = let column = goal_column goal cut in row_edit (Some column) (moved_up column cut)
 edit_by Down goal cut = let column = goal_column goal cut in row_edit (Some column) (moved_down column cut)
 edit_by Start goal cut = row_edit None (moved_to_start cut)
@@ -168,16 +165,12 @@ abbrev pub row_key_edit : Option ℕ → Asked → Option (Edited (Option ℕ))
 row_key_edit goal asked = if asked.searching then None else edit_by_any (row_key asked.event) goal asked.cut
 
 -- Up and Down keep the column; all else forgets it
-abbrev pub goal_after : Option (Option ℕ) → Option ℕ
-goal_after None = None
-goal_after (Some kept) = kept
-
 abbrev pub row_key_rules : KeyRules (Option ℕ) (Option ℕ)
-row_key_rules = record { edits = row_key_edit; follows = λ goal kept step. goal_after kept; leaves = λ goal. None }
+row_key_rules = record { edits = row_key_edit; follows = λ goal kept step. option_flatten kept; leaves = λ goal. None }
 
 -- ---- lines of one row
 
--- a line without a line feed is answered as without these keys, but for the key that begins a row
+-- a line without a line feed is left to the other keys, but for the key that begins a row
 abbrev pub OneRowIsLeft : Type 0
-OneRowIsLeft = (goal : Option ℕ) (asked : Asked) → list_any (λ b. b == line_feed) asked.cut.line ≡ false
-    → is_key break_key asked.event ≡ false → row_key_edit goal asked ≡ None
+OneRowIsLeft = (goal : Option ℕ) (asked : Asked) → list_any (λ b. b == lf) asked.cut.line ≡ false
+    → row_key asked.event ≢ Some Break → row_key_edit goal asked ≡ None

@@ -1,8 +1,8 @@
 //! Parts with keys, which a prompt puts together.
 //!
 //! `part` has what a part is, `pair` two parts as one, and `plain_keys` parts that hold nothing; `readline_keys`,
-//! `letter_keys`, `word_keys`, `row_keys`, `ring`, `undo`, `last_words` and `prefix_search` the parts; `watch` whether the editor
-//! searches; `keys` which key an event is; `laws` what follows from the definitions.
+//! `letter_keys`, `word_keys`, `row_keys`, `ring`, `undo`, `last_words` and `prefix_search` the parts; `watch` whether
+//! the editor searches; `keys` which key an event is; `laws` what follows from the definitions.
 #![tactic(auto)]
 
 mod edit;

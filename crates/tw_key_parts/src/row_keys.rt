@@ -1,13 +1,13 @@
 //! Keys for lines of several rows.
 
-ghost use Rattle.std.specs.Prelude.{◌≡◌, IfOk, IsCharBoundary, Option, map, option_map};
+ghost use Rattle.std.specs.Prelude.{◌≡◌, ◌≤◌, ◌<◌, ◌+◌, ◌-◌, IfOk, IsCharBoundary, length, option_map};
+ghost use Rattle.std.specs.Option.{option_flatten};
 ghost use Rattle.tw_host.specs.ActionView.{action_view};
 ghost use Rattle.tw_host.specs.KeyTable.{key_press};
 ghost use Rattle.tw_input.specs.EventView.{event_view};
 ghost use Rattle.tw_input.specs.Modifiers.{none, alt, ctrl};
 ghost use Rattle.tw_key_parts.specs.EditView.{edit_view};
-ghost use Rattle.tw_key_parts.specs.KeyRules.{step_of};
-ghost use Rattle.tw_key_parts.specs.RowKeys.{cursor_column, edit_by, goal_after, goal_column, has_reached, killed_to_end, move_to, moved_down, moved_to_end, moved_to_start, moved_up, place_in_row, row_edit, row_end, row_key, row_key_in, row_keys, row_start, row_steps, steps_to};
+ghost use Rattle.tw_key_parts.specs.RowKeys.{cursor_column, edit_by, goal_column, has_reached, killed_to_end, move_to, moved_down, moved_to_end, moved_to_start, moved_up, place_in_row, row_edit, row_end, row_key, row_key_in, row_keys, row_start, row_steps, steps_to};
 
 use crate::edit::Edit;
 use crate::part::KeyPart;
@@ -107,6 +107,7 @@ fn row_start(line: &str, at: usize) -> usize
     requires { IsCharBoundary line.now at }
     ensures value { result ≡ row_start line.now at }
     ensures boundary { IsCharBoundary line.now result }
+    ensures above { 0 < result → IsCharBoundary line.now (result - 1) }
 {
     match line[..at].rfind('\n') {
         Some(feed) => feed + 1,
@@ -119,6 +120,8 @@ fn row_end(line: &str, at: usize) -> usize
     requires { IsCharBoundary line.now at }
     ensures value { result ≡ row_end line.now at }
     ensures boundary { IsCharBoundary line.now result }
+    ensures within { result ≤ length line.now }
+    ensures below { result < length line.now → IsCharBoundary line.now (result + 1) }
 {
     match line[at..].find('\n') {
         Some(feed) => at + feed,
@@ -175,12 +178,7 @@ fn cursor_column(alloc: Global, editor: &LineEditBuffer) -> Result<usize, AllocE
 }
 
 /// Returns the offset of a column in the row that begins at `start`, or the end of a shorter row.
-fn place_in_row(
-    alloc: Global,
-    line: &str,
-    start: usize,
-    column: usize,
-) -> Result<usize, AllocError>
+fn place_in_row(alloc: Global, line: &str, start: usize, column: usize) -> Result<usize, AllocError>
     requires { IsCharBoundary line.now start }
     ensures { IfOk result (λ place. place ≡ place_in_row line.now start column) }
 {
@@ -208,7 +206,8 @@ fn moved_up(
     column: usize,
     editor: &LineEditBuffer,
 ) -> Result<Option<Action>, AllocError>
-    ensures { IfOk result (λ action. option_map action_view action ≡ moved_up column editor.now) }
+    ensures { IfOk result (λ action. option_map action_view action
+        ≡ moved_up column editor.now) }
 {
     let line = editor.get_line();
     let start = row_start(line, editor.get_cursor());
@@ -226,7 +225,8 @@ fn moved_down(
     column: usize,
     editor: &LineEditBuffer,
 ) -> Result<Option<Action>, AllocError>
-    ensures { IfOk result (λ action. option_map action_view action ≡ moved_down column editor.now) }
+    ensures { IfOk result (λ action. option_map action_view action
+        ≡ moved_down column editor.now) }
 {
     let line = editor.get_line();
     let end = row_end(line, editor.get_cursor());
@@ -239,7 +239,8 @@ fn moved_down(
 
 /// Returns the movement to the start of the row, unless it is the first.
 fn moved_to_start(alloc: Global, editor: &LineEditBuffer) -> Result<Option<Action>, AllocError>
-    ensures { IfOk result (λ action. option_map action_view action ≡ moved_to_start editor.now) }
+    ensures { IfOk result (λ action. option_map action_view action
+        ≡ moved_to_start editor.now) }
 {
     let start = row_start(editor.get_line(), editor.get_cursor());
     if start == 0 {
@@ -250,7 +251,8 @@ fn moved_to_start(alloc: Global, editor: &LineEditBuffer) -> Result<Option<Actio
 
 /// Returns the movement to the end of the row, unless it is the last.
 fn moved_to_end(alloc: Global, editor: &LineEditBuffer) -> Result<Option<Action>, AllocError>
-    ensures { IfOk result (λ action. option_map action_view action ≡ moved_to_end editor.now) }
+    ensures { IfOk result (λ action. option_map action_view action
+        ≡ moved_to_end editor.now) }
 {
     let end = row_end(editor.get_line(), editor.get_cursor());
     if end == editor.get_line().len() {
@@ -261,7 +263,8 @@ fn moved_to_end(alloc: Global, editor: &LineEditBuffer) -> Result<Option<Action>
 
 /// Returns the kill of the rest of the row, or at its end of the line feed, unless the row is the last.
 fn killed_to_end(alloc: Global, editor: &LineEditBuffer) -> Result<Option<Action>, AllocError>
-    ensures { IfOk result (λ action. option_map action_view action ≡ killed_to_end editor.now) }
+    ensures { IfOk result (λ action. option_map action_view action
+        ≡ killed_to_end editor.now) }
 {
     let end = row_end(editor.get_line(), editor.get_cursor());
     if end == editor.get_line().len() {
@@ -273,7 +276,8 @@ fn killed_to_end(alloc: Global, editor: &LineEditBuffer) -> Result<Option<Action
 
 /// Returns an action as an edit that leaves the line, and the column that it keeps.
 fn row_edit(kept: Option<usize>, action: Option<Action>) -> Option<Edit<Option<usize>>>
-    ensures { option_map (edit_view (λ note. note)) result ≡ row_edit kept (option_map action_view action) }
+    ensures { option_map (edit_view (λ note. note)) result
+        ≡ row_edit kept (option_map action_view action) }
 {
     match action {
         Some(action) => Some(Edit {
@@ -285,12 +289,12 @@ fn row_edit(kept: Option<usize>, action: Option<Action>) -> Option<Edit<Option<u
     }
 }
 
-/// Keys for lines of several rows: Alt-Enter begins a row; Up, Down, Ctrl-P and Ctrl-N go to the row above and below,
-/// and keep their column over shorter rows; Home, Ctrl-A, End and Ctrl-E go to the start and the end of the row; Ctrl-K
-/// kills the rest of the row, or at its end the line feed.
+/// Keys for lines of several rows: Alt-Enter begins a row. Up and Down, Ctrl-P and Ctrl-N go to the row
+/// above and below, and keep their column over shorter rows. Home and End, Ctrl-A and Ctrl-E go to the
+/// start and the end of the row. Ctrl-K kills the rest of the row, or at its end the line feed.
 ///
-/// In the first row Up and Home, and in the last one Down, End and Ctrl-K are left to the other parts and the key table:
-/// so a line of one row has only Alt-Enter, and Up in the first row walks through the history. The keys have no action
+/// In the first row the part has no Up and Home, and in the last row no Down, End and Ctrl-K: there they do
+/// what they do in a line of one row, and Up and Down walk through the history. The keys have no action
 /// during a search.
 #[derive(Debug, Drop)]
 pub struct RowKeys {
@@ -322,7 +326,8 @@ impl RowKeys {
         key: RowKey,
         line: &LineEditBuffer,
     ) -> Result<Option<Edit<Option<usize>>>, AllocError>
-        ensures { IfOk result (λ edit. option_map (edit_view (λ note. note)) edit ≡ edit_by key self.now.goal line.now) }
+        ensures { IfOk result (λ edit. option_map (edit_view (λ note. note)) edit
+            ≡ edit_by key self.now.goal line.now) }
     {
         match key {
             RowKey::Break => Ok(row_edit(None, Some(Action::InsertChar(1, '\n')))),
@@ -388,7 +393,7 @@ impl KeyPart for RowKeys {
         _action: Option<&Action>,
     )
         requires ready { Unit {0} }
-        ensures { self.new.goal ≡ goal_after (option_map (λ note. note) note) }
+        ensures { self.new.goal ≡ option_flatten (option_map (λ note. note) note) }
     {
         self.goal = note.flatten();
     }
