@@ -33,6 +33,8 @@ mod refusals;
 #[cfg(test)]
 mod row_keys;
 #[cfg(test)]
+mod rows;
+#[cfg(test)]
 mod settling;
 #[cfg(test)]
 mod tables;

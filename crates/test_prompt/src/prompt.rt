@@ -7,7 +7,8 @@ use std::test::Fail;
 use test_cases::{expect_rows, painted_text, script_terminal};
 use tw_hosts::{PromptScreen, TableHost};
 use tw_key_parts::{
-    Keys, KillRing, LastWords, LetterWords, PrefixSearch, ReadlineKeys, RowKeys, UndoSteps, WordKeys,
+    Keys, KillRing, LastWords, LetterWords, PrefixSearch, ReadlineKeys, RowKeys, UndoSteps,
+    WordKeys,
 };
 use tw_lineedit::{BasicHistory, LineEditor, LineEditorHost};
 use tw_prompt_host::{Going, Hints, MenuStyle, NestedLines, PromptHost};

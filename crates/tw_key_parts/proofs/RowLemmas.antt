@@ -1,7 +1,7 @@
 -- The ends of a row, and steps that reach an offset.
-use Rattle.std.proofs.Common.{◌≡◌, ◌≢◌, ◌+◌, ◌-◌, ◌<◌, ◌≤◌, ◌==◌, ◌||◌, ℕ, Bool, true, false, List, length, get_or, take, drop, Option, Some, None, refl, ap, sym, ◌∙◌, ⊎_elim, unwrap_or, if◌then◌else◌, arith}
+use Rattle.std.proofs.Common.{◌≡◌, ◌≢◌, ◌+◌, ◌-◌, ◌<◌, ◌≤◌, ◌==◌, ◌||◌, ℕ, zero, suc, Bool, true, false, List, length, get_or, take, drop, Option, Some, None, refl, ap, sym, subst, ◌∙◌, inl, inr, ◌⊎◌, ⊎_elim, unwrap_or, if◌then◌else◌, arith}
 use Rattle.std.specs.List.{list_any}
-use Rattle.std.proofs.lemmas.Bool.{eq-eqb, ne_eqb, cases_lt, true≢false}
+use Rattle.std.proofs.lemmas.Bool.{cases_Bool, cases_lt, eq-eqb, leb-false, leb-true, ne_eqb, true≢false}
 use Rattle.std.proofs.lemmas.List.{get_or-drop, get_or-take, get_or_past, length-drop, length-take-le}
 use Rattle.std.proofs.lemmas.List.Folds.{list_any_at}
 use Rattle.std.proofs.lemmas.Str.{IsCharBoundary-after_ascii, IsCharBoundary-before_ascii}
@@ -9,10 +9,11 @@ use Rattle.std.specs.Str.{IsCharBoundary, IsUtf8}
 use Rattle.tw_surface.specs.Characters.{lf}
 use Rattle.tw_extremes.specs.Extremes.{NonePasses, iterate}
 use Rattle.tw_extremes.proofs.ExtremesLemmas.{greatest_below-is, iterate-add, least_from-is, least_from-none}
-use Rattle.tw_line.specs.Clusters.{cluster_after, cluster_before}
+use Rattle.tw_line.specs.Clusters.{cluster_after, cluster_before, is_cluster_boundary}
+use Rattle.tw_line.proofs.StepLawLemmas.{offsets_are_extremes}
 use Rattle.tw_line.specs.Cut.{Cut, cut_at}
 use Rattle.tw_line.specs.Movements.{after_move, destination}
-use Rattle.tw_key_parts.specs.RowKeys.{OneRowIsLeft, begins_row, edit_by_any, goal_column, is_line_feed, is_reached_by, killed_to_end, moved_down, moved_to_end, moved_to_start, moved_up, row_edit, row_end, row_key, row_start, row_steps, steps_to}
+use Rattle.tw_key_parts.specs.RowKeys.{OneRowIsLeft, StepsLeadThere, begins_row, edit_by_any, goal_column, has_reached, is_line_feed, is_reached_by, killed_to_end, moved_down, moved_to_end, moved_to_start, moved_up, row_edit, row_end, row_key, row_start, row_steps, steps_to}
 use Rattle.tw_key_parts.specs.declared.row_keys.RowKey.{RowKey}
 use Rattle.tw_key_parts.specs.declared.row_keys.RowKey.TheVariants.{Break, Up, Down, Start, End, KillToEnd}
 use Rattle.tw_key_parts.specs.declared.row_keys.Way.{Way}
@@ -180,3 +181,78 @@ one_row_is_left goal asked none other = by asked.searching
     by : (searching : Bool) → (if searching then None else edit_by_any (row_key asked.event) goal cut) ≡ None
     by true = refl
     by false = by_key (row_key asked.event) other
+
+-- ---- where steps lead
+
+-- the least number below a limit that passes, if one does
+least-or-none : (p : ℕ → Bool) (n : ℕ) → NonePasses p 0 n ⊎ ((m : ℕ) × (m < n) × (p m ≡ true) × NonePasses p 0 m)
+least-or-none p zero = inl (λ k low high. absurd (omega (arith, high)))
+least-or-none p (suc n) =
+    ⊎_elim (λ none. ⊎_elim (λ passes. inr (n, omega arith, passes, none)) (λ fails. inl (more none fails)) (cases_Bool (p n)))
+    (λ found. inr (found.0, omega (arith, found.1), found.2, found.3)) (least-or-none p n)
+  where
+    more : NonePasses p 0 n → p n ≡ false → NonePasses p 0 (suc n)
+    more none fails k low high = ⊎_elim (λ below. none k low below) (λ above. let same : k ≡ n = omega (arith, above, high) in ap p same ∙ fails) (cases_lt k n)
+
+module _ (line : List ℕ) (to : ℕ) (there : is_cluster_boundary line to ≡ true) where
+  -- one step does not pass a boundary
+  back-step : (at : ℕ) → to < at → (to ≤ cluster_before line at) × (cluster_before line at < at)
+  back-step at below =
+      ⊎_elim (λ found. (⊎_elim (λ less. absurd (true≢false (sym there ∙ found.last to less below))) (λ enough. enough) (cases_lt (cluster_before line at) to), found.high))
+      (λ none. absurd (true≢false (sym there ∙ none.0 to (omega arith) below))) (offsets_are_extremes line at).cluster_before
+
+  ahead-step : (at : ℕ) → at < to → to ≤ length line → (cluster_after line at ≤ to) × (at < cluster_after line at)
+  ahead-step at above inside =
+      ⊎_elim (λ found. (⊎_elim (λ less. absurd (true≢false (sym there ∙ found.first to (omega (arith, above)) less))) (λ enough. enough) (cases_lt to (cluster_after line at)), omega (arith, found.low)))
+      (λ none. absurd (true≢false (sym there ∙ none.0 to (omega (arith, above)) (omega (arith, inside))))) (offsets_are_extremes line at).cluster_after
+
+one-step-back : (line : List ℕ) (at : ℕ) → destination (row_steps Back 1) (cut_at line at) ≡ cluster_before line at
+unfolding destination iterate
+one-step-back line at = refl
+
+one-step-ahead : (line : List ℕ) (at : ℕ) → destination (row_steps Ahead 1) (cut_at line at) ≡ cluster_after line at
+unfolding destination iterate
+one-step-ahead line at = refl
+
+-- after steps none of which reached an offset it is still ahead on the way, and each step went on
+abbrev IsOnWay : Way → ℕ → Cut → ℕ → ℕ → Type 0
+IsOnWay Back to cut n at = (to ≤ at) × (at + n ≤ cut.cursor)
+IsOnWay Ahead to cut n at = (at ≤ to) × (cut.cursor + n ≤ at)
+
+module _ (to : ℕ) (cut : Cut) (there : is_cluster_boundary cut.line to ≡ true) (inside : to ≤ length cut.line) where
+  on-way-step : (way : Way) (n at : ℕ) → has_reached way to at ≡ false → IsOnWay way to cut n at → IsOnWay way to cut (n + 1) (destination (row_steps way 1) (cut_at cut.line at))
+  on-way-step Back n at other on =
+      let step = back-step cut.line to there at (omega (arith, leb-false at to other)) in
+      rw (one-step-back cut.line at) (step.0, omega (arith, step.1, on.1))
+  on-way-step Ahead n at other on =
+      let step = ahead-step cut.line to there at (omega (arith, leb-false to at other)) inside in
+      rw (one-step-ahead cut.line at) (step.0, omega (arith, step.1, on.1))
+
+  on-way-start : (way : Way) → has_reached way cut.cursor to ≡ true → IsOnWay way to cut 0 cut.cursor
+  on-way-start Back way = (leb-true to cut.cursor way, omega arith)
+  on-way-start Ahead way = (leb-true cut.cursor to way, omega arith)
+
+  on-way : (way : Way) → has_reached way cut.cursor to ≡ true → (n : ℕ) → NonePasses (is_reached_by way to cut) 0 n → IsOnWay way to cut n (destination (row_steps way n) cut)
+  on-way way from zero none = subst (IsOnWay way to cut 0) (sym (no-step way cut)) (on-way-start way from)
+  on-way way from (suc n) none =
+      let before = on-way way from n (λ k low high. none k low (omega (arith, high))) in
+      let next = on-way-step way n (destination (row_steps way n) cut) (none n (omega arith) (omega arith)) before in
+      let more : n + 1 ≡ suc n = omega arith in
+      subst (λ m. IsOnWay way to cut m (destination (row_steps way m) cut)) more (subst (IsOnWay way to cut (n + 1)) (step-more way n cut) next)
+
+  -- where it is reached, or as many steps went on as there are bytes, it is the place
+  there-at : (way : Way) (n : ℕ) → has_reached way to (destination (row_steps way n) cut) ≡ true → IsOnWay way to cut n (destination (row_steps way n) cut) → destination (row_steps way n) cut ≡ to
+  there-at Back n here on = omega (arith, on.0, leb-true (destination (row_steps Back n) cut) to here)
+  there-at Ahead n here on = omega (arith, on.0, leb-true to (destination (row_steps Ahead n) cut) here)
+
+  all-gone : (way : Way) → cut.cursor ≤ length cut.line → IsOnWay way to cut (length cut.line) (destination (row_steps way (length cut.line)) cut) → destination (row_steps way (length cut.line)) cut ≡ to
+  all-gone Back low on = omega (arith, on.0, on.1, low)
+  all-gone Ahead low on = omega (arith, on.0, on.1, inside)
+
+pub steps_lead_there : StepsLeadThere
+steps_lead_there way to cut low inside there from =
+    ⊎_elim (λ none. ap (λ n. destination (row_steps way n) cut) (sym (never-reached way to cut none))
+    ∙ all-gone to cut there inside way low (on-way to cut there inside way from (length cut.line) none))
+    (λ found. ap (λ n. destination (row_steps way n) cut) (sym (reached way to cut found.0 found.1 found.2 found.3))
+    ∙ there-at to cut there inside way found.0 found.2 (on-way to cut there inside way from found.0 found.3))
+    (least-or-none (is_reached_by way to cut) (length cut.line))

@@ -1,5 +1,5 @@
 -- Keys for lines of several rows, which line feeds end.
-use Rattle.std.specs.Prelude.{ℕ, ◌≡◌, ◌≢◌, ◌+◌, ◌-◌, ◌==◌, ◌||◌, Bool, false, leb, min, max, codes, List, [], ◌∷◌, length, slice_index, Option, Some, None, option_map, unwrap_or, if◌then◌else◌}
+use Rattle.std.specs.Prelude.{ℕ, ◌≡◌, ◌≢◌, ◌≤◌, ◌+◌, ◌-◌, ◌==◌, ◌||◌, Bool, true, false, leb, min, max, codes, List, [], ◌∷◌, length, slice_index, Option, Some, None, option_map, unwrap_or, if◌then◌else◌}
 use Rattle.std.specs.List.{list_any}
 use Rattle.std.specs.Option.{option_flatten}
 use Rattle.tw_surface.specs.Characters.{lf}
@@ -8,6 +8,7 @@ use Rattle.tw_input.specs.declared.key.KeyCode.TheVariants as keycode
 use Rattle.tw_input.specs.declared.key.KeyEvent.{KeyEvent}
 use Rattle.tw_input.specs.EventView.{EventView, Key, Resized, Paste, Wake}
 use Rattle.tw_input.specs.Modifiers.{none, alt, ctrl}
+use Rattle.tw_line.specs.Clusters.{is_cluster_boundary}
 use Rattle.tw_line.specs.Cut.{Cut, cut_at}
 use Rattle.tw_line.specs.Movements.{destination}
 use Rattle.tw_line.specs.declared.movements.Movement.{Movement}
@@ -168,7 +169,12 @@ row_key_edit goal asked = if asked.searching then None else edit_by_any (row_key
 abbrev pub row_key_rules : KeyRules (Option ℕ) (Option ℕ)
 row_key_rules = record { edits = row_key_edit; follows = λ goal kept step. option_flatten kept; leaves = λ goal. None }
 
--- ---- lines of one row
+-- ---- laws
+
+-- the steps to a cluster boundary on the way lead there
+abbrev pub StepsLeadThere : Type 0
+StepsLeadThere = (way : Way) (to : ℕ) (cut : Cut) → cut.cursor ≤ length cut.line → to ≤ length cut.line → is_cluster_boundary cut.line to ≡ true
+    → has_reached way cut.cursor to ≡ true → destination (row_steps way (steps_to way to cut)) cut ≡ to
 
 -- a line without a line feed is left to the other keys, but for the key that begins a row
 abbrev pub OneRowIsLeft : Type 0

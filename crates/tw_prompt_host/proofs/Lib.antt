@@ -3,3 +3,4 @@ pub mod FailingLemmas
 pub mod LayoutLemmas
 pub mod PreparedLemmas
 pub mod HintLemmas
+pub mod RowLemmas
