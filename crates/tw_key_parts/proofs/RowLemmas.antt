@@ -1,7 +1,7 @@
 -- The ends of a row, and steps that reach an offset.
-use Rattle.std.proofs.Common.{◌≡◌, ◌≢◌, ◌+◌, ◌-◌, ◌<◌, ◌≤◌, ◌==◌, ◌||◌, ℕ, zero, suc, Bool, true, false, List, length, get_or, take, drop, Option, Some, None, refl, ap, sym, subst, ◌∙◌, inl, inr, ◌⊎◌, ⊎_elim, unwrap_or, if◌then◌else◌, arith}
+use Rattle.std.proofs.Common.{◌≡◌, ◌≢◌, ◌+◌, ◌-◌, ◌<◌, ◌≤◌, ◌==◌, ◌||◌, ℕ, zero, suc, Bool, true, false, List, length, get_or, min, max, slice_range, take, drop, Option, Some, None, refl, ap, sym, subst, ◌∙◌, inl, inr, ◌⊎◌, ⊎_elim, unwrap_or, if◌then◌else◌, arith}
 use Rattle.std.specs.List.{list_any}
-use Rattle.std.proofs.lemmas.Bool.{cases_Bool, cases_lt, eq-eqb, leb-false, leb-true, ne_eqb, true≢false}
+use Rattle.std.proofs.lemmas.Bool.{cases_Bool, cases_lt, eq-eqb, le-leb, leb-false, leb-true, ne_eqb, true≢false}
 use Rattle.std.proofs.lemmas.List.{get_or-drop, get_or-take, get_or_past, length-drop, length-take-le}
 use Rattle.std.proofs.lemmas.List.Folds.{list_any_at}
 use Rattle.std.proofs.lemmas.Str.{IsCharBoundary-after_ascii, IsCharBoundary-before_ascii}
@@ -13,7 +13,8 @@ use Rattle.tw_line.specs.Clusters.{cluster_after, cluster_before, is_cluster_bou
 use Rattle.tw_line.proofs.StepLawLemmas.{offsets_are_extremes}
 use Rattle.tw_line.specs.Cut.{Cut, cut_at}
 use Rattle.tw_line.specs.Movements.{after_move, destination}
-use Rattle.tw_key_parts.specs.RowKeys.{OneRowIsLeft, StepsLeadThere, begins_row, edit_by_any, goal_column, has_reached, is_line_feed, is_reached_by, killed_to_end, moved_down, moved_to_end, moved_to_start, moved_up, row_edit, row_end, row_key, row_start, row_steps, steps_to}
+use Rattle.tw_line.specs.declared.movements.Movement.TheVariants as movement
+use Rattle.tw_key_parts.specs.RowKeys.{OneRowIsLeft, RowKillIsKept, StepsLeadThere, begins_row, edit_by_any, goal_column, has_reached, is_line_feed, is_reached_by, killed_to_end, moved_down, moved_to_end, moved_to_start, moved_up, row_edit, row_end, row_key, row_start, row_steps, steps_to}
 use Rattle.tw_key_parts.specs.declared.row_keys.RowKey.{RowKey}
 use Rattle.tw_key_parts.specs.declared.row_keys.RowKey.TheVariants.{Break, Up, Down, Start, End, KillToEnd}
 use Rattle.tw_key_parts.specs.declared.row_keys.Way.{Way}
@@ -256,3 +257,19 @@ steps_lead_there way to cut low inside there from =
     (λ found. ap (λ n. destination (row_steps way n) cut) (sym (reached way to cut found.0 found.1 found.2 found.3))
     ∙ there-at to cut there inside way found.0 found.2 (on-way to cut there inside way from found.0 found.3))
     (least-or-none (is_reached_by way to cut) (length cut.line))
+
+-- ---- the rest of a row that is killed
+
+pub row_kill_is_kept : RowKillIsKept
+row_kill_is_kept cut some inside there =
+    let end = row_end cut.line cut.cursor in
+    let n = steps_to Ahead end cut in
+    let leads : destination (row_steps Ahead n) cut ≡ end =
+    steps_lead_there Ahead end cut (omega (arith, some, inside)) (omega (arith, inside)) there (le-leb cut.cursor end (omega (arith, some))) in
+    let moves : n ≢ 0 = λ none. absurd (omega (arith, some, sym leads ∙ ap (λ k. destination (row_steps Ahead k) cut) none ∙ no-step Ahead cut)) in
+    let whole : max n 1 ≡ n = omega (arith, moves) in
+    let leads_to : destination (movement.ForwardChar (max n 1)) cut ≡ end = ap (λ k. destination (movement.ForwardChar k) cut) whole ∙ leads in
+    rw (ne_eqb end (length cut.line) (λ e. absurd (omega (arith, e, inside))))
+    (ap (λ to. slice_range cut.line (min cut.cursor to) (max cut.cursor to)) leads_to
+    ∙ ap (λ from. slice_range cut.line from (max cut.cursor end)) (let low : min cut.cursor end ≡ cut.cursor = omega (arith, some) in low)
+    ∙ ap (slice_range cut.line cut.cursor) (let high : max cut.cursor end ≡ end = omega (arith, some) in high))

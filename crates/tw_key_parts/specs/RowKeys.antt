@@ -1,5 +1,5 @@
 -- Keys for lines of several rows, which line feeds end.
-use Rattle.std.specs.Prelude.{ℕ, ◌≡◌, ◌≢◌, ◌≤◌, ◌+◌, ◌-◌, ◌==◌, ◌||◌, Bool, true, false, leb, min, max, codes, List, [], ◌∷◌, length, slice_index, Option, Some, None, option_map, unwrap_or, if◌then◌else◌}
+use Rattle.std.specs.Prelude.{ℕ, ◌≡◌, ◌≢◌, ◌≤◌, ◌<◌, ◌+◌, ◌-◌, ◌==◌, ◌||◌, Bool, true, false, leb, min, max, codes, List, [], ◌∷◌, length, slice_index, slice_range, IsSomeAnd, Option, Some, None, option_map, unwrap_or, if◌then◌else◌}
 use Rattle.std.specs.List.{list_any}
 use Rattle.std.specs.Option.{option_flatten}
 use Rattle.tw_surface.specs.Characters.{lf}
@@ -16,6 +16,7 @@ use Rattle.tw_line.specs.declared.movements.Movement.TheVariants as movement
 use Rattle.tw_host.specs.ActionView.{ActionView, InsertChar, KillAndMove, Move}
 use Rattle.tw_host.specs.KeyTable.{is_same_key, key_press, letter}
 use Rattle.tw_key_parts.specs.KeyRules.{Asked, Edited, KeyRules}
+use Rattle.tw_key_parts.specs.Ring.{killed_by, killing}
 use Rattle.tw_key_parts.specs.declared.row_keys.RowKey.{RowKey}
 use Rattle.tw_key_parts.specs.declared.row_keys.RowKey.TheVariants.{Break, Up, Down, Start, End, KillToEnd}
 use Rattle.tw_key_parts.specs.declared.row_keys.Way.{Way}
@@ -26,6 +27,10 @@ use Rattle.tw_key_parts.specs.declared.row_keys.Way.TheVariants.{Back, Ahead}
 -- begins a row
 abbrev pub break_key : KeyEvent
 break_key = key_press alt keycode.Enter
+
+-- kills to the end of the row
+abbrev pub kill_key : KeyEvent
+kill_key = key_press ctrl (letter (codes "K"))
 
 -- the keys with what they do in a line of several rows
 abbrev pub row_keys : List (KeyEvent × RowKey)
@@ -41,7 +46,7 @@ row_keys =
     ∷ (key_press ctrl (letter (codes "A")), Start)
     ∷ (key_press none keycode.End, End)
     ∷ (key_press ctrl (letter (codes "E")), End)
-    ∷ (key_press ctrl (letter (codes "K")), KillToEnd)
+    ∷ (kill_key, KillToEnd)
     ∷ []
 
 -- the first row with this key
@@ -76,7 +81,7 @@ row_end line at = unwrap_or (least_from (is_line_feed line) at (length line - at
 
 -- ---- steps by grapheme clusters
 
--- so many steps
+-- `count` steps
 abbrev pub row_steps : Way → ℕ → Movement
 row_steps Back count = movement.BackwardChar count
 row_steps Ahead count = movement.ForwardChar count
@@ -86,7 +91,7 @@ abbrev pub has_reached : Way → ℕ → ℕ → Bool
 has_reached Back to at = leb at to
 has_reached Ahead to at = leb to at
 
--- whether so many steps from the cursor reach an offset
+-- whether `count` steps from the cursor reach an offset
 abbrev pub is_reached_by : Way → ℕ → Cut → ℕ → Bool
 is_reached_by way to cut count = has_reached way to (destination (row_steps way count) cut)
 
@@ -94,11 +99,11 @@ is_reached_by way to cut count = has_reached way to (destination (row_steps way 
 abbrev pub steps_to : Way → ℕ → Cut → ℕ
 steps_to way to cut = unwrap_or (least_from (is_reached_by way to cut) 0 (length cut.line)) (length cut.line)
 
--- the column of the cursor: how many steps lead back to the start of its row
+-- the column of the cursor: the number of steps back to the start of its row
 abbrev pub cursor_column : Cut → ℕ
 cursor_column cut = steps_to Back (row_start cut.line cut.cursor) cut
 
--- the place so many steps from the start of a row, or its end if it is shorter
+-- the place `column` steps after the start of a row, or the end of a shorter row
 abbrev pub place_in_row : List ℕ → ℕ → ℕ → ℕ
 place_in_row line start column = min (destination (movement.ForwardChar column) (cut_at line start)) (row_end line start)
 
@@ -175,6 +180,12 @@ row_key_rules = record { edits = row_key_edit; follows = λ goal kept step. opti
 abbrev pub StepsLeadThere : Type 0
 StepsLeadThere = (way : Way) (to : ℕ) (cut : Cut) → cut.cursor ≤ length cut.line → to ≤ length cut.line → is_cluster_boundary cut.line to ≡ true
     → has_reached way cut.cursor to ≡ true → destination (row_steps way (steps_to way to cut)) cut ≡ to
+
+-- the ring keeps the rest of the row that Ctrl-K kills, if a cluster boundary stands at its end
+abbrev pub RowKillIsKept : Type 0
+RowKillIsKept = (cut : Cut) → let end = row_end cut.line cut.cursor in
+    cut.cursor < end → end < length cut.line → is_cluster_boundary cut.line end ≡ true
+    → IsSomeAnd (killed_to_end cut) (λ action. IsSomeAnd (killing (Key kill_key) (Some action)) (λ m. killed_by m cut ≡ slice_range cut.line cut.cursor end))
 
 -- a line without a line feed is left to the other keys, but for the key that begins a row
 abbrev pub OneRowIsLeft : Type 0

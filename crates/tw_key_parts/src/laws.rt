@@ -2,7 +2,7 @@
 
 ghost use Rattle.tw_input.specs.Equality.{ComparesValues};
 ghost use Rattle.tw_key_parts.specs.ReadlineKeys.{RowsAreDistinct, RowsAreNew};
-ghost use Rattle.tw_key_parts.specs.RowKeys.{OneRowIsLeft, StepsLeadThere};
+ghost use Rattle.tw_key_parts.specs.RowKeys.{OneRowIsLeft, RowKillIsKept, StepsLeadThere};
 ghost use Rattle.tw_key_parts.specs.RingLaws.{KillIsLatest, KillsKeepLine, YankGivesBack};
 ghost use Rattle.tw_key_parts.specs.UndoLaws.{UndoKeepsOldest, UndosGiveOldest};
 
@@ -37,9 +37,10 @@ pub fn readline_table()
     ensures distinct { RowsAreDistinct }
 {}
 
-/// The keys for rows leave a line of one row to the other keys, but for the key that begins a row. In the others the
-/// steps that they count lead where they are to lead.
+/// The keys for rows leave a line of one row to the other keys, but for the key that begins a row. The steps that they
+/// count lead to the cluster boundary that is meant, and a kill ring keeps the rest of a row that they kill.
 pub fn rows()
     ensures one { OneRowIsLeft }
     ensures steps { StepsLeadThere }
+    ensures kill { RowKillIsKept }
 {}

@@ -15,7 +15,7 @@ use Rattle.tw_hosts.specs.Settling.{settled_column}
 use Rattle.tw_hosts.specs.SettledRules.{PromptScreenView, column_on}
 use Rattle.tw_hosts.proofs.SettlingLemmas.{printable_is_plain}
 use Rattle.tw_prompt_host.specs.Rows.{RowView, before_row, before_rows, break_elements, columns_behind, elements_from, elements_of_rows, first_row, is_row_character, next_row, row_behind, row_break, row_columns, row_edge, row_with, rows_of_text, shown_cut, spread, spread_cut, spread_from}
-use Rattle.tw_prompt_host.specs.RowLaws.{ArePrintablePrompts, ElementsAreSpread, OneRowIsSettled, PrintableCutIsShown, PrintableIsSpread, is_one_row}
+use Rattle.tw_prompt_host.specs.RowLaws.{ArePrintablePrompts, ElementsAreSpread, OneRowIsSettled, PrintableCutIsShown, PrintableIsShown, PrintableIsSpread, is_one_row}
 
 -- ---- pieces of a text between line feeds
 
@@ -329,6 +329,15 @@ printable_is_spread screen continuation text prompts t = printable-first screen 
 
 pub printable_cut_is_shown : PrintableCutIsShown
 printable_cut_is_shown screen continuation before rest prompts b r = printable-cut screen continuation prompts before rest b r
+
+pub printable_is_shown : PrintableIsShown
+printable_is_shown screen continuation cut shown prompts line faithful =
+    let parts = list_all-append is_row_character (take cut.cursor cut.line) (drop cut.cursor cut.line) in
+    let both = and_parts (list_all is_row_character (take cut.cursor cut.line)) (list_all is_row_character (drop cut.cursor cut.line))
+    (sym parts ∙ ap (list_all is_row_character) (take-append-drop cut.cursor cut.line) ∙ line) in (
+      all-text screen continuation None first_row shown.elements ∙ ap (spread_from screen continuation first_row) faithful ∙ printable-first screen continuation prompts cut.line line,
+      ap (column_on screen) (printable-cut screen continuation prompts (take cut.cursor cut.line) (drop cut.cursor cut.line) both.0 both.1),
+    )
 
 -- ---- whether a row is full
 

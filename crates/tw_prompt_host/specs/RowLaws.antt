@@ -1,5 +1,5 @@
 -- What a line in rows is.
-use Rattle.std.specs.Prelude.{ℕ, ◌≡◌, ◌≤◌, eqb, Bool, true, not, List, length, Option}
+use Rattle.std.specs.Prelude.{ℕ, ◌≡◌, ◌≤◌, eqb, Bool, true, not, List, length, take, drop, Option}
 use Rattle.std.specs.List.{list_all}
 use Rattle.tw_surface.specs.Characters.{is_printable, lf}
 use Rattle.tw_surface.specs.declared.cell.CellAttributes.{CellAttributes}
@@ -7,6 +7,7 @@ use Rattle.tw_line.specs.Cut.{Cut}
 use Rattle.tw_host.specs.ElementView.{ElementView}
 use Rattle.tw_host.specs.Faithful.{text_of_elements}
 use Rattle.tw_host.specs.HostRules.{Highlight}
+use Rattle.tw_hosts.specs.Settling.{settled_column}
 use Rattle.tw_hosts.specs.SettledRules.{PromptScreenView, settled_highlight}
 use Rattle.tw_prompt_host.specs.Rows.{RowView, elements_from, first_row, highlight_in_rows, is_row_character, shown_cut, spread, spread_cut, spread_from}
 
@@ -40,3 +41,11 @@ abbrev pub PrintableCutIsShown : Type 0
 PrintableCutIsShown = (screen : PromptScreenView) (continuation before rest : List ℕ) → ArePrintablePrompts screen.prompt continuation
     → list_all is_row_character before ≡ true → list_all is_row_character rest ≡ true
     → spread_cut screen continuation before rest ≡ shown_cut screen.cols continuation (length screen.prompt) before rest
+
+-- so a host that shows the printable line itself shows that text, with the settled column of its cursor
+abbrev pub PrintableIsShown : Type 0
+PrintableIsShown = (screen : PromptScreenView) (continuation : List ℕ) (cut : Cut) (shown : Highlight) → ArePrintablePrompts screen.prompt continuation
+    → list_all is_row_character cut.line ≡ true → text_of_elements shown.elements ≡ cut.line
+    → (text_of_elements (highlight_in_rows screen continuation cut shown).elements ≡ spread screen.cols continuation (length screen.prompt) cut.line)
+    × ((highlight_in_rows screen continuation cut shown).column
+    ≡ settled_column screen.cols screen.prompt (shown_cut screen.cols continuation (length screen.prompt) (take cut.cursor cut.line) (drop cut.cursor cut.line)))

@@ -56,7 +56,7 @@ shown_cut cols continuation n before rest = record {
 
 -- ---- what shows any of them: the columns of a row are measured
 
--- a row so far: whether it is the first one of its line, and its text
+-- a row: whether it is the first one of its line, and its text so far
 pub record RowView : Type 0 where
   pub is_first : Bool
   pub text : List ℕ
@@ -90,6 +90,10 @@ module _ (screen : PromptScreenView) (continuation : List ℕ) where
   abbrev pub row_columns : RowView → ℕ
   row_columns row = column_width (before_row row.is_first) + settled_column screen.cols (before_row row.is_first) (at_end row.text)
 
+  -- whether they fill its last column
+  abbrev pub is_full : RowView → Bool
+  is_full row = ltb 0 (row_columns row) && eqb (row_columns row % screen.cols) 0
+
   -- what stands between a row and the next one
   abbrev pub row_break : RowView → List ℕ
   row_break row = row_edge screen.cols (row_columns row) ++ (cr ∷ lf ∷ continuation)
@@ -117,12 +121,16 @@ module _ (screen : PromptScreenView) (continuation : List ℕ) where
   break_elements None row = Text (row_break row) ∷ []
   break_elements (Some attributes) row = AllAttributes default_attributes ∷ Text (row_break row) ∷ AllAttributes attributes ∷ []
 
-  -- the rows of a text that begins in a row
+  -- rows, the first of which goes on with a row
   abbrev pub elements_of_rows : Option CellAttributes → RowView → List (List ℕ) → List ElementView
   elements_of_rows set row [] = []
   elements_of_rows set row (text ∷ []) = Text text ∷ []
   elements_of_rows set row (text ∷ next ∷ more) =
       Text text ∷ (break_elements set (row_with row text) ++ elements_of_rows set next_row (next ∷ more))
+
+  -- a text that begins in a row
+  abbrev pub elements_of_text : Option CellAttributes → RowView → List ℕ → List ElementView
+  elements_of_text set row text = elements_of_rows set row (rows_of_text text)
 
   -- elements that begin in a row, each line feed in their texts as such a break
   abbrev pub elements_from : Option CellAttributes → RowView → List ElementView → List ElementView
@@ -131,8 +139,12 @@ module _ (screen : PromptScreenView) (continuation : List ℕ) where
       Attribute change ∷ elements_from (Some (with_attribute change (unwrap_or set default_attributes))) row more
   elements_from set row (AllAttributes attributes ∷ more) = AllAttributes attributes ∷ elements_from (Some attributes) row more
   elements_from set row (Text text ∷ more) =
-      elements_of_rows set row (rows_of_text text) ++ elements_from set (row_behind row text) more
+      elements_of_text set row text ++ elements_from set (row_behind row text) more
+
+  -- the elements of a line
+  abbrev pub elements_in_rows : List ElementView → List ElementView
+  elements_in_rows elements = elements_from None first_row elements
 
   -- what a host shows, in rows
   abbrev pub highlight_in_rows : Cut → Highlight → Highlight
-  highlight_in_rows cut shown = record { elements = elements_from None first_row shown.elements; column = column_in_rows cut }
+  highlight_in_rows cut shown = record { elements = elements_in_rows shown.elements; column = column_in_rows cut }

@@ -1,6 +1,6 @@
 //! What follows from the definitions of rows alone: each function does nothing, and its contract is the law.
 
-ghost use Rattle.tw_prompt_host.specs.RowLaws.{ElementsAreSpread, OneRowIsSettled, PrintableCutIsShown, PrintableIsSpread};
+ghost use Rattle.tw_prompt_host.specs.RowLaws.{ElementsAreSpread, OneRowIsSettled, PrintableCutIsShown, PrintableIsShown, PrintableIsSpread};
 
 /// A line of one row is shown as on the screen.
 pub fn one_row()
@@ -16,4 +16,5 @@ pub fn elements()
 pub fn printable()
     ensures text { PrintableIsSpread }
     ensures cursor { PrintableCutIsShown }
+    ensures shown { PrintableIsShown }
 {}

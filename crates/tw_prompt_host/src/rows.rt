@@ -1,22 +1,24 @@
 //! Lines of several rows, as they are shown.
 
-ghost use Rattle.std.specs.Prelude.{◌≡◌, ◌%◌, ◌&&◌, None, eqb, ltb, IfOk, OnOk, IsCharBoundary, map, string_bytes, unwrap_or};
+ghost use Rattle.std.specs.Prelude.{◌≡◌, IfOk, OnOk, IsCharBoundary, map, string_bytes, unwrap_or};
 ghost use Rattle.tw_surface.specs.Attributes.{with_attribute};
 ghost use Rattle.tw_surface.specs.Defaults.{default_attributes};
 ghost use Rattle.tw_host.specs.ElementView.{element_view, Text};
 ghost use Rattle.tw_hosts.specs.SettledRules.{screen_view};
 ghost use Rattle.tw_line.specs.Cut.{cut_at};
-ghost use Rattle.tw_prompt_host.specs.Rows.{before_row, break_elements, column_in_rows, elements_from, elements_of_rows, first_row, next_row, row_behind, row_break, row_columns, row_view, row_with, rows_of_text, spread_from};
+ghost use Rattle.tw_prompt_host.specs.Rows.{before_row, break_elements, column_in_rows, elements_in_rows, elements_of_text, first_row, is_full, next_row, row_behind, row_break, row_view, row_with, spread_from};
 
 use std::alloc::{AllocError, Global};
 use tw_host::OutputElement;
 use tw_hosts::{PromptScreen, settled_column};
 use tw_surface::{AttributeChange, CellAttributes, unicode_column_width};
 
-/// A row so far.
+/// The row that is being shown.
 #[derive(Debug, Drop)]
 struct OpenRow {
+    /// Whether it is the first row of its line.
     is_first: bool,
+    /// Its text so far.
     text: String,
 }
 
@@ -60,8 +62,7 @@ fn before_row<'a>(screen: &'a PromptScreen, continuation: &'a str, is_first: boo
 
 /// Returns true if a row fills its last column.
 fn is_full(screen: &PromptScreen, continuation: &str, row: &OpenRow) -> bool
-    ensures { result ≡ (ltb 0 (row_columns (screen_view screen.now) continuation.now (row_view row.now))
-        && eqb (row_columns (screen_view screen.now) continuation.now (row_view row.now) % screen.now.cols) 0) }
+    ensures { result ≡ is_full (screen_view screen.now) continuation.now (row_view row.now) }
 {
     let cols = screen.cols;
     let before = before_row(screen, continuation, row.is_first);
@@ -81,7 +82,8 @@ fn row_break(
     continuation: &str,
     row: &OpenRow,
 ) -> Result<String, AllocError>
-    ensures { IfOk result (λ text. string_bytes text ≡ row_break (screen_view screen.now) continuation.now (row_view row.now)) }
+    ensures { IfOk result (λ text. string_bytes text
+        ≡ row_break (screen_view screen.now) continuation.now (row_view row.now)) }
 {
     let edge = if is_full(screen, continuation, row) {
         " "
@@ -94,7 +96,7 @@ fn row_break(
     Ok(text)
 }
 
-/// Returns a text in rows, after the text of a row, and leaves the row in which it ends.
+/// Returns a text that begins in `row`, with a break for each line feed. Leaves `row` as the one in which it ends.
 fn spread(
     alloc: Global,
     screen: &PromptScreen,
@@ -102,7 +104,8 @@ fn spread(
     row: &mut OpenRow,
     text: &str,
 ) -> Result<String, AllocError>
-    ensures text { IfOk result (λ shown. string_bytes shown ≡ spread_from (screen_view screen.now) continuation.now (row_view row.old) text.now) }
+    ensures text { IfOk result (λ shown. string_bytes shown
+        ≡ spread_from (screen_view screen.now) continuation.now (row_view row.old) text.now) }
     ensures row { OnOk result (row_view row.new ≡ row_behind (row_view row.old) text.now) }
 {
     let mut shown = String::new(alloc);
@@ -128,7 +131,8 @@ pub fn column_in_rows(
     cursor: usize,
 ) -> Result<usize, AllocError>
     requires { IsCharBoundary line.now cursor }
-    ensures { IfOk result (λ column. column ≡ column_in_rows (screen_view screen.now) continuation.now (cut_at line.now cursor)) }
+    ensures { IfOk result (λ column. column
+        ≡ column_in_rows (screen_view screen.now) continuation.now (cut_at line.now cursor)) }
 {
     let (before, rest) = line.split_at(cursor);
     let mut row = OpenRow::first(alloc);
@@ -169,8 +173,8 @@ fn break_elements(
     Ok(elements)
 }
 
-/// Returns the elements of a text in rows, after the text of a row, and leaves the row in which it ends.
-fn elements_of_rows(
+/// Returns the elements of a text that begins in `row`, with breaks. Leaves `row` as the one in which it ends.
+fn elements_of_text(
     alloc: Global,
     screen: &PromptScreen,
     continuation: &str,
@@ -179,7 +183,7 @@ fn elements_of_rows(
     text: &str,
 ) -> Result<Vec<OutputElement>, AllocError>
     ensures elements { IfOk result (λ elements. map element_view elements.items
-        ≡ elements_of_rows (screen_view screen.now) continuation.now set (row_view row.old) (rows_of_text text.now)) }
+        ≡ elements_of_text (screen_view screen.now) continuation.now set (row_view row.old) text.now) }
     ensures row { OnOk result (row_view row.new ≡ row_behind (row_view row.old) text.now) }
 {
     let mut elements = Vec::new(alloc);
@@ -213,7 +217,7 @@ fn elements_in_rows(
     elements: &[OutputElement],
 ) -> Result<Vec<OutputElement>, AllocError>
     ensures { IfOk result (λ shown. map element_view shown.items
-        ≡ elements_from (screen_view screen.now) continuation.now None first_row (map element_view elements.now)) }
+        ≡ elements_in_rows (screen_view screen.now) continuation.now (map element_view elements.now)) }
 {
     let mut shown = Vec::new(alloc);
     let mut set = None;
@@ -229,7 +233,7 @@ fn elements_in_rows(
                 shown.push(OutputElement::AllAttributes(*attributes))?;
             }
             OutputElement::Text(text) => {
-                let mut more = elements_of_rows(
+                let mut more = elements_of_text(
                     alloc,
                     screen,
                     continuation,
@@ -244,11 +248,11 @@ fn elements_in_rows(
     Ok(shown)
 }
 
-/// Shows a line in rows. `elements` are its elements as it would be shown in one row. Each line feed in their texts
-/// becomes CR LF and the continuation prompt, after a space if the row fills its last column, so that the cursor has a
-/// cell at its end. Returns the elements and the column of the cursor.
+/// Shows the elements of a line in rows, and returns them with the column of the cursor. Each line feed becomes CR LF
+/// and the continuation prompt. A row that fills its last column gets a space at its end, a cell for the cursor. If
+/// the line has set attributes, prompts and spaces have the default ones.
 ///
-/// The column is that of the line, whatever its elements are.
+/// The column is that of `line`, so the texts of `elements` should be the line.
 pub fn shown_in_rows(
     alloc: Global,
     screen: &PromptScreen,
@@ -259,8 +263,9 @@ pub fn shown_in_rows(
 ) -> Result<(Vec<OutputElement>, usize), AllocError>
     requires { IsCharBoundary line.now cursor }
     ensures elements { IfOk result (λ shown. map element_view shown.0.items
-        ≡ elements_from (screen_view screen.now) continuation.now None first_row (map element_view elements.now)) }
-    ensures column { IfOk result (λ shown. shown.1 ≡ column_in_rows (screen_view screen.now) continuation.now (cut_at line.now cursor)) }
+        ≡ elements_in_rows (screen_view screen.now) continuation.now (map element_view elements.now)) }
+    ensures column { IfOk result (λ shown. shown.1
+        ≡ column_in_rows (screen_view screen.now) continuation.now (cut_at line.now cursor)) }
 {
     let column = column_in_rows(alloc, screen, continuation, line, cursor)?;
     let shown = elements_in_rows(alloc, screen, continuation, elements)?;

@@ -1,4 +1,4 @@
--- So many steps have been made, and none of them reached the offset.
+-- `count` steps have been made, and none of them reached the offset.
 use Rattle.std.proofs.Common.{◌≡◌}
 use Rattle.tw_extremes.specs.Extremes.{NonePasses}
 use Rattle.tw_line.specs.Movements.{after_move}

@@ -5,7 +5,7 @@ use Rattle.tw_host.specs.ElementView.{element_view, Text}
 use Rattle.tw_hosts.specs.SettledRules.{screen_view}
 use Rattle.tw_prompt_host.specs.Rows.{break_elements, elements_of_rows, next_row, row_behind, row_view, row_with, rows_of_text}
 use Rattle.tw_prompt_host.proofs.RowLemmas.{behind-last, behind-step, elements-last, elements-step}
-use Rattle.tw_prompt_host.proofs.rows.elements_of_rows.Goals as goal
+use Rattle.tw_prompt_host.proofs.rows.elements_of_text.Goals as goal
 
 pub loop-piece-preserved : goal.loop-piece-preserved
 loop-piece-preserved c =
