@@ -31,6 +31,10 @@ mod recent;
 #[cfg(test)]
 mod refusals;
 #[cfg(test)]
+mod row_keys;
+#[cfg(test)]
+mod rows;
+#[cfg(test)]
 mod settling;
 #[cfg(test)]
 mod tables;

@@ -7,7 +7,8 @@ use std::test::Fail;
 use test_cases::{expect_rows, painted_text, script_terminal};
 use tw_hosts::{PromptScreen, TableHost};
 use tw_key_parts::{
-    Keys, KillRing, LastWords, LetterWords, PrefixSearch, ReadlineKeys, UndoSteps, WordKeys,
+    Keys, KillRing, LastWords, LetterWords, PrefixSearch, ReadlineKeys, RowKeys, UndoSteps,
+    WordKeys,
 };
 use tw_lineedit::{BasicHistory, LineEditor, LineEditorHost};
 use tw_prompt_host::{Going, Hints, MenuStyle, NestedLines, PromptHost};
@@ -18,7 +19,7 @@ type WordParts = (Keys<LetterWords>, (Keys<ReadlineKeys>, Keys<WordKeys>));
 
 type HistoryParts = (LastWords, PrefixSearch);
 
-type AllKeys = (UndoSteps, (WordParts, (HistoryParts, KillRing)));
+type AllKeys = (UndoSteps, (WordParts, (HistoryParts, (RowKeys, KillRing))));
 
 /// A prompt with all parts.
 pub type Prompt = PromptHost<TableHost<BasicHistory>, BasicHistory, AllKeys, NestedLines>;
@@ -28,7 +29,7 @@ fn all_keys(alloc: Global) -> AllKeys {
     let history = (LastWords::new(), PrefixSearch::new());
     (
         UndoSteps::new(alloc),
-        (words, (history, KillRing::new(alloc))),
+        (words, (history, (RowKeys::new(), KillRing::new(alloc)))),
     )
 }
 

@@ -4,3 +4,4 @@ pub mod PrefixLemmas
 pub mod KillLemmas
 pub mod GivenBackLemmas
 pub mod UndoLawLemmas
+pub mod RowLemmas

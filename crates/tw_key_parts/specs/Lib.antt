@@ -13,3 +13,4 @@ pub mod LetterKeys
 pub mod PrefixSearch
 pub mod RingLaws
 pub mod UndoLaws
+pub mod RowKeys

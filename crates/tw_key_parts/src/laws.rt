@@ -2,15 +2,18 @@
 
 ghost use Rattle.tw_input.specs.Equality.{ComparesValues};
 ghost use Rattle.tw_key_parts.specs.ReadlineKeys.{RowsAreDistinct, RowsAreNew};
+ghost use Rattle.tw_key_parts.specs.RowKeys.{OneRowIsLeft, RowKillIsKept, StepsLeadThere};
 ghost use Rattle.tw_key_parts.specs.RingLaws.{KillIsLatest, KillsKeepLine, YankGivesBack};
 ghost use Rattle.tw_key_parts.specs.UndoLaws.{UndoKeepsOldest, UndosGiveOldest};
 
 use crate::ring::Latest;
+use crate::row_keys::RowKey;
 use crate::word_keys::WordEdit;
 
 /// `==` is equality of values.
 pub fn equality()
     ensures latest { ComparesValues ⟦<Latest as PartialEq>⟧.eq }
+    ensures rows { ComparesValues ⟦<RowKey as PartialEq>⟧.eq }
     ensures edits { ComparesValues ⟦<WordEdit as PartialEq>⟧.eq }
 {}
 
@@ -32,4 +35,12 @@ pub fn undos()
 pub fn readline_table()
     ensures new { RowsAreNew }
     ensures distinct { RowsAreDistinct }
+{}
+
+/// The keys for rows leave a line of one row to the other keys, but for the key that begins a row. The steps that they
+/// count lead to the cluster boundary that is meant, and a kill ring keeps the rest of a row that they kill.
+pub fn rows()
+    ensures one { OneRowIsLeft }
+    ensures steps { StepsLeadThere }
+    ensures kill { RowKillIsKept }
 {}

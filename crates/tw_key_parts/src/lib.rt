@@ -1,8 +1,8 @@
 //! Parts with keys, which a prompt puts together.
 //!
 //! `part` has what a part is, `pair` two parts as one, and `plain_keys` parts that hold nothing; `readline_keys`,
-//! `letter_keys`, `word_keys`, `ring`, `undo`, `last_words` and `prefix_search` the parts; `watch` whether the editor
-//! searches; `keys` which key an event is; `laws` what follows from the definitions.
+//! `letter_keys`, `word_keys`, `row_keys`, `ring`, `undo`, `last_words` and `prefix_search` the parts; `watch` whether
+//! the editor searches; `keys` which key an event is; `laws` what follows from the definitions.
 #![tactic(auto)]
 
 mod edit;
@@ -16,6 +16,7 @@ mod plain_keys;
 mod prefix_search;
 mod readline_keys;
 mod ring;
+mod row_keys;
 mod undo;
 mod watch;
 mod word_keys;
@@ -29,6 +30,7 @@ pub use plain_keys::{Keys, PlainKeys};
 pub use prefix_search::PrefixSearch;
 pub use readline_keys::{ReadlineKeys, readline_key};
 pub use ring::{KillRing, Latest, is_same_cut};
+pub use row_keys::RowKeys;
 pub use undo::UndoSteps;
 pub use watch::{is_filled, searches_after};
 pub use word_keys::{WordEdit, WordKeys, edited_line, word_edit};

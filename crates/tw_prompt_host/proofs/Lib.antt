@@ -6,3 +6,4 @@ pub mod HintLemmas
 pub mod SearchLemmas
 pub mod MenuLemmas
 pub mod AnswerLemmas
+pub mod RowLemmas

@@ -10,3 +10,5 @@ pub mod Going
 pub mod PromptRules
 pub mod PromptLaws
 pub mod NestedLines
+pub mod Rows
+pub mod RowLaws

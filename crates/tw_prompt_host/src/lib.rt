@@ -20,6 +20,8 @@ mod nested_lines;
 mod plain;
 mod prepared;
 mod prompt;
+pub mod row_laws;
+mod rows;
 mod validator;
 
 pub use going::{Going, gives_up};
@@ -28,4 +30,5 @@ pub use layout::MenuStyle;
 pub use nested_lines::NestedLines;
 pub use prepared::{PreparedHost, StyledRange, styled_ranges};
 pub use prompt::PromptHost;
+pub use rows::{column_in_rows, shown_in_rows};
 pub use validator::{AllLines, Validator};

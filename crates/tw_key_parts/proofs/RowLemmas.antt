@@ -1,0 +1,275 @@
+-- The ends of a row, and steps that reach an offset.
+use Rattle.std.proofs.Common.{◌≡◌, ◌≢◌, ◌+◌, ◌-◌, ◌<◌, ◌≤◌, ◌==◌, ◌||◌, ℕ, zero, suc, Bool, true, false, List, length, get_or, min, max, slice_range, take, drop, Option, Some, None, refl, ap, sym, subst, ◌∙◌, inl, inr, ◌⊎◌, ⊎_elim, unwrap_or, if◌then◌else◌, arith}
+use Rattle.std.specs.List.{list_any}
+use Rattle.std.proofs.lemmas.Bool.{cases_Bool, cases_lt, eq-eqb, le-leb, leb-false, leb-true, ne_eqb, true≢false}
+use Rattle.std.proofs.lemmas.List.{get_or-drop, get_or-take, get_or_past, length-drop, length-take-le}
+use Rattle.std.proofs.lemmas.List.Folds.{list_any_at}
+use Rattle.std.proofs.lemmas.Str.{IsCharBoundary-after_ascii, IsCharBoundary-before_ascii}
+use Rattle.std.specs.Str.{IsCharBoundary, IsUtf8}
+use Rattle.tw_surface.specs.Characters.{lf}
+use Rattle.tw_extremes.specs.Extremes.{NonePasses, iterate}
+use Rattle.tw_extremes.proofs.ExtremesLemmas.{greatest_below-is, iterate-add, least_from-is, least_from-none}
+use Rattle.tw_line.specs.Clusters.{cluster_after, cluster_before, is_cluster_boundary}
+use Rattle.tw_line.proofs.StepLawLemmas.{offsets_are_extremes}
+use Rattle.tw_line.specs.Cut.{Cut, cut_at}
+use Rattle.tw_line.specs.Movements.{after_move, destination}
+use Rattle.tw_line.specs.declared.movements.Movement.TheVariants as movement
+use Rattle.tw_key_parts.specs.RowKeys.{OneRowIsLeft, RowKillIsKept, StepsLeadThere, begins_row, edit_by_any, goal_column, has_reached, is_line_feed, is_reached_by, killed_to_end, moved_down, moved_to_end, moved_to_start, moved_up, row_edit, row_end, row_key, row_start, row_steps, steps_to}
+use Rattle.tw_key_parts.specs.declared.row_keys.RowKey.{RowKey}
+use Rattle.tw_key_parts.specs.declared.row_keys.RowKey.TheVariants.{Break, Up, Down, Start, End, KillToEnd}
+use Rattle.tw_key_parts.specs.declared.row_keys.Way.{Way}
+use Rattle.tw_key_parts.specs.declared.row_keys.Way.TheVariants.{Back, Ahead}
+
+or-true : (b : Bool) → b || true ≡ true
+or-true true = refl
+or-true false = refl
+
+module _ (line : List ℕ) where
+  -- a row begins after a line feed, and nowhere else but at the start
+  begins : (j k : ℕ) → j ≡ k + 1 → get_or line k 0 ≡ lf → begins_row line j ≡ true
+  begins j k next there =
+      let back : j - 1 ≡ k = omega (arith, next) in
+      ap (λ n. j == 0 || is_line_feed line n) back ∙ ap (λ b. j == 0 || b) (eq-eqb (get_or line k 0) lf there) ∙ or-true (j == 0)
+
+  begins_not : (j : ℕ) → 0 < j → get_or line (j - 1) 0 ≢ lf → begins_row line j ≡ false
+  begins_not j some other =
+      ap (λ b. b || is_line_feed line (j - 1)) (ne_eqb j 0 (λ e. absurd (omega (arith, e, some)))) ∙ ne_eqb (get_or line (j - 1) 0) lf other
+
+  -- the row of an offset begins after the last line feed before it, or with the line
+  pub start-behind : (at k : ℕ) → k < at → get_or line k 0 ≡ lf → ((i : ℕ) → k < i → i < at → get_or line i 0 ≢ lf) → k + 1 ≡ row_start line at
+  start-behind at k low there none =
+      sym (ap (λ found. unwrap_or found 0) (greatest_below-is (begins_row line) (at + 1) (k + 1) (omega arith) (begins (k + 1) k refl there)
+      (λ j above below. begins_not j (omega arith) (none (j - 1) (omega arith) (omega arith)))))
+
+  pub start-none : (at : ℕ) → ((i : ℕ) → i < at → get_or line i 0 ≢ lf) → 0 ≡ row_start line at
+  start-none at none =
+      sym (ap (λ found. unwrap_or found 0) (greatest_below-is (begins_row line) (at + 1) 0 (omega arith) refl
+      (λ j above below. begins_not j (omega arith) (none (j - 1) (omega arith)))))
+
+  -- it ends at the first line feed from there on, or with the line
+  pub end-at : (at k : ℕ) → at ≤ k → k < length line → get_or line k 0 ≡ lf → ((i : ℕ) → at ≤ i → i < k → get_or line i 0 ≢ lf) → k ≡ row_end line at
+  end-at at k low inside there none =
+      sym (ap (λ found. unwrap_or found (length line)) (least_from-is (is_line_feed line) (length line - at) at k low (omega arith) (eq-eqb (get_or line k 0) lf there)
+      (λ i above below. ne_eqb (get_or line i 0) lf (none i above below))))
+
+  pub end-none : (at : ℕ) → ((i : ℕ) → at ≤ i → i < length line → get_or line i 0 ≢ lf) → length line ≡ row_end line at
+  end-none at none =
+      sym (ap (λ found. unwrap_or found (length line)) (least_from-none (is_line_feed line) (length line - at) at
+      (λ i above below. ne_eqb (get_or line i 0) lf (none i above (omega arith)))))
+
+-- a line feed that is found in the text before an offset, or from it on, and none there
+module _ (line text : List ℕ) (at : ℕ) (inside : at ≤ length line) where
+  module _ (e : text ≡ take at line) where
+    front-len : length text ≡ at
+    front-len = ap length e ∙ length-take-le at line inside
+
+    front-byte : (i : ℕ) → i < at → get_or text i 0 ≡ get_or line i 0
+    front-byte i below = ap (λ t. get_or t i 0) e ∙ get_or-take at line i 0 below
+
+    pub start-found : (feed : ℕ) → feed < length text → get_or text feed 0 ≡ lf → ((i : ℕ) → feed < i → i < length text → get_or text i 0 ≢ lf) → feed + 1 ≡ row_start line at
+    start-found feed low there none =
+        start-behind line at feed (omega (arith, low, front-len)) (sym (front-byte feed (omega (arith, low, front-len))) ∙ there)
+        (λ i above below h. none i above (omega (arith, below, front-len)) (front-byte i below ∙ h))
+
+    pub start-missing : ((i : ℕ) → i < length text → get_or text i 0 ≢ lf) → 0 ≡ row_start line at
+    start-missing none = start-none line at (λ i below h. none i (omega (arith, below, front-len)) (front-byte i below ∙ h))
+
+    pub above-feed : (feed : ℕ) → feed < length text → get_or text feed 0 ≡ lf → IsCharBoundary line feed
+    above-feed feed low there =
+        let byte : get_or line feed 0 ≡ lf = sym (front-byte feed (omega (arith, low, front-len))) ∙ there in
+        IsCharBoundary-before_ascii line feed (omega (arith, low, front-len, inside)) (omega (arith, byte))
+
+  module _ (e : text ≡ drop at line) where
+    rest-len : length text ≡ length line - at
+    rest-len = ap length e ∙ (let n = length-drop at line in omega (arith, n))
+
+    rest-byte : (i j : ℕ) → at + j ≡ i → get_or text j 0 ≡ get_or line i 0
+    rest-byte i j same = ap (λ t. get_or t j 0) e ∙ get_or-drop at line j 0 ∙ ap (λ n. get_or line n 0) same
+
+    pub end-found : (feed : ℕ) → feed < length text → get_or text feed 0 ≡ lf → ((i : ℕ) → i < feed → get_or text i 0 ≢ lf) → at + feed ≡ row_end line at
+    end-found feed low there none =
+        end-at line at (at + feed) (omega arith) (omega (arith, low, rest-len)) (sym (rest-byte (at + feed) feed refl) ∙ there)
+        (λ i above below h. none (i - at) (omega (arith, above, below)) (rest-byte i (i - at) (omega (arith, above)) ∙ h))
+
+    pub end-missing : ((i : ℕ) → i < length text → get_or text i 0 ≢ lf) → length line ≡ row_end line at
+    end-missing none =
+        end-none line at (λ i above below h. none (i - at) (omega (arith, above, below, rest-len)) (rest-byte i (i - at) (omega (arith, above)) ∙ h))
+
+    pub below-feed : IsUtf8 line → (feed : ℕ) → feed < length text → get_or text feed 0 ≡ lf → IsCharBoundary line (at + feed + 1)
+    below-feed utf8 feed low there =
+        let byte : get_or line (at + feed) 0 ≡ lf = sym (rest-byte (at + feed) feed refl) ∙ there in
+        IsCharBoundary-after_ascii line (at + feed) utf8 (omega (arith, low, rest-len)) (omega (arith, byte))
+
+-- one step more
+step-more : (way : Way) (n : ℕ) (cut : Cut) → destination (row_steps way 1) (after_move (row_steps way n) cut) ≡ destination (row_steps way (n + 1)) cut
+unfolding destination iterate
+step-more Back n cut = sym (iterate-add (cluster_before cut.line) n 1 cut.cursor)
+step-more Ahead n cut = sym (iterate-add (cluster_after cut.line) n 1 cut.cursor)
+
+pub stepped : (way : Way) (n : ℕ) (cut : Cut) → after_move (row_steps way 1) (after_move (row_steps way n) cut) ≡ after_move (row_steps way (n + 1)) cut
+stepped way n cut = ap (cut_at cut.line) (step-more way n cut)
+
+no-step : (way : Way) (cut : Cut) → destination (row_steps way 0) cut ≡ cut.cursor
+unfolding destination iterate
+no-step Back cut = refl
+no-step Ahead cut = refl
+
+pub unmoved : (way : Way) (cut : Cut) → cut ≡ after_move (row_steps way 0) cut
+unmoved way cut = ap (cut_at cut.line) (sym (no-step way cut))
+
+module _ (way : Way) (to : ℕ) (cut : Cut) where
+  -- the first step that reaches an offset is the number of steps there
+  pub reached : (n : ℕ) → n < length cut.line → is_reached_by way to cut n ≡ true → NonePasses (is_reached_by way to cut) 0 n → n ≡ steps_to way to cut
+  reached n below here none =
+      sym (ap (λ found. unwrap_or found (length cut.line)) (least_from-is (is_reached_by way to cut) (length cut.line) 0 n (omega arith) (omega arith) here none))
+
+  pub never-reached : NonePasses (is_reached_by way to cut) 0 (length cut.line) → length cut.line ≡ steps_to way to cut
+  never-reached none =
+      sym (ap (λ found. unwrap_or found (length cut.line)) (least_from-none (is_reached_by way to cut) (length cut.line) 0 (λ k low high. none k low (omega (arith, high)))))
+
+  pub not-yet : (n : ℕ) → NonePasses (is_reached_by way to cut) 0 n → is_reached_by way to cut n ≡ false → NonePasses (is_reached_by way to cut) 0 (n + 1)
+  not-yet n none last k low high =
+      ⊎_elim (λ below. none k low below) (λ above. let same : k ≡ n = omega (arith, above, high) in ap (is_reached_by way to cut) same ∙ last) (cases_lt k n)
+
+-- ---- a line of one row
+
+-- a text in which no byte is a line feed
+no-feed : (text : List ℕ) → list_any (λ b. b == lf) text ≡ false → (i : ℕ) → get_or text i 0 ≢ lf
+no-feed text none i there =
+    ⊎_elim (λ inside. true≢false (sym (list_any_at (λ b. b == lf) text i 0 inside (eq-eqb (get_or text i 0) lf there)) ∙ none))
+    (λ past. absurd (omega (arith, get_or_past text i 0 past, there))) (cases_lt i (length text))
+
+-- the keys leave the first row, and the last one
+first-row-up : (column : ℕ) (cut : Cut) → row_start cut.line cut.cursor ≡ 0 → moved_up column cut ≡ None
+first-row-up column cut e = rw e refl
+
+first-row-start : (cut : Cut) → row_start cut.line cut.cursor ≡ 0 → moved_to_start cut ≡ None
+first-row-start cut e = rw e refl
+
+same-length : (n : ℕ) → (n == n) ≡ true
+same-length n = eq-eqb n n refl
+
+last-row-down : (column : ℕ) (cut : Cut) → row_end cut.line cut.cursor ≡ length cut.line → moved_down column cut ≡ None
+last-row-down column cut e = rw (e, same-length (length cut.line)) refl
+
+last-row-end : (cut : Cut) → row_end cut.line cut.cursor ≡ length cut.line → moved_to_end cut ≡ None
+last-row-end cut e = rw (e, same-length (length cut.line)) refl
+
+last-row-kill : (cut : Cut) → row_end cut.line cut.cursor ≡ length cut.line → killed_to_end cut ≡ None
+last-row-kill cut e = rw (e, same-length (length cut.line)) refl
+
+pub one_row_is_left : OneRowIsLeft
+one_row_is_left goal asked none other = by asked.searching
+  where
+    cut : Cut
+    cut = asked.cut
+
+    start : row_start cut.line cut.cursor ≡ 0
+    start = sym (start-none cut.line cut.cursor (λ i below. no-feed cut.line none i))
+
+    end : row_end cut.line cut.cursor ≡ length cut.line
+    end = sym (end-none cut.line cut.cursor (λ i above below. no-feed cut.line none i))
+
+    by_key : (key : Option RowKey) → key ≢ Some Break → edit_by_any key goal cut ≡ None
+    by_key None other = refl
+    by_key (Some Break) other = absurd (other refl)
+    by_key (Some Up) other = let column = goal_column goal cut in ap (row_edit (Some column)) (first-row-up column cut start)
+    by_key (Some Down) other = let column = goal_column goal cut in ap (row_edit (Some column)) (last-row-down column cut end)
+    by_key (Some Start) other = ap (row_edit None) (first-row-start cut start)
+    by_key (Some End) other = ap (row_edit None) (last-row-end cut end)
+    by_key (Some KillToEnd) other = ap (row_edit None) (last-row-kill cut end)
+
+    by : (searching : Bool) → (if searching then None else edit_by_any (row_key asked.event) goal cut) ≡ None
+    by true = refl
+    by false = by_key (row_key asked.event) other
+
+-- ---- where steps lead
+
+-- the least number below a limit that passes, if one does
+least-or-none : (p : ℕ → Bool) (n : ℕ) → NonePasses p 0 n ⊎ ((m : ℕ) × (m < n) × (p m ≡ true) × NonePasses p 0 m)
+least-or-none p zero = inl (λ k low high. absurd (omega (arith, high)))
+least-or-none p (suc n) =
+    ⊎_elim (λ none. ⊎_elim (λ passes. inr (n, omega arith, passes, none)) (λ fails. inl (more none fails)) (cases_Bool (p n)))
+    (λ found. inr (found.0, omega (arith, found.1), found.2, found.3)) (least-or-none p n)
+  where
+    more : NonePasses p 0 n → p n ≡ false → NonePasses p 0 (suc n)
+    more none fails k low high = ⊎_elim (λ below. none k low below) (λ above. let same : k ≡ n = omega (arith, above, high) in ap p same ∙ fails) (cases_lt k n)
+
+module _ (line : List ℕ) (to : ℕ) (there : is_cluster_boundary line to ≡ true) where
+  -- one step does not pass a boundary
+  back-step : (at : ℕ) → to < at → (to ≤ cluster_before line at) × (cluster_before line at < at)
+  back-step at below =
+      ⊎_elim (λ found. (⊎_elim (λ less. absurd (true≢false (sym there ∙ found.last to less below))) (λ enough. enough) (cases_lt (cluster_before line at) to), found.high))
+      (λ none. absurd (true≢false (sym there ∙ none.0 to (omega arith) below))) (offsets_are_extremes line at).cluster_before
+
+  ahead-step : (at : ℕ) → at < to → to ≤ length line → (cluster_after line at ≤ to) × (at < cluster_after line at)
+  ahead-step at above inside =
+      ⊎_elim (λ found. (⊎_elim (λ less. absurd (true≢false (sym there ∙ found.first to (omega (arith, above)) less))) (λ enough. enough) (cases_lt to (cluster_after line at)), omega (arith, found.low)))
+      (λ none. absurd (true≢false (sym there ∙ none.0 to (omega (arith, above)) (omega (arith, inside))))) (offsets_are_extremes line at).cluster_after
+
+one-step-back : (line : List ℕ) (at : ℕ) → destination (row_steps Back 1) (cut_at line at) ≡ cluster_before line at
+unfolding destination iterate
+one-step-back line at = refl
+
+one-step-ahead : (line : List ℕ) (at : ℕ) → destination (row_steps Ahead 1) (cut_at line at) ≡ cluster_after line at
+unfolding destination iterate
+one-step-ahead line at = refl
+
+-- after steps none of which reached an offset it is still ahead on the way, and each step went on
+abbrev IsOnWay : Way → ℕ → Cut → ℕ → ℕ → Type 0
+IsOnWay Back to cut n at = (to ≤ at) × (at + n ≤ cut.cursor)
+IsOnWay Ahead to cut n at = (at ≤ to) × (cut.cursor + n ≤ at)
+
+module _ (to : ℕ) (cut : Cut) (there : is_cluster_boundary cut.line to ≡ true) (inside : to ≤ length cut.line) where
+  on-way-step : (way : Way) (n at : ℕ) → has_reached way to at ≡ false → IsOnWay way to cut n at → IsOnWay way to cut (n + 1) (destination (row_steps way 1) (cut_at cut.line at))
+  on-way-step Back n at other on =
+      let step = back-step cut.line to there at (omega (arith, leb-false at to other)) in
+      rw (one-step-back cut.line at) (step.0, omega (arith, step.1, on.1))
+  on-way-step Ahead n at other on =
+      let step = ahead-step cut.line to there at (omega (arith, leb-false to at other)) inside in
+      rw (one-step-ahead cut.line at) (step.0, omega (arith, step.1, on.1))
+
+  on-way-start : (way : Way) → has_reached way cut.cursor to ≡ true → IsOnWay way to cut 0 cut.cursor
+  on-way-start Back way = (leb-true to cut.cursor way, omega arith)
+  on-way-start Ahead way = (leb-true cut.cursor to way, omega arith)
+
+  on-way : (way : Way) → has_reached way cut.cursor to ≡ true → (n : ℕ) → NonePasses (is_reached_by way to cut) 0 n → IsOnWay way to cut n (destination (row_steps way n) cut)
+  on-way way from zero none = subst (IsOnWay way to cut 0) (sym (no-step way cut)) (on-way-start way from)
+  on-way way from (suc n) none =
+      let before = on-way way from n (λ k low high. none k low (omega (arith, high))) in
+      let next = on-way-step way n (destination (row_steps way n) cut) (none n (omega arith) (omega arith)) before in
+      let more : n + 1 ≡ suc n = omega arith in
+      subst (λ m. IsOnWay way to cut m (destination (row_steps way m) cut)) more (subst (IsOnWay way to cut (n + 1)) (step-more way n cut) next)
+
+  -- where it is reached, or as many steps went on as there are bytes, it is the place
+  there-at : (way : Way) (n : ℕ) → has_reached way to (destination (row_steps way n) cut) ≡ true → IsOnWay way to cut n (destination (row_steps way n) cut) → destination (row_steps way n) cut ≡ to
+  there-at Back n here on = omega (arith, on.0, leb-true (destination (row_steps Back n) cut) to here)
+  there-at Ahead n here on = omega (arith, on.0, leb-true to (destination (row_steps Ahead n) cut) here)
+
+  all-gone : (way : Way) → cut.cursor ≤ length cut.line → IsOnWay way to cut (length cut.line) (destination (row_steps way (length cut.line)) cut) → destination (row_steps way (length cut.line)) cut ≡ to
+  all-gone Back low on = omega (arith, on.0, on.1, low)
+  all-gone Ahead low on = omega (arith, on.0, on.1, inside)
+
+pub steps_lead_there : StepsLeadThere
+steps_lead_there way to cut low inside there from =
+    ⊎_elim (λ none. ap (λ n. destination (row_steps way n) cut) (sym (never-reached way to cut none))
+    ∙ all-gone to cut there inside way low (on-way to cut there inside way from (length cut.line) none))
+    (λ found. ap (λ n. destination (row_steps way n) cut) (sym (reached way to cut found.0 found.1 found.2 found.3))
+    ∙ there-at to cut there inside way found.0 found.2 (on-way to cut there inside way from found.0 found.3))
+    (least-or-none (is_reached_by way to cut) (length cut.line))
+
+-- ---- the rest of a row that is killed
+
+pub row_kill_is_kept : RowKillIsKept
+row_kill_is_kept cut some inside there =
+    let end = row_end cut.line cut.cursor in
+    let n = steps_to Ahead end cut in
+    let leads : destination (row_steps Ahead n) cut ≡ end =
+    steps_lead_there Ahead end cut (omega (arith, some, inside)) (omega (arith, inside)) there (le-leb cut.cursor end (omega (arith, some))) in
+    let moves : n ≢ 0 = λ none. absurd (omega (arith, some, sym leads ∙ ap (λ k. destination (row_steps Ahead k) cut) none ∙ no-step Ahead cut)) in
+    let whole : max n 1 ≡ n = omega (arith, moves) in
+    let leads_to : destination (movement.ForwardChar (max n 1)) cut ≡ end = ap (λ k. destination (movement.ForwardChar k) cut) whole ∙ leads in
+    rw (ne_eqb end (length cut.line) (λ e. absurd (omega (arith, e, inside))))
+    (ap (λ to. slice_range cut.line (min cut.cursor to) (max cut.cursor to)) leads_to
+    ∙ ap (λ from. slice_range cut.line from (max cut.cursor end)) (let low : min cut.cursor end ≡ cut.cursor = omega (arith, some) in low)
+    ∙ ap (slice_range cut.line cut.cursor) (let high : max cut.cursor end ≡ end = omega (arith, some) in high))

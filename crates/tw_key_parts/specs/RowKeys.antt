@@ -1,0 +1,193 @@
+-- Keys for lines of several rows, which line feeds end.
+use Rattle.std.specs.Prelude.{ℕ, ◌≡◌, ◌≢◌, ◌≤◌, ◌<◌, ◌+◌, ◌-◌, ◌==◌, ◌||◌, Bool, true, false, leb, min, max, codes, List, [], ◌∷◌, length, slice_index, slice_range, IsSomeAnd, Option, Some, None, option_map, unwrap_or, if◌then◌else◌}
+use Rattle.std.specs.List.{list_any}
+use Rattle.std.specs.Option.{option_flatten}
+use Rattle.tw_surface.specs.Characters.{lf}
+use Rattle.tw_extremes.specs.Extremes.{greatest_below, least_from}
+use Rattle.tw_input.specs.declared.key.KeyCode.TheVariants as keycode
+use Rattle.tw_input.specs.declared.key.KeyEvent.{KeyEvent}
+use Rattle.tw_input.specs.EventView.{EventView, Key, Resized, Paste, Wake}
+use Rattle.tw_input.specs.Modifiers.{none, alt, ctrl}
+use Rattle.tw_line.specs.Clusters.{is_cluster_boundary}
+use Rattle.tw_line.specs.Cut.{Cut, cut_at}
+use Rattle.tw_line.specs.Movements.{destination}
+use Rattle.tw_line.specs.declared.movements.Movement.{Movement}
+use Rattle.tw_line.specs.declared.movements.Movement.TheVariants as movement
+use Rattle.tw_host.specs.ActionView.{ActionView, InsertChar, KillAndMove, Move}
+use Rattle.tw_host.specs.KeyTable.{is_same_key, key_press, letter}
+use Rattle.tw_key_parts.specs.KeyRules.{Asked, Edited, KeyRules}
+use Rattle.tw_key_parts.specs.Ring.{killed_by, killing}
+use Rattle.tw_key_parts.specs.declared.row_keys.RowKey.{RowKey}
+use Rattle.tw_key_parts.specs.declared.row_keys.RowKey.TheVariants.{Break, Up, Down, Start, End, KillToEnd}
+use Rattle.tw_key_parts.specs.declared.row_keys.Way.{Way}
+use Rattle.tw_key_parts.specs.declared.row_keys.Way.TheVariants.{Back, Ahead}
+
+-- ---- the keys
+
+-- begins a row
+abbrev pub break_key : KeyEvent
+break_key = key_press alt keycode.Enter
+
+-- kills to the end of the row
+abbrev pub kill_key : KeyEvent
+kill_key = key_press ctrl (letter (codes "K"))
+
+-- the keys with what they do in a line of several rows
+abbrev pub row_keys : List (KeyEvent × RowKey)
+row_keys =
+    (break_key, Break)
+    ∷ (key_press none keycode.UpArrow, Up)
+    ∷ (key_press none keycode.ApplicationUpArrow, Up)
+    ∷ (key_press ctrl (letter (codes "P")), Up)
+    ∷ (key_press none keycode.DownArrow, Down)
+    ∷ (key_press none keycode.ApplicationDownArrow, Down)
+    ∷ (key_press ctrl (letter (codes "N")), Down)
+    ∷ (key_press none keycode.Home, Start)
+    ∷ (key_press ctrl (letter (codes "A")), Start)
+    ∷ (key_press none keycode.End, End)
+    ∷ (key_press ctrl (letter (codes "E")), End)
+    ∷ (kill_key, KillToEnd)
+    ∷ []
+
+-- the first row with this key
+abbrev pub row_key_in : List (KeyEvent × RowKey) → KeyEvent → Option RowKey
+row_key_in [] key = None
+row_key_in (row ∷ rest) key = if is_same_key row.0 key then Some row.1 else row_key_in rest key
+
+-- the key of an event
+abbrev pub row_key : EventView → Option RowKey
+row_key (Key key) = row_key_in row_keys key
+row_key (Resized cols rows) = None
+row_key (Paste text) = None
+row_key Wake = None
+
+-- ---- the rows of a line
+
+-- whether a line feed stands at an offset
+abbrev pub is_line_feed : List ℕ → ℕ → Bool
+is_line_feed line at = slice_index line at == lf
+
+-- whether a row begins at an offset: with the line, or after a line feed
+abbrev pub begins_row : List ℕ → ℕ → Bool
+begins_row line at = at == 0 || is_line_feed line (at - 1)
+
+-- where the row of an offset begins: at the greatest offset up to there at which a row begins
+abbrev pub row_start : List ℕ → ℕ → ℕ
+row_start line at = unwrap_or (greatest_below (begins_row line) (at + 1)) 0
+
+-- where it ends: at the first line feed from there on, or with the line
+abbrev pub row_end : List ℕ → ℕ → ℕ
+row_end line at = unwrap_or (least_from (is_line_feed line) at (length line - at)) (length line)
+
+-- ---- steps by grapheme clusters
+
+-- `count` steps
+abbrev pub row_steps : Way → ℕ → Movement
+row_steps Back count = movement.BackwardChar count
+row_steps Ahead count = movement.ForwardChar count
+
+-- whether an offset is this one, or further on the way
+abbrev pub has_reached : Way → ℕ → ℕ → Bool
+has_reached Back to at = leb at to
+has_reached Ahead to at = leb to at
+
+-- whether `count` steps from the cursor reach an offset
+abbrev pub is_reached_by : Way → ℕ → Cut → ℕ → Bool
+is_reached_by way to cut count = has_reached way to (destination (row_steps way count) cut)
+
+-- the least number of steps from the cursor that reach an offset
+abbrev pub steps_to : Way → ℕ → Cut → ℕ
+steps_to way to cut = unwrap_or (least_from (is_reached_by way to cut) 0 (length cut.line)) (length cut.line)
+
+-- the column of the cursor: the number of steps back to the start of its row
+abbrev pub cursor_column : Cut → ℕ
+cursor_column cut = steps_to Back (row_start cut.line cut.cursor) cut
+
+-- the place `column` steps after the start of a row, or the end of a shorter row
+abbrev pub place_in_row : List ℕ → ℕ → ℕ → ℕ
+place_in_row line start column = min (destination (movement.ForwardChar column) (cut_at line start)) (row_end line start)
+
+-- ---- what the keys do
+
+-- the cursor goes back, or ahead, to an offset
+abbrev pub move_to : Way → ℕ → Cut → ActionView
+move_to way to cut = Move (row_steps way (steps_to way to cut))
+
+-- in each row but the first the cursor goes to a column of the row above
+abbrev pub moved_up : ℕ → Cut → Option ActionView
+moved_up column cut =
+    let start = row_start cut.line cut.cursor in
+    if start == 0 then None else Some (move_to Back (place_in_row cut.line (row_start cut.line (start - 1)) column) cut)
+
+-- in each row but the last it goes to a column of the row below
+abbrev pub moved_down : ℕ → Cut → Option ActionView
+moved_down column cut =
+    let end = row_end cut.line cut.cursor in
+    if end == length cut.line then None else Some (move_to Ahead (place_in_row cut.line (end + 1) column) cut)
+
+-- in each row but the first it goes to the start of the row
+abbrev pub moved_to_start : Cut → Option ActionView
+moved_to_start cut =
+    let start = row_start cut.line cut.cursor in
+    if start == 0 then None else Some (move_to Back start cut)
+
+-- in each row but the last it goes to the end of the row
+abbrev pub moved_to_end : Cut → Option ActionView
+moved_to_end cut =
+    let end = row_end cut.line cut.cursor in
+    if end == length cut.line then None else Some (move_to Ahead end cut)
+
+-- in each row but the last the rest of the row is killed, and at its end the line feed
+abbrev pub killed_to_end : Cut → Option ActionView
+killed_to_end cut =
+    let end = row_end cut.line cut.cursor in
+    if end == length cut.line then None
+    else Some (KillAndMove (movement.ForwardChar (max (steps_to Ahead end cut) 1)) movement.None)
+
+-- the column that a run of Up and Down keeps, or else that of the cursor
+abbrev pub goal_column : Option ℕ → Cut → ℕ
+goal_column goal cut = unwrap_or goal (cursor_column cut)
+
+-- an action as an edit of the line, which stays as it is; a column may be kept
+abbrev pub row_edit : Option ℕ → Option ActionView → Option (Edited (Option ℕ))
+row_edit kept action = option_map (λ action. record { cut = None; action = action; kept = kept }) action
+
+-- the edit of a key
+abbrev pub edit_by : RowKey → Option ℕ → Cut → Option (Edited (Option ℕ))
+edit_by Break goal cut = row_edit None (Some (InsertChar 1 lf))
+edit_by Up goal cut = let column = goal_column goal cut in row_edit (Some column) (moved_up column cut)
+edit_by Down goal cut = let column = goal_column goal cut in row_edit (Some column) (moved_down column cut)
+edit_by Start goal cut = row_edit None (moved_to_start cut)
+edit_by End goal cut = row_edit None (moved_to_end cut)
+edit_by KillToEnd goal cut = row_edit None (killed_to_end cut)
+
+-- the edit of a key, if there is one
+abbrev pub edit_by_any : Option RowKey → Option ℕ → Cut → Option (Edited (Option ℕ))
+edit_by_any None goal cut = None
+edit_by_any (Some key) goal cut = edit_by key goal cut
+
+-- the keys edit, but during a search
+abbrev pub row_key_edit : Option ℕ → Asked → Option (Edited (Option ℕ))
+row_key_edit goal asked = if asked.searching then None else edit_by_any (row_key asked.event) goal asked.cut
+
+-- Up and Down keep the column; all else forgets it
+abbrev pub row_key_rules : KeyRules (Option ℕ) (Option ℕ)
+row_key_rules = record { edits = row_key_edit; follows = λ goal kept step. option_flatten kept; leaves = λ goal. None }
+
+-- ---- laws
+
+-- the steps to a cluster boundary on the way lead there
+abbrev pub StepsLeadThere : Type 0
+StepsLeadThere = (way : Way) (to : ℕ) (cut : Cut) → cut.cursor ≤ length cut.line → to ≤ length cut.line → is_cluster_boundary cut.line to ≡ true
+    → has_reached way cut.cursor to ≡ true → destination (row_steps way (steps_to way to cut)) cut ≡ to
+
+-- the ring keeps the rest of the row that Ctrl-K kills, if a cluster boundary stands at its end
+abbrev pub RowKillIsKept : Type 0
+RowKillIsKept = (cut : Cut) → let end = row_end cut.line cut.cursor in
+    cut.cursor < end → end < length cut.line → is_cluster_boundary cut.line end ≡ true
+    → IsSomeAnd (killed_to_end cut) (λ action. IsSomeAnd (killing (Key kill_key) (Some action)) (λ m. killed_by m cut ≡ slice_range cut.line cut.cursor end))
+
+-- a line without a line feed is left to the other keys, but for the key that begins a row
+abbrev pub OneRowIsLeft : Type 0
+OneRowIsLeft = (goal : Option ℕ) (asked : Asked) → list_any (λ b. b == lf) asked.cut.line ≡ false
+    → row_key asked.event ≢ Some Break → row_key_edit goal asked ≡ None

@@ -1,0 +1,404 @@
+//! Keys for lines of several rows.
+
+ghost use Rattle.std.specs.Prelude.{◌≡◌, ◌≤◌, ◌<◌, ◌+◌, ◌-◌, IfOk, IsCharBoundary, length, option_map};
+ghost use Rattle.std.specs.Option.{option_flatten};
+ghost use Rattle.tw_host.specs.ActionView.{action_view};
+ghost use Rattle.tw_host.specs.KeyTable.{key_press};
+ghost use Rattle.tw_input.specs.EventView.{event_view};
+ghost use Rattle.tw_input.specs.Modifiers.{none, alt, ctrl};
+ghost use Rattle.tw_key_parts.specs.EditView.{edit_view};
+ghost use Rattle.tw_key_parts.specs.RowKeys.{cursor_column, edit_by, goal_column, has_reached, killed_to_end, move_to, moved_down, moved_to_end, moved_to_start, moved_up, place_in_row, row_edit, row_end, row_key, row_key_in, row_keys, row_start, row_steps, steps_to};
+
+use crate::edit::Edit;
+use crate::part::KeyPart;
+use std::alloc::{AllocError, Global};
+use tw_history::History;
+use tw_host::Action;
+use tw_input::{InputEvent, KeyCode, KeyEvent, Modifiers};
+use tw_line::{LineEditBuffer, Movement};
+
+/// A key for lines of several rows.
+#[derive(Clone, Copy, Debug, PartialEq, Eq)]
+pub enum RowKey {
+    /// Begins a row.
+    Break,
+    /// Goes to the row above.
+    Up,
+    /// Goes to the row below.
+    Down,
+    /// Goes to the start of the row.
+    Start,
+    /// Goes to the end of the row.
+    End,
+    /// Kills to the end of the row.
+    KillToEnd,
+}
+
+/// A way along the line.
+#[derive(Clone, Copy, Debug, PartialEq, Eq)]
+enum Way {
+    /// To the start of the line.
+    Back,
+    /// To the end of the line.
+    Ahead,
+}
+
+/// Returns the meaning of a key without modifiers.
+fn plain_key(key: KeyCode) -> Option<RowKey>
+    ensures { result ≡ row_key_in row_keys (key_press none key) }
+{
+    match key {
+        KeyCode::UpArrow | KeyCode::ApplicationUpArrow => Some(RowKey::Up),
+        KeyCode::DownArrow | KeyCode::ApplicationDownArrow => Some(RowKey::Down),
+        KeyCode::Home => Some(RowKey::Start),
+        KeyCode::End => Some(RowKey::End),
+        _ => None,
+    }
+}
+
+/// Returns the meaning of a key with CTRL.
+fn ctrl_key(key: KeyCode) -> Option<RowKey>
+    ensures { result ≡ row_key_in row_keys (key_press ctrl key) }
+{
+    match key {
+        KeyCode::Char('P') => Some(RowKey::Up),
+        KeyCode::Char('N') => Some(RowKey::Down),
+        KeyCode::Char('A') => Some(RowKey::Start),
+        KeyCode::Char('E') => Some(RowKey::End),
+        KeyCode::Char('K') => Some(RowKey::KillToEnd),
+        _ => None,
+    }
+}
+
+/// Returns the meaning of a key with ALT.
+fn alt_key(key: KeyCode) -> Option<RowKey>
+    ensures { result ≡ row_key_in row_keys (key_press alt key) }
+{
+    match key {
+        KeyCode::Enter => Some(RowKey::Break),
+        _ => None,
+    }
+}
+
+/// Returns the meaning of a key with its modifiers.
+fn key_meaning(key: KeyEvent) -> Option<RowKey>
+    ensures { result ≡ row_key_in row_keys key }
+{
+    match key.modifiers {
+        Modifiers::NONE => plain_key(key.key),
+        Modifiers::CTRL => ctrl_key(key.key),
+        Modifiers::ALT => alt_key(key.key),
+        _ => None,
+    }
+}
+
+/// Returns the key for rows that an event is, if it is one.
+pub fn row_key(event: &InputEvent) -> Option<RowKey>
+    ensures { result ≡ row_key (event_view event.now) }
+{
+    match event {
+        InputEvent::Key(key) => key_meaning(*key),
+        _ => None,
+    }
+}
+
+/// Returns the start of the row of an offset: after the last line feed before it.
+fn row_start(line: &str, at: usize) -> usize
+    requires { IsCharBoundary line.now at }
+    ensures value { result ≡ row_start line.now at }
+    ensures boundary { IsCharBoundary line.now result }
+    ensures above { 0 < result → IsCharBoundary line.now (result - 1) }
+{
+    match line[..at].rfind('\n') {
+        Some(feed) => feed + 1,
+        None => 0,
+    }
+}
+
+/// Returns the end of the row of an offset: at the next line feed.
+fn row_end(line: &str, at: usize) -> usize
+    requires { IsCharBoundary line.now at }
+    ensures value { result ≡ row_end line.now at }
+    ensures boundary { IsCharBoundary line.now result }
+    ensures within { result ≤ length line.now }
+    ensures below { result < length line.now → IsCharBoundary line.now (result + 1) }
+{
+    match line[at..].find('\n') {
+        Some(feed) => at + feed,
+        None => line.len(),
+    }
+}
+
+/// Returns a movement by grapheme clusters.
+fn row_steps(way: Way, count: usize) -> Movement
+    ensures { result ≡ row_steps way count }
+{
+    match way {
+        Way::Back => Movement::BackwardChar(count),
+        Way::Ahead => Movement::ForwardChar(count),
+    }
+}
+
+/// Returns true if an offset is `to`, or further on the way.
+fn has_reached(way: Way, to: usize, at: usize) -> bool
+    ensures { result ≡ has_reached way to at }
+{
+    match way {
+        Way::Back => at <= to,
+        Way::Ahead => to <= at,
+    }
+}
+
+/// Returns the number of grapheme clusters from the cursor to an offset.
+fn steps_to(
+    alloc: Global,
+    way: Way,
+    to: usize,
+    editor: &LineEditBuffer,
+) -> Result<usize, AllocError>
+    ensures { IfOk result (λ count. count ≡ steps_to way to editor.now) }
+{
+    let mut walker = editor.try_clone(alloc)?;
+    let most = editor.get_line().len();
+    for count in 0..most {
+        if has_reached(way, to, walker.get_cursor()) {
+            return Ok(count);
+        }
+        walker.exec_movement(row_steps(way, 1));
+    }
+    Ok(most)
+}
+
+/// Returns the column of the cursor in its row, in grapheme clusters.
+fn cursor_column(alloc: Global, editor: &LineEditBuffer) -> Result<usize, AllocError>
+    ensures { IfOk result (λ column. column ≡ cursor_column editor.now) }
+{
+    let start = row_start(editor.get_line(), editor.get_cursor());
+    steps_to(alloc, Way::Back, start, editor)
+}
+
+/// Returns the offset of a column in the row that begins at `start`, or the end of a shorter row.
+fn place_in_row(alloc: Global, line: &str, start: usize, column: usize) -> Result<usize, AllocError>
+    requires { IsCharBoundary line.now start }
+    ensures { IfOk result (λ place. place ≡ place_in_row line.now start column) }
+{
+    let mut walker = LineEditBuffer::new(alloc, line, start)?;
+    walker.exec_movement(Movement::ForwardChar(column));
+    Ok(walker.get_cursor().min(row_end(line, start)))
+}
+
+/// Returns the movement of the cursor to an offset.
+fn move_to(
+    alloc: Global,
+    way: Way,
+    to: usize,
+    editor: &LineEditBuffer,
+) -> Result<Action, AllocError>
+    ensures { IfOk result (λ action. action_view action ≡ move_to way to editor.now) }
+{
+    let count = steps_to(alloc, way, to, editor)?;
+    Ok(Action::Move(row_steps(way, count)))
+}
+
+/// Returns the movement to a column of the row above, if there is one.
+fn moved_up(
+    alloc: Global,
+    column: usize,
+    editor: &LineEditBuffer,
+) -> Result<Option<Action>, AllocError>
+    ensures { IfOk result (λ action. option_map action_view action
+        ≡ moved_up column editor.now) }
+{
+    let line = editor.get_line();
+    let start = row_start(line, editor.get_cursor());
+    if start == 0 {
+        return Ok(None);
+    }
+    let above = row_start(line, start - 1);
+    let to = place_in_row(alloc, line, above, column)?;
+    Ok(Some(move_to(alloc, Way::Back, to, editor)?))
+}
+
+/// Returns the movement to a column of the row below, if there is one.
+fn moved_down(
+    alloc: Global,
+    column: usize,
+    editor: &LineEditBuffer,
+) -> Result<Option<Action>, AllocError>
+    ensures { IfOk result (λ action. option_map action_view action
+        ≡ moved_down column editor.now) }
+{
+    let line = editor.get_line();
+    let end = row_end(line, editor.get_cursor());
+    if end == line.len() {
+        return Ok(None);
+    }
+    let to = place_in_row(alloc, line, end + 1, column)?;
+    Ok(Some(move_to(alloc, Way::Ahead, to, editor)?))
+}
+
+/// Returns the movement to the start of the row, unless it is the first.
+fn moved_to_start(alloc: Global, editor: &LineEditBuffer) -> Result<Option<Action>, AllocError>
+    ensures { IfOk result (λ action. option_map action_view action
+        ≡ moved_to_start editor.now) }
+{
+    let start = row_start(editor.get_line(), editor.get_cursor());
+    if start == 0 {
+        return Ok(None);
+    }
+    Ok(Some(move_to(alloc, Way::Back, start, editor)?))
+}
+
+/// Returns the movement to the end of the row, unless it is the last.
+fn moved_to_end(alloc: Global, editor: &LineEditBuffer) -> Result<Option<Action>, AllocError>
+    ensures { IfOk result (λ action. option_map action_view action
+        ≡ moved_to_end editor.now) }
+{
+    let end = row_end(editor.get_line(), editor.get_cursor());
+    if end == editor.get_line().len() {
+        return Ok(None);
+    }
+    Ok(Some(move_to(alloc, Way::Ahead, end, editor)?))
+}
+
+/// Returns the kill of the rest of the row, or at its end of the line feed, unless the row is the last.
+fn killed_to_end(alloc: Global, editor: &LineEditBuffer) -> Result<Option<Action>, AllocError>
+    ensures { IfOk result (λ action. option_map action_view action
+        ≡ killed_to_end editor.now) }
+{
+    let end = row_end(editor.get_line(), editor.get_cursor());
+    if end == editor.get_line().len() {
+        return Ok(None);
+    }
+    let count = steps_to(alloc, Way::Ahead, end, editor)?.max(1);
+    Ok(Some(Action::KillAndMove(Movement::ForwardChar(count), Movement::None)))
+}
+
+/// Returns an action as an edit that leaves the line, and the column that it keeps.
+fn row_edit(kept: Option<usize>, action: Option<Action>) -> Option<Edit<Option<usize>>>
+    ensures { option_map (edit_view (λ note. note)) result
+        ≡ row_edit kept (option_map action_view action) }
+{
+    match action {
+        Some(action) => Some(Edit {
+            line: None,
+            action,
+            note: kept,
+        }),
+        None => None,
+    }
+}
+
+/// Keys for lines of several rows: Alt-Enter begins a row. Up and Down, Ctrl-P and Ctrl-N go to the row
+/// above and below, and keep their column over shorter rows. Home and End, Ctrl-A and Ctrl-E go to the
+/// start and the end of the row. Ctrl-K kills the rest of the row, or at its end the line feed.
+///
+/// In the first row the part has no Up and Home, and in the last row no Down, End and Ctrl-K: there they do
+/// what they do in a line of one row, and Up and Down walk through the history. The keys have no action
+/// during a search.
+#[derive(Debug, Drop)]
+pub struct RowKeys {
+    goal: Option<usize>,
+}
+
+impl RowKeys {
+    /// Creates the part.
+    pub fn new() -> Self
+        ensures { result.goal ≡ None }
+    {
+        RowKeys { goal: None }
+    }
+
+    /// Returns the column where a run of Up and Down began.
+    fn goal_column(&self, alloc: Global, line: &LineEditBuffer) -> Result<usize, AllocError>
+        ensures { IfOk result (λ column. column ≡ goal_column self.now.goal line.now) }
+    {
+        match self.goal {
+            Some(column) => Ok(column),
+            None => cursor_column(alloc, line),
+        }
+    }
+
+    /// Returns the edit of a key.
+    fn edit_by(
+        &self,
+        alloc: Global,
+        key: RowKey,
+        line: &LineEditBuffer,
+    ) -> Result<Option<Edit<Option<usize>>>, AllocError>
+        ensures { IfOk result (λ edit. option_map (edit_view (λ note. note)) edit
+            ≡ edit_by key self.now.goal line.now) }
+    {
+        match key {
+            RowKey::Break => Ok(row_edit(None, Some(Action::InsertChar(1, '\n')))),
+            RowKey::Up => {
+                let column = self.goal_column(alloc, line)?;
+                Ok(row_edit(Some(column), moved_up(alloc, column, line)?))
+            }
+            RowKey::Down => {
+                let column = self.goal_column(alloc, line)?;
+                Ok(row_edit(Some(column), moved_down(alloc, column, line)?))
+            }
+            RowKey::Start => Ok(row_edit(None, moved_to_start(alloc, line)?)),
+            RowKey::End => Ok(row_edit(None, moved_to_end(alloc, line)?)),
+            RowKey::KillToEnd => Ok(row_edit(None, killed_to_end(alloc, line)?)),
+        }
+    }
+}
+
+impl KeyPart for RowKeys {
+    ghost use Rattle.std.specs.Prelude.{ℕ, Option};
+    ghost use Rattle.tw_key_parts.specs.RowKeys.{row_key_rules};
+
+    type Note = Option<usize>;
+
+    ghost State = { Option ℕ };
+
+    ghost Kept = { Option ℕ };
+
+    ghost state = { λ it. it.goal };
+
+    ghost kept = { λ note. note };
+
+    ghost keys = { row_key_rules };
+
+    ghost is_ready = { λ it cut. Unit {0} };
+
+    fn edit<L: History>(
+        &self,
+        alloc: Global,
+        searching: bool,
+        _history: &L,
+        event: &InputEvent,
+        line: &LineEditBuffer,
+    ) -> Result<Option<Edit<Option<usize>>>, AllocError> {
+        match row_key(event) {
+            Some(key) if !searching => self.edit_by(alloc, key, line),
+            _ => Ok(None),
+        }
+    }
+
+    fn prepare(&mut self, _alloc: Global, _line: &LineEditBuffer) -> Result<(), AllocError> {
+        Ok(())
+    }
+
+    fn follow(
+        &mut self,
+        _alloc: Global,
+        note: Option<Option<usize>>,
+        _searching: bool,
+        event: &InputEvent,
+        _before: &LineEditBuffer,
+        _after: &LineEditBuffer,
+        _action: Option<&Action>,
+    )
+        requires ready { Unit {0} }
+        ensures { self.new.goal ≡ option_flatten (option_map (λ note. note) note) }
+    {
+        self.goal = note.flatten();
+    }
+
+    fn leave_line(&mut self) {
+        self.goal = None;
+    }
+}

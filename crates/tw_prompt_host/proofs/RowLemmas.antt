@@ -1,0 +1,388 @@
+-- Texts and elements in rows.
+use Rattle.std.proofs.Common.{◌≡◌, ◌≢◌, ℕ, zero, suc, ◌+◌, ◌<◌, ◌≤◌, ◌%◌, ◌-◌, ◌&&◌, ◌||◌, eqb, ltb, Bool, true, false, not, List, [], ◌∷◌, ◌++◌, length, take, drop, get_or, Option, Some, None, refl, ap, sym, ◌∙◌, inl, inr, ◌⊎◌, arith, append_assoc, append-nil, length-append, take-append-drop}
+use Rattle.std.specs.List.{list_all}
+use Rattle.std.proofs.Math.Nat.{add-mod, add-mod_left, mod-eq_of_lt, mod-lt, mod-zero, mod_self}
+use Rattle.std.proofs.lemmas.Bool.{and_from, and_parts, cases_eq, cases_lt, eq-eqb, lt-ltb, ne_eqb, true≢false}
+use Rattle.std.proofs.lemmas.List.{length-take-le, take_all}
+use Rattle.std.proofs.lemmas.List.Folds.{list_all-append}
+use Rattle.tw_surface.specs.Characters.{is_printable, cr, lf}
+use Rattle.tw_surface.specs.Width.{column_width}
+use Rattle.tw_surface.specs.declared.cell.CellAttributes.{CellAttributes}
+use Rattle.tw_line.specs.Cut.{Cut, at_end}
+use Rattle.tw_host.specs.ElementView.{ElementView, Attribute, AllAttributes, Text}
+use Rattle.tw_host.specs.Faithful.{text_of_elements}
+use Rattle.tw_hosts.specs.Settling.{settled_column}
+use Rattle.tw_hosts.specs.SettledRules.{PromptScreenView, column_on}
+use Rattle.tw_hosts.proofs.SettlingLemmas.{printable_is_plain}
+use Rattle.tw_prompt_host.specs.Rows.{RowView, before_row, before_rows, break_elements, columns_behind, elements_from, elements_of_rows, first_row, is_row_character, next_row, row_behind, row_break, row_columns, row_edge, row_with, rows_of_text, shown_cut, spread, spread_cut, spread_from}
+use Rattle.tw_prompt_host.specs.RowLaws.{ArePrintablePrompts, ElementsAreSpread, OneRowIsSettled, PrintableCutIsShown, PrintableIsShown, PrintableIsSpread, is_one_row}
+
+-- ---- pieces of a text between line feeds
+
+-- a text with no line feed
+abbrev pub HasNoFeed : List ℕ → Type 0
+HasNoFeed text = (i : ℕ) → i < length text → get_or text i 0 ≢ lf
+
+first-other : (b : ℕ) (text : List ℕ) → HasNoFeed (b ∷ text) → eqb b lf ≡ false
+first-other b text none = ne_eqb b lf (none 0 (omega arith))
+
+rest-none : (b : ℕ) (text : List ℕ) → HasNoFeed (b ∷ text) → HasNoFeed text
+rest-none b text none i inside = none (suc i) (omega (arith, inside))
+
+-- a row with more, and more after that
+with-more : (row : RowView) (a b : List ℕ) → row_with (row_with row a) b ≡ row_with row (a ++ b)
+with-more row a b = ap (λ text. record row { text = text }) (append_assoc row.text a b)
+
+with-none : (row : RowView) → row_with row [] ≡ row
+with-none row = ap (λ text. record row { text = text }) (append-nil row.text)
+
+-- the row behind a piece, and behind a line feed after it
+pub behind-piece : (row : RowView) (piece : List ℕ) → HasNoFeed piece → row_behind row piece ≡ row_with row piece
+behind-piece row [] none = sym (with-none row)
+behind-piece row (b ∷ piece) none =
+    rw (first-other b piece none) (behind-piece (row_with row (b ∷ [])) piece (rest-none b piece none) ∙ with-more row (b ∷ []) piece)
+
+pub behind-feed : (row : RowView) (piece more : List ℕ) → HasNoFeed piece → row_behind row (piece ++ (lf ∷ more)) ≡ row_behind next_row more
+behind-feed row [] more none = refl
+behind-feed row (b ∷ piece) more none = rw (first-other b piece none) (behind-feed (row_with row (b ∷ [])) piece more (rest-none b piece none))
+
+-- so is the row behind the rest of a text, in the steps of a loop over its pieces
+pub behind-step : (row : RowView) (rest piece more : List ℕ) (all : RowView) → rest ≡ piece ++ (lf ∷ more) → HasNoFeed piece → row_behind row rest ≡ all → row_behind next_row more ≡ all
+behind-step row rest piece more all e none so = sym (behind-feed row piece more none) ∙ ap (row_behind row) (sym e) ∙ so
+
+pub behind-last : (row : RowView) (rest : List ℕ) (all : RowView) → HasNoFeed rest → row_behind row rest ≡ all → row_with row rest ≡ all
+behind-last row rest all none so = sym (behind-piece row rest none) ∙ so
+
+-- the rows of a piece, and of a piece before a line feed
+pub rows-piece : (piece : List ℕ) → HasNoFeed piece → rows_of_text piece ≡ piece ∷ []
+rows-piece [] none = refl
+rows-piece (b ∷ piece) none = rw (first-other b piece none) (ap (before_rows b) (rows-piece piece (rest-none b piece none)))
+
+pub rows-feed : (piece more : List ℕ) → HasNoFeed piece → rows_of_text (piece ++ (lf ∷ more)) ≡ piece ∷ rows_of_text more
+rows-feed [] more none = refl
+rows-feed (b ∷ piece) more none = rw (first-other b piece none) (ap (before_rows b) (rows-feed piece more (rest-none b piece none)))
+
+-- there is a first row
+some-rows : (text : List ℕ) → (row : List ℕ) × (more : List (List ℕ)) × (rows_of_text text ≡ row ∷ more)
+some-rows [] = ([], [], refl)
+some-rows (b ∷ text) = by (some-rows text) (eqb b lf) refl
+  where
+    by : (row : List ℕ) × (more : List (List ℕ)) × (rows_of_text text ≡ row ∷ more) → (x : Bool) → eqb b lf ≡ x → (row : List ℕ) × (more : List (List ℕ)) × (rows_of_text (b ∷ text) ≡ row ∷ more)
+    by it true e = rw e ([], rows_of_text text, refl)
+    by it false e = rw e (b ∷ it.0, it.1, ap (before_rows b) it.2)
+
+module _ (screen : PromptScreenView) (continuation : List ℕ) where
+  -- a piece in a row, and a piece before a line feed
+  pub spread-piece : (row : RowView) (piece : List ℕ) → HasNoFeed piece → spread_from screen continuation row piece ≡ piece
+  spread-piece row [] none = refl
+  spread-piece row (b ∷ piece) none =
+      rw (first-other b piece none) (ap (λ text. b ∷ text) (spread-piece (row_with row (b ∷ [])) piece (rest-none b piece none)))
+
+  pub spread-feed : (row : RowView) (piece more : List ℕ) → HasNoFeed piece
+      → spread_from screen continuation row (piece ++ (lf ∷ more)) ≡ piece ++ (row_break screen continuation (row_with row piece) ++ spread_from screen continuation next_row more)
+  spread-feed row [] more none = ap (λ r. row_break screen continuation r ++ spread_from screen continuation next_row more) (sym (with-none row))
+  spread-feed row (b ∷ piece) more none =
+      rw (first-other b piece none) (ap (λ text. b ∷ text) (spread-feed (row_with row (b ∷ [])) piece more (rest-none b piece none)
+      ∙ ap (λ r. piece ++ (row_break screen continuation r ++ spread_from screen continuation next_row more)) (with-more row (b ∷ []) piece)))
+
+  -- two texts, one after the other
+  pub spread-append : (row : RowView) (a b : List ℕ) → spread_from screen continuation row (a ++ b) ≡ spread_from screen continuation row a ++ spread_from screen continuation (row_behind row a) b
+  spread-append row [] b = refl
+  spread-append row (x ∷ a) b = by (λ r. spread-append r a b) (eqb x lf) refl
+    where
+      by : ((r : RowView) → spread_from screen continuation r (a ++ b) ≡ spread_from screen continuation r a ++ spread_from screen continuation (row_behind r a) b)
+          → (feed : Bool) → eqb x lf ≡ feed
+          → spread_from screen continuation row ((x ∷ a) ++ b) ≡ spread_from screen continuation row (x ∷ a) ++ spread_from screen continuation (row_behind row (x ∷ a)) b
+      by so true e = rw e (ap (λ text. row_break screen continuation row ++ text) (so next_row) ∙ sym (append_assoc (row_break screen continuation row) _ _))
+      by so false e = rw e (ap (λ text. x ∷ text) (so (row_with row (x ∷ []))))
+
+  -- elements of a piece, and of a piece before a line feed
+  pub elements-piece : (set : Option CellAttributes) (row : RowView) (piece : List ℕ) → HasNoFeed piece
+      → elements_of_rows screen continuation set row (rows_of_text piece) ≡ Text piece ∷ []
+  elements-piece set row piece none = ap (elements_of_rows screen continuation set row) (rows-piece piece none)
+
+  pub elements-feed : (set : Option CellAttributes) (row : RowView) (piece more : List ℕ) → HasNoFeed piece
+      → elements_of_rows screen continuation set row (rows_of_text (piece ++ (lf ∷ more)))
+      ≡ Text piece ∷ (break_elements screen continuation set (row_with row piece) ++ elements_of_rows screen continuation set next_row (rows_of_text more))
+  elements-feed set row piece more none =
+      let it = some-rows more in
+      ap (elements_of_rows screen continuation set row) (rows-feed piece more none ∙ ap (λ (rows : List (List ℕ)). piece ∷ rows) it.2)
+      ∙ ap (λ rows. Text piece ∷ (break_elements screen continuation set (row_with row piece) ++ elements_of_rows screen continuation set next_row rows)) (sym it.2)
+
+  -- ---- the steps of a loop over the pieces of a text
+
+  pub spread-step : (row : RowView) (rest piece more shown between new all : List ℕ) → rest ≡ piece ++ (lf ∷ more) → HasNoFeed piece
+      → between ≡ row_break screen continuation (row_with row piece) → new ≡ (shown ++ piece) ++ between
+      → shown ++ spread_from screen continuation row rest ≡ all → new ++ spread_from screen continuation next_row more ≡ all
+  spread-step row rest piece more shown between new all e none is_break is_new so =
+      ap (λ text. text ++ spread_from screen continuation next_row more) is_new
+      ∙ append_assoc (shown ++ piece) between (spread_from screen continuation next_row more)
+      ∙ append_assoc shown piece (between ++ spread_from screen continuation next_row more)
+      ∙ ap (λ text. shown ++ (piece ++ (text ++ spread_from screen continuation next_row more))) is_break
+      ∙ ap (λ text. shown ++ text) (sym (spread-feed row piece more none))
+      ∙ ap (λ text. shown ++ spread_from screen continuation row text) (sym e) ∙ so
+
+  pub spread-last : (row : RowView) (rest shown new all : List ℕ) → HasNoFeed rest → new ≡ shown ++ rest
+      → shown ++ spread_from screen continuation row rest ≡ all → new ≡ all
+  spread-last row rest shown new all none is_new so = is_new ∙ ap (λ text. shown ++ text) (sym (spread-piece row rest none)) ∙ so
+
+  pub elements-step : (set : Option CellAttributes) (row : RowView) (rest piece more : List ℕ) (shown between new all : List ElementView)
+      → rest ≡ piece ++ (lf ∷ more) → HasNoFeed piece
+      → between ≡ break_elements screen continuation set (row_with row piece) → new ≡ (shown ++ Text piece ∷ []) ++ between
+      → shown ++ elements_of_rows screen continuation set row (rows_of_text rest) ≡ all
+      → new ++ elements_of_rows screen continuation set next_row (rows_of_text more) ≡ all
+  elements-step set row rest piece more shown between new all e none is_break is_new so =
+      let left = elements_of_rows screen continuation set next_row (rows_of_text more) in
+      ap (λ es. es ++ left) is_new
+      ∙ append_assoc (shown ++ Text piece ∷ []) between left
+      ∙ append_assoc shown (Text piece ∷ []) (between ++ left)
+      ∙ ap (λ es. shown ++ (Text piece ∷ (es ++ left))) is_break
+      ∙ ap (λ es. shown ++ es) (sym (elements-feed set row piece more none))
+      ∙ ap (λ text. shown ++ elements_of_rows screen continuation set row (rows_of_text text)) (sym e) ∙ so
+
+  pub elements-last : (set : Option CellAttributes) (row : RowView) (rest : List ℕ) (shown new all : List ElementView) → HasNoFeed rest → new ≡ shown ++ Text rest ∷ []
+      → shown ++ elements_of_rows screen continuation set row (rows_of_text rest) ≡ all → new ≡ all
+  elements-last set row rest shown new all none is_new so = is_new ∙ ap (λ es. shown ++ es) (sym (elements-piece set row rest none)) ∙ so
+
+  -- ---- the text of elements
+
+  text-append : (elements more : List ElementView) → text_of_elements (elements ++ more) ≡ text_of_elements elements ++ text_of_elements more
+  text-append [] more = refl
+  text-append (Attribute a ∷ elements) more = text-append elements more
+  text-append (AllAttributes a ∷ elements) more = text-append elements more
+  text-append (Text text ∷ elements) more = ap (λ t. text ++ t) (text-append elements more) ∙ sym (append_assoc text (text_of_elements elements) (text_of_elements more))
+
+  break-text : (set : Option CellAttributes) (row : RowView) → text_of_elements (break_elements screen continuation set row) ≡ row_break screen continuation row
+  break-text None row = append-nil (row_break screen continuation row)
+  break-text (Some attributes) row = append-nil (row_break screen continuation row)
+
+  -- the text of rows, the first of which has one more character before it
+  one-before : (set : Option CellAttributes) (row : RowView) (b : ℕ) (first : List ℕ) (more : List (List ℕ))
+      → text_of_elements (elements_of_rows screen continuation set row ((b ∷ first) ∷ more)) ≡ b ∷ text_of_elements (elements_of_rows screen continuation set (row_with row (b ∷ [])) (first ∷ more))
+  one-before set row b first [] = refl
+  one-before set row b first (next ∷ more) =
+      ap (λ r. b ∷ (first ++ text_of_elements (break_elements screen continuation set r ++ elements_of_rows screen continuation set next_row (next ∷ more)))) (sym (with-more row (b ∷ []) first))
+
+  text-of-rows : (set : Option CellAttributes) (row : RowView) (text : List ℕ)
+      → text_of_elements (elements_of_rows screen continuation set row (rows_of_text text)) ≡ spread_from screen continuation row text
+  text-of-rows set row [] = refl
+  text-of-rows set row (b ∷ text) = by (some-rows text) (λ r. text-of-rows set r text) (eqb b lf) refl
+    where
+      by : (first : List ℕ) × (more : List (List ℕ)) × (rows_of_text text ≡ first ∷ more)
+          → ((r : RowView) → text_of_elements (elements_of_rows screen continuation set r (rows_of_text text)) ≡ spread_from screen continuation r text)
+          → (feed : Bool) → eqb b lf ≡ feed
+          → text_of_elements (elements_of_rows screen continuation set row (rows_of_text (b ∷ text))) ≡ spread_from screen continuation row (b ∷ text)
+      by it so true e =
+          rw e (ap (λ rows. text_of_elements (elements_of_rows screen continuation set row ([] ∷ rows))) it.2
+          ∙ text-append (break_elements screen continuation set (row_with row [])) (elements_of_rows screen continuation set next_row (it.0 ∷ it.1))
+          ∙ ap (λ text. text ++ text_of_elements (elements_of_rows screen continuation set next_row (it.0 ∷ it.1))) (break-text set (row_with row []) ∙ ap (row_break screen continuation) (with-none row))
+          ∙ ap (λ rows. row_break screen continuation row ++ text_of_elements (elements_of_rows screen continuation set next_row rows)) (sym it.2)
+          ∙ ap (λ text. row_break screen continuation row ++ text) (so next_row))
+      by it so false e =
+          rw e (ap (λ rows. text_of_elements (elements_of_rows screen continuation set row (before_rows b rows))) it.2
+          ∙ one-before set row b it.0 it.1
+          ∙ ap (λ rows. b ∷ text_of_elements (elements_of_rows screen continuation set (row_with row (b ∷ [])) rows)) (sym it.2)
+          ∙ ap (λ text. b ∷ text) (so (row_with row (b ∷ []))))
+
+  all-text : (set : Option CellAttributes) (row : RowView) (elements : List ElementView)
+      → text_of_elements (elements_from screen continuation set row elements) ≡ spread_from screen continuation row (text_of_elements elements)
+  all-text set row [] = refl
+  all-text set row (Attribute change ∷ more) = all-text _ row more
+  all-text set row (AllAttributes attributes ∷ more) = all-text (Some attributes) row more
+  all-text set row (Text text ∷ more) =
+      text-append (elements_of_rows screen continuation set row (rows_of_text text)) (elements_from screen continuation set (row_behind row text) more)
+      ∙ ap (λ t. t ++ text_of_elements (elements_from screen continuation set (row_behind row text) more)) (text-of-rows set row text)
+      ∙ ap (λ t. spread_from screen continuation row text ++ t) (all-text set (row_behind row text) more)
+      ∙ sym (spread-append row text (text_of_elements more))
+
+  -- ---- one row
+
+  no-feed : (text : List ℕ) → is_one_row text ≡ true → HasNoFeed text
+  no-feed [] h i inside = absurd (omega (arith, inside))
+  no-feed (b ∷ text) h zero inside = λ there. true≢false (sym (and_parts (not (eqb b lf)) (is_one_row text) h).0 ∙ ap not (eq-eqb b lf there))
+  no-feed (b ∷ text) h (suc i) inside = no-feed text (and_parts (not (eqb b lf)) (is_one_row text) h).1 i (omega (arith, inside))
+
+  one-row-elements : (set : Option CellAttributes) (row : RowView) (elements : List ElementView) → is_one_row (text_of_elements elements) ≡ true
+      → elements_from screen continuation set row elements ≡ elements
+  one-row-elements set row [] h = refl
+  one-row-elements set row (Attribute change ∷ more) h = ap (λ (es : List ElementView). Attribute change ∷ es) (one-row-elements _ row more h)
+  one-row-elements set row (AllAttributes attributes ∷ more) h = ap (λ (es : List ElementView). AllAttributes attributes ∷ es) (one-row-elements (Some attributes) row more h)
+  one-row-elements set row (Text text ∷ more) h =
+      let both = and_parts (is_one_row text) (is_one_row (text_of_elements more)) (sym (list_all-append (λ b. not (eqb b lf)) text (text_of_elements more)) ∙ h) in
+      ap (λ es. es ++ elements_from screen continuation set (row_behind row text) more) (elements-piece set row text (no-feed text both.0))
+      ∙ ap (λ (es : List ElementView). Text text ∷ es) (one-row-elements set (row_behind row text) more both.1)
+
+  one-row-cut : (cut : Cut) → cut.cursor ≤ length cut.line → is_one_row cut.line ≡ true → spread_cut screen continuation (take cut.cursor cut.line) (drop cut.cursor cut.line) ≡ cut
+  one-row-cut cut inside h =
+      let front = take cut.cursor cut.line in
+      let back = drop cut.cursor cut.line in
+      let whole = take-append-drop cut.cursor cut.line in
+      let both = and_parts (is_one_row front) (is_one_row back) (sym (list_all-append (λ b. not (eqb b lf)) front back) ∙ ap is_one_row whole ∙ h) in
+      let first : spread_from screen continuation first_row front ≡ front = spread-piece first_row front (no-feed front both.0) in
+      let second : spread_from screen continuation (row_behind first_row front) back ≡ back = spread-piece (row_behind first_row front) back (no-feed back both.1) in
+      let cursor : length front ≡ cut.cursor = length-take-le cut.cursor cut.line inside in
+      ap (λ shown. record { line = shown ++ spread_from screen continuation (row_behind first_row front) back; cursor = length shown }) first
+      ∙ ap (λ shown. record { line = front ++ shown; cursor = length front }) second
+      ∙ ap (λ line. record { line = line; cursor = length front }) whole
+      ∙ ap (λ at. record { line = cut.line; cursor = at }) cursor
+
+pub one_row_is_settled : OneRowIsSettled
+one_row_is_settled screen continuation cut shown inside line elements =
+    ap (λ es. record { elements = es; column = column_on screen (spread_cut screen continuation (take cut.cursor cut.line) (drop cut.cursor cut.line)) }) (one-row-elements screen continuation None first_row shown.elements elements)
+    ∙ ap (λ c. record { elements = shown.elements; column = column_on screen c }) (one-row-cut screen continuation cut inside line)
+
+pub elements_are_spread : ElementsAreSpread
+elements_are_spread screen continuation = all-text screen continuation
+
+-- ---- printable rows
+
+printable-width : (text : List ℕ) → list_all is_printable text ≡ true → column_width text ≡ length text
+unfolding column_width
+printable-width text h = rw h refl
+
+printable-of : (b : ℕ) → is_row_character b ≡ true → eqb b lf ≡ false → is_printable b ≡ true
+printable-of b h e = by (is_printable b) refl
+  where
+    by : (x : Bool) → is_printable b ≡ x → is_printable b ≡ true
+    by true f = f
+    by false f = absurd (let z : (is_printable b || eqb b lf) ≡ false = rw (f, e) refl in true≢false (sym h ∙ z))
+
+module _ (screen : PromptScreenView) (continuation : List ℕ) (prompts : ArePrintablePrompts screen.prompt continuation) where
+  before-printable : (is_first : Bool) → list_all is_printable (before_row screen continuation is_first) ≡ true
+  before-printable true = prompts.prompt
+  before-printable false = prompts.continuation
+
+  -- the characters of a row with what stands before it
+  count : RowView → ℕ
+  count row = length (before_row screen continuation row.is_first) + length row.text
+
+  columns-count : (row : RowView) → list_all is_printable row.text ≡ true → row_columns screen continuation row ≡ length (before_row screen continuation row.is_first) + length row.text
+  columns-count row h =
+      let before = before_row screen continuation row.is_first in
+      ap (λ n. n + settled_column screen.cols before (at_end row.text)) (printable-width before (before-printable row.is_first))
+      ∙ ap (λ n. length before + n) (printable_is_plain screen.cols before (at_end row.text) h ∙ ap column_width (take_all (length row.text) row.text (omega arith)) ∙ printable-width row.text h)
+
+  with-letter : (row : RowView) (b : ℕ) → list_all is_printable row.text ≡ true → is_printable b ≡ true → list_all is_printable (row.text ++ b ∷ []) ≡ true
+  with-letter row b h letter = list_all-append is_printable row.text (b ∷ []) ∙ and_from _ _ h (and_from _ _ letter refl)
+
+  printable-spread : (row : RowView) (n : ℕ) (text : List ℕ) → list_all is_printable row.text ≡ true → list_all is_row_character text ≡ true
+      → length (before_row screen continuation row.is_first) + length row.text ≡ n
+      → spread_from screen continuation row text ≡ spread screen.cols continuation n text
+  printable-spread row n [] h t e = refl
+  printable-spread row n (b ∷ text) h t e =
+      let both = and_parts (is_row_character b) (list_all is_row_character text) t in
+      by both.0 (λ r m g f. printable-spread r m text g both.1 f) (eqb b lf) refl
+    where
+      by : is_row_character b ≡ true
+          → ((r : RowView) (m : ℕ) → list_all is_printable r.text ≡ true → length (before_row screen continuation r.is_first) + length r.text ≡ m → spread_from screen continuation r text ≡ spread screen.cols continuation m text)
+          → (feed : Bool) → eqb b lf ≡ feed → spread_from screen continuation row (b ∷ text) ≡ spread screen.cols continuation n (b ∷ text)
+      by mine so true f =
+          let none : length continuation + 0 ≡ length continuation = omega arith in
+          rw f (append_assoc (row_edge screen.cols (row_columns screen continuation row)) (cr ∷ lf ∷ continuation) (spread_from screen continuation next_row text)
+          ∙ ap (λ m. row_edge screen.cols m ++ (cr ∷ lf ∷ (continuation ++ spread_from screen continuation next_row text))) (columns-count row h ∙ e)
+          ∙ ap (λ rest. row_edge screen.cols n ++ (cr ∷ lf ∷ (continuation ++ rest))) (so next_row (length continuation) refl none))
+      by mine so false f =
+          let more : length (before_row screen continuation row.is_first) + length (row.text ++ b ∷ []) ≡ n + 1 = omega (arith, length-append row.text (b ∷ []), e) in
+          rw f (ap (λ rest. b ∷ rest) (so (row_with row (b ∷ [])) (n + 1) (with-letter row b h (printable-of b mine f)) more))
+
+  -- the row in which they end
+  printable-behind : (row : RowView) (n : ℕ) (text : List ℕ) → list_all is_printable row.text ≡ true → list_all is_row_character text ≡ true
+      → length (before_row screen continuation row.is_first) + length row.text ≡ n
+      → (list_all is_printable (row_behind row text).text ≡ true)
+      × (length (before_row screen continuation (row_behind row text).is_first) + length (row_behind row text).text ≡ columns_behind (length continuation) n text)
+  printable-behind row n [] h t e = (h, e)
+  printable-behind row n (b ∷ text) h t e =
+      let both = and_parts (is_row_character b) (list_all is_row_character text) t in
+      by both.0 (λ r m g f. printable-behind r m text g both.1 f) (eqb b lf) refl
+    where
+      by : is_row_character b ≡ true
+          → ((r : RowView) (m : ℕ) → list_all is_printable r.text ≡ true → length (before_row screen continuation r.is_first) + length r.text ≡ m
+          → (list_all is_printable (row_behind r text).text ≡ true)
+          × (length (before_row screen continuation (row_behind r text).is_first) + length (row_behind r text).text ≡ columns_behind (length continuation) m text))
+          → (feed : Bool) → eqb b lf ≡ feed
+          → (list_all is_printable (row_behind row (b ∷ text)).text ≡ true)
+          × (length (before_row screen continuation (row_behind row (b ∷ text)).is_first) + length (row_behind row (b ∷ text)).text ≡ columns_behind (length continuation) n (b ∷ text))
+      by mine so true f =
+          let none : length continuation + 0 ≡ length continuation = omega arith in
+          rw f (so next_row (length continuation) refl none)
+      by mine so false f =
+          let more : length (before_row screen continuation row.is_first) + length (row.text ++ b ∷ []) ≡ n + 1 = omega (arith, length-append row.text (b ∷ []), e) in
+          rw f (so (row_with row (b ∷ [])) (n + 1) (with-letter row b h (printable-of b mine f)) more)
+
+  first-count : length (before_row screen continuation true) + 0 ≡ length screen.prompt
+  first-count = omega arith
+
+  printable-first : (text : List ℕ) → list_all is_row_character text ≡ true → spread_from screen continuation first_row text ≡ spread screen.cols continuation (length screen.prompt) text
+  printable-first text t = printable-spread first_row (length screen.prompt) text refl t first-count
+
+  printable-cut : (before rest : List ℕ) → list_all is_row_character before ≡ true → list_all is_row_character rest ≡ true
+      → spread_cut screen continuation before rest ≡ shown_cut screen.cols continuation (length screen.prompt) before rest
+  printable-cut before rest b r =
+      let behind = printable-behind first_row (length screen.prompt) before refl b first-count in
+      let at = columns_behind (length continuation) (length screen.prompt) before in
+      ap (λ shown. record { line = shown ++ spread_from screen continuation (row_behind first_row before) rest; cursor = length shown }) (printable-first before b)
+      ∙ ap (λ shown. record { line = spread screen.cols continuation (length screen.prompt) before ++ shown; cursor = length (spread screen.cols continuation (length screen.prompt) before) })
+      (printable-spread (row_behind first_row before) at rest behind.0 r behind.1)
+
+pub printable_is_spread : PrintableIsSpread
+printable_is_spread screen continuation text prompts t = printable-first screen continuation prompts text t
+
+pub printable_cut_is_shown : PrintableCutIsShown
+printable_cut_is_shown screen continuation before rest prompts b r = printable-cut screen continuation prompts before rest b r
+
+pub printable_is_shown : PrintableIsShown
+printable_is_shown screen continuation cut shown prompts line faithful =
+    let parts = list_all-append is_row_character (take cut.cursor cut.line) (drop cut.cursor cut.line) in
+    let both = and_parts (list_all is_row_character (take cut.cursor cut.line)) (list_all is_row_character (drop cut.cursor cut.line))
+    (sym parts ∙ ap (list_all is_row_character) (take-append-drop cut.cursor cut.line) ∙ line) in (
+      all-text screen continuation None first_row shown.elements ∙ ap (spread_from screen continuation first_row) faithful ∙ printable-first screen continuation prompts cut.line line,
+      ap (column_on screen) (printable-cut screen continuation prompts (take cut.cursor cut.line) (drop cut.cursor cut.line) both.0 both.1),
+    )
+
+-- ---- whether a row is full
+
+-- two rests that fill a divisor, or nothing
+fills : (cols r s : ℕ) → r < cols → s < cols → eqb r ((cols - s) % cols) ≡ eqb ((r + s) % cols) 0
+fills cols r zero low small =
+    let none : r + 0 ≡ r = omega arith in
+    let whole : (cols - 0) % cols ≡ 0 = ap (λ n. n % cols) (let e : cols - 0 ≡ cols = omega arith in e) ∙ mod_self cols in
+    ap (eqb r) whole ∙ ap (λ n. eqb n 0) (sym (mod-eq_of_lt low) ∙ ap (λ n. n % cols) (sym none))
+fills cols r (suc s) low small = elim (cases_lt (r + suc s) cols) [
+  | inl less ↦
+      ap (eqb r) left ∙ ne_eqb r (cols - suc s) (λ e. absurd (omega (arith, e, less, small)))
+      ∙ sym (ne_eqb ((r + suc s) % cols) 0 (λ e. absurd (omega (arith, e, mod-eq_of_lt less))))
+  | inr more ↦ by_equal more (cases_eq (r + suc s) cols)
+]
+  where
+    left : (cols - suc s) % cols ≡ cols - suc s
+    left = mod-eq_of_lt (omega (arith, small))
+
+    by_equal : cols ≤ r + suc s → (r + suc s ≡ cols) ⊎ (r + suc s ≢ cols) → eqb r ((cols - suc s) % cols) ≡ eqb ((r + suc s) % cols) 0
+    by_equal more (inl same) =
+        ap (eqb r) left ∙ eq-eqb r (cols - suc s) (omega (arith, same, small)) ∙ sym (eq-eqb ((r + suc s) % cols) 0 (ap (λ n. n % cols) same ∙ mod_self cols))
+    by_equal more (inr other) =
+        let over : r + suc s ≡ cols + (r + suc s - cols) = omega (arith, more) in
+        let rest : (r + suc s) % cols ≡ r + suc s - cols = ap (λ n. n % cols) over ∙ add-mod_left cols (r + suc s - cols) ∙ mod-eq_of_lt (omega (arith, low, small)) in
+        ap (eqb r) left ∙ ne_eqb r (cols - suc s) (λ e. absurd (omega (arith, e, other, small)))
+        ∙ sym (ne_eqb ((r + suc s) % cols) 0 (λ e. absurd (omega (arith, e, rest, more, other))))
+
+-- columns after others fill the last column
+pub is_filled : (cols start column : ℕ) → 0 < cols → 0 < start + column
+    → eqb (start % cols) ((cols - column % cols) % cols) ≡ (ltb 0 (start + column) && eqb ((start + column) % cols) 0)
+is_filled cols start column some any =
+    fills cols (start % cols) (column % cols) (mod-lt start some) (mod-lt column some)
+    ∙ ap (λ n. eqb n 0) (sym (add-mod start column cols))
+    ∙ ap (λ b. b && eqb ((start + column) % cols) 0) (sym (lt-ltb 0 (start + column) any))
+
+and-false : (a b : Bool) → b ≡ false → (a && b) ≡ false
+and-false true b e = e
+and-false false b e = refl
+
+-- no columns fill it, nor do any where there is none
+pub not_filled : (cols start column : ℕ) → (cols ≡ 0) ⊎ (start + column ≡ 0) → false ≡ (ltb 0 (start + column) && eqb ((start + column) % cols) 0)
+not_filled cols start column (inl none) = by (start + column)
+  where
+    by : (n : ℕ) → false ≡ (ltb 0 n && eqb (n % cols) 0)
+    by zero = refl
+    by (suc n) = sym (and-false (ltb 0 (suc n)) (eqb (suc n % cols) 0) (ne_eqb (suc n % cols) 0 (λ e. absurd (omega (arith, e, ap (λ m. suc n % m) none, mod-zero (suc n))))))
+not_filled cols start column (inr none) = ap (λ n. ltb 0 n && eqb (n % cols) 0) (sym none)

@@ -1,0 +1,150 @@
+-- Lines of several rows, which line feeds end, and the text that shows them.
+use Rattle.std.specs.Prelude.{ℕ, ◌+◌, ◌%◌, ◌&&◌, ◌||◌, eqb, ltb, Bool, true, false, if◌then◌else◌, List, [], ◌∷◌, ◌++◌, length, take, drop, Option, Some, None, unwrap_or, string_bytes}
+use Rattle.tw_surface.specs.Attributes.{with_attribute}
+use Rattle.tw_surface.specs.Characters.{is_printable, cr, lf}
+use Rattle.tw_surface.specs.Defaults.{default_attributes}
+use Rattle.tw_surface.specs.Pictures.{blank}
+use Rattle.tw_surface.specs.Width.{column_width}
+use Rattle.tw_surface.specs.declared.cell.CellAttributes.{CellAttributes}
+use Rattle.tw_line.specs.Cut.{Cut, at_end}
+use Rattle.tw_host.specs.ElementView.{ElementView, Attribute, AllAttributes, Text}
+use Rattle.tw_host.specs.HostRules.{Highlight}
+use Rattle.tw_hosts.specs.Settling.{settled_column}
+use Rattle.tw_hosts.specs.SettledRules.{PromptScreenView, column_on}
+use Rattle.tw_prompt_host.specs.declared.rows.OpenRow.{OpenRow}
+
+-- ---- the rows
+
+-- a printable character, or the line feed that ends a row
+abbrev pub is_row_character : ℕ → Bool
+is_row_character b = is_printable b || eqb b lf
+
+-- a character before the first of some rows
+abbrev pub before_rows : ℕ → List (List ℕ) → List (List ℕ)
+before_rows b [] = (b ∷ []) ∷ []
+before_rows b (row ∷ more) = (b ∷ row) ∷ more
+
+-- the rows of a text: each line feed ends one
+abbrev pub rows_of_text : List ℕ → List (List ℕ)
+rows_of_text [] = [] ∷ []
+rows_of_text (b ∷ text) = if eqb b lf then [] ∷ rows_of_text text else before_rows b (rows_of_text text)
+
+-- ---- what shows printable ones
+
+-- a space after a row that fills its last column, so that the cursor has a cell at its end
+abbrev pub row_edge : ℕ → ℕ → List ℕ
+row_edge cols n = if ltb 0 n && eqb (n % cols) 0 then blank ∷ [] else []
+
+-- a text with CR LF and a continuation prompt for each line feed, after `n` columns
+abbrev pub spread : ℕ → List ℕ → ℕ → List ℕ → List ℕ
+spread cols continuation n [] = []
+spread cols continuation n (b ∷ text) =
+    if eqb b lf then row_edge cols n ++ (cr ∷ lf ∷ (continuation ++ spread cols continuation (length continuation) text))
+    else b ∷ spread cols continuation (n + 1) text
+
+-- the columns of the row in which a text ends
+abbrev pub columns_behind : ℕ → ℕ → List ℕ → ℕ
+columns_behind continuation n [] = n
+columns_behind continuation n (b ∷ text) = if eqb b lf then columns_behind continuation continuation text else columns_behind continuation (n + 1) text
+
+-- the text that shows a line after `n` columns of a prompt, and its cursor in it
+abbrev pub shown_cut : ℕ → List ℕ → ℕ → List ℕ → List ℕ → Cut
+shown_cut cols continuation n before rest = record {
+  line = spread cols continuation n before ++ spread cols continuation (columns_behind (length continuation) n before) rest;
+  cursor = length (spread cols continuation n before);
+}
+
+-- ---- what shows any of them: the columns of a row are measured
+
+-- a row: whether it is the first one of its line, and its text so far
+pub record RowView : Type 0 where
+  pub is_first : Bool
+  pub text : List ℕ
+
+-- the view of a row
+abbrev pub row_view : OpenRow → RowView
+row_view row = record { is_first = row.is_first; text = string_bytes row.text }
+
+-- the first row and another one, with no text yet
+abbrev pub first_row : RowView
+first_row = record { is_first = true; text = [] }
+
+abbrev pub next_row : RowView
+next_row = record { is_first = false; text = [] }
+
+-- a row with more text
+abbrev pub row_with : RowView → List ℕ → RowView
+row_with row more = record row { text = row.text ++ more }
+
+-- the row in which a text ends that begins in this one
+abbrev pub row_behind : RowView → List ℕ → RowView
+row_behind row [] = row
+row_behind row (b ∷ text) = if eqb b lf then row_behind next_row text else row_behind (row_with row (b ∷ [])) text
+
+module _ (screen : PromptScreenView) (continuation : List ℕ) where
+  -- what stands before a row: the prompt, or the continuation prompt
+  abbrev pub before_row : Bool → List ℕ
+  before_row is_first = if is_first then screen.prompt else continuation
+
+  -- the columns of a row with what stands before it; the cells that wide characters leave empty at the edge count
+  abbrev pub row_columns : RowView → ℕ
+  row_columns row = column_width (before_row row.is_first) + settled_column screen.cols (before_row row.is_first) (at_end row.text)
+
+  -- whether they fill its last column
+  abbrev pub is_full : RowView → Bool
+  is_full row = ltb 0 (row_columns row) && eqb (row_columns row % screen.cols) 0
+
+  -- what stands between a row and the next one
+  abbrev pub row_break : RowView → List ℕ
+  row_break row = row_edge screen.cols (row_columns row) ++ (cr ∷ lf ∷ continuation)
+
+  -- a text that begins in a row, with such a break for each line feed
+  abbrev pub spread_from : RowView → List ℕ → List ℕ
+  spread_from row [] = []
+  spread_from row (b ∷ text) = if eqb b lf then row_break row ++ spread_from next_row text else b ∷ spread_from (row_with row (b ∷ [])) text
+
+  -- the text that shows a line, and its cursor in it
+  abbrev pub spread_cut : List ℕ → List ℕ → Cut
+  spread_cut before rest = record {
+    line = spread_from first_row before ++ spread_from (row_behind first_row before) rest;
+    cursor = length (spread_from first_row before);
+  }
+
+  -- the column of the cursor: the settled one in that text
+  abbrev pub column_in_rows : Cut → ℕ
+  column_in_rows cut = column_on screen (spread_cut (take cut.cursor cut.line) (drop cut.cursor cut.line))
+
+  -- ---- the elements
+
+  -- a break between two rows; where the line has set attributes, it has the default ones, and they are set again after it
+  abbrev pub break_elements : Option CellAttributes → RowView → List ElementView
+  break_elements None row = Text (row_break row) ∷ []
+  break_elements (Some attributes) row = AllAttributes default_attributes ∷ Text (row_break row) ∷ AllAttributes attributes ∷ []
+
+  -- rows, the first of which goes on with a row
+  abbrev pub elements_of_rows : Option CellAttributes → RowView → List (List ℕ) → List ElementView
+  elements_of_rows set row [] = []
+  elements_of_rows set row (text ∷ []) = Text text ∷ []
+  elements_of_rows set row (text ∷ next ∷ more) =
+      Text text ∷ (break_elements set (row_with row text) ++ elements_of_rows set next_row (next ∷ more))
+
+  -- a text that begins in a row
+  abbrev pub elements_of_text : Option CellAttributes → RowView → List ℕ → List ElementView
+  elements_of_text set row text = elements_of_rows set row (rows_of_text text)
+
+  -- elements that begin in a row, each line feed in their texts as such a break
+  abbrev pub elements_from : Option CellAttributes → RowView → List ElementView → List ElementView
+  elements_from set row [] = []
+  elements_from set row (Attribute change ∷ more) =
+      Attribute change ∷ elements_from (Some (with_attribute change (unwrap_or set default_attributes))) row more
+  elements_from set row (AllAttributes attributes ∷ more) = AllAttributes attributes ∷ elements_from (Some attributes) row more
+  elements_from set row (Text text ∷ more) =
+      elements_of_text set row text ++ elements_from set (row_behind row text) more
+
+  -- the elements of a line
+  abbrev pub elements_in_rows : List ElementView → List ElementView
+  elements_in_rows elements = elements_from None first_row elements
+
+  -- what a host shows, in rows
+  abbrev pub highlight_in_rows : Cut → Highlight → Highlight
+  highlight_in_rows cut shown = record { elements = elements_in_rows shown.elements; column = column_in_rows cut }

@@ -1,0 +1,273 @@
+//! Lines of several rows, as they are shown.
+
+ghost use Rattle.std.specs.Prelude.{◌≡◌, IfOk, OnOk, IsCharBoundary, map, string_bytes, unwrap_or};
+ghost use Rattle.tw_surface.specs.Attributes.{with_attribute};
+ghost use Rattle.tw_surface.specs.Defaults.{default_attributes};
+ghost use Rattle.tw_host.specs.ElementView.{element_view, Text};
+ghost use Rattle.tw_hosts.specs.SettledRules.{screen_view};
+ghost use Rattle.tw_line.specs.Cut.{cut_at};
+ghost use Rattle.tw_prompt_host.specs.Rows.{before_row, break_elements, column_in_rows, elements_in_rows, elements_of_text, first_row, is_full, next_row, row_behind, row_break, row_view, row_with, spread_from};
+
+use std::alloc::{AllocError, Global};
+use tw_host::OutputElement;
+use tw_hosts::{PromptScreen, settled_column};
+use tw_surface::{AttributeChange, CellAttributes, unicode_column_width};
+
+/// The row that is being shown.
+#[derive(Debug, Drop)]
+struct OpenRow {
+    /// Whether it is the first row of its line.
+    is_first: bool,
+    /// Its text so far.
+    text: String,
+}
+
+impl OpenRow {
+    /// Returns the first row of a line.
+    fn first(alloc: Global) -> Self
+        ensures { row_view result ≡ first_row }
+    {
+        OpenRow {
+            is_first: true,
+            text: String::new(alloc),
+        }
+    }
+
+    /// Appends to the row.
+    fn push(&mut self, text: &str) -> Result<(), AllocError>
+        ensures { OnOk result (row_view self.new ≡ row_with (row_view self.old) text.now) }
+    {
+        self.text.push_str(text)
+    }
+
+    /// Begins the next row.
+    fn begin_next(&mut self)
+        ensures { row_view self.new ≡ next_row }
+    {
+        self.is_first = false;
+        self.text.clear();
+    }
+}
+
+/// Returns what stands before a row: the prompt, or the continuation prompt.
+fn before_row<'a>(screen: &'a PromptScreen, continuation: &'a str, is_first: bool) -> &'a str
+    ensures { result.now ≡ before_row (screen_view screen.now) continuation.now is_first }
+{
+    if is_first {
+        screen.prompt.as_str()
+    } else {
+        continuation
+    }
+}
+
+/// Returns true if a row fills its last column.
+fn is_full(screen: &PromptScreen, continuation: &str, row: &OpenRow) -> bool
+    ensures { result ≡ is_full (screen_view screen.now) continuation.now (row_view row.now) }
+{
+    let cols = screen.cols;
+    let before = before_row(screen, continuation, row.is_first);
+    let start = unicode_column_width(before);
+    let column = settled_column(cols, before, row.text.as_str(), row.text.len());
+    if cols == 0 || (start == 0 && column == 0) {
+        return false;
+    }
+    let left = cols - column % cols;
+    start % cols == left % cols
+}
+
+/// Returns what stands between a row and the next one: a space if it is full, CR LF, and the continuation prompt.
+fn row_break(
+    alloc: Global,
+    screen: &PromptScreen,
+    continuation: &str,
+    row: &OpenRow,
+) -> Result<String, AllocError>
+    ensures { IfOk result (λ text. string_bytes text
+        ≡ row_break (screen_view screen.now) continuation.now (row_view row.now)) }
+{
+    let edge = if is_full(screen, continuation, row) {
+        " "
+    } else {
+        ""
+    };
+    let mut text = String::from_str(alloc, edge)?;
+    text.push_str("\r\n")?;
+    text.push_str(continuation)?;
+    Ok(text)
+}
+
+/// Returns a text that begins in `row`, with a break for each line feed. Leaves `row` as the one in which it ends.
+fn spread(
+    alloc: Global,
+    screen: &PromptScreen,
+    continuation: &str,
+    row: &mut OpenRow,
+    text: &str,
+) -> Result<String, AllocError>
+    ensures text { IfOk result (λ shown. string_bytes shown
+        ≡ spread_from (screen_view screen.now) continuation.now (row_view row.old) text.now) }
+    ensures row { OnOk result (row_view row.new ≡ row_behind (row_view row.old) text.now) }
+{
+    let mut shown = String::new(alloc);
+    let mut rest = text;
+    while let Some((piece, more)) = rest.split_once('\n') {
+        row.push(piece)?;
+        shown.push_str(piece)?;
+        shown.push_str(row_break(alloc, screen, continuation, row)?.as_str())?;
+        row.begin_next();
+        rest = more;
+    }
+    row.push(rest)?;
+    shown.push_str(rest)?;
+    Ok(shown)
+}
+
+/// Returns the column of the cursor of a line that is shown in rows.
+pub fn column_in_rows(
+    alloc: Global,
+    screen: &PromptScreen,
+    continuation: &str,
+    line: &str,
+    cursor: usize,
+) -> Result<usize, AllocError>
+    requires { IsCharBoundary line.now cursor }
+    ensures { IfOk result (λ column. column
+        ≡ column_in_rows (screen_view screen.now) continuation.now (cut_at line.now cursor)) }
+{
+    let (before, rest) = line.split_at(cursor);
+    let mut row = OpenRow::first(alloc);
+    let mut shown = spread(alloc, screen, continuation, &mut row, before)?;
+    let at = shown.len();
+    let more = spread(alloc, screen, continuation, &mut row, rest)?;
+    shown.push_str(more.as_str())?;
+    Ok(screen.column(shown.as_str(), at))
+}
+
+/// Returns a text as an element.
+fn text_element(alloc: Global, text: &str) -> Result<OutputElement, AllocError>
+    ensures { IfOk result (λ element. element_view element ≡ Text text.now) }
+{
+    Ok(OutputElement::Text(String::from_str(alloc, text)?))
+}
+
+/// Returns the break between a row and the next one, in the default attributes if the line has set others.
+fn break_elements(
+    alloc: Global,
+    screen: &PromptScreen,
+    continuation: &str,
+    set: Option<CellAttributes>,
+    row: &OpenRow,
+) -> Result<Vec<OutputElement>, AllocError>
+    ensures { IfOk result (λ elements. map element_view elements.items
+        ≡ break_elements (screen_view screen.now) continuation.now set (row_view row.now)) }
+{
+    let text = row_break(alloc, screen, continuation, row)?;
+    let elements = match set {
+        None => vec![in alloc; OutputElement::Text(text)]?,
+        Some(attributes) => vec![in alloc;
+            OutputElement::AllAttributes(CellAttributes::default()),
+            OutputElement::Text(text),
+            OutputElement::AllAttributes(attributes),
+        ]?,
+    };
+    Ok(elements)
+}
+
+/// Returns the elements of a text that begins in `row`, with breaks. Leaves `row` as the one in which it ends.
+fn elements_of_text(
+    alloc: Global,
+    screen: &PromptScreen,
+    continuation: &str,
+    set: Option<CellAttributes>,
+    row: &mut OpenRow,
+    text: &str,
+) -> Result<Vec<OutputElement>, AllocError>
+    ensures elements { IfOk result (λ elements. map element_view elements.items
+        ≡ elements_of_text (screen_view screen.now) continuation.now set (row_view row.old) text.now) }
+    ensures row { OnOk result (row_view row.new ≡ row_behind (row_view row.old) text.now) }
+{
+    let mut elements = Vec::new(alloc);
+    let mut rest = text;
+    while let Some((piece, more)) = rest.split_once('\n') {
+        row.push(piece)?;
+        elements.push(text_element(alloc, piece)?)?;
+        elements.append(&mut break_elements(alloc, screen, continuation, set, row)?)?;
+        row.begin_next();
+        rest = more;
+    }
+    row.push(rest)?;
+    elements.push(text_element(alloc, rest)?)?;
+    Ok(elements)
+}
+
+/// Returns the attributes of a line after a change.
+fn changed(set: Option<CellAttributes>, change: &AttributeChange) -> CellAttributes
+    ensures { result ≡ with_attribute change.now (unwrap_or set default_attributes) }
+{
+    let mut attributes = set.unwrap_or(CellAttributes::default());
+    attributes.apply_change(change);
+    attributes
+}
+
+/// Returns the elements of a line in rows.
+fn elements_in_rows(
+    alloc: Global,
+    screen: &PromptScreen,
+    continuation: &str,
+    elements: &[OutputElement],
+) -> Result<Vec<OutputElement>, AllocError>
+    ensures { IfOk result (λ shown. map element_view shown.items
+        ≡ elements_in_rows (screen_view screen.now) continuation.now (map element_view elements.now)) }
+{
+    let mut shown = Vec::new(alloc);
+    let mut set = None;
+    let mut row = OpenRow::first(alloc);
+    for element in elements {
+        match element {
+            OutputElement::Attribute(change) => {
+                set = Some(changed(set, change));
+                shown.push(OutputElement::Attribute(*change))?;
+            }
+            OutputElement::AllAttributes(attributes) => {
+                set = Some(*attributes);
+                shown.push(OutputElement::AllAttributes(*attributes))?;
+            }
+            OutputElement::Text(text) => {
+                let mut more = elements_of_text(
+                    alloc,
+                    screen,
+                    continuation,
+                    set,
+                    &mut row,
+                    text.as_str(),
+                )?;
+                shown.append(&mut more)?;
+            }
+        }
+    }
+    Ok(shown)
+}
+
+/// Shows the elements of a line in rows, and returns them with the column of the cursor. Each line feed becomes CR LF
+/// and the continuation prompt. A row that fills its last column gets a space at its end, a cell for the cursor. If
+/// the line has set attributes, prompts and spaces have the default ones.
+///
+/// The column is that of `line`, so the texts of `elements` should be the line.
+pub fn shown_in_rows(
+    alloc: Global,
+    screen: &PromptScreen,
+    continuation: &str,
+    elements: &[OutputElement],
+    line: &str,
+    cursor: usize,
+) -> Result<(Vec<OutputElement>, usize), AllocError>
+    requires { IsCharBoundary line.now cursor }
+    ensures elements { IfOk result (λ shown. map element_view shown.0.items
+        ≡ elements_in_rows (screen_view screen.now) continuation.now (map element_view elements.now)) }
+    ensures column { IfOk result (λ shown. shown.1
+        ≡ column_in_rows (screen_view screen.now) continuation.now (cut_at line.now cursor)) }
+{
+    let column = column_in_rows(alloc, screen, continuation, line, cursor)?;
+    let shown = elements_in_rows(alloc, screen, continuation, elements)?;
+    Ok((shown, column))
+}
