@@ -8,7 +8,7 @@ use std::alloc::{AllocError, Global};
 use std::fs;
 use tw_device::Answer;
 use tw_lineedit::CompletionCandidate;
-use tw_prompt::{Application, Arguments, Prompt};
+use tw_prompt::{Application, Arguments, Prompt, WordBefore};
 use tw_prompt_host::StyledRange;
 use tw_surface::{CellAttributes, ColorAttribute};
 
@@ -62,23 +62,23 @@ impl Application for Explorer {
         cursor: usize,
     ) -> Result<Vec<CompletionCandidate>, AllocError> {
         let mut candidates = Vec::new(alloc);
-        let before = line.get(..cursor).unwrap_or("");
-        let (path, begun) = before.rsplit_once('.').unwrap_or(("", before));
-        let Some(Value::Object(members)) = self.at(path) else {
+        let word = WordBefore::new(line, cursor, &['.']);
+        let path = line.get(..cursor).unwrap_or("").strip_suffix(word.text).unwrap_or("");
+        let Some(Value::Object(members)) = self.at(path.strip_suffix('.').unwrap_or(path)) else {
             return Ok(candidates);
         };
         for (name, _) in members {
-            if name.as_str().starts_with(begun) {
-                candidates.push(CompletionCandidate {
-                    range: cursor.saturating_sub(begun.len())..cursor,
-                    text: name.clone()?,
-                })?;
-            }
+            word.offer(alloc, &mut candidates, name.as_str())?;
         }
         Ok(candidates)
     }
 
-    fn colours(&self, alloc: Global, line: &str) -> Result<Vec<StyledRange>, AllocError> {
+    fn colours(
+        &self,
+        alloc: Global,
+        line: &str,
+        _cursor: usize,
+    ) -> Result<Vec<StyledRange>, AllocError> {
         let mut red = CellAttributes::default();
         red.foreground = ColorAttribute::PaletteIndex(1);
         let unknown = StyledRange {

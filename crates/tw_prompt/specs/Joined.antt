@@ -8,6 +8,8 @@ use Rattle.tw_input.specs.Modifiers.{modifier_bits, modifiers_of, none}
 use Rattle.tw_surface.specs.Characters.{is_printable}
 use Rattle.tw_terminal.specs.declared.terminal.ScreenSize.{ScreenSize}
 use Rattle.tw_device.specs.Calls.{IsCalled, all_events}
+use Rattle.tw_key_parts.specs.Keys.{is_key}
+use Rattle.tw_prompt_host.specs.Going.{give_up_key}
 use Rattle.tw_prompt.specs.Sizes.{fitting}
 use Rattle.tw_prompt.specs.declared.events.Pending.{Pending}
 use Rattle.tw_prompt.specs.declared.events.Pending.TheVariants.{Nothing, Event, Fault}
@@ -69,6 +71,18 @@ typed_in_all pieces = flat_map typed_in pieces
 
 abbrev pub told_in_all : List Piece → List EventView
 told_in_all pieces = flat_map told_in pieces
+
+-- a Wake, or nothing
+abbrev pub wake_if : Bool → List EventView
+wake_if true = Wake ∷ []
+wake_if false = []
+
+-- after the key that gives a search up comes a Wake, with which the prompt's line comes back
+abbrev pub woken : EventView → List EventView
+woken event = event ∷ wake_if (is_key give_up_key event)
+
+abbrev pub woken_all : List EventView → List EventView
+woken_all events = flat_map woken events
 
 -- a character and more of them: the key, or a pasted text
 abbrev pub run_event : ℕ → List ℕ → EventView

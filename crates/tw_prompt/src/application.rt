@@ -24,8 +24,13 @@ pub trait Application {
         cursor: usize,
     ) -> Result<Vec<CompletionCandidate>, AllocError>;
 
-    /// Returns the parts of a line that are shown in attributes of their own.
-    fn colours(&self, alloc: Global, line: &str) -> Result<Vec<StyledRange>, AllocError>;
+    /// Returns the parts of a line with its cursor at the byte offset `cursor` that are shown in attributes of their own.
+    fn colours(
+        &self,
+        alloc: Global,
+        line: &str,
+        cursor: usize,
+    ) -> Result<Vec<StyledRange>, AllocError>;
 }
 
 /// Sets the terminal's size if an event tells a new one.
@@ -48,8 +53,8 @@ fn prepare_colours<A: Application, T: DeviceTerminal>(
     editor: &mut LineEditor<'_, T>,
     host: &mut PreparedHost,
 ) -> Result<(), Error> {
-    let (line, _) = editor.get_line_and_cursor();
-    host.ranges = application.colours(alloc, line)?;
+    let (line, cursor) = editor.get_line_and_cursor();
+    host.ranges = application.colours(alloc, line, cursor)?;
     host.line = String::from_str(alloc, line)?;
     Ok(())
 }

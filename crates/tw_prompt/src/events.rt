@@ -1,11 +1,11 @@
 //! What is typed, as events for the prompt.
 
-ghost use Rattle.std.specs.Prelude.{◌≡◌, ◌++◌, ◌||◌, ℕ, List, [], true, map, string_bytes, IfSome};
+ghost use Rattle.std.specs.Prelude.{◌≡◌, ◌++◌, ◌||◌, ℕ, List, [], true, false, map, string_bytes, IfSome};
 ghost use Rattle.std.specs.List.{list_all};
 ghost use Rattle.tw_input.specs.EventView.{event_view};
 ghost use Rattle.tw_device.specs.Told.{answer_events};
 ghost use Rattle.tw_surface.specs.Characters.{is_printable};
-ghost use Rattle.tw_prompt.specs.Joined.{Moves, Piece, Pieced, is_pending, keys_of, pending_events, run_event, told_in_all, typed_key};
+ghost use Rattle.tw_prompt.specs.Joined.{Moves, Piece, Pieced, is_pending, keys_of, pending_events, run_event, told_in_all, typed_key, wake_if, woken_all};
 
 use crate::joined::{fitted, printable_in, typed_key};
 use crate::typed::{PIECE, Typed};
@@ -14,6 +14,7 @@ use std::io::Read;
 use std::time::Clock;
 use tw_device::{EventLog, EventSource, KeyReader, SourceState};
 use tw_input::InputEvent;
+use tw_prompt_host::gives_up;
 use tw_terminal::TerminalFault;
 
 /// What is held back behind a run of characters.
@@ -29,13 +30,15 @@ pub enum Pending {
 
 /// The events of a source, as a prompt takes them. A size that no screen has is no event. If the owner lets characters
 /// join, printable ASCII characters that are at hand at once come as one pasted text, so that one edit and one painting
-/// stand for all of them.
+/// stand for all of them. After Ctrl-G comes a Wake, with which the line from before a search comes back.
 #[derive(Drop)]
 pub struct PromptEvents<S> {
     alloc: Global,
     source: S,
     joins: bool,
     pending: Pending,
+    /// True behind the key that gives a search up: a Wake comes next.
+    wakes: bool,
     state: SourceState,
     told: EventLog,
 }
@@ -67,12 +70,14 @@ impl<S: EventSource> PromptEvents<S> {
         ensures source { result.source ≡ source }
         ensures joins { result.joins ≡ joins }
         ensures held { pending_events result.pending ≡ [] }
+        ensures wakes { result.wakes ≡ false }
     {
         PromptEvents {
             alloc,
             source,
             joins,
             pending: Pending::Nothing,
+            wakes: false,
             state: SourceState::Going,
             told: EventLog::new(),
         }
@@ -84,6 +89,7 @@ impl<S: EventSource> PromptEvents<S> {
             self.new.source (pending_events self.new.pending) (answer_events result) }
         ensures empty { pending_events self.new.pending ≡ [] }
         ensures joins { self.new.joins ≡ self.old.joins }
+        ensures wakes { self.new.wakes ≡ self.old.wakes }
         ensures told { self.new.told ≡ self.old.told }
     {
         match std::mem::replace(&mut self.pending, Pending::Nothing) {
@@ -99,6 +105,7 @@ impl<S: EventSource> PromptEvents<S> {
             self.new.source (pending_events self.new.pending) (keys_of result) }
         ensures printable { IfSome result (λ c. (is_printable c ≡ true) × (pending_events self.new.pending ≡ [])) }
         ensures joins { self.new.joins ≡ self.old.joins }
+        ensures wakes { self.new.wakes ≡ self.old.wakes }
         ensures told { self.new.told ≡ self.old.told }
     {
         if !self.source.has_at_hand() {
@@ -127,6 +134,7 @@ impl<S: EventSource> PromptEvents<S> {
             × Moves S.told S.follows self.old.source (pending_events self.old.pending)
             self.new.source (pending_events self.new.pending) (map typed_key more) }
         ensures joins { self.new.joins ≡ self.old.joins }
+        ensures wakes { self.new.wakes ≡ self.old.wakes }
         ensures told { self.new.told ≡ self.old.told }
     {
         for turn in 0..u64::MAX {
@@ -151,6 +159,7 @@ impl<S: EventSource> PromptEvents<S> {
             × Moves S.told S.follows self.old.source (pending_events self.old.pending)
             self.new.source (pending_events self.new.pending) (map typed_key more) }
         ensures joins { self.new.joins ≡ self.old.joins }
+        ensures wakes { self.new.wakes ≡ self.old.wakes }
         ensures told { self.new.told ≡ self.old.told }
     {
         let mut run = String::new(self.alloc);
@@ -171,6 +180,7 @@ impl<S: EventSource> PromptEvents<S> {
             × Pieced S.told S.follows self.old.joins self.old.source (pending_events self.old.pending)
             self.new.source (pending_events self.new.pending) pieces }
         ensures joins { self.new.joins ≡ self.old.joins }
+        ensures wakes { self.new.wakes ≡ self.old.wakes }
         ensures told { self.new.told ≡ self.old.told }
     {
         for turn in 0..u64::MAX {
@@ -195,15 +205,23 @@ impl<S: EventSource> EventSource for PromptEvents<S> {
 
     ghost state = { λ it. it.state };
 
-    ghost at_hand = { λ it. is_pending it.pending || S.at_hand it.source };
+    ghost at_hand = { λ it. it.wakes || (is_pending it.pending || S.at_hand it.source) };
 
-    ghost follows = { λ old new events. (pieces : List Piece) × (events ≡ told_in_all pieces)
+    ghost follows = { λ old new events. (pieces : List Piece)
+        × (wake_if old.wakes ++ woken_all (told_in_all pieces) ≡ events ++ wake_if new.wakes)
         × Pieced S.told S.follows old.joins old.source (pending_events old.pending) new.source (pending_events new.pending) pieces
         × (new.joins ≡ old.joins) };
 
     fn next_event(&mut self) -> Result<Option<InputEvent>, TerminalFault> {
+        if self.wakes {
+            self.wakes = false;
+            self.told = self.told.with_event(&InputEvent::Wake);
+            self.state = SourceState::Going;
+            return Ok(Some(InputEvent::Wake));
+        }
         match self.find() {
             Ok(Some(event)) => {
+                self.wakes = gives_up(&event);
                 self.told = self.told.with_event(&event);
                 self.state = SourceState::Going;
                 Ok(Some(event))
@@ -220,6 +238,6 @@ impl<S: EventSource> EventSource for PromptEvents<S> {
     }
 
     fn has_at_hand(&self) -> bool {
-        !matches!(self.pending, Pending::Nothing) || self.source.has_at_hand()
+        self.wakes || !matches!(self.pending, Pending::Nothing) || self.source.has_at_hand()
     }
 }

@@ -7,6 +7,7 @@
 
 mod application;
 mod arguments;
+mod brackets;
 mod events;
 mod joined;
 mod keys;
@@ -16,9 +17,11 @@ mod prompt;
 mod sizes;
 mod streams;
 mod typed;
+mod words;
 
 pub use application::{Application, read_with};
 pub use arguments::Arguments;
+pub use brackets::with_brackets;
 pub use events::{Pending, PromptEvents, TypedEvents};
 pub use keys::{AllKeys, all_keys};
 pub use listings::read_listing;
@@ -27,3 +30,4 @@ pub use prompt::{Prompt, PromptTerminal};
 pub use sizes::{fitting, usable};
 pub use streams::{TerminalInput, TerminalOutput, open_streams};
 pub use typed::Typed;
+pub use words::WordBefore;

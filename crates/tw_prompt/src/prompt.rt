@@ -52,17 +52,19 @@ fn refused(error: io::Error) -> Error {
     }
 }
 
-/// Reads a line of standard input.
+/// Reads a line of standard input, without its end, which is LF or CR LF.
 fn read_plainly(rt: HostRuntime) -> Result<Answer, Error> {
     let mut line = String::new(rt.alloc());
     let count = rt.read_line(&mut line).map_err(refused)?;
     if count == 0 {
         return Ok(Answer::End(line));
     }
-    if line.as_str().ends_with('\n') {
-        let _end = line.pop();
-    }
-    Ok(Answer::Line(line))
+    let text = line.as_str();
+    let text = match text.strip_suffix('\n') {
+        Some(text) => text.strip_suffix('\r').unwrap_or(text),
+        None => text,
+    };
+    Ok(Answer::Line(String::from_str(rt.alloc(), text)?))
 }
 
 impl Prompt<PromptTerminal, PreparedHost, BasicHistory, AllKeys, AllLines> {

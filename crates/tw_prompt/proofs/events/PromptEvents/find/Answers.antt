@@ -10,6 +10,7 @@ pub loop-turn-init : goal.loop-turn-init
 loop-turn-init g c = record {
   pieces = ([], refl, (tt, moves_nothing g.S.EventSource.told g.S.EventSource.follows c.args.self.now.source (pending_events c.args.self.now.pending)));
   joins = refl;
+  wakes = refl;
   told = refl;
 }
 
@@ -72,5 +73,6 @@ loop-turn-preserved g c =
         pieced_more told follows c.args.self.now.joins _ _ _ _ _ _ inv.0 inv.2 piece tt moves,
       );
       joins = c.next_typed.ensures.joins ∙ c.loop-turn.invariant.joins;
+      wakes = c.next_typed.ensures.wakes ∙ c.loop-turn.invariant.wakes;
       told = c.next_typed.ensures.told ∙ c.loop-turn.invariant.told;
     }

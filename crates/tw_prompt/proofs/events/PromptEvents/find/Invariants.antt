@@ -8,5 +8,6 @@ invariant-loop-turn g l = record {
   pieces : (pieces : List Piece) × (told_in_all pieces ≡ [])
       × Pieced g.S.EventSource.told g.S.EventSource.follows l.fn.self.joins l.fn.self.source (pending_events l.fn.self.pending) l.self.source (pending_events l.self.pending) pieces;
   joins : l.self.joins ≡ l.fn.self.joins;
+  wakes : l.self.wakes ≡ l.fn.self.wakes;
   told : l.self.told ≡ l.fn.self.told;
 }

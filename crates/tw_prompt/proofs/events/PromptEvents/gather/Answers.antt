@@ -8,6 +8,7 @@ pub loop-turn-init : goal.loop-turn-init
 loop-turn-init g c = record {
   moves = ([], refl, sym (append-nil (string_bytes c.args.run.now)), moves_nothing g.S.EventSource.told g.S.EventSource.follows c.args.self.now.source (pending_events c.args.self.now.pending));
   joins = refl;
+  wakes = refl;
   told = refl;
 }
 
@@ -28,6 +29,7 @@ loop-turn-preserved g c =
         moves_of told follows _ _ _ _ _ (map typed_key (more ++ one ∷ [])) (sym (keys_more more one)) moves,
       );
       joins = c.next_character.ensures.joins ∙ inv.joins;
+      wakes = c.next_character.ensures.wakes ∙ inv.wakes;
       told = c.next_character.ensures.told ∙ inv.told;
     }
 

@@ -10,5 +10,6 @@ invariant-loop-turn g l = record {
   moves : (more : List ℕ) × (list_all is_printable more ≡ true) × (string_bytes l.run ≡ string_bytes l.fn.run ++ more)
       × Moves g.S.EventSource.told g.S.EventSource.follows l.fn.self.source (pending_events l.fn.self.pending) l.self.source (pending_events l.self.pending) (map typed_key more);
   joins : l.self.joins ≡ l.fn.self.joins;
+  wakes : l.self.wakes ≡ l.fn.self.wakes;
   told : l.self.told ≡ l.fn.self.told;
 }
