@@ -249,8 +249,8 @@ fn elements_in_rows(
 }
 
 /// Shows the elements of a line in rows, and returns them with the column of the cursor. Each line feed becomes CR LF
-/// and the continuation prompt. A row that fills its last column gets a space at its end, a cell for the cursor. If
-/// the line has set attributes, prompts and spaces have the default ones.
+/// and the continuation prompt. A row that fills its last column gets a space at its end, a cell for the cursor. Both
+/// have the default attributes if the line sets any.
 ///
 /// The column is that of `line`, so the texts of `elements` should be the line.
 pub fn shown_in_rows(
