@@ -1,0 +1,11 @@
+pub mod RowSpreads
+pub mod RowTexts
+pub mod TypedColumns
+pub mod SpreadLines
+pub mod ColumnLemmas
+pub mod RowSceneLemmas
+pub mod RowStationLemmas
+pub mod PlainRowLemmas
+pub mod CellLemmas
+pub mod RowRunLemmas
+mod WorkedRows
