@@ -9,3 +9,4 @@ pub mod PlainRowLemmas
 pub mod CellLemmas
 pub mod RowRunLemmas
 mod WorkedRows
+mod WorkedRowRuns

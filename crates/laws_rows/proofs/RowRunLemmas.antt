@@ -48,12 +48,12 @@ seen-le (Some h) r = omega arith
 
 module _ {V A C : Type 0} (rules : HostRules V) (pen : Pen A C) where
   pub row_paintings : RowPaintings rules pen
-  row_paintings f rows cuts v a earlier station later before h =
+  row_paintings f rows cuts v a earlier station later are before h =
       let scenes = map-append (sized_scene rules) earlier (station ∷ []) in
       record {
         batches = sized_batches_are (map (sized_scene rules) (earlier ++ station ∷ [])) ∙ sym (played-is rules h.comes);
         beginning = first_batches rules h.comes;
-        shown = rw scenes (shows_row_stations pen rows cuts v a (map (sized_scene rules) earlier) (sized_scene rules station) before h.at_start h.in_sight h.are.before_it h.are.it h.low);
+        shown = rw scenes (shows_row_stations pen rows cuts v a (map (sized_scene rules) earlier) (sized_scene rules station) before h.at_start h.in_sight are.before_it are.it h.low);
       }
 
   -- the closing batch of a run whose last painting is that of a station, on a screen whose cursor stands where it left it
@@ -72,26 +72,26 @@ module _ {V A C : Type 0} (rules : HostRules V) (pen : Pen A C) where
   same_cols station (WithRows first others rows) = refl
 
   pub row_closings : RowClosings rules pen
-  row_closings f rows cuts v w a kept earlier station later before h none wide =
+  row_closings f rows cuts v w a kept earlier station later are before h none wide =
       let scenes = map-append (sized_scene rules) earlier (station ∷ []) in
-      let fresh = (row_paintings f rows cuts v a earlier station later before h).shown.fresh in
-      let cols = same_cols (sized_scene rules station) h.are.it in
+      let fresh = (row_paintings f rows cuts v a earlier station later are before h).shown.fresh in
+      let cols = same_cols (sized_scene rules station) are.it in
       let closing = closing-is rules h.comes none ∙ ap (λ l. closing_batch (map shot_of l)) scenes ∙ closing_is (map (sized_scene rules) earlier) (sized_scene rules station) in (
         all_taken rules h.comes none,
-        closes f rows cuts w (top_row rows before.row (paintings_with_rows rules pen earlier station h.are)) kept station h.are.it (play_stations rules pen rows cuts v a (earlier ++ station ∷ []) before)
+        closes f rows cuts w (top_row rows before.row (paintings_with_rows rules pen earlier station are)) kept station are.it (play_stations rules pen rows cuts v a (earlier ++ station ∷ []) before)
             closing wide (some-rows rows before.row h.in_sight) (rw cols at fresh.row),
       )
 
   pub row_calls_stack : RowCallsStack rules pen
-  row_calls_stack f g rows cuts v w a kept again earlier station none others second later before h nothing wide k =
+  row_calls_stack f g rows cuts v w a kept again earlier station none others second later are are' before h nothing wide k =
       let shown : PictureOf C = resized cuts (blank_of pen) station.size.cols w (play_stations rules pen rows cuts v a (earlier ++ station ∷ []) before) in
       let entered : PictureOf C = closed_by rules pen rows cuts station.size.cols w kept f (play_stations rules pen rows cuts v a (earlier ++ station ∷ []) before) in
-      let last : ℕ = top_row rows before.row (paintings_with_rows rules pen earlier station h.are) + sheet_last_row station.size.cols (painted_with_rows rules pen station h.are.it).sheet in
-      let paintings : List (SheetPainting C) = paintings_with_rows rules pen others second k.are in
+      let last : ℕ = top_row rows before.row (paintings_with_rows rules pen earlier station are) + sheet_last_row station.size.cols (painted_with_rows rules pen station are.it).sheet in
+      let paintings : List (SheetPainting C) = paintings_with_rows rules pen others second are' in
       let s : ℕ = top_row rows entered.row paintings in
-      let closed : IsClosedSheet rows w (blank_of pen) last shown entered = (row_closings f rows cuts v w a kept earlier station none before h nothing wide).1 in
-      let fresh : ShowsWithRows rules pen rows cuts w again g others second k.are entered = row_paintings g rows cuts w again others second later entered k in
-      let cols = same_cols (sized_scene rules second) k.are.it in
+      let closed : IsClosedSheet rows w (blank_of pen) last shown entered = (row_closings f rows cuts v w a kept earlier station none are before h nothing wide).1 in
+      let fresh : ShowsWithRows rules pen rows cuts w again g others second are' entered = row_paintings g rows cuts w again others second later are' entered k in
+      let cols = same_cols (sized_scene rules second) are'.it in
       let up : s ≤ entered.row = top-le rows entered.row paintings in
       let down : entered.row ≤ last + 1 = omega (arith, closed.row, seen-le rows (last + 1)) in (
         fresh,
@@ -119,9 +119,9 @@ module _ {V A C : Type 0} (rules : HostRules V) (pen : Pen A C) where
       (heals_row_stations pen rows cuts v a earlier first (more ++ station ∷ []) before some texts cleared all.0 (with_last pen more station all.1 it) room)
 
   pub row_healings : RowHealings rules pen
-  row_healings f rows earlier since station later h =
+  row_healings f rows earlier since station later are h =
       let scenes = map-append (sized_scene rules) since (station ∷ []) in
-      let cols = same_cols (sized_scene rules station) h.are.it in
+      let cols = same_cols (sized_scene rules station) are.it in
       let mark : Option Mark = mark_after None (map shot_of (map (sized_scene rules) earlier)) in
       let played : List Batch = map (λ sized. sized.batch) (sized_after mark (map (sized_scene rules) since ++ sized_scene rules station ∷ [])) in
       let all : batches (map shot_of (map (sized_scene rules) earlier ++ (map (sized_scene rules) since ++ sized_scene rules station ∷ [])))
@@ -134,19 +134,19 @@ module _ {V A C : Type 0} (rules : HostRules V) (pen : Pen A C) where
         beginning = first_since rules earlier since h.comes;
         fresh = λ cuts v a before.
             let after : PictureOf C = play_after pen rows cuts v a mark (map (sized_scene rules) since ++ sized_scene rules station ∷ []) before in
-            rw scenes (subst (λ n. IsFreshSheet n 0 (blank_of pen) (painted_with_rows rules pen station h.are.it).sheet after) cols
+            rw scenes (subst (λ n. IsFreshSheet n 0 (blank_of pen) (painted_with_rows rules pen station are.it).sheet after) cols
             (healed rows cuts v a (map (sized_scene rules) earlier) (map (sized_scene rules) since) (sized_scene rules station) before
-            h.in_sight (text_prompts rules earlier) (rw scenes at h.cleared) h.are.before_it h.are.it h.low));
+            h.in_sight (text_prompts rules earlier) (rw scenes at h.cleared) are.before_it are.it h.low));
       }
 
   pub healed_row_closings : HealedRowClosings rules pen
-  healed_row_closings f rows earlier since station later h none =
-      let fresh = (row_healings f rows earlier since station later h).fresh in
-      let last : ℕ = sheet_last_row station.size.cols (painted_with_rows rules pen station h.are.it).sheet in
+  healed_row_closings f rows earlier since station later are h none =
+      let fresh = (row_healings f rows earlier since station later are h).fresh in
+      let last : ℕ = sheet_last_row station.size.cols (painted_with_rows rules pen station are.it).sheet in
       let from_0 : 0 + last ≡ last = omega arith in
       let closing = closing-is rules h.comes none ∙ ap (λ l. closing_batch (map shot_of l)) (map-append (sized_scene rules) (earlier ++ since) (station ∷ []))
       ∙ closing_is (map (sized_scene rules) (earlier ++ since)) (sized_scene rules station) in (
         all_taken rules h.comes none ∙ ap (λ (stations : List (Station V)). f.terminal.batches ++ batches_of rules stations) (up_to-is rules earlier since station),
-        λ cuts v w a kept before wide. rw from_0 at (closes f rows cuts w 0 kept station h.are.it (play_since rules pen rows cuts v a earlier (since ++ station ∷ []) before)
+        λ cuts v w a kept before wide. rw from_0 at (closes f rows cuts w 0 kept station are.it (play_since rules pen rows cuts v a earlier (since ++ station ∷ []) before)
             closing wide h.in_sight (fresh cuts v a before).row),
       )

@@ -35,9 +35,8 @@ module _ {V A C : Type 0} (rules : HostRules V) (pen : Pen A C) where
   painted_with_rows station it = painting_of pen (simple_at pen (sized_scene rules station) it)
 
   -- The run from a frame comes to a station and paints it. So far every station was simple or had rows, and was low enough; a screen is entered at column 0 of a row in sight.
-  pub record ComesWithRows (rows : Option ℕ) (f : Frame V) (earlier : List (Station V)) (station : Station V) (later : List (Station V)) (before : PictureOf C) : Type 0 where
+  pub record ComesWithRows (rows : Option ℕ) (f : Frame V) (earlier : List (Station V)) (station : Station V) (later : List (Station V)) (are : AreRowStations earlier station) (before : PictureOf C) : Type 0 where
     pub comes : Comes rules f earlier station later
-    pub are : AreRowStations earlier station
     pub low : All (HasRoom rows pen) (simple_stations earlier station are)
     pub at_start : before.col ≡ 0
     pub in_sight : InSight rows before.row
@@ -52,15 +51,15 @@ module _ {V A C : Type 0} (rules : HostRules V) (pen : Pen A C) where
 
   -- each painting of the run from any frame
   abbrev pub RowPaintings : Type 0
-  RowPaintings = (f : Frame V) (rows : Option ℕ) (cuts : Bool) (v : ℕ) (a : A) (earlier : List (Station V)) (station : Station V) (later : List (Station V)) (before : PictureOf C)
-      → (h : ComesWithRows rows f earlier station later before) → ShowsWithRows rows cuts v a f earlier station h.are before
+  RowPaintings = (f : Frame V) (rows : Option ℕ) (cuts : Bool) (v : ℕ) (a : A) (earlier : List (Station V)) (station : Station V) (later : List (Station V)) (are : AreRowStations earlier station) (before : PictureOf C)
+      → ComesWithRows rows f earlier station later are before → ShowsWithRows rows cuts v a f earlier station are before
 
   -- The closing batch after the last station that is painted leaves the cursor in the row below its last row, at whatever columns the screen then has.
   abbrev pub RowClosings : Type 0
-  RowClosings = (f : Frame V) (rows : Option ℕ) (cuts : Bool) (v w : ℕ) (a kept : A) (earlier : List (Station V)) (station : Station V) (later : List (Station V)) (before : PictureOf C)
-      → (h : ComesWithRows rows f earlier station later before) → All (RendersNothing rules) later → 2 ≤ w
+  RowClosings = (f : Frame V) (rows : Option ℕ) (cuts : Bool) (v w : ℕ) (a kept : A) (earlier : List (Station V)) (station : Station V) (later : List (Station V)) (are : AreRowStations earlier station) (before : PictureOf C)
+      → ComesWithRows rows f earlier station later are before → All (RendersNothing rules) later → 2 ≤ w
       → let cols = station.size.cols in
-      let last = top_row rows before.row (paintings_with_rows earlier station h.are) + sheet_last_row cols (painted_with_rows station h.are.it).sheet in
+      let last = top_row rows before.row (paintings_with_rows earlier station are) + sheet_last_row cols (painted_with_rows station are.it).sheet in
       let shown = play_stations rules pen rows cuts v a (earlier ++ station ∷ []) before in
       ((run_of rules f).taken ≡ f.terminal.batches ++ batches_of rules (earlier ++ station ∷ []))
       × IsClosedSheet rows w (blank_of pen) last (resized cuts (blank_of pen) cols w shown) (closed_by rules pen rows cuts cols w kept f shown)
@@ -68,24 +67,24 @@ module _ {V A C : Type 0} (rules : HostRules V) (pen : Pen A C) where
   -- Two calls stack: a second run that enters the screen where the first one's closing batch left it is fresh, and what the first one showed is as it was, moved up.
   abbrev pub RowCallsStack : Type 0
   RowCallsStack = (f g : Frame V) (rows : Option ℕ) (cuts : Bool) (v w : ℕ) (a kept again : A)
-      (earlier : List (Station V)) (station : Station V) (none : List (Station V)) (others : List (Station V)) (second : Station V) (later : List (Station V)) (before : PictureOf C)
-      → (h : ComesWithRows rows f earlier station none before) → All (RendersNothing rules) none → 2 ≤ w
+      (earlier : List (Station V)) (station : Station V) (none : List (Station V)) (others : List (Station V)) (second : Station V) (later : List (Station V))
+      (are : AreRowStations earlier station) (are_others : AreRowStations others second) (before : PictureOf C)
+      → ComesWithRows rows f earlier station none are before → All (RendersNothing rules) none → 2 ≤ w
       → let cols = station.size.cols in
-      let under = top_row rows before.row (paintings_with_rows earlier station h.are) + sheet_last_row cols (painted_with_rows station h.are.it).sheet + 1 in
+      let under = top_row rows before.row (paintings_with_rows earlier station are) + sheet_last_row cols (painted_with_rows station are.it).sheet + 1 in
       let shown = play_stations rules pen rows cuts v a (earlier ++ station ∷ []) before in
       let entered = closed_by rules pen rows cuts cols w kept f shown in
-      (k : ComesWithRows rows g others second later entered)
-      → let paintings = paintings_with_rows others second k.are in
+      ComesWithRows rows g others second later are_others entered
+      → let paintings = paintings_with_rows others second are_others in
       let s = top_row rows entered.row paintings in
-      ShowsWithRows rows cuts w again g others second k.are entered
+      ShowsWithRows rows cuts w again g others second are_others entered
       × ((r c : ℕ) → r < s → c < second.size.cols → c < narrowest w (cols_of paintings)
       → (play_stations rules pen rows cuts w again (others ++ second ∷ []) entered).cell r c ≡ (resized cuts (blank_of pen) cols w shown).cell (r + (under - s)) c)
 
   -- The run from a frame comes to a station and paints it. The screen was cleared before the first of the stations since then, and these are simple or have rows, and are low enough; those before may be anything.
-  pub record HealsWithRows (rows : Option ℕ) (f : Frame V) (earlier since : List (Station V)) (station : Station V) (later : List (Station V)) : Type 0 where
+  pub record HealsWithRows (rows : Option ℕ) (f : Frame V) (earlier since : List (Station V)) (station : Station V) (later : List (Station V)) (are : AreRowStations since station) : Type 0 where
     pub comes : Comes rules f (earlier ++ since) station later
     pub cleared : begins_cleared (map (sized_scene rules) (since ++ station ∷ [])) ≡ true
-    pub are : AreRowStations since station
     pub low : All (HasRoom rows pen) (simple_stations since station are)
     pub in_sight : InSight rows 0
 
@@ -98,15 +97,15 @@ module _ {V A C : Type 0} (rules : HostRules V) (pen : Pen A C) where
 
   -- each painting since a clearing
   abbrev pub RowHealings : Type 0
-  RowHealings = (f : Frame V) (rows : Option ℕ) (earlier since : List (Station V)) (station : Station V) (later : List (Station V))
-      → (h : HealsWithRows rows f earlier since station later) → ShowsHealedRows rows f earlier since station h.are.it
+  RowHealings = (f : Frame V) (rows : Option ℕ) (earlier since : List (Station V)) (station : Station V) (later : List (Station V)) (are : AreRowStations since station)
+      → HealsWithRows rows f earlier since station later are → ShowsHealedRows rows f earlier since station are.it
 
   -- and the closing batch after the last one, as above
   abbrev pub HealedRowClosings : Type 0
-  HealedRowClosings = (f : Frame V) (rows : Option ℕ) (earlier since : List (Station V)) (station : Station V) (later : List (Station V))
-      → (h : HealsWithRows rows f earlier since station later) → All (RendersNothing rules) later
+  HealedRowClosings = (f : Frame V) (rows : Option ℕ) (earlier since : List (Station V)) (station : Station V) (later : List (Station V)) (are : AreRowStations since station)
+      → HealsWithRows rows f earlier since station later are → All (RendersNothing rules) later
       → ((run_of rules f).taken ≡ f.terminal.batches ++ batches_of rules (earlier ++ (since ++ station ∷ [])))
       × ((cuts : Bool) (v w : ℕ) (a kept : A) (before : PictureOf C) → 2 ≤ w
       → let cols = station.size.cols in
       let shown = play_since rules pen rows cuts v a earlier (since ++ station ∷ []) before in
-      IsClosedSheet rows w (blank_of pen) (sheet_last_row cols (painted_with_rows station h.are.it).sheet) (resized cuts (blank_of pen) cols w shown) (closed_by rules pen rows cuts cols w kept f shown))
+      IsClosedSheet rows w (blank_of pen) (sheet_last_row cols (painted_with_rows station are.it).sheet) (resized cuts (blank_of pen) cols w shown) (closed_by rules pen rows cuts cols w kept f shown))
