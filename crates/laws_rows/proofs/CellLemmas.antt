@@ -107,7 +107,7 @@ module _ (cols : ℕ) (two : 2 ≤ cols) (continuation : List ℕ) (printable : 
 -- ---- a sheet of characters
 
 -- the characters of attributes and printable texts
-printable_typed : (changes : Batch) → list_all is_typing changes ≡ true → list_all is_printable (typed_text changes) ≡ true
+pub printable_typed : (changes : Batch) → list_all is_typing changes ≡ true → list_all is_printable (typed_text changes) ≡ true
 printable_typed [] h = refl
 printable_typed (Text text ∷ more) h =
     let both = and_parts (list_all is_printable text) (list_all is_typing more) h in
@@ -119,7 +119,7 @@ printable_typed (ClearToEndOfScreen x ∷ more) h = absurd (false≢true h)
 printable_typed (CursorPosition x y ∷ more) h = absurd (false≢true h)
 
 -- a line without a pair of CR and LF is printable
-unpaired : (line : Batch) → list_all is_row_typing line ≡ true → has_pair line ≡ false → list_all is_typing line ≡ true
+pub unpaired : (line : Batch) → list_all is_row_typing line ≡ true → has_pair line ≡ false → list_all is_typing line ≡ true
 unpaired [] h p = refl
 unpaired (Text text ∷ more) h p =
     let both = and_parts (are_rows text) (list_all is_row_typing more) h in
@@ -138,11 +138,11 @@ unpaired (ClearScreen x ∷ more) h p = absurd (false≢true h)
 unpaired (ClearToEndOfScreen x ∷ more) h p = absurd (false≢true h)
 unpaired (CursorPosition x y ∷ more) h p = absurd (false≢true h)
 
-abbrev start : Unit {0}
+abbrev pub start : Unit {0}
 start = characters.attributes default_attributes
 
 -- the characters of the space at the edge
-abbrev edge_of : ℕ → Scene → List ℕ
+abbrev pub edge_of : ℕ → Scene → List ℕ
 edge_of cols scene = map (letter_cell characters) (edge_letters characters cols scene)
 
 edge-is : (cols : ℕ) (scene : Scene) → list_all is_printable (edge_of cols scene) ≡ true
@@ -152,7 +152,7 @@ edge-is cols scene = by (ltb 0 (length (text_of scene)) && eqb (length (text_of 
     by true = refl
     by false = refl
 
-no-edge : (cols : ℕ) (scene : Scene) → (length (text_of scene) % cols ≡ 0 → length (text_of scene) ≡ 0) → edge_of cols scene ≡ []
+pub no-edge : (cols : ℕ) (scene : Scene) → (length (text_of scene) % cols ≡ 0 → length (text_of scene) ≡ 0) → edge_of cols scene ≡ []
 no-edge cols scene off = by (length (text_of scene)) off
   where
     by : (n : ℕ) → (n % cols ≡ 0 → n ≡ 0) → map (letter_cell characters) (if ltb 0 n && eqb (n % cols) 0 then record { kept = tt; ch = blank } ∷ [] else []) ≡ []
@@ -160,7 +160,7 @@ no-edge cols scene off = by (length (text_of scene)) off
     by (suc n) off = rw (lt-ltb 0 (suc n) (omega arith), ne_eqb (suc n % cols) 0 (λ e. omega (arith, off e))) refl
 
 -- its first line
-text-is : (cols : ℕ) (scene : Scene) → (sheet_of characters cols scene).text ≡ typed_text scene.prompt ++ (typed_text scene.line ++ edge_of cols scene)
+pub text-is : (cols : ℕ) (scene : Scene) → (sheet_of characters cols scene).text ≡ typed_text scene.prompt ++ (typed_text scene.line ++ edge_of cols scene)
 text-is cols scene =
     map-append (letter_cell characters) (letters_of characters start scene.prompt) (letters_of characters start scene.line ++ edge_letters characters cols scene)
     ∙ ap (λ (l : List ℕ). l ++ map (letter_cell characters) (letters_of characters start scene.line ++ edge_letters characters cols scene)) (chars-typed characters start scene.prompt)
@@ -168,37 +168,64 @@ text-is cols scene =
     ∙ ap (λ (l : List ℕ). l ++ edge_of cols scene) (chars-typed characters start scene.line))
 
 -- and those of a preview
-preview-is : (elements : Batch) → map (map (letter_cell characters)) (lines_of_letters (letters_of characters start elements)) ≡ lines_of (typed_text elements)
+pub preview-is : (elements : Batch) → map (map (letter_cell characters)) (lines_of_letters (letters_of characters start elements)) ≡ lines_of (typed_text elements)
 preview-is elements = lines-chars (letters_of characters start elements) ∙ ap lines_of (chars-typed characters start elements)
 
-module _ (cols s : ℕ) (scene : Scene) (shown : PictureOf ℕ) where
-  -- a line of rows
-  lines_below : (h : HasPlainRows cols scene) → IsFreshSheet cols s blank (sheet_of characters cols (folded cols scene (first_row scene.line) (other_rows scene.line))) shown
-      → let end = edge_space cols (place_behind cols scene scene.line) ++ lower_changes scene.lower in
-      AreLinesShown cols s blank (lines_of (typed_text scene.prompt ++ (typed_text scene.line ++ typed_text end))) shown
-  lines_below h fresh =
-      let end : Batch = edge_space cols (place_behind cols scene scene.line) ++ lower_changes scene.lower in
-      let other : Scene = folded cols scene (first_row scene.line) (other_rows scene.line) in
+module _ (cols : ℕ) (scene : Scene) (h : HasPlainRows cols scene) where
+  -- the space at the edge, and what stands under the line
+  abbrev pub end : Batch
+  end = edge_space cols (place_behind cols scene scene.line) ++ lower_changes scene.lower
+
+  abbrev pub other : Scene
+  other = folded cols scene (first_row scene.line) (other_rows scene.line)
+
+  -- the prompt and the first row
+  abbrev pub head : List ℕ
+  head = typed_text scene.prompt ++ typed_text (first_row scene.line)
+
+  abbrev pub below : List (List ℕ)
+  below = lines_of (typed_text (other_rows scene.line) ++ typed_text end)
+
+  pub folded_text : (sheet_of characters cols other).text ≡ head
+  folded_text =
+      let prompt : List ℕ = typed_text scene.prompt in
+      let first : List ℕ = typed_text (first_row scene.line) in
+      text-is cols other ∙ ap (λ (l : List ℕ). prompt ++ (first ++ l)) (no-edge cols other h.off_edge) ∙ ap (λ (l : List ℕ). prompt ++ l) (append-nil first)
+
+  pub folded_lower : (sheet_of characters cols other).lower ≡ below
+  folded_lower = preview-is (other_rows scene.line ++ end) ∙ ap lines_of (typed-both (other_rows scene.line) end)
+
+  -- the lines of all that is typed
+  pub folded_lines : lines_of (typed_text scene.prompt ++ (typed_text scene.line ++ typed_text end)) ≡ head ∷ below
+  folded_lines =
       let prompt : List ℕ = typed_text scene.prompt in
       let first : List ℕ = typed_text (first_row scene.line) in
       let others : List ℕ = typed_text (other_rows scene.line) in
-      let text : (sheet_of characters cols other).text ≡ prompt ++ first =
-      text-is cols other ∙ ap (λ (l : List ℕ). prompt ++ (first ++ l)) (no-edge cols other h.off_edge) ∙ ap (λ (l : List ℕ). prompt ++ l) (append-nil first) in
-      let lower : (sheet_of characters cols other).lower ≡ lines_of (others ++ typed_text end) = preview-is (other_rows scene.line ++ end) ∙ ap lines_of (typed-both (other_rows scene.line) end) in
-      let all : prompt ++ (typed_text scene.line ++ typed_text end) ≡ (prompt ++ first) ++ (cr ∷ lf ∷ (others ++ typed_text end)) =
+      let all : prompt ++ (typed_text scene.line ++ typed_text end) ≡ head ++ (cr ∷ lf ∷ (others ++ typed_text end)) =
       ap (λ (l : List ℕ). prompt ++ (l ++ typed_text end)) (line_text scene.line h.pair)
       ∙ ap (λ (l : List ℕ). prompt ++ l) (append_assoc first (cr ∷ lf ∷ others) (typed_text end))
       ∙ sym (append_assoc prompt first (cr ∷ lf ∷ (others ++ typed_text end))) in
       let plain = both-printable prompt first (printable_typed scene.prompt h.prompt) (printable_typed (first_row scene.line) (first_typed scene.line h.line)) in
-      let rows : rows_of_line cols (prompt ++ first) ≡ 1 + length (prompt ++ first) / cols = rows-off-edge cols (length (prompt ++ first)) h.wide h.off_edge in
-      let from : s + length (prompt ++ first) / cols + 1 ≡ s + rows_of_line cols (prompt ++ first) = omega (arith, rows) in
-      let shown_first : IsTextShown cols s blank (prompt ++ first) shown = subst (λ (l : List ℕ). IsTextShown cols s blank l shown) text fresh.shown in
-      let below : AreLinesShown cols (s + length (sheet_of characters cols other).text / cols + 1) blank (lines_of (others ++ typed_text end)) shown =
-      subst (λ (ls : List (List ℕ)). AreLinesShown cols (s + length (sheet_of characters cols other).text / cols + 1) blank ls shown) lower fresh.below in
-      let under : AreLinesShown cols (s + length (prompt ++ first) / cols + 1) blank (lines_of (others ++ typed_text end)) shown =
-      subst (λ (l : List ℕ). AreLinesShown cols (s + length l / cols + 1) blank (lines_of (others ++ typed_text end)) shown) text below in
-      subst (λ (ls : List (List ℕ)). AreLinesShown cols s blank ls shown) (sym (ap lines_of all ∙ ends_there (prompt ++ first) (others ++ typed_text end) plain))
-      (shown_first, rw from at under)
+      ap lines_of all ∙ ends_there head (others ++ typed_text end) plain
+
+  pub head_rows : rows_of_line cols head ≡ 1 + length head / cols
+  head_rows = rows-off-edge cols (length head) h.wide h.off_edge
+
+module _ (cols s : ℕ) (scene : Scene) (shown : PictureOf ℕ) where
+  -- a line of rows
+  lines_below : (h : HasPlainRows cols scene) → IsFreshSheet cols s blank (sheet_of characters cols (other cols scene h)) shown
+      → AreLinesShown cols s blank (lines_of (typed_text scene.prompt ++ (typed_text scene.line ++ typed_text (end cols scene h)))) shown
+  lines_below h fresh =
+      let text = folded_text cols scene h in
+      let first : List ℕ = head cols scene h in
+      let lines : List (List ℕ) = below cols scene h in
+      let sheet_text : List ℕ = (sheet_of characters cols (other cols scene h)).text in
+      let from : s + length first / cols + 1 ≡ s + rows_of_line cols first = omega (arith, head_rows cols scene h) in
+      let shown_first : IsTextShown cols s blank first shown = subst (λ (l : List ℕ). IsTextShown cols s blank l shown) text fresh.shown in
+      let under : AreLinesShown cols (s + length sheet_text / cols + 1) blank lines shown =
+      subst (λ (ls : List (List ℕ)). AreLinesShown cols (s + length sheet_text / cols + 1) blank ls shown) (folded_lower cols scene h) fresh.below in
+      let under_first : AreLinesShown cols (s + length first / cols + 1) blank lines shown = subst (λ (l : List ℕ). AreLinesShown cols (s + length l / cols + 1) blank lines shown) text under in
+      subst (λ (ls : List (List ℕ)). AreLinesShown cols s blank ls shown) (sym (folded_lines cols scene h)) (shown_first, rw from at under_first)
 
   -- a line of one row
   line_alone : list_all is_typing scene.prompt ≡ true → list_all is_typing scene.line ≡ true → IsFreshSheet cols s blank (sheet_of characters cols scene) shown
@@ -214,14 +241,14 @@ module _ (cols s : ℕ) (scene : Scene) (shown : PictureOf ℕ) where
 -- ---- a scene that shows a line
 
 module _ (cols : ℕ) (prompt continuation before rest : List ℕ) (scene : Scene) (h : ShowsLine cols prompt continuation before rest scene) where
-  line-is : typed_text scene.line ≡ spread cols continuation (length prompt) (before ++ rest)
+  pub line-is : typed_text scene.line ≡ spread cols continuation (length prompt) (before ++ rest)
   line-is = h.line_is ∙ sym (spread-both cols continuation (length prompt) before rest)
 
-  rows-typed : list_all is_row_character (before ++ rest) ≡ true
+  pub rows-typed : list_all is_row_character (before ++ rest) ≡ true
   rows-typed = list_all-append is_row_character before rest ∙ and_from (list_all is_row_character before) (list_all is_row_character rest) h.printable.rows_before h.printable.rows_behind
 
   -- with a pair of CR and LF it has rows
-  has_rows : has_pair scene.line ≡ true → HasPlainRows cols scene
+  pub has_rows : has_pair scene.line ≡ true → HasPlainRows cols scene
   has_rows pair =
       let first : List ℕ = typed_text (first_row scene.line) in
       let others : List ℕ = typed_text (other_rows scene.line) in
@@ -244,14 +271,14 @@ module _ (cols : ℕ) (prompt continuation before rest : List ℕ) (scene : Scen
       }
 
   -- without one it is plain
-  is_plain_scene : has_pair scene.line ≡ false → IsPlain scene
+  pub is_plain_scene : has_pair scene.line ≡ false → IsPlain scene
   is_plain_scene none = record { prompt = h.prompt_typing; line = unpaired scene.line h.line_typing none; lower = h.lower }
 
   -- the cursor
   abbrev at : ℕ
   at = length (typed_text scene.prompt) + scene.column
 
-  prompt_tip : IsTip cols 0 (length (typed_text scene.prompt)) (place_after_all cols (before_line scene.prompt) origin)
+  pub prompt_tip : IsTip cols 0 (length (typed_text scene.prompt)) (place_after_all cols (before_line scene.prompt) origin)
   prompt_tip =
       let all : Batch = scene.prompt ++ AllAttributes default_attributes ∷ [] in
       let typing : list_all is_typing all ≡ true = list_all-append is_typing scene.prompt (AllAttributes default_attributes ∷ []) ∙ and_from (list_all is_typing scene.prompt) true h.prompt_typing refl in

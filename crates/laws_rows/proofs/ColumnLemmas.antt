@@ -89,6 +89,15 @@ cell-behind cols continuation from n ch text =
     let same = before-row cols n continuation ch it.0 it.1 in
     rw (it.2, same.0, same.1) refl
 
+-- what comes after a row and its edge
+seam : (cols from n : ℕ) (continuation rest : List ℕ) (p : Place) → 0 < cols → IsTip cols from n p
+    → after cols (row_edge cols n ++ (cr ∷ lf ∷ (continuation ++ rest))) p ≡ after cols rest (after cols continuation (record { x = 0; y = pos (from + rows_taken cols n) }))
+seam cols from n continuation rest p some tip =
+    let edge : List ℕ = row_edge cols n in
+    after-append cols edge (cr ∷ lf ∷ (continuation ++ rest)) p
+    ∙ after-append cols continuation rest (after cols (cr ∷ lf ∷ []) (after cols edge p))
+    ∙ ap (λ q. after cols rest (after cols continuation q)) (sym (after-append cols edge (cr ∷ lf ∷ []) p) ∙ ended cols from n p some tip)
+
 abbrev leads : ℕ → List ℕ → ℕ → List ℕ → Place → Place
 leads cols continuation n text p = begins_at cols 1 (after cols (spread cols continuation n text) p)
 
@@ -110,19 +119,34 @@ spread-leads cols continuation from n (ch ∷ text) p some c h tip =
         let rest = spread cols continuation (length continuation) text in
         let begun : IsTip cols below (0 + length continuation) (after cols continuation start) = tip-typed cols below 0 continuation start some c (tip-start cols below) in
         let same : 0 + length continuation ≡ length continuation = omega arith in
-        let seam : after cols (row_edge cols n ++ (cr ∷ lf ∷ (continuation ++ rest))) p ≡ after cols rest (after cols continuation start) =
-        seams cols (row_edge cols n) continuation rest p ∙ ap (λ q. after cols rest (after cols continuation q)) (ended cols from n p some tip) in
-        rw e (ap (begins_at cols 1) seam ∙ so below (length continuation) (after cols continuation start) (rw same at begun) ∙ cell-below cols (length continuation) from n text)
-      where
-        seams : (cols : ℕ) (edge continuation rest : List ℕ) (p : Place)
-            → after cols (edge ++ (cr ∷ lf ∷ (continuation ++ rest))) p ≡ after cols rest (after cols continuation (after cols (edge ++ cr ∷ lf ∷ []) p))
-        seams cols edge continuation rest p =
-            after-append cols edge (cr ∷ lf ∷ (continuation ++ rest)) p
-            ∙ after-append cols continuation rest (after cols (cr ∷ lf ∷ []) (after cols edge p))
-            ∙ ap (λ q. after cols rest (after cols continuation q)) (sym (after-append cols edge (cr ∷ lf ∷ []) p))
+        rw e (ap (begins_at cols 1) (seam cols from n continuation rest p some tip) ∙ so below (length continuation) (after cols continuation start) (rw same at begun) ∙ cell-below cols (length continuation) from n text)
     by mine so false e =
         let piece = printable-piece ch (printable-row ch mine e) in
         rw e (rw piece (so from (n + 1) (next_place cols (Wide 1) p) (tip-step cols from n p some tip)) ∙ cell-behind cols (length continuation) from n ch text)
+
+-- its last row
+pub spread-tip : (cols : ℕ) (continuation : List ℕ) (from n : ℕ) (text : List ℕ) (p : Place) → 0 < cols
+    → list_all is_printable continuation ≡ true → list_all is_row_character text ≡ true → IsTip cols from n p
+    → (last : ℕ) × IsTip cols last (columns_behind (length continuation) n text) (after cols (spread cols continuation n text) p)
+spread-tip cols continuation from n [] p some c h tip = (from, tip)
+spread-tip cols continuation from n (ch ∷ text) p some c h tip =
+    let both = and_parts (is_row_character ch) (list_all is_row_character text) h in
+    by both.0 (λ f m q t. spread-tip cols continuation f m text q some c both.1 t) (eqb ch lf) refl
+  where
+    by : is_row_character ch ≡ true
+        → ((f m : ℕ) (q : Place) → IsTip cols f m q → (last : ℕ) × IsTip cols last (columns_behind (length continuation) m text) (after cols (spread cols continuation m text) q))
+        → (x : Bool) → eqb ch lf ≡ x → (last : ℕ) × IsTip cols last (columns_behind (length continuation) n (ch ∷ text)) (after cols (spread cols continuation n (ch ∷ text)) p)
+    by mine so true e =
+        let below = from + rows_taken cols n in
+        let start : Place = record { x = 0; y = pos below } in
+        let rest = spread cols continuation (length continuation) text in
+        let begun : IsTip cols below (0 + length continuation) (after cols continuation start) = tip-typed cols below 0 continuation start some c (tip-start cols below) in
+        let same : 0 + length continuation ≡ length continuation = omega arith in
+        let went = so below (length continuation) (after cols continuation start) (rw same at begun) in
+        rw e (went.0, rw (seam cols from n continuation rest p some tip) went.1)
+    by mine so false e =
+        let piece = printable-piece ch (printable-row ch mine e) in
+        rw e (rw piece (so from (n + 1) (next_place cols (Wide 1) p) (tip-step cols from n p some tip)))
 
 -- ---- the cursor
 

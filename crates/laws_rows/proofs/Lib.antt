@@ -7,6 +7,7 @@ pub mod RowSceneLemmas
 pub mod RowStationLemmas
 pub mod PlainRowLemmas
 pub mod CellLemmas
+pub mod LastRowLemmas
 pub mod RowRunLemmas
 mod WorkedRows
 mod WorkedRowRuns

@@ -2,12 +2,13 @@
 use Rattle.std.specs.Prelude.{ℕ, ◌≡◌, ◌≤◌, ◌+◌, eqb, true, false, List, ◌∷◌, ◌++◌, length}
 use Rattle.std.specs.List.{list_all}
 use Rattle.tw_strokes.specs.Strokes.{PictureOf}
-use Rattle.tw_strokes.specs.Sheets.{IsFreshSheet}
+use Rattle.tw_strokes.specs.Sheets.{IsFreshSheet, sheet_last_row}
 use Rattle.tw_surface.specs.Characters.{lf}
 use Rattle.tw_surface.specs.Paintings.{cursor_place}
 use Rattle.tw_surface.specs.PaintingBatches.{SizedScene}
 use Rattle.tw_surface.specs.Pictures.{blank}
 use Rattle.tw_surface.specs.Scenes.{Scene, IsPlainLower, is_typing, typed_text}
+use Rattle.tw_surface.specs.Scenes.Lower.{NoLower}
 use Rattle.tw_screens.specs.Pens.{Pen}
 use Rattle.tw_screens.specs.SceneSheets.{painting_of}
 use Rattle.tw_screens.specs.StyledCells.{characters}
@@ -47,3 +48,10 @@ CellsByDivision = (cols s : ℕ) (prompt continuation before rest : List ℕ) (s
     → ShowsLine cols prompt continuation before rest scene
     → IsFreshSheet cols s blank (painting_of characters (record { scene = plain_folded cols scene; cols = cols })).sheet shown
     → StandInRows cols s (length prompt) (length continuation) before rest shown
+
+-- With nothing under the line, the last row of its painting is that of the cell after the line.
+abbrev pub LastRowByDivision : Type 0
+LastRowByDivision = (cols : ℕ) (prompt continuation before rest : List ℕ) (scene : Scene)
+    → ShowsLine cols prompt continuation before rest scene → scene.lower ≡ NoLower
+    → sheet_last_row cols (painting_of characters (record { scene = plain_folded cols scene; cols = cols })).sheet
+    ≡ rows_down cols (length prompt) (length continuation) (rows_of_text (before ++ rest))

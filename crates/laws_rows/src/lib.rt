@@ -5,7 +5,7 @@
 #![tactic(auto)]
 
 ghost use Rattle.laws_rows.specs.PlainRows.{PlainRowsAreRows};
-ghost use Rattle.laws_rows.specs.RowCells.{CellsByDivision, ShownLinesAreRowStations};
+ghost use Rattle.laws_rows.specs.RowCells.{CellsByDivision, LastRowByDivision, ShownLinesAreRowStations};
 ghost use Rattle.laws_rows.specs.RowColumns.{CursorStandsInItsRow, RowColumnIsSettled, RowColumnLeadsThere};
 ghost use Rattle.laws_rows.specs.RowRuns.{HealedRowClosings, RowCallsStack, RowClosings, RowHealings, RowPaintings};
 ghost use Rattle.laws_rows.specs.RowScenes.{RowsAreAPreview};
@@ -40,6 +40,7 @@ pub fn row_cells<A, C>()
     ensures plain { (pen : Pen A C) → PlainRowsAreRows pen }
     ensures shown { (pen : Pen A C) → ShownLinesAreRowStations pen }
     ensures cells { CellsByDivision }
+    ensures last { LastRowByDivision }
 {}
 
 /// After each painting of a run whose stations are simple or have rows, a screen shows the fresh painting. The closing

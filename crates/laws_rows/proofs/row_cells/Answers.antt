@@ -1,4 +1,5 @@
 use Rattle.laws_rows.proofs.CellLemmas.{cells_by_division, shown_lines_are_row_stations}
+use Rattle.laws_rows.proofs.LastRowLemmas.{last_row_by_division}
 use Rattle.laws_rows.proofs.PlainRowLemmas.{plain_rows_are_rows}
 use Rattle.laws_rows.proofs.row_cells.Goals as goal
 
@@ -10,3 +11,6 @@ returns-clause-shown g c pen = shown_lines_are_row_stations pen
 
 pub returns-clause-cells : goal.returns-clause-cells
 returns-clause-cells g c = cells_by_division
+
+pub returns-clause-last : goal.returns-clause-last
+returns-clause-last g c = last_row_by_division
