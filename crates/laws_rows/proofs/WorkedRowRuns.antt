@@ -3,7 +3,7 @@ use Rattle.std.proofs.Common.{◌≡◌, ℕ, zero, suc, ◌+◌, ◌≤◌, pos
 use Rattle.std.specs.List.{All, AllByRecursion}
 use Rattle.std.proofs.lemmas.List.Elements.{All-nil, All-cons}
 use Rattle.unicode_segmentation.proofs.Computing.{unicode_segmentation}
-use Rattle.tw_strokes.specs.Sheets.{IsLow}
+use Rattle.tw_strokes.specs.Sheets.{IsLow, sheet_last_row}
 use Rattle.tw_strokes.specs.Strokes.{PictureOf}
 use Rattle.tw_surface.specs.Paintings.{Painting}
 use Rattle.tw_surface.specs.PaintingBatches.{SizedScene}
@@ -11,7 +11,7 @@ use Rattle.tw_surface.specs.Places.{pieces}
 use Rattle.tw_surface.specs.Scenes.{Scene, IsPlain}
 use Rattle.tw_surface.specs.Simple.{IsSimpleWide, spelled_scene}
 use Rattle.tw_surface.specs.Width.{column_width}
-use Rattle.tw_screens.specs.SceneSheets.{sheet_of}
+use Rattle.tw_screens.specs.SceneSheets.{painting_of, sheet_of}
 use Rattle.tw_screens.specs.Screens.{HasRoom}
 use Rattle.tw_screens.specs.StyledCells.{characters}
 use Rattle.tw_screens.proofs.PlainScenes.{plain_is_simple}
@@ -44,6 +44,7 @@ use Rattle.laws_rows.specs.RowCells.{ShowsLine}
 use Rattle.laws_rows.proofs.PlainRowLemmas.{plain_rows_are_rows, folded_is_plain}
 use Rattle.laws_rows.proofs.RowRunLemmas.{row_paintings, row_closings, row_healings, healed_row_closings}
 use Rattle.laws_rows.proofs.CellLemmas.{cells_by_division}
+use Rattle.laws_rows.proofs.LastRowLemmas.{last_row_by_division}
 
 -- ---- a host that knows the columns of its screen, and shows ". " before each row but the first
 
@@ -175,6 +176,11 @@ low_cells =
     let s = (row_paintings rules characters low_run (Some 5) false 8 tt (low_station 0 ∷ []) (low_station 1) [] low_are (full 4) comes_low).shown in
     let stand = cells_by_division 8 1 (62 ∷ 32 ∷ []) (46 ∷ 32 ∷ []) low_text [] (low_at 1).scene low_shown low_line s.fresh in
     (stand.cells (97 ∷ 98 ∷ 99 ∷ 100 ∷ 101 ∷ []) 102 (10 ∷ 103 ∷ 104 ∷ 10 ∷ 105 ∷ 106 ∷ []) refl refl, stand.cells (97 ∷ 98 ∷ 99 ∷ 100 ∷ 101 ∷ 102 ∷ 10 ∷ []) 103 (104 ∷ 10 ∷ 105 ∷ 106 ∷ []) refl refl, stand.col)
+
+-- and the last row is the third after the first one
+low_last_row : sheet_last_row 8 (painting_of characters low_folded).sheet ≡ 3
+unfolding pieces column_width painted_on apply destination searched_again search_step boundary_below is_boundary iterate greatest_below least_from settled_pieces needed_by_text unicode_segmentation
+low_last_row = last_row_by_division 8 (62 ∷ 32 ∷ []) (46 ∷ 32 ∷ []) low_text [] (low_at 1).scene low_line refl
 
 -- the second row does not begin in the row after the text of the first one, nor is the cursor a row higher
 low_is_down : low_shown.cell 2 2 ≡ 103 → ⊥
