@@ -1,8 +1,7 @@
 -- Each character of a line stands in its cell.
-use Rattle.std.proofs.Common.{◌≡◌, ℕ, ℤ, zero, suc, pos, ◌+ℤ◌, ◌+◌, ◌-◌, ◌*◌, ◌/◌, ◌%◌, ◌<◌, ◌≤◌, max, Bool, true, false, ◌||◌, eqb, ltb, List, [], ◌∷◌, ◌++◌, length, map, refl, ap, sym, subst, ◌∙◌, arith, inl, inr, length-append, append_assoc, append-nil, if◌then◌else◌, ◌&&◌}
-use Rattle.std.specs.Prelude.{slice_index_or}
+use Rattle.std.proofs.Common.{◌≡◌, ℕ, zero, suc, pos, ◌+ℤ◌, ◌+◌, ◌-◌, ◌*◌, ◌/◌, ◌%◌, ◌<◌, ◌≤◌, max, Bool, true, false, eqb, ltb, List, [], ◌∷◌, ◌++◌, length, map, refl, ap, sym, subst, ◌∙◌, arith, length-append, append_assoc, append-nil, if◌then◌else◌, ◌&&◌}
 use Rattle.std.specs.List.{list_all}
-use Rattle.std.proofs.lemmas.Bool.{and_parts, and_from, or_parts, false≢true, ne_eqb, cases_lt, cases_eq, le-leb, lt-ltb, leb-true}
+use Rattle.std.proofs.lemmas.Bool.{and_parts, and_from, or_parts, false≢true, ne_eqb, lt-ltb}
 use Rattle.std.proofs.lemmas.Int.{ints}
 use Rattle.std.proofs.lemmas.List.{map-append}
 use Rattle.std.proofs.lemmas.List.Folds.{list_all-append}
@@ -16,19 +15,17 @@ use Rattle.tw_surface.specs.Characters.{is_printable, cr, lf}
 use Rattle.tw_surface.specs.Defaults.{default_attributes}
 use Rattle.tw_surface.specs.Fresh.{text_of}
 use Rattle.tw_surface.specs.Lines.{before_lines, lines_of, text_of_lines}
-use Rattle.tw_surface.specs.Paintings.{before_line, edge_space, lower_changes, cursor_place}
+use Rattle.tw_surface.specs.Paintings.{before_line, edge_space, lower_changes}
 use Rattle.tw_surface.specs.Pictures.{blank}
 use Rattle.tw_surface.specs.Places.{Place, origin, place_after_all}
 use Rattle.tw_surface.specs.Scenes.{Scene, IsPlain, is_typing, typed_text}
-use Rattle.tw_surface.specs.Scenes.Lower.{Preview}
-use Rattle.tw_surface.specs.Simple.{spelled_all, spelled_scene}
-use Rattle.tw_screens.specs.Pens.{Pen, Letter, letters_of, letter_cell, lines_of_letters}
-use Rattle.tw_screens.specs.SceneSheets.{sheet_of, edge_letters, text_letters}
+use Rattle.tw_screens.specs.Pens.{Pen, letters_of, letter_cell, lines_of_letters}
+use Rattle.tw_screens.specs.SceneSheets.{sheet_of, edge_letters}
 use Rattle.tw_screens.specs.StyledCells.{characters}
 use Rattle.tw_screens.proofs.DrawnChanges.{lines-chars, chars-typed}
 use Rattle.tw_screens.proofs.PlainScenes.{plain_is_simple}
 use Rattle.tw_screens.proofs.PlainTexts.{one_line}
-use Rattle.laws_rows.specs.Rows.{is_row_character, before_rows, rows_of_text, rows_taken, rows_down, column_after, row_edge, spread, columns_behind, shown_cut}
+use Rattle.laws_rows.specs.Rows.{is_row_character, rows_of_text, rows_taken, rows_down, column_after, row_edge, spread}
 use Rattle.laws_rows.specs.RowScenes.{place_behind, folded}
 use Rattle.laws_rows.specs.RowStations.{IsRowStation, simple_at}
 use Rattle.laws_rows.specs.RowStations.IsRowStation.{Simple, WithRows}
@@ -36,9 +33,9 @@ use Rattle.laws_rows.specs.PlainRows.{is_row_typing, has_pair, first_row, other_
 use Rattle.laws_rows.specs.RowCells.{ShowsLine, ShownLinesAreRowStations, StandInRows, CellsByDivision}
 use Rattle.laws_rows.proofs.RowSpreads.{printable-row, edge-printable, some-rows, before-row}
 use Rattle.laws_rows.proofs.RowTexts.{some_lines, all_first, ends_there, not_cr, put_first, are_rows}
-use Rattle.laws_rows.proofs.SpreadLines.{AreLines, spread-lines, spread-both, rows-off-edge, rows-with-edge, both-printable}
+use Rattle.laws_rows.proofs.SpreadLines.{spread-lines, spread-both, rows-off-edge, rows-with-edge, both-printable}
 use Rattle.laws_rows.proofs.TypedColumns.{IsTip, tip-start, tip-changes}
-use Rattle.laws_rows.proofs.PlainRowLemmas.{TextParts, parts_of, typed-both, line_text, first_typed, folded_is_plain, plain_rows_are_rows}
+use Rattle.laws_rows.proofs.PlainRowLemmas.{parts_of, typed-both, line_text, first_typed, folded_is_plain, plain_rows_are_rows}
 
 -- ---- lines on a screen
 

@@ -1,5 +1,5 @@
 -- The last row of a painting with nothing under the line.
-use Rattle.std.proofs.Common.{◌≡◌, ℕ, zero, suc, pos, ◌+◌, ◌-◌, ◌*◌, ◌/◌, ◌%◌, ◌<◌, ◌≤◌, max, Bool, true, false, ◌&&◌, eqb, ltb, List, [], ◌∷◌, ◌++◌, length, map, refl, ap, sym, subst, ◌∙◌, arith, inl, inr, length-append, append_assoc, append-nil, if◌then◌else◌}
+use Rattle.std.proofs.Common.{◌≡◌, ℕ, zero, suc, ◌+◌, ◌-◌, ◌/◌, ◌%◌, ◌<◌, ◌≤◌, max, Bool, true, false, ◌&&◌, eqb, ltb, List, [], ◌∷◌, ◌++◌, length, map, refl, ap, sym, ◌∙◌, arith, inl, inr, length-append, append_assoc, append-nil, if◌then◌else◌}
 use Rattle.std.specs.List.{list_all, sum_by}
 use Rattle.std.proofs.lemmas.Bool.{and_parts, and_from, false≢true, cases_eq, eq-eqb, ne_eqb, le-leb}
 use Rattle.std.proofs.lemmas.List.Folds.{list_all-append}
@@ -13,17 +13,17 @@ use Rattle.tw_surface.specs.Lines.{lines_of}
 use Rattle.tw_surface.specs.Paintings.{before_line, edge_space, lower_changes}
 use Rattle.tw_surface.specs.Pictures.{blank}
 use Rattle.tw_surface.specs.Places.{Place, origin, end_of_pieces, pieces, place_after, place_after_all}
-use Rattle.tw_surface.specs.Scenes.{Scene, Lower, typed_text}
+use Rattle.tw_surface.specs.Scenes.{Scene, typed_text}
 use Rattle.tw_surface.specs.Scenes.Lower.{NoLower}
 use Rattle.tw_surface.specs.Simple.{spelled_scene}
-use Rattle.tw_screens.specs.Pens.{Pen, letter_cell}
+use Rattle.tw_screens.specs.Pens.{letter_cell}
 use Rattle.tw_screens.specs.SceneSheets.{sheet_of, lower_letters}
 use Rattle.tw_screens.specs.StyledCells.{characters}
 use Rattle.tw_screens.proofs.PlainScenes.{plain_is_simple}
 use Rattle.tw_screens.proofs.PlainTexts.{one_line}
 use Rattle.laws_rows.specs.Rows.{is_row_character, rows_of_text, rows_taken, rows_down, row_edge, spread, columns_behind}
 use Rattle.laws_rows.specs.RowScenes.{place_behind, folded}
-use Rattle.laws_rows.specs.PlainRows.{is_row_typing, has_pair, first_row, other_rows, HasPlainRows, plain_folded}
+use Rattle.laws_rows.specs.PlainRows.{is_row_typing, has_pair, first_row, other_rows, HasPlainRows}
 use Rattle.laws_rows.specs.RowCells.{ShowsLine, LastRowByDivision}
 use Rattle.laws_rows.proofs.RowSpreads.{printable-row, edge-printable, some-rows, before-row}
 use Rattle.laws_rows.proofs.RowTexts.{ends_there, are_rows, rows_plain}
@@ -31,7 +31,7 @@ use Rattle.laws_rows.proofs.SpreadLines.{edge-off, rows-off-edge, rows-with-edge
 use Rattle.laws_rows.proofs.TypedColumns.{IsTip, tip-inside, tip-full, after, after-append, plain-pieces}
 use Rattle.laws_rows.proofs.ColumnLemmas.{spread-tip}
 use Rattle.laws_rows.proofs.PlainRowLemmas.{typed-both, folded_is_plain}
-use Rattle.laws_rows.proofs.CellLemmas.{start, edge_of, text-is, printable_typed, unpaired, other, end, head, below, folded_text, folded_lower, folded_lines, head_rows, line-is, rows-typed, has_rows, is_plain_scene, prompt_tip}
+use Rattle.laws_rows.proofs.CellLemmas.{start, edge_of, text-is, printable_typed, unpaired, other, head, below, folded_text, folded_lower, folded_lines, head_rows, line-is, rows-typed, has_rows, is_plain_scene, prompt_tip}
 
 -- ---- the rows of the lines
 

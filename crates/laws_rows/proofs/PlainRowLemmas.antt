@@ -1,6 +1,5 @@
 -- Lines of printable rows have rows.
-use Rattle.std.proofs.Common.{◌≡◌, ℕ, suc, ◌+◌, ◌*◌, ◌%◌, ◌<◌, ◌≤◌, ◌||◌, Bool, true, false, List, [], ◌∷◌, ◌++◌, map, length, refl, sym, ap, subst, ◌∙◌, arith, eqb, ltb, length-append, append-nil, append_assoc, if◌then◌else◌}
-use Rattle.std.specs.Prelude.{chars}
+use Rattle.std.proofs.Common.{◌≡◌, ℕ, ◌+◌, ◌%◌, ◌<◌, ◌||◌, Bool, true, false, List, [], ◌∷◌, ◌++◌, map, length, refl, sym, ap, ◌∙◌, arith, eqb, ltb, append-nil, append_assoc, if◌then◌else◌}
 use Rattle.std.specs.List.{list_all}
 use Rattle.std.proofs.lemmas.Bool.{and_parts, and_from, false≢true}
 use Rattle.std.proofs.lemmas.List.{map-append}
@@ -12,16 +11,16 @@ use Rattle.tw_surface.specs.ChangeView.{Attribute, AllAttributes, Text, ClearScr
 use Rattle.tw_surface.specs.Characters.{is_plain, is_printable, cr, lf}
 use Rattle.tw_surface.specs.Defaults.{default_attributes}
 use Rattle.tw_surface.specs.Lines.{lines_of, text_of_lines}
-use Rattle.tw_surface.specs.Paintings.{before_line, edge_space, lower_changes}
+use Rattle.tw_surface.specs.Paintings.{edge_space, lower_changes}
 use Rattle.tw_surface.specs.Pictures.{blank}
-use Rattle.tw_surface.specs.Places.{Place, origin, place_after_all}
+use Rattle.tw_surface.specs.Places.{Place, origin}
 use Rattle.tw_surface.specs.Scenes.{Scene, Lower, IsPlain, IsPlainLower, is_text, is_typing, typed_text}
 use Rattle.tw_surface.specs.Scenes.Lower.{NoLower, Preview, Search}
 use Rattle.tw_surface.specs.Simple.{spelled_all, AreCounted}
 use Rattle.tw_screens.specs.Pens.{Pen, kept_after_all, char_stroke, strokes_of}
 use Rattle.tw_screens.proofs.PlainScenes.{plain_chars, plain_is_simple}
 use Rattle.tw_screens.proofs.PlainTexts.{text_of_lines-lines}
-use Rattle.laws_rows.specs.RowScenes.{place_behind, folded, HasRows}
+use Rattle.laws_rows.specs.RowScenes.{place_behind, folded}
 use Rattle.laws_rows.specs.PlainRows.{is_row_typing, has_pair, first_in, first_row, others_in, other_rows, HasPlainRows, PlainRowsAreRows}
 use Rattle.laws_rows.proofs.RowTexts.{some_lines, are_rows, rows_plain, printable_rows, joined_rows, broken_rows, rows_after}
 use Rattle.laws_rows.proofs.TypedColumns.{IsTip, tip-start, tip-full, tip-changes}

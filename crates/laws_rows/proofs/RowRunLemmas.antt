@@ -1,5 +1,5 @@
 -- After each painting of a run whose stations are simple or have rows a screen shows it fresh.
-use Rattle.std.proofs.Common.{◌≡◌, ℕ, suc, ◌+◌, ◌-◌, ◌≤◌, List, [], ◌∷◌, ◌++◌, ◌∙◌, sym, ap, map, refl, subst, arith, Option, Some, None, Bool, true, false}
+use Rattle.std.proofs.Common.{◌≡◌, ℕ, ◌+◌, ◌-◌, ◌≤◌, List, [], ◌∷◌, ◌++◌, ◌∙◌, sym, ap, map, refl, subst, arith, Option, Some, None, Bool, true, false}
 use Rattle.std.specs.List.{All, AllByRecursion}
 use Rattle.std.proofs.lemmas.List.{map-append}
 use Rattle.tw_strokes.specs.Strokes.{PictureOf, InSight, resized, narrowest}
@@ -27,7 +27,7 @@ use Rattle.tw_screen_runs.specs.DrawnRuns.{begins_cleared, play_stations, closed
 use Rattle.tw_screen_runs.proofs.ClearedRunLemmas.{text_prompts, up_to-is, played_since, first_since}
 use Rattle.laws_rows.specs.RowStations.{IsRowStation, simple_at, simple_all, play_after}
 use Rattle.laws_rows.specs.RowStations.IsRowStation.{Simple, WithRows}
-use Rattle.laws_rows.specs.RowRuns.{simple_stations, paintings_with_rows, painted_with_rows, ShowsWithRows, RowPaintings, RowClosings, RowCallsStack, RowHealings, HealedRowClosings}
+use Rattle.laws_rows.specs.RowRuns.{paintings_with_rows, painted_with_rows, ShowsWithRows, RowPaintings, RowClosings, RowCallsStack, RowHealings, HealedRowClosings}
 use Rattle.laws_rows.proofs.RowStationLemmas.{with_last, simple_last, shows_row_stations, heals_row_stations, closes_row_stations}
 
 resized-row : {C : Type 0} (cuts : Bool) (b : C) (v w : ℕ) (t : PictureOf C) → (resized cuts b v w t).row ≡ t.row

@@ -1,23 +1,22 @@
 -- A scene with rows is painted as it is folded.
-use Rattle.std.proofs.Common.{◌≡◌, ℕ, ℤ, pos, ◌+ℤ◌, ◌-ℤ◌, ◌<◌, ◌≤◌, Bool, true, false, Option, Some, None, List, [], ◌∷◌, ◌++◌, refl, sym, ap, subst, ◌∙◌, arith, eqb, if◌then◌else◌, map}
-use Rattle.std.specs.Prelude.{chars}
+use Rattle.std.proofs.Common.{◌≡◌, ℕ, ℤ, Option, Some, None, List, [], ◌∷◌, ◌++◌, refl, sym, ap, subst, ◌∙◌, arith, map}
 use Rattle.std.proofs.lemmas.Bool.{ne_eqb}
 use Rattle.std.proofs.lemmas.Int.{ints}
 use Rattle.std.proofs.lemmas.List.{append_assoc, map-append}
 use Rattle.tw_strokes.specs.Strokes.{PictureOf, Stroke, filled, step, steps}
-use Rattle.tw_strokes.specs.Strokes.Stroke.{Return, Feed, ClearBehind, Move}
+use Rattle.tw_strokes.specs.Strokes.Stroke.{Return, Feed, ClearBehind}
 use Rattle.tw_surface.specs.ChangeView.{Batch}
 use Rattle.tw_surface.specs.ChangeView.{Attribute, AllAttributes, Text, ClearScreen, ClearToEndOfScreen, CursorPosition}
 use Rattle.tw_surface.specs.Defaults.{default_color, default_attributes}
 use Rattle.tw_surface.specs.Drawings.{height}
-use Rattle.tw_surface.specs.Paintings.{Mark, painting, mark_of, lower_changes, edge_space, shown_part, cursor_place, start_move}
+use Rattle.tw_surface.specs.Paintings.{Mark, painting, lower_changes, edge_space, shown_part, cursor_place, start_move}
 use Rattle.tw_surface.specs.PaintingBatches.{start_of}
 use Rattle.tw_surface.specs.Places.{Place, place_after_all, origin, move_between}
 use Rattle.tw_surface.specs.Scenes.{Scene}
 use Rattle.tw_surface.specs.Simple.{spelled_change, spelled_all, AreCounted}
-use Rattle.tw_screens.specs.Pens.{Pen, kept_after_all, char_stroke, strokes_of, led}
+use Rattle.tw_screens.specs.Pens.{Pen, kept_after_all, char_stroke, strokes_of}
 use Rattle.tw_screens.proofs.DrawnChanges.{Tracks, simple-counted, counted-append, tracks-changes, strokes-append, kept-append}
-use Rattle.tw_screens.proofs.MeasuredHeights.{crlf_is, crlf_counted, space_counted, measured_height}
+use Rattle.tw_screens.proofs.MeasuredHeights.{crlf_is, crlf_counted, measured_height}
 use Rattle.laws_rows.specs.RowScenes.{place_behind, folded, HasRows, ArePaintedAlike, RowsAreAPreview}
 
 -- the second of two lists of changes

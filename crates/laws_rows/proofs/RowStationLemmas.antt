@@ -1,11 +1,10 @@
 -- Stations each of which is simple or has rows play what simple ones play.
-use Rattle.std.proofs.Common.{◌≡◌, ℕ, ◌+◌, ◌≤◌, Bool, true, false, Option, Some, None, List, [], ◌∷◌, ◌++◌, map, refl, sym, ap, subst, ◌∙◌, arith, if◌then◌else◌, suc}
+use Rattle.std.proofs.Common.{◌≡◌, ℕ, ◌+◌, Bool, true, false, Option, Some, None, List, [], ◌∷◌, ◌++◌, map, refl, sym, ap, subst, ◌∙◌}
 use Rattle.std.specs.List.{All, AllByRecursion}
 use Rattle.std.proofs.lemmas.List.Elements.{All-nil, All-cons}
-use Rattle.tw_strokes.specs.Strokes.{PictureOf, InSight, resized, steps_on}
+use Rattle.tw_strokes.specs.Strokes.{PictureOf, resized, steps_on}
 use Rattle.tw_strokes.specs.Sheets.{sheet_last_row}
 use Rattle.tw_strokes.specs.Paintings.{IsClosedSheet}
-use Rattle.tw_surface.specs.ChangeView.{Batch}
 use Rattle.tw_surface.specs.Paintings.{Mark, painting, mark_of, closing}
 use Rattle.tw_surface.specs.PaintingBatches.{SizedScene, shot_of, mark_after, clear_batch, clearing, start_of}
 use Rattle.tw_surface.specs.Scenes.{Scene}
@@ -15,8 +14,8 @@ use Rattle.tw_screens.specs.SceneSheets.{painting_of}
 use Rattle.tw_screens.specs.Screens.{blank_of, play_sized}
 use Rattle.tw_screens.specs.SizedBatches.{SizedBatch, sized_at, sized_after, spelled_sized}
 use Rattle.tw_screens.proofs.DrawnStations.{shows_stations, heals_stations, closes_stations}
-use Rattle.laws_rows.specs.RowScenes.{HasRows, folded, ArePaintedAlike}
-use Rattle.laws_rows.specs.RowStations.{IsRowStation, simple_at, simple_all, play_after, PlaysAsSimple, RowStationsPlayAsSimple, ShowsRowStations, HealsRowStations, ClosesRowStations}
+use Rattle.laws_rows.specs.RowScenes.{folded, ArePaintedAlike}
+use Rattle.laws_rows.specs.RowStations.{IsRowStation, simple_at, simple_all, play_after, RowStationsPlayAsSimple, ShowsRowStations, HealsRowStations, ClosesRowStations}
 use Rattle.laws_rows.specs.RowStations.IsRowStation.{Simple, WithRows}
 use Rattle.laws_rows.proofs.RowSceneLemmas.{rows_are_a_preview}
 

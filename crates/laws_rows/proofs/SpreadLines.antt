@@ -1,17 +1,16 @@
 -- The lines of the text that shows rows, and how many rows they take.
-use Rattle.std.proofs.Common.{◌≡◌, ℕ, zero, suc, ◌+◌, ◌-◌, ◌*◌, ◌/◌, ◌%◌, ◌<◌, ◌≤◌, max, Bool, true, false, eqb, ltb, List, [], ◌∷◌, ◌++◌, length, refl, ap, sym, ◌∙◌, arith, inl, inr, length-append, append_assoc, append-nil, if◌then◌else◌}
+use Rattle.std.proofs.Common.{◌≡◌, ℕ, zero, suc, ◌+◌, ◌-◌, ◌*◌, ◌/◌, ◌%◌, ◌<◌, ◌≤◌, max, Bool, true, false, eqb, List, [], ◌∷◌, ◌++◌, length, refl, ap, sym, ◌∙◌, arith, inl, inr, append_assoc, if◌then◌else◌}
 use Rattle.std.specs.List.{list_all}
 use Rattle.std.proofs.lemmas.Bool.{and_parts, and_from, le-leb, eq-eqb, ne_eqb, cases_eq}
 use Rattle.std.proofs.lemmas.List.Folds.{list_all-append}
 use Rattle.std.proofs.lemmas.Nat.{mod-mul-add, div-mul-add, div-add-mod', mod_below}
 use Rattle.std.proofs.Math.Nat.{add-mul, one-mul}
-use Rattle.tw_strokes.specs.Sheets.{rows_of_line}
 use Rattle.tw_surface.specs.Characters.{is_printable, cr, lf}
 use Rattle.tw_surface.specs.Pictures.{blank}
 use Rattle.tw_surface.specs.Lines.{before_lines, lines_of}
 use Rattle.laws_rows.specs.Rows.{is_row_character, rows_taken, row_edge, spread, columns_behind}
 use Rattle.laws_rows.proofs.RowSpreads.{printable-row, edge-printable}
-use Rattle.laws_rows.proofs.RowTexts.{all_first, ends_there, not_cr, put_first}
+use Rattle.laws_rows.proofs.RowTexts.{ends_there, not_cr, put_first}
 
 -- a row with its edge does not fill its last column
 pub edge-off : (cols n : ℕ) → 2 ≤ cols → (n + length (row_edge cols n)) % cols ≡ 0 → n + length (row_edge cols n) ≡ 0

@@ -1,6 +1,6 @@
 -- Worked runs of a host that shows rows, by computation and by the clauses: on a screen that scrolls, and on one that cuts its rows.
-use Rattle.std.proofs.Common.{◌≡◌, ℕ, zero, suc, ◌+◌, ◌≤◌, pos, List, [], ◌∷◌, ◌++◌, length, take, drop, true, false, refl, sym, subst, None, Some, Option, Ok, Err, Result, eqb, arith}
-use Rattle.std.specs.List.{All, AllByRecursion}
+use Rattle.std.proofs.Common.{◌≡◌, ℕ, zero, suc, ◌+◌, ◌≤◌, pos, List, [], ◌∷◌, take, drop, true, false, refl, sym, subst, None, Some, Option, Ok, Err, Result, arith}
+use Rattle.std.specs.List.{All}
 use Rattle.std.proofs.lemmas.List.Elements.{All-nil, All-cons}
 use Rattle.unicode_segmentation.proofs.Computing.{unicode_segmentation}
 use Rattle.tw_strokes.specs.Sheets.{IsLow, sheet_last_row}
@@ -8,8 +8,7 @@ use Rattle.tw_strokes.specs.Strokes.{PictureOf}
 use Rattle.tw_surface.specs.Paintings.{Painting}
 use Rattle.tw_surface.specs.PaintingBatches.{SizedScene}
 use Rattle.tw_surface.specs.Places.{pieces}
-use Rattle.tw_surface.specs.Scenes.{Scene, IsPlain}
-use Rattle.tw_surface.specs.Simple.{IsSimpleWide, spelled_scene}
+use Rattle.tw_surface.specs.Scenes.{IsPlain}
 use Rattle.tw_surface.specs.Width.{column_width}
 use Rattle.tw_screens.specs.SceneSheets.{painting_of, sheet_of}
 use Rattle.tw_screens.specs.Screens.{HasRoom}
@@ -35,7 +34,6 @@ use Rattle.tw_lineedit.specs.ScreenRuns.{sized_scene, RendersNothing}
 use Rattle.tw_lineedit.specs.Stations.{Station, station_painting, stations_of}
 use Rattle.tw_screen_runs.specs.DrawnRuns.{play_stations, play_since, closed_by}
 use Rattle.laws_rows.specs.Rows.{shown_cut}
-use Rattle.laws_rows.specs.RowScenes.{folded}
 use Rattle.laws_rows.specs.RowStations.{IsRowStation, simple_at}
 use Rattle.laws_rows.specs.RowStations.IsRowStation.{Simple, WithRows}
 use Rattle.laws_rows.specs.PlainRows.{HasPlainRows, first_row, other_rows}

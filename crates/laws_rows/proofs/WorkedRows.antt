@@ -1,7 +1,6 @@
 -- A line of three rows at eight columns, by computation: "abcdef", "gh" and "ij", after "> " and ". ".
-use Rattle.std.proofs.Common.{◌≡◌, ℕ, pos, List, [], ◌∷◌, ◌++◌, length, refl, ap, arith}
+use Rattle.std.proofs.Common.{◌≡◌, ℕ, pos, List, [], ◌∷◌, ◌++◌, refl, ap, arith}
 use Rattle.tw_surface.specs.Places.{Place}
-use Rattle.tw_line.specs.Cut.{Cut}
 use Rattle.laws_rows.specs.Rows.{rows_of_text, rows_taken, row_cell, row_edge, spread, shown_cut}
 
 abbrev first : List ℕ

@@ -5,7 +5,6 @@ use Rattle.tw_surface.specs.ChangeView.{ChangeView, Batch}
 use Rattle.tw_surface.specs.ChangeView.{Attribute, AllAttributes, Text, ClearScreen, ClearToEndOfScreen, CursorPosition}
 use Rattle.tw_surface.specs.Characters.{is_printable}
 use Rattle.tw_surface.specs.Lines.{lines_of, text_of_lines}
-use Rattle.tw_surface.specs.PaintingBatches.{SizedScene}
 use Rattle.tw_surface.specs.Scenes.{Scene, IsPlainLower, is_typing, typed_text}
 use Rattle.tw_screens.specs.Pens.{Pen}
 use Rattle.laws_rows.specs.RowScenes.{HasRows, folded}

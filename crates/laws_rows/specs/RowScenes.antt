@@ -1,5 +1,5 @@
 -- Scenes whose line has several rows on the screen, told by simple ones: the rows after the first are a preview.
-use Rattle.std.specs.Prelude.{ℕ, ◌≡◌, ◌≢◌, ◌≤◌, Option, List, [], ◌∷◌, ◌++◌}
+use Rattle.std.specs.Prelude.{ℕ, ◌≡◌, ◌≢◌, ◌≤◌, Option, ◌∷◌, ◌++◌}
 use Rattle.tw_strokes.specs.Strokes.Stroke.{Return, Feed}
 use Rattle.tw_surface.specs.ChangeView.{Batch}
 use Rattle.tw_surface.specs.Defaults.{default_attributes}

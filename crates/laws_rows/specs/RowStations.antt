@@ -11,7 +11,7 @@ use Rattle.tw_surface.specs.Simple.{spelled_all, IsSimpleWide}
 use Rattle.tw_screens.specs.Pens.{Pen, strokes_of}
 use Rattle.tw_screens.specs.SceneSheets.{painting_of}
 use Rattle.tw_screens.specs.Screens.{HasRoom, HasTextPrompt, blank_of, play_sized}
-use Rattle.tw_screens.specs.SizedBatches.{sized_after, sized_batches, spelled_sized}
+use Rattle.tw_screens.specs.SizedBatches.{sized_after, spelled_sized}
 use Rattle.laws_rows.specs.RowScenes.{HasRows, folded}
 
 -- a station is simple, or its scene has rows: a first one, and others
