@@ -11,3 +11,4 @@ pub mod LastRowLemmas
 pub mod RowRunLemmas
 mod WorkedRows
 mod WorkedRowRuns
+mod WorkedRowScenes
