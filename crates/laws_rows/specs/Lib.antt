@@ -5,3 +5,4 @@ pub mod RowStations
 pub mod PlainRows
 pub mod RowCells
 pub mod RowRuns
+pub mod SentRows

@@ -10,6 +10,7 @@ ghost use Rattle.laws_rows.specs.RowColumns.{CursorStandsInItsRow, RowColumnIsSe
 ghost use Rattle.laws_rows.specs.RowRuns.{HealedRowClosings, RowCallsStack, RowClosings, RowHealings, RowPaintings};
 ghost use Rattle.laws_rows.specs.RowScenes.{RowsAreAPreview};
 ghost use Rattle.laws_rows.specs.RowStations.{ClosesRowStations, HealsRowStations, RowStationsPlayAsSimple, ShowsRowStations};
+ghost use Rattle.laws_rows.specs.SentRows.{RowClosingsAreShown, RowPaintingsAreShown};
 ghost use Rattle.tw_screens.specs.Pens.{Pen};
 
 use tw_host::LineEditorHost;
@@ -51,4 +52,11 @@ pub fn row_runs<H: LineEditorHost, A, C>()
     ensures stacking { (pen : Pen A C) → RowCallsStack H.rules pen }
     ensures healing { (pen : Pen A C) → RowHealings H.rules pen }
     ensures healed_closing { (pen : Pen A C) → HealedRowClosings H.rules pen }
+{}
+
+/// A terminal that is sent the bytes of such a run shows the picture on which its batches were played: after each
+/// painting the fresh one, and after the closing batch the row below its last row.
+pub fn sent_rows<H: LineEditorHost, A, C>()
+    ensures paintings { (pen : Pen A C) → RowPaintingsAreShown H.rules pen }
+    ensures closings { (pen : Pen A C) → RowClosingsAreShown H.rules pen }
 {}
