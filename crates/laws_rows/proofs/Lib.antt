@@ -13,3 +13,4 @@ pub mod SentRowLemmas
 mod WorkedRows
 mod WorkedRowRuns
 mod WorkedRowScenes
+mod WorkedSentRows

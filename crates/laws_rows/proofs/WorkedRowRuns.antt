@@ -55,33 +55,33 @@ abbrev resized_to : ℕ → EventView → Cut → Resolution ℕ
 resized_to cols (Resized new rows) cut = no_resolution new cut
 resized_to cols event cut = no_resolution cols cut
 
-abbrev rules : HostRules ℕ
+abbrev pub rules : HostRules ℕ
 rules = record (plain_rules (λ (v : ℕ). [])) { highlight = in_rows; resolve = resized_to }
 
-abbrev frame_with : ℕ → List EventView → Frame ℕ
+abbrev pub frame_with : ℕ → List EventView → Frame ℕ
 frame_with cols events = start None (record { state = new_state; value = cols; mark = None; terminal = record { size = record { rows = 24; cols = cols }; events = events; batches = []; flushed = 0; failures = 0 } })
 
 -- rows of A, of B and of C and so on
 abbrev full : ℕ → PictureOf ℕ
 full row = record { cell = λ r c. 65 + r; row = row; col = 0 }
 
-abbrev painting_in : Result Painting Refusal → Painting
+abbrev pub painting_in : Result Painting Refusal → Painting
 painting_in (Ok p) = p
 painting_in (Err r) = record { changes = []; row = pos 0; height = 0 }
 
-abbrev nth : List (Station ℕ) → ℕ → Station ℕ
+abbrev pub nth : List (Station ℕ) → ℕ → Station ℕ
 nth [] n = record { state = new_state; value = 0; size = record { rows = 0; cols = 0 }; cleared = false }
 nth (s ∷ more) zero = s
 nth (s ∷ more) (suc n) = nth more n
 
 -- plain stations are simple, those of printable rows have rows, and their sheets are those of their bytes
-abbrev simple : (station : SizedScene) → 2 ≤ station.cols → IsPlain station.scene → IsRowStation characters station
+abbrev pub simple : (station : SizedScene) → 2 ≤ station.cols → IsPlain station.scene → IsRowStation characters station
 simple station two plain = Simple (two, (plain_is_simple station.scene plain).0)
 
-abbrev with_rows : (station : SizedScene) → HasPlainRows station.cols station.scene → IsRowStation characters station
+abbrev pub with_rows : (station : SizedScene) → HasPlainRows station.cols station.scene → IsRowStation characters station
 with_rows station h = WithRows (first_row station.scene.line) (other_rows station.scene.line) (plain_rows_are_rows characters station.cols station.scene h)
 
-room : (rows : Option ℕ) (station : SizedScene) → IsPlain station.scene → IsLow rows station.cols (sheet_of characters station.cols station.scene) → HasRoom rows characters station
+pub room : (rows : Option ℕ) (station : SizedScene) → IsPlain station.scene → IsLow rows station.cols (sheet_of characters station.cols station.scene) → HasRoom rows characters station
 room rows station plain low = subst (λ scene. IsLow rows station.cols (sheet_of characters station.cols scene)) (sym (plain_is_simple station.scene plain).1) low
 
 -- ---- eight columns and five rows, entered in the last row: three rows are pasted, "abcdef", "gh" and "ij"
