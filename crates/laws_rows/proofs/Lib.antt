@@ -9,6 +9,7 @@ pub mod PlainRowLemmas
 pub mod CellLemmas
 pub mod LastRowLemmas
 pub mod RowRunLemmas
+pub mod LineRunLemmas
 pub mod SentRowLemmas
 mod WorkedRows
 mod WorkedRowRuns

@@ -6,3 +6,4 @@ pub mod PlainRows
 pub mod RowCells
 pub mod RowRuns
 pub mod SentRows
+pub mod LineRuns

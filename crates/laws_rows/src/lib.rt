@@ -4,6 +4,7 @@
 //! next one. No code of the editor is for rows, so each law is the contract of a function that does nothing.
 #![tactic(auto)]
 
+ghost use Rattle.laws_rows.specs.LineRuns.{LinesCloseBelow, LinesStandInRows};
 ghost use Rattle.laws_rows.specs.PlainRows.{PlainRowsAreRows};
 ghost use Rattle.laws_rows.specs.RowCells.{CellsByDivision, LastRowByDivision, ShownLinesAreRowStations};
 ghost use Rattle.laws_rows.specs.RowColumns.{CursorStandsInItsRow, RowColumnIsSettled, RowColumnLeadsThere};
@@ -52,6 +53,13 @@ pub fn row_runs<H: LineEditorHost, A, C>()
     ensures stacking { (pen : Pen A C) → RowCallsStack H.rules pen }
     ensures healing { (pen : Pen A C) → RowHealings H.rules pen }
     ensures healed_closing { (pen : Pen A C) → HealedRowClosings H.rules pen }
+{}
+
+/// After each painting of a run whose stations show lines in rows, on a screen of characters, the cursor and each
+/// character of the line stand in the cells that division gives; the closing batch ends in the row below the line.
+pub fn line_runs<H: LineEditorHost>()
+    ensures standing { LinesStandInRows H.rules }
+    ensures closing { LinesCloseBelow H.rules }
 {}
 
 /// A terminal that is sent the bytes of such a run shows the picture on which its batches were played: after each
