@@ -39,9 +39,10 @@ use Rattle.laws_rows.specs.RowStations.IsRowStation.{Simple, WithRows}
 use Rattle.laws_rows.specs.PlainRows.{HasPlainRows, first_row, other_rows}
 use Rattle.laws_rows.specs.RowRuns.{AreRowStations, simple_stations, ComesWithRows, HealsWithRows}
 use Rattle.laws_rows.specs.RowCells.{ShowsLine}
+use Rattle.laws_rows.specs.LineRuns.{ComesToLine}
 use Rattle.laws_rows.proofs.PlainRowLemmas.{plain_rows_are_rows, folded_is_plain}
 use Rattle.laws_rows.proofs.RowRunLemmas.{row_paintings, row_closings, row_healings, healed_row_closings}
-use Rattle.laws_rows.proofs.CellLemmas.{cells_by_division}
+use Rattle.laws_rows.proofs.LineRunLemmas.{lines_stand_in_rows}
 use Rattle.laws_rows.proofs.LastRowLemmas.{last_row_by_division}
 
 -- ---- a host that knows the columns of its screen, and shows ". " before each row but the first
@@ -168,12 +169,39 @@ low_line = record {
   cursor = refl;
 }
 
-low_cells : (low_shown.cell 1 7 ≡ 102) × (low_shown.cell 3 2 ≡ 103) × (low_shown.col ≡ 4)
+low_no_line : ShowsLine 8 (62 ∷ 32 ∷ []) (46 ∷ 32 ∷ []) [] [] (low_at 0).scene
+unfolding pieces column_width painted_on apply destination searched_again search_step boundary_below is_boundary iterate greatest_below least_from settled_pieces needed_by_text unicode_segmentation
+low_no_line = record {
+  wide = omega arith;
+  printable = record { printable_prompt = refl; printable_continuation = refl; rows_before = refl; rows_behind = refl };
+  prompt_typing = refl;
+  prompt_is = refl;
+  line_typing = refl;
+  line_is = refl;
+  lower = tt;
+  cursor = refl;
+}
+
+low_to_line : ComesToLine rules (Some 5) low_run (low_station 0 ∷ []) (low_station 1) [] (62 ∷ 32 ∷ []) (46 ∷ 32 ∷ []) low_text [] (full 4)
+unfolding pieces column_width painted_on apply destination searched_again search_step boundary_below is_boundary iterate greatest_below least_from settled_pieces needed_by_text unicode_segmentation
+low_to_line = record {
+  comes = comes_low.comes;
+  lines = (record { prompt = 62 ∷ 32 ∷ []; continuation = 46 ∷ 32 ∷ []; left = []; right = []; shows = low_no_line }, tt);
+  line = low_line;
+  low = comes_low.low;
+  at_start = refl;
+  in_sight = omega arith;
+}
+
+low_cells : (low_shown.cell 1 7 ≡ 102) × (low_shown.cell 3 2 ≡ 103) × (low_shown.row ≡ 4) × (low_shown.col ≡ 4)
 unfolding pieces column_width painted_on apply destination searched_again search_step boundary_below is_boundary iterate greatest_below least_from settled_pieces needed_by_text unicode_segmentation
 low_cells =
-    let s = (row_paintings rules characters low_run (Some 5) false 8 tt (low_station 0 ∷ []) (low_station 1) [] low_are (full 4) comes_low).shown in
-    let stand = cells_by_division 8 1 (62 ∷ 32 ∷ []) (46 ∷ 32 ∷ []) low_text [] (low_at 1).scene low_shown low_line s.fresh in
-    (stand.cells (97 ∷ 98 ∷ 99 ∷ 100 ∷ 101 ∷ []) 102 (10 ∷ 103 ∷ 104 ∷ 10 ∷ 105 ∷ 106 ∷ []) refl refl, stand.cells (97 ∷ 98 ∷ 99 ∷ 100 ∷ 101 ∷ 102 ∷ 10 ∷ []) 103 (104 ∷ 10 ∷ 105 ∷ 106 ∷ []) refl refl, stand.col)
+    let stand = lines_stand_in_rows rules low_run (Some 5) false 8 (low_station 0 ∷ []) (low_station 1) [] (62 ∷ 32 ∷ []) (46 ∷ 32 ∷ []) low_text [] (full 4) low_to_line in (
+      stand.cells (97 ∷ 98 ∷ 99 ∷ 100 ∷ 101 ∷ []) 102 (10 ∷ 103 ∷ 104 ∷ 10 ∷ 105 ∷ 106 ∷ []) refl refl,
+      stand.cells (97 ∷ 98 ∷ 99 ∷ 100 ∷ 101 ∷ 102 ∷ 10 ∷ []) 103 (104 ∷ 10 ∷ 105 ∷ 106 ∷ []) refl refl,
+      stand.row,
+      stand.col,
+    )
 
 -- and the last row is the third after the first one
 low_last_row : sheet_last_row 8 (painting_of characters low_folded).sheet ≡ 3
