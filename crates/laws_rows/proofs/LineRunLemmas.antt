@@ -1,5 +1,5 @@
 -- After each painting of a run whose stations show lines their characters stand in their cells.
-use Rattle.std.proofs.Common.{◌≡◌, ℕ, ◌+◌, ◌≤◌, Bool, Option, List, [], ◌∷◌, ◌++◌, length, map, refl, ap, sym, subst, ◌∙◌}
+use Rattle.std.proofs.Common.{◌≡◌, ℕ, ◌+◌, Option, List, [], ◌∷◌, ◌++◌, map, refl, ap, sym, subst, ◌∙◌}
 use Rattle.std.specs.List.{All, AllByRecursion}
 use Rattle.std.proofs.lemmas.List.{map-append}
 use Rattle.tw_strokes.specs.Strokes.{PictureOf, resized}
@@ -15,10 +15,9 @@ use Rattle.tw_lineedit.specs.Frame.{Frame}
 use Rattle.tw_lineedit.specs.ScreenRuns.{sized_scene}
 use Rattle.tw_lineedit.specs.Stations.{Station}
 use Rattle.tw_screen_runs.specs.DrawnRuns.{play_stations, closed_by}
-use Rattle.laws_rows.specs.Rows.{rows_of_text, rows_down}
 use Rattle.laws_rows.specs.RowStations.{IsRowStation, simple_at, simple_all}
 use Rattle.laws_rows.specs.RowRuns.{AreRowStations, simple_stations, ComesWithRows}
-use Rattle.laws_rows.specs.LineRuns.{ShowsSomeLine, plain_station, line_stations, line_paintings, ComesToLine, LinesStandInRows, LinesCloseBelow}
+use Rattle.laws_rows.specs.LineRuns.{ShowsSomeLine, plain_station, line_stations, ComesToLine, LinesStandInRows, LinesCloseBelow}
 use Rattle.laws_rows.proofs.CellLemmas.{shown_lines_are_row_stations, cells_by_division}
 use Rattle.laws_rows.proofs.LastRowLemmas.{last_row_by_division}
 use Rattle.laws_rows.proofs.RowRunLemmas.{row_paintings, row_closings}

@@ -1,6 +1,5 @@
 -- A terminal that is sent the bytes of a run with rows shows the picture on which its batches were played.
 use Rattle.std.proofs.Common.{◌≡◌, ◌≤◌, ◌<◌, ◌+◌, ◌-ℤ◌, ℕ, pos, false, Some, None, List, [], ◌∷◌, ◌++◌, map, ap, subst, ◌∙◌, sym, arith}
-use Rattle.std.specs.List.{All, AllByRecursion}
 use Rattle.std.proofs.lemmas.List.{map-append}
 use Rattle.tw_strokes.specs.Strokes.{PictureOf}
 use Rattle.tw_strokes.specs.Sheets.{sheet_last_row}
@@ -14,10 +13,8 @@ use Rattle.tw_screens.specs.Screens.{blank_of, play_sized}
 use Rattle.tw_screens.proofs.SizedBatchLemmas.{sized_batches_are}
 use Rattle.tw_screens.proofs.StationMarks.{closing_is}
 use Rattle.tw_host.specs.HostRules.{HostRules}
-use Rattle.tw_lineedit.specs.Frame.{Frame}
 use Rattle.tw_lineedit.specs.Run.{run_of}
 use Rattle.tw_lineedit.specs.ScreenRuns.{sized_scene, batches_of}
-use Rattle.tw_lineedit.specs.Stations.{Station}
 use Rattle.tw_lineedit.proofs.StationLemmas.{closing-is}
 use Rattle.tw_screen_runs.specs.DrawnRuns.{closed_by, play_stations}
 use Rattle.tw_ansi.specs.declared.encode.Encoder.{Encoder}

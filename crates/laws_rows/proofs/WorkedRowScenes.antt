@@ -1,5 +1,5 @@
 -- Scenes with rows, by computation: a letter with an accent and a row under it, and a line in a colour.
-use Rattle.std.proofs.Common.{◌≡◌, ℕ, List, [], ◌∷◌, false, refl, arith}
+use Rattle.std.proofs.Common.{◌≡◌, ℕ, [], ◌∷◌, false, refl, arith}
 use Rattle.unicode_segmentation.proofs.Computing.{unicode_segmentation}
 use Rattle.unicode_width.proofs.Computing.{unicode_width}
 use Rattle.tw_surface.specs.declared.cell.AttributeChange.{AttributeChange}

@@ -7,3 +7,4 @@ pub mod RowCells
 pub mod RowRuns
 pub mod SentRows
 pub mod LineRuns
+pub mod RowReadings

@@ -8,12 +8,14 @@ ghost use Rattle.laws_rows.specs.LineRuns.{LinesCloseBelow, LinesStandInRows};
 ghost use Rattle.laws_rows.specs.PlainRows.{PlainRowsAreRows};
 ghost use Rattle.laws_rows.specs.RowCells.{CellsByDivision, LastRowByDivision, ShownLinesAreRowStations};
 ghost use Rattle.laws_rows.specs.RowColumns.{CursorStandsInItsRow, RowColumnIsSettled, RowColumnLeadsThere};
+ghost use Rattle.laws_rows.specs.RowReadings.{RowReadingClosings, RowReadingPaintings};
 ghost use Rattle.laws_rows.specs.RowRuns.{HealedRowClosings, RowCallsStack, RowClosings, RowHealings, RowPaintings};
 ghost use Rattle.laws_rows.specs.RowScenes.{RowsAreAPreview};
 ghost use Rattle.laws_rows.specs.RowStations.{ClosesRowStations, HealsRowStations, RowStationsPlayAsSimple, ShowsRowStations};
 ghost use Rattle.laws_rows.specs.SentRows.{RowClosingsAreShown, RowPaintingsAreShown};
 ghost use Rattle.tw_screens.specs.Pens.{Pen};
 
+use std::io::Write;
 use tw_host::LineEditorHost;
 
 /// The settled column of the text that shows a line of printable rows leads the editor's division to the cell of the
@@ -67,4 +69,11 @@ pub fn line_runs<H: LineEditorHost>()
 pub fn sent_rows<H: LineEditorHost, A, C>()
     ensures paintings { (pen : Pen A C) → RowPaintingsAreShown H.rules pen }
     ensures closings { (pen : Pen A C) → RowClosingsAreShown H.rules pen }
+{}
+
+/// The bytes that `read_line_from` has written, where it was answered and no event told another number of columns, are
+/// those of its run: so a terminal shows what `sent_rows` says.
+pub fn row_readings<H: LineEditorHost, W: Write, A, C>()
+    ensures paintings { (pen : Pen A C) → RowReadingPaintings H.rules W.contents pen }
+    ensures closings { (pen : Pen A C) → RowReadingClosings H.rules W.contents pen }
 {}
