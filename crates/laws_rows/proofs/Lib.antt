@@ -1,0 +1,18 @@
+pub mod RowSpreads
+pub mod RowTexts
+pub mod TypedColumns
+pub mod SpreadLines
+pub mod ColumnLemmas
+pub mod RowSceneLemmas
+pub mod RowStationLemmas
+pub mod PlainRowLemmas
+pub mod CellLemmas
+pub mod LastRowLemmas
+pub mod RowRunLemmas
+pub mod LineRunLemmas
+pub mod SentRowLemmas
+pub mod RowReadingLemmas
+mod WorkedRows
+mod WorkedRowRuns
+mod WorkedRowScenes
+mod WorkedSentRows

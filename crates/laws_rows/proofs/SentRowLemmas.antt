@@ -1,0 +1,84 @@
+-- A terminal that is sent the bytes of a run with rows shows the picture on which its batches were played.
+use Rattle.std.proofs.Common.{◌≡◌, ◌≤◌, ◌<◌, ◌+◌, ◌-ℤ◌, ℕ, pos, false, Some, None, List, [], ◌∷◌, ◌++◌, map, ap, subst, ◌∙◌, sym, arith}
+use Rattle.std.proofs.lemmas.List.{map-append}
+use Rattle.tw_strokes.specs.Strokes.{PictureOf}
+use Rattle.tw_strokes.specs.Sheets.{sheet_last_row}
+use Rattle.tw_strokes.specs.Paintings.{IsClosedSheet, top_row}
+use Rattle.tw_surface.specs.declared.change.Position.TheVariants.{Relative}
+use Rattle.tw_surface.specs.ChangeView.{Batch}
+use Rattle.tw_surface.specs.Paintings.{Mark, painting, mark_of, closing}
+use Rattle.tw_surface.specs.PaintingBatches.{SizedScene, shot_of, batches, closing_if, closing_batch}
+use Rattle.tw_screens.specs.Pens.{Pen}
+use Rattle.tw_screens.specs.Screens.{blank_of, play_sized}
+use Rattle.tw_screens.proofs.SizedBatchLemmas.{sized_batches_are}
+use Rattle.tw_screens.proofs.StationMarks.{closing_is}
+use Rattle.tw_host.specs.HostRules.{HostRules}
+use Rattle.tw_lineedit.specs.Run.{run_of}
+use Rattle.tw_lineedit.specs.ScreenRuns.{sized_scene, batches_of}
+use Rattle.tw_lineedit.proofs.StationLemmas.{closing-is}
+use Rattle.tw_screen_runs.specs.DrawnRuns.{closed_by, play_stations}
+use Rattle.tw_ansi.specs.declared.encode.Encoder.{Encoder}
+use Rattle.tw_ansi.specs.EcmaLaws.{IsColor}
+use Rattle.tw_ansi.specs.EcmaBatches.{IsReached}
+use Rattle.tw_ansi.specs.EcmaPaintings.{sent_batches}
+use Rattle.tw_ansi.specs.EcmaScreen.{receive_all}
+use Rattle.tw_ansi.specs.EcmaTexts.{ShowsPicture}
+use Rattle.tw_ansi.proofs.EcmaPaintings.{batches_are_shown}
+use Rattle.tw_sent_runs.specs.SentRuns.{IsSentAt, sent_paintings, shown_by}
+use Rattle.tw_sent_runs.proofs.SentLemmas.{sized_is, stations_sendable}
+use Rattle.tw_sent_runs.proofs.ClosingLemmas.{known_color, closing_shown, closing_color, last_of_all}
+use Rattle.laws_rows.specs.RowStations.{IsRowStation}
+use Rattle.laws_rows.specs.RowStations.IsRowStation.{Simple, WithRows}
+use Rattle.laws_rows.specs.RowRuns.{paintings_with_rows, painted_with_rows}
+use Rattle.laws_rows.specs.SentRows.{RowPaintingsAreShown, RowClosingsAreShown}
+use Rattle.laws_rows.proofs.RowRunLemmas.{row_paintings, row_closings}
+
+module _ {V A C : Type 0} (rules : HostRules V) (pen : Pen A C) where
+  -- such a station has two columns or more
+  two-columns : (station : SizedScene) → IsRowStation pen station → 2 ≤ station.cols
+  two-columns station (Simple simple) = simple.0
+  two-columns station (WithRows first others rows) = rows.wide
+
+  pub row_paintings_are_shown : RowPaintingsAreShown rules pen
+  row_paintings_are_shown f h w earlier station later are e t before carries k =
+      let stations = earlier ++ station ∷ [] in
+      let xs : List SizedScene = map (sized_scene rules) stations in
+      let played : List Batch = batches (map shot_of xs) in
+      let kept = pen.attributes e.attributes in
+      let drawn = row_paintings rules pen f (Some h) false w kept earlier station later are before k.comes in
+      let here : IsSentAt h w (sized_scene rules station) = last_of_all (IsSentAt h w) (sized_scene rules) earlier station k.sent in
+      let two : 2 ≤ w = subst (λ n. 2 ≤ n) here.cols (two-columns (sized_scene rules station) are.it) in
+      let some : 0 < w = omega (arith, two) in
+      let inside : before.col < w = omega (arith, k.comes.at_start, two) in
+      let taken : played ≡ batches_of rules stations = sym (sized_batches_are xs) ∙ drawn.batches in
+      let shown = subst (λ l. ShowsPicture pen h w (sent_batches played e).next (receive_all pen h w (sent_batches played e).bytes t) (play_sized (Some h) false pen w kept l before))
+      (sym (sized_is h w None xs k.sent))
+      (batches_are_shown pen h w played e t before carries some k.narrow (stations_sendable pen h w xs e before some k.sent k.color inside) k.shows) in (
+        subst (λ l. ShowsPicture pen h w (sent_batches l e).next (receive_all pen h w (sent_batches l e).bytes t) (play_stations rules pen (Some h) false w kept stations before)) taken shown,
+        drawn,
+      )
+
+  pub row_closings_are_shown : RowClosingsAreShown rules pen
+  row_closings_are_shown f h w earlier station later are e t before carries k none =
+      let stations = earlier ++ station ∷ [] in
+      let xs : List SizedScene = map (sized_scene rules) stations in
+      let painted = row_paintings_are_shown f h w earlier station later are e t before carries k in
+      let shown : PictureOf C = shown_by rules pen h w e stations before in
+      let known : Encoder = (sent_paintings rules pen stations e).next in
+      let kept = pen.attributes known.attributes in
+      let here : IsSentAt h w (sized_scene rules station) = last_of_all (IsSentAt h w) (sized_scene rules) earlier station k.sent in
+      let two : 2 ≤ w = subst (λ n. 2 ≤ n) here.cols (two-columns (sized_scene rules station) are.it) in
+      let m : Mark = mark_of (painting station.size.cols (sized_scene rules station).scene) in
+      let under : IsReached h (Relative (pos (1 + m.height) -ℤ m.row)) =
+      subst (λ n. let p = painting n (sized_scene rules station).scene in IsReached h (Relative (pos (1 + p.height) -ℤ p.row))) (sym here.cols) here.showable.under in
+      let taken : batches (map shot_of xs) ≡ batches_of rules stations = sym (sized_batches_are xs) ∙ painted.1.batches in
+      let color : IsColor known.attributes.background = subst (λ l. IsColor (sent_batches l e).next.attributes.background) taken (known_color h w None xs e k.sent k.color) in
+      let is : closing_if (run_of rules f).mark ≡ closing m ∷ [] =
+      closing-is rules k.comes.comes none ∙ ap (λ l. closing_batch (map shot_of l)) (map-append (sized_scene rules) earlier (station ∷ [])) ∙ closing_is (map (sized_scene rules) earlier) (sized_scene rules station) in
+      let top : ℕ = top_row (Some h) before.row (paintings_with_rows rules pen earlier station are) in
+      let closes = row_closings rules pen f (Some h) false w w (pen.attributes e.attributes) kept earlier station later are before k.comes none two in (
+        closes.0,
+        rw is (closing_shown pen h w (batches_of rules stations) m e t shown carries (omega (arith, two)) k.narrow under color painted.0),
+        subst (λ n. IsClosedSheet (Some h) w (blank_of pen) (top + sheet_last_row n (painted_with_rows rules pen station are.it).sheet) shown (closed_by rules pen (Some h) false n w kept f shown)) here.cols closes.1,
+        rw is (closing_color (batches_of rules stations) m e color),
+      )

@@ -1,0 +1,8 @@
+use Rattle.laws_rows.proofs.RowReadingLemmas.{row_reading_closings, row_reading_paintings}
+use Rattle.laws_rows.proofs.row_readings.Goals as goal
+
+pub returns-clause-paintings : goal.returns-clause-paintings
+returns-clause-paintings g c = λ pen. row_reading_paintings g.H.LineEditorHost.rules g.W.Write.contents pen
+
+pub returns-clause-closings : goal.returns-clause-closings
+returns-clause-closings g c = λ pen. row_reading_closings g.H.LineEditorHost.rules g.W.Write.contents pen

@@ -1,0 +1,10 @@
+pub mod Rows
+pub mod RowColumns
+pub mod RowScenes
+pub mod RowStations
+pub mod PlainRows
+pub mod RowCells
+pub mod RowRuns
+pub mod SentRows
+pub mod LineRuns
+pub mod RowReadings

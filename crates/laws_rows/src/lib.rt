@@ -1,0 +1,79 @@
+//! Lines of several rows: where each character and the cursor stand, and what screens show of them.
+//!
+//! A line may hold line feeds, and a host may show them: each ends a row, and a continuation prompt stands before the
+//! next one. No code of the editor is for rows, so each law is the contract of a function that does nothing.
+#![tactic(auto)]
+
+ghost use Rattle.laws_rows.specs.LineRuns.{LinesCloseBelow, LinesStandInRows};
+ghost use Rattle.laws_rows.specs.PlainRows.{PlainRowsAreRows};
+ghost use Rattle.laws_rows.specs.RowCells.{CellsByDivision, LastRowByDivision, ShownLinesAreRowStations};
+ghost use Rattle.laws_rows.specs.RowColumns.{CursorStandsInItsRow, RowColumnIsSettled, RowColumnLeadsThere};
+ghost use Rattle.laws_rows.specs.RowReadings.{RowReadingClosings, RowReadingPaintings};
+ghost use Rattle.laws_rows.specs.RowRuns.{HealedRowClosings, RowCallsStack, RowClosings, RowHealings, RowPaintings};
+ghost use Rattle.laws_rows.specs.RowScenes.{RowsAreAPreview};
+ghost use Rattle.laws_rows.specs.RowStations.{ClosesRowStations, HealsRowStations, RowStationsPlayAsSimple, ShowsRowStations};
+ghost use Rattle.laws_rows.specs.SentRows.{RowClosingsAreShown, RowPaintingsAreShown};
+ghost use Rattle.tw_screens.specs.Pens.{Pen};
+
+use std::io::Write;
+use tw_host::LineEditorHost;
+
+/// The settled column of the text that shows a line of printable rows leads the editor's division to the cell of the
+/// cursor in its row, so the cursor of the scene stands there. There is one on every screen of up to 65,535 columns.
+pub fn columns()
+    ensures column { RowColumnLeadsThere }
+    ensures cursor { CursorStandsInItsRow }
+    ensures settled { RowColumnIsSettled }
+{}
+
+/// A scene with rows is painted as a simple one that has the rows after the first as its preview, so what holds of lists
+/// of simple stations holds of stations with rows, for any kind of cells: the screen may have some rows or no bottom, and
+/// keep its columns or cut its rows. A clearing heals it, and the closing batch leaves it blank below the last row.
+pub fn row_stations<A, C>()
+    ensures preview { (pen : Pen A C) → RowsAreAPreview pen }
+    ensures played { (pen : Pen A C) → RowStationsPlayAsSimple pen }
+    ensures shown { (pen : Pen A C) → ShowsRowStations pen }
+    ensures healed { (pen : Pen A C) → HealsRowStations pen }
+    ensures closed { (pen : Pen A C) → ClosesRowStations pen }
+{}
+
+/// Lines of printable rows have rows, whatever their colours are. So have lines that are shown by the text with CR LF and
+/// a continuation prompt for each line feed; where such a painting is fresh, each character stands in the cell that
+/// division gives, and so does the cursor.
+pub fn row_cells<A, C>()
+    ensures plain { (pen : Pen A C) → PlainRowsAreRows pen }
+    ensures shown { (pen : Pen A C) → ShownLinesAreRowStations pen }
+    ensures cells { CellsByDivision }
+    ensures last { LastRowByDivision }
+{}
+
+/// After each painting of a run whose stations are simple or have rows, a screen shows the fresh painting. The closing
+/// batch ends below its last row, calls stack, and a clearing heals whatever was shown and painted before.
+pub fn row_runs<H: LineEditorHost, A, C>()
+    ensures painting { (pen : Pen A C) → RowPaintings H.rules pen }
+    ensures closing { (pen : Pen A C) → RowClosings H.rules pen }
+    ensures stacking { (pen : Pen A C) → RowCallsStack H.rules pen }
+    ensures healing { (pen : Pen A C) → RowHealings H.rules pen }
+    ensures healed_closing { (pen : Pen A C) → HealedRowClosings H.rules pen }
+{}
+
+/// After each painting of a run whose stations show lines in rows, on a screen of characters, the cursor and each
+/// character of the line stand in the cells that division gives; the closing batch ends in the row below the line.
+pub fn line_runs<H: LineEditorHost>()
+    ensures standing { LinesStandInRows H.rules }
+    ensures closing { LinesCloseBelow H.rules }
+{}
+
+/// A terminal that is sent the bytes of such a run shows the picture on which its batches were played: after each
+/// painting the fresh one, and after the closing batch the row below its last row.
+pub fn sent_rows<H: LineEditorHost, A, C>()
+    ensures paintings { (pen : Pen A C) → RowPaintingsAreShown H.rules pen }
+    ensures closings { (pen : Pen A C) → RowClosingsAreShown H.rules pen }
+{}
+
+/// The bytes that `read_line_from` has written, where it was answered and no event told another number of columns, are
+/// those of its run: so a terminal shows what `sent_rows` says.
+pub fn row_readings<H: LineEditorHost, W: Write, A, C>()
+    ensures paintings { (pen : Pen A C) → RowReadingPaintings H.rules W.contents pen }
+    ensures closings { (pen : Pen A C) → RowReadingClosings H.rules W.contents pen }
+{}
