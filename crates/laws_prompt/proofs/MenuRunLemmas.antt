@@ -28,7 +28,7 @@ use Rattle.tw_key_parts.specs.SearchWatch.{has_lines, searches_after}
 use Rattle.tw_prompt_host.specs.Going.{GoingView, at_rest, before_search_after, comes_back_after, give_up_key, line_at}
 use Rattle.tw_prompt_host.specs.MenuState.{MenuView, Closed, Unseen, Few, Open, Shown, back_key, is_completing, menu_after, menu_begun, open_if, step_of_menu, stepped, turned}
 use Rattle.tw_prompt_host.specs.MenuView.{asks, is_still, turn_line, turn_unless}
-use Rattle.tw_prompt_host.specs.PromptRules.{Answer, Prompted, answered, completing, edit_at, found, is_kept, judged, known_at, prompt_rules, turn_at}
+use Rattle.tw_prompt_host.specs.PromptRules.{Answer, Prompted, answered, completing, edit_at, found, is_kept, judged, known_at, opens_row, prompt_rules, turn_at}
 use Rattle.tw_prompt_host.specs.Validation.{is_accepting}
 use Rattle.tw_prompt_host.proofs.SearchLemmas.{said_all}
 use Rattle.laws_prompt.specs.MenuRuns.{ClosesAfterLines, IsMarked, IsMenuTold, TellsLine, TellsLines}
@@ -254,7 +254,7 @@ module _ {V S K : Type 0} (keys : KeyRules S K) (rules : HostRules V) where
         let answer = answered None None rcut in
         let r = judged keys rules v e cut value answer (Some (Few candidates)) (kept && is_accepting (action_of e)) in
         let action : or_default r.action e ≡ Some Complete =
-        ap (λ a. or_default a e) (said_all kept (action_of e) None (ap is_accepting turns.ready.1)) ∙ turns.ready.1 in (
+        ap (λ a. or_default a e) (said_all kept (opens_row keys rules v) (action_of e) None (ap is_accepting turns.ready.1)) ∙ turns.ready.1 in (
           subst (λ a. Leads (Few candidates) (apply_if Host r.value a (record s { cut = rcut }))) (sym action)
               (completes (record s { cut = rcut }) going (Few candidates) (found keys rules r.value) (sym fits.watch ∙ turns.still) turns.none turns.ready.0),
           tt,
@@ -262,7 +262,7 @@ module _ {V S K : Type 0} (keys : KeyRules S K) (rules : HostRules V) where
     turned_to (Open m) rcut value kept turns =
         let answer = answered None (completing None (Some m.line)) rcut in
         let r = judged keys rules v e cut value answer (Some (Open m)) (kept && is_accepting (Some Complete)) in
-        let action : or_default r.action e ≡ Some Complete = ap (λ a. or_default a e) (said_all kept (Some Complete) (Some Complete) refl) in
+        let action : or_default r.action e ≡ Some Complete = ap (λ a. or_default a e) (said_all kept (opens_row keys rules v) (Some Complete) (Some Complete) refl) in
         let gave = is_key give_up_key e in (
           subst (λ a. Leads (Open m) (apply_if Host r.value a (record s { cut = m.line }))) (sym action)
               (completes (record s { cut = m.line }) going (Open m) (found keys rules r.value) (sym fits.watch ∙ turns.still) turns.none (turns.ready.0, turns.ready.1, refl)),

@@ -16,6 +16,13 @@ menu 0 0 ab ac ad; type a\nkey Tab\nkey Tab; ends ac\r\n{}{bold}ac{}\r\n.. 2 mor
 menu 80 4 a1 a2345; type a\nkey Tab; ends a1\r\n{}{bold}a1   {}  a2345 => a1; yes
 menu 80 4 a我 ab; type a\nkey Tab\nkey Tab; ends ab\r\n{}a我  {bold}ab {} => ab; yes
 
+// Shift-Tab goes back, and from the first one to the last; without a menu it does nothing
+menu 80 4 ab ac ad; type a\nkey Tab\nkey S-Tab; ends ad\r\n{}ab  ac  {bold}ad{} => ad; yes
+menu 80 4 ab ac ad; type a\nkey Tab\nkey Tab\nkey S-Tab; ends ab\r\n{}{bold}ab{}  ac  ad => ab; yes
+menu 80 4 ab ac ad; type xa\nkey Left\nkey Left\nkey S-Tab => xa
+menu 80 4 ab ac ad; type a\nkey Tab\nkey S-Tab\nkey Tab; ends ab\r\n{}{bold}ab{}  ac  ad => ab; yes
+menu 80 4 ab ac ad; type a\nkey Tab\nkey S-Tab\nkey S-Tab\ntype x => acx
+
 // other keys take the menu away
 type us\nkey Tab; ends user => user; yes
 type us\nkey Tab\nkey Tab; ends users\r\n{}{bold}users     {}  user_roles => users; yes
@@ -23,6 +30,7 @@ type us\nkey Tab\nkey Tab\nkey Tab\nkey Tab; ends users\r\n{}{bold}users     {} 
 type us\nkey Tab\nkey Tab\nkey C-L; ends users\r\n{}{bold}users     {}  user_roles => users; yes
 type us\nkey Tab\nkey Tab\ntype x; ends usersx => usersx; yes
 type us\nkey Tab\nkey Tab\nkey Left; ends users => users; yes
+type us\nkey Tab\nkey Tab\nkey C-_; ends user => user; yes
 type o\nkey Tab; ends orders => orders; yes
 type x\nkey Tab; ends x => x; yes
 type us\nkey Tab\nkey Tab\nkey Enter; ends users => users; yes

@@ -4,16 +4,17 @@ use crate::tables::table_host;
 use nested_marks::common_pairs;
 use std::alloc::Global;
 use std::test::Fail;
-use test_cases::{expect_rows, painted_text, script_terminal};
+use test_cases::{expect_rows, painted_text, script_events};
 use tw_hosts::{PromptScreen, TableHost};
+use tw_input::{InputEvent, KeyCode, KeyEvent, Modifiers};
 use tw_key_parts::{
     Keys, KillRing, LastWords, LetterWords, PrefixSearch, ReadlineKeys, RowKeys, UndoSteps,
     WordKeys,
 };
 use tw_lineedit::{BasicHistory, LineEditor, LineEditorHost};
-use tw_prompt_host::{Going, Hints, MenuStyle, NestedLines, PromptHost};
+use tw_prompt_host::{Going, Hints, MenuStyle, NestedLines, PromptHost, Rows};
 use tw_surface::{CellAttributes, Intensity};
-use tw_terminal::ScriptTerminal;
+use tw_terminal::{ScreenSize, ScriptTerminal};
 
 type WordParts = (Keys<LetterWords>, (Keys<ReadlineKeys>, Keys<WordKeys>));
 
@@ -58,6 +59,7 @@ pub fn new_prompt(alloc: Global) -> Result<Prompt, Fail> {
             cols: 80,
             prompt: String::from_str(alloc, "> ")?,
         },
+        rows: Rows::One,
         going: Going::new(),
     })
 }
@@ -80,10 +82,27 @@ fn shown_text(alloc: Global, terminal: &ScriptTerminal) -> Result<String, Fail> 
     Ok(painted.replace(alloc, half.as_str(), "half")?)
 }
 
+/// Returns the events of a script, in which `key S-Tab` is a key too.
+fn events_of(alloc: Global, script: &str) -> Result<Vec<InputEvent>, Fail> {
+    let mut events = Vec::new(alloc);
+    for line in script.lines() {
+        if line == "key S-Tab" {
+            events.push(InputEvent::Key(KeyEvent {
+                key: KeyCode::Tab,
+                modifiers: Modifiers::SHIFT,
+            }))?;
+        } else {
+            events.append(&mut script_events(alloc, line)?)?;
+        }
+    }
+    Ok(events)
+}
+
 /// Reads a line from a script. Returns the line and the text of the last painting.
 fn read_script(alloc: Global, prompt: &mut Prompt, script: &str) -> Result<(String, String), Fail> {
     prompt.begin_line();
-    let mut terminal = script_terminal(alloc, script)?;
+    let size = ScreenSize { rows: 24, cols: 80 };
+    let mut terminal = ScriptTerminal::new(alloc, size, events_of(alloc, script)?);
     let answer = LineEditor::new(alloc, &mut terminal)?.read_line(prompt);
     let line = match answer {
         Ok(line) => line.ok_or("cancelled")?,
@@ -92,7 +111,8 @@ fn read_script(alloc: Global, prompt: &mut Prompt, script: &str) -> Result<(Stri
     Ok((line, shown_text(alloc, &terminal)?))
 }
 
-/// Obeys `remember LINE`, `cols COLS`, `hints under`, `searches accept` or `menu COLS ROWS WORDS`. Returns false for any other command.
+/// Obeys `remember LINE`, `cols COLS`, `hints under`, `searches accept`, `rows CONTINUATION` or `menu COLS ROWS WORDS`.
+/// Returns false for any other command.
 fn is_setup(alloc: Global, prompt: &mut Prompt, command: &str) -> Result<bool, Fail> {
     if let Some(line) = command.strip_prefix("remember ") {
         prompt.remember(line.replace(alloc, r"\t", "\t")?.as_str())?;
@@ -102,6 +122,8 @@ fn is_setup(alloc: Global, prompt: &mut Prompt, command: &str) -> Result<bool, F
         prompt.hints = Hints::Under;
     } else if command == "searches accept" {
         prompt.stops_failing_searches = false;
+    } else if let Some(continuation) = command.strip_prefix("rows ") {
+        prompt.rows = Rows::Several(String::from_str(alloc, continuation)?);
     } else if let Some(setup) = command.strip_prefix("menu ") {
         set_menu(alloc, prompt, setup)?;
     } else {

@@ -6,7 +6,7 @@ use std::test::Fail;
 use test_cases::expect_rows;
 use tw_host::OutputElement;
 use tw_hosts::{PromptScreen, styled};
-use tw_prompt_host::shown_in_rows;
+use tw_prompt_host::Rows;
 use tw_surface::{CellAttributes, Intensity};
 
 fn bold() -> CellAttributes {
@@ -59,14 +59,8 @@ fn shown(alloc: Global, command: &str) -> Result<String, Fail> {
         return Err(Fail::from("no boundary"));
     }
     let elements = elements_of(alloc, marked)?;
-    let (elements, column) = shown_in_rows(
-        alloc,
-        &screen,
-        ". ",
-        elements.as_slice(),
-        line.as_str(),
-        cursor,
-    )?;
+    let rows = Rows::Several(String::from_str(alloc, ". ")?);
+    let (elements, column) = rows.show(alloc, &screen, elements, line.as_str(), cursor)?;
     let text = text_of(alloc, elements.as_slice())?;
     Ok(format!(in alloc; "{text}|{column}")?)
 }

@@ -24,6 +24,16 @@ key C-R\ntype zz\nkey Enter; ends {}open({}  failing: no line has it{}{}\r\nbck-
 key C-R\ntype zz\nkey Enter\nkey Backspace; ends {}open({}\r\nbck-i-search: z_ => z; yes
 key C-R\ntype copz\nkey Enter\nkey Backspace\nkey Enter => copy a
 searches accept; key C-R\ntype copz\nkey Enter => copy a
+// Ctrl-G gives a search up: the line from before it comes back with its cursor
+type ab\nkey Left\nkey C-R\ntype op\nkey C-G\ntype X => aXb
+type ab\nkey C-R\ntype op\nkey C-R\nkey C-G\nkey Home\ntype X => Xab
+type ab\nkey C-R\ntype zz\nkey C-G\nkey C-A\ntype X => Xab
+type ab\nkey C-R\ntype op\nkey C-G\nkey C-R\ntype c\nkey C-G\ntype X => abX
+type ab\nkey C-G\ntype X => abX
+// where lines are shown in rows, Enter begins a row in a line that is open, and accepts a whole one
+rows . ; type f(\nkey Enter\ntype x)\nkey Enter\ntype z => f(\nx)
+rows . ; type f(\nkey Enter; ends f(\r\n.  => f(\n; yes
+rows . ; key C-R\ntype zz\nkey Enter; ends {}open({}  failing: no line has it{}{}\r\nbck-i-search: zz_ => zz; yes
 // a key of the parts ends what is said of the line
 type f(x y\nkey Enter\nkey A-t; ends y f(x => y f(x; yes
 "#;

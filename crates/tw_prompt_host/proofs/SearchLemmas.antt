@@ -1,5 +1,5 @@
 -- The line before a search, and a search that is given up.
-use Rattle.std.proofs.Common.{◌≡◌, ◌∙◌, ◌&&◌, Bool, true, false, refl, ap, sym, Option, Some, None}
+use Rattle.std.proofs.Common.{◌≡◌, ◌∙◌, ◌&&◌, not, Bool, true, false, refl, ap, sym, Option, Some, None}
 use Rattle.tw_input.specs.EventView.{EventView, Key}
 use Rattle.tw_line.specs.Cut.{Cut}
 use Rattle.tw_line.specs.declared.movements.Movement.TheVariants as movement
@@ -12,12 +12,13 @@ use Rattle.tw_prompt_host.specs.Going.{before_search_after, comes_back_after, gi
 use Rattle.tw_prompt_host.specs.MenuState.{MenuView}
 use Rattle.tw_prompt_host.specs.PromptLaws.{GivesLineBack, KeepsLineOfSearch}
 use Rattle.tw_prompt_host.specs.PromptRules.{Prompted, prompt_rules, said}
+use Rattle.tw_prompt_host.specs.Rows.{are_shown}
 use Rattle.tw_prompt_host.specs.Validation.{is_accepting}
 
--- an action that does not accept the line is not kept back
-pub said_all : (kept : Bool) (a action : Option ActionView) → is_accepting a ≡ false → said (kept && is_accepting a) action ≡ action
-said_all true a action e = ap (λ b. said b action) e
-said_all false a action e = refl
+-- an action that does not accept the line is not replaced
+pub said_all : (kept opens : Bool) (a action : Option ActionView) → is_accepting a ≡ false → said (kept && is_accepting a) opens action ≡ action
+said_all true opens a action e = ap (λ b. said b opens action) e
+said_all false opens a action e = refl
 
 begun_line : (searched searches : Bool) (line : Cut) (before : Option Cut) → searched ≡ false → searches ≡ true → before_search_after searched searches line before ≡ Some line
 begun_line false true line before e d = refl
@@ -46,7 +47,7 @@ module _ {V S K : Type 0} (keys : KeyRules S K) (rules : HostRules V) where
   gave v cut searching none =
       let fails = v.stops_failing_searches && is_failing v.lines (line_at v.going cut).line in
       let after = Host.resolve v (Key give_up_key) cut in
-      let answer : after.action ≡ Some (Move movement.None) = rw (searching, none) (said_all fails (Some (Move movement.None)) (Some (Move movement.None)) refl) in
+      let answer : after.action ≡ Some (Move movement.None) = rw (searching, none) (said_all fails (are_shown v.rows && not true) (Some (Move movement.None)) (Some (Move movement.None)) refl) in
       (answer, ap (λ a. comes_back_after true (searches_after (has_lines v.lines) (or_default a (Key give_up_key)) v.going.searching) v.going.before_search) answer)
 
   pub gives_line_back : GivesLineBack keys rules

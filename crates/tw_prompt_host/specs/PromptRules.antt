@@ -1,15 +1,16 @@
 -- A prompt: a host with a history, completers, keys, hints, a validator, a menu and a screen.
 use Rattle.std.specs.Prelude.{ℕ, ◌==◌, ◌&&◌, Bool, true, false, not, List, [], ◌++◌, length, Option, Some, None, option_map, unwrap_or, if◌then◌else◌}
+use Rattle.tw_surface.specs.Characters.{lf}
 use Rattle.tw_surface.specs.Defaults.{default_attributes}
 use Rattle.tw_input.specs.EventView.{EventView}
 use Rattle.tw_line.specs.Cut.{Cut}
 use Rattle.tw_line.specs.declared.movements.Movement.TheVariants as movement
-use Rattle.tw_host.specs.ActionView.{ActionView, Complete, InsertText, Move, NoAction}
+use Rattle.tw_host.specs.ActionView.{ActionView, Complete, InsertChar, InsertText, Move, NoAction}
 use Rattle.tw_host.specs.CandidateView.{CandidateView}
 use Rattle.tw_host.specs.ElementView.{ElementView}
 use Rattle.tw_host.specs.HostRules.{Highlight, HostRules, Resolution, or_default}
 use Rattle.tw_host.specs.KeyTable.{action_of}
-use Rattle.tw_hosts.specs.SettledRules.{PromptScreenView, screen_after, settled_highlight}
+use Rattle.tw_hosts.specs.SettledRules.{PromptScreenView, screen_after}
 use Rattle.tw_completion_parts.specs.Completers.{ContextCompleterView, completed_by}
 use Rattle.tw_completion_parts.specs.FileNames.{ListingView}
 use Rattle.tw_completion_parts.specs.SharedCandidate.{beginning_first}
@@ -23,12 +24,13 @@ use Rattle.tw_prompt_host.specs.FailingSearch.{failing_text, is_failing}
 use Rattle.tw_prompt_host.specs.MenuLayout.{style_after}
 use Rattle.tw_prompt_host.specs.MenuState.{MenuView, menu_begun, turned}
 use Rattle.tw_prompt_host.specs.MenuView.{is_open, known, offered, page_or, turn_line, turn_unless}
+use Rattle.tw_prompt_host.specs.Rows.{are_shown, highlight_on}
 use Rattle.tw_prompt_host.specs.Validation.{is_accepting, keeps_line, shown_lack}
 use Rattle.tw_prompt_host.specs.declared.hint.Hints.{Hints}
 use Rattle.tw_prompt_host.specs.declared.hint.Hints.TheVariants.{After}
 use Rattle.tw_prompt_host.specs.declared.layout.MenuStyle.{MenuStyle}
 
--- what the application's host holds, the lines of the history and those of them that are lent, the completers with listings of directories, what the keys hold, how hints are shown, whether a search that fails is not accepted, what lines lack, how the menu is shown, the screen, and what belongs to one line
+-- what the application's host holds, the lines of the history and those of them that are lent, the completers with listings of directories, what the keys hold, how hints are shown, whether a search that fails is not accepted, what lines lack, how the menu is shown, the screen, the prompt before other rows of a line if it is shown in rows, and what belongs to one line
 pub record Prompted (V S : Type 0) : Type 0 where
   pub host : V
   pub lines : List (List ℕ)
@@ -41,6 +43,7 @@ pub record Prompted (V S : Type 0) : Type 0 where
   pub lacks : List ℕ → Option (List ℕ)
   pub style : MenuStyle
   pub screen : PromptScreenView
+  pub rows : Option (List ℕ)
   pub going : GoingView
 
 -- what is answered to an event: the line, an action if there is one, and what a part keeps of it if it was its edit
@@ -76,10 +79,14 @@ module _ {K : Type 0} where
   answered None (Some edit) cut = record { cut = unwrap_or edit.cut cut; action = Some edit.action; kept = edit.kept }
   answered None None cut = record { cut = cut; action = None; kept = None }
 
--- an action that is kept back does nothing
-abbrev pub said : Bool → Option ActionView → Option ActionView
-said true action = Some NoAction
-said false action = action
+-- an action that would accept a line that is kept: it begins a row, or does nothing
+abbrev pub instead : Bool → ActionView
+instead true = InsertChar 1 lf
+instead false = NoAction
+
+abbrev pub said : Bool → Bool → Option ActionView → Option ActionView
+said true opens action = Some (instead opens)
+said false opens action = action
 
 -- what completers offer, or else these
 abbrev pub completed_or : Option (List CandidateView) → List CandidateView → List CandidateView
@@ -142,6 +149,10 @@ module _ {V S K : Type 0} (keys : KeyRules S K) (rules : HostRules V) where
   abbrev pub is_kept : Prompted V S → List ℕ → Bool
   is_kept v line = keeps_line v.going.searching (v.stops_failing_searches && is_failing v.lines line) (v.lacks line)
 
+  -- in its place a row begins, if the line is shown in rows and the editor does not search
+  abbrev pub opens_row : Prompted V S → Bool
+  opens_row v = are_shown v.rows && not v.going.searching
+
   -- an answer would accept it
   abbrev pub is_back : Prompted V S → EventView → Cut → Option ActionView → Bool
   is_back v event cut action = is_kept v cut.line && is_accepting (or_default action event)
@@ -162,9 +173,9 @@ module _ {V S K : Type 0} (keys : KeyRules S K) (rules : HostRules V) where
 
   abbrev pub judged : Prompted V S → EventView → Cut → V → Answer K → Option MenuView → Bool → Resolution (Prompted V S)
   judged v event cut value answer turn back =
-      let action = said back answer.action in
+      let action = said back (opens_row v) answer.action in
       followed v value answer.kept
-      (record { event = event; before = cut; after = answer.cut; action = or_default action event; back = back; turn = turn }) action
+      (record { event = event; before = cut; after = answer.cut; action = or_default action event; back = back && not (opens_row v); turn = turn }) action
 
   -- what is answered to an event at a line: the host goes first, and then the edit, which a completion is too
   abbrev pub answer_at : Prompted V S → EventView → Cut → Answer K
@@ -186,7 +197,7 @@ module _ {V S K : Type 0} (keys : KeyRules S K) (rules : HostRules V) where
     lines = λ v. v.lines;
     prompt = λ v text. rules.prompt v.host text;
     preview = λ v line. page_or v.style v.going.menu (shown_lack v.going.kept (v.lacks line) (shown_under (rules.preview v.host line) (hint_under v line)));
-    highlight = λ v cut. with_more (settled_highlight v.screen cut (rules.highlight v.host cut)) (after_line v cut);
+    highlight = λ v cut. with_more (highlight_on v.screen v.rows cut (rules.highlight v.host cut)) (after_line v cut);
     candidates = λ v cut. offered v.going.menu (found v cut);
     resolve = λ v event cut. resolved_at v event (line_at v.going cut);
   }

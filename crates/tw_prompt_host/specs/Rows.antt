@@ -12,6 +12,8 @@ use Rattle.tw_host.specs.HostRules.{Highlight}
 use Rattle.tw_hosts.specs.Settling.{settled_column}
 use Rattle.tw_hosts.specs.SettledRules.{PromptScreenView, column_on}
 use Rattle.tw_prompt_host.specs.declared.rows.OpenRow.{OpenRow}
+use Rattle.tw_prompt_host.specs.declared.rows.Rows.{Rows}
+use Rattle.tw_prompt_host.specs.declared.rows.Rows.TheVariants as rows
 
 -- ---- the rows
 
@@ -148,3 +150,27 @@ module _ (screen : PromptScreenView) (continuation : List ℕ) where
   -- what a host shows, in rows
   abbrev pub highlight_in_rows : Cut → Highlight → Highlight
   highlight_in_rows cut shown = record { elements = elements_in_rows shown.elements; column = column_in_rows cut }
+
+-- the view of how a line is shown: in rows after a continuation prompt, or as it is
+abbrev pub rows_view : Rows → Option (List ℕ)
+rows_view rows.One = None
+rows_view (rows.Several continuation) = Some (string_bytes continuation)
+
+-- whether a line may get more rows
+abbrev pub are_shown : Option (List ℕ) → Bool
+are_shown None = false
+are_shown (Some continuation) = true
+
+-- the elements of a line, in rows if it is shown so
+abbrev pub elements_on : PromptScreenView → Option (List ℕ) → List ElementView → List ElementView
+elements_on screen None elements = elements
+elements_on screen (Some continuation) elements = elements_in_rows screen continuation elements
+
+-- the column of its cursor
+abbrev pub cursor_on : PromptScreenView → Option (List ℕ) → Cut → ℕ
+cursor_on screen None cut = column_on screen cut
+cursor_on screen (Some continuation) cut = column_in_rows screen continuation cut
+
+-- what a host shows, on a screen
+abbrev pub highlight_on : PromptScreenView → Option (List ℕ) → Cut → Highlight → Highlight
+highlight_on screen rows cut shown = record { elements = elements_on screen rows shown.elements; column = cursor_on screen rows cut }

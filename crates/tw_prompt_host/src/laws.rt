@@ -3,6 +3,7 @@
 ghost use Rattle.tw_host.specs.Faithful.{IsFaithful};
 ghost use Rattle.tw_prompt_host.specs.Prepared.{prepared_rules};
 ghost use Rattle.tw_prompt_host.specs.PromptLaws.{GivesLineBack, KeepsLineOfSearch, PromptHasWatch};
+ghost use Rattle.tw_prompt_host.specs.RowLaws.{ElementsAreSpread, OneRowIsSettled, PrintableCutIsShown, PrintableIsShown, PrintableIsSpread};
 
 use tw_host::LineEditorHost;
 use tw_key_parts::KeyPart;
@@ -18,6 +19,16 @@ pub fn watch<H: LineEditorHost, K: KeyPart>()
 pub fn given_up<H: LineEditorHost, K: KeyPart>()
     ensures kept { KeepsLineOfSearch K.keys H.rules }
     ensures back { GivesLineBack K.keys H.rules }
+{}
+
+/// A line of one row is shown as on a screen without rows. The text of elements that are shown in rows is their text in
+/// rows. Printable rows are shown by counting their characters, and so is the cursor in them.
+pub fn rows()
+    ensures one { OneRowIsSettled }
+    ensures elements { ElementsAreSpread }
+    ensures text { PrintableIsSpread }
+    ensures cursor { PrintableCutIsShown }
+    ensures shown { PrintableIsShown }
 {}
 
 /// A prepared host shows the prompt and the line themselves, whatever the ranges are.

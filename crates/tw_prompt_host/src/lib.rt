@@ -20,7 +20,6 @@ mod nested_lines;
 mod plain;
 mod prepared;
 mod prompt;
-pub mod row_laws;
 mod rows;
 mod validator;
 
@@ -30,5 +29,5 @@ pub use layout::MenuStyle;
 pub use nested_lines::NestedLines;
 pub use prepared::{PreparedHost, StyledRange, styled_ranges};
 pub use prompt::PromptHost;
-pub use rows::{column_in_rows, shown_in_rows};
+pub use rows::Rows;
 pub use validator::{AllLines, Validator};

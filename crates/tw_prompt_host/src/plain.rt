@@ -1,8 +1,9 @@
 //! The prompt to begin with.
 
-ghost use Rattle.std.specs.Prelude.{◌≡◌, [], true, IfOk};
+ghost use Rattle.std.specs.Prelude.{◌≡◌, [], true, None, IfOk};
 ghost use Rattle.tw_hosts.specs.SettledRules.{screen_view};
 ghost use Rattle.tw_prompt_host.specs.Going.{at_rest, going_view};
+ghost use Rattle.tw_prompt_host.specs.Rows.{rows_view};
 ghost use Rattle.tw_prompt_host.specs.MenuLayout.{reverse_style};
 ghost use Rattle.tw_prompt_host.specs.declared.hint.Hints.TheVariants.{Off};
 
@@ -10,6 +11,7 @@ use crate::going::Going;
 use crate::hint::Hints;
 use crate::layout::MenuStyle;
 use crate::prompt::PromptHost;
+use crate::rows::Rows;
 use crate::validator::AllLines;
 use std::alloc::{AllocError, Global};
 use tw_history::BasicHistory;
@@ -29,6 +31,7 @@ impl PromptHost<NopLineEditorHost, BasicHistory, Keys<ReadlineKeys>, AllLines> {
         ensures searches { IfOk result (λ it. it.stops_failing_searches ≡ true) }
         ensures menu { IfOk result (λ it. it.menu ≡ reverse_style cols 4) }
         ensures screen { IfOk result (λ it. screen_view it.screen ≡ record { cols = cols; prompt = prompt.now }) }
+        ensures rows { IfOk result (λ it. rows_view it.rows ≡ None) }
         ensures going { IfOk result (λ it. going_view it.going ≡ at_rest) }
     {
         let screen = PromptScreen {
@@ -46,6 +49,7 @@ impl PromptHost<NopLineEditorHost, BasicHistory, Keys<ReadlineKeys>, AllLines> {
             validator: AllLines,
             menu: MenuStyle::in_reverse(cols, MENU_ROWS),
             screen,
+            rows: Rows::One,
             going: Going::new(),
         })
     }
@@ -65,6 +69,7 @@ impl<H: Drop, L: Drop, K: Drop, V: Drop> PromptHost<H, L, K, V> {
           validator = self.validator;
           menu = self.menu;
           screen = self.screen;
+          rows = self.rows;
           going = self.going;
         } }
     {
@@ -79,6 +84,7 @@ impl<H: Drop, L: Drop, K: Drop, V: Drop> PromptHost<H, L, K, V> {
             validator: self.validator,
             menu: self.menu,
             screen: self.screen,
+            rows: self.rows,
             going: self.going,
         }
     }
@@ -96,6 +102,7 @@ impl<H: Drop, L: Drop, K: Drop, V: Drop> PromptHost<H, L, K, V> {
           validator = self.validator;
           menu = self.menu;
           screen = self.screen;
+          rows = self.rows;
           going = self.going;
         } }
     {
@@ -110,6 +117,7 @@ impl<H: Drop, L: Drop, K: Drop, V: Drop> PromptHost<H, L, K, V> {
             validator: self.validator,
             menu: self.menu,
             screen: self.screen,
+            rows: self.rows,
             going: self.going,
         }
     }
@@ -127,6 +135,7 @@ impl<H: Drop, L: Drop, K: Drop, V: Drop> PromptHost<H, L, K, V> {
           validator = self.validator;
           menu = self.menu;
           screen = self.screen;
+          rows = self.rows;
           going = self.going;
         } }
     {
@@ -141,6 +150,7 @@ impl<H: Drop, L: Drop, K: Drop, V: Drop> PromptHost<H, L, K, V> {
             validator: self.validator,
             menu: self.menu,
             screen: self.screen,
+            rows: self.rows,
             going: self.going,
         }
     }
@@ -158,6 +168,7 @@ impl<H: Drop, L: Drop, K: Drop, V: Drop> PromptHost<H, L, K, V> {
           validator = validator;
           menu = self.menu;
           screen = self.screen;
+          rows = self.rows;
           going = self.going;
         } }
     {
@@ -172,6 +183,7 @@ impl<H: Drop, L: Drop, K: Drop, V: Drop> PromptHost<H, L, K, V> {
             validator,
             menu: self.menu,
             screen: self.screen,
+            rows: self.rows,
             going: self.going,
         }
     }

@@ -1,6 +1,6 @@
 //! The prompt, and the order in which its parts answer.
 
-ghost use Rattle.std.specs.Prelude.{◌≡◌, ◌&&◌, IfOk, OnErr, OnOk, IsCharBoundary, None, if◌then◌else◌, map, option_map, refl, string_bytes};
+ghost use Rattle.std.specs.Prelude.{◌≡◌, ◌&&◌, IfOk, OnErr, OnOk, IsCharBoundary, None, if◌then◌else◌, map, not, option_map, refl, string_bytes};
 ghost use Rattle.tw_host.specs.ActionView.{action_view};
 ghost use Rattle.tw_host.specs.CandidateView.{candidate_view};
 ghost use Rattle.tw_host.specs.ElementView.{element_view};
@@ -20,7 +20,8 @@ ghost use Rattle.tw_prompt_host.specs.Hint.{are_on, hint_of, hint_taken_by};
 ghost use Rattle.tw_prompt_host.specs.FailingSearch.{is_failing};
 ghost use Rattle.tw_prompt_host.specs.MenuLayout.{style_after};
 ghost use Rattle.tw_prompt_host.specs.MenuView.{known, menu_view, turn_line, turn_unless, turn_view};
-ghost use Rattle.tw_prompt_host.specs.PromptRules.{Prompted, after_line, answer_at, answered, completing, edit_at, followed, failing_if, found, hint_if_after, hint_under, is_hinted, is_kept, leaving, prompt_rules, said, turn_at, turn_taken_at};
+ghost use Rattle.tw_prompt_host.specs.PromptRules.{Prompted, after_line, answer_at, answered, completing, edit_at, followed, failing_if, found, hint_if_after, hint_under, is_hinted, is_kept, leaving, opens_row, prompt_rules, said, turn_at, turn_taken_at};
+ghost use Rattle.tw_prompt_host.specs.Rows.{rows_view};
 ghost use Rattle.tw_prompt_host.specs.Validation.{is_accepting};
 
 use crate::after_line::after_line_on;
@@ -29,6 +30,7 @@ use crate::going::{Going, gives_up};
 use crate::hint::{Hints, history_hint, is_taking, part_taken};
 use crate::layout::{MenuStyle, menu_page};
 use crate::menu::{Menu, Turn, copied};
+use crate::rows::Rows;
 use crate::validator::Validator;
 use std::alloc::{AllocError, Global};
 use tw_completion_parts::{ContextCompleter, Listing, beginning_first, completed_by};
@@ -70,6 +72,9 @@ pub struct PromptHost<H, L, K, V> {
     pub menu: MenuStyle,
     /// The screen and the prompt, for the column of the cursor.
     pub screen: PromptScreen,
+    /// How a line of several rows is shown. If it is shown in rows, accepting a line that is not whole begins a row. Put
+    /// `RowKeys` before other parts then.
+    pub rows: Rows,
     /// The state of the current line.
     pub going: Going,
 }
@@ -137,25 +142,28 @@ fn turn_unless<K: KeyPart>(
     }
 }
 
-/// Holds back an action, or else the key table's, that would accept a line which is kept.
+/// Replaces an action, or else the key table's, that would accept a line which is kept: it begins a row, or does nothing.
+/// Returns true if it is held back.
 fn judged(
     keeps: bool,
+    opens: bool,
     _event: &InputEvent,
     action: Option<Action>,
     default: Option<&Action>,
 ) -> (bool, Option<Action>)
     requires { option_map (λ action. action_view action.now) default ≡ action_of (event_view _event.now) }
-    ensures back { result.0 ≡ (keeps && is_accepting (or_default (option_map action_view action) (event_view _event.now))) }
-    ensures action { option_map action_view result.1 ≡ said result.0 (option_map action_view action) }
+    ensures back { result.0 ≡ ((keeps && is_accepting (or_default (option_map action_view action) (event_view _event.now))) && not opens) }
+    ensures action { option_map action_view result.1
+        ≡ said (keeps && is_accepting (or_default (option_map action_view action) (event_view _event.now))) opens (option_map action_view action) }
 {
     let current = match &action {
         Some(action) => Some(action),
         None => default,
     };
-    if keeps && is_accepting(current) {
-        (true, Some(Action::NoAction))
-    } else {
-        (false, action)
+    match (keeps && is_accepting(current), opens) {
+        (true, true) => (false, Some(Action::InsertChar(1, '\n'))),
+        (true, false) => (true, Some(Action::NoAction)),
+        (false, _) => (false, action),
     }
 }
 
@@ -188,6 +196,13 @@ impl<H: LineEditorHost, L: History + LentLines, K: KeyPart, V: Validator> Prompt
             return self.is_failing(alloc, line);
         }
         Ok(self.validator.lack(alloc, line)?.is_some())
+    }
+
+    /// Returns true if a row begins in place of accepting a line that is not whole.
+    fn opens_row(&self) -> bool
+        ensures { result ≡ opens_row K.keys H.rules (⟦<PromptHost<H, L, K, V> as LineEditorHost>⟧.value self.now) }
+    {
+        self.rows.are_shown() && !self.going.searching
     }
 
     /// Returns the hint under a line.
@@ -525,6 +540,7 @@ impl<H: LineEditorHost, L: History + LentLines, K: KeyPart, V: Validator> LineEd
       lacks = V.lacks it.validator;
       style = it.menu;
       screen = screen_view it.screen;
+      rows = rows_view it.rows;
       going = going_view it.going;
     } };
 
@@ -571,10 +587,13 @@ impl<H: LineEditorHost, L: History + LentLines, K: KeyPart, V: Validator> LineEd
         line: &str,
         cursor_position: usize,
     ) -> Result<(Vec<OutputElement>, usize), AllocError> {
-        let (mut elements, _) = self.host.highlight_line(alloc, line, cursor_position)?;
+        let (elements, _) = self.host.highlight_line(alloc, line, cursor_position)?;
+        let (mut shown, column) = self
+            .rows
+            .show(alloc, &self.screen, elements, line, cursor_position)?;
         let mut more = self.after_line(alloc, line, cursor_position)?;
-        elements.append(&mut more)?;
-        Ok((elements, self.screen.column(line, cursor_position)))
+        shown.append(&mut more)?;
+        Ok((shown, column))
     }
 
     fn complete(
@@ -599,8 +618,9 @@ impl<H: LineEditorHost, L: History + LentLines, K: KeyPart, V: Validator> LineEd
         let default = default_action(alloc, event)?;
         let before = self.line_at(alloc, editor)?;
         let keeps = self.keeps(alloc, before.get_line())?;
+        let opens = self.opens_row();
         let (action, note, turn) = self.answer(alloc, event, default.as_ref(), &before, editor)?;
-        let (back, action) = judged(keeps, event, action, default.as_ref());
+        let (back, action) = judged(keeps, opens, event, action, default.as_ref());
         match action {
             Some(action) => {
                 self.follow(

@@ -6,12 +6,21 @@ ghost use Rattle.tw_surface.specs.Defaults.{default_attributes};
 ghost use Rattle.tw_host.specs.ElementView.{element_view, Text};
 ghost use Rattle.tw_hosts.specs.SettledRules.{screen_view};
 ghost use Rattle.tw_line.specs.Cut.{cut_at};
-ghost use Rattle.tw_prompt_host.specs.Rows.{before_row, break_elements, column_in_rows, elements_in_rows, elements_of_text, first_row, is_full, next_row, row_behind, row_break, row_view, row_with, spread_from};
+ghost use Rattle.tw_prompt_host.specs.Rows.{are_shown, before_row, break_elements, column_in_rows, cursor_on, elements_in_rows, elements_of_text, elements_on, first_row, is_full, next_row, row_behind, row_break, row_view, row_with, rows_view, spread_from};
 
 use std::alloc::{AllocError, Global};
 use tw_host::OutputElement;
 use tw_hosts::{PromptScreen, settled_column};
 use tw_surface::{AttributeChange, CellAttributes, unicode_column_width};
+
+/// How a line of several rows is shown. A line feed ends a row.
+#[derive(Debug, Drop)]
+pub enum Rows {
+    /// As it is: right for lines without line feeds.
+    One,
+    /// In rows. Before each one but the first stands this continuation prompt.
+    Several(String),
+}
 
 /// The row that is being shown.
 #[derive(Debug, Drop)]
@@ -123,7 +132,7 @@ fn spread(
 }
 
 /// Returns the column of the cursor of a line that is shown in rows.
-pub fn column_in_rows(
+fn column_in_rows(
     alloc: Global,
     screen: &PromptScreen,
     continuation: &str,
@@ -248,26 +257,41 @@ fn elements_in_rows(
     Ok(shown)
 }
 
-/// Shows the elements of a line in rows, and returns them with the column of the cursor. Each line feed becomes CR LF
-/// and the continuation prompt. A row that fills its last column gets a space at its end, a cell for the cursor. Both
-/// have the default attributes if the line sets any.
-///
-/// The column is that of `line`, so the texts of `elements` should be the line.
-pub fn shown_in_rows(
-    alloc: Global,
-    screen: &PromptScreen,
-    continuation: &str,
-    elements: &[OutputElement],
-    line: &str,
-    cursor: usize,
-) -> Result<(Vec<OutputElement>, usize), AllocError>
-    requires { IsCharBoundary line.now cursor }
-    ensures elements { IfOk result (λ shown. map element_view shown.0.items
-        ≡ elements_in_rows (screen_view screen.now) continuation.now (map element_view elements.now)) }
-    ensures column { IfOk result (λ shown. shown.1
-        ≡ column_in_rows (screen_view screen.now) continuation.now (cut_at line.now cursor)) }
-{
-    let column = column_in_rows(alloc, screen, continuation, line, cursor)?;
-    let shown = elements_in_rows(alloc, screen, continuation, elements)?;
-    Ok((shown, column))
+impl Rows {
+    /// Returns true if lines are shown in rows.
+    pub fn are_shown(&self) -> bool
+        ensures { result ≡ are_shown (rows_view self.now) }
+    {
+        matches!(self, Rows::Several(_))
+    }
+
+    /// Shows the elements of a line, and returns them with the column of the cursor. If the line is shown in rows, each
+    /// line feed becomes CR LF and the continuation prompt. A row that fills its last column gets a space at its end, a
+    /// cell for the cursor. Both have the default attributes if the line sets any.
+    ///
+    /// The column is that of `line`, so the texts of `elements` should be the line.
+    pub fn show(
+        &self,
+        alloc: Global,
+        screen: &PromptScreen,
+        elements: Vec<OutputElement>,
+        line: &str,
+        cursor: usize,
+    ) -> Result<(Vec<OutputElement>, usize), AllocError>
+        requires { IsCharBoundary line.now cursor }
+        ensures elements { IfOk result (λ shown. map element_view shown.0.items
+            ≡ elements_on (screen_view screen.now) (rows_view self.now) (map element_view elements.items)) }
+        ensures column { IfOk result (λ shown. shown.1
+            ≡ cursor_on (screen_view screen.now) (rows_view self.now) (cut_at line.now cursor)) }
+    {
+        match self {
+            Rows::One => Ok((elements, screen.column(line, cursor))),
+            Rows::Several(continuation) => {
+                let continuation = continuation.as_str();
+                let column = column_in_rows(alloc, screen, continuation, line, cursor)?;
+                let shown = elements_in_rows(alloc, screen, continuation, &elements)?;
+                Ok((shown, column))
+            }
+        }
+    }
 }
