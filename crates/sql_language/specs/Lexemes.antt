@@ -1,9 +1,10 @@
--- The first token of an SQL text: how long it is, and what it is.
-use Rattle.std.specs.Prelude.{ℕ, suc, List, [], ◌∷◌, Some, None}
+-- The tokens of an SQL text.
+use Rattle.std.specs.Prelude.{ℕ, zero, suc, List, [], ◌∷◌, Some, None, drop, length, take}
 use Rattle.sql_language.specs.declared.lexer.Quote.{Quote}
 use Rattle.sql_language.specs.declared.lexer.Quote.TheVariants.{Single, Double, Grave, Square}
 use Rattle.sql_language.specs.declared.lexer.Inside.{Inside}
 use Rattle.sql_language.specs.declared.lexer.Inside.TheVariants.{White, Word, Number, Mark, Dash, Slash, Line, Block, Star, BlockEnd, Quoted, Closed}
+use Rattle.sql_language.specs.declared.tokens.Token.{Token}
 use Rattle.sql_language.specs.declared.tokens.TokenKind.{TokenKind}
 use Rattle.sql_language.specs.declared.tokens.TokenKind.TheVariants as kind
 use Rattle.sql_language.specs.Lexer.{fresh, continued}
@@ -49,3 +50,27 @@ token_kind Star = kind.Comment
 token_kind BlockEnd = kind.Comment
 token_kind (Quoted quote) = quoted_kind quote
 token_kind (Closed quote) = quoted_kind quote
+
+-- a token: what it is, and its bytes
+pub record TokenView : Type 0 where
+  pub kind : TokenKind
+  pub text : List ℕ
+
+abbrev pub token_view : Token → TokenView
+token_view token = record { kind = token.kind; text = token.text.now }
+
+-- the first token of a text
+abbrev pub lexeme : List ℕ → TokenView
+lexeme text = record { kind = token_kind (lexeme_inside text); text = take (lexeme_len text) text }
+
+-- the first so many tokens of a text
+unfoldable pub first_tokens : ℕ → List ℕ → List TokenView
+first_tokens zero text = []
+first_tokens (suc count) [] = []
+first_tokens (suc count) (byte ∷ bytes) =
+    let text = byte ∷ bytes in
+    lexeme text ∷ first_tokens count (drop (lexeme_len text) text)
+
+-- all of them: they are no more than bytes
+abbrev pub tokenize : List ℕ → List TokenView
+tokenize text = first_tokens (length text) text

@@ -1,8 +1,8 @@
 use Rattle.std.proofs.Common.{rules}
 use Rattle.sql_language.proofs.catalog.completes.Goals as goal
 
-pub returns-else-begins_but_case : goal.returns-else-begins_but_case
-returns-else-begins_but_case c = search rules
+pub returns-else-is_start_of : goal.returns-else-is_start_of
+returns-else-is_start_of c = search rules
 
-pub returns-then-begins_but_case : goal.returns-then-begins_but_case
-returns-then-begins_but_case c = search rules
+pub returns-then-is_start_of : goal.returns-then-is_start_of
+returns-then-is_start_of c = search rules
