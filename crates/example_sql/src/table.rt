@@ -38,7 +38,7 @@ fn hex(alloc: Global, bytes: &[u8]) -> Result<String, AllocError> {
 }
 
 /// Returns what is shown of a value.
-fn field(alloc: Global, value: ValueRef<'_>) -> Result<Field, AllocError> {
+fn field_of(alloc: Global, value: ValueRef<'_>) -> Result<Field, AllocError> {
     let text = match value {
         ValueRef::Null => String::from_str(alloc, "NULL")?,
         ValueRef::Int(number) => format!(in alloc; "{number}")?,
@@ -56,13 +56,13 @@ fn field(alloc: Global, value: ValueRef<'_>) -> Result<Field, AllocError> {
 fn fields(alloc: Global, names: &[Bytes], rows: &[Row]) -> Result<Vec<Vec<Field>>, Error> {
     let mut line = Vec::new(alloc);
     for name in names {
-        line.push(field(alloc, ValueRef::Text(name.as_slice()))?)?;
+        line.push(field_of(alloc, ValueRef::Text(name.as_slice()))?)?;
     }
     let mut lines = vec![in alloc; line]?;
     for row in rows {
         let mut line = Vec::new(alloc);
         for at in 0..row.column_count() {
-            line.push(field(alloc, row.get_ref(at)?)?)?;
+            line.push(field_of(alloc, row.get_ref(at)?)?)?;
         }
         lines.push(line)?;
     }
