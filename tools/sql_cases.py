@@ -1,4 +1,4 @@
-"""What people do at sql_prompt's terminal, for tools/prompt_checks."""
+"""What people do at example_sql's terminal, for tools/prompt_checks."""
 import os
 import re
 import shutil
@@ -10,7 +10,7 @@ import tempfile
 from prompt_session import LIMIT, ROOT, Session, want
 
 START = f"{ROOT}/tools/at_terminal"
-PROGRAM = f"{ROOT}/crates/sql_prompt/out/sql_prompt"
+PROGRAM = f"{ROOT}/crates/example_sql/out/example_sql"
 PROMPT, GOES_ON = b"sql> ", b"   ...> "
 UP, RIGHT, CTRL_A, CTRL_C, CTRL_D, CTRL_F = b"\x1b[A", b"\x1b[C", b"\x01", b"\x03", b"\x04", b"\x06"
 PEOPLE = b"create table people (id integer primary key, name text);\rinsert into people (name) values ('Ann');\r"
@@ -20,7 +20,7 @@ STYLES = re.compile(rb"\x1b\[[0-9;]*m")
 
 
 class Database(Session):
-    """sql_prompt at a terminal of its own, over a file, with a file of its history where one is named."""
+    """example_sql at a terminal of its own, over a file, with a file of its history where one is named."""
 
     def __init__(self, path, cols=80, history=None):
         options = ("-history", history) if history else ()
@@ -108,26 +108,6 @@ def sql_columns_of_the_tables_that_are_named(path):
         session.ask(b"from people where na\t = 'Ann';\r", b" 1\r\n(1 row)\r\n")
         session.ask(b"select 'na\tn' as text;\r", b"text\r\n")
         session.quit()
-
-
-@with_file
-def sql_columns_stand_under_the_line(path):
-    with Database(path) as session:
-        session.type(PEOPLE)
-        session.ask(b".tables\r", b"people\r\n")
-        since = len(session.shown)
-        session.type(b"INSERT INTO people (")
-        session.wait_for(b"people (id, name)", since)
-        session.type(b"name)\r")
-        session.wait_for(GOES_ON, since)
-        session.wait_for(b"people (id, name)", session.shown.rindex(GOES_ON))
-        session.ask(b"values ('Bo');\r", PROMPT)
-        since = len(session.shown)
-        session.type(b"create table t (")
-        session.wait_for(b"a bracket is open", since)
-        session.ask(b"a);\r.tables\r", b"people\r\nt\r\n")
-        session.quit()
-    want(rows_of(path, "SELECT count(*) FROM people") == [(2,)], "the row is not in the file")
 
 
 @with_file
@@ -289,7 +269,7 @@ def sql_controls_are_pictures(path):
     connection.commit()
     connection.close()
     with Database(path) as session:
-        session.ask(b".schema\r", b"title")
+        session.ask(b"select sql from sqlite_schema where name = 't';\r", b"title")
         session.ask(b"select * from na\t\x15select c from t where na\t\x15.tables\r", b"t\r\n")
         want(b"\x1b]" not in session.shown and b"\x07" not in session.shown, f"a control is sent: {session.shown}")
         session.quit()
@@ -363,10 +343,6 @@ def sql_errors_of_scripts(path):
     lines = ran.stderr.decode().splitlines()
     want(len(lines) == 2 and lines[0].startswith("line 3: ") and lines[0].endswith(": insert into u values (1);"), f"errors: {lines}")
     want(lines[1].startswith("line 5: ") and lines[1].endswith(": .nonsense"), f"errors: {lines}")
-    with open(f"{path}.sql", "w", encoding="utf-8") as file:
-        file.write("select 1;\nselct;\n")
-    ran = play(path, f".read {path}.sql\n")
-    want(ran.stderr.decode().startswith(f"{path}.sql: line 2: "), f"it says {ran.stderr}")
 
 
 @with_file
@@ -379,7 +355,7 @@ def sql_wrong_arguments(path):
 
 SQL_CHECKS = [
     sql_of_several_lines, sql_quotes_over_lines, sql_names_are_completed,
-    sql_columns_of_the_tables_that_are_named, sql_columns_stand_under_the_line, sql_names_stand_in_a_menu,
+    sql_columns_of_the_tables_that_are_named, sql_names_stand_in_a_menu,
     sql_hint_is_taken, sql_history_is_kept, sql_history_that_is_not_written, sql_history_that_is_a_folder,
     sql_history_that_is_not_read, sql_history_that_is_damaged, sql_error_is_edited,
     sql_statement_is_abandoned, sql_size_within_a_line, sql_end_of_input, sql_controls_are_pictures, sql_signal,

@@ -102,11 +102,13 @@ impl Application for Language {
         for token in &tokenize(alloc, line)? {
             let end = start.saturating_add(token.text.len());
             let attributes = self.look(*token);
-            ranges.push(StyledRange {
-                start,
-                end,
-                attributes,
-            })?;
+            if attributes != CellAttributes::default() {
+                ranges.push(StyledRange {
+                    start,
+                    end,
+                    attributes,
+                })?;
+            }
             start = end;
         }
         Ok(ranges)

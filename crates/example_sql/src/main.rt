@@ -42,9 +42,13 @@ fn read_options(rt: HostRuntime) -> Option<Options> {
             _ => path = Some(word),
         }
     }
+    let is_typed = arguments.size.is_some();
+    if !is_typed {
+        history = None;
+    }
     Some(Options {
         path: path?,
-        is_typed: arguments.size.is_some(),
+        is_typed,
         bails,
         history,
     })

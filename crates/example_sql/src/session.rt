@@ -3,7 +3,7 @@
 use crate::catalog::{TABLES, read_catalog};
 use crate::language::Language;
 use crate::table::{table_text, visible};
-use sql_language::{TokenKind, statement_len, tokenize};
+use sql_language::{TokenKind, first_token, statement_len, tokenize};
 use sqlite::{Alter, Connection, Error};
 use std::alloc::{AllocError, Global};
 use std::io::Write;
@@ -31,7 +31,7 @@ pub struct Options {
     pub is_typed: bool,
     /// True if the first error ends the session.
     pub bails: bool,
-    /// The file of the history, if it has one.
+    /// The file in which statements are kept that are typed, if there is one.
     pub history: Option<String>,
 }
 
@@ -53,15 +53,11 @@ pub struct Session<'a> {
     has_ended: bool,
 }
 
-/// Opens the history of statements. At a terminal they are kept in a file if one is named.
+/// Opens the history of statements.
 fn open_history(rt: HostRuntime, options: &Options) -> Result<FileHistory, AllocError> {
     match &options.history {
-        Some(path) if options.is_typed => FileHistory::open_unique(
-            rt,
-            path.as_str(),
-            STATEMENTS_KEPT,
-        ),
-        _ => {
+        Some(path) => FileHistory::open_unique(rt, path.as_str(), STATEMENTS_KEPT),
+        None => {
             let statements = RecentHistory::unique(rt.alloc(), STATEMENTS_KEPT);
             Ok(FileHistory::in_memory(rt.alloc(), statements))
         }
@@ -69,15 +65,16 @@ fn open_history(rt: HostRuntime, options: &Options) -> Result<FileHistory, Alloc
 }
 
 /// Returns true if lines have nothing but white space and comments that end.
-fn are_blank(alloc: Global, lines: &str) -> Result<bool, AllocError> {
-    let mut last = TokenKind::White;
-    for token in &tokenize(alloc, lines)? {
-        last = token.kind;
-        if !matches!(last, TokenKind::White | TokenKind::Comment) {
-            return Ok(false);
+fn are_blank(lines: &str) -> bool {
+    let mut rest = lines;
+    for _ in 0..lines.len() {
+        let (token, after) = first_token(rest);
+        match token.kind {
+            TokenKind::White | TokenKind::Comment if !after.is_empty() => rest = after,
+            kind => return kind == TokenKind::White,
         }
     }
-    Ok(last == TokenKind::White)
+    true
 }
 
 /// Returns lines as one line: a space stands for the end of a line, and comments that end with their line or go over
@@ -209,7 +206,7 @@ impl<'a> Session<'a> {
         if line.contains(';') {
             self.run_whole(connection)?;
         }
-        if are_blank(self.rt.alloc(), self.language.begun.as_str())? {
+        if are_blank(self.language.begun.as_str()) {
             self.language.begun.clear();
         }
         Ok(())
@@ -249,19 +246,23 @@ impl<'a> Session<'a> {
         Ok(())
     }
 
-    /// Runs a statement, and tells its rows or its error.
+    /// Runs a statement, and tells its rows or its error. Only one that makes a trigger has semicolons before its end.
     fn run_statement<S: Alter>(
         &mut self,
         connection: &mut Connection<S>,
         statement: &str,
     ) -> Result<(), anyhow::Error> {
-        match self.answer(connection, statement) {
-            Ok(text) => Ok(self.prompt.print(text.as_str())?),
-            Err(error) => {
-                let reason = format!(in self.rt.alloc(); "{error}")?;
-                self.refuse(reason.as_str(), statement)
-            }
+        let alloc = self.rt.alloc();
+        let error = match self.answer(connection, statement) {
+            Ok(text) => return Ok(self.prompt.print(text.as_str())?),
+            Err(error) => error,
+        };
+        let tokens = tokenize(alloc, statement)?;
+        if tokens.iter().filter(|token| token.text == ";").count() > 1 {
+            return self.refuse("triggers are not supported", statement);
         }
+        let reason = format!(in alloc; "{error}")?;
+        self.refuse(reason.as_str(), statement)
     }
 
     /// Runs a statement. Returns its rows as a table, or nothing if it has none.
