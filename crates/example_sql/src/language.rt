@@ -1,6 +1,6 @@
 //! What a prompt knows of SQL while a line is typed.
 
-use sql_language::{Catalog, Token, TokenKind, begun_word, completions, is_keyword, tokenize};
+use sql_language::{Catalog, Token, TokenKind, begun_word, completions, has_word, tokenize};
 use std::alloc::{AllocError, Global};
 use tw_lineedit::CompletionCandidate;
 use tw_prompt::Application;
@@ -53,7 +53,7 @@ impl Language {
     fn look(&self, token: Token<'_>) -> CellAttributes {
         let mut attributes = CellAttributes::default();
         match token.kind {
-            TokenKind::Word if is_keyword(&self.keywords, token.text) => {
+            TokenKind::Word if has_word(&self.keywords, token.text) => {
                 attributes.intensity = Intensity::Bold;
             }
             TokenKind::Text => attributes.foreground = ColorAttribute::PaletteIndex(2),

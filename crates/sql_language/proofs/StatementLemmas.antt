@@ -2,7 +2,7 @@
 use Rattle.std.proofs.Common.{◌≡◌, ◌∙◌, ◌+◌, ℕ, zero, suc, List, Option, Some, None, take, drop, refl, ap, arith}
 use Rattle.std.specs.Option.{option_map}
 use Rattle.sql_language.specs.declared.statements.Part.{Part}
-use Rattle.sql_language.specs.Lexemes.{token_kind, lexeme_inside, lexeme_len}
+use Rattle.sql_language.specs.Lexemes.{lexeme_kind, lexeme_len}
 use Rattle.sql_language.specs.Statements.{len_in, part_after}
 
 -- an end, counted from an earlier byte
@@ -22,7 +22,7 @@ len-over (suc count) part text e = absurd (omega (arith, e))
 -- the statement ends with the first token, or goes on behind it
 module _ (left next : ℕ) (part : Part) (text : List ℕ) (e : left ≡ next + 1) where
   abbrev token : Option Part
-  token = part_after part (token_kind (lexeme_inside text)) (take (lexeme_len text) text)
+  token = part_after part (lexeme_kind text) (take (lexeme_len text) text)
 
   cases : (found : Option Part) → token ≡ found
       → len_in left part text ≡ elim found [ None ↦ Some (lexeme_len text) | Some then ↦ beyond (lexeme_len text) (len_in next then (drop (lexeme_len text) text)) ]

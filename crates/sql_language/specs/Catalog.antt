@@ -5,7 +5,7 @@ use Rattle.std.specs.Cmp.Lexicographic.{pointwise}
 use Rattle.sql_language.specs.declared.catalog.SqlTable.{SqlTable}
 use Rattle.sql_language.specs.declared.catalog.Catalog.{Catalog}
 use Rattle.sql_language.specs.Lexemes.{TokenView}
-use Rattle.sql_language.specs.SqlWords.{is_start_of}
+use Rattle.sql_language.specs.SqlWords.{has_word, is_start_of}
 use Rattle.sql_language.specs.Names.{is_named, written_name}
 
 -- a table, and its columns
@@ -24,10 +24,6 @@ pub record CatalogView : Type 0 where
 abbrev pub catalog_view : Catalog → CatalogView
 catalog_view catalog = record { names = map string_bytes catalog.names.items; tables = map table_view catalog.tables.items }
 
--- whether a name is one of these, in the same case
-abbrev pub has_name : List (List ℕ) → List ℕ → Bool
-has_name names name = list_any (λ known. pointwise eqb known name) names
-
 -- the tables that one of some tokens names
 abbrev pub named_tables : List TokenView → List TableView → List TableView
 named_tables tokens tables = filter (λ table. is_named tokens table.name) tables
@@ -37,7 +33,7 @@ abbrev pub has_table : List TableView → List ℕ → Bool
 has_table tables name = list_any (λ table. pointwise eqb table.name name) tables
 
 abbrev pub has_column : List TableView → List ℕ → Bool
-has_column tables name = list_any (λ table. has_name table.columns name) tables
+has_column tables name = list_any (λ table. has_word table.columns name) tables
 
 -- whether a name may be meant where these tables are named: any where none is, and else a table's, and that of a column of theirs
 abbrev pub is_in_scope : List TableView → List TableView → List ℕ → Bool

@@ -3,8 +3,8 @@ use Rattle.std.specs.Prelude.{ℕ, ◌-◌, ◌==◌, Bool, true, false, ◌&&�
 use Rattle.std.specs.List.{flat_map, list_any}
 use Rattle.sql_language.specs.declared.tokens.TokenKind.{TokenKind}
 use Rattle.sql_language.specs.declared.tokens.TokenKind.TheVariants as kind
-use Rattle.sql_language.specs.Lexemes.{TokenView, lexeme_inside, lexeme_len, token_kind}
-use Rattle.sql_language.specs.SqlWords.{is_keyword, eq_ignore_case}
+use Rattle.sql_language.specs.Lexemes.{TokenView, lexeme_kind, lexeme_len}
+use Rattle.sql_language.specs.SqlWords.{has_word, eq_ignore_case}
 
 -- a token without the quotes in which it stands as a name
 abbrev pub bare : TokenKind → List ℕ → List ℕ
@@ -32,7 +32,7 @@ is_word kind.Mark = false
 
 -- whether a text is one word: the first token is one, and nothing follows it
 abbrev pub is_one_word : List ℕ → Bool
-is_one_word text = is_word (token_kind (lexeme_inside text)) && (length (drop (lexeme_len text) text) == 0)
+is_one_word text = is_word (lexeme_kind text) && (length (drop (lexeme_len text) text) == 0)
 
 -- a character of a name as it stands in quotes
 abbrev pub doubled : ℕ → List ℕ
@@ -44,4 +44,4 @@ quoted_name name = (34 ∷ flat_map doubled (chars name)) ++ 34 ∷ []
 
 -- a name as a statement has it
 abbrev pub written_name : List (List ℕ) → List ℕ → List ℕ
-written_name keywords name = if is_one_word name && not (is_keyword keywords name) then name else quoted_name name
+written_name keywords name = if is_one_word name && not (has_word keywords name) then name else quoted_name name

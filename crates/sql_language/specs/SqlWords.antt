@@ -7,9 +7,9 @@ use Rattle.std.specs.Str.{str_eq_ignore_ascii_case}
 abbrev pub eq_ignore_case : List ℕ → List ℕ → Bool
 eq_ignore_case text other = str_eq_ignore_ascii_case text other
 
--- whether a word is a keyword
-abbrev pub is_keyword : List (List ℕ) → List ℕ → Bool
-is_keyword keywords word = list_any (λ keyword. eq_ignore_case keyword word) keywords
+-- whether one of some words is this one
+abbrev pub has_word : List (List ℕ) → List ℕ → Bool
+has_word words word = list_any (λ known. eq_ignore_case known word) words
 
 -- whether a word begins with a text but for case
 abbrev pub is_start_of : List ℕ → List ℕ → Bool

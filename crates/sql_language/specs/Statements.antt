@@ -5,7 +5,7 @@ use Rattle.sql_language.specs.declared.statements.Part.{Part}
 use Rattle.sql_language.specs.declared.statements.Part.TheVariants.{Start, Explain, Create, Other, Body, Semicolon, End}
 use Rattle.sql_language.specs.declared.tokens.TokenKind.{TokenKind}
 use Rattle.sql_language.specs.declared.tokens.TokenKind.TheVariants as kind
-use Rattle.sql_language.specs.Lexemes.{lexeme_inside, lexeme_len, token_kind}
+use Rattle.sql_language.specs.Lexemes.{lexeme_kind, lexeme_len}
 use Rattle.sql_language.specs.SqlWords.{eq_ignore_case}
 
 -- whether a token is white space or a comment
@@ -55,7 +55,7 @@ part_after part kind token =
 unfoldable pub len_in : ℕ → Part → List ℕ → Option ℕ
 len_in zero part text = None
 len_in (suc count) part text =
-    elim (part_after part (token_kind (lexeme_inside text)) (take (lexeme_len text) text)) [
+    elim (part_after part (lexeme_kind text) (take (lexeme_len text) text)) [
       | None ↦ Some (lexeme_len text)
       | Some next ↦ option_map (λ more. lexeme_len text + more) (len_in count next (drop (lexeme_len text) text))
     ]

@@ -1,12 +1,12 @@
 //! The names of a database, and which of them a statement may mean.
 
 ghost use Rattle.std.specs.Prelude.{◌≡◌, IfOk, length, map, string_bytes};
-ghost use Rattle.sql_language.specs.Catalog.{catalog_view, completes, completing_names, has_column, has_name, has_table, is_in_scope, named_tables, table_view};
+ghost use Rattle.sql_language.specs.Catalog.{catalog_view, completes, completing_names, has_column, has_table, is_in_scope, named_tables, table_view};
 ghost use Rattle.sql_language.specs.Lexemes.{token_view};
 
 use crate::names::{is_named, written_name};
 use crate::tokens::Token;
-use crate::words::is_start_of;
+use crate::words::{has_word, is_start_of};
 use std::alloc::{AllocError, Global};
 
 /// A table or a view.
@@ -27,13 +27,6 @@ pub struct Catalog {
     pub tables: Vec<SqlTable>,
 }
 
-/// Returns true if a name is one of these.
-fn has_name(names: &[String], name: &str) -> bool
-    ensures { result ≡ has_name (map string_bytes names.now) name.now }
-{
-    names.iter().any(|known| known.as_str() == name)
-}
-
 /// Returns true if a name is that of one of these tables.
 fn has_table(tables: &[SqlTable], name: &str) -> bool
     ensures { result ≡ has_table (map table_view tables.now) name.now }
@@ -41,11 +34,11 @@ fn has_table(tables: &[SqlTable], name: &str) -> bool
     tables.iter().any(|table| table.name.as_str() == name)
 }
 
-/// Returns true if a name is that of a column of one of these tables.
+/// Returns true if a name is that of a column of one of these tables, whatever its case.
 fn has_column(tables: &[&SqlTable], name: &str) -> bool
     ensures { result ≡ has_column (map (λ table. table_view table.now) tables.now) name.now }
 {
-    tables.iter().any(|table| has_name(&table.columns, name))
+    tables.iter().any(|table| has_word(&table.columns, name))
 }
 
 /// Returns true if a statement that names some of the tables may mean a name.

@@ -20,4 +20,4 @@ pub use completion::{begun_word, completions};
 pub use names::quoted_name;
 pub use statements::statement_len;
 pub use tokens::{Token, TokenKind, first_token, tokenize};
-pub use words::is_keyword;
+pub use words::has_word;

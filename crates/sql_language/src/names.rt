@@ -5,7 +5,7 @@ ghost use Rattle.sql_language.specs.Lexemes.{token_view};
 ghost use Rattle.sql_language.specs.Names.{bare, doubled, is_named, is_one_word, quoted_name, written_name};
 
 use crate::tokens::{Token, TokenKind, first_token};
-use crate::words::{eq_ignore_case, is_keyword};
+use crate::words::{eq_ignore_case, has_word};
 use std::alloc::{AllocError, Global};
 
 /// Returns a token without the quotes in which it stands as a name.
@@ -67,7 +67,7 @@ pub(crate) fn written_name(
 ) -> Result<String, AllocError>
     ensures { IfOk result (λ written. string_bytes written ≡ written_name (map string_bytes keywords.now) name.now) }
 {
-    if is_one_word(name) && !is_keyword(keywords, name) {
+    if is_one_word(name) && !has_word(keywords, name) {
         String::from_str(alloc, name)
     } else {
         quoted_name(alloc, name)

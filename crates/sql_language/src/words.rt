@@ -1,7 +1,7 @@
 //! Words, whatever the case of their ASCII letters.
 
 ghost use Rattle.std.specs.Prelude.{◌≡◌, map, string_bytes};
-ghost use Rattle.sql_language.specs.SqlWords.{eq_ignore_case, is_keyword, is_start_of};
+ghost use Rattle.sql_language.specs.SqlWords.{eq_ignore_case, has_word, is_start_of};
 
 /// Returns true if two texts are the same, whatever the case of their ASCII letters.
 pub(crate) fn eq_ignore_case(text: &[u8], other: &[u8]) -> bool
@@ -10,11 +10,11 @@ pub(crate) fn eq_ignore_case(text: &[u8], other: &[u8]) -> bool
     text.eq_ignore_ascii_case(other)
 }
 
-/// Returns true if a word is one of these keywords, in either case.
-pub fn is_keyword(keywords: &[String], word: &str) -> bool
-    ensures { result ≡ is_keyword (map string_bytes keywords.now) word.now }
+/// Returns true if one of some words is this one, whatever its case.
+pub fn has_word(words: &[String], word: &str) -> bool
+    ensures { result ≡ has_word (map string_bytes words.now) word.now }
 {
-    keywords.iter().any(|keyword| eq_ignore_case(keyword.as_str().as_bytes(), word.as_bytes()))
+    words.iter().any(|known| eq_ignore_case(known.as_str().as_bytes(), word.as_bytes()))
 }
 
 /// Returns true if a word begins with a text, whatever the case of their ASCII letters.

@@ -2,7 +2,7 @@ use Rattle.std.proofs.Common.{◌≡◌, ◌∙◌, ◌+◌, ◌-◌, Some, None
 use Rattle.std.specs.Str.{IsCharBoundary}
 use Rattle.std.proofs.lemmas.List.{length-take-le}
 use Rattle.std.proofs.lemmas.Str.{IsCharBoundary-from_rest}
-use Rattle.sql_language.specs.Lexemes.{lexeme_inside, lexeme_len, token_kind}
+use Rattle.sql_language.specs.Lexemes.{lexeme_kind, lexeme_len}
 use Rattle.sql_language.specs.Statements.{len_in, part_after}
 use Rattle.sql_language.proofs.StatementLemmas.{beyond, beyond-both, len-ends, len-on, len-over}
 use Rattle.sql_language.proofs.statements.statement_len.Goals as goal
@@ -13,7 +13,7 @@ returns-in-None-clause-value c =
     let left = length c.args.text.now - c.loop.counter in
     let next = length c.args.text.now - (c.loop.counter + 1) in
     let long = ap length c.first_token.ensures.token ∙ length-take-le (lexeme_len rest) rest c.first_token.ensures.boundary.0 in
-    let ends : part_after c.loop.part (token_kind (lexeme_inside rest)) (take (lexeme_len rest) rest) ≡ None = cc in
+    let ends : part_after c.loop.part (lexeme_kind rest) (take (lexeme_len rest) rest) ≡ None = cc in
     ap (λ n. Some (c.loop.len + n)) long
     ∙ sym (ap (beyond c.loop.len) (len-ends left next c.loop.part rest (omega arith) ends)) ∙ c.loop.invariant.3
 
@@ -35,7 +35,7 @@ loop-preserved c =
     let left = length text - c.loop.counter in
     let next = length text - (c.loop.counter + 1) in
     let long = ap length c.first_token.ensures.token ∙ length-take-le first rest c.first_token.ensures.boundary.0 in
-    let goes : part_after c.loop.part (token_kind (lexeme_inside rest)) (take first rest) ≡ Some part = cc in (
+    let goes : part_after c.loop.part (lexeme_kind rest) (take first rest) ≡ Some part = cc in (
       search rules,
       omega (arith, long, c.first_token.ensures.boundary.0, c.loop.invariant.1, length-drop len text, ap length c.loop.invariant.2),
       c.first_token.ensures.rest ∙ ap (drop first) c.loop.invariant.2 ∙ drop-drop first len text ∙ ap (λ n. drop (len + n) text) (sym long),
