@@ -1,4 +1,4 @@
-"""What people do at sql_prompt's terminal, for tools/prompt_checks."""
+"""What people do at example_sql's terminal, for tools/prompt_checks."""
 import os
 import re
 import shutil
@@ -10,8 +10,9 @@ import tempfile
 from prompt_session import LIMIT, ROOT, Session, want
 
 START = f"{ROOT}/tools/at_terminal"
-PROGRAM = f"{ROOT}/crates/sql_prompt/out/sql_prompt"
-PROMPT, GOES_ON = b"sql> ", b"   ...> "
+PROGRAM = f"{ROOT}/crates/example_sql/out/example_sql"
+# A blank at the end of a prompt may be a move, where nothing stood before.
+PROMPT, GOES_ON = b"sql> ", b"   ...>"
 UP, RIGHT, CTRL_A, CTRL_C, CTRL_D, CTRL_F = b"\x1b[A", b"\x1b[C", b"\x01", b"\x03", b"\x04", b"\x06"
 PEOPLE = b"create table people (id integer primary key, name text);\rinsert into people (name) values ('Ann');\r"
 # A file of a history: a line, one that is not UTF-8, one with a wrong escape, and one that is cut off.
@@ -20,7 +21,7 @@ STYLES = re.compile(rb"\x1b\[[0-9;]*m")
 
 
 class Database(Session):
-    """sql_prompt at a terminal of its own, over a file, with a file of its history where one is named."""
+    """example_sql at a terminal of its own, over a file, with a file of its history where one is named."""
 
     def __init__(self, path, cols=80, history=None):
         options = ("-history", history) if history else ()
@@ -38,6 +39,12 @@ class Database(Session):
         """Ends it as people do."""
         self.type(b".quit\r")
         self.end(0)
+
+
+def kept_in(history):
+    """The lines of the file of a history."""
+    with open(history, "rb") as file:
+        return file.read().splitlines()
 
 
 def rows_of(path, query):
@@ -61,27 +68,30 @@ def with_file(check):
 
 @with_file
 def sql_of_several_lines(path):
-    with Database(path) as session:
+    history = f"{path}-history"
+    with Database(path, history=history) as session:
         session.type(b"create table people (\r")
         session.wait_for(GOES_ON)
         session.type(b"id integer primary key,\rname text);\r")
         session.ask(b"insert into people (name) -- one of them\rvalues ('Ann'),\r('Bo'); select * from people;\r",
                     b"id | name\r\n---+-----\r\n 1 | Ann\r\n 2 | Bo\r\n(2 rows)\r\n")
-        shown = session.ask(b"select id, name -- all\r from people\rwhere id = 2;\r", b" 2 | Bo\r\n(1 row)\r\n")
-        shown = session.ask(UP + b"\r", b" 2 | Bo\r\n(1 row)\r\n")
-        one_line = b"sql> select id, name  from people where id = 2;"
-        want(one_line in STYLES.sub(b"", shown), f"the statement is not one line in {shown}")
+        session.ask(b"select id, name -- all\r from people\rwhere id = 2;\r", b" 2 | Bo\r\n(1 row)\r\n")
+        session.ask(UP + b"\r", b" 2 | Bo\r\n(1 row)\r\n")
         session.quit()
+    kept = kept_in(history)
+    want(kept[-3:] == [b"select id, name  from people where id = 2;"] * 2 + [b".quit"], f"the history has {kept}")
     want(rows_of(path, "SELECT * FROM people") == [(1, "Ann"), (2, "Bo")], "the rows are not in the file")
 
 
 @with_file
 def sql_quotes_over_lines(path):
-    with Database(path) as session:
+    history = f"{path}-history"
+    with Database(path, history=history) as session:
         session.ask(b"select 'a\rb' as text;\r", b"a\xe2\x90\x8ab\r\n(1 row)\r\n")
-        shown = session.ask(UP + UP + b"\x15select 7;\r", b"7\r\n(1 row)\r\n")
-        want(b"sql> select 'a" in STYLES.sub(b"", shown), f"the first line is not kept: {shown}")
+        session.ask(UP + UP + b"\x15select 7;\r", b"7\r\n(1 row)\r\n")
         session.quit()
+    kept = kept_in(history)
+    want(kept == [b"select 'a", b"b' as text;", b"select 7;", b".quit"], f"the history has {kept}")
 
 
 @with_file
@@ -108,26 +118,6 @@ def sql_columns_of_the_tables_that_are_named(path):
         session.ask(b"from people where na\t = 'Ann';\r", b" 1\r\n(1 row)\r\n")
         session.ask(b"select 'na\tn' as text;\r", b"text\r\n")
         session.quit()
-
-
-@with_file
-def sql_columns_stand_under_the_line(path):
-    with Database(path) as session:
-        session.type(PEOPLE)
-        session.ask(b".tables\r", b"people\r\n")
-        since = len(session.shown)
-        session.type(b"INSERT INTO people (")
-        session.wait_for(b"people (id, name)", since)
-        session.type(b"name)\r")
-        session.wait_for(GOES_ON, since)
-        session.wait_for(b"people (id, name)", session.shown.rindex(GOES_ON))
-        session.ask(b"values ('Bo');\r", PROMPT)
-        since = len(session.shown)
-        session.type(b"create table t (")
-        session.wait_for(b"a bracket is open", since)
-        session.ask(b"a);\r.tables\r", b"people\r\nt\r\n")
-        session.quit()
-    want(rows_of(path, "SELECT count(*) FROM people") == [(2,)], "the row is not in the file")
 
 
 @with_file
@@ -169,11 +159,9 @@ def sql_history_is_kept(path):
         file.write(b"select 'cut off")
     with Database(path, history=history) as session:
         want(session.shown.count(b"lines that can't be read: 1\r\n") == 1, f"it says {session.shown}")
-        shown = session.ask(UP + UP + UP + b"\r", b"Ann\r\n(1 row)\r\n")
-        want(b"sql> select name from people;" in STYLES.sub(b"", shown), f"it is not one line in {shown}")
+        session.ask(UP + UP + UP + b"\r", b"Ann\r\n(1 row)\r\n")
         session.quit()
-    with open(history, "rb") as file:
-        kept = file.read().splitlines()
+    kept = kept_in(history)
     want(kept == PEOPLE.split(b"\r")[:2] + [b"select name from people;", b"select 'a\\\\b' as text;", b".quit",
                                             b"select 'cut off", b"select name from people;", b".quit"],
          f"the file has {kept}")
@@ -245,21 +233,23 @@ def sql_error_is_edited(path):
 
 @with_file
 def sql_statement_is_abandoned(path):
-    with Database(path) as session:
+    history = f"{path}-history"
+    with Database(path, history=history) as session:
         session.type(PEOPLE + b"delete from people\r")
         session.wait_for(GOES_ON)
         session.type(b"where id" + CTRL_C)
         session.ask(b"select count(*) as n from people;\r", b"n\r\n-\r\n1\r\n(1 row)\r\n")
-        shown = session.ask(UP + UP + b" where id = 7;\r" + b"select count(*) as n from people;\r", b"1\r\n(1 row)\r\n")
-        want(b"sql> delete from people where id = 7;" in STYLES.sub(b"", shown), f"it is not kept: {shown}")
+        session.ask(UP + UP + b" where id = 7;\r" + b"select count(*) as n from people;\r", b"1\r\n(1 row)\r\n")
         session.quit()
+    kept = kept_in(history)
+    want(b"delete from people" in kept and b"delete from people where id = 7;" in kept, f"the history has {kept}")
 
 
 @with_file
 def sql_size_within_a_line(path):
     with Database(path) as session:
         session.type(b"select 'abcdefghij'")
-        session.wait_for(b"abcdefghij")
+        session.wait_for(b"mj\x1b")
         session.resize(24, 20)
         session.wait_for_size()
         session.ask(b" as a, 'klmnopqrst' as b;\r", "abcdefghij | klmnop…\r\n(1 row)\r\n".encode())
@@ -289,7 +279,7 @@ def sql_controls_are_pictures(path):
     connection.commit()
     connection.close()
     with Database(path) as session:
-        session.ask(b".schema\r", b"title")
+        session.ask(b"select sql from sqlite_schema where name = 't';\r", b"title")
         session.ask(b"select * from na\t\x15select c from t where na\t\x15.tables\r", b"t\r\n")
         want(b"\x1b]" not in session.shown and b"\x07" not in session.shown, f"a control is sent: {session.shown}")
         session.quit()
@@ -363,10 +353,6 @@ def sql_errors_of_scripts(path):
     lines = ran.stderr.decode().splitlines()
     want(len(lines) == 2 and lines[0].startswith("line 3: ") and lines[0].endswith(": insert into u values (1);"), f"errors: {lines}")
     want(lines[1].startswith("line 5: ") and lines[1].endswith(": .nonsense"), f"errors: {lines}")
-    with open(f"{path}.sql", "w", encoding="utf-8") as file:
-        file.write("select 1;\nselct;\n")
-    ran = play(path, f".read {path}.sql\n")
-    want(ran.stderr.decode().startswith(f"{path}.sql: line 2: "), f"it says {ran.stderr}")
 
 
 @with_file
@@ -379,7 +365,7 @@ def sql_wrong_arguments(path):
 
 SQL_CHECKS = [
     sql_of_several_lines, sql_quotes_over_lines, sql_names_are_completed,
-    sql_columns_of_the_tables_that_are_named, sql_columns_stand_under_the_line, sql_names_stand_in_a_menu,
+    sql_columns_of_the_tables_that_are_named, sql_names_stand_in_a_menu,
     sql_hint_is_taken, sql_history_is_kept, sql_history_that_is_not_written, sql_history_that_is_a_folder,
     sql_history_that_is_not_read, sql_history_that_is_damaged, sql_error_is_edited,
     sql_statement_is_abandoned, sql_size_within_a_line, sql_end_of_input, sql_controls_are_pictures, sql_signal,

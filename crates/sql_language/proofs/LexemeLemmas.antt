@@ -5,8 +5,8 @@ use Rattle.std.specs.Str.{IsUtf8, IsCharBoundary}
 use Rattle.std.proofs.lemmas.Bool.{true≢false, cases_lt}
 use Rattle.std.proofs.lemmas.Str.{IsCharBoundary-after_ascii, IsCharBoundary-before_ascii}
 use Rattle.sql_language.specs.declared.lexer.Inside.{Inside}
-use Rattle.sql_language.specs.Lexer.{fresh, continued}
-use Rattle.sql_language.specs.Lexemes.{rest_len, last_inside, lexeme_len, lexeme_inside}
+use Rattle.sql_language.specs.Lexer.{continued}
+use Rattle.sql_language.specs.Lexemes.{rest_len}
 use Rattle.sql_language.proofs.LexerLemmas.{Takes}
 
 -- the rest of a text from a byte on
@@ -17,10 +17,6 @@ from-byte text at low = let next : suc at ≡ at + 1 = omega arith in drop-cons 
 rest-cases : (inside : Inside) (byte : ℕ) (bytes : List ℕ) (found : Option Inside) → continued inside byte ≡ found → rest_len inside (byte ∷ bytes) ≡ elim found [ None ↦ 0 | Some next ↦ suc (rest_len next bytes) ]
 unfolding rest_len
 rest-cases inside byte bytes found e = ap (λ (o : Option Inside). elim o [ None ↦ 0 | Some next ↦ suc (rest_len next bytes) ]) e
-
-last-cases : (inside : Inside) (byte : ℕ) (bytes : List ℕ) (found : Option Inside) → continued inside byte ≡ found → last_inside inside (byte ∷ bytes) ≡ elim found [ None ↦ inside | Some next ↦ last_inside next bytes ]
-unfolding last_inside
-last-cases inside byte bytes found e = ap (λ (o : Option Inside). elim o [ None ↦ inside | Some next ↦ last_inside next bytes ]) e
 
 module _ (inside : Inside) (text : List ℕ) (at : ℕ) (low : at < length text) where
   pub rest-on : (next : Inside) → continued inside (get_or text at 0) ≡ Some next → at + rest_len inside (drop at text) ≡ (at + 1) + rest_len next (drop (at + 1) text)
@@ -33,12 +29,6 @@ module _ (inside : Inside) (text : List ℕ) (at : ℕ) (low : at < length text)
       ap (λ bytes. at + rest_len inside bytes) (from-byte text at low) ∙ ap (λ n. at + n) (rest-cases inside _ _ None e)
       ∙ omega arith
 
-  pub last-on : (next : Inside) → continued inside (get_or text at 0) ≡ Some next → last_inside inside (drop at text) ≡ last_inside next (drop (at + 1) text)
-  last-on next e = ap (last_inside inside) (from-byte text at low) ∙ last-cases inside _ _ (Some next) e
-
-  pub last-off : continued inside (get_or text at 0) ≡ None → last_inside inside (drop at text) ≡ inside
-  last-off e = ap (last_inside inside) (from-byte text at low) ∙ last-cases inside _ _ None e
-
 -- at the end nothing goes on
 pub nothing : (text : List ℕ) (at : ℕ) → at ≡ length text → drop at text ≡ []
 nothing [] zero e = refl
@@ -49,19 +39,6 @@ nothing (byte ∷ bytes) (suc n) e = nothing bytes n (omega (arith, e))
 pub rest-end : (inside : Inside) (text : List ℕ) (at : ℕ) → at ≡ length text → at + rest_len inside (drop at text) ≡ length text
 unfolding rest_len
 rest-end inside text at e = ap (λ bytes. at + rest_len inside bytes) (nothing text at e) ∙ omega (arith, e)
-
-pub last-end : (inside : Inside) (text : List ℕ) (at : ℕ) → at ≡ length text → last_inside inside (drop at text) ≡ inside
-unfolding last_inside
-last-end inside text at e = ap (last_inside inside) (nothing text at e)
-
--- the first byte begins the token
-pub first-len : (text : List ℕ) → 0 < length text → 1 + rest_len (fresh (get_or text 0 0)) (drop 1 text) ≡ lexeme_len text
-first-len [] some = absurd (omega (arith, some))
-first-len (byte ∷ bytes) some = omega arith
-
-pub first-inside : (text : List ℕ) → 0 < length text → last_inside (fresh (get_or text 0 0)) (drop 1 text) ≡ lexeme_inside text
-first-inside [] some = absurd (omega (arith, some))
-first-inside (byte ∷ bytes) some = refl
 
 -- a token ends at a boundary
 pub token-boundary : (text : List ℕ) (at : ℕ) (inside : Inside) → IsUtf8 text → 1 ≤ at → at < length text

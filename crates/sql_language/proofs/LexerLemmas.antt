@@ -7,7 +7,7 @@ use Rattle.sql_language.specs.declared.lexer.Quote.{Quote}
 use Rattle.sql_language.specs.declared.lexer.Quote.TheVariants.{Single, Double, Grave, Square}
 use Rattle.sql_language.specs.declared.lexer.Inside.{Inside}
 use Rattle.sql_language.specs.declared.lexer.Inside.TheVariants.{White, Word, Number, Mark, Dash, Slash, Line, Block, Star, BlockEnd, Quoted, Closed}
-use Rattle.sql_language.specs.Lexer.{is_white, is_word_start, is_part, is_number_part, closing_byte, reopens, fresh, if_so, in_block, behind_star, in_quotes, continued}
+use Rattle.sql_language.specs.Lexer.{is_white, is_part, is_number_part, closing_byte, reopens, if_so, in_block, behind_star, in_quotes, continued}
 
 -- such a byte goes on with what stands before it
 abbrev pub Takes : Inside → Type 0
@@ -16,10 +16,7 @@ Takes inside = (c : ℕ) → 128 ≤ c → is_none (continued inside c) ≡ fals
 high-white : (b : ℕ) → 128 ≤ b → is_white b ≡ false
 high-white b h = grind (arith, nat_tests)
 
-high-letter : (b : ℕ) → 128 ≤ b → is_word_start b ≡ true
-high-letter b h = grind (arith, nat_tests)
-
-pub high-part : (b : ℕ) → 128 ≤ b → is_part b ≡ true
+high-part : (b : ℕ) → 128 ≤ b → is_part b ≡ true
 high-part b h = grind (arith, nat_tests)
 
 high-number_part : (b : ℕ) → 128 ≤ b → is_number_part b ≡ true
@@ -51,11 +48,7 @@ passed false inside next e = absurd (cc)
 fails : (passes : Bool) (inside next : Inside) {X : Type 0} → passes ≡ false → if_so passes inside ≡ Some next → X
 fails passes inside next failed e = absurd (true≢false (sym (passed passes inside next e).0 ∙ failed))
 
--- after such a byte that begins a token
-pub fresh-takes : (b : ℕ) → 128 ≤ b → Takes (fresh b)
-fresh-takes b h = let same : fresh b ≡ Word = rw (high-white b h, high-letter b h) in subst Takes (sym same) takes-word
-
--- and after one that goes on with it
+-- after such a byte that goes on with a token
 pub on-takes : (inside next : Inside) (b : ℕ) → continued inside b ≡ Some next → 128 ≤ b → Takes next
 on-takes White next b e h = fails _ _ _ (high-white b h) e
 on-takes Word next b e h = subst Takes (passed _ _ _ e).1 takes-word

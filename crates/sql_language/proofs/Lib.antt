@@ -1,8 +1,5 @@
 pub mod LexerLemmas
 pub mod LexemeLemmas
 pub mod StatementLemmas
-pub mod PieceLemmas
 pub mod WordLemmas
-pub mod NameLemmas
 pub mod TokenLemmas
-pub mod TriggerLemmas

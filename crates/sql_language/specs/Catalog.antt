@@ -1,11 +1,11 @@
 -- The names of a database, and which of them a statement may mean.
-use Rattle.std.specs.Prelude.{ℕ, ◌==◌, Bool, ◌&&◌, ◌||◌, List, [], ◌∷◌, ◌++◌, Option, None, length, codes, eqb, filter, map, string_bytes}
-use Rattle.std.specs.List.{find, join_by, list_any}
-use Rattle.std.specs.Option.{option_or}
+use Rattle.std.specs.Prelude.{ℕ, ◌==◌, Bool, ◌&&◌, ◌||◌, List, length, eqb, filter, map, string_bytes}
+use Rattle.std.specs.List.{list_any}
 use Rattle.std.specs.Cmp.Lexicographic.{pointwise}
 use Rattle.sql_language.specs.declared.catalog.SqlTable.{SqlTable}
 use Rattle.sql_language.specs.declared.catalog.Catalog.{Catalog}
-use Rattle.sql_language.specs.SqlWords.{begins_but_case, same_but_case}
+use Rattle.sql_language.specs.Lexemes.{TokenView}
+use Rattle.sql_language.specs.SqlWords.{has_word, is_start_of}
 use Rattle.sql_language.specs.Names.{is_named, written_name}
 
 -- a table, and its columns
@@ -24,12 +24,8 @@ pub record CatalogView : Type 0 where
 abbrev pub catalog_view : Catalog → CatalogView
 catalog_view catalog = record { names = map string_bytes catalog.names.items; tables = map table_view catalog.tables.items }
 
--- whether a name is one of these, in the same case
-abbrev pub has_name : List (List ℕ) → List ℕ → Bool
-has_name names name = list_any (λ known. pointwise eqb known name) names
-
 -- the tables that one of some tokens names
-abbrev pub named_tables : List (List ℕ) → List TableView → List TableView
+abbrev pub named_tables : List TokenView → List TableView → List TableView
 named_tables tokens tables = filter (λ table. is_named tokens table.name) tables
 
 -- whether a name is that of a table, or of one of its columns
@@ -37,7 +33,7 @@ abbrev pub has_table : List TableView → List ℕ → Bool
 has_table tables name = list_any (λ table. pointwise eqb table.name name) tables
 
 abbrev pub has_column : List TableView → List ℕ → Bool
-has_column tables name = list_any (λ table. has_name table.columns name) tables
+has_column tables name = list_any (λ table. has_word table.columns name) tables
 
 -- whether a name may be meant where these tables are named: any where none is, and else a table's, and that of a column of theirs
 abbrev pub is_in_scope : List TableView → List TableView → List ℕ → Bool
@@ -45,26 +41,9 @@ is_in_scope tables named name = (length named == 0) || (has_table tables name ||
 
 -- whether a name completes a word
 abbrev pub completes : List TableView → List TableView → List ℕ → List ℕ → Bool
-completes tables named word name = begins_but_case word name && is_in_scope tables named name
+completes tables named word name = is_start_of word name && is_in_scope tables named name
 
 -- the names that complete a word, as a statement has them
 abbrev pub completing_names : List (List ℕ) → CatalogView → List TableView → List ℕ → List (List ℕ)
 completing_names keywords catalog named word =
     map (written_name keywords) (filter (completes catalog.tables named word) catalog.names)
-
--- the table of a name, whatever its case
-abbrev pub table_called : List TableView → List ℕ → Option TableView
-table_called tables name = find (λ table. same_but_case table.name name) tables
-
--- the last one that there is
-unfoldable pub last_some : {X : Type 0} → List (Option X) → Option X
-last_some [] = None
-last_some (found ∷ rest) = option_or (last_some rest) found
-
--- the last table that some tokens name
-abbrev pub last_table : List TableView → List (List ℕ) → Option TableView
-last_table tables tokens = last_some (map (table_called tables) tokens)
-
--- a table with its columns, in one row
-abbrev pub table_row : TableView → List ℕ
-table_row table = table.name ++ codes " (" ++ join_by (λ column. column) (codes ", ") table.columns ++ codes ")"

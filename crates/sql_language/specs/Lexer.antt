@@ -1,6 +1,5 @@
 -- What each byte of an SQL text stands in: white space, a word, a number, a mark, a comment, or quotes. A byte from 128 on is a letter.
 use Rattle.std.specs.Prelude.{ℕ, ◌==◌, Bool, true, false, ◌&&◌, ◌||◌, not, Option, Some, None, nat_le, if◌then◌else◌}
-use Rattle.std.specs.Option.{unwrap_or}
 use Rattle.sql_language.specs.declared.lexer.Quote.{Quote}
 use Rattle.sql_language.specs.declared.lexer.Quote.TheVariants.{Single, Double, Grave, Square}
 use Rattle.sql_language.specs.declared.lexer.Inside.{Inside}
@@ -83,7 +82,3 @@ continued Block byte = Some (in_block byte)
 continued Star byte = Some (behind_star byte)
 continued (Quoted quote) byte = Some (in_quotes quote byte)
 continued (Closed quote) byte = if_so ((byte == closing_byte quote) && reopens quote) (Quoted quote)
-
--- what a byte stands in after another one
-abbrev pub following : Inside → ℕ → Inside
-following inside byte = unwrap_or (continued inside byte) (fresh byte)

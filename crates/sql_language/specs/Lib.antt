@@ -5,4 +5,3 @@ pub mod SqlWords
 pub mod Names
 pub mod Catalog
 pub mod Completion
-pub mod Triggers

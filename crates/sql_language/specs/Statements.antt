@@ -1,44 +1,65 @@
--- The semicolons of an SQL text that are tokens, and the brackets that are open at its end.
-use Rattle.std.specs.Prelude.{ℕ, suc, ◌≡◌, ◌+◌, ◌-◌, ◌==◌, Bool, ◌&&◌, List, [], ◌∷◌, ◌++◌, length, Option, Some, None, is_none, option_map, if◌then◌else◌}
-use Rattle.sql_language.specs.declared.lexer.Inside.{Inside}
-use Rattle.sql_language.specs.declared.lexer.Inside.TheVariants.{White}
-use Rattle.sql_language.specs.Lexer.{following, continued}
+-- Where a statement ends: at a semicolon, or, if it makes a trigger, at the semicolon behind the END of its body.
+use Rattle.std.specs.Prelude.{ℕ, zero, suc, ◌+◌, Bool, true, false, ◌||◌, List, take, drop, length, codes, eqb, Option, Some, None, option_map, if◌then◌else◌}
+use Rattle.std.specs.Cmp.Lexicographic.{pointwise}
+use Rattle.sql_language.specs.declared.statements.Part.{Part}
+use Rattle.sql_language.specs.declared.statements.Part.TheVariants.{Start, Explain, Create, Other, Body, Semicolon, End}
+use Rattle.sql_language.specs.declared.tokens.TokenKind.{TokenKind}
+use Rattle.sql_language.specs.declared.tokens.TokenKind.TheVariants as kind
+use Rattle.sql_language.specs.Lexemes.{lexeme_kind, lexeme_len}
+use Rattle.sql_language.specs.SqlWords.{eq_ignore_case}
 
--- whether a byte is this mark, and a token of its own after one that stands in inside
-abbrev pub begins_mark : ℕ → Inside → ℕ → Bool
-begins_mark mark inside byte = (byte == mark) && is_none (continued inside byte)
+-- whether a token is white space or a comment
+abbrev pub is_blank : TokenKind → Bool
+is_blank kind.White = true
+is_blank kind.Word = false
+is_blank kind.Number = false
+is_blank kind.Text = false
+is_blank kind.Name = false
+is_blank kind.Comment = true
+is_blank kind.Mark = false
 
--- how many bytes lead up to the first semicolon that is a token, and with it
-unfoldable pub end_len : Inside → List ℕ → Option ℕ
-end_len inside [] = None
-end_len inside (byte ∷ bytes) = if begins_mark 59 inside byte then Some 1 else option_map suc (end_len (following inside byte) bytes)
+-- how far a statement is read behind a semicolon; none where it ends there
+abbrev pub part_behind_semicolon : Part → Option Part
+part_behind_semicolon Start = None
+part_behind_semicolon Explain = None
+part_behind_semicolon Create = None
+part_behind_semicolon Other = None
+part_behind_semicolon Body = Some Semicolon
+part_behind_semicolon Semicolon = Some Semicolon
+part_behind_semicolon End = None
 
--- what the last byte of a text stands in, where one that stands in inside is before it
-unfoldable pub inside_after : Inside → List ℕ → Inside
-inside_after inside [] = inside
-inside_after inside (byte ∷ bytes) = inside_after (following inside byte) bytes
+-- and behind any other token that is not blank
+abbrev pub part_behind : Part → List ℕ → Part
+part_behind Start token =
+    if eq_ignore_case token (codes "EXPLAIN") then Explain
+    else if eq_ignore_case token (codes "CREATE") then Create
+    else Other
+part_behind Explain token = if eq_ignore_case token (codes "CREATE") then Create else Other
+part_behind Create token =
+    if eq_ignore_case token (codes "TEMP") || eq_ignore_case token (codes "TEMPORARY") then Create
+    else if eq_ignore_case token (codes "TRIGGER") then Body
+    else Other
+part_behind Other token = Other
+part_behind Body token = Body
+part_behind Semicolon token = if eq_ignore_case token (codes "END") then End else Body
+part_behind End token = Body
 
--- how many brackets are open after a byte
-abbrev pub counted : ℕ → Inside → ℕ → ℕ
-counted count inside byte =
-    if begins_mark 40 inside byte then count + 1
-    else if begins_mark 41 inside byte then count - 1
-    else count
+-- and behind any token
+abbrev pub part_after : Part → TokenKind → List ℕ → Option Part
+part_after part kind token =
+    if is_blank kind then Some part
+    else if pointwise eqb token (codes ";") then part_behind_semicolon part
+    else Some (part_behind part token)
 
--- how many are open after more bytes
-unfoldable pub open_after : ℕ → Inside → List ℕ → ℕ
-open_after count inside [] = count
-open_after count inside (byte ∷ bytes) = open_after (counted count inside byte) (following inside byte) bytes
+-- the length of what is left of a statement, if it ends in the first `count` tokens
+unfoldable pub len_in : ℕ → Part → List ℕ → Option ℕ
+len_in zero part text = None
+len_in (suc count) part text =
+    elim (part_after part (lexeme_kind text) (take (lexeme_len text) text)) [
+      | None ↦ Some (lexeme_len text)
+      | Some next ↦ option_map (λ more. lexeme_len text + more) (len_in count next (drop (lexeme_len text) text))
+    ]
 
--- how many are open at the end of a text
-abbrev pub open_brackets : List ℕ → ℕ
-open_brackets text = open_after 0 White text
-
--- a text that comes in two pieces has its first semicolon in the first one, or else where the second one has it as it goes on
-abbrev pub EndsInPieces : Type 0
-EndsInPieces = (inside : Inside) (a b : List ℕ)
-    → end_len inside (a ++ b) ≡ elim (end_len inside a) [ Some n ↦ Some n | None ↦ option_map (λ n. length a + n) (end_len (inside_after inside a) b) ]
-
--- and what its last byte stands in is what that of the second one does
-abbrev pub StandsInPieces : Type 0
-StandsInPieces = (inside : Inside) (a b : List ℕ) → inside_after inside (a ++ b) ≡ inside_after (inside_after inside a) b
+-- the length of the first statement: a text has no more tokens than bytes
+abbrev pub statement_len : List ℕ → Option ℕ
+statement_len text = len_in (length text) Start text

@@ -1,15 +1,31 @@
 //! What completes a word of a statement.
 
-ghost use Rattle.std.specs.Prelude.{◌≡◌, IfOk, map, string_bytes};
+ghost use Rattle.std.specs.Prelude.{◌≡◌, IfOk, map, option_map, string_bytes};
 ghost use Rattle.sql_language.specs.Catalog.{catalog_view};
-ghost use Rattle.sql_language.specs.Completion.{completing_keywords, completing_texts};
+ghost use Rattle.sql_language.specs.Completion.{begun_word, completing_keywords, completions};
 
 use crate::catalog::{Catalog, completing_names, named_tables};
-use crate::names::bare_tokens;
-use crate::words::begins_but_case;
+use crate::tokens::{TokenKind, tokenize};
+use crate::words::is_start_of;
 use std::alloc::{AllocError, Global};
 
-/// The keywords that begin with a word, whatever its case.
+/// Returns the word that is completed behind a text: its last token if that is a word, or an empty one behind white space
+/// and marks. Behind a number, and within quotes and comments or right behind them, nothing is completed: `None`.
+pub fn begun_word<'a>(alloc: Global, text: &'a str) -> Result<Option<&'a str>, AllocError>
+    ensures { IfOk result (λ word. option_map (λ word. word.now) word ≡ begun_word text.now) }
+{
+    let tokens = tokenize(alloc, text)?;
+    let Some(last) = tokens.as_slice().last() else {
+        return Ok(Some(""));
+    };
+    Ok(match last.kind {
+        TokenKind::Word => Some(last.text),
+        TokenKind::White | TokenKind::Mark => Some(""),
+        _ => None,
+    })
+}
+
+/// Returns the keywords that begin with a word, whatever its case.
 fn completing_keywords(
     alloc: Global,
     keywords: &[String],
@@ -19,15 +35,16 @@ fn completing_keywords(
 {
     let mut texts = Vec::new(alloc);
     for keyword in keywords {
-        if begins_but_case(word, keyword.as_str()) {
+        if is_start_of(word, keyword.as_str()) {
             texts.push(keyword.clone()?)?;
         }
     }
     Ok(texts)
 }
 
-/// What completes a word of a statement: names of the database that it may mean, as it has them, and then keywords.
-pub fn completing_texts(
+/// Returns what completes a word of a statement: names of the database that it may mean, as it has them, and then
+/// keywords.
+pub fn completions(
     alloc: Global,
     keywords: &[String],
     catalog: &Catalog,
@@ -35,9 +52,9 @@ pub fn completing_texts(
     word: &str,
 ) -> Result<Vec<String>, AllocError>
     ensures { IfOk result (λ texts. map string_bytes texts.items
-        ≡ completing_texts (map string_bytes keywords.now) (catalog_view catalog.now) statement.now word.now) }
+        ≡ completions (map string_bytes keywords.now) (catalog_view catalog.now) statement.now word.now) }
 {
-    let tokens = bare_tokens(alloc, statement)?;
+    let tokens = tokenize(alloc, statement)?;
     let named = named_tables(alloc, &catalog.tables, &tokens)?;
     let mut texts = completing_names(alloc, keywords, catalog, &named, word)?;
     texts.append(&mut completing_keywords(alloc, keywords, word)?)?;

@@ -1,10 +1,10 @@
 //! What a byte of a text stands in.
 
 ghost use Rattle.std.specs.Prelude.{◌≡◌};
-ghost use Rattle.sql_language.specs.Lexer.{behind_star, closing_byte, following, fresh, continued, if_so, in_block, in_quotes, is_decimal, is_word_start, is_number_part, is_part, is_white, reopens};
+ghost use Rattle.sql_language.specs.Lexer.{behind_star, closing_byte, fresh, continued, if_so, in_block, in_quotes, is_decimal, is_word_start, is_number_part, is_part, is_white, reopens};
 
 /// What quotes a text or a name.
-#[derive(Clone, Copy, Debug, PartialEq, Eq)]
+#[derive(Clone, Copy)]
 pub enum Quote {
     /// `'`, for texts.
     Single,
@@ -17,7 +17,7 @@ pub enum Quote {
 }
 
 /// What a byte of a text stands in.
-#[derive(Clone, Copy, Debug, PartialEq, Eq)]
+#[derive(Clone, Copy)]
 pub enum Inside {
     /// White space.
     White,
@@ -41,12 +41,12 @@ pub enum Inside {
     BlockEnd,
     /// A text or a name in quotes.
     Quoted(Quote),
-    /// The quote that ends it, unless another one follows.
+    /// The quote that ends it, unless a second one follows.
     Closed(Quote),
 }
 
 impl Quote {
-    /// The byte that ends a text in these quotes.
+    /// Returns the byte that ends a text in these quotes.
     pub fn closing_byte(self) -> u8
         ensures { result ≡ closing_byte self }
     {
@@ -58,7 +58,7 @@ impl Quote {
         }
     }
 
-    /// Whether a second such byte goes on with the text.
+    /// Returns true if a second such byte goes on with the text.
     fn reopens(self) -> bool
         ensures { result ≡ reopens self }
     {
@@ -69,42 +69,42 @@ impl Quote {
     }
 }
 
-/// Whether a byte is white space.
+/// Returns true if a byte is white space.
 fn is_white(byte: u8) -> bool
     ensures { result ≡ is_white byte }
 {
     byte == b' ' || (9 <= byte && byte <= 13)
 }
 
-/// Whether a byte may begin a word.
+/// Returns true if a byte may begin a word.
 fn is_word_start(byte: u8) -> bool
     ensures { result ≡ is_word_start byte }
 {
     (65 <= byte && byte <= 90) || (97 <= byte && byte <= 122) || byte == b'_' || 128 <= byte
 }
 
-/// Whether a byte is a digit.
+/// Returns true if a byte is a digit.
 fn is_decimal(byte: u8) -> bool
     ensures { result ≡ is_decimal byte }
 {
     48 <= byte && byte <= 57
 }
 
-/// Whether a word goes on with a byte.
-pub fn is_part(byte: u8) -> bool
+/// Returns true if a word goes on with a byte.
+fn is_part(byte: u8) -> bool
     ensures { result ≡ is_part byte }
 {
     is_word_start(byte) || is_decimal(byte) || byte == b'$'
 }
 
-/// Whether a number goes on with a byte.
+/// Returns true if a number goes on with a byte.
 fn is_number_part(byte: u8) -> bool
     ensures { result ≡ is_number_part byte }
 {
     is_word_start(byte) || is_decimal(byte) || byte == b'.'
 }
 
-/// What a byte stands in that begins a token.
+/// Returns what a byte stands in that begins a token.
 pub fn fresh(byte: u8) -> Inside
     ensures { result ≡ fresh byte }
 {
@@ -128,14 +128,14 @@ pub fn fresh(byte: u8) -> Inside
     }
 }
 
-/// What a state is where a test passes.
+/// Returns a state if a test passes.
 fn if_so(passes: bool, inside: Inside) -> Option<Inside>
     ensures { result ≡ if_so passes inside }
 {
     if passes { Some(inside) } else { None }
 }
 
-/// What a byte stands in after one that stands in `inside`, where both are of one token; none where a token begins.
+/// Returns what a byte stands in behind one that stands in `inside`, or `None` if it begins a token.
 pub fn continued(inside: Inside, byte: u8) -> Option<Inside>
     ensures { result ≡ continued inside byte }
 {
@@ -157,7 +157,7 @@ pub fn continued(inside: Inside, byte: u8) -> Option<Inside>
     }
 }
 
-/// What a byte of a comment stands in.
+/// Returns what a byte of a comment stands in.
 fn in_block(byte: u8) -> Inside
     ensures { result ≡ in_block byte }
 {
@@ -168,7 +168,7 @@ fn in_block(byte: u8) -> Inside
     }
 }
 
-/// What a byte of a comment stands in after a star.
+/// Returns what a byte of a comment stands in behind a star.
 fn behind_star(byte: u8) -> Inside
     ensures { result ≡ behind_star byte }
 {
@@ -179,7 +179,7 @@ fn behind_star(byte: u8) -> Inside
     }
 }
 
-/// What a byte of a text in quotes stands in.
+/// Returns what a byte of a text in quotes stands in.
 fn in_quotes(quote: Quote, byte: u8) -> Inside
     ensures { result ≡ in_quotes quote byte }
 {
@@ -187,15 +187,5 @@ fn in_quotes(quote: Quote, byte: u8) -> Inside
         Inside::Closed(quote)
     } else {
         Inside::Quoted(quote)
-    }
-}
-
-/// What a byte stands in after one that stands in `inside`.
-pub fn following(inside: Inside, byte: u8) -> Inside
-    ensures { result ≡ following inside byte }
-{
-    match continued(inside, byte) {
-        Some(next) => next,
-        None => fresh(byte),
     }
 }

@@ -1,71 +1,101 @@
-//! Semicolons and brackets that are tokens.
+//! Where a statement ends.
 
-ghost use Rattle.std.specs.Prelude.{◌≡◌, ◌<◌, ◌-◌, ◌^◌, IfSome, IsCharBoundary};
-ghost use Rattle.sql_language.specs.Statements.{begins_mark, counted, end_len, inside_after, open_brackets};
+ghost use Rattle.std.specs.Prelude.{◌≡◌, IfSome, IsCharBoundary};
+ghost use Rattle.sql_language.specs.SqlWords.{eq_ignore_case};
+ghost use Rattle.sql_language.specs.Statements.{is_blank, part_after, part_behind, part_behind_semicolon, statement_len};
 
-use crate::lexer::{Inside, continued, following};
+use crate::tokens::{Token, TokenKind, first_token};
+use crate::words::eq_ignore_case;
 
-/// Whether a byte is a mark of its own after one that stands in `inside`, and is this one.
-fn begins_mark(mark: u8, inside: Inside, byte: u8) -> bool
-    ensures { result ≡ begins_mark mark inside byte }
-{
-    byte == mark && continued(inside, byte).is_none()
+/// How far a statement is read. One that makes a trigger has semicolons of its own.
+#[derive(Clone, Copy)]
+enum Part {
+    /// Nothing of it.
+    Start,
+    /// `EXPLAIN`.
+    Explain,
+    /// `CREATE`, and `TEMP` or `TEMPORARY`.
+    Create,
+    /// Words of a statement that makes no trigger.
+    Other,
+    /// Words of one that makes a trigger.
+    Body,
+    /// Such words up to a semicolon.
+    Semicolon,
+    /// Such words up to a semicolon, and `END`.
+    End,
 }
 
-/// The length in bytes up to the first semicolon that is a token, and with it, of a text before which a byte stands in
-/// `before`; none where there is none. A semicolon in quotes or in a comment is no token.
-pub fn end_len(before: Inside, text: &str) -> Option<usize>
-    ensures value { result ≡ end_len before text.now }
+/// Returns true for white space and comments.
+fn is_blank(kind: TokenKind) -> bool
+    ensures { result ≡ is_blank kind }
+{
+    matches!(kind, TokenKind::White | TokenKind::Comment)
+}
+
+/// Returns true if a token is a word in any case.
+fn is(token: &str, word: &str) -> bool
+    ensures { result ≡ eq_ignore_case token.now word.now }
+{
+    eq_ignore_case(token.as_bytes(), word.as_bytes())
+}
+
+/// Returns the part behind a semicolon, or `None` if the statement ends there.
+fn part_behind_semicolon(part: Part) -> Option<Part>
+    ensures { result ≡ part_behind_semicolon part }
+{
+    match part {
+        Part::Body | Part::Semicolon => Some(Part::Semicolon),
+        _ => None,
+    }
+}
+
+/// Returns the part behind a token that is no semicolon, no white space and no comment.
+fn part_behind(part: Part, token: &str) -> Part
+    ensures { result ≡ part_behind part token.now }
+{
+    match part {
+        Part::Start if is(token, "EXPLAIN") => Part::Explain,
+        Part::Start | Part::Explain if is(token, "CREATE") => Part::Create,
+        Part::Create if is(token, "TEMP") || is(token, "TEMPORARY") => Part::Create,
+        Part::Create if is(token, "TRIGGER") => Part::Body,
+        Part::Semicolon if is(token, "END") => Part::End,
+        Part::Body | Part::Semicolon | Part::End => Part::Body,
+        _ => Part::Other,
+    }
+}
+
+/// Returns the part behind a token, or `None` if the statement ends with it.
+fn part_after(part: Part, token: Token<'_>) -> Option<Part>
+    ensures { result ≡ part_after part token.entry.kind token.entry.text.now }
+{
+    if is_blank(token.kind) {
+        Some(part)
+    } else if token.text == ";" {
+        part_behind_semicolon(part)
+    } else {
+        Some(part_behind(part, token.text))
+    }
+}
+
+/// Returns the length of the first statement in bytes, with the semicolon that ends it, or `None` if none does. A
+/// semicolon in quotes or in a comment ends nothing, and a statement that makes a trigger ends at the semicolon behind
+/// the `END` of its body.
+pub fn statement_len(text: &str) -> Option<usize>
+    ensures value { result ≡ statement_len text.now }
     ensures boundary { IfSome result (IsCharBoundary text.now) }
 {
-    let bytes = text.as_bytes();
-    let mut inside = before;
-    for at in 0..bytes.len() {
-        if begins_mark(b';', inside, bytes[at]) {
-            return Some(at + 1);
+    let mut len = 0;
+    let mut part = Part::Start;
+    let mut rest = text;
+    for _ in 0..text.len() {
+        let (token, after) = first_token(rest);
+        len += token.text.len();
+        match part_after(part, token) {
+            Some(next) => part = next,
+            None => return Some(len),
         }
-        inside = following(inside, bytes[at]);
+        rest = after;
     }
     None
-}
-
-/// What the last byte of a text stands in, before which a byte stands in `before`: that one, where the text is empty.
-pub fn inside_after(before: Inside, text: &str) -> Inside
-    ensures { result ≡ inside_after before text.now }
-{
-    let bytes = text.as_bytes();
-    let mut last = before;
-    for at in 0..bytes.len() {
-        last = following(last, bytes[at]);
-    }
-    last
-}
-
-/// How many brackets are open after a byte, where `count` were before it.
-fn counted(count: usize, inside: Inside, byte: u8) -> usize
-    requires { count < 2 ^ 64 - 1 }
-    ensures { result ≡ counted count inside byte }
-{
-    if begins_mark(b'(', inside, byte) {
-        return count + 1;
-    }
-    if begins_mark(b')', inside, byte) {
-        return count.saturating_sub(1);
-    }
-    count
-}
-
-/// How many round brackets of a text are open at its end: those in quotes and in comments are none, and one that
-/// closes nothing is passed over.
-pub fn open_brackets(text: &str) -> usize
-    ensures { result ≡ open_brackets text.now }
-{
-    let bytes = text.as_bytes();
-    let mut inside = Inside::White;
-    let mut count = 0;
-    for at in 0..bytes.len() {
-        count = counted(count, inside, bytes[at]);
-        inside = following(inside, bytes[at]);
-    }
-    count
 }

@@ -1,9 +1,10 @@
-//! The first token of a text.
+//! The tokens of a text.
 
-ghost use Rattle.std.specs.Prelude.{◌≡◌, IsCharBoundary, drop, take};
-ghost use Rattle.sql_language.specs.Lexemes.{token_kind, lexeme_inside, lexeme_len, quoted_kind};
+ghost use Rattle.std.specs.Prelude.{◌≡◌, IfOk, IsCharBoundary, drop, map, take};
+ghost use Rattle.sql_language.specs.Lexemes.{lexeme_kind, lexeme_len, lexeme_start, quoted_kind, token_kind, token_view, tokenize};
 
 use crate::lexer::{Inside, Quote, continued, fresh};
+use std::alloc::{AllocError, Global};
 
 /// What a token is.
 #[derive(Clone, Copy, Debug, PartialEq, Eq)]
@@ -25,7 +26,7 @@ pub enum TokenKind {
 }
 
 /// A token of a text.
-#[derive(Clone, Copy, Debug, PartialEq, Eq)]
+#[derive(Clone, Copy)]
 pub struct Token<'a> {
     /// What it is.
     pub kind: TokenKind,
@@ -33,21 +34,7 @@ pub struct Token<'a> {
     pub text: &'a str,
 }
 
-/// What a token is whose last byte stands in `inside`.
-pub fn token_kind(inside: Inside) -> TokenKind
-    ensures { result ≡ token_kind inside }
-{
-    match inside {
-        Inside::White => TokenKind::White,
-        Inside::Word => TokenKind::Word,
-        Inside::Number => TokenKind::Number,
-        Inside::Mark | Inside::Dash | Inside::Slash => TokenKind::Mark,
-        Inside::Line | Inside::Block | Inside::Star | Inside::BlockEnd => TokenKind::Comment,
-        Inside::Quoted(quote) | Inside::Closed(quote) => quoted_kind(quote),
-    }
-}
-
-/// What a token in quotes is.
+/// Returns what a token in quotes is.
 fn quoted_kind(quote: Quote) -> TokenKind
     ensures { result ≡ quoted_kind quote }
 {
@@ -57,39 +44,73 @@ fn quoted_kind(quote: Quote) -> TokenKind
     }
 }
 
-/// The length of the first token, and what its last byte stands in.
+/// Returns what a token is, by what its first byte stands in and its length.
+fn token_kind(start: Inside, len: usize) -> TokenKind
+    ensures { result ≡ token_kind start len }
+{
+    match start {
+        Inside::White => TokenKind::White,
+        Inside::Word => TokenKind::Word,
+        Inside::Number => TokenKind::Number,
+        Inside::Mark => TokenKind::Mark,
+        Inside::Dash | Inside::Slash if len == 1 => TokenKind::Mark,
+        Inside::Quoted(quote) | Inside::Closed(quote) => quoted_kind(quote),
+        _ => TokenKind::Comment,
+    }
+}
+
+/// Returns the length of the first token, and what its first byte stands in.
 fn scan(text: &str) -> (usize, Inside)
     ensures len { result.0 ≡ lexeme_len text.now }
-    ensures inside { result.1 ≡ lexeme_inside text.now }
+    ensures start { result.1 ≡ lexeme_start text.now }
     ensures boundary { IsCharBoundary text.now result.0 }
 {
     let bytes = text.as_bytes();
     if bytes.is_empty() {
         return (0, Inside::White);
     }
-    let mut inside = fresh(bytes[0]);
+    let start = fresh(bytes[0]);
+    let mut inside = start;
     for at in 1..bytes.len() {
         match continued(inside, bytes[at]) {
             Some(next) => inside = next,
-            None => return (at, inside),
+            None => return (at, start),
         }
     }
-    (bytes.len(), inside)
+    (bytes.len(), start)
 }
 
-/// The first token of a text, and what follows it. That of an empty text is white space of no bytes.
+/// Returns the first token of a text, and what follows it. That of an empty text is white space of no bytes.
 pub fn first_token(text: &str) -> (Token<'_>, &str)
-    ensures kind { result.0.kind ≡ token_kind (lexeme_inside text.now) }
+    ensures kind { result.0.kind ≡ lexeme_kind text.now }
     ensures token { result.0.text.now ≡ take (lexeme_len text.now) text.now }
     ensures rest { result.1.now ≡ drop (lexeme_len text.now) text.now }
+    ensures boundary { IsCharBoundary text.now (lexeme_len text.now) }
 {
-    let (len, inside) = scan(text);
+    let (len, start) = scan(text);
     let (token, rest) = text.split_at(len);
     (
         Token {
-            kind: token_kind(inside),
+            kind: token_kind(start, len),
             text: token,
         },
         rest,
     )
+}
+
+/// Returns the tokens of a text.
+pub fn tokenize<'a>(alloc: Global, text: &'a str) -> Result<Vec<Token<'a>>, AllocError>
+    ensures { IfOk result (λ found. map token_view found.items ≡ tokenize text.now) }
+{
+    let mut found = Vec::new(alloc);
+    let mut rest = text;
+    for _ in 0..text.len() {
+        if rest.is_empty() {
+            break;
+        }
+        let (token, after) = first_token(rest);
+        found.push(token)?;
+        rest = after;
+    }
+    Ok(found)
 }

@@ -1,8 +1,8 @@
 use Rattle.std.proofs.Common.{◌≡◌, ◌∙◌, ◌+◌, ◌-◌, ◌<◌, ◌≤◌, length, get_or, ap, sym, subst, arith}
 use Rattle.std.specs.Str.{IsCharBoundary}
-use Rattle.sql_language.specs.Lexemes.{lexeme_len, lexeme_inside}
+use Rattle.sql_language.specs.Lexemes.{lexeme_len}
 use Rattle.sql_language.proofs.LexerLemmas.{on-takes}
-use Rattle.sql_language.proofs.LexemeLemmas.{rest-on, rest-off, rest-end, last-on, last-off, last-end, token-boundary}
+use Rattle.sql_language.proofs.LexemeLemmas.{rest-on, rest-off, rest-end, token-boundary}
 use Rattle.sql_language.proofs.tokens.scan.Goals as goal
 
 pub returns-in-None-clause-len : goal.returns-in-None-clause-len
@@ -10,12 +10,6 @@ returns-in-None-clause-len c =
     let text = c.as_bytes-bytes.result.now in
     let low : c.loop-at.at < length text = omega arith in
     sym (rest-off c.loop-at.inside text c.loop-at.at low (sym c.continued.ensures ∙ c.in-None.is)) ∙ c.loop-at.invariant.len ∙ ap lexeme_len c.as_bytes-bytes.ensures.value
-
-pub returns-in-None-clause-inside : goal.returns-in-None-clause-inside
-returns-in-None-clause-inside c =
-    let text = c.as_bytes-bytes.result.now in
-    let low : c.loop-at.at < length text = omega arith in
-    sym (last-off c.loop-at.inside text c.loop-at.at low (sym c.continued.ensures ∙ c.in-None.is)) ∙ c.loop-at.invariant.inside ∙ ap lexeme_inside c.as_bytes-bytes.ensures.value
 
 pub returns-in-None-clause-boundary : goal.returns-in-None-clause-boundary
 returns-in-None-clause-boundary c =
@@ -34,7 +28,6 @@ loop-at-preserved c =
     let back : (at + 1) - 1 ≡ at = omega arith in
     record {
       len = sym (rest-on c.loop-at.inside text at low next on) ∙ c.loop-at.invariant.len;
-      inside = sym (last-on c.loop-at.inside text at low next on) ∙ c.loop-at.invariant.inside;
       takes = λ h. on-takes c.loop-at.inside next (get_or text at 0) on (subst (λ n. 128 ≤ get_or text n 0) back h);
       some = omega arith;
       filled = c.loop-at.invariant.filled;
@@ -45,9 +38,3 @@ returns-clause-len c =
     let text = c.as_bytes-bytes.result.now in
     let end : c.loop-at.at ≡ length text = omega (arith, c.loop-at.auto.at-end c.loop-at.invariant.filled) in
     sym (rest-end c.loop-at.inside text c.loop-at.at end) ∙ c.loop-at.invariant.len ∙ ap lexeme_len c.as_bytes-bytes.ensures.value
-
-pub returns-clause-inside : goal.returns-clause-inside
-returns-clause-inside c =
-    let text = c.as_bytes-bytes.result.now in
-    let end : c.loop-at.at ≡ length text = omega (arith, c.loop-at.auto.at-end c.loop-at.invariant.filled) in
-    sym (last-end c.loop-at.inside text c.loop-at.at end) ∙ c.loop-at.invariant.inside ∙ ap lexeme_inside c.as_bytes-bytes.ensures.value

@@ -1,0 +1,116 @@
+//! What a prompt knows of SQL while a line is typed.
+
+use sql_language::{Catalog, Token, TokenKind, begun_word, completions, has_word, tokenize};
+use std::alloc::{AllocError, Global};
+use tw_lineedit::CompletionCandidate;
+use tw_prompt::Application;
+use tw_prompt_host::StyledRange;
+use tw_surface::{CellAttributes, ColorAttribute, Intensity};
+
+/// The words that are shown as keywords, and completed.
+const KEYWORDS: &str =
+    "ABORT ADD ALL ALTER AND AS ASC AUTOINCREMENT BEGIN BETWEEN BY CASCADE CASE CAST CHECK COLLATE \
+    COLUMN COMMIT CONFLICT CONSTRAINT CREATE CROSS DEFAULT DELETE DESC DISTINCT DO DROP ELSE END ESCAPE EXCEPT EXISTS \
+    EXPLAIN FOREIGN FROM FULL GLOB GROUP HAVING IF IN INDEX INNER INSERT INTEGER INTERSECT INTO IS JOIN KEY LEFT LIKE \
+    LIMIT NATURAL NOT NULL OFFSET ON OR ORDER OUTER PRAGMA PRIMARY REAL RECURSIVE REFERENCES RENAME REPLACE RETURNING \
+    ROLLBACK SELECT SET TABLE TEMP TEXT THEN TO TRANSACTION TRIGGER UNION UNIQUE UPDATE USING VALUES VIEW WHEN WHERE \
+    WITH WITHOUT";
+
+/// The keywords, the names of the database, and what has begun of the statement.
+#[derive(Drop)]
+pub struct Language {
+    keywords: Vec<String>,
+    pub catalog: Catalog,
+    /// The lines of the statement before the one that is typed, each with its line feed.
+    pub begun: String,
+}
+
+impl Language {
+    /// Creates the language of a database without names.
+    pub fn new(alloc: Global) -> Result<Self, AllocError> {
+        let mut keywords = Vec::new(alloc);
+        for keyword in KEYWORDS.split(' ') {
+            keywords.push(String::from_str(alloc, keyword)?)?;
+        }
+        let catalog = Catalog {
+            names: Vec::new(alloc),
+            tables: Vec::new(alloc),
+        };
+        let begun = String::new(alloc);
+        Ok(Language {
+            keywords,
+            catalog,
+            begun,
+        })
+    }
+
+    /// Returns true if lines of a statement have begun.
+    pub fn has_begun(&self) -> bool {
+        !self.begun.is_empty()
+    }
+
+    /// Returns the attributes of a token: keywords are bold, texts green, numbers cyan and comments grey.
+    fn look(&self, token: Token<'_>) -> CellAttributes {
+        let mut attributes = CellAttributes::default();
+        match token.kind {
+            TokenKind::Word if has_word(&self.keywords, token.text) => {
+                attributes.intensity = Intensity::Bold;
+            }
+            TokenKind::Text => attributes.foreground = ColorAttribute::PaletteIndex(2),
+            TokenKind::Number => attributes.foreground = ColorAttribute::PaletteIndex(6),
+            TokenKind::Comment => attributes.foreground = ColorAttribute::PaletteIndex(8),
+            _ => {}
+        }
+        attributes
+    }
+}
+
+impl Application for Language {
+    fn complete(
+        &self,
+        alloc: Global,
+        line: &str,
+        cursor: usize,
+    ) -> Result<Vec<CompletionCandidate>, AllocError> {
+        let mut candidates = Vec::new(alloc);
+        if !self.has_begun() && line.starts_with('.') {
+            return Ok(candidates);
+        }
+        let statement = format!(in alloc; "{}{line}", self.begun)?;
+        let before = format!(in alloc; "{}{}", self.begun, line.get(..cursor).unwrap_or(""))?;
+        let Some(word) = begun_word(alloc, before.as_str())? else {
+            return Ok(candidates);
+        };
+        for text in completions(
+            alloc,
+            &self.keywords,
+            &self.catalog,
+            statement.as_str(),
+            word,
+        )? {
+            candidates.push(CompletionCandidate {
+                range: cursor.saturating_sub(word.len())..cursor,
+                text,
+            })?;
+        }
+        Ok(candidates)
+    }
+
+    fn colours(&self, alloc: Global, line: &str) -> Result<Vec<StyledRange>, AllocError> {
+        let mut ranges = Vec::new(alloc);
+        let mut start: usize = 0;
+        for token in &tokenize(alloc, line)? {
+            let end = start.saturating_add(token.text.len());
+            let attributes = self.look(*token);
+            if attributes != CellAttributes::default() {
+                ranges.push(StyledRange {
+                    start,
+                    end,
+                    attributes,
+                })?;
+            }
+            start = end;
+        }
+        Ok(ranges)
+    }
+}

@@ -1,4 +1,0 @@
-pub mod SqlShown
-pub mod SqlCompletion
-pub mod SqlPreview
-pub mod SqlRules

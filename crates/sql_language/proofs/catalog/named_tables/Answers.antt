@@ -1,6 +1,0 @@
-use Rattle.std.proofs.Common.{arith}
-use Rattle.std.proofs.lemmas.Grind.{common_steps}
-use Rattle.sql_language.proofs.catalog.named_tables.Goals as goal
-
-pub loop-table-preserved : goal.loop-table-preserved
-loop-table-preserved c = grind (arith, common_steps)

@@ -1,9 +1,0 @@
--- The tokens so far, and those of what is left, are those of the text.
-use Rattle.std.proofs.Common.{◌≡◌, ◌++◌, ◌-◌, length, map}
-use denote.Text.{Utf8}
-use denote.Shadow.{shadow}
-use Rattle.sql_language.specs.Names.{first_tokens}
-use Rattle.sql_language.proofs.names.bare_tokens.Given as goal
-
-abbrev pub invariant-loop : goal.invariant-loop
-invariant-loop l = shadow (Utf8 l.rest) × (map (λ token. token.now) l.tokens.items ++ first_tokens (length l.text - l.counter) l.rest ≡ first_tokens (length l.text) l.text)

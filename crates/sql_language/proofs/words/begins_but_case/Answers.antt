@@ -1,5 +1,0 @@
-use Rattle.std.proofs.Common.{rules}
-use Rattle.sql_language.proofs.words.begins_but_case.Goals as goal
-
-pub returns-else-text-word : goal.returns-else-text-word
-returns-else-text-word c = search rules
