@@ -1,12 +1,11 @@
 -- Each character of a line stands in its cell.
-use Rattle.std.proofs.Common.{◌≡◌, ℕ, zero, suc, pos, ◌+ℤ◌, ◌+◌, ◌-◌, ◌*◌, ◌/◌, ◌%◌, ◌<◌, ◌≤◌, max, Bool, true, false, eqb, ltb, List, [], ◌∷◌, ◌++◌, length, map, refl, ap, sym, subst, ◌∙◌, arith, length-append, append_assoc, append-nil, if◌then◌else◌, ◌&&◌}
+use Rattle.std.proofs.Common.{◌≡◌, ℕ, zero, suc, pos, ◌+ℤ◌, ◌+◌, ◌*◌, ◌/◌, ◌%◌, ◌<◌, Bool, true, false, eqb, ltb, List, [], ◌∷◌, ◌++◌, length, map, refl, ap, sym, subst, ◌∙◌, arith, length-append, append_assoc, append-nil, if◌then◌else◌, ◌&&◌}
 use Rattle.std.specs.List.{list_all}
 use Rattle.std.proofs.lemmas.Bool.{and_parts, and_from, or_parts, false≢true, ne_eqb, lt-ltb}
 use Rattle.std.proofs.lemmas.Int.{ints}
 use Rattle.std.proofs.lemmas.List.{map-append}
 use Rattle.std.proofs.lemmas.List.Folds.{list_all-append}
 use Rattle.std.proofs.Math.Nat.{mul-add-mod_self_right, mul-add-div_right}
-use Rattle.std.proofs.Math.Seq.{get_or-append_seam}
 use Rattle.tw_strokes.specs.Strokes.{PictureOf}
 use Rattle.tw_strokes.specs.Sheets.{IsFreshSheet, AreLinesShown, IsTextShown, rows_of_line}
 use Rattle.tw_surface.specs.ChangeView.{Batch}
@@ -14,7 +13,7 @@ use Rattle.tw_surface.specs.ChangeView.{Attribute, AllAttributes, Text, ClearScr
 use Rattle.tw_surface.specs.Characters.{is_printable, cr, lf}
 use Rattle.tw_surface.specs.Defaults.{default_attributes}
 use Rattle.tw_surface.specs.Fresh.{text_of}
-use Rattle.tw_surface.specs.Lines.{before_lines, lines_of, text_of_lines}
+use Rattle.tw_surface.specs.Lines.{lines_of, text_of_lines}
 use Rattle.tw_surface.specs.Paintings.{before_line, edge_space, lower_changes}
 use Rattle.tw_surface.specs.Pictures.{blank}
 use Rattle.tw_surface.specs.Places.{Place, origin, place_after_all}
@@ -25,81 +24,17 @@ use Rattle.tw_screens.specs.StyledCells.{characters}
 use Rattle.tw_screens.proofs.DrawnChanges.{lines-chars, chars-typed}
 use Rattle.tw_screens.proofs.PlainScenes.{plain_is_simple}
 use Rattle.tw_screens.proofs.PlainTexts.{one_line}
-use Rattle.laws_rows.specs.Rows.{is_row_character, rows_of_text, rows_taken, rows_down, column_after, row_edge, spread}
+use Rattle.laws_rows.specs.Rows.{is_row_character, rows_of_text, rows_down, column_after, spread}
 use Rattle.laws_rows.specs.RowScenes.{place_behind, folded}
 use Rattle.laws_rows.specs.RowStations.{IsRowStation, simple_at}
 use Rattle.laws_rows.specs.RowStations.IsRowStation.{Simple, WithRows}
 use Rattle.laws_rows.specs.PlainRows.{is_row_typing, has_pair, first_row, other_rows, HasPlainRows, plain_folded}
 use Rattle.laws_rows.specs.RowCells.{ShowsLine, ShownLinesAreRowStations, StandInRows, CellsByDivision}
-use Rattle.laws_rows.proofs.RowSpreads.{printable-row, edge-printable, some-rows, before-row}
-use Rattle.laws_rows.proofs.RowTexts.{some_lines, all_first, ends_there, not_cr, put_first, are_rows}
-use Rattle.laws_rows.proofs.SpreadLines.{spread-lines, spread-both, rows-off-edge, rows-with-edge, both-printable}
+use Rattle.laws_rows.proofs.RowTexts.{some_lines, ends_there, are_rows}
+use Rattle.laws_rows.proofs.SpreadLines.{spread-lines, spread-both, rows-off-edge, both-printable}
+use Rattle.laws_rows.proofs.ShownRows.{first_cells, cell_there, lines_behind}
 use Rattle.laws_rows.proofs.TypedColumns.{IsTip, tip-start, tip-changes}
 use Rattle.laws_rows.proofs.PlainRowLemmas.{parts_of, typed-both, line_text, first_typed, folded_is_plain, plain_rows_are_rows}
-
--- ---- lines on a screen
-
-module _ (cols : ℕ) (two : 2 ≤ cols) (continuation : List ℕ) (printable : list_all is_printable continuation ≡ true) (tail : List ℕ) (shown : PictureOf ℕ) where
-  abbrev c : ℕ
-  c = length continuation
-
-  -- a character of the first row, after the x before it
-  cell_here : (from n : ℕ) (x : List ℕ) (ch : ℕ) (right : List ℕ) → length x ≡ n → list_all is_printable x ≡ true → is_printable ch ≡ true
-      → AreLinesShown cols from blank (lines_of (x ++ (ch ∷ right))) shown → shown.cell (from + n / cols) (n % cols) ≡ ch
-  cell_here from n x ch right long plain mine lines =
-      let it = some_lines right in
-      let one : lines_of (ch ∷ right) ≡ (ch ∷ it.0) ∷ it.1 = ap (λ ls. before_lines ch ls) it.2 ∙ put_first ch it.0 it.1 (not_cr ch mine) in
-      let all = all_first x (ch ∷ right) (ch ∷ it.0) it.1 plain one in
-      let text : IsTextShown cols from blank (x ++ ch ∷ it.0) shown = (subst (λ (ls : List (List ℕ)). AreLinesShown cols from blank ls shown) all lines).0 in
-      let inside : length x < length (x ++ ch ∷ it.0) = omega (arith, length-append x (ch ∷ it.0)) in
-      let cell = text (length x) inside ∙ get_or-append_seam x ch it.0 blank in
-      rw long at cell
-
-  -- a character of a text, after the x before its first row
-  cell_there : (from n : ℕ) (x left : List ℕ) (ch : ℕ) (right : List ℕ) → length x ≡ n → list_all is_printable x ≡ true
-      → list_all is_row_character (left ++ ch ∷ right) ≡ true → eqb ch lf ≡ false
-      → AreLinesShown cols from blank (lines_of (x ++ (spread cols continuation n (left ++ ch ∷ right) ++ tail))) shown
-      → shown.cell (from + rows_down cols n c (rows_of_text left)) (column_after cols n c (rows_of_text left)) ≡ ch
-  cell_there from n x [] ch right long plain rows mine lines =
-      let both = and_parts (is_row_character ch) (list_all is_row_character right) rows in
-      let none : n ≡ n + 0 = omega arith in
-      rw (← none) (cell_here from n x ch (spread cols continuation (n + 1) right ++ tail) long plain (printable-row ch both.0 mine) (rw mine at lines))
-  cell_there from n x (d ∷ left) ch right long plain rows mine lines =
-      let both = and_parts (is_row_character d) (list_all is_row_character (left ++ ch ∷ right)) rows in
-      by both.0 both.1 (λ f m y e p. cell_there f m y left ch right e p both.1 mine) (eqb d lf) refl
-    where
-      by : is_row_character d ≡ true → list_all is_row_character (left ++ ch ∷ right) ≡ true
-          → ((f m : ℕ) (y : List ℕ) → length y ≡ m → list_all is_printable y ≡ true
-          → AreLinesShown cols f blank (lines_of (y ++ (spread cols continuation m (left ++ ch ∷ right) ++ tail))) shown
-          → shown.cell (f + rows_down cols m c (rows_of_text left)) (column_after cols m c (rows_of_text left)) ≡ ch)
-          → (k : Bool) → eqb d lf ≡ k → shown.cell (from + rows_down cols n c (rows_of_text (d ∷ left))) (column_after cols n c (rows_of_text (d ∷ left))) ≡ ch
-      by here rest so true e =
-          let text : List ℕ = spread cols continuation c (left ++ ch ∷ right) in
-          let below : List ℕ = continuation ++ (text ++ tail) in
-          let edge : List ℕ = row_edge cols n in
-          let all : x ++ ((edge ++ (cr ∷ lf ∷ (continuation ++ text))) ++ tail) ≡ (x ++ edge) ++ (cr ∷ lf ∷ below) =
-          ap (λ (l : List ℕ). x ++ l) (append_assoc edge (cr ∷ lf ∷ (continuation ++ text)) tail)
-          ∙ ap (λ (l : List ℕ). x ++ (edge ++ (cr ∷ lf ∷ l))) (append_assoc continuation text tail)
-          ∙ sym (append_assoc x edge (cr ∷ lf ∷ below)) in
-          let cut : lines_of ((x ++ edge) ++ (cr ∷ lf ∷ below)) ≡ (x ++ edge) ∷ lines_of below = ends_there (x ++ edge) below (both-printable x edge plain (edge-printable cols n)) in
-          let rows : rows_of_line cols (x ++ edge) ≡ rows_taken cols n =
-          ap (λ i. max 1 ((i + cols - 1) / cols)) (length-append x edge ∙ ap (λ i. i + length edge) long) ∙ rows-with-edge cols n two in
-          let under : AreLinesShown cols (from + rows_of_line cols (x ++ edge)) blank (lines_of below) shown =
-          (subst (λ (ls : List (List ℕ)). AreLinesShown cols from blank ls shown) (ap lines_of all ∙ cut) (rw e at lines)).1 in
-          let it = some-rows left in
-          let cell = rw it.2 at (so (from + rows_taken cols n) c continuation refl printable (rw rows at under)) in
-          let none : n ≡ n + 0 = omega arith in
-          let down : from + rows_taken cols n + rows_down cols c c (it.0 ∷ it.1) ≡ from + (rows_taken cols n + rows_down cols c c (it.0 ∷ it.1)) = omega arith in
-          rw e (rw it.2 (rw (← none) (rw (← down) cell)))
-      by here rest so false e =
-          let text : List ℕ = spread cols continuation (n + 1) (left ++ ch ∷ right) in
-          let it = some-rows left in
-          let same = before-row cols n c d it.0 it.1 in
-          let long' : length (x ++ d ∷ []) ≡ n + 1 = length-append x (d ∷ []) ∙ ap (λ i. i + 1) long in
-          let plain' = both-printable x (d ∷ []) plain (and_from (is_printable d) true (printable-row d here e) refl) in
-          let all : x ++ ((d ∷ text) ++ tail) ≡ (x ++ d ∷ []) ++ (text ++ tail) = sym (append_assoc x (d ∷ []) (text ++ tail)) in
-          let cell = so from (n + 1) (x ++ d ∷ []) long' plain' (subst (λ (l : List ℕ). AreLinesShown cols from blank (lines_of l) shown) all (rw e at lines)) in
-          rw (e, it.2) (rw (← same.0, ← same.1) (rw it.2 at cell))
 
 -- ---- a sheet of characters
 
@@ -299,14 +234,19 @@ module _ (cols : ℕ) (prompt continuation before rest : List ℕ) (scene : Scen
   -- a fresh painting has the line's characters in their cells
   stands : (s : ℕ) (shown : PictureOf ℕ) (tail : List ℕ)
       → AreLinesShown cols s blank (lines_of (typed_text scene.prompt ++ (typed_text scene.line ++ tail))) shown
-      → shown.row ≡ s + at / cols → shown.col ≡ at % cols → StandInRows cols s (length prompt) (length continuation) before rest shown
+      → shown.row ≡ s + at / cols → shown.col ≡ at % cols → StandInRows cols s prompt continuation before rest shown
   stands s shown tail lines row col = record {
     row = row ∙ ap (λ i. s + i) cursor_row;
     col = col ∙ cursor_col;
+    prompt_cells = first_cells cols shown s prompt (typed_text scene.line ++ tail) h.printable.printable_prompt (rw h.prompt_is at lines);
+    continuation_cells = λ left right e k inside.
+        let below = lines_behind cols h.wide continuation h.printable.printable_continuation tail shown s (length prompt) prompt left right refl h.printable.printable_prompt
+        (sym (ap (list_all is_row_character) e) ∙ rows-typed) (rw (h.prompt_is, line-is ∙ ap (spread cols continuation (length prompt)) e) at lines) in
+        first_cells cols shown (s + rows_down cols (length prompt) (length continuation) (rows_of_text left) + 1) continuation (spread cols continuation (length continuation) right ++ tail)
+        h.printable.printable_continuation below k inside;
     cells = λ left ch right e not_lf.
-        let text : typed_text scene.line ≡ spread cols continuation (length prompt) (left ++ ch ∷ right) = line-is ∙ ap (spread cols continuation (length prompt)) e in
         cell_there cols h.wide continuation h.printable.printable_continuation tail shown s (length prompt) prompt left ch right refl h.printable.printable_prompt
-        (sym (ap (list_all is_row_character) e) ∙ rows-typed) not_lf (rw (h.prompt_is, text) at lines);
+        (sym (ap (list_all is_row_character) e) ∙ rows-typed) not_lf (rw (h.prompt_is, line-is ∙ ap (spread cols continuation (length prompt)) e) at lines);
   }
 
 pub shown_lines_are_row_stations : {A C : Type 0} (pen : Pen A C) → ShownLinesAreRowStations pen
@@ -320,7 +260,7 @@ shown_lines_are_row_stations pen cols prompt continuation before rest scene h = 
 pub cells_by_division : CellsByDivision
 cells_by_division cols s prompt continuation before rest scene shown h fresh = by (has_pair scene.line) refl
   where
-    by : (k : Bool) → has_pair scene.line ≡ k → StandInRows cols s (length prompt) (length continuation) before rest shown
+    by : (k : Bool) → has_pair scene.line ≡ k → StandInRows cols s prompt continuation before rest shown
     by true e =
         let rows = has_rows cols prompt continuation before rest scene h e in
         let same = (plain_is_simple (folded cols scene (first_row scene.line) (other_rows scene.line)) (folded_is_plain cols scene rows)).1 in

@@ -6,6 +6,7 @@ pub mod ColumnLemmas
 pub mod RowSceneLemmas
 pub mod RowStationLemmas
 pub mod PlainRowLemmas
+pub mod ShownRows
 pub mod CellLemmas
 pub mod LastRowLemmas
 pub mod RowRunLemmas

@@ -155,7 +155,7 @@ low_closed_by_computing : (low_closed.row ≡ 4) × (low_closed.col ≡ 0) × (l
 unfolding pieces column_width painted_on apply destination searched_again search_step boundary_below is_boundary iterate greatest_below least_from settled_pieces needed_by_text unicode_segmentation
 low_closed_by_computing = (refl, refl, refl, refl, refl)
 
--- the scene shows the line, so each of its characters stands in its cell: "f" at the edge, "g" after the continuation prompt, and the cursor after "j"
+-- the scene shows the line, so each of its characters stands in its cell: "f" at the edge, "g" after the continuation prompt, "." before "ij", and the cursor after it
 low_line : ShowsLine 8 (62 ∷ 32 ∷ []) (46 ∷ 32 ∷ []) low_text [] (low_at 1).scene
 unfolding pieces column_width painted_on apply destination searched_again search_step boundary_below is_boundary iterate greatest_below least_from settled_pieces needed_by_text unicode_segmentation
 low_line = record {
@@ -193,12 +193,14 @@ low_to_line = record {
   in_sight = omega arith;
 }
 
-low_cells : (low_shown.cell 1 7 ≡ 102) × (low_shown.cell 3 2 ≡ 103) × (low_shown.row ≡ 4) × (low_shown.col ≡ 4)
+low_cells : (low_shown.cell 1 7 ≡ 102) × (low_shown.cell 3 2 ≡ 103) × (low_shown.cell 1 0 ≡ 62) × (low_shown.cell 4 0 ≡ 46) × (low_shown.row ≡ 4) × (low_shown.col ≡ 4)
 unfolding pieces column_width painted_on apply destination searched_again search_step boundary_below is_boundary iterate greatest_below least_from settled_pieces needed_by_text unicode_segmentation
 low_cells =
     let stand = lines_stand_in_rows rules low_run (Some 5) false 8 (low_station 0 ∷ []) (low_station 1) [] (62 ∷ 32 ∷ []) (46 ∷ 32 ∷ []) low_text [] (full 4) low_to_line in (
       stand.cells (97 ∷ 98 ∷ 99 ∷ 100 ∷ 101 ∷ []) 102 (10 ∷ 103 ∷ 104 ∷ 10 ∷ 105 ∷ 106 ∷ []) refl refl,
       stand.cells (97 ∷ 98 ∷ 99 ∷ 100 ∷ 101 ∷ 102 ∷ 10 ∷ []) 103 (104 ∷ 10 ∷ 105 ∷ 106 ∷ []) refl refl,
+      stand.prompt_cells 0 (omega arith),
+      stand.continuation_cells (97 ∷ 98 ∷ 99 ∷ 100 ∷ 101 ∷ 102 ∷ 10 ∷ 103 ∷ 104 ∷ []) (105 ∷ 106 ∷ []) refl 0 (omega arith),
       stand.row,
       stand.col,
     )

@@ -48,13 +48,13 @@ module _ {V : Type 0} (rules : HostRules V) where
     pub at_start : screen.col ≡ 0
     pub in_sight : InSight rows screen.row
 
-  -- Then the cursor and each character of the line stand in their cells, from the row on to which the paintings so far have gone up.
+  -- Then the cursor, the prompts and each character of the line stand in their cells, from the row on to which the paintings so far have gone up.
   abbrev pub LinesStandInRows : Type 0
   LinesStandInRows = (f : Frame V) (rows : Option ℕ) (cuts : Bool) (v : ℕ) (earlier : List (Station V)) (station : Station V) (later : List (Station V))
       (prompt continuation left right : List ℕ) (screen : PictureOf ℕ)
       → ComesToLine rows f earlier station later prompt continuation left right screen
       → let top = top_row rows screen.row (line_paintings (earlier ++ station ∷ [])) in
-      StandInRows station.size.cols top (length prompt) (length continuation) left right (play_stations rules characters rows cuts v tt (earlier ++ station ∷ []) screen)
+      StandInRows station.size.cols top prompt continuation left right (play_stations rules characters rows cuts v tt (earlier ++ station ∷ []) screen)
 
   -- With nothing under the last line that is painted, the closing batch leaves the cursor in the row below that of the cell after the line.
   abbrev pub LinesCloseBelow : Type 0

@@ -1,5 +1,5 @@
 -- Scenes that show a line of rows: where its characters and the cursor stand on a screen of characters.
-use Rattle.std.specs.Prelude.{ℕ, ◌≡◌, ◌≤◌, ◌+◌, eqb, true, false, List, ◌∷◌, ◌++◌, length}
+use Rattle.std.specs.Prelude.{ℕ, ◌≡◌, ◌≤◌, ◌<◌, ◌+◌, ◌/◌, ◌%◌, slice_index_or, eqb, true, false, List, ◌∷◌, ◌++◌, length}
 use Rattle.std.specs.List.{list_all}
 use Rattle.tw_strokes.specs.Strokes.{PictureOf}
 use Rattle.tw_strokes.specs.Sheets.{IsFreshSheet, sheet_last_row}
@@ -34,20 +34,24 @@ ShownLinesAreRowStations pen = (cols : ℕ) (prompt continuation before rest : L
     → let station : SizedScene = record { scene = scene; cols = cols } in
     (it : IsRowStation pen station) × (simple_at pen station it ≡ record { scene = plain_folded cols scene; cols = cols })
 
--- From row s on, the cursor and each character of a line stand in their cells.
-pub record StandInRows (cols s prompt continuation : ℕ) (before rest : List ℕ) (shown : PictureOf ℕ) : Type 0 where
-  pub row : shown.row ≡ s + rows_down cols prompt continuation (rows_of_text before)
-  pub col : shown.col ≡ column_after cols prompt continuation (rows_of_text before)
+-- From row s on, the prompt, the continuation prompt after each line feed, and each character of a line stand in their cells, and so does the cursor.
+pub record StandInRows (cols s : ℕ) (prompt continuation before rest : List ℕ) (shown : PictureOf ℕ) : Type 0 where
+  pub row : shown.row ≡ s + rows_down cols (length prompt) (length continuation) (rows_of_text before)
+  pub col : shown.col ≡ column_after cols (length prompt) (length continuation) (rows_of_text before)
+  pub prompt_cells : (k : ℕ) → k < length prompt → shown.cell (s + k / cols) (k % cols) ≡ slice_index_or prompt k blank
+  pub continuation_cells : (left right : List ℕ) → before ++ rest ≡ left ++ lf ∷ right → (k : ℕ) → k < length continuation
+      → let above = s + rows_down cols (length prompt) (length continuation) (rows_of_text left) in
+      shown.cell (above + 1 + k / cols) (k % cols) ≡ slice_index_or continuation k blank
   pub cells : (left : List ℕ) (ch : ℕ) (right : List ℕ) → before ++ rest ≡ left ++ ch ∷ right → eqb ch lf ≡ false
       → let rows = rows_of_text left in
-      shown.cell (s + rows_down cols prompt continuation rows) (column_after cols prompt continuation rows) ≡ ch
+      shown.cell (s + rows_down cols (length prompt) (length continuation) rows) (column_after cols (length prompt) (length continuation) rows) ≡ ch
 
 -- They do so where its painting is fresh.
 abbrev pub CellsByDivision : Type 0
 CellsByDivision = (cols s : ℕ) (prompt continuation before rest : List ℕ) (scene : Scene) (shown : PictureOf ℕ)
     → ShowsLine cols prompt continuation before rest scene
     → IsFreshSheet cols s blank (painting_of characters (record { scene = plain_folded cols scene; cols = cols })).sheet shown
-    → StandInRows cols s (length prompt) (length continuation) before rest shown
+    → StandInRows cols s prompt continuation before rest shown
 
 -- With nothing under the line, the last row of its painting is that of the cell after the line.
 abbrev pub LastRowByDivision : Type 0

@@ -26,9 +26,10 @@ pub fn columns()
     ensures settled { RowColumnIsSettled }
 {}
 
-/// A scene with rows is painted as a simple one that has the rows after the first as its preview, so what holds of lists
-/// of simple stations holds of stations with rows, for any kind of cells: the screen may have some rows or no bottom, and
-/// keep its columns or cut its rows. A clearing heals it, and the closing batch leaves it blank below the last row.
+/// A scene with rows is painted as a simple one that has the rows after the first as its preview, so what holds of
+/// lists of simple stations holds of stations with rows, for any kind of cells: the screen may have some rows or no
+/// bottom, and keep its columns or cut its rows. A clearing heals it, and the closing batch leaves it blank below the
+/// last row.
 pub fn row_stations<A, C>()
     ensures preview { (pen : Pen A C) → RowsAreAPreview pen }
     ensures played { (pen : Pen A C) → RowStationsPlayAsSimple pen }
@@ -37,9 +38,10 @@ pub fn row_stations<A, C>()
     ensures closed { (pen : Pen A C) → ClosesRowStations pen }
 {}
 
-/// Lines of printable rows have rows, whatever their colours are. So have lines that are shown by the text with CR LF and
-/// a continuation prompt for each line feed; where such a painting is fresh, each character stands in the cell that
-/// division gives, and so does the cursor.
+/// Lines of printable rows have rows, whatever their colours are. So have lines that are shown by the text with CR LF
+/// and a continuation prompt for each line feed. Where such a painting is fresh, the prompts, each character and the
+/// cursor stand in the cells that division gives; with nothing under the line its last row is that of the cell after
+/// the line.
 pub fn row_cells<A, C>()
     ensures plain { (pen : Pen A C) → PlainRowsAreRows pen }
     ensures shown { (pen : Pen A C) → ShownLinesAreRowStations pen }
@@ -57,15 +59,15 @@ pub fn row_runs<H: LineEditorHost, A, C>()
     ensures healed_closing { (pen : Pen A C) → HealedRowClosings H.rules pen }
 {}
 
-/// After each painting of a run whose stations show lines in rows, on a screen of characters, the cursor and each
-/// character of the line stand in the cells that division gives; the closing batch ends in the row below the line.
+/// After each painting of a run whose stations show lines in rows, on a screen of characters, the prompts, each
+/// character and the cursor stand in the cells that division gives. The closing batch ends in the row below the line.
 pub fn line_runs<H: LineEditorHost>()
     ensures standing { LinesStandInRows H.rules }
     ensures closing { LinesCloseBelow H.rules }
 {}
 
-/// A terminal that is sent the bytes of such a run shows the picture on which its batches were played: after each
-/// painting the fresh one, and after the closing batch the row below its last row.
+/// A terminal that is sent the bytes of a run whose stations are simple or have rows shows the picture on which its
+/// batches were played: after each painting the fresh one, and after the closing batch the row below its last row.
 pub fn sent_rows<H: LineEditorHost, A, C>()
     ensures paintings { (pen : Pen A C) → RowPaintingsAreShown H.rules pen }
     ensures closings { (pen : Pen A C) → RowClosingsAreShown H.rules pen }
