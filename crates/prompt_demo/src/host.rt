@@ -5,15 +5,22 @@ use crate::tables::tables;
 use nested_marks::common_pairs;
 use std::alloc::{AllocError, Global};
 use tw_hosts::TableHost;
+use tw_key_parts::RowKeys;
 use tw_lineedit::{BasicHistory, BoundedHistory};
 use tw_prompt::{AllKeys, all_keys};
-use tw_prompt_host::{Hints, NestedLines, PromptHost};
+use tw_prompt_host::{Hints, NestedLines, PromptHost, Rows};
 
 /// How many lines the history keeps.
 const LINES_KEPT: usize = 100;
 
+/// What stands before each row of a line but the first.
+const CONTINUATION: &str = "... ";
+
+/// The keys of the prompt: those of rows, and then all others.
+pub type DemoKeys = (RowKeys, AllKeys);
+
 /// The host of the prompt.
-pub type DemoHost = PromptHost<TableHost<BasicHistory>, BoundedHistory, AllKeys, NestedLines>;
+pub type DemoHost = PromptHost<TableHost<BasicHistory>, BoundedHistory, DemoKeys, NestedLines>;
 
 /// Creates the host. It knows no files and no terminal yet.
 pub fn demo_host(alloc: Global, prompt: &str) -> Result<DemoHost, AllocError> {
@@ -21,9 +28,10 @@ pub fn demo_host(alloc: Global, prompt: &str) -> Result<DemoHost, AllocError> {
     let mut host = PromptHost::new(alloc, prompt, 80)?
         .with_host(TableHost::new(tables(alloc)?, BasicHistory::new(alloc)))
         .with_history(BoundedHistory::with_limit(alloc, LINES_KEPT))
-        .with_keys(all_keys(alloc))
+        .with_keys((RowKeys::new(), all_keys(alloc)))
         .with_validator(NestedLines { pairs });
     host.completers = completers(alloc)?;
     host.hints = Hints::dim();
+    host.rows = Rows::Several(String::from_str(alloc, CONTINUATION)?);
     Ok(host)
 }

@@ -1,7 +1,7 @@
 //! A small command prompt at a terminal in raw mode; `prompt.sh` starts it. It keeps the last lines, with hints from
 //! them, completes commands and their arguments by a menu, shows them in bold, has a hint under a line that begins with
-//! a question mark, and keeps a line from being accepted in which a bracket or a quotation is open. It ends at `quit`,
-//! at Ctrl-D on an empty line, and at the end of what is typed. With the argument `sparing` the terminal is sent what
+//! a question mark, and begins a row in a line in which a bracket or a quotation is open. It ends at `quit`, at Ctrl-D on
+//! an empty line, and at the end of what is typed. With the argument `sparing` the terminal is sent what
 //! differs, with `patient` also nothing while more keys are at hand, and else all that is painted.
 //!
 //! `tables` has what the prompt knows, `completers` what completes the arguments of commands, and `host` the host, which
@@ -13,11 +13,11 @@ mod host;
 mod tables;
 
 use anyhow::anyhow;
-use host::demo_host;
+use host::{DemoKeys, demo_host};
 use tw_device::{AnsiTerminal, Answer, DeviceTerminal};
 use tw_hosts::TableHost;
 use tw_lineedit::{BasicHistory, BoundedHistory};
-use tw_prompt::{AllKeys, Arguments, Prompt, PromptEvents, open_streams, read_listing};
+use tw_prompt::{Arguments, Prompt, PromptEvents, open_streams, read_listing};
 use tw_prompt_host::NestedLines;
 use tw_sparing::{PatientTerminal, SparingTerminal};
 
@@ -25,7 +25,7 @@ use tw_sparing::{PatientTerminal, SparingTerminal};
 const PROMPT: &str = "> ";
 
 /// The prompt at a terminal.
-type DemoPrompt<T> = Prompt<T, TableHost<BasicHistory>, BoundedHistory, AllKeys, NestedLines>;
+type DemoPrompt<T> = Prompt<T, TableHost<BasicHistory>, BoundedHistory, DemoKeys, NestedLines>;
 
 /// Prints a line. Returns false for `quit`.
 fn obey<T: DeviceTerminal + Drop>(
