@@ -38,10 +38,11 @@ use Rattle.laws_rows.specs.RowStations.{IsRowStation, simple_at}
 use Rattle.laws_rows.specs.RowStations.IsRowStation.{Simple, WithRows}
 use Rattle.laws_rows.specs.PlainRows.{HasPlainRows, first_row, other_rows}
 use Rattle.laws_rows.specs.RowRuns.{AreRowStations, simple_stations, ComesWithRows, HealsWithRows}
-use Rattle.laws_rows.specs.RowCells.{ShowsLine}
+use Rattle.laws_rows.specs.RowCells.{ShowsLine, AnswersLine}
 use Rattle.laws_rows.specs.LineRuns.{ComesToLine}
 use Rattle.laws_rows.proofs.PlainRowLemmas.{plain_rows_are_rows, folded_is_plain}
 use Rattle.laws_rows.proofs.RowRunLemmas.{row_paintings, row_closings, row_healings, healed_row_closings}
+use Rattle.laws_rows.proofs.CellLemmas.{answers_show_lines}
 use Rattle.laws_rows.proofs.LineRunLemmas.{lines_stand_in_rows}
 use Rattle.laws_rows.proofs.LastRowLemmas.{last_row_by_division}
 
@@ -155,19 +156,23 @@ low_closed_by_computing : (low_closed.row ≡ 4) × (low_closed.col ≡ 0) × (l
 unfolding pieces column_width painted_on apply destination searched_again search_step boundary_below is_boundary iterate greatest_below least_from settled_pieces needed_by_text unicode_segmentation
 low_closed_by_computing = (refl, refl, refl, refl, refl)
 
--- the scene shows the line, so each of its characters stands in its cell: "f" at the edge, "g" after the continuation prompt, "." before "ij", and the cursor after it
-low_line : ShowsLine 8 (62 ∷ 32 ∷ []) (46 ∷ 32 ∷ []) low_text [] (low_at 1).scene
+-- the host answers the line, so the scene shows it, and each of its characters stands in its cell: "f" at the edge, "g" after the continuation prompt, "." before "ij", and the cursor after it
+low_answers : AnswersLine 8 (62 ∷ 32 ∷ []) (46 ∷ 32 ∷ []) low_text [] (low_at 1).scene
 unfolding pieces column_width painted_on apply destination searched_again search_step boundary_below is_boundary iterate greatest_below least_from settled_pieces needed_by_text unicode_segmentation
-low_line = record {
+low_answers = record {
   wide = omega arith;
+  narrow = omega arith;
   printable = record { printable_prompt = refl; printable_continuation = refl; rows_before = refl; rows_behind = refl };
-  prompt_typing = refl;
+  short = omega arith;
   prompt_is = refl;
   line_typing = refl;
   line_is = refl;
   lower = tt;
-  cursor = refl;
+  column_is = refl;
 }
+
+low_line : ShowsLine 8 (62 ∷ 32 ∷ []) (46 ∷ 32 ∷ []) low_text [] (low_at 1).scene
+low_line = answers_show_lines 8 (62 ∷ 32 ∷ []) (46 ∷ 32 ∷ []) low_text [] (low_at 1).scene low_answers
 
 low_no_line : ShowsLine 8 (62 ∷ 32 ∷ []) (46 ∷ 32 ∷ []) [] [] (low_at 0).scene
 unfolding pieces column_width painted_on apply destination searched_again search_step boundary_below is_boundary iterate greatest_below least_from settled_pieces needed_by_text unicode_segmentation
