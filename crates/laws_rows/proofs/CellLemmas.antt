@@ -1,5 +1,5 @@
 -- Each character of a line stands in its cell.
-use Rattle.std.proofs.Common.{◌≡◌, ℕ, zero, suc, pos, ◌+ℤ◌, ◌+◌, ◌*◌, ◌/◌, ◌%◌, ◌<◌, Bool, true, false, eqb, ltb, List, [], ◌∷◌, ◌++◌, length, map, refl, ap, sym, subst, ◌∙◌, arith, length-append, append_assoc, append-nil, if◌then◌else◌, ◌&&◌}
+use Rattle.std.proofs.Common.{◌≡◌, ℕ, zero, suc, pos, ◌+ℤ◌, ◌+◌, ◌*◌, ◌/◌, ◌%◌, ◌<◌, ◌≤◌, Bool, true, false, eqb, ltb, List, [], ◌∷◌, ◌++◌, length, map, refl, ap, sym, subst, ◌∙◌, arith, length-append, append_assoc, append-nil, if◌then◌else◌, ◌&&◌}
 use Rattle.std.specs.List.{list_all}
 use Rattle.std.proofs.lemmas.Bool.{and_parts, and_from, or_parts, false≢true, ne_eqb, lt-ltb}
 use Rattle.std.proofs.lemmas.Int.{ints}
@@ -29,8 +29,9 @@ use Rattle.laws_rows.specs.RowScenes.{place_behind, folded}
 use Rattle.laws_rows.specs.RowStations.{IsRowStation, simple_at}
 use Rattle.laws_rows.specs.RowStations.IsRowStation.{Simple, WithRows}
 use Rattle.laws_rows.specs.PlainRows.{is_row_typing, has_pair, first_row, other_rows, HasPlainRows, plain_folded}
-use Rattle.laws_rows.specs.RowCells.{ShowsLine, ShownLinesAreRowStations, StandInRows, CellsByDivision}
+use Rattle.laws_rows.specs.RowCells.{ShowsLine, AnswersShowLines, ShownLinesAreRowStations, StandInRows, CellsByDivision}
 use Rattle.laws_rows.proofs.RowTexts.{some_lines, ends_there, are_rows}
+use Rattle.laws_rows.proofs.ColumnLemmas.{cursor_stands_in_its_row, row_column_is_settled}
 use Rattle.laws_rows.proofs.SpreadLines.{spread-lines, spread-both, rows-off-edge, both-printable}
 use Rattle.laws_rows.proofs.ShownRows.{first_cells, cell_there, lines_behind}
 use Rattle.laws_rows.proofs.TypedColumns.{IsTip, tip-start, tip-changes}
@@ -272,3 +273,19 @@ cells_by_division cols s prompt continuation before rest scene shown h fresh = b
         let f : IsFreshSheet cols s blank (sheet_of characters cols scene) shown =
         subst (λ (x : Scene). IsFreshSheet cols s blank (sheet_of characters cols x) shown) (plain_is_simple scene plain).1 (rw e at fresh) in
         stands cols prompt continuation before rest scene h s shown (edge_of cols scene) (line_alone cols s scene shown plain.prompt plain.line f) f.row f.col
+
+-- what a host answers shows a line
+pub answers_show_lines : AnswersShowLines
+answers_show_lines cols prompt continuation before rest scene h =
+    let some : 1 ≤ cols = omega (arith, h.wide) in
+    let settled = row_column_is_settled cols prompt continuation before rest h.printable some h.narrow h.short in
+    record {
+      wide = h.wide;
+      printable = h.printable;
+      prompt_typing = ap (list_all is_typing) h.prompt_is ∙ and_from (list_all is_printable prompt) true h.printable.printable_prompt refl;
+      prompt_is = ap typed_text h.prompt_is ∙ append-nil prompt;
+      line_typing = h.line_typing;
+      line_is = h.line_is;
+      lower = h.lower;
+      cursor = cursor_stands_in_its_row cols prompt continuation before rest scene h.printable settled h.prompt_is h.column_is;
+    }

@@ -38,10 +38,11 @@ use Rattle.laws_rows.specs.RowStations.{IsRowStation, simple_at}
 use Rattle.laws_rows.specs.RowStations.IsRowStation.{Simple, WithRows}
 use Rattle.laws_rows.specs.PlainRows.{HasPlainRows, first_row, other_rows}
 use Rattle.laws_rows.specs.RowRuns.{AreRowStations, simple_stations, ComesWithRows, HealsWithRows}
-use Rattle.laws_rows.specs.RowCells.{ShowsLine}
+use Rattle.laws_rows.specs.RowCells.{ShowsLine, AnswersLine}
 use Rattle.laws_rows.specs.LineRuns.{ComesToLine}
 use Rattle.laws_rows.proofs.PlainRowLemmas.{plain_rows_are_rows, folded_is_plain}
-use Rattle.laws_rows.proofs.RowRunLemmas.{row_paintings, row_closings, row_healings, healed_row_closings}
+use Rattle.laws_rows.proofs.RowRunLemmas.{row_paintings, row_closings, row_calls_stack, row_healings, healed_row_closings}
+use Rattle.laws_rows.proofs.CellLemmas.{answers_show_lines}
 use Rattle.laws_rows.proofs.LineRunLemmas.{lines_stand_in_rows}
 use Rattle.laws_rows.proofs.LastRowLemmas.{last_row_by_division}
 
@@ -155,19 +156,23 @@ low_closed_by_computing : (low_closed.row ≡ 4) × (low_closed.col ≡ 0) × (l
 unfolding pieces column_width painted_on apply destination searched_again search_step boundary_below is_boundary iterate greatest_below least_from settled_pieces needed_by_text unicode_segmentation
 low_closed_by_computing = (refl, refl, refl, refl, refl)
 
--- the scene shows the line, so each of its characters stands in its cell: "f" at the edge, "g" after the continuation prompt, "." before "ij", and the cursor after it
-low_line : ShowsLine 8 (62 ∷ 32 ∷ []) (46 ∷ 32 ∷ []) low_text [] (low_at 1).scene
+-- the host answers the line, so the scene shows it, and each of its characters stands in its cell: "f" at the edge, "g" after the continuation prompt, "." before "ij", and the cursor after it
+low_answers : AnswersLine 8 (62 ∷ 32 ∷ []) (46 ∷ 32 ∷ []) low_text [] (low_at 1).scene
 unfolding pieces column_width painted_on apply destination searched_again search_step boundary_below is_boundary iterate greatest_below least_from settled_pieces needed_by_text unicode_segmentation
-low_line = record {
+low_answers = record {
   wide = omega arith;
+  narrow = omega arith;
   printable = record { printable_prompt = refl; printable_continuation = refl; rows_before = refl; rows_behind = refl };
-  prompt_typing = refl;
+  short = omega arith;
   prompt_is = refl;
   line_typing = refl;
   line_is = refl;
   lower = tt;
-  cursor = refl;
+  column_is = refl;
 }
+
+low_line : ShowsLine 8 (62 ∷ 32 ∷ []) (46 ∷ 32 ∷ []) low_text [] (low_at 1).scene
+low_line = answers_show_lines 8 (62 ∷ 32 ∷ []) (46 ∷ 32 ∷ []) low_text [] (low_at 1).scene low_answers
 
 low_no_line : ShowsLine 8 (62 ∷ 32 ∷ []) (46 ∷ 32 ∷ []) [] [] (low_at 0).scene
 unfolding pieces column_width painted_on apply destination searched_again search_step boundary_below is_boundary iterate greatest_below least_from settled_pieces needed_by_text unicode_segmentation
@@ -218,6 +223,60 @@ low_is_down higher = let off : 32 ≡ 103 = higher in omega (arith, off)
 low_is_low : low_shown.row ≡ 3 → ⊥
 unfolding pieces column_width painted_on apply destination searched_again search_step boundary_below is_boundary iterate greatest_below least_from settled_pieces needed_by_text unicode_segmentation
 low_is_low higher = let off : 4 ≡ 3 = higher in omega (arith, off)
+
+-- ---- a second call on the screen that the first one left: "x" and "y" are pasted
+
+abbrev next_run : Frame ℕ
+next_run = frame_with 8 (Paste (120 ∷ 10 ∷ 121 ∷ []) ∷ [])
+
+abbrev next_station : ℕ → Station ℕ
+next_station n = nth (stations_of rules next_run) n
+
+abbrev next_at : ℕ → SizedScene
+next_at n = sized_scene rules (next_station n)
+
+next_wide : 2 ≤ (next_at 0).cols
+unfolding pieces column_width painted_on apply destination searched_again search_step boundary_below is_boundary iterate greatest_below least_from settled_pieces needed_by_text
+next_wide = omega arith
+
+next_plain : IsPlain (next_at 0).scene
+unfolding pieces column_width painted_on apply destination searched_again search_step boundary_below is_boundary iterate greatest_below least_from settled_pieces needed_by_text
+next_plain = record { prompt = refl; line = refl; lower = tt }
+
+next_rows : HasPlainRows (next_at 1).cols (next_at 1).scene
+unfolding pieces column_width painted_on apply destination searched_again search_step boundary_below is_boundary iterate greatest_below least_from settled_pieces needed_by_text
+next_rows = record { wide = omega arith; prompt = refl; line = refl; lower = tt; pair = refl; off_edge = λ e. (let off : 3 ≡ 0 = e in omega (arith, off)) }
+
+abbrev next_are : AreRowStations rules characters (next_station 0 ∷ []) (next_station 1)
+next_are = record { before_it = (simple (next_at 0) next_wide next_plain, tt); it = with_rows (next_at 1) next_rows }
+
+abbrev next_folded : SizedScene
+next_folded = simple_at characters (next_at 1) next_are.it
+
+comes_next : ComesWithRows rules characters (Some 5) next_run (next_station 0 ∷ []) (next_station 1) [] next_are low_closed
+unfolding pieces column_width painted_on apply destination searched_again search_step boundary_below is_boundary iterate greatest_below least_from settled_pieces needed_by_text unicode_segmentation
+comes_next = record {
+  comes = record { nothing_painted = refl; stations = refl; painting = painting_in (station_painting rules (next_station 1)); painted = refl };
+  low = All-cons (HasRoom (Some 5) characters) (next_at 0) (next_folded ∷ []) (room (Some 5) (next_at 0) next_plain (omega arith))
+      (All-cons (HasRoom (Some 5) characters) next_folded [] (room (Some 5) next_folded (folded_is_plain 8 (next_at 1).scene next_rows) (omega arith)) (All-nil (HasRoom (Some 5) characters)));
+  at_start = refl;
+  in_sight = omega arith;
+}
+
+abbrev next_shown : PictureOf ℕ
+next_shown = play_stations rules characters (Some 5) false 8 tt (next_station 0 ∷ next_station 1 ∷ []) low_closed
+
+-- the rows of the first line stand above it
+stacked_by_clause : (next_shown.row ≡ 4) × (next_shown.cell 3 2 ≡ 120) × (next_shown.cell 1 2 ≡ 103) × (next_shown.cell 2 3 ≡ 106)
+unfolding pieces column_width painted_on apply destination searched_again search_step boundary_below is_boundary iterate greatest_below least_from settled_pieces needed_by_text unicode_segmentation
+stacked_by_clause =
+    let s = row_calls_stack rules characters low_run next_run (Some 5) false 8 8 tt tt tt (low_station 0 ∷ []) (low_station 1) [] (next_station 0 ∷ []) (next_station 1) [] low_are next_are (full 4)
+    comes_low (All-nil (RendersNothing rules)) (omega arith) comes_next in
+    (s.0.shown.fresh.row, s.0.shown.fresh.shown 2 (omega arith), s.1 1 2 (omega arith) (omega arith) (omega arith), s.1 2 3 (omega arith) (omega arith) (omega arith))
+
+stacked_by_computing : (next_shown.row ≡ 4) × (next_shown.cell 3 2 ≡ 120) × (next_shown.cell 1 2 ≡ 103) × (next_shown.cell 2 3 ≡ 106)
+unfolding pieces column_width painted_on apply destination searched_again search_step boundary_below is_boundary iterate greatest_below least_from settled_pieces needed_by_text unicode_segmentation
+stacked_by_computing = (refl, refl, refl, refl)
 
 -- ---- two rows are pasted at four columns, "ab" and "c", and then the screen has three
 

@@ -12,6 +12,9 @@ use Rattle.tw_surface.specs.Scenes.Lower.{NoLower}
 use Rattle.tw_screens.specs.Pens.{Pen}
 use Rattle.tw_screens.specs.SceneSheets.{painting_of}
 use Rattle.tw_screens.specs.StyledCells.{characters}
+use Rattle.tw_host.specs.ElementView.{changes_of}
+use Rattle.tw_host.specs.HostRules.{plain_text}
+use Rattle.tw_hosts.specs.Settling.{settled_column}
 use Rattle.laws_rows.specs.Rows.{rows_of_text, rows_down, column_after, row_cell, shown_cut}
 use Rattle.laws_rows.specs.RowColumns.{ArePrintableRows}
 use Rattle.laws_rows.specs.RowStations.{IsRowStation, simple_at}
@@ -28,7 +31,24 @@ pub record ShowsLine (cols : ℕ) (prompt continuation before rest : List ℕ) (
   pub lower : IsPlainLower scene.lower
   pub cursor : cursor_place cols scene ≡ row_cell cols (length prompt) (length continuation) before
 
--- Its station is simple or has rows, for every pen.
+-- What a host is to answer for it: the prompt itself, the text that shows the line, and the settled column in it.
+pub record AnswersLine (cols : ℕ) (prompt continuation before rest : List ℕ) (scene : Scene) : Type 0 where
+  pub wide : 2 ≤ cols
+  pub narrow : cols ≤ 65535
+  pub printable : ArePrintableRows prompt continuation before rest
+  pub short : length prompt + (shown_cut cols continuation (length prompt) before rest).cursor ≤ 2147483647
+  pub prompt_is : scene.prompt ≡ changes_of (plain_text prompt)
+  pub line_typing : list_all is_row_typing scene.line ≡ true
+  pub line_is : typed_text scene.line ≡ (shown_cut cols continuation (length prompt) before rest).line
+  pub lower : IsPlainLower scene.lower
+  pub column_is : scene.column ≡ settled_column cols prompt (shown_cut cols continuation (length prompt) before rest)
+
+-- Then the scene shows the line.
+abbrev pub AnswersShowLines : Type 0
+AnswersShowLines = (cols : ℕ) (prompt continuation before rest : List ℕ) (scene : Scene)
+    → AnswersLine cols prompt continuation before rest scene → ShowsLine cols prompt continuation before rest scene
+
+-- The station of such a scene is simple or has rows, for every pen.
 abbrev pub ShownLinesAreRowStations : {A C : Type 0} → Pen A C → Type 0
 ShownLinesAreRowStations pen = (cols : ℕ) (prompt continuation before rest : List ℕ) (scene : Scene) → ShowsLine cols prompt continuation before rest scene
     → let station : SizedScene = record { scene = scene; cols = cols } in

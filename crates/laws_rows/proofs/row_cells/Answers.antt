@@ -1,10 +1,13 @@
-use Rattle.laws_rows.proofs.CellLemmas.{cells_by_division, shown_lines_are_row_stations}
+use Rattle.laws_rows.proofs.CellLemmas.{answers_show_lines, cells_by_division, shown_lines_are_row_stations}
 use Rattle.laws_rows.proofs.LastRowLemmas.{last_row_by_division}
 use Rattle.laws_rows.proofs.PlainRowLemmas.{plain_rows_are_rows}
 use Rattle.laws_rows.proofs.row_cells.Goals as goal
 
 pub returns-clause-plain : goal.returns-clause-plain
 returns-clause-plain g c pen = plain_rows_are_rows pen
+
+pub returns-clause-answers : goal.returns-clause-answers
+returns-clause-answers g c = answers_show_lines
 
 pub returns-clause-shown : goal.returns-clause-shown
 returns-clause-shown g c pen = shown_lines_are_row_stations pen
