@@ -96,7 +96,12 @@ impl Application for Language {
         Ok(candidates)
     }
 
-    fn colours(&self, alloc: Global, line: &str) -> Result<Vec<StyledRange>, AllocError> {
+    fn colours(
+        &self,
+        alloc: Global,
+        line: &str,
+        _cursor: usize,
+    ) -> Result<Vec<StyledRange>, AllocError> {
         let mut ranges = Vec::new(alloc);
         let mut start: usize = 0;
         for token in &tokenize(alloc, line)? {
