@@ -1,4 +1,4 @@
-//! A session: what each line of input does to a database, and what is told of it.
+//! A session: what each line of input does to a database, and what it prints.
 
 use crate::catalog::{TABLES, read_catalog};
 use crate::language::Language;
