@@ -63,7 +63,11 @@ impl Application for Explorer {
     ) -> Result<Vec<CompletionCandidate>, AllocError> {
         let mut candidates = Vec::new(alloc);
         let word = WordBefore::new(line, cursor, &['.']);
-        let path = line.get(..cursor).unwrap_or("").strip_suffix(word.text).unwrap_or("");
+        let path = line
+            .get(..cursor)
+            .unwrap_or("")
+            .strip_suffix(word.text)
+            .unwrap_or("");
         let Some(Value::Object(members)) = self.at(path.strip_suffix('.').unwrap_or(path)) else {
             return Ok(candidates);
         };
