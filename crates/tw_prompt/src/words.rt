@@ -4,6 +4,7 @@ use std::alloc::{AllocError, Global};
 use tw_lineedit::CompletionCandidate;
 
 /// The word before the cursor of a line.
+#[derive(Clone, Copy, Debug)]
 pub struct WordBefore<'line> {
     /// The word.
     pub text: &'line str,
