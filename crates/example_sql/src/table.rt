@@ -115,15 +115,14 @@ fn push_line(table: &mut String, line: &str, most: usize) -> Result<(), AllocErr
         table.push_str(line)?;
         return table.push('\n');
     }
-    let mut fitting = "";
+    let mut fitting = 0;
     for (at, _) in line.char_indices() {
-        let beginning = line.get(..at).unwrap_or("");
-        if beginning.width() >= most {
+        if line.get(..at).unwrap_or("").width() >= most {
             break;
         }
-        fitting = beginning;
+        fitting = at;
     }
-    table.push_str(fitting)?;
+    table.push_str(line.get(..fitting).unwrap_or(""))?;
     table.push_str("…\n")
 }
 
