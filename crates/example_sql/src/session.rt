@@ -232,16 +232,22 @@ impl<'a> Session<'a> {
     fn run_whole<S: Alter>(&mut self, connection: &mut Connection<S>) -> Result<(), anyhow::Error> {
         let none = String::new(self.rt.alloc());
         let begun = std::mem::replace(&mut self.language.begun, none);
-        let mut rest = begun.as_str();
+        let mut done: usize = 0;
         for _ in 0..begun.len() {
+            let rest = begun.as_str().get(done..).unwrap_or("");
             let Some(len) = statement_len(rest) else {
                 break;
             };
-            let (statement, after) = rest.split_at(len);
+            let (statement, _) = rest.split_at(len);
             self.run_statement(connection, statement)?;
             self.begun_line = self.line;
-            rest = if self.bails() { "" } else { after };
+            done = if self.bails() {
+                begun.len()
+            } else {
+                done.saturating_add(len)
+            };
         }
+        let rest = begun.as_str().get(done..).unwrap_or("");
         self.language.begun.push_str(rest)?;
         Ok(())
     }
