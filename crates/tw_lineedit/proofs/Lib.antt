@@ -10,3 +10,4 @@ pub mod StoppedLemmas
 pub mod ShownLemmas
 pub mod BeginningLemmas
 pub mod UseLemmas
+pub mod AboveLemmas

@@ -40,7 +40,7 @@ painting_in p (Err r) = p
 painting_in p (Ok q) = q
 
 -- a painting that is not refused is that of the scene
-painted-is : (size : ScreenSize) (scene : Scene) (p : Painting) → painted_on size scene ≡ Ok p → p ≡ painting size.cols scene
+pub painted-is : (size : ScreenSize) (scene : Scene) (p : Painting) → painted_on size scene ≡ Ok p → p ≡ painting size.cols scene
 unfolding painted_on
 painted-is size scene p h = by_zero ((size.rows == 0) || (size.cols == 0)) h
   where

@@ -1,3 +1,4 @@
+pub mod Above
 pub mod Frame
 pub mod Run
 pub mod EditorSteps

@@ -20,6 +20,7 @@ ghost use Rattle.tw_lineedit.specs.EditorSteps.{Closes, FailsToClose, Paints, Fa
 ghost use Rattle.tw_lineedit.specs.Feeding.{Begins, IsNotBegun, IsRefusedOn, Continues, IsEnded, IsAnsweredOn};
 ghost use Rattle.tw_lineedit.specs.Reading.{initial_text, start, Reads, FailsToRead, IsTurnedDown, FailuresTell};
 
+mod above;
 mod feeding;
 
 pub use feeding::LineStatus;

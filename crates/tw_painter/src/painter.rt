@@ -55,7 +55,7 @@ impl Model for Mark {
 
 impl Mark {
     /// The move from the cursor back to the first row.
-    fn start_move(self) -> Change
+    pub fn start_move(self) -> Change
         ensures { change_view result ≡ start_move self }
     {
         Change::CursorPosition {

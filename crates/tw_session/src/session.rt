@@ -151,6 +151,13 @@ impl Session {
         matches!(self.mode, Mode::Accepted | Mode::Cancelled)
     }
 
+    /// The mark of the last painting, if there is one.
+    pub fn mark(&self) -> Option<Mark>
+        ensures { result ≡ self.now.mark }
+    {
+        self.mark
+    }
+
     /// Keeps the mark of the last painting.
     pub fn set_mark(&mut self, mark: Mark)
         ensures { self.new ≡ record self.old { mark = Some mark } }
@@ -266,6 +273,21 @@ impl Session {
             ≡ Ok (record { changes = batch_view shown.0.items; mark = shown.1 })) }
         ensures err { IfErr result (IsUnpainted size (scene_of H.rules (H.value host.now) self.now.state false)) }
     {
+        self.painting_over(host, size, self.mark)
+    }
+
+    /// The same over another painting, or over none.
+    pub fn painting_over<H: LineEditorHost>(
+        &self,
+        host: &H,
+        size: ScreenSize,
+        before: Option<Mark>,
+    ) -> Result<(Vec<Change>, Mark), Error>
+        ensures ok { let scene = scene_of H.rules (H.value host.now) self.now.state false in
+            IfOk result (λ shown. rendering_of before (painted_on size scene)
+            ≡ Ok (record { changes = batch_view shown.0.items; mark = shown.1 })) }
+        ensures err { IfErr result (IsUnpainted size (scene_of H.rules (H.value host.now) self.now.state false)) }
+    {
         let below = match &self.mode {
             Mode::Searching { direction, .. } => Below::Search {
                 direction: *direction,
@@ -276,7 +298,7 @@ impl Session {
         };
         let prompt = self.prompt.as_str();
         let line = self.shown_line();
-        painting(host, self.alloc, prompt, line, below, size, self.mark)
+        painting(host, self.alloc, prompt, line, below, size, before)
     }
 
     /// The line that is shown: while searching the matching one.

@@ -132,7 +132,7 @@ impl<'term, T: Terminal> LineEditor<'term, T> {
     }
 
     /// Whether the line takes more events.
-    fn status(&self) -> LineStatus
+    pub(crate) fn status(&self) -> LineStatus
         ensures { result ≡ status_if (is_open self.now.session.state.mode) }
     {
         if self.session.is_open() {

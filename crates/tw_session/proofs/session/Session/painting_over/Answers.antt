@@ -1,5 +1,5 @@
 use Rattle.std.proofs.Common.{rules}
-use Rattle.tw_session.proofs.session.Session.painting.Goals as goal
+use Rattle.tw_session.proofs.session.Session.painting_over.Goals as goal
 
 pub returns-clause-err : goal.returns-clause-err
 returns-clause-err g c = search rules
