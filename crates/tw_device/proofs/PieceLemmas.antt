@@ -14,6 +14,7 @@ use Rattle.tw_ansi.specs.declared.token.Scanned.{Scanned}
 use Rattle.tw_ansi.specs.KeyBytes.{token_at, escape_at, escape_alone, alt_key, alt_key_at, second_escape_at, letter_keys, string_at, string_of, string_before_escape, opens_string, begins_answer, is_string_byte, control_at, ended_at, sequence_at, mouse_report, paste_of, paste_len, application_at, application_key, application_keys, behind_escape, with_alt, character_at, control_characters, key_in, key_or, key_or_unknown, with_control, typed_at, wide_character, whole_character, following_len, replacement, scanned_as, key_token, code_of, first_number, second_number, third_number, numbers_token, size_token, parameters_token, sequence_key, is_parameter, is_numeric, is_letter, is_continuation, told_bits}
 use Rattle.tw_ansi.proofs.Pieces.{stays_found}
 use Rattle.tw_ansi.proofs.Tokens.{takes_bytes}
+use Rattle.tw_device.specs.declared.pasted.Pasted.{Pasted}
 use Rattle.tw_device.specs.Told.{token_events, pasted_text}
 use Rattle.tw_device.specs.Typed.{Held, Step, Came, Took, Lead, next_token, escape_waits, is_lone_escape, held_after_read, held_after_token, given_bytes, told_by, events_of}
 use Rattle.tw_device.specs.Pieces.{times, IsKnown, PiecesDoNotMatter}
@@ -172,11 +173,11 @@ text_kept bytes more from len fits =
     ap (λ xs. take len xs) (drop-append-le from bytes more (omega (arith, fits)))
     ∙ take-append-le len (drop from bytes) more (simp length-drop (omega (arith, fits)))
 
-told_kept : (token : Token) (bytes more : List ℕ) → text_end token ≤ length bytes → token_events token (bytes ++ more) ≡ token_events token bytes
-told_kept (Key key) bytes more fits = refl
-told_kept (Size cols rows) bytes more fits = refl
-told_kept (Paste from len) bytes more fits = ap (λ text. event.Paste (pasted_text text) ∷ []) (text_kept bytes more from len fits)
-told_kept Unknown bytes more fits = refl
+told_kept : (pasted : Pasted) (token : Token) (bytes more : List ℕ) → text_end token ≤ length bytes → token_events pasted token (bytes ++ more) ≡ token_events pasted token bytes
+told_kept pasted (Key key) bytes more fits = refl
+told_kept pasted (Size cols rows) bytes more fits = refl
+told_kept pasted (Paste from len) bytes more fits = ap (λ text. event.Paste (pasted_text pasted text) ∷ []) (text_kept bytes more from len fits)
+told_kept pasted Unknown bytes more fits = refl
 
 -- the bounds of a token that was found
 bounds : (l : Bool) (bytes : List ℕ) (s : Scanned) → token_at l bytes ≡ Some s → (0 < s.used) × (s.used ≤ length bytes) × (text_end s.token ≤ s.used)
@@ -215,25 +216,25 @@ found_all true old new s given waits known found last consumed =
     ap (λ bytes. token_at true (old.unread ++ bytes)) none ∙ ap (token_at true) (append-nil old.unread)
     ∙ found_at true old s found
 
-none_at_once : (n : ℕ) → events_of (times n (Took true)) [] ≡ []
+none_at_once : (pasted : Pasted) (n : ℕ) → events_of pasted (times n (Took true)) [] ≡ []
 unfolding token_at
-none_at_once zero = refl
-none_at_once (suc n) = refl
+none_at_once pasted zero = refl
+none_at_once pasted (suc n) = refl
 
 -- one token of bytes that are all there
-one_at_once : (n : ℕ) (bytes : List ℕ) (s : Scanned) → token_at true bytes ≡ Some s
-    → events_of (times (suc n) (Took true)) bytes ≡ token_events s.token bytes ++ events_of (times n (Took true)) (drop s.used bytes)
-one_at_once n bytes s found = ap (λ o. told_by o bytes (events_of (times n (Took true)))) found
+one_at_once : (pasted : Pasted) (n : ℕ) (bytes : List ℕ) (s : Scanned) → token_at true bytes ≡ Some s
+    → events_of pasted (times (suc n) (Took true)) bytes ≡ token_events pasted s.token bytes ++ events_of pasted (times n (Took true)) (drop s.used bytes)
+one_at_once pasted n bytes s found = ap (λ o. told_by pasted o bytes (events_of pasted (times n (Took true)))) found
 
 told_at_once : (steps : List Step) (old new : Held) (events : List EventView) (n : ℕ) → Lead steps old new events → old.escape ≡ Waits → IsKnown old.left → new.unread ≡ []
-    → length (old.unread ++ given_bytes steps) ≤ n → events ≡ events_of (times n (Took true)) (old.unread ++ given_bytes steps)
+    → length (old.unread ++ given_bytes steps) ≤ n → events ≡ events_of old.pasted (times n (Took true)) (old.unread ++ given_bytes steps)
 told_at_once [] old new events n g waits known empty fits =
     let nothing : old.unread ++ [] ≡ [] = append-nil old.unread ∙ sym (ap (λ (h : Held). h.unread) g.0) ∙ empty in
-    g.2 ∙ sym (ap (events_of (times n (Took true))) nothing ∙ none_at_once n)
+    g.2 ∙ sym (ap (events_of old.pasted (times n (Took true))) nothing ∙ none_at_once old.pasted n)
 told_at_once (Came more ∷ steps) old new events n g waits known empty fits =
     let all = append_assoc old.unread more (given_bytes steps) in
     told_at_once steps (held_after_read more g.1.0 old) new events n g.1.2 waits (known_then old.left g.1.0 more known g.1.1) empty (omega (arith, ap length all, fits))
-    ∙ ap (events_of (times n (Took true))) all
+    ∙ ap (events_of old.pasted (times n (Took true))) all
 told_at_once (Took is_last ∷ steps) old new events zero g waits known empty fits =
     let bound = bounds is_last old.unread g.1.0 (found_at is_last old g.1.0 g.1.1) in
     absurd (omega (arith, bound.0, bound.1, length-append old.unread (given_bytes steps), fits))
@@ -247,10 +248,10 @@ told_at_once (Took is_last ∷ steps) old new events (suc n) g waits known empty
     let behind : drop s.used (old.unread ++ given) ≡ drop s.used old.unread ++ given = drop-append-le s.used old.unread given bound.1 in
     let fewer : length (drop s.used old.unread ++ given) ≤ n = omega (arith, bound.0, bound.1, ap length (sym behind), length-drop s.used (old.unread ++ given), fits) in
     g.1.2.1
-    ∙ ap (λ es. token_events s.token old.unread ++ es) (told_at_once steps (held_after_token s.used old) new g.1.2.0 n g.1.2.2 waits known empty fewer)
-    ∙ ap (λ es. es ++ events_of (times n (Took true)) (drop s.used old.unread ++ given)) (sym (told_kept s.token old.unread given (omega (arith, bound.1, bound.2))))
-    ∙ ap (λ bytes. token_events s.token (old.unread ++ given) ++ events_of (times n (Took true)) bytes) (sym behind)
-    ∙ sym (one_at_once n (old.unread ++ given) s found)
+    ∙ ap (λ es. token_events old.pasted s.token old.unread ++ es) (told_at_once steps (held_after_token s.used old) new g.1.2.0 n g.1.2.2 waits known empty fewer)
+    ∙ ap (λ es. es ++ events_of old.pasted (times n (Took true)) (drop s.used old.unread ++ given)) (sym (told_kept old.pasted s.token old.unread given (omega (arith, bound.1, bound.2))))
+    ∙ ap (λ bytes. token_events old.pasted s.token (old.unread ++ given) ++ events_of old.pasted (times n (Took true)) bytes) (sym behind)
+    ∙ sym (one_at_once old.pasted n (old.unread ++ given) s found)
 
 pub pieces_do_not_matter : PiecesDoNotMatter
 pieces_do_not_matter steps old new events lead waits known empty =

@@ -12,6 +12,7 @@ use Rattle.tw_device.specs.Faults.{fault_of}
 use Rattle.tw_device.specs.Told.{token_events}
 use Rattle.tw_device.specs.Typed.{Held, Step, Came, Took, Lead, TellsIn, TellsTyped, next_token, is_at_hand, is_event_in, is_key_or_paste, escape_waits, is_lone_escape, held_after_read, held_after_token, given_bytes, taken_by, told_by, taken_bytes, events_of, NoneIsLost, IsHeldUp, IsPasted}
 use Rattle.tw_device.specs.declared.escape.Escape.{Escape}
+use Rattle.tw_device.specs.declared.pasted.Pasted.{Pasted}
 use Rattle.tw_device.specs.declared.refused.Refused.{Refused}
 use Rattle.tw_device.specs.declared.refused.Refused.TheVariants.{Device, Memory}
 
@@ -30,26 +31,27 @@ kept_end (Some x) None p q = absurd p
 kept_end (Some x) (Some y) p q = sym p ∙ q
 
 -- what is held, part by part
-abbrev held : Escape → List ℕ → Bool → Option (List ℕ) → Held
-held escape unread was_full left = record { escape = escape; unread = unread; was_full = was_full; left = left }
+abbrev held : Escape → Pasted → List ℕ → Bool → Option (List ℕ) → Held
+held escape pasted unread was_full left = record { escape = escape; pasted = pasted; unread = unread; was_full = was_full; left = left }
 
-pub held_is : (c : Held) (e : Escape) (u : List ℕ) (w : Bool) (l : Option (List ℕ)) → c.escape ≡ e → c.unread ≡ u → c.was_full ≡ w → c.left ≡ l → c ≡ held e u w l
-held_is c e u w l same_escape same_unread same_fullness same_left =
-    ap (λ x. held x c.unread c.was_full c.left) same_escape ∙ ap (λ x. held e x c.was_full c.left) same_unread
-    ∙ ap (λ x. held e u x c.left) same_fullness ∙ ap (λ x. held e u w x) same_left
+pub held_is : (c : Held) (e : Escape) (p : Pasted) (u : List ℕ) (w : Bool) (l : Option (List ℕ)) → c.escape ≡ e → c.pasted ≡ p → c.unread ≡ u → c.was_full ≡ w → c.left ≡ l
+    → c ≡ held e p u w l
+held_is c e p u w l same_escape same_pasted same_unread same_fullness same_left =
+    ap (λ x. held x c.pasted c.unread c.was_full c.left) same_escape ∙ ap (λ x. held e x c.unread c.was_full c.left) same_pasted
+    ∙ ap (λ x. held e p x c.was_full c.left) same_unread ∙ ap (λ x. held e p u x c.left) same_fullness ∙ ap (λ x. held e p u w x) same_left
 
 -- a key and a pasted text tell an event
-event_told : (token : Token) (unread : List ℕ) → is_key_or_paste token ≡ true → [] ≡ token_events token unread → ⊥
-event_told (Key key) unread is none = omega (arith, ap length none)
-event_told (Size cols rows) unread is none = false≢true is
-event_told (Paste from len) unread is none = omega (arith, ap length none)
-event_told Unknown unread is none = false≢true is
+event_told : (pasted : Pasted) (token : Token) (unread : List ℕ) → is_key_or_paste token ≡ true → [] ≡ token_events pasted token unread → ⊥
+event_told pasted (Key key) unread is none = omega (arith, ap length none)
+event_told pasted (Size cols rows) unread is none = false≢true is
+event_told pasted (Paste from len) unread is none = omega (arith, ap length none)
+event_told pasted Unknown unread is none = false≢true is
 
 -- where an event is at hand, what is found is one
-pub no_event_at_hand : (first now : Held) (is_last : Bool) (s : Scanned) (unread : List ℕ) → is_at_hand first ≡ true → is_last ≡ false → now ≡ first
-    → Some s ≡ next_token is_last now → [] ≡ token_events s.token unread → ⊥
-no_event_at_hand first now is_last s unread there goes_on same found none =
-    event_told s.token unread (ap is_event_in (found ∙ ap (λ l. next_token l now) goes_on ∙ ap (next_token false) same) ∙ there) none
+pub no_event_at_hand : (first now : Held) (is_last : Bool) (s : Scanned) (pasted : Pasted) (unread : List ℕ) → is_at_hand first ≡ true → is_last ≡ false → now ≡ first
+    → Some s ≡ next_token is_last now → [] ≡ token_events pasted s.token unread → ⊥
+no_event_at_hand first now is_last s pasted unread there goes_on same found none =
+    event_told pasted s.token unread (ap is_event_in (found ∙ ap (λ l. next_token l now) goes_on ∙ ap (next_token false) same) ∙ there) none
 
 -- and no more bytes are wanted
 pub none_at_hand : (first now : Held) (is_last : Bool) → is_at_hand first ≡ true → is_last ≡ false → now ≡ first → None ≡ next_token is_last now → ⊥
@@ -77,7 +79,7 @@ lead_then (Took is_last ∷ steps) more a b c e f g h = (
     g.1.1,
     (
       g.1.2.0 ++ f,
-      ap (λ x. x ++ f) g.1.2.1 ∙ append_assoc (token_events g.1.0.token a.unread) g.1.2.0 f,
+      ap (λ x. x ++ f) g.1.2.1 ∙ append_assoc (token_events a.pasted g.1.0.token a.unread) g.1.2.0 f,
       lead_then steps more (held_after_token g.1.0.used a) b c g.1.2.0 f g.1.2.2 h,
     ),
   ),
@@ -114,11 +116,11 @@ tells_came n a b m c more g scanned wants same consumed =
 
 -- a token was taken
 pub tells_took : (n : ℕ) (a b m c : Held) (f : List EventView) (is_last : Bool) (s : Scanned) → TellsIn n a b [] → m ≡ b → (is_last ≡ true → IsAtEnd b.left)
-    → Some s ≡ next_token is_last b → f ≡ token_events s.token m.unread → c ≡ held_after_token s.used m → TellsIn (n + 1) a c f
+    → Some s ≡ next_token is_last b → f ≡ token_events m.pasted s.token m.unread → c ≡ held_after_token s.used m → TellsIn (n + 1) a c f
 tells_took n a b m c f is_last s g scanned last found told is =
     let after = held_after_token s.used b in
     let same : c ≡ after = is ∙ ap (held_after_token s.used) scanned in
-    let told_then : f ≡ token_events s.token b.unread = told ∙ ap (λ (y : Held). token_events s.token y.unread) scanned in
+    let told_then : f ≡ token_events b.pasted s.token b.unread = told ∙ ap (λ (y : Held). token_events y.pasted s.token y.unread) scanned in
     let rest : c ≡ record after { left = c.left } = subst (λ (y : Held). y ≡ record after { left = y.left }) (sym same) refl in
     let kept : Keeps after.left c.left = subst (λ (y : Held). Keeps after.left y.left) (sym same) (Keeps-refl after.left) in
     tells_then n 1 a b c [] f g
@@ -171,5 +173,5 @@ none_is_lost (Took is_last ∷ steps) old new events g =
     let later = none_is_lost steps (held_after_token s.used old) new g.1.2.0 g.1.2.2 in (
       took_all (token_at is_last old.unread) s old.unread (given_bytes steps) new.unread (taken_bytes steps) found later.0,
       later.1,
-      g.1.2.1 ∙ ap (λ es. token_events s.token old.unread ++ es) later.2 ∙ ap (λ o. told_by o old.unread (events_of steps)) (sym found),
+      g.1.2.1 ∙ ap (λ es. token_events old.pasted s.token old.unread ++ es) later.2 ∙ ap (λ o. told_by old.pasted o old.unread (events_of old.pasted steps)) (sym found),
     )

@@ -7,7 +7,7 @@ use Rattle.tw_device.specs.Typed.{Held}
 
 -- what it has, by what its reader has left
 abbrev pub held_by : {R : Type 0} → (R → Option (List ℕ)) → KeyReader R → Held
-held_by remaining it = record { escape = it.escape; unread = it.unread; was_full = it.was_full; left = remaining it.reader }
+held_by remaining it = record { escape = it.escape; pasted = it.pasted; unread = it.unread; was_full = it.was_full; left = remaining it.reader }
 
 -- whether a source answered last that it had no more events
 abbrev pub is_at_end : SourceState → Bool

@@ -10,12 +10,14 @@ use Rattle.tw_ansi.specs.declared.token.Scanned.{Scanned}
 use Rattle.tw_ansi.specs.KeyBytes.{token_at}
 use Rattle.tw_device.specs.declared.escape.Escape.{Escape}
 use Rattle.tw_device.specs.declared.escape.Escape.TheVariants.{Waits, AtOnce}
+use Rattle.tw_device.specs.declared.pasted.Pasted.{Pasted}
 use Rattle.tw_device.specs.Told.{token_events}
 
--- What a reader of keys has: what its owner chose for an ESC alone, the bytes that were read and are not yet taken,
+-- What a reader of keys has: what its owner chose for an ESC alone and for pasted texts, the bytes that were read and are not yet taken,
 -- whether the last read gave as many as were asked for, and what is left to be read, where that is known.
 pub record Held : Type 0 where
   pub escape : Escape
+  pub pasted : Pasted
   pub unread : List ℕ
   pub was_full : Bool
   pub left : Option (List ℕ)
@@ -80,7 +82,7 @@ Lead (Came more ∷ steps) old new events =
     × Lead steps (held_after_read more left old) new events)
 Lead (Took is_last ∷ steps) old new events =
     (is_last ≡ true → IsAtEnd old.left) × ((s : Scanned) × (next_token is_last old ≡ Some s)
-    × ((later : List EventView) × (events ≡ token_events s.token old.unread ++ later)
+    × ((later : List EventView) × (events ≡ token_events old.pasted s.token old.unread ++ later)
     × Lead steps (held_after_token s.used old) new later))
 
 -- so many steps lead from the one to the other, and tell these events
@@ -121,9 +123,9 @@ taken_by (Some s) bytes taken_behind = take s.used bytes ++ taken_behind (drop s
 taken_by None bytes taken_behind = []
 
 -- the events of a token at the front of these bytes, and then those of the bytes after it
-abbrev pub told_by : Option Scanned → List ℕ → (List ℕ → List EventView) → List EventView
-told_by (Some s) bytes told_behind = token_events s.token bytes ++ told_behind (drop s.used bytes)
-told_by None bytes told_behind = []
+abbrev pub told_by : Pasted → Option Scanned → List ℕ → (List ℕ → List EventView) → List EventView
+told_by pasted (Some s) bytes told_behind = token_events pasted s.token bytes ++ told_behind (drop s.used bytes)
+told_by pasted None bytes told_behind = []
 
 -- the bytes that are taken, from these on
 abbrev pub taken_bytes : List Step → List ℕ → List ℕ
@@ -132,14 +134,14 @@ taken_bytes (Came more ∷ steps) unread = taken_bytes steps (unread ++ more)
 taken_bytes (Took is_last ∷ steps) unread = taken_by (token_at is_last unread) unread (taken_bytes steps)
 
 -- the events of these bytes, by where reading them paused
-abbrev pub events_of : List Step → List ℕ → List EventView
-events_of [] unread = []
-events_of (Came more ∷ steps) unread = events_of steps (unread ++ more)
-events_of (Took is_last ∷ steps) unread = told_by (token_at is_last unread) unread (events_of steps)
+abbrev pub events_of : Pasted → List Step → List ℕ → List EventView
+events_of pasted [] unread = []
+events_of pasted (Came more ∷ steps) unread = events_of pasted steps (unread ++ more)
+events_of pasted (Took is_last ∷ steps) unread = told_by pasted (token_at is_last unread) unread (events_of pasted steps)
 
 -- Such steps lose no byte and make none, what came is what the reader gave, and what is told is the events of it.
 abbrev pub NoneIsLost : Type 0
 NoneIsLost = (steps : List Step) (old new : Held) (events : List EventView) → Lead steps old new events
     → (old.unread ++ given_bytes steps ≡ taken_bytes steps old.unread ++ new.unread)
     × Consumes old.left new.left (given_bytes steps)
-    × (events ≡ events_of steps old.unread)
+    × (events ≡ events_of old.pasted steps old.unread)

@@ -5,17 +5,19 @@ ghost use Rattle.std.specs.Io.KnownBytes.{Consumes, IsAtEnd, Keeps};
 ghost use Rattle.tw_input.specs.EventView.{event_view, EventView};
 ghost use Rattle.tw_device.specs.Faults.{fault_of};
 ghost use Rattle.tw_device.specs.Keys.{held_by, is_at_end};
-ghost use Rattle.tw_device.specs.Told.{pasted_text, token_events, events_in_option, answer_events};
+ghost use Rattle.tw_device.specs.Told.{token_events, events_in_option, answer_events};
 ghost use Rattle.tw_device.specs.Typed.{piece, next_token, is_at_hand, IsPasted, TellsTyped, IsHeldUp};
 ghost use Rattle.tw_device.specs.declared.keys.SourceState.TheVariants.{Going, AtEnd, Refused as HasRefused};
 ghost use Rattle.tw_device.specs.declared.refused.Refused.TheVariants.{Memory};
 ghost use Rattle.tw_device.specs.declared.escape.Escape.TheVariants.{AtOnce};
+ghost use Rattle.tw_device.specs.declared.pasted.Pasted.TheVariants.{OneRow};
 
 use crate::escape::Escape;
 use crate::event_log::EventLog;
+use crate::pasted::{Pasted, pasted_text};
 use crate::refused::Refused;
 use crate::unread::{PIECE, Unread};
-use std::alloc::{AllocError, Global};
+use std::alloc::Global;
 use std::io::Read;
 use tw_ansi::{Scanned, Token};
 use tw_input::InputEvent;
@@ -68,34 +70,21 @@ pub struct KeyReader<R> {
     alloc: Global,
     reader: R,
     escape: Escape,
+    pasted: Pasted,
     unread: Unread,
     was_full: bool,
     state: SourceState,
     told: EventLog,
 }
 
-/// A pasted text: a space for each control character, and U+FFFD where the bytes are no text.
-fn pasted(alloc: Global, bytes: &[u8]) -> Result<String, AllocError>
-    ensures { IfOk result (λ text. string_bytes text ≡ pasted_text bytes.now) }
-{
-    let text = String::from_utf8_lossy(alloc, bytes)?;
-    let mut shown = String::new(alloc);
-    for character in text.as_str().chars() {
-        shown.push(if character.is_control() {
-            ' '
-        } else {
-            character
-        })?;
-    }
-    Ok(shown)
-}
-
 impl<R: Read> KeyReader<R> {
-    /// A reader that has told no event, for which an ESC alone is the key Escape at once. It takes no memory.
+    /// A reader that has told no event, for which an ESC alone is the key Escape at once and a pasted text has one row.
+    /// It takes no memory.
     pub fn new(alloc: Global, reader: R) -> Self
         ensures told { ⟦<KeyReader<R> as EventSource>⟧.told result ≡ [] }
+        ensures going { ⟦<KeyReader<R> as EventSource>⟧.state result ≡ Going }
         ensures held { held_by R.remaining result
-            ≡ record { escape = AtOnce; unread = []; was_full = false; left = R.remaining reader } }
+            ≡ record { escape = AtOnce; pasted = OneRow; unread = []; was_full = false; left = R.remaining reader } }
     {
         KeyReader::with_escape(alloc, reader, Escape::AtOnce)
     }
@@ -103,18 +92,28 @@ impl<R: Read> KeyReader<R> {
     /// A reader that has told no event, with this choice for an ESC alone. It takes no memory.
     pub fn with_escape(alloc: Global, reader: R, escape: Escape) -> Self
         ensures told { ⟦<KeyReader<R> as EventSource>⟧.told result ≡ [] }
+        ensures going { ⟦<KeyReader<R> as EventSource>⟧.state result ≡ Going }
         ensures held { held_by R.remaining result
-            ≡ record { escape = escape; unread = []; was_full = false; left = R.remaining reader } }
+            ≡ record { escape = escape; pasted = OneRow; unread = []; was_full = false; left = R.remaining reader } }
     {
         KeyReader {
             alloc,
             reader,
             escape,
+            pasted: Pasted::OneRow,
             unread: Unread::new(alloc),
             was_full: false,
             state: SourceState::Going,
             told: EventLog::new(),
         }
+    }
+
+    /// Returns the reader with this choice for pasted texts. It takes no memory.
+    pub fn with_pasted(mut self, pasted: Pasted) -> Self
+        ensures { result ≡ record self { pasted = pasted } }
+    {
+        self.pasted = pasted;
+        self
     }
 
     /// Returns true if the last answer was that there are no more events.
@@ -184,7 +183,7 @@ impl<R: Read> KeyReader<R> {
         ensures end { IfOk result (λ is_more. is_more ≡ false → IsAtEnd (R.remaining self.new.reader)) }
         ensures err { OnErr result ((self.new.unread ≡ self.old.unread) × (self.new.was_full ≡ self.old.was_full)
             × Keeps (R.remaining self.old.reader) (R.remaining self.new.reader)) }
-        ensures escape { self.new.escape ≡ self.old.escape }
+        ensures choices { (self.new.escape ≡ self.old.escape) × (self.new.pasted ≡ self.old.pasted) }
         ensures told { self.new.told ≡ self.old.told }
     {
         let count = self.unread.read_from(&mut self.reader)?;
@@ -197,12 +196,12 @@ impl<R: Read> KeyReader<R> {
     fn take(&mut self, found: Scanned) -> Result<Option<InputEvent>, Refused>
         requires { found.used ≤ length self.old.unread }
         ensures told { self.new.told ≡ self.old.told }
-        ensures event { IfOk result (λ event. events_in_option event ≡ token_events found.token self.old.unread) }
+        ensures event { IfOk result (λ event. events_in_option event ≡ token_events self.old.pasted found.token self.old.unread) }
         ensures taken { OnOk result (self.new.unread ≡ drop found.used self.old.unread) }
         ensures kept { OnErr result (self.new.unread ≡ self.old.unread) }
         ensures refused { IfErr result (λ refused. (refused ≡ Memory) × IsPasted found.token) }
         ensures rest { (self.new.reader ≡ self.old.reader) × (self.new.escape ≡ self.old.escape)
-            × (self.new.was_full ≡ self.old.was_full) }
+            × (self.new.was_full ≡ self.old.was_full) × (self.new.pasted ≡ self.old.pasted) }
     {
         let Scanned { token, used } = found;
         let event = match token {
@@ -211,7 +210,11 @@ impl<R: Read> KeyReader<R> {
             Token::Paste { from, len } => {
                 let bytes = self.unread.bytes();
                 let end = from.saturating_add(len).min(bytes.len());
-                Some(InputEvent::Paste(pasted(self.alloc, &bytes[from.min(end)..end])?))
+                Some(InputEvent::Paste(pasted_text(
+                    self.alloc,
+                    &bytes[from.min(end)..end],
+                    self.pasted,
+                )?))
             }
             Token::Unknown => None,
         };

@@ -9,11 +9,13 @@ ghost use Rattle.tw_device.specs.Typed.{NoneIsLost};
 
 use crate::escape::Escape;
 use crate::keys::SourceState;
+use crate::pasted::Pasted;
 use std::io::Write;
 
 /// `==` is equality of values.
 pub fn equality()
     ensures states { ComparesValues ⟦<SourceState as PartialEq>⟧.eq }
+    ensures pasted { ComparesValues ⟦<Pasted as PartialEq>⟧.eq }
     ensures escapes { ComparesValues ⟦<Escape as PartialEq>⟧.eq }
 {}
 

@@ -1,9 +1,10 @@
 //! A line editor at a device: a terminal over a writer, events from a reader, and lines that are read as these come.
 //!
 //! `device` says what a terminal at a device is, and `terminal` has the one over a writer; `keys` the source of events
-//! over a reader, with `unread`, the bytes that were read and are not yet taken, and `escape`, what an ESC alone is;
-//! `reading` the line that is read as the events come, and `typed` the same from the bytes of a reader. `refused` says
-//! why a call to a device is refused, and `event_log` has the events that a source told, for contracts alone.
+//! over a reader, with `unread`, the bytes that were read and are not yet taken, `escape`, what an ESC alone is, and
+//! `pasted`, what a pasted text is told as; `reading` the line that is read as the events come, and `typed` the same from
+//! the bytes of a reader. `refused` says why a call to a device is refused, and `event_log` has the events that a source
+//! told, for contracts alone.
 #![tactic(auto)]
 
 mod device;
@@ -11,6 +12,7 @@ mod escape;
 mod event_log;
 mod keys;
 pub mod laws;
+mod pasted;
 mod reading;
 mod refused;
 mod terminal;
@@ -21,6 +23,7 @@ pub use device::DeviceTerminal;
 pub use escape::Escape;
 pub use event_log::EventLog;
 pub use keys::{EventSource, KeyReader, SourceState};
+pub use pasted::Pasted;
 pub use reading::{Answer, read_line_from};
 pub use terminal::AnsiTerminal;
 pub use typed::read_typed_line;

@@ -17,7 +17,7 @@ returns-in-Some-2-clause-tells g c =
       tells_took _ _ (held c.loop-turn.self) (held c.scan.new.self) (held c.take.new.self) (event_view c.in-Some-2.event ∷ []) c.loop-turn.is_last c.in-Some.found
           c.loop-turn.invariant.tells scanned.held c.loop-turn.invariant.at_end scanned.token
           (ap events_in_option (sym c.in-Some-2.is) ∙ taken.event)
-          (held_is (held c.take.new.self) _ _ _ _ taken.rest.1 taken.taken taken.rest.2 (ap g.R.Read.remaining taken.rest.0)),
+          (held_is (held c.take.new.self) _ _ _ _ _ taken.rest.1 taken.rest.3 taken.taken taken.rest.2 (ap g.R.Read.remaining taken.rest.0)),
     )
 
 pub returns-in_err-event-in-Some-clause-tells : goal.returns-in_err-event-in-Some-clause-tells
@@ -26,7 +26,7 @@ returns-in_err-event-in-Some-clause-tells g c =
     let p = err_from_is_err_and c.from_residual.result c.from_residual.ensures.1 in
     let refused = c.in_err-event-in-Some.ensures in
     rw p.1 (tells_same _ _ (held c.loop-turn.self) (held c.take.new.self) c.loop-turn.invariant.tells
-    (held_is (held c.take.new.self) _ _ _ _ refused.rest.1 refused.kept refused.rest.2 (ap g.R.Read.remaining refused.rest.0) ∙ c.in-Some.ensures.held))
+    (held_is (held c.take.new.self) _ _ _ _ _ refused.rest.1 refused.rest.3 refused.kept refused.rest.2 (ap g.R.Read.remaining refused.rest.0) ∙ c.in-Some.ensures.held))
 
 pub returns-in_err-event-in-Some-clause-held_up : goal.returns-in_err-event-in-Some-clause-held_up
 returns-in_err-event-in-Some-clause-held_up g c =
@@ -34,7 +34,7 @@ returns-in_err-event-in-Some-clause-held_up g c =
     let p = err_from_is_err_and c.from_residual.result c.from_residual.ensures.1 in
     let refused = c.in_err-event-in-Some.ensures in
     rw (p.1, p.2) (wants_memory _ _ (held c.loop-turn.self) (held c.take.new.self) c.loop-turn.is_last c.in-Some.found
-    (held_is (held c.take.new.self) _ _ _ _ refused.rest.1 refused.kept refused.rest.2 (ap g.R.Read.remaining refused.rest.0) ∙ c.in-Some.ensures.held)
+    (held_is (held c.take.new.self) _ _ _ _ _ refused.rest.1 refused.rest.3 refused.kept refused.rest.2 (ap g.R.Read.remaining refused.rest.0) ∙ c.in-Some.ensures.held)
     c.in-Some.ensures.token refused.refused)
 
 pub returns-in_err-is_last-in-None-2-clause-tells : goal.returns-in_err-is_last-in-None-2-clause-tells
@@ -43,7 +43,7 @@ returns-in_err-is_last-in-None-2-clause-tells g c =
     let p = err_from_is_err_and c.from_residual-in_err-is_last-in-None-2.result c.from_residual-in_err-is_last-in-None-2.ensures.1 in
     let refused = c.in_err-is_last-in-None-2.ensures in
     rw p.1 (tells_kept _ _ (held c.loop-turn.self) (held c.scan.new.self) (held c.read.new.self) c.loop-turn.invariant.tells c.in-None-2.ensures.held
-    (held_is (held c.read.new.self) _ _ _ _ refused.escape refused.err.0 refused.err.1 refl) refused.err.2)
+    (held_is (held c.read.new.self) _ _ _ _ _ refused.choices.0 refused.choices.1 refused.err.0 refused.err.1 refl) refused.err.2)
 
 pub returns-in_err-is_last-in-None-2-clause-held_up : goal.returns-in_err-is_last-in-None-2-clause-held_up
 returns-in_err-is_last-in-None-2-clause-held_up g c =
@@ -52,7 +52,7 @@ returns-in_err-is_last-in-None-2-clause-held_up g c =
     let refused = c.in_err-is_last-in-None-2.ensures in
     rw (p.1, p.2) (wants_more _ _ (held c.loop-turn.self) (held c.scan.new.self) (held c.read.new.self) c.in-None-2.ensures.held
     (rw c.if-is_last.false at c.in-None-2.ensures.token)
-    (held_is (held c.read.new.self) _ _ _ _ refused.escape refused.err.0 refused.err.1 refl))
+    (held_is (held c.read.new.self) _ _ _ _ _ refused.choices.0 refused.choices.1 refused.err.0 refused.err.1 refl))
 
 pub loop-turn-preserved : goal.loop-turn-preserved
 loop-turn-preserved g c = elim c.match-scan.branch [
@@ -65,11 +65,11 @@ loop-turn-preserved g c = elim c.match-scan.branch [
         tells = rw w.self-is (tells_took _ _ (held c.loop-turn.self) (held c.scan.new.self) (held w.take.new.self) [] c.loop-turn.is_last w.in-Some.found
             c.loop-turn.invariant.tells scanned.held c.loop-turn.invariant.at_end scanned.token
             (ap events_in_option (sym w.in_default.is) ∙ taken.event)
-            (held_is (held w.take.new.self) _ _ _ _ taken.rest.1 taken.taken taken.rest.2 (ap g.R.Read.remaining taken.rest.0)));
+            (held_is (held w.take.new.self) _ _ _ _ _ taken.rest.1 taken.rest.3 taken.taken taken.rest.2 (ap g.R.Read.remaining taken.rest.0)));
         at_end = search rules;
         at_hand = λ there.
             let first = c.loop-turn.invariant.at_hand there in
-            absurd (no_event_at_hand (held c.args.self.now) (held c.loop-turn.self) c.loop-turn.is_last w.in-Some.found _ there first.0 first.1 scanned.token (ap events_in_option (sym w.in_default.is) ∙ taken.event));
+            absurd (no_event_at_hand (held c.args.self.now) (held c.loop-turn.self) c.loop-turn.is_last w.in-Some.found _ _ there first.0 first.1 scanned.token (ap events_in_option (sym w.in_default.is) ∙ taken.event));
       }
   | in-None-2+in_ok-is_last-in-None-2 w ↦
       let held = held_by g.R.Read.remaining in
@@ -78,7 +78,7 @@ loop-turn-preserved g c = elim c.match-scan.branch [
         told = search rules;
         tells = rw w.self-is (tells_came _ _ (held c.loop-turn.self) (held c.scan.new.self) (held w.read.new.self) came.0
             c.loop-turn.invariant.tells w.in-None-2.ensures.held (rw w.if-is_last.false at w.in-None-2.ensures.token)
-            (held_is (held w.read.new.self) _ _ _ _ w.in_ok-is_last-in-None-2.ensures.escape came.1 came.2 refl) came.3);
+            (held_is (held w.read.new.self) _ _ _ _ _ w.in_ok-is_last-in-None-2.ensures.choices.0 w.in_ok-is_last-in-None-2.ensures.choices.1 came.1 came.2 refl) came.3);
         at_end = search rules;
         at_hand = λ there.
             let first = c.loop-turn.invariant.at_hand there in
