@@ -5,3 +5,4 @@ pub mod KillLemmas
 pub mod GivenBackLemmas
 pub mod UndoLawLemmas
 pub mod RowLemmas
+pub mod PairLemmas

@@ -14,7 +14,8 @@ use Rattle.tw_line.proofs.StepLawLemmas.{offsets_are_extremes}
 use Rattle.tw_line.specs.Cut.{Cut, cut_at}
 use Rattle.tw_line.specs.Movements.{after_move, destination}
 use Rattle.tw_line.specs.declared.movements.Movement.TheVariants as movement
-use Rattle.tw_key_parts.specs.RowKeys.{OneRowIsLeft, RowKillIsKept, StepsLeadThere, begins_row, edit_by_any, goal_column, has_reached, is_line_feed, is_reached_by, killed_to_end, moved_down, moved_to_end, moved_to_start, moved_up, row_edit, row_end, row_key, row_start, row_steps, steps_to}
+use Rattle.tw_input.specs.EventView.{EventView, Key, Resized, Paste, Wake}
+use Rattle.tw_key_parts.specs.RowKeys.{OneRowIsLeft, RowKillIsKept, StepsLeadThere, begins_row, brings_rows, edit_by_any, edit_of_pattern, goal_column, has_reached, is_line_feed, is_reached_by, killed_to_end, moved_down, moved_to_end, moved_to_start, moved_up, row_edit, row_end, row_key, row_start, row_steps, steps_to}
 use Rattle.tw_key_parts.specs.declared.row_keys.RowKey.{RowKey}
 use Rattle.tw_key_parts.specs.declared.row_keys.RowKey.TheVariants.{Break, Up, Down, Start, End, KillToEnd}
 use Rattle.tw_key_parts.specs.declared.row_keys.Way.{Way}
@@ -159,7 +160,7 @@ last-row-kill : (cut : Cut) → row_end cut.line cut.cursor ≡ length cut.line 
 last-row-kill cut e = rw (e, same-length (length cut.line)) refl
 
 pub one_row_is_left : OneRowIsLeft
-one_row_is_left goal asked none other = by asked.searching
+one_row_is_left goal asked none whole other = by asked.searching
   where
     cut : Cut
     cut = asked.cut
@@ -179,8 +180,14 @@ one_row_is_left goal asked none other = by asked.searching
     by_key (Some End) other = ap (row_edit None) (last-row-end cut end)
     by_key (Some KillToEnd) other = ap (row_edit None) (last-row-kill cut end)
 
-    by : (searching : Bool) → (if searching then None else edit_by_any (row_key asked.event) goal cut) ≡ None
-    by true = refl
+    by_event : (event : EventView) → brings_rows event ≡ false → edit_of_pattern event ≡ None
+    by_event (Key key) whole = refl
+    by_event (Resized cols rows) whole = refl
+    by_event (Paste text) whole = rw whole refl
+    by_event Wake whole = refl
+
+    by : (searching : Bool) → (if searching then edit_of_pattern asked.event else edit_by_any (row_key asked.event) goal cut) ≡ None
+    by true = by_event asked.event whole
     by false = by_key (row_key asked.event) other
 
 -- ---- where steps lead

@@ -1,6 +1,8 @@
 -- Two parts as one.
-use Rattle.std.specs.Prelude.{Option, Some, None}
-use Rattle.tw_key_parts.specs.KeyRules.{Edited, KeyRules}
+use Rattle.std.specs.Prelude.{◌≡◌, ◌⊎◌, Option, Some, None, option_map}
+use Rattle.tw_line.specs.Cut.{Cut}
+use Rattle.tw_host.specs.ActionView.{ActionView}
+use Rattle.tw_key_parts.specs.KeyRules.{Asked, Edited, KeyRules, Step}
 
 module _ {K L : Type 0} where
   -- the first part's edit, or else the second's
@@ -25,3 +27,26 @@ pair_rules a b = record {
   follows = λ s kept step. (a.follows s.0 (kept_first kept) step, b.follows s.1 (kept_second kept) step);
   leaves = λ s. (a.leaves s.0, b.leaves s.1);
 }
+
+-- ---- the order of two parts
+
+-- what an edit does to the line, and the action that follows
+abbrev pub done_by : {K : Type 0} → Option (Edited K) → Option (Option Cut × ActionView)
+done_by edit = option_map (λ edit. (edit.cut, edit.action)) edit
+
+-- what is kept of an edit, the other way round
+abbrev pub turned_round : {K L : Type 0} → Option (Option K × Option L) → Option (Option L × Option K)
+turned_round kept = option_map (λ kept. (kept.1, kept.0)) kept
+
+module _ {S K T L : Type 0} (a : KeyRules S K) (b : KeyRules T L) where
+  -- no event at a line has an edit of both
+  abbrev pub AreApart : Type 0
+  AreApart = (s : S) (t : T) (asked : Asked) → (a.edits s asked ≡ None) ⊎ (b.edits t asked ≡ None)
+
+  -- Then their order is free: the same is done, and each of them holds the same afterwards.
+  abbrev pub OrderIsFree : Type 0
+  OrderIsFree = AreApart → (s : S) (t : T)
+      → ((asked : Asked) → done_by ((pair_rules a b).edits (s, t) asked) ≡ done_by ((pair_rules b a).edits (t, s) asked))
+      × ((kept : Option (Option K × Option L)) (step : Step) → let there = (pair_rules a b).follows (s, t) kept step in
+      (pair_rules b a).follows (t, s) (turned_round kept) step ≡ (there.1, there.0))
+      × (let there = (pair_rules a b).leaves (s, t) in (pair_rules b a).leaves (t, s) ≡ (there.1, there.0))

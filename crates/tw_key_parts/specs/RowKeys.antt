@@ -1,7 +1,8 @@
 -- Keys for lines of several rows, which line feeds end.
-use Rattle.std.specs.Prelude.{ℕ, ◌≡◌, ◌≢◌, ◌≤◌, ◌<◌, ◌+◌, ◌-◌, ◌==◌, ◌||◌, Bool, true, false, leb, min, max, codes, List, [], ◌∷◌, length, slice_index, slice_range, IsSomeAnd, Option, Some, None, option_map, unwrap_or, if◌then◌else◌}
+use Rattle.std.specs.Prelude.{ℕ, ◌≡◌, ◌≢◌, ◌≤◌, ◌<◌, ◌+◌, ◌-◌, ◌==◌, ◌||◌, Bool, true, false, leb, min, max, codes, List, [], ◌∷◌, length, slice_index, slice_range, map, chars, IsSomeAnd, Option, Some, None, option_map, unwrap_or, if◌then◌else◌}
 use Rattle.std.specs.List.{list_any}
 use Rattle.std.specs.Option.{option_flatten}
+use Rattle.std.specs.Str.{encode_utf8_all}
 use Rattle.tw_surface.specs.Characters.{lf}
 use Rattle.tw_extremes.specs.Extremes.{greatest_below, least_from}
 use Rattle.tw_input.specs.declared.key.KeyCode.TheVariants as keycode
@@ -13,7 +14,7 @@ use Rattle.tw_line.specs.Cut.{Cut, cut_at}
 use Rattle.tw_line.specs.Movements.{destination}
 use Rattle.tw_line.specs.declared.movements.Movement.{Movement}
 use Rattle.tw_line.specs.declared.movements.Movement.TheVariants as movement
-use Rattle.tw_host.specs.ActionView.{ActionView, InsertChar, KillAndMove, Move}
+use Rattle.tw_host.specs.ActionView.{ActionView, InsertChar, InsertText, KillAndMove, Move}
 use Rattle.tw_host.specs.KeyTable.{is_same_key, key_press, letter}
 use Rattle.tw_key_parts.specs.KeyRules.{Asked, Edited, KeyRules}
 use Rattle.tw_key_parts.specs.Ring.{killed_by, killing}
@@ -166,9 +167,27 @@ abbrev pub edit_by_any : Option RowKey → Option ℕ → Cut → Option (Edited
 edit_by_any None goal cut = None
 edit_by_any (Some key) goal cut = edit_by key goal cut
 
+-- whether a line feed stands in a text
+abbrev pub has_rows : List ℕ → Bool
+has_rows text = list_any (λ b. b == lf) text
+
+-- a text with a space for each line feed
+abbrev pub row_character : ℕ → ℕ
+row_character c = if c == lf then 32 else c
+
+abbrev pub in_one_row : List ℕ → List ℕ
+in_one_row text = encode_utf8_all (map row_character (chars text))
+
+-- during a search a pasted text of several rows is joined
+abbrev pub edit_of_pattern : EventView → Option (Edited (Option ℕ))
+edit_of_pattern (Paste text) = if has_rows text then row_edit None (Some (InsertText 1 (in_one_row text))) else None
+edit_of_pattern (Key key) = None
+edit_of_pattern (Resized cols rows) = None
+edit_of_pattern Wake = None
+
 -- the keys edit, but during a search
 abbrev pub row_key_edit : Option ℕ → Asked → Option (Edited (Option ℕ))
-row_key_edit goal asked = if asked.searching then None else edit_by_any (row_key asked.event) goal asked.cut
+row_key_edit goal asked = if asked.searching then edit_of_pattern asked.event else edit_by_any (row_key asked.event) goal asked.cut
 
 -- Up and Down keep the column; all else forgets it
 abbrev pub row_key_rules : KeyRules (Option ℕ) (Option ℕ)
@@ -187,7 +206,14 @@ RowKillIsKept = (cut : Cut) → let end = row_end cut.line cut.cursor in
     cut.cursor < end → end < length cut.line → is_cluster_boundary cut.line end ≡ true
     → IsSomeAnd (killed_to_end cut) (λ action. IsSomeAnd (killing (Key kill_key) (Some action)) (λ m. killed_by m cut ≡ slice_range cut.line cut.cursor end))
 
--- a line without a line feed is left to the other keys, but for the key that begins a row
+-- whether an event has a line feed
+abbrev pub brings_rows : EventView → Bool
+brings_rows (Paste text) = has_rows text
+brings_rows (Key key) = false
+brings_rows (Resized cols rows) = false
+brings_rows Wake = false
+
+-- a line without a line feed is left to the other keys, but for the key that begins a row and a pasted text of several rows
 abbrev pub OneRowIsLeft : Type 0
-OneRowIsLeft = (goal : Option ℕ) (asked : Asked) → list_any (λ b. b == lf) asked.cut.line ≡ false
+OneRowIsLeft = (goal : Option ℕ) (asked : Asked) → has_rows asked.cut.line ≡ false → brings_rows asked.event ≡ false
     → row_key asked.event ≢ Some Break → row_key_edit goal asked ≡ None

@@ -1,11 +1,13 @@
 //! What follows from the definitions: each function does nothing, and its contract is the law.
 
 ghost use Rattle.tw_input.specs.Equality.{ComparesValues};
+ghost use Rattle.tw_key_parts.specs.Pairs.{OrderIsFree};
 ghost use Rattle.tw_key_parts.specs.ReadlineKeys.{RowsAreDistinct, RowsAreNew};
 ghost use Rattle.tw_key_parts.specs.RowKeys.{OneRowIsLeft, RowKillIsKept, StepsLeadThere};
 ghost use Rattle.tw_key_parts.specs.RingLaws.{KillIsLatest, KillsKeepLine, YankGivesBack};
 ghost use Rattle.tw_key_parts.specs.UndoLaws.{UndoKeepsOldest, UndosGiveOldest};
 
+use crate::part::KeyPart;
 use crate::ring::Latest;
 use crate::row_keys::RowKey;
 use crate::word_keys::WordEdit;
@@ -29,6 +31,11 @@ pub fn kills()
 pub fn undos()
     ensures kept { UndoKeepsOldest }
     ensures given { UndosGiveOldest }
+{}
+
+/// The order of two parts is free if no event at a line has an edit of both.
+pub fn order<A: KeyPart, B: KeyPart>()
+    ensures { OrderIsFree A.keys B.keys }
 {}
 
 /// The keys of readline are not in the key table, and none of them stands in two rows.

@@ -1,13 +1,13 @@
 //! Keys for lines of several rows.
 
-ghost use Rattle.std.specs.Prelude.{◌≡◌, ◌≤◌, ◌<◌, ◌+◌, ◌-◌, IfOk, IsCharBoundary, length, option_map};
+ghost use Rattle.std.specs.Prelude.{◌≡◌, ◌≤◌, ◌<◌, ◌+◌, ◌-◌, IfOk, IsCharBoundary, length, option_map, string_bytes};
 ghost use Rattle.std.specs.Option.{option_flatten};
 ghost use Rattle.tw_host.specs.ActionView.{action_view};
 ghost use Rattle.tw_host.specs.KeyTable.{key_press};
 ghost use Rattle.tw_input.specs.EventView.{event_view};
 ghost use Rattle.tw_input.specs.Modifiers.{none, alt, ctrl};
 ghost use Rattle.tw_key_parts.specs.EditView.{edit_view};
-ghost use Rattle.tw_key_parts.specs.RowKeys.{cursor_column, edit_by, goal_column, has_reached, killed_to_end, move_to, moved_down, moved_to_end, moved_to_start, moved_up, place_in_row, row_edit, row_end, row_key, row_key_in, row_keys, row_start, row_steps, steps_to};
+ghost use Rattle.tw_key_parts.specs.RowKeys.{cursor_column, edit_by, edit_of_pattern, goal_column, has_reached, has_rows, in_one_row, killed_to_end, move_to, moved_down, moved_to_end, moved_to_start, moved_up, place_in_row, row_character, row_edit, row_end, row_key, row_key_in, row_keys, row_start, row_steps, steps_to};
 
 use crate::edit::Edit;
 use crate::part::KeyPart;
@@ -274,6 +274,50 @@ fn killed_to_end(alloc: Global, editor: &LineEditBuffer) -> Result<Option<Action
     Ok(Some(Action::KillAndMove(Movement::ForwardChar(count), Movement::None)))
 }
 
+/// Returns true if a line feed stands in a text.
+fn has_rows(text: &str) -> bool
+    ensures { result ≡ has_rows text.now }
+{
+    text.as_bytes().iter().any(|byte| *byte == b'\n')
+}
+
+/// Returns a character of a row: a space for a line feed.
+fn row_character(character: char) -> char
+    ensures { result ≡ row_character character }
+{
+    match character {
+        '\n' => ' ',
+        _ => character,
+    }
+}
+
+/// Returns a text with a space for each line feed.
+fn in_one_row(alloc: Global, text: &str) -> Result<String, AllocError>
+    ensures { IfOk result (λ row. string_bytes row ≡ in_one_row text.now) }
+{
+    let mut row = String::new(alloc);
+    for character in text.chars() {
+        row.push(row_character(character))?;
+    }
+    Ok(row)
+}
+
+/// Returns the edit of an event during a search, whose pattern has one row: a pasted text of several rows is joined.
+fn edit_of_pattern(
+    alloc: Global,
+    event: &InputEvent,
+) -> Result<Option<Edit<Option<usize>>>, AllocError>
+    ensures { IfOk result (λ edit. option_map (edit_view (λ note. note)) edit ≡ edit_of_pattern (event_view event.now)) }
+{
+    match event {
+        InputEvent::Paste(text) if has_rows(text.as_str()) => {
+            let row = in_one_row(alloc, text.as_str())?;
+            Ok(row_edit(None, Some(Action::InsertText(1, row))))
+        }
+        _ => Ok(None),
+    }
+}
+
 /// Returns an action as an edit that leaves the line, and the column that it keeps.
 fn row_edit(kept: Option<usize>, action: Option<Action>) -> Option<Edit<Option<usize>>>
     ensures { option_map (edit_view (λ note. note)) result
@@ -295,7 +339,7 @@ fn row_edit(kept: Option<usize>, action: Option<Action>) -> Option<Edit<Option<u
 ///
 /// In the first row the part has no Up and Home, and in the last row no Down, End and Ctrl-K: there they do
 /// what they do in a line of one row, and Up and Down walk through the history. The keys have no action
-/// during a search.
+/// during a search, where a space stands for each line feed of a pasted text: a pattern has one row.
 #[derive(Debug, Drop)]
 pub struct RowKeys {
     goal: Option<usize>,
@@ -372,9 +416,12 @@ impl KeyPart for RowKeys {
         event: &InputEvent,
         line: &LineEditBuffer,
     ) -> Result<Option<Edit<Option<usize>>>, AllocError> {
+        if searching {
+            return edit_of_pattern(alloc, event);
+        }
         match row_key(event) {
-            Some(key) if !searching => self.edit_by(alloc, key, line),
-            _ => Ok(None),
+            Some(key) => self.edit_by(alloc, key, line),
+            None => Ok(None),
         }
     }
 
