@@ -101,12 +101,12 @@ fn main(rt: HostRuntime) -> Result<(), anyhow::Error> {
         return Err(anyhow!("it wants a file of JSON"));
     };
     let text = fs::read_to_string(&rt, path)?;
-    let explorer = Explorer {
+    let mut explorer = Explorer {
         root: Value::from_str(alloc, text.as_str())?,
     };
     let mut prompt = Prompt::open(rt, "json> ")?;
     for _ in 0..u64::MAX {
-        match prompt.read_with(&explorer)? {
+        match prompt.read_with(&mut explorer)? {
             Answer::Line(line) => {
                 let shown = match explorer.at(line.as_str()) {
                     Some(value) => value.to_string_pretty(alloc)?,

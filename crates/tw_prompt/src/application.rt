@@ -4,33 +4,50 @@ ghost use Rattle.std.specs.Prelude.{◌≡◌};
 ghost use Rattle.tw_input.specs.EventView.{event_view};
 ghost use Rattle.tw_terminal.specs.TerminalState.{size_after};
 
+use crate::line_ends::with_line_ends;
 use std::alloc::{AllocError, Global};
 use tw_device::{Answer, DeviceTerminal, EventSource};
 use tw_history::{History, LentLines};
 use tw_input::{InputEvent, KeyCode, KeyEvent};
 use tw_key_parts::KeyPart;
 use tw_lineedit::{CompletionCandidate, Error, LineEditBuffer, LineEditor, LineStatus};
-use tw_prompt_host::{PreparedHost, PromptHost, StyledRange, Validator};
+use tw_prompt_host::{PreparedHost, PreparedLines, PromptHost, StyledRange};
 use tw_terminal::{ScreenSize, TerminalFault};
 
-/// What an application knows of its lines. A function may return what it likes: ranges are cut to what fits, and the text
-/// that is shown is the line's.
+/// What an application knows of its lines. Each function has a plain default body, and may return what it likes: ranges
+/// are cut to what fits, and the text that is shown is the line's.
 pub trait Application {
-    /// Returns the texts that can complete a line with its cursor at the byte offset `cursor`.
+    /// Returns the texts that can complete a line with its cursor at the byte offset `cursor`: none by default.
     fn complete(
         &self,
         alloc: Global,
-        line: &str,
-        cursor: usize,
-    ) -> Result<Vec<CompletionCandidate>, AllocError>;
+        _line: &str,
+        _cursor: usize,
+    ) -> Result<Vec<CompletionCandidate>, AllocError> {
+        Ok(Vec::new(alloc))
+    }
 
-    /// Returns the parts of a line with its cursor at the byte offset `cursor` that are shown in attributes of their own.
+    /// Returns the parts of a line with its cursor at the byte offset `cursor` that are shown in attributes of their own:
+    /// none by default.
     fn colours(
         &self,
         alloc: Global,
-        line: &str,
-        cursor: usize,
-    ) -> Result<Vec<StyledRange>, AllocError>;
+        _line: &str,
+        _cursor: usize,
+    ) -> Result<Vec<StyledRange>, AllocError> {
+        Ok(Vec::new(alloc))
+    }
+
+    /// Returns what a line lacks, or `None`, the default, if it may be accepted. In a prompt that shows rows Enter begins
+    /// a row in a line that lacks something, and in others the text is shown under the line.
+    fn lack(&self, _alloc: Global, _line: &str) -> Result<Option<String>, AllocError> {
+        Ok(None)
+    }
+
+    /// Returns lines to print above the line that is typed: none by default. It is asked after each event.
+    fn news(&mut self, alloc: Global) -> Result<String, AllocError> {
+        Ok(String::new(alloc))
+    }
 }
 
 /// Sets the terminal's size if an event tells a new one.
@@ -46,16 +63,18 @@ fn resize<T: DeviceTerminal>(terminal: &mut T, event: &InputEvent)
     }
 }
 
-/// Asks for the colours of the line.
-fn prepare_colours<A: Application, T: DeviceTerminal>(
+/// Asks for the colours of the line, and for what it lacks.
+fn prepare_line<A: Application, T: DeviceTerminal, L, K>(
     alloc: Global,
     application: &A,
     editor: &mut LineEditor<'_, T>,
-    host: &mut PreparedHost,
+    host: &mut PromptHost<PreparedHost, L, K, PreparedLines>,
 ) -> Result<(), Error> {
     let (line, cursor) = editor.get_line_and_cursor();
-    host.ranges = application.colours(alloc, line, cursor)?;
-    host.line = String::from_str(alloc, line)?;
+    host.host.ranges = application.colours(alloc, line, cursor)?;
+    host.host.line = String::from_str(alloc, line)?;
+    host.validator.lack = application.lack(alloc, line)?;
+    host.validator.line = String::from_str(alloc, line)?;
     Ok(())
 }
 
@@ -72,12 +91,26 @@ fn prepare_candidates<A: Application, T: DeviceTerminal>(
     Ok(())
 }
 
-/// Feeds an event, and paints the line in its colours.
-fn feed<A: Application, T: DeviceTerminal, L: History + LentLines, K: KeyPart, V: Validator>(
+/// Paints the line as it is prepared, below the application's news.
+fn show<A: Application, T: DeviceTerminal, L: History + LentLines, K: KeyPart>(
     alloc: Global,
-    application: &A,
+    application: &mut A,
     editor: &mut LineEditor<'_, T>,
-    host: &mut PromptHost<PreparedHost, L, K, V>,
+    host: &mut PromptHost<PreparedHost, L, K, PreparedLines>,
+) -> Result<LineStatus, Error> {
+    let news = application.news(alloc)?;
+    if news.is_empty() {
+        return editor.feed(host, &InputEvent::Wake);
+    }
+    editor.print_above(host, with_line_ends(alloc, news.as_str(), "\r\n")?.as_str())
+}
+
+/// Feeds an event, and paints the line in its colours.
+fn feed<A: Application, T: DeviceTerminal, L: History + LentLines, K: KeyPart>(
+    alloc: Global,
+    application: &mut A,
+    editor: &mut LineEditor<'_, T>,
+    host: &mut PromptHost<PreparedHost, L, K, PreparedLines>,
     event: &InputEvent,
     is_more: bool,
 ) -> Result<LineStatus, Error> {
@@ -95,9 +128,9 @@ fn feed<A: Application, T: DeviceTerminal, L: History + LentLines, K: KeyPart, V
     match editor.feed(host, event)? {
         LineStatus::Ended => Ok(LineStatus::Ended),
         LineStatus::Open => {
-            prepare_colours(alloc, application, editor, &mut host.host)?;
+            prepare_line(alloc, application, editor, host)?;
             editor.terminal().set_more_at_hand(is_more);
-            editor.feed(host, &InputEvent::Wake)
+            show(alloc, application, editor, host)
         }
     }
 }
@@ -115,13 +148,12 @@ fn take_events<
     T: DeviceTerminal,
     L: History + LentLines,
     K: KeyPart,
-    V: Validator,
 >(
     alloc: Global,
-    application: &A,
+    application: &mut A,
     events: &mut S,
     editor: &mut LineEditor<'_, T>,
-    host: &mut PromptHost<PreparedHost, L, K, V>,
+    host: &mut PromptHost<PreparedHost, L, K, PreparedLines>,
 ) -> Result<bool, Error> {
     for _ in 0..u64::MAX {
         let Some(event) = events.next_event()? else {
@@ -143,21 +175,21 @@ fn take_events<
 }
 
 /// Reads a line with a new editor, as `read_line_from` of `tw_device` does, and asks the application between two events:
-/// for what completes the line before a Tab, and for the colours of the line after each event. The line is painted twice
-/// then: give it a `PatientTerminal`, which sends only the second painting.
+/// for what completes the line before a Tab, and after each event for the colours of the line, for what it lacks, and for
+/// news to print above it. The line is painted twice then: give it a `PatientTerminal`, which sends only the second
+/// painting.
 pub fn read_with<
     A: Application,
     S: EventSource,
     T: DeviceTerminal,
     L: History + LentLines,
     K: KeyPart,
-    V: Validator,
 >(
     alloc: Global,
-    application: &A,
+    application: &mut A,
     events: &mut S,
     terminal: &mut T,
-    host: &mut PromptHost<PreparedHost, L, K, V>,
+    host: &mut PromptHost<PreparedHost, L, K, PreparedLines>,
     prompt: &str,
 ) -> Result<Answer, Error> {
     let mut editor = LineEditor::new(alloc, terminal)?;

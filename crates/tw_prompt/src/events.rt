@@ -4,6 +4,7 @@ ghost use Rattle.std.specs.Prelude.{◌≡◌, ◌++◌, ◌||◌, ℕ, List, []
 ghost use Rattle.std.specs.List.{list_all};
 ghost use Rattle.tw_input.specs.EventView.{event_view};
 ghost use Rattle.tw_device.specs.Told.{answer_events};
+ghost use Rattle.tw_device.specs.declared.keys.SourceState.TheVariants.{Going};
 ghost use Rattle.tw_surface.specs.Characters.{is_printable};
 ghost use Rattle.tw_prompt.specs.Joined.{Moves, Piece, Pieced, is_pending, keys_of, pending_events, run_event, told_in_all, typed_key, wake_if, woken_all};
 
@@ -12,7 +13,7 @@ use crate::typed::{PIECE, Typed};
 use std::alloc::Global;
 use std::io::Read;
 use std::time::Clock;
-use tw_device::{EventLog, EventSource, KeyReader, SourceState};
+use tw_device::{EventLog, EventSource, KeyReader, Pasted, SourceState};
 use tw_input::InputEvent;
 use tw_prompt_host::gives_up;
 use tw_terminal::TerminalFault;
@@ -62,11 +63,38 @@ impl<R: Read, C: Clock> PromptEvents<KeyReader<Typed<R, C>>> {
     }
 }
 
+impl<R: Read> PromptEvents<KeyReader<R>> {
+    /// Returns the events with this choice for pasted texts.
+    pub fn with_pasted(self, pasted: Pasted) -> Self
+        ensures { result ≡ record self { source = record self.source { pasted = pasted } } }
+    {
+        let PromptEvents {
+            alloc,
+            source,
+            joins,
+            pending,
+            wakes,
+            state,
+            told,
+        } = self;
+        PromptEvents {
+            alloc,
+            source: source.with_pasted(pasted),
+            joins,
+            pending,
+            wakes,
+            state,
+            told,
+        }
+    }
+}
+
 impl<S: EventSource> PromptEvents<S> {
     /// The events of a source, of which no event was told. `joins`: characters at hand at once come as one pasted text,
     /// which is wrong for a host that binds characters.
     pub fn over(alloc: Global, source: S, joins: bool) -> Self
         ensures told { ⟦<PromptEvents<S> as EventSource>⟧.told result ≡ [] }
+        ensures going { ⟦<PromptEvents<S> as EventSource>⟧.state result ≡ Going }
         ensures source { result.source ≡ source }
         ensures joins { result.joins ≡ joins }
         ensures held { pending_events result.pending ≡ [] }

@@ -11,6 +11,7 @@ mod brackets;
 mod events;
 mod joined;
 mod keys;
+mod line_ends;
 mod listings;
 mod marks;
 mod prompt;

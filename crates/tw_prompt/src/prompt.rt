@@ -4,14 +4,15 @@ use crate::application::{Application, read_with};
 use crate::arguments::Arguments;
 use crate::events::{PromptEvents, TypedEvents};
 use crate::keys::{AllKeys, all_keys};
+use crate::line_ends::with_line_ends;
 use crate::marks::{BEGIN, END};
 use crate::streams::{TerminalInput, TerminalOutput, open_streams};
 use std::io::{self, ErrorKind, Write};
-use tw_device::{Answer, DeviceTerminal, read_line_from};
+use tw_device::{Answer, DeviceTerminal, Pasted, read_line_from};
 use tw_history::{BasicHistory, History, LentLines};
 use tw_key_parts::KeyPart;
 use tw_lineedit::{Error, LineEditorHost};
-use tw_prompt_host::{AllLines, Hints, PreparedHost, PromptHost, Validator};
+use tw_prompt_host::{Hints, PreparedHost, PreparedLines, PromptHost, Rows, Validator};
 use tw_sparing::PatientTerminal;
 use tw_terminal::{ScreenSize, TerminalFault};
 
@@ -59,21 +60,32 @@ fn read_plainly(rt: HostRuntime) -> Result<Answer, Error> {
     if count == 0 {
         return Ok(Answer::End(line));
     }
-    let text = line.as_str();
-    let text = match text.strip_suffix('\n') {
-        Some(text) => text.strip_suffix('\r').unwrap_or(text),
-        None => text,
-    };
-    Ok(Answer::Line(String::from_str(rt.alloc(), text)?))
+    if line.as_str().ends_with('\n') {
+        let _feed = line.pop();
+        if line.as_str().ends_with('\r') {
+            let _return = line.pop();
+        }
+    }
+    Ok(Answer::Line(line))
 }
 
-impl Prompt<PromptTerminal, PreparedHost, BasicHistory, AllKeys, AllLines> {
+/// Returns how pasted texts are told to a prompt: in their rows only if it shows rows.
+fn pasted_for(rows: &Rows) -> Pasted {
+    if rows.are_shown() {
+        Pasted::Rows
+    } else {
+        Pasted::OneRow
+    }
+}
+
+impl Prompt<PromptTerminal, PreparedHost, BasicHistory, AllKeys, PreparedLines> {
     /// Opens a prompt with this text, all keys, hints after the cursor, and an empty history.
     pub fn open(rt: HostRuntime, prompt: &str) -> Result<Self, Error> {
         let alloc = rt.alloc();
         let mut host = PromptHost::new(alloc, prompt, COLS)?
             .with_host(PreparedHost::new(alloc))
-            .with_keys(all_keys(alloc));
+            .with_keys(all_keys(alloc))
+            .with_validator(PreparedLines::new(alloc));
         host.hints = Hints::dim();
         Prompt::over(rt, host)
     }
@@ -117,7 +129,7 @@ impl<
     V: Validator + Drop,
 > Prompt<T, H, L, K, V> {
     /// Creates a prompt at a terminal of this size, which is asked to mark pasted texts and to tell its new sizes. The
-    /// host gets its columns.
+    /// host gets its columns, and pasted texts keep their rows if it shows rows.
     pub fn at_terminal(
         rt: HostRuntime,
         mut host: PromptHost<H, L, K, V>,
@@ -128,6 +140,7 @@ impl<
         terminal.send(BEGIN)?;
         host.menu.cols = size.cols;
         host.screen.cols = size.cols;
+        let events = events.with_pasted(pasted_for(&host.rows));
         Ok(Prompt {
             host,
             remembers: true,
@@ -147,31 +160,27 @@ impl<
                 read_line_from(alloc, events, terminal, &mut self.host, prompt.as_str())?
             }
         };
-        if let Answer::Line(line) = &answer {
-            self.remember(line.as_str());
-        }
+        self.remember(&answer);
         Ok(answer)
     }
 
     /// Adds an accepted line to the history. If there is no memory for it, the line is not kept.
-    fn remember(&mut self, line: &str) {
-        if self.remembers && !line.is_empty() {
-            let _kept = self.host.remember(line);
+    fn remember(&mut self, answer: &Answer) {
+        match answer {
+            Answer::Line(line) if self.remembers && !line.is_empty() => {
+                let _kept = self.host.remember(line.as_str());
+            }
+            _ => {}
         }
     }
 
     /// Prints lines, which end with CR LF at a terminal. An unfinished last line is ended, and of no line nothing is sent.
     pub fn print(&mut self, text: &str) -> Result<(), Error> {
-        let alloc = self.rt.alloc();
-        let mut shown = String::new(alloc);
         let end = match &self.place {
             Place::Pipe => "\n",
             Place::Terminal { .. } => "\r\n",
         };
-        for line in text.lines() {
-            shown.push_str(line)?;
-            shown.push_str(end)?;
-        }
+        let shown = with_line_ends(self.rt.alloc(), text, end)?;
         if shown.is_empty() {
             return Ok(());
         }
@@ -194,15 +203,17 @@ impl<
     }
 }
 
-impl<
-    T: DeviceTerminal + Drop,
-    L: History + LentLines + Drop,
-    K: KeyPart + Drop,
-    V: Validator + Drop,
-> Prompt<T, PreparedHost, L, K, V> {
-    /// Reads a line as `read` does, with an application's completions and colours.
-    pub fn read_with<A: Application>(&mut self, application: &A) -> Result<Answer, Error> {
+impl<T: DeviceTerminal + Drop, L: History + LentLines + Drop, K: KeyPart + Drop> Prompt<
+    T,
+    PreparedHost,
+    L,
+    K,
+    PreparedLines,
+> {
+    /// Reads a line as `read` does, with the functions of an application.
+    pub fn read_with<A: Application>(&mut self, application: &mut A) -> Result<Answer, Error> {
         self.host.begin_line();
+        self.host.validator.lack = None;
         let answer = match &mut self.place {
             Place::Pipe => read_plainly(self.rt)?,
             Place::Terminal { events, terminal } => {
@@ -217,9 +228,7 @@ impl<
                 )?
             }
         };
-        if let Answer::Line(line) = &answer {
-            self.remember(line.as_str());
-        }
+        self.remember(&answer);
         Ok(answer)
     }
 }

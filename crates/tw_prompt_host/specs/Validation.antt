@@ -1,14 +1,19 @@
 -- Only whole lines are accepted.
-use Rattle.std.specs.Prelude.{ℕ, Bool, true, false, List, Option, Some, None}
+use Rattle.std.specs.Prelude.{ℕ, Bool, true, false, List, Option, Some, None, if◌then◌else◌}
 use Rattle.tw_host.specs.ActionView.{ActionView, AcceptLine}
 use Rattle.tw_host.specs.ElementView.{ElementView}
 use Rattle.tw_host.specs.HostRules.{plain_text}
+use Rattle.tw_hosts.specs.Words.{is_same}
 
 -- a line that lacks this is kept, and during a search a pattern that fails
 abbrev pub keeps_line : Bool → Bool → Option (List ℕ) → Bool
 keeps_line true fails lack = fails
 keeps_line false fails (Some text) = true
 keeps_line false fails None = false
+
+-- what a line lacks, if it is the one of which it was said before
+abbrev pub prepared_lack : List ℕ → Option (List ℕ) → List ℕ → Option (List ℕ)
+prepared_lack prepared lack line = if is_same line prepared then lack else None
 
 -- the action accepts the line
 abbrev pub is_accepting : Option ActionView → Bool

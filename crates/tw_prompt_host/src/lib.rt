@@ -30,4 +30,4 @@ pub use nested_lines::NestedLines;
 pub use prepared::{PreparedHost, StyledRange, styled_ranges};
 pub use prompt::PromptHost;
 pub use rows::Rows;
-pub use validator::{AllLines, Validator};
+pub use validator::{AllLines, PreparedLines, Validator};

@@ -1,6 +1,6 @@
 //! Validators of lines.
 
-ghost use Rattle.std.specs.Prelude.{◌≡◌, ℕ, List, Option, IfOk, option_map, string_bytes};
+ghost use Rattle.std.specs.Prelude.{◌≡◌, ℕ, List, Option, None, IfOk, option_map, string_bytes};
 
 use std::alloc::{AllocError, Global};
 
@@ -24,5 +24,41 @@ impl Validator for AllLines {
 
     fn lack(&self, _alloc: Global, _line: &str) -> Result<Option<String>, AllocError> {
         Ok(None)
+    }
+}
+
+/// Accepts every line but one, of which an application has said before what it lacks.
+#[derive(Debug, Drop)]
+pub struct PreparedLines {
+    /// The line.
+    pub line: String,
+    /// What it lacks, or `None`.
+    pub lack: Option<String>,
+}
+
+impl PreparedLines {
+    /// Creates the validator with nothing said, so that it accepts every line. It takes no memory.
+    pub fn new(alloc: Global) -> Self
+        ensures { result.lack ≡ None }
+    {
+        PreparedLines {
+            line: String::new(alloc),
+            lack: None,
+        }
+    }
+}
+
+impl Validator for PreparedLines {
+    ghost use Rattle.tw_prompt_host.specs.Validation.{prepared_lack};
+
+    ghost lacks = { λ it line. prepared_lack (string_bytes it.line) (option_map string_bytes it.lack) line };
+
+    fn lack(&self, alloc: Global, line: &str) -> Result<Option<String>, AllocError> {
+        match &self.lack {
+            Some(text) if line == self.line.as_str() => {
+                Ok(Some(String::from_str(alloc, text.as_str())?))
+            }
+            _ => Ok(None),
+        }
     }
 }
