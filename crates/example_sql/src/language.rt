@@ -1,6 +1,8 @@
 //! What a prompt knows of SQL while a line is typed.
 
-use sql_language::{Catalog, Token, TokenKind, begun_word, completions, has_word, tokenize};
+use sql_language::{
+    Catalog, Token, TokenKind, begun_word, completions, first_token, has_word, statement_len, tokenize,
+};
 use std::alloc::{AllocError, Global};
 use tw_lineedit::CompletionCandidate;
 use tw_prompt::Application;
@@ -16,13 +18,41 @@ const KEYWORDS: &str =
     ROLLBACK SELECT SET TABLE TEMP TEXT THEN TO TRANSACTION TRIGGER UNION UNIQUE UPDATE USING VALUES VIEW WHEN WHERE \
     WITH WITHOUT";
 
-/// The keywords, the names of the database, and what has begun of the statement.
+/// What a line lacks whose last statement has no end.
+const NO_END: &str = "the statement has no end";
+
+/// The keywords, and the names of the database.
 #[derive(Drop)]
 pub struct Language {
     keywords: Vec<String>,
     pub catalog: Catalog,
-    /// The lines of the statement before the one that is typed, each with its line feed.
-    pub begun: String,
+}
+
+/// Returns what stands behind the last statement that ends.
+fn unfinished(text: &str) -> &str {
+    let mut at: usize = 0;
+    for _ in 0..text.len() {
+        match statement_len(text.get(at..).unwrap_or("")) {
+            Some(len) => at = at.saturating_add(len),
+            None => break,
+        }
+    }
+    text.get(at..).unwrap_or("")
+}
+
+/// Returns true if a text has nothing but white space and comments that end.
+pub fn is_blank(text: &str) -> bool {
+    let mut rest = text;
+    for _ in 0..text.len() {
+        let (token, after) = first_token(rest);
+        match token.kind {
+            TokenKind::White => {}
+            TokenKind::Comment if token.text.starts_with("--") || token.text.ends_with("*/") => {}
+            _ => return false,
+        }
+        rest = after;
+    }
+    true
 }
 
 impl Language {
@@ -36,17 +66,7 @@ impl Language {
             names: Vec::new(alloc),
             tables: Vec::new(alloc),
         };
-        let begun = String::new(alloc);
-        Ok(Language {
-            keywords,
-            catalog,
-            begun,
-        })
-    }
-
-    /// Returns true if lines of a statement have begun.
-    pub fn has_begun(&self) -> bool {
-        !self.begun.is_empty()
+        Ok(Language { keywords, catalog })
     }
 
     /// Returns the attributes of a token: keywords are bold, texts green, numbers cyan and comments grey.
@@ -73,21 +93,14 @@ impl Application for Language {
         cursor: usize,
     ) -> Result<Vec<CompletionCandidate>, AllocError> {
         let mut candidates = Vec::new(alloc);
-        if !self.has_begun() && line.starts_with('.') {
+        if line.starts_with('.') {
             return Ok(candidates);
         }
-        let statement = format!(in alloc; "{}{line}", self.begun)?;
-        let before = format!(in alloc; "{}{}", self.begun, line.get(..cursor).unwrap_or(""))?;
-        let Some(word) = begun_word(alloc, before.as_str())? else {
+        let before = line.get(..cursor).unwrap_or("");
+        let Some(word) = begun_word(alloc, before)? else {
             return Ok(candidates);
         };
-        for text in completions(
-            alloc,
-            &self.keywords,
-            &self.catalog,
-            statement.as_str(),
-            word,
-        )? {
+        for text in completions(alloc, &self.keywords, &self.catalog, line, word)? {
             candidates.push(CompletionCandidate {
                 range: cursor.saturating_sub(word.len())..cursor,
                 text,
@@ -117,5 +130,13 @@ impl Application for Language {
             start = end;
         }
         Ok(ranges)
+    }
+
+    /// A line may be accepted once each of its statements ends. A command has one row.
+    fn lack(&self, alloc: Global, line: &str) -> Result<Option<String>, AllocError> {
+        if line.starts_with('.') || is_blank(unfinished(line)) {
+            return Ok(None);
+        }
+        Ok(Some(String::from_str(alloc, NO_END)?))
     }
 }

@@ -1,9 +1,9 @@
 //! A session: what each line of input does to a database, and what it prints.
 
 use crate::catalog::{TABLES, read_catalog};
-use crate::language::Language;
+use crate::language::{Language, is_blank};
 use crate::table::{table_text, visible};
-use sql_language::{TokenKind, first_token, statement_len, tokenize};
+use sql_language::{statement_len, tokenize};
 use sqlite::{Alter, Connection, Error};
 use std::alloc::{AllocError, Global};
 use std::io::Write;
@@ -11,7 +11,8 @@ use tw_device::Answer;
 use tw_history_parts::{FileHistory, RecentHistory};
 use tw_lineedit::LineEditorHost;
 use tw_prompt::{AllKeys, Prompt, PromptTerminal, all_keys};
-use tw_prompt_host::{AllLines, Hints, PreparedHost, PromptHost};
+use tw_key_parts::RowKeys;
+use tw_prompt_host::{Hints, PreparedHost, PreparedLines, PromptHost, Rows};
 
 /// How many statements the history keeps.
 const STATEMENTS_KEPT: usize = 1000;
@@ -40,11 +41,11 @@ pub struct Options {
 pub struct Session<'a> {
     rt: HostRuntime,
     options: &'a Options,
-    prompt: Prompt<PromptTerminal, PreparedHost, FileHistory, AllKeys, AllLines>,
-    /// What is known of SQL, with the lines of the statement that has begun.
+    prompt: Prompt<PromptTerminal, PreparedHost, FileHistory, (RowKeys, AllKeys), PreparedLines>,
     language: Language,
-    /// The lines that were entered since it has begun.
-    entered: String,
+    /// What was read of a statement that has no end yet, each line with its line feed. At a terminal a line has whole
+    /// statements, in rows.
+    begun: String,
     /// The number of the last line, from 1.
     line: u64,
     /// That of the line on which the statement begins.
@@ -62,34 +63,6 @@ fn open_history(rt: HostRuntime, options: &Options) -> Result<FileHistory, Alloc
             Ok(FileHistory::in_memory(rt.alloc(), statements))
         }
     }
-}
-
-/// Returns true if lines have nothing but white space and comments that end.
-fn are_blank(lines: &str) -> bool {
-    let mut rest = lines;
-    for _ in 0..lines.len() {
-        let (token, after) = first_token(rest);
-        match token.kind {
-            TokenKind::White | TokenKind::Comment if !after.is_empty() => rest = after,
-            kind => return kind == TokenKind::White,
-        }
-    }
-    true
-}
-
-/// Returns lines as one line: a space stands for the end of a line, and comments that end with their line or go over
-/// several ones are left out. Returns `None` if quotes go over several lines.
-fn one_line(alloc: Global, lines: &str) -> Result<Option<String>, AllocError> {
-    let mut line = String::new(alloc);
-    for token in &tokenize(alloc, lines)? {
-        match token.kind {
-            TokenKind::Comment if token.text.starts_with("--") => {}
-            _ if !token.text.contains('\n') => line.push_str(token.text)?,
-            TokenKind::Comment | TokenKind::White => line.push(' ')?,
-            _ => return Ok(None),
-        }
-    }
-    Ok(Some(line))
 }
 
 /// Returns the beginning of a statement in one line.
@@ -113,16 +86,16 @@ impl<'a> Session<'a> {
         let mut host = PromptHost::new(alloc, "sql> ", 80)?
             .with_host(PreparedHost::new(alloc))
             .with_history(open_history(rt, options)?)
-            .with_keys(all_keys(alloc));
+            .with_keys((RowKeys::new(), all_keys(alloc)))
+            .with_validator(PreparedLines::new(alloc));
         host.hints = Hints::dim();
-        let mut prompt = Prompt::over(rt, host)?;
-        prompt.remembers = false;
+        host.rows = Rows::Several(String::from_str(alloc, "   ...> ")?);
         Ok(Session {
             rt,
             options,
-            prompt,
+            prompt: Prompt::over(rt, host)?,
             language: Language::new(alloc)?,
-            entered: String::new(alloc),
+            begun: String::new(alloc),
             line: 0,
             begun_line: 0,
             has_failed: false,
@@ -143,7 +116,6 @@ impl<'a> Session<'a> {
                 break;
             }
         }
-        self.remember()?;
         let Session {
             prompt,
             options,
@@ -159,26 +131,19 @@ impl<'a> Session<'a> {
         self.has_failed && self.options.bails
     }
 
-    /// Reads a line, and does what it says. Before a statement the names are learned that the database has now.
+    /// Reads a line, and does what it says. Before it the names are learned that the database has now.
     fn read_line<S: Alter>(&mut self, connection: &mut Connection<S>) -> Result<(), anyhow::Error> {
-        let alloc = self.rt.alloc();
-        let mut prompt = "   ...> ";
-        if !self.language.has_begun() {
-            prompt = "sql> ";
-            self.remember()?;
-            if self.options.is_typed {
-                if let Ok(catalog) = read_catalog(alloc, connection) {
-                    self.language.catalog = catalog;
-                }
+        if self.options.is_typed {
+            if let Ok(catalog) = read_catalog(self.rt.alloc(), connection) {
+                self.language.catalog = catalog;
             }
         }
-        self.prompt.host.screen.prompt = String::from_str(alloc, prompt)?;
-        match self.prompt.read_with(&self.language)? {
-            Answer::Line(line) => self.take_line(connection, line.as_str()),
-            Answer::Cancelled => {
-                self.language.begun.clear();
-                Ok(())
+        match self.prompt.read_with(&mut self.language)? {
+            Answer::Line(line) => {
+                self.take_line(connection, line.as_str())?;
+                self.tell_if_not_kept()
             }
+            Answer::Cancelled => Ok(()),
             Answer::End(_) => self.finish(connection),
         }
     }
@@ -191,23 +156,19 @@ impl<'a> Session<'a> {
         line: &str,
     ) -> Result<(), anyhow::Error> {
         self.line = self.line.saturating_add(1);
-        if self.options.is_typed {
-            self.entered.push_str(line)?;
-            self.entered.push('\n')?;
-        }
-        if !self.language.has_begun() {
+        if self.begun.is_empty() {
             self.begun_line = self.line;
             if line.starts_with('.') {
                 return self.obey(connection, line.trim());
             }
         }
-        self.language.begun.push_str(line)?;
-        self.language.begun.push('\n')?;
+        self.begun.push_str(line)?;
+        self.begun.push('\n')?;
         if line.contains(';') {
             self.run_whole(connection)?;
         }
-        if are_blank(self.language.begun.as_str()) {
-            self.language.begun.clear();
+        if is_blank(self.begun.as_str()) {
+            self.begun.clear();
         }
         Ok(())
     }
@@ -231,7 +192,7 @@ impl<'a> Session<'a> {
     /// Runs the statements that are whole.
     fn run_whole<S: Alter>(&mut self, connection: &mut Connection<S>) -> Result<(), anyhow::Error> {
         let none = String::new(self.rt.alloc());
-        let begun = std::mem::replace(&mut self.language.begun, none);
+        let begun = std::mem::replace(&mut self.begun, none);
         let mut done: usize = 0;
         for _ in 0..begun.len() {
             let rest = begun.as_str().get(done..).unwrap_or("");
@@ -248,7 +209,7 @@ impl<'a> Session<'a> {
             };
         }
         let rest = begun.as_str().get(done..).unwrap_or("");
-        self.language.begun.push_str(rest)?;
+        self.begun.push_str(rest)?;
         Ok(())
     }
 
@@ -291,16 +252,13 @@ impl<'a> Session<'a> {
         table_text(alloc, prepared.column_names(), &rows, most)
     }
 
-    /// Ends the input. A last statement of a script runs without its semicolon, and at a terminal it fails.
+    /// Ends the input. A last statement of a script runs without its semicolon.
     fn finish<S: Alter>(&mut self, connection: &mut Connection<S>) -> Result<(), anyhow::Error> {
         self.has_ended = true;
         let none = String::new(self.rt.alloc());
-        let begun = std::mem::replace(&mut self.language.begun, none);
+        let begun = std::mem::replace(&mut self.begun, none);
         if begun.is_empty() {
             return Ok(());
-        }
-        if self.options.is_typed {
-            return self.refuse("the last statement has no end", begun.as_str());
         }
         self.run_statement(connection, begun.as_str())
     }
@@ -325,23 +283,8 @@ impl<'a> Session<'a> {
         Ok(())
     }
 
-    /// Puts the lines that were entered into the history: as one line, or each by itself if quotes go over several ones.
-    fn remember(&mut self) -> Result<(), anyhow::Error> {
-        let alloc = self.rt.alloc();
-        let entered = std::mem::replace(&mut self.entered, String::new(alloc));
-        let entered = entered.as_str().trim();
-        let mut line = None;
-        if entered.contains('\n') {
-            line = one_line(alloc, entered)?;
-        }
-        match line {
-            Some(line) => self.prompt.host.remember(line.as_str().trim_end())?,
-            None => {
-                for line in entered.lines() {
-                    self.prompt.host.remember(line)?;
-                }
-            }
-        }
+    /// Tells if the history could not be written.
+    fn tell_if_not_kept(&mut self) -> Result<(), anyhow::Error> {
         if self.prompt.host.history().take_failure() {
             self.tell(NOT_KEPT)?;
         }
