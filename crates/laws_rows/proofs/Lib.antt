@@ -8,6 +8,7 @@ pub mod RowStationLemmas
 pub mod PlainRowLemmas
 pub mod ShownRows
 pub mod CellLemmas
+pub mod AnsweredRowLemmas
 pub mod LastRowLemmas
 pub mod RowRunLemmas
 pub mod LineRunLemmas

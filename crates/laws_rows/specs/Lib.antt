@@ -4,6 +4,7 @@ pub mod RowScenes
 pub mod RowStations
 pub mod PlainRows
 pub mod RowCells
+pub mod AnsweredRows
 pub mod RowRuns
 pub mod SentRows
 pub mod LineRuns

@@ -1,3 +1,4 @@
+use Rattle.laws_rows.proofs.AnsweredRowLemmas.{rows_answer_line}
 use Rattle.laws_rows.proofs.CellLemmas.{answers_show_lines, cells_by_division, shown_lines_are_row_stations}
 use Rattle.laws_rows.proofs.LastRowLemmas.{last_row_by_division}
 use Rattle.laws_rows.proofs.PlainRowLemmas.{plain_rows_are_rows}
@@ -17,3 +18,6 @@ returns-clause-cells g c = cells_by_division
 
 pub returns-clause-last : goal.returns-clause-last
 returns-clause-last g c = last_row_by_division
+
+pub returns-clause-rows : goal.returns-clause-rows
+returns-clause-rows g c = rows_answer_line
