@@ -49,11 +49,12 @@ module _ {W : Type 0} (contents : W → Option (List ℕ)) where
     pub batches : (patient_state new).batches ≡ (patient_state old).batches ++ batch ∷ []
     pub failures : new.failures ≡ old.failures
 
-  -- A batch is refused, which is counted. What is written is not told, it is not known what is shown, what was kept back is lost, and the next batch is
-  -- sent.
+  -- A batch is refused, which is counted. What is written is not told, it is not known what is shown and in which column the cursor stands, what
+  -- was kept back is lost, and the next batch is sent.
   pub record FailsPatiently (old new : PatientTerminal W) : Type 0 where
     pub encoder : new.encoder ≡ old.encoder
     pub ahead : new.ahead ≡ settled_at old.ahead.size None
+    pub start : new.at_start ≡ false
     pub more : new.is_more ≡ false
     pub batches : (patient_state new).batches ≡ (patient_state old).batches
     pub failures : new.failures ≡ count_up old.failures

@@ -1,5 +1,5 @@
 -- What is done to a terminal that is sent what differs, deed by deed.
-use Rattle.std.specs.Prelude.{◌≡◌, ◌≤◌, ◌++◌, ℕ, List, [], ◌∷◌, Option, None}
+use Rattle.std.specs.Prelude.{◌≡◌, ◌≤◌, ◌++◌, ℕ, List, [], ◌∷◌, Option, None, false}
 use Rattle.std.specs.Io.KnownBytes.{Appends}
 use Rattle.tw_terminal.specs.TerminalState.{count_up}
 use Rattle.tw_terminal.specs.Uses.{Took, Refused, Other}
@@ -47,10 +47,11 @@ module _ {W : Type 0} (contents : W → Option (List ℕ)) where
     pub batches : (sparing_state new).batches ≡ (sparing_state old).batches ++ batches_by (deed ∷ [])
     pub failures : old.failures ≤ new.failures
 
-  -- A batch is refused, which is counted. What is written is not told, and it is not known what is shown.
+  -- A batch is refused, which is counted. What is written is not told, and it is not known what is shown and in which column the cursor stands.
   pub record FailsSparingly (old new : SparingTerminal W) : Type 0 where
     pub known : new.encoder ≡ old.encoder
     pub shown : new.shown ≡ None
+    pub start : new.at_start ≡ false
     pub size : new.size ≡ old.size
     pub failures : new.failures ≡ count_up old.failures
 

@@ -108,6 +108,7 @@ impl<W: Write> PatientTerminal<W> {
         ensures known { OnErr result (self.new.encoder ≡ self.old.encoder) }
         ensures ahead { self.new.ahead ≡ settled_at self.old.ahead.size None }
         ensures more { self.new.is_more ≡ self.old.is_more }
+        ensures start { OnErr result (self.new.at_start ≡ false) }
         ensures said { OnOk result (DoesPatiently W.contents self.old self.new (Said text.now)) }
     {
         let caught = self.catch_up();
@@ -129,6 +130,7 @@ impl<W: Write> PatientTerminal<W> {
         ensures more { self.new.is_more ≡ self.old.is_more }
         ensures sent { OnOk result (Appends (W.contents self.old.writer) (W.contents self.new.writer) (sent_ahead self.old.ahead self.old.encoder).bytes) }
         ensures next { IfOk result (λ next. next ≡ (sent_ahead self.old.ahead self.old.encoder).next) }
+        ensures start { OnErr result (self.new.at_start ≡ false) }
         ensures settled { self.old.ahead.kept ≡ [] → result ≡ Ok self.old.encoder }
         ensures writer { self.old.ahead.kept ≡ [] → self.new.writer ≡ self.old.writer }
     {
@@ -154,6 +156,7 @@ impl<W: Write> PatientTerminal<W> {
         ensures encoder { self.new.encoder ≡ self.old.encoder }
         ensures ahead { self.new.ahead ≡ self.old.ahead }
         ensures more { self.new.is_more ≡ self.old.is_more }
+        ensures start { self.new.at_start ≡ self.old.at_start }
         ensures sent { OnOk result (Appends (W.contents self.old.writer) (W.contents self.new.writer) text.now) }
     {
         match self.writer.write_all(text.as_bytes()) {
@@ -179,7 +182,7 @@ impl<W: Write> PatientTerminal<W> {
         ensures shown { OnOk result (self.new.ahead.shown ≡ next) }
         ensures more { OnOk result (self.new.is_more ≡ self.old.is_more) }
         ensures known { OnErr result (self.new.encoder ≡ self.old.encoder) }
-        ensures lost { OnErr result (self.new.ahead ≡ settled_at self.old.ahead.size None) }
+        ensures lost { OnErr result ((self.new.ahead ≡ settled_at self.old.ahead.size None) × (self.new.at_start ≡ false)) }
         ensures last { OnErr result (self.new.is_more ≡ false) }
     {
         let mut text = String::new(self.alloc);
@@ -215,7 +218,7 @@ impl<W: Write> PatientTerminal<W> {
         ensures sent { OnOk result (IsTakenPatiently W.contents (batch_view changes.now) self.old self.new) }
         ensures more { OnOk result (self.new.is_more ≡ self.old.is_more) }
         ensures known { OnErr result (self.new.encoder ≡ self.old.encoder) }
-        ensures lost { OnErr result (self.new.ahead ≡ settled_at self.old.ahead.size None) }
+        ensures lost { OnErr result ((self.new.ahead ≡ settled_at self.old.ahead.size None) × (self.new.at_start ≡ false)) }
         ensures last { OnErr result (self.new.is_more ≡ false) }
     {
         let at_start = self.at_start && self.encoder == Encoder::new(self.ahead.size().cols);

@@ -85,6 +85,7 @@ impl<W: Write> SparingTerminal<W> {
         ensures next { OnOk result (self.new.encoder ≡ without_attributes self.old.encoder) }
         ensures known { OnErr result (self.new.encoder ≡ self.old.encoder) }
         ensures shown { self.new.shown ≡ None }
+        ensures start { OnErr result (self.new.at_start ≡ false) }
         ensures said { OnOk result (DoesSparingly W.contents self.old self.new (Said text.now)) }
     {
         self.shown = None;
@@ -102,6 +103,7 @@ impl<W: Write> SparingTerminal<W> {
         ensures kept { sparing_state self.new ≡ sparing_state self.old }
         ensures known { self.new.encoder ≡ self.old.encoder }
         ensures shown { self.new.shown ≡ self.old.shown }
+        ensures start { self.new.at_start ≡ self.old.at_start }
         ensures sent { OnOk result (Appends (W.contents self.old.writer) (W.contents self.new.writer) text.now) }
     {
         match self.writer.write_all(text.as_bytes()) {
@@ -120,7 +122,7 @@ impl<W: Write> SparingTerminal<W> {
         ensures ok { OnOk result (Renders (batch_view changes.now) (sparing_state self.old) (sparing_state self.new)) }
         ensures err { OnErr result (sparing_state self.new ≡ sparing_state self.old) }
         ensures known { OnErr result (self.new.encoder ≡ self.old.encoder) }
-        ensures lost { OnErr result (self.new.shown ≡ None) }
+        ensures lost { OnErr result ((self.new.shown ≡ None) × (self.new.at_start ≡ false)) }
     {
         let at_start = self.at_start && self.encoder == Encoder::new(self.size.cols);
         let next = shown_after(self.alloc, self.size, &self.shown, at_start, changes);
