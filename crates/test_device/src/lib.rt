@@ -4,10 +4,13 @@
 #[cfg(test)]
 mod ansi;
 #[cfg(test)]
+mod application;
+#[cfg(test)]
 mod commands;
 #[cfg(test)]
 mod device;
 #[cfg(test)]
+mod faults;
 #[cfg(test)]
 mod keys;
 #[cfg(test)]

@@ -3,7 +3,7 @@
 use std::alloc::Global;
 use std::test::Fail;
 use test_cases::{bytes_of, event_text, expect_rows, mark};
-use tw_device::{EventSource, KeyReader};
+use tw_device::{EventSource, KeyReader, Pasted};
 use tw_prompt::{PromptEvents, TypedEvents};
 use tw_terminal::TerminalFault;
 
@@ -52,6 +52,26 @@ fn characters_at_hand_are_one_text(rt: HostRuntime) -> Result<(), Fail> {
         let bytes = bytes_of(alloc, row)?;
         let keys = KeyReader::new(alloc, bytes.as_slice());
         told_by(alloc, PromptEvents::over(alloc, keys, false))
+    })
+}
+
+/// Pasted texts, and what they are told as in one row and in rows.
+const PASTED: &str = "\
+\\x1b[200~a\\x0d\\x0ab\\x1b[201~ => Paste(\"a  b\"), Paste(\"a\\\\nb\")
+\\x1b[200~\\x0a\\x0d\\x0d\\x0a\\x1b[201~ => Paste(\"    \"), Paste(\"\\\\n\\\\n\\\\n\")
+\\x1b[200~a\\x09b\\x00\\x7f\\x1b[201~ => Paste(\"a b  \"), Paste(\"a b  \")
+\\x1b[200~\\xe5\\x0d\\xe5\\x8c\\x97\\x1b[201~ => Paste(\"\u{fffd} 北\"), Paste(\"\u{fffd}\\\\n北\")
+";
+
+#[test]
+fn pasted_texts_have_one_row_or_keep_their_rows(rt: HostRuntime) -> Result<(), Fail> {
+    expect_rows(rt.alloc(), PASTED, |alloc, row| {
+        let bytes = bytes_of(alloc, row)?;
+        let one = KeyReader::new(alloc, bytes.as_slice());
+        let rows = KeyReader::new(alloc, bytes.as_slice()).with_pasted(Pasted::Rows);
+        let one = told_by(alloc, one)?;
+        let rows = told_by(alloc, rows)?;
+        Ok(format!(in alloc; "{one}, {rows}")?)
     })
 }
 

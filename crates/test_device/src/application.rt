@@ -1,0 +1,92 @@
+//! The functions of an application, asked while a line is read.
+
+use crate::wire::Wire;
+use ecma_terminal::EcmaTerminal;
+use std::alloc::{AllocError, Global};
+use std::test::Fail;
+use styled_screen::ScreenCell;
+use test_cases::{bytes_of, expect_rows};
+use tw_device::{AnsiTerminal, Answer, KeyReader, Pasted};
+use tw_prompt::{Application, read_with};
+use tw_prompt_host::{PreparedHost, PreparedLines, PromptHost, Rows};
+use tw_surface::ColorAttribute;
+use tw_terminal::ScreenSize;
+
+/// The size of the screen.
+const SIZE: ScreenSize = ScreenSize { rows: 8, cols: 12 };
+
+/// An application whose lines end with a semicolon. After its second event it has news.
+#[derive(Drop)]
+struct Clerk {
+    events: u64,
+}
+
+impl Application for Clerk {
+    fn lack(&self, alloc: Global, line: &str) -> Result<Option<String>, AllocError> {
+        if line.ends_with(';') {
+            return Ok(None);
+        }
+        Ok(Some(String::from_str(alloc, "no end")?))
+    }
+
+    fn news(&mut self, alloc: Global) -> Result<String, AllocError> {
+        self.events = self.events.saturating_add(1);
+        String::from_str(alloc, if self.events == 2 { "one\ntwo\n" } else { "" })
+    }
+}
+
+/// Returns the rows of a screen that receives these bytes, separated by `/`, without the blanks at their ends.
+pub fn rows_shown(alloc: Global, bytes: &[u8]) -> Result<String, Fail> {
+    let blank = ScreenCell::blank(ColorAttribute::Default);
+    let mut terminal = EcmaTerminal::new(alloc, SIZE.rows, SIZE.cols, blank).or(Err("no size"))?;
+    terminal.receive_all(bytes).or(Err("refused bytes"))?;
+    let mut shown = String::new(alloc);
+    for row in 0..SIZE.rows {
+        let mut text = String::new(alloc);
+        for col in 0..SIZE.cols {
+            let cell = terminal.cell(row, col).ok_or("no cell")?;
+            text.push(cell.character)?;
+        }
+        shown.push_str(text.as_str().trim_end())?;
+        shown.push('/')?;
+    }
+    let end = shown.as_str().trim_end_matches('/').len();
+    shown.truncate(end);
+    Ok(shown)
+}
+
+/// Reads a line with the application in a prompt that shows rows. Returns the line, and what the screen shows then.
+fn read_shown(alloc: Global, typed: &str) -> Result<String, Fail> {
+    let bytes = bytes_of(alloc, typed)?;
+    let mut taken = Vec::new(alloc);
+    let mut host = PromptHost::new(alloc, "> ", SIZE.cols)?
+        .with_host(PreparedHost::new(alloc))
+        .with_validator(PreparedLines::new(alloc));
+    host.rows = Rows::Several(String::from_str(alloc, "- ")?);
+    let mut keys = KeyReader::new(alloc, bytes.as_slice()).with_pasted(Pasted::Rows);
+    let mut clerk = Clerk { events: 0 };
+    let answer = {
+        let mut terminal = AnsiTerminal::new(alloc, Wire::new(&mut taken, 0), SIZE);
+        read_with(alloc, &mut clerk, &mut keys, &mut terminal, &mut host, "> ")?
+    };
+    let Answer::Line(line) = answer else {
+        return Err(Fail::from("no line"));
+    };
+    let shown = rows_shown(alloc, taken.as_slice())?;
+    Ok(format!(in alloc; "{line:?} {shown}")?)
+}
+
+/// News stand above the line; Enter begins a row in a line that has no end; a pasted text keeps its rows.
+const READ: &str = r#"
+;\x0d => ";" > ;
+ab;\x0d => "ab;" one/two/> ab;
+a\x0d;\x0d => "a\\n;" one/two/> a/- ;
+abcdefghij\x0d;\x0d => "abcdefghij\\n;" one/two/> abcdefghij//- ;
+\x1b[200~a\x0d\x0ab\x0ac\x09;\x1b[201~\x0d => "a\\nb\\nc ;" > a/- b/- c ;
+\x1b[200~a\x0d;\x1b[201~b;\x0d => "a\\n;b;" one/two/> a/- ;b;
+"#;
+
+#[test]
+fn an_application_is_asked_between_events(rt: HostRuntime) -> Result<(), Fail> {
+    expect_rows(rt.alloc(), READ, read_shown)
+}
