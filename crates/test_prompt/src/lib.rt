@@ -31,6 +31,8 @@ mod recent;
 #[cfg(test)]
 mod refusals;
 #[cfg(test)]
+mod row_cells;
+#[cfg(test)]
 mod row_keys;
 #[cfg(test)]
 mod rows;
