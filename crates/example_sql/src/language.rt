@@ -1,7 +1,8 @@
 //! What a prompt knows of SQL while a line is typed.
 
 use sql_language::{
-    Catalog, Token, TokenKind, begun_word, completions, first_token, has_word, statement_len, tokenize,
+    Catalog, Token, TokenKind, begun_word, completions, first_token, has_word, statement_len,
+    tokenize,
 };
 use std::alloc::{AllocError, Global};
 use tw_lineedit::CompletionCandidate;

@@ -9,9 +9,9 @@ use std::alloc::{AllocError, Global};
 use std::io::Write;
 use tw_device::Answer;
 use tw_history_parts::{FileHistory, RecentHistory};
+use tw_key_parts::RowKeys;
 use tw_lineedit::LineEditorHost;
 use tw_prompt::{AllKeys, Prompt, PromptTerminal, all_keys};
-use tw_key_parts::RowKeys;
 use tw_prompt_host::{Hints, PreparedHost, PreparedLines, PromptHost, Rows};
 
 /// How many statements the history keeps.

@@ -114,7 +114,11 @@ fn play(alloc: Global, row: &str) -> Result<String, Fail> {
     for number in 1..40 {
         let mut taken = Vec::new(alloc);
         let mut flushes = 0;
-        let (write, flush) = if call == "write" { (number, 0) } else { (0, number) };
+        let (write, flush) = if call == "write" {
+            (number, 0)
+        } else {
+            (0, number)
+        };
         let writer = Flaky::new(&mut taken, &mut flushes, write, flush);
         let answered = match kind {
             "ansi" => read_three(alloc, AnsiTerminal::new(alloc, writer, SIZE))?,

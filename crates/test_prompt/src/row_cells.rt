@@ -119,7 +119,10 @@ fn play(screen: &mut Screen, terminal: &ScriptTerminal, played: usize) -> Result
 fn try_line(alloc: Global, shape: Shape<'_>, line: &str) -> Result<(), Fail> {
     let mut host = PromptHost::new(alloc, shape.prompt, shape.cols)?;
     host.rows = Rows::Several(String::from_str(alloc, shape.continuation)?);
-    let size = ScreenSize { rows: 24, cols: shape.cols };
+    let size = ScreenSize {
+        rows: 24,
+        cols: shape.cols,
+    };
     let mut terminal = ScriptTerminal::new(alloc, size, Vec::new(alloc));
     let mut screen = Screen::new(alloc, shape.cols).or(Err("no screen"))?;
     let mut editor = LineEditor::new(alloc, &mut terminal)?;

@@ -1,7 +1,7 @@
 -- Two parts without a common key.
 use Rattle.std.proofs.Common.{◌≡◌, ◌⊎◌, Option, Some, None, refl, ⊎_elim}
 use Rattle.tw_key_parts.specs.KeyRules.{Edited, KeyRules, Step}
-use Rattle.tw_key_parts.specs.Pairs.{AreApart, OrderIsFree, done_by, first_or, pair_rules, turned_round}
+use Rattle.tw_key_parts.specs.Pairs.{OrderIsFree, done_by, first_or, pair_rules, turned_round}
 
 -- where one of two edits is none, the first one or else the other does the same, whichever goes first
 same_edit : {K L : Type 0} (first : Option (Edited K)) (second : Option (Edited L)) → (first ≡ None) ⊎ (second ≡ None)

@@ -1,17 +1,14 @@
 -- What a screen shows of a text that is printed above a painting.
-use Rattle.std.proofs.Common.{◌≡◌, ℕ, ℤ, pos, ◌+◌, ◌≤◌, ◌<◌, ◌+ℤ◌, neg_ℤ, List, [], ◌∷◌, ◌++◌, Option, Some, None, Result, Ok, Err, false, eqb, refl, sym, ap, subst, ◌∙◌, arith, inl, inr}
+use Rattle.std.proofs.Common.{◌≡◌, ℕ, pos, ◌+◌, ◌≤◌, ◌<◌, ◌+ℤ◌, neg_ℤ, List, [], ◌∷◌, ◌++◌, Option, Some, None, Result, Ok, Err, false, refl, ap, subst, ◌∙◌, arith, inl, inr}
 use Rattle.std.proofs.lemmas.Bool.{cases_eq, eq-eqb, ne_eqb}
 use Rattle.std.proofs.lemmas.Bool.Decides.{nat_tests}
 use Rattle.std.proofs.lemmas.Int.{ints}
 use Rattle.std.proofs.Math.Nat.{min-eq_right}
-use Rattle.tw_surface.specs.ChangeView.{Batch, ChangeView}
+use Rattle.tw_surface.specs.ChangeView.{Batch}
 use Rattle.tw_surface.specs.Characters.{cr, lf}
-use Rattle.tw_surface.specs.Paintings.{Mark, Painting, painting, mark_of, start_move}
-use Rattle.tw_surface.specs.PaintingBatches.{start_of}
+use Rattle.tw_surface.specs.Paintings.{Mark, Painting, painting, mark_of}
 use Rattle.tw_surface.specs.Pictures.{Picture, cells_cleared_from, play_char, play_text, play_all}
 use Rattle.tw_surface.specs.Positions.{at_least_0}
-use Rattle.tw_surface.specs.Fresh.{IsSameAbove}
-use Rattle.tw_surface.specs.Scenes.{IsPlain}
 use Rattle.tw_surface.proofs.TextCursor.{text-row}
 use Rattle.tw_screens.proofs.SceneLists.{first_painting}
 use Rattle.tw_terminal.specs.TerminalState.{TerminalState, Renders, RenderFails}
@@ -128,17 +125,20 @@ module _ {V : Type 0} (rules : HostRules V) (text : List ℕ) where
       let middle = printed_from w s text before in
       let same : p.changes ≡ (painting w scene).changes = painting_is f p _ refl below.painted ∙ ap (λ n. (painting n scene).changes) cols in
       let played : play_all w batch before ≡ play_all w (painting w scene).changes middle =
-          ap (λ b. play_all w b before) below.changes
-          ∙ play_all-append w (text_above f.mark text) p.changes before
-          ∙ ap (play_all w p.changes) (printed w s f.mark text before at)
-          ∙ ap (λ b. play_all w b middle) same in
-      let shown = first_painting w middle.row scene middle two refl start plain refl in
-      (batch, ap (λ t. t.batches) renders, record {
-        fresh = rw played shown.0;
-        below_text = rw played shown.1;
-        above = λ r c less inside.
-            let down : s ≤ middle.row = text-row w text (record { cell = cells_cleared_from before.cell s 0; row = s; col = 0 }) in
-            ap (λ q. q.cell r c) played ∙ shown.1 r c (omega arith) inside
-            ∙ rows_above_text w text (record { cell = cells_cleared_from before.cell s 0; row = s; col = 0 }) r c less
-            ∙ rows_above_clearing before.cell s r c less;
-      })
+      ap (λ b. play_all w b before) below.changes
+      ∙ play_all-append w (text_above f.mark text) p.changes before
+      ∙ ap (play_all w p.changes) (printed w s f.mark text before at)
+      ∙ ap (λ b. play_all w b middle) same in
+      let shown = first_painting w middle.row scene middle two refl start plain refl in (
+        batch,
+        ap (λ t. t.batches) renders,
+        record {
+          fresh = rw played shown.0;
+          below_text = rw played shown.1;
+          above = λ r c less inside.
+              let down : s ≤ middle.row = text-row w text (record { cell = cells_cleared_from before.cell s 0; row = s; col = 0 }) in
+              ap (λ q. q.cell r c) played ∙ shown.1 r c (omega arith) inside
+              ∙ rows_above_text w text (record { cell = cells_cleared_from before.cell s 0; row = s; col = 0 }) r c less
+              ∙ rows_above_clearing before.cell s r c less;
+        },
+      )

@@ -1,8 +1,7 @@
 -- One turn of the editor's loop, against the run.
-use Rattle.std.proofs.Common.{◌≡◌, ℕ, IfErr, OnErr, Result, Ok, Err, Option, List, [], ◌∷◌, cond, Bool, true, false, refl, sym, ◌∙◌, ap, subst, inl, inr, None, arith}
+use Rattle.std.proofs.Common.{◌≡◌, ℕ, Option, List, [], ◌∷◌, cond, Bool, true, false, refl, sym, ◌∙◌, ap, subst, inl, inr, None, arith}
 use Rattle.tw_input.specs.EventView.{EventView}
 use Rattle.tw_terminal.specs.TerminalState.{TerminalState}
-use Rattle.tw_painter.specs.Refusal.{IsMemory}
 use Rattle.tw_session.specs.Outcomes.{is_over, answer_at, IsLine, Outcome}
 use Rattle.tw_lineedit.specs.Frame.{Frame}
 use Rattle.tw_lineedit.specs.Run.{Progress, Moment, Cause, want, fault, run, ends, after_event, state_after, after_taking, moment, progress_of, CanStopFrom, Quiet, run_of, IsAnswered}
