@@ -116,6 +116,7 @@ impl<'a> Session<'a> {
                 break;
             }
         }
+        self.tell_if_not_kept()?;
         let Session {
             prompt,
             options,
@@ -133,16 +134,14 @@ impl<'a> Session<'a> {
 
     /// Reads a line, and does what it says. Before it the names are learned that the database has now.
     fn read_line<S: Alter>(&mut self, connection: &mut Connection<S>) -> Result<(), anyhow::Error> {
+        self.tell_if_not_kept()?;
         if self.options.is_typed {
             if let Ok(catalog) = read_catalog(self.rt.alloc(), connection) {
                 self.language.catalog = catalog;
             }
         }
         match self.prompt.read_with(&mut self.language)? {
-            Answer::Line(line) => {
-                self.take_line(connection, line.as_str())?;
-                self.tell_if_not_kept()
-            }
+            Answer::Line(line) => self.take_line(connection, line.as_str()),
             Answer::Cancelled => Ok(()),
             Answer::End(_) => self.finish(connection),
         }
