@@ -100,6 +100,10 @@ const LINES: &str = r"
 user => 0users 0user_roles
 echo u =>
 x .m =>
+x\n.m => 2.mode
+x\n.read d => 8data
+.read\nd =>
+x\nselect a\nselect GR => 18größe
 
 // file names are of the directory before them
 .read d => 6data

@@ -1,10 +1,10 @@
 -- Completers by the context.
-use Rattle.std.specs.Prelude.{ℕ, List, [], ◌∷◌, Option, Some, None, option_map, take, if◌then◌else◌}
+use Rattle.std.specs.Prelude.{ℕ, List, [], ◌∷◌, Option, Some, None, option_map, if◌then◌else◌}
 use Rattle.tw_host.specs.CandidateView.{CandidateView}
 use Rattle.tw_line.specs.Cut.{Cut}
 use Rattle.tw_completion_parts.specs.Contexts.{ContextView, context_view, is_in}
 use Rattle.tw_completion_parts.specs.FileNames.{ListingView, file_candidates}
-use Rattle.tw_completion_parts.specs.WordLists.{WordListView, listed_candidates, word_list_view}
+use Rattle.tw_completion_parts.specs.WordLists.{WordListView, listed_candidates, row_before, word_list_view}
 use Rattle.tw_completion_parts.specs.declared.completers.Completer.{Completer}
 use Rattle.tw_completion_parts.specs.declared.completers.Completer.TheVariants as completer
 use Rattle.tw_completion_parts.specs.declared.completers.ContextCompleter.{ContextCompleter}
@@ -42,4 +42,4 @@ candidates_by listings Nothing cut = []
 
 -- what completers offer, if one of them is asked there
 abbrev pub completed_by : List ContextCompleterView → List ListingView → Cut → Option (List CandidateView)
-completed_by rows listings cut = option_map (λ completer. candidates_by listings completer cut) (completer_for rows (take cut.cursor cut.line))
+completed_by rows listings cut = option_map (λ completer. candidates_by listings completer cut) (completer_for rows (row_before cut))

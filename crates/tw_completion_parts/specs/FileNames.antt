@@ -1,10 +1,10 @@
 -- File names that complete what is begun, by listings of directories.
-use Rattle.std.specs.Prelude.{ℕ, ◌-◌, Bool, List, [], ◌∷◌, ◌++◌, codes, length, take, filter, map, string_bytes, if◌then◌else◌}
+use Rattle.std.specs.Prelude.{ℕ, ◌-◌, Bool, List, [], ◌∷◌, ◌++◌, codes, length, filter, map, string_bytes, if◌then◌else◌}
 use Rattle.tw_host.specs.CandidateView.{CandidateView}
 use Rattle.tw_hosts.specs.WordCompletion.{word_candidate}
 use Rattle.tw_hosts.specs.Words.{begins_with, is_same, last_word}
 use Rattle.tw_line.specs.Cut.{Cut}
-use Rattle.tw_completion_parts.specs.WordLists.{before_word, begun_word}
+use Rattle.tw_completion_parts.specs.WordLists.{before_word, begun_word, row_before}
 use Rattle.tw_completion_parts.specs.declared.file_names.DirectoryEntry.{DirectoryEntry}
 use Rattle.tw_completion_parts.specs.declared.file_names.Listing.{Listing}
 
@@ -43,6 +43,6 @@ names_from entries cursor text =
 abbrev pub path_candidates : List ListingView → ℕ → List ℕ → List CandidateView
 path_candidates listings cursor path = names_from (entries_in listings (before_word (codes "/") path)) cursor (begun_word (codes "/") path)
 
--- what completes the path before the cursor, which goes back to a space
+-- what completes the path before the cursor, which goes back to a space or to the start of its row
 abbrev pub file_candidates : List ListingView → Cut → List CandidateView
-file_candidates listings cut = path_candidates listings cut.cursor (last_word (take cut.cursor cut.line))
+file_candidates listings cut = path_candidates listings cut.cursor (last_word (row_before cut))

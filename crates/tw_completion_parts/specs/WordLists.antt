@@ -1,5 +1,5 @@
 -- Words that complete what is begun, up to a delimiter.
-use Rattle.std.specs.Prelude.{ℕ, ◌-◌, ◌==◌, Bool, true, false, not, ◌&&◌, List, length, take, drop, filter, map, nat_le, nat_lt, string_bytes}
+use Rattle.std.specs.Prelude.{ℕ, ◌-◌, ◌==◌, Bool, true, false, not, ◌&&◌, List, [], ◌∷◌, length, take, drop, filter, map, nat_le, nat_lt, string_bytes}
 use Rattle.std.specs.List.{list_any, suffix_len}
 use Rattle.std.specs.Str.{str_eq_ignore_ascii_case}
 use Rattle.tw_host.specs.CandidateView.{CandidateView}
@@ -33,6 +33,10 @@ begun_word delimiters text = drop (word_start delimiters text) text
 abbrev pub before_word : List ℕ → List ℕ → List ℕ
 before_word delimiters text = take (word_start delimiters text) text
 
+-- what stands before the cursor in its row, which begins after a line feed
+abbrev pub row_before : Cut → List ℕ
+row_before cut = begun_word (10 ∷ []) (take cut.cursor cut.line)
+
 -- whether a word begins with a text, where the case of ASCII letters does not count, or does
 abbrev pub begins_in : Bool → List ℕ → List ℕ → Bool
 begins_in true text word = nat_le (length text) (length word) && str_eq_ignore_ascii_case text (take (length text) word)
@@ -44,4 +48,4 @@ words_from list cursor text = map (word_candidate (cursor - length text) cursor)
 
 -- what completes the word before the cursor
 abbrev pub listed_candidates : WordListView → Cut → List CandidateView
-listed_candidates list cut = words_from list cut.cursor (begun_word list.delimiters (take cut.cursor cut.line))
+listed_candidates list cut = words_from list cut.cursor (begun_word list.delimiters (row_before cut))

@@ -8,7 +8,7 @@ ghost use Rattle.tw_completion_parts.specs.FileNames.{listing_view};
 
 use crate::contexts::Context;
 use crate::file_names::{Listing, complete_file_name};
-use crate::word_lists::{WordList, complete_listed};
+use crate::word_lists::{WordList, complete_listed, row_before};
 use std::alloc::{AllocError, Global};
 use tw_host::CompletionCandidate;
 
@@ -63,7 +63,8 @@ fn candidates_by(
     }
 }
 
-/// Returns the candidates of the first completer whose context has what stands before the cursor, if there is one.
+/// Returns the candidates of the first completer whose context has what stands before the cursor in its row, if there is
+/// one.
 pub fn completed_by(
     alloc: Global,
     rows: &[ContextCompleter],
@@ -75,7 +76,7 @@ pub fn completed_by(
     ensures { IfOk result (λ found. option_map (λ candidates. map candidate_view candidates.items) found
         ≡ completed_by (map context_completer_view rows.now) (map listing_view listings.now) (cut_at line.now cursor)) }
 {
-    match completer_for(rows, &line[..cursor]) {
+    match completer_for(rows, row_before(line, cursor)) {
         Some(completer) => Ok(Some(candidates_by(alloc, listings, completer, line, cursor)?)),
         None => Ok(None),
     }

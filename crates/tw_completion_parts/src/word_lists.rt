@@ -3,7 +3,7 @@
 ghost use Rattle.std.specs.Prelude.{◌≡◌, IfOk, IsCharBoundary, map};
 ghost use Rattle.tw_host.specs.CandidateView.{candidate_view};
 ghost use Rattle.tw_line.specs.Cut.{cut_at};
-ghost use Rattle.tw_completion_parts.specs.WordLists.{before_word, begins_in, begun_word, is_delimiter, listed_candidates, word_list_view, word_start, words_from};
+ghost use Rattle.tw_completion_parts.specs.WordLists.{before_word, begins_in, begun_word, is_delimiter, listed_candidates, row_before, word_list_view, word_start, words_from};
 
 use std::alloc::{AllocError, Global};
 use tw_host::CompletionCandidate;
@@ -52,6 +52,14 @@ pub fn split_begun<'text>(delimiters: &str, text: &'text str) -> (&'text str, &'
     text.split_at(word_start(delimiters, text))
 }
 
+/// Returns what stands in a line before a cursor in its row, which begins after a line feed. It takes no memory.
+pub(crate) fn row_before(line: &str, cursor: usize) -> &str
+    requires { IsCharBoundary line.now cursor }
+    ensures { result.now ≡ row_before (cut_at line.now cursor) }
+{
+    split_begun("\n", &line[..cursor]).1
+}
+
 /// Whether a word begins with a text, where the case of ASCII letters does not count, or does.
 fn begins_in(ignores_case: bool, text: &str, word: &str) -> bool
     ensures { result ≡ begins_in ignores_case text.now word.now }
@@ -86,8 +94,8 @@ fn words_from(
     Ok(candidates)
 }
 
-/// The candidates for what stands before a cursor, which is a boundary of the line, after the last delimiter: those of
-/// the words that begin with it, in their order.
+/// The candidates for what stands in its row before a cursor, which is a boundary of the line, after the last delimiter:
+/// those of the words that begin with it, in their order.
 pub fn complete_listed(
     alloc: Global,
     list: &WordList,
@@ -97,6 +105,6 @@ pub fn complete_listed(
     requires { IsCharBoundary line.now cursor }
     ensures { IfOk result (λ candidates. map candidate_view candidates.items ≡ listed_candidates (word_list_view list.now) (cut_at line.now cursor)) }
 {
-    let (_, text) = split_begun(list.delimiters.as_str(), &line[..cursor]);
+    let (_, text) = split_begun(list.delimiters.as_str(), row_before(line, cursor));
     words_from(alloc, list, cursor, text)
 }
