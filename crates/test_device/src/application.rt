@@ -5,10 +5,11 @@ use ecma_terminal::EcmaTerminal;
 use std::alloc::{AllocError, Global};
 use std::test::Fail;
 use styled_screen::ScreenCell;
-use test_cases::{bytes_of, expect_rows};
-use tw_device::{AnsiTerminal, Answer, KeyReader, Pasted};
+use test_cases::{bytes_of, expect_rows, hold};
+use tw_device::{AnsiTerminal, Answer, DeviceTerminal, KeyReader, Pasted};
 use tw_prompt::{Application, read_with};
 use tw_prompt_host::{PreparedHost, PreparedLines, PromptHost, Rows};
+use tw_sparing::PatientTerminal;
 use tw_surface::ColorAttribute;
 use tw_terminal::ScreenSize;
 
@@ -55,24 +56,41 @@ pub fn rows_shown(alloc: Global, bytes: &[u8]) -> Result<String, Fail> {
     Ok(shown)
 }
 
-/// Reads a line with the application in a prompt that shows rows. Returns the line, and what the screen shows then.
-fn read_shown(alloc: Global, typed: &str) -> Result<String, Fail> {
-    let bytes = bytes_of(alloc, typed)?;
-    let mut taken = Vec::new(alloc);
+/// Reads a line with the application in a prompt that shows rows.
+fn read_at<T: DeviceTerminal>(
+    alloc: Global,
+    bytes: &[u8],
+    terminal: &mut T,
+) -> Result<String, Fail> {
     let mut host = PromptHost::new(alloc, "> ", SIZE.cols)?
         .with_host(PreparedHost::new(alloc))
         .with_validator(PreparedLines::new(alloc));
     host.rows = Rows::Several(String::from_str(alloc, "- ")?);
-    let mut keys = KeyReader::new(alloc, bytes.as_slice()).with_pasted(Pasted::Rows);
+    let mut keys = KeyReader::new(alloc, bytes).with_pasted(Pasted::Rows);
     let mut clerk = Clerk { events: 0 };
-    let answer = {
+    match read_with(alloc, &mut clerk, &mut keys, terminal, &mut host, "> ")? {
+        Answer::Line(line) => Ok(line),
+        _ => Err(Fail::from("no line")),
+    }
+}
+
+/// Reads a line at a terminal that paints all, and at one that is sent what differs. Returns the line, and what both
+/// screens show then.
+fn read_shown(alloc: Global, typed: &str) -> Result<String, Fail> {
+    let bytes = bytes_of(alloc, typed)?;
+    let mut taken = Vec::new(alloc);
+    let line = {
         let mut terminal = AnsiTerminal::new(alloc, Wire::new(&mut taken, 0), SIZE);
-        read_with(alloc, &mut clerk, &mut keys, &mut terminal, &mut host, "> ")?
-    };
-    let Answer::Line(line) = answer else {
-        return Err(Fail::from("no line"));
+        read_at(alloc, bytes.as_slice(), &mut terminal)?
     };
     let shown = rows_shown(alloc, taken.as_slice())?;
+    taken.clear();
+    {
+        let mut terminal = PatientTerminal::new(alloc, Wire::new(&mut taken, 0), SIZE);
+        let _same = read_at(alloc, bytes.as_slice(), &mut terminal)?;
+    }
+    let patient = rows_shown(alloc, taken.as_slice())?;
+    hold(patient == shown, patient.as_str(), shown.as_str())?;
     Ok(format!(in alloc; "{line:?} {shown}")?)
 }
 
