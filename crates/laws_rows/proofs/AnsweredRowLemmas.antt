@@ -1,5 +1,5 @@
 -- A line that a host shows itself and that is then shown in rows.
-use Rattle.std.proofs.Common.{◌≡◌, ℕ, Bool, true, false, ◌&&◌, eqb, List, [], ◌∷◌, ◌++◌, Option, Some, None, map, length, take, drop, take-append-drop, refl, sym, ap, ◌∙◌, if◌then◌else◌}
+use Rattle.std.proofs.Common.{◌≡◌, ℕ, Bool, true, false, eqb, List, [], ◌∷◌, ◌++◌, Option, Some, None, length, take, drop, take-append-drop, refl, sym, ap, ◌∙◌, if◌then◌else◌}
 use Rattle.std.specs.Prelude.{unwrap_or}
 use Rattle.std.specs.List.{list_all}
 use Rattle.std.proofs.lemmas.Bool.{and_parts, and_from}
@@ -15,7 +15,7 @@ use Rattle.tw_host.specs.Faithful.{text_of_elements}
 use Rattle.tw_hosts.specs.SettledRules.{PromptScreenView}
 use Rattle.tw_prompt_host.specs.Rows.{RowView, next_row, row_with, row_behind, row_break, row_columns, break_elements, elements_of_rows, elements_from}
 use Rattle.tw_prompt_host.proofs.RowLemmas.{printable_is_shown}
-use Rattle.laws_rows.specs.AnsweredRows.{RowsAnswerLine, ShowsInRows}
+use Rattle.laws_rows.specs.AnsweredRows.{RowsAnswerLine}
 use Rattle.laws_rows.specs.PlainRows.{is_row_typing}
 use Rattle.laws_rows.specs.Rows.{is_row_character, before_rows, rows_of_text, row_edge, spread}
 use Rattle.laws_rows.proofs.RowSpreads.{edge-printable, printable-row, some-rows}
@@ -52,9 +52,9 @@ module _ (screen : PromptScreenView) (continuation : List ℕ) (printable : list
 
   -- elements one after the other
   typing-both : (a b : List ElementView) → list_all is_row_typing (changes_of a) ≡ true → list_all is_row_typing (changes_of b) ≡ true → list_all is_row_typing (changes_of (a ++ b)) ≡ true
-  typing-both a b first then =
+  typing-both a b first second =
       ap (list_all is_row_typing) (map-append element_change a b) ∙ list_all-append is_row_typing (changes_of a) (changes_of b)
-      ∙ and_from (list_all is_row_typing (changes_of a)) (list_all is_row_typing (changes_of b)) first then
+      ∙ and_from (list_all is_row_typing (changes_of a)) (list_all is_row_typing (changes_of b)) first second
 
   typing-rows : (set : Option CellAttributes) (row : RowView) (rows : List (List ℕ)) → list_all (list_all is_printable) rows ≡ true
       → list_all is_row_typing (changes_of (elements_of_rows screen continuation set row rows)) ≡ true

@@ -25,10 +25,12 @@ use Rattle.tw_device.specs.declared.terminal.AnsiTerminal.{AnsiTerminal}
 use Rattle.tw_device.proofs.DeedLemmas.{led_is_sent}
 use Rattle.tw_sent_runs.specs.SentReadings.{reading_frame, IsSentReading}
 use Rattle.tw_sent_runs.specs.SentRuns.{sent_paintings, shown_by}
+use Rattle.tw_sent_runs.specs.SizedReadings.{sent_sized, stations_sized}
 use Rattle.tw_sent_runs.proofs.ClosingLemmas.{sent_both}
 use Rattle.tw_sent_runs.proofs.ReadingLemmas.{appended, IsOfRun}
-use Rattle.laws_rows.specs.RowReadings.{RowReadingPaintings, RowReadingClosings}
-use Rattle.laws_rows.proofs.SentRowLemmas.{row_paintings_are_shown, row_closings_are_shown}
+use Rattle.tw_sent_runs.proofs.SizedRunLemmas.{healed_bytes, sized_bytes}
+use Rattle.laws_rows.specs.RowReadings.{RowReadingPaintings, RowReadingClosings, RowReadingHealings, SizedRowPaintings}
+use Rattle.laws_rows.proofs.SentRowLemmas.{row_paintings_are_shown, row_closings_are_shown, row_healings_are_shown}
 
 module _ {V W : Type 0} (rules : HostRules V) (contents : W → Option (List ℕ)) where
   -- the batches of a reading are those of its run
@@ -93,3 +95,16 @@ module _ {V W : Type 0} (rules : HostRules V) (contents : W → Option (List ℕ
           closes.2,
           subst (λ next. IsColor next.attributes.background) (sym run.known) (subst (λ l. IsColor (sent_batches l e).next.attributes.background) (sym all) closes.3),
         )
+
+    pub sized_row_paintings : SizedRowPaintings rules contents pen
+    sized_row_paintings prompt value old new events held h w earlier station later are t before k carries comes =
+        let painted = row_paintings_are_shown rules pen (reading_frame prompt value old events) h w earlier station later are old.encoder t before carries comes in
+        let written = sized_bytes rules contents pen prompt value old new events held h w earlier station later k comes.comes.comes.stations comes.sent comes.shows.cols painted.1.batches in
+        (written.0, written.1, painted.0, painted.1)
+
+    pub row_reading_healings : RowReadingHealings rules contents pen
+    row_reading_healings prompt value old new events held h w earlier since station later are t k carries heals =
+        let e : Encoder = record (sent_sized (stations_sized rules earlier) old.encoder).next { cols = w } in
+        let written = healed_bytes rules contents pen prompt value old new events held h w earlier since station later k
+        (heals.comes.comes.stations ∙ append_assoc earlier since (station ∷ later)) heals.sent in
+        (written.0, written.1, row_healings_are_shown rules pen (reading_frame prompt value old events) h w earlier since station later are e t carries heals)

@@ -1,15 +1,16 @@
 -- A terminal that is sent the bytes of a run with rows shows the picture on which its batches were played.
-use Rattle.std.proofs.Common.{◌≡◌, ◌≤◌, ◌<◌, ◌+◌, ◌-ℤ◌, ℕ, pos, false, Some, None, List, [], ◌∷◌, ◌++◌, map, ap, subst, ◌∙◌, sym, arith}
+use Rattle.std.proofs.Common.{◌≡◌, ◌≤◌, ◌<◌, ◌+◌, ◌-ℤ◌, ℕ, pos, false, Option, Some, None, List, [], ◌∷◌, ◌++◌, map, ap, subst, ◌∙◌, sym, arith}
 use Rattle.std.proofs.lemmas.List.{map-append}
-use Rattle.tw_strokes.specs.Strokes.{PictureOf}
-use Rattle.tw_strokes.specs.Sheets.{sheet_last_row}
+use Rattle.tw_strokes.specs.Strokes.{PictureOf, filled}
+use Rattle.tw_strokes.specs.Sheets.{IsFreshSheet, sheet_last_row}
 use Rattle.tw_strokes.specs.Paintings.{IsClosedSheet, top_row}
 use Rattle.tw_surface.specs.declared.change.Position.TheVariants.{Relative}
 use Rattle.tw_surface.specs.ChangeView.{Batch}
 use Rattle.tw_surface.specs.Paintings.{Mark, painting, mark_of, closing}
-use Rattle.tw_surface.specs.PaintingBatches.{SizedScene, shot_of, batches, closing_if, closing_batch}
+use Rattle.tw_surface.specs.PaintingBatches.{SizedScene, shot_of, batches, batches_after, mark_after, closing_if, closing_batch}
 use Rattle.tw_screens.specs.Pens.{Pen}
 use Rattle.tw_screens.specs.Screens.{blank_of, play_sized}
+use Rattle.tw_screens.specs.SizedBatches.{sized_at, sized_after, spelled_sized}
 use Rattle.tw_screens.proofs.SizedBatchLemmas.{sized_batches_are}
 use Rattle.tw_screens.proofs.StationMarks.{closing_is}
 use Rattle.tw_host.specs.HostRules.{HostRules}
@@ -27,11 +28,12 @@ use Rattle.tw_ansi.proofs.EcmaPaintings.{batches_are_shown}
 use Rattle.tw_sent_runs.specs.SentRuns.{IsSentAt, sent_paintings, shown_by}
 use Rattle.tw_sent_runs.proofs.SentLemmas.{sized_is, stations_sendable}
 use Rattle.tw_sent_runs.proofs.ClosingLemmas.{known_color, closing_shown, closing_color, last_of_all}
+use Rattle.tw_sent_runs.proofs.HealingLemmas.{healed_by}
 use Rattle.laws_rows.specs.RowStations.{IsRowStation}
 use Rattle.laws_rows.specs.RowStations.IsRowStation.{Simple, WithRows}
 use Rattle.laws_rows.specs.RowRuns.{paintings_with_rows, painted_with_rows}
-use Rattle.laws_rows.specs.SentRows.{RowPaintingsAreShown, RowClosingsAreShown}
-use Rattle.laws_rows.proofs.RowRunLemmas.{row_paintings, row_closings}
+use Rattle.laws_rows.specs.SentRows.{RowPaintingsAreShown, RowClosingsAreShown, RowHealingsAreShown}
+use Rattle.laws_rows.proofs.RowRunLemmas.{row_paintings, row_closings, row_healings}
 
 module _ {V A C : Type 0} (rules : HostRules V) (pen : Pen A C) where
   -- such a station has two columns or more
@@ -81,4 +83,19 @@ module _ {V A C : Type 0} (rules : HostRules V) (pen : Pen A C) where
         rw is (closing_shown pen h w (batches_of rules stations) m e t shown carries (omega (arith, two)) k.narrow under color painted.0),
         subst (λ n. IsClosedSheet (Some h) w (blank_of pen) (top + sheet_last_row n (painted_with_rows rules pen station are.it).sheet) shown (closed_by rules pen (Some h) false n w kept f shown)) here.cols closes.1,
         rw is (closing_color (batches_of rules stations) m e color),
+      )
+
+  pub row_healings_are_shown : RowHealingsAreShown rules pen
+  row_healings_are_shown f h w earlier since station later are e t carries k =
+      let xs : List SizedScene = map (sized_scene rules) (since ++ station ∷ []) in
+      let mark : Option Mark = mark_after None (map shot_of (map (sized_scene rules) earlier)) in
+      let here : IsSentAt h w (sized_scene rules station) = last_of_all (IsSentAt h w) (sized_scene rules) since station k.sent in
+      let two : 2 ≤ w = subst (λ n. 2 ≤ n) here.cols (two-columns (sized_scene rules station) are.it) in
+      let empty : PictureOf C = filled (blank_of pen) in
+      let sheet = (painted_with_rows rules pen station are.it).sheet in
+      let fresh = (row_healings rules pen f (Some h) earlier since station later are k.comes).fresh false w (pen.attributes e.attributes) empty in (
+        play_sized (Some h) false pen w (pen.attributes e.attributes) (sized_at w (batches_after mark (map shot_of xs))) empty,
+        healed_by pen h w mark xs e t carries two k.narrow k.comes.in_sight k.sent k.comes.cleared k.back k.color k.reading k.rendition k.cols,
+        subst (λ l. IsFreshSheet w 0 (blank_of pen) sheet (play_sized (Some h) false pen w (pen.attributes e.attributes) l empty)) (sized_is h w mark xs k.sent)
+            (subst (λ n. IsFreshSheet n 0 (blank_of pen) sheet (play_sized (Some h) false pen w (pen.attributes e.attributes) (spelled_sized (sized_after mark xs)) empty)) here.cols fresh),
       )

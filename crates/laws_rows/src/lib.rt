@@ -9,11 +9,11 @@ ghost use Rattle.laws_rows.specs.PlainRows.{PlainRowsAreRows};
 ghost use Rattle.laws_rows.specs.AnsweredRows.{RowsAnswerLine};
 ghost use Rattle.laws_rows.specs.RowCells.{AnswersShowLines, CellsByDivision, LastRowByDivision, ShownLinesAreRowStations};
 ghost use Rattle.laws_rows.specs.RowColumns.{CursorStandsInItsRow, RowColumnIsSettled, RowColumnLeadsThere};
-ghost use Rattle.laws_rows.specs.RowReadings.{RowReadingClosings, RowReadingPaintings};
+ghost use Rattle.laws_rows.specs.RowReadings.{RowReadingClosings, RowReadingHealings, RowReadingPaintings, SizedRowPaintings};
 ghost use Rattle.laws_rows.specs.RowRuns.{HealedRowClosings, RowCallsStack, RowClosings, RowHealings, RowPaintings};
 ghost use Rattle.laws_rows.specs.RowScenes.{RowsAreAPreview};
 ghost use Rattle.laws_rows.specs.RowStations.{ClosesRowStations, HealsRowStations, RowStationsPlayAsSimple, ShowsRowStations};
-ghost use Rattle.laws_rows.specs.SentRows.{RowClosingsAreShown, RowPaintingsAreShown};
+ghost use Rattle.laws_rows.specs.SentRows.{RowClosingsAreShown, RowHealingsAreShown, RowPaintingsAreShown};
 ghost use Rattle.tw_screens.specs.Pens.{Pen};
 
 use std::io::Write;
@@ -70,15 +70,20 @@ pub fn line_runs<H: LineEditorHost>()
 {}
 
 /// A terminal that is sent the bytes of a run whose stations are simple or have rows shows the picture on which its
-/// batches were played: after each painting the fresh one, and after the closing batch the row below its last row.
+/// batches were played: after each painting the fresh one, and after the closing batch the row below its last row. One
+/// that may show anything shows a fresh painting after a clearing.
 pub fn sent_rows<H: LineEditorHost, A, C>()
     ensures paintings { (pen : Pen A C) → RowPaintingsAreShown H.rules pen }
     ensures closings { (pen : Pen A C) → RowClosingsAreShown H.rules pen }
+    ensures healings { (pen : Pen A C) → RowHealingsAreShown H.rules pen }
 {}
 
 /// The bytes that `read_line_from` has written, where it was answered and no event told another number of columns, are
-/// those of its run: so a terminal shows what `sent_rows` says.
+/// those of its run: so a terminal shows what `sent_rows` says. If one tells another number, so it does up to there, and
+/// from the next clearing on.
 pub fn row_readings<H: LineEditorHost, W: Write, A, C>()
     ensures paintings { (pen : Pen A C) → RowReadingPaintings H.rules W.contents pen }
     ensures closings { (pen : Pen A C) → RowReadingClosings H.rules W.contents pen }
+    ensures sized { (pen : Pen A C) → SizedRowPaintings H.rules W.contents pen }
+    ensures healings { (pen : Pen A C) → RowReadingHealings H.rules W.contents pen }
 {}

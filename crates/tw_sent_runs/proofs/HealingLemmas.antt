@@ -1,9 +1,9 @@
 -- A terminal that may show anything shows a fresh painting after a clearing.
-use Rattle.std.proofs.Common.{◌≡◌, ◌≤◌, ◌<◌, neg_ℤ, ℕ, true, false, ◌&&◌, Option, Some, None, List, [], ◌∷◌, ◌++◌, map, ap, subst, ◌∙◌, sym, refl, append-nil, arith}
+use Rattle.std.proofs.Common.{◌≡◌, ◌^◌, ◌≤◌, ◌<◌, neg_ℤ, ℕ, true, false, ◌&&◌, Option, Some, None, List, [], ◌∷◌, ◌++◌, map, ap, subst, ◌∙◌, sym, refl, append-nil, arith}
 use Rattle.std.specs.List.{AllByRecursion}
 use Rattle.std.proofs.lemmas.List.{map-append}
 use Rattle.std.proofs.lemmas.Bool.{ne_eqb, false≢true}
-use Rattle.tw_strokes.specs.Strokes.{PictureOf, steps_on, filled}
+use Rattle.tw_strokes.specs.Strokes.{InSight, PictureOf, steps_on, filled}
 use Rattle.tw_strokes.specs.Sheets.{IsFreshSheet}
 use Rattle.tw_surface.specs.declared.change.Position.TheVariants.{Relative}
 use Rattle.tw_surface.specs.ChangeView.{Batch}
@@ -22,7 +22,7 @@ use Rattle.tw_screen_runs.proofs.DrawnRunLemmas.{drawn_healings}
 use Rattle.tw_ansi.specs.declared.encode.Encoder.{Encoder}
 use Rattle.tw_ansi.specs.Encoding.{Sent, sent_batch, sent_change, at_column}
 use Rattle.tw_ansi.specs.EcmaLaws.{IsColor}
-use Rattle.tw_ansi.specs.EcmaBatches.{IsReached}
+use Rattle.tw_ansi.specs.EcmaBatches.{CarriesAttributes, IsReached}
 use Rattle.tw_ansi.specs.EcmaPaintings.{AreAllSendable, sent_batches}
 use Rattle.tw_ansi.specs.EcmaScreen.{EcmaScreen, receive_all}
 use Rattle.tw_ansi.specs.EcmaScreen as terminal
@@ -112,6 +112,23 @@ module _ {A C : Type 0} (pen : Pen A C) where
       → ShowsPicture pen h w (sent_batches played e).next (receive_all pen h w (sent_batches played e).bytes t) s) (sym cleared)
       (λ given. subst (λ u. ShowsPicture pen h w rest.next u s) same given) shows
 
+  -- so it shows what the batches of stations leave on an empty picture, from a clearing on, whatever it was
+  pub healed_by : (h w : ℕ) (mark : Option Mark) (xs : List SizedScene) (e : Encoder) (t : EcmaScreen C) → CarriesAttributes pen → 2 ≤ w → w < 2 ^ 64 → InSight (Some h) 0
+      → AllByRecursion (IsSentAt h w) xs → begins_cleared xs ≡ true → ((m : Mark) → mark ≡ Some m → IsReached h (Relative (neg_ℤ m.row)))
+      → IsColor e.attributes.background → t.reading ≡ terminal.Text → t.rendition ≡ e.attributes → e.cols ≡ w
+      → let sent = sent_batches (map (λ sized. sized.batch) (sized_after mark xs)) e in
+      ShowsPicture pen h w sent.next (receive_all pen h w sent.bytes t)
+      (play_sized (Some h) false pen w (pen.attributes e.attributes) (sized_at w (batches_after mark (map shot_of xs))) (filled (blank_of pen)))
+  healed_by h w mark xs e t carries two narrow sight sent cleared back color reading rendition cols =
+      let first : Encoder = at_column 0 e in
+      let played : List Batch = batches_after mark (map shot_of xs) in
+      let empty : PictureOf C = filled (blank_of pen) in
+      let picture : PictureOf C = play_sized (Some h) false pen w (pen.attributes e.attributes) (sized_at w played) empty in
+      let sendable : AreAllSendable pen h w first played empty = since_sendable h w mark xs first empty (omega (arith, two)) sent cleared back color (omega (arith, two)) in
+      let shown = batches_are_shown pen h w played first (emptied t) empty carries (omega (arith, two)) narrow sendable (empty_shown h w e t sight (omega (arith, two)) rendition cols) in
+      subst (λ l. ShowsPicture pen h w (sent_batches l e).next (receive_all pen h w (sent_batches l e).bytes t) picture) (sym (sized_are mark xs))
+      (from_anything h w mark xs e t picture cleared color reading rendition shown)
+
   module _ {V : Type 0} (rules : HostRules V) where
     pub healings_are_shown : HealingsAreShown rules pen
     healings_are_shown f h w earlier since station later e t carries k =
@@ -120,18 +137,10 @@ module _ {A C : Type 0} (pen : Pen A C) where
         let mark : Option Mark = mark_after None (map shot_of (map (sized_scene rules) earlier)) in
         let two : 2 ≤ w = first_wide h w (map (sized_scene rules) since) (sized_scene rules station) (rw scenes at k.comes.simple) (rw scenes at k.sent) in
         let here : IsSentAt h w (sized_scene rules station) = last_of_all (IsSentAt h w) (sized_scene rules) since station k.sent in
-        let first : Encoder = at_column 0 e in
-        let played : List Batch = batches_after mark (map shot_of xs) in
         let empty : PictureOf C = filled (blank_of pen) in
-        let picture : PictureOf C = play_sized (Some h) false pen w (pen.attributes e.attributes) (sized_at w played) empty in
-        let sendable : AreAllSendable pen h w first played empty =
-        since_sendable h w mark xs first empty (omega (arith, two)) k.sent k.comes.cleared k.back k.color (omega (arith, two)) in
-        let shown = batches_are_shown pen h w played first (emptied t) empty carries (omega (arith, two)) k.narrow sendable
-        (empty_shown h w e t k.comes.in_sight (omega (arith, two)) k.rendition k.cols) in
         let fresh = (drawn_healings rules pen f (Some h) earlier since station later k.comes).fresh false w (pen.attributes e.attributes) empty in (
-          picture,
-          subst (λ l. ShowsPicture pen h w (sent_batches l e).next (receive_all pen h w (sent_batches l e).bytes t) picture) (sym (sized_are mark xs))
-              (from_anything h w mark xs e t picture k.comes.cleared k.color k.reading k.rendition shown),
+          play_sized (Some h) false pen w (pen.attributes e.attributes) (sized_at w (batches_after mark (map shot_of xs))) empty,
+          healed_by h w mark xs e t carries two k.narrow k.comes.in_sight k.sent k.comes.cleared k.back k.color k.reading k.rendition k.cols,
           subst (λ l. IsFreshSheet w 0 (blank_of pen) (painted_at rules pen station).sheet (play_sized (Some h) false pen w (pen.attributes e.attributes) l empty)) (sized_is h w mark xs k.sent)
               (subst (λ n. IsFreshSheet n 0 (blank_of pen) (painted_at rules pen station).sheet (play_sized (Some h) false pen w (pen.attributes e.attributes) (spelled_sized (sized_after mark xs)) empty)) here.cols fresh),
         )

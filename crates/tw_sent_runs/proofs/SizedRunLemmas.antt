@@ -13,7 +13,7 @@ use Rattle.tw_host.specs.HostRules.{HostRules}
 use Rattle.tw_lineedit.specs.Frame.{Frame}
 use Rattle.tw_lineedit.specs.Reading.{Reads}
 use Rattle.tw_lineedit.specs.Run.{run_of, progress_of}
-use Rattle.tw_lineedit.specs.ScreenRuns.{sized_scene, RendersNothing}
+use Rattle.tw_lineedit.specs.ScreenRuns.{sized_scene, batches_of, RendersNothing}
 use Rattle.tw_lineedit.specs.Stations.{Station, stations_of}
 use Rattle.tw_screen_runs.specs.DrawnRuns.{since_batches}
 use Rattle.tw_ansi.specs.declared.encode.Encoder.{Encoder}
@@ -107,13 +107,19 @@ module _ {V : Type 0} (rules : HostRules V) where
   since_set mark (first ∷ more) station end e w = station_sets rules mark first (more ++ station ∷ []) end e w
 
   module _ {W A C : Type 0} (contents : W → Option (List ℕ)) (pen : Pen A C) where
-    pub sized_paintings_are_shown : SizedPaintingsAreShown rules contents pen
-    sized_paintings_are_shown prompt value old new events held h w earlier station later t before k carries comes =
+    -- what is written begins with the bytes of the stations so far, if they are sent at the width that was known
+    pub sized_bytes : (prompt : List ℕ) (value : V) (old new : AnsiTerminal W) (events : List EventView) (held : List ℕ) (h w : ℕ)
+        (earlier : List (Station V)) (station : Station V) (later : List (Station V)) → IsSizedReading rules contents prompt value old new events held
+        → let stations = earlier ++ station ∷ [] in
+        stations_of rules (reading_frame prompt value old events) ≡ earlier ++ station ∷ later
+        → AllByRecursion (IsSentAt h w) (map (sized_scene rules) stations) → old.encoder.cols ≡ w
+        → map (λ sized. sized.batch) (stations_sized rules stations) ≡ batches_of rules stations
+        → (rest : List ℕ) × (contents new.writer ≡ Some (held ++ ((sent_paintings rules pen stations old.encoder).bytes ++ rest)))
+    sized_bytes prompt value old new events held h w earlier station later k stations-are sent-at cols batches-are =
         let f : Frame V = reading_frame prompt value old events in
         let e : Encoder = old.encoder in
         let stations : List (Station V) = earlier ++ station ∷ [] in
         let written = readings_are_sized rules contents prompt value old new events held k in
-        let painted = paintings_are_shown pen rules f h w earlier station later e t before carries comes in
         let scenes : List (Station V) → List SizedScene = map (sized_scene rules) in
         let a : List SizedBatch = stations_sized rules stations in
         let c : List SizedBatch = sized_after (mark_after None (map shot_of (scenes stations))) (scenes later) in
@@ -122,23 +128,32 @@ module _ {V : Type 0} (rules : HostRules V) where
         let rest : Sent = sent_sized (c ++ closing) sent.next in
         let all : run_sized rules f ≡ a ++ (c ++ closing) =
         ap (λ l. sized_after None l ++ closing)
-        (ap scenes (comes.comes.stations ∙ sym (append_assoc earlier (station ∷ []) later)) ∙ map-append (sized_scene rules) stations later)
+        (ap scenes (stations-are ∙ sym (append_assoc earlier (station ∷ []) later)) ∙ map-append (sized_scene rules) stations later)
         ∙ ap (λ l. l ++ closing) (sized_after-both None (scenes stations) (scenes later))
         ∙ append_assoc a c closing in
         let first : sent_sized a e ≡ sent =
-        ap (λ l. sent_sized l e) (uniform h w None (scenes stations) comes.sent) ∙ sized_known w (map (λ sized. sized.batch) a) e comes.shows.cols
-        ∙ ap (λ l. sent_batches l e) painted.1.batches in
+        ap (λ l. sent_sized l e) (uniform h w None (scenes stations) sent-at) ∙ sized_known w (map (λ sized. sized.batch) a) e cols
+        ∙ ap (λ l. sent_batches l e) batches-are in
         let bytes : (sent_sized (run_sized rules f) e).bytes ≡ sent.bytes ++ rest.bytes =
         ap (λ l. (sent_sized l e).bytes) all ∙ ap (λ (s : Sent). s.bytes) (sized_both a (c ++ closing) e)
-        ∙ ap (λ (s : Sent). (sent_then s (sent_sized (c ++ closing))).bytes) first in (
-          rest.bytes,
-          written.0 ∙ ap (λ l. Some (held ++ l)) bytes,
-          painted.0,
-          painted.1,
-        )
+        ∙ ap (λ (s : Sent). (sent_then s (sent_sized (c ++ closing))).bytes) first in
+        (rest.bytes, written.0 ∙ ap (λ l. Some (held ++ l)) bytes)
 
-    pub reading_healings_are_shown : ReadingHealingsAreShown rules contents pen
-    reading_healings_are_shown prompt value old new events held h w earlier since station later t k carries heals =
+    pub sized_paintings_are_shown : SizedPaintingsAreShown rules contents pen
+    sized_paintings_are_shown prompt value old new events held h w earlier station later t before k carries comes =
+        let painted = paintings_are_shown pen rules (reading_frame prompt value old events) h w earlier station later old.encoder t before carries comes in
+        let written = sized_bytes prompt value old new events held h w earlier station later k comes.comes.stations comes.sent comes.shows.cols painted.1.batches in
+        (written.0, written.1, painted.0, painted.1)
+
+    -- and those of the stations since a clearing come after the ones before it, whatever sizes are told
+    pub healed_bytes : (prompt : List ℕ) (value : V) (old new : AnsiTerminal W) (events : List EventView) (held : List ℕ) (h w : ℕ)
+        (earlier since : List (Station V)) (station : Station V) (later : List (Station V)) → IsSizedReading rules contents prompt value old new events held
+        → stations_of rules (reading_frame prompt value old events) ≡ earlier ++ (since ++ station ∷ later)
+        → AllByRecursion (IsSentAt h w) (map (sized_scene rules) (since ++ station ∷ []))
+        → let before = sent_sized (stations_sized rules earlier) old.encoder in
+        let sent = sent_batches (map (λ sized. sized.batch) (since_batches rules pen earlier (since ++ station ∷ []))) (record before.next { cols = w }) in
+        (rest : List ℕ) × (contents new.writer ≡ Some (held ++ (before.bytes ++ (sent.bytes ++ rest))))
+    healed_bytes prompt value old new events held h w earlier since station later k stations-are sent-at =
         let f : Frame V = reading_frame prompt value old events in
         let written = readings_are_sized rules contents prompt value old new events held k in
         let scenes : List (Station V) → List SizedScene = map (sized_scene rules) in
@@ -153,7 +168,7 @@ module _ {V : Type 0} (rules : HostRules V) where
         let sent : Sent = sent_batches (map (λ sized. sized.batch) b) e in
         let rest : Sent = sent_sized (c ++ closing) sent.next in
         let parts : scenes (stations_of rules f) ≡ scenes earlier ++ (scenes (since ++ station ∷ []) ++ scenes later) =
-        ap scenes (heals.comes.stations ∙ ap (λ l. earlier ++ l) (sym (append_assoc since (station ∷ []) later)))
+        ap scenes (stations-are ∙ ap (λ l. earlier ++ l) (sym (append_assoc since (station ∷ []) later)))
         ∙ map-append (sized_scene rules) earlier ((since ++ station ∷ []) ++ later)
         ∙ ap (λ l. scenes earlier ++ l) (map-append (sized_scene rules) (since ++ station ∷ []) later) in
         let lists : stations_sized rules (stations_of rules f) ≡ a ++ (b ++ c) =
@@ -163,16 +178,19 @@ module _ {V : Type 0} (rules : HostRules V) where
         let all : run_sized rules f ≡ a ++ (b ++ (c ++ closing)) =
         ap (λ l. l ++ closing) lists ∙ append_assoc a (b ++ c) closing ∙ ap (λ l. a ++ l) (append_assoc b c closing) in
         let since_sent : sent_sized b e ≡ sent =
-        ap (λ l. sent_sized l e) (uniform h w mark (scenes (since ++ station ∷ [])) heals.sent) ∙ sized_known w (map (λ sized. sized.batch) b) e refl in
+        ap (λ l. sent_sized l e) (uniform h w mark (scenes (since ++ station ∷ [])) sent-at) ∙ sized_known w (map (λ sized. sized.batch) b) e refl in
         let behind : sent_sized (b ++ (c ++ closing)) before.next ≡ sent_then sent (sent_sized (c ++ closing)) =
         sym (since_set mark since station (c ++ closing) before.next w) ∙ sized_both b (c ++ closing) e ∙ ap (λ (s : Sent). sent_then s (sent_sized (c ++ closing))) since_sent in
         let bytes : (sent_sized (run_sized rules f) old.encoder).bytes ≡ before.bytes ++ (sent.bytes ++ rest.bytes) =
         ap (λ l. (sent_sized l old.encoder).bytes) all ∙ ap (λ (s : Sent). s.bytes) (sized_both a (b ++ (c ++ closing)) old.encoder)
-        ∙ ap (λ (s : Sent). before.bytes ++ s.bytes) behind in (
-          rest.bytes,
-          written.0 ∙ ap (λ l. Some (held ++ l)) bytes,
-          healings_are_shown pen rules f h w earlier since station later e t carries heals,
-        )
+        ∙ ap (λ (s : Sent). before.bytes ++ s.bytes) behind in
+        (rest.bytes, written.0 ∙ ap (λ l. Some (held ++ l)) bytes)
+
+    pub reading_healings_are_shown : ReadingHealingsAreShown rules contents pen
+    reading_healings_are_shown prompt value old new events held h w earlier since station later t k carries heals =
+        let e : Encoder = record (sent_sized (stations_sized rules earlier) old.encoder).next { cols = w } in
+        let written = healed_bytes prompt value old new events held h w earlier since station later k heals.comes.stations heals.sent in
+        (written.0, written.1, healings_are_shown pen rules (reading_frame prompt value old events) h w earlier since station later e t carries heals)
 
     pub healed_closings_are_shown : HealedClosingsAreShown rules contents pen
     healed_closings_are_shown prompt value old new events held h w earlier since station t k carries heals =

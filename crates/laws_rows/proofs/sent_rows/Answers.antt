@@ -1,4 +1,4 @@
-use Rattle.laws_rows.proofs.SentRowLemmas.{row_closings_are_shown, row_paintings_are_shown}
+use Rattle.laws_rows.proofs.SentRowLemmas.{row_closings_are_shown, row_healings_are_shown, row_paintings_are_shown}
 use Rattle.laws_rows.proofs.sent_rows.Goals as goal
 
 pub returns-clause-paintings : goal.returns-clause-paintings
@@ -6,3 +6,6 @@ returns-clause-paintings g c pen = row_paintings_are_shown g.H.LineEditorHost.ru
 
 pub returns-clause-closings : goal.returns-clause-closings
 returns-clause-closings g c pen = row_closings_are_shown g.H.LineEditorHost.rules pen
+
+pub returns-clause-healings : goal.returns-clause-healings
+returns-clause-healings g c pen = row_healings_are_shown g.H.LineEditorHost.rules pen
