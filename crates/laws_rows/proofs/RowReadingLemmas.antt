@@ -1,6 +1,7 @@
 -- What a reading with rows has written leaves a terminal as its run leaves a picture.
-use Rattle.std.proofs.Common.{◌≡◌, ℕ, Some, Option, false, List, [], ◌∷◌, ◌++◌, ap, subst, ◌∙◌, sym, append_assoc}
+use Rattle.std.proofs.Common.{◌≡◌, ℕ, Some, Option, false, List, [], ◌∷◌, ◌++◌, map, ap, subst, ◌∙◌, sym, append_assoc}
 use Rattle.std.proofs.lemmas.List.{append_cancel_left}
+use Rattle.std.proofs.lemmas.List.Elements.{All-nil}
 use Rattle.tw_strokes.specs.Strokes.{PictureOf}
 use Rattle.tw_surface.specs.ChangeView.{Batch}
 use Rattle.tw_surface.specs.PaintingBatches.{closing_if}
@@ -10,8 +11,8 @@ use Rattle.tw_host.specs.HostRules.{HostRules}
 use Rattle.tw_lineedit.specs.Frame.{Frame}
 use Rattle.tw_lineedit.specs.Reading.{Reads}
 use Rattle.tw_lineedit.specs.Run.{run_of}
-use Rattle.tw_lineedit.specs.ScreenRuns.{batches_of}
-use Rattle.tw_screen_runs.specs.DrawnRuns.{closed_by}
+use Rattle.tw_lineedit.specs.ScreenRuns.{batches_of, RendersNothing}
+use Rattle.tw_screen_runs.specs.DrawnRuns.{closed_by, since_batches}
 use Rattle.tw_ansi.specs.declared.encode.Encoder.{Encoder}
 use Rattle.tw_ansi.specs.Encoding.{Sent}
 use Rattle.tw_ansi.specs.EcmaLaws.{IsColor}
@@ -28,9 +29,9 @@ use Rattle.tw_sent_runs.specs.SentRuns.{sent_paintings, shown_by}
 use Rattle.tw_sent_runs.specs.SizedReadings.{sent_sized, stations_sized}
 use Rattle.tw_sent_runs.proofs.ClosingLemmas.{sent_both}
 use Rattle.tw_sent_runs.proofs.ReadingLemmas.{appended, IsOfRun}
-use Rattle.tw_sent_runs.proofs.SizedRunLemmas.{healed_bytes, sized_bytes}
-use Rattle.laws_rows.specs.RowReadings.{RowReadingPaintings, RowReadingClosings, RowReadingHealings, SizedRowPaintings}
-use Rattle.laws_rows.proofs.SentRowLemmas.{row_paintings_are_shown, row_closings_are_shown, row_healings_are_shown}
+use Rattle.tw_sent_runs.proofs.SizedRunLemmas.{healed_bytes, healed_run_bytes, sized_bytes}
+use Rattle.laws_rows.specs.RowReadings.{RowReadingPaintings, RowReadingClosings, RowReadingHealings, HealedRowReadingClosings, SizedRowPaintings}
+use Rattle.laws_rows.proofs.SentRowLemmas.{row_paintings_are_shown, row_closings_are_shown, row_healings_are_shown, row_heals_closed}
 
 module _ {V W : Type 0} (rules : HostRules V) (contents : W → Option (List ℕ)) where
   -- the batches of a reading are those of its run
@@ -108,3 +109,24 @@ module _ {V W : Type 0} (rules : HostRules V) (contents : W → Option (List ℕ
         let written = healed_bytes rules contents pen prompt value old new events held h w earlier since station later k
         (heals.comes.comes.stations ∙ append_assoc earlier since (station ∷ later)) heals.sent in
         (written.0, written.1, row_healings_are_shown rules pen (reading_frame prompt value old events) h w earlier since station later are e t carries heals)
+
+    pub healed_row_reading_closings : HealedRowReadingClosings rules contents pen
+    healed_row_reading_closings prompt value old new events held h w earlier since station are t k carries heals =
+        let f : Frame V = reading_frame prompt value old events in
+        let e : Encoder = record (sent_sized (stations_sized rules earlier) old.encoder).next { cols = w } in
+        let taken : List Batch = map (λ sized. sized.batch) (since_batches rules pen earlier (since ++ station ∷ [])) in
+        let sent : Sent = sent_batches (taken ++ closing_if (run_of rules f).mark) e in
+        let written = healed_run_bytes rules contents pen prompt value old new events held h w earlier since station k
+        (heals.comes.comes.stations ∙ append_assoc earlier since (station ∷ [])) heals.sent in
+        let closed = row_heals_closed rules pen f h w earlier since station [] are e t carries heals (All-nil (RendersNothing rules)) in (
+          sent.bytes,
+          written.0,
+          (
+            closed.0,
+            closed.1,
+            closed.2,
+            subst (λ next. ShowsPicture pen h w next (receive_all pen h w sent.bytes t) closed.1) (sym written.1) closed.3,
+            closed.4,
+            subst (λ next. IsColor next.attributes.background) (sym written.1) closed.5,
+          ),
+        )

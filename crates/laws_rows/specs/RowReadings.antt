@@ -79,3 +79,19 @@ module _ {V W A C : Type 0} (rules : HostRules V) (contents : W → Option (List
       (rest : List ℕ) × (contents new.writer ≡ Some (held ++ (before.bytes ++ (sent.bytes ++ rest))))
       × ((picture : PictureOf C) × ShowsPicture pen h w sent.next (receive_all pen h w sent.bytes t) picture
       × IsFreshSheet w 0 (blank_of pen) (painted_with_rows rules pen station are.it).sheet picture)
+
+  -- Where that station is the last one, all bytes from the clearing on leave the cursor in column 0 of the row below its last row, and blanks from there on. So
+  -- the next reading begins at such a terminal, at the new size, and lines stack.
+  abbrev pub HealedRowReadingClosings : Type 0
+  HealedRowReadingClosings = (prompt : List ℕ) (value : V) (old new : AnsiTerminal W) (events : List EventView) (held : List ℕ)
+      (h w : ℕ) (earlier since : List (Station V)) (station : Station V) (are : AreRowStations rules pen since station) (t : EcmaScreen C)
+      → IsSizedReading rules contents prompt value old new events held → CarriesAttributes pen
+      → let f = reading_frame prompt value old events in
+      let before = sent_sized (stations_sized rules earlier) old.encoder in
+      let sheet = (painted_with_rows rules pen station are.it).sheet in
+      HealsSentWithRows rules pen h w f earlier since station [] are (record before.next { cols = w }) t
+      → (bytes : List ℕ) × (contents new.writer ≡ Some (held ++ (before.bytes ++ bytes)))
+      × ((shown : PictureOf C) × (closed : PictureOf C) × IsFreshSheet w 0 (blank_of pen) sheet shown
+      × ShowsPicture pen h w new.encoder (receive_all pen h w bytes t) closed
+      × IsClosedSheet (Some h) w (blank_of pen) (sheet_last_row w sheet) shown closed
+      × IsColor new.encoder.attributes.background)

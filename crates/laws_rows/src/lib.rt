@@ -9,7 +9,7 @@ ghost use Rattle.laws_rows.specs.PlainRows.{PlainRowsAreRows};
 ghost use Rattle.laws_rows.specs.AnsweredRows.{RowsAnswerLine};
 ghost use Rattle.laws_rows.specs.RowCells.{AnswersShowLines, CellsByDivision, LastRowByDivision, ShownLinesAreRowStations};
 ghost use Rattle.laws_rows.specs.RowColumns.{CursorStandsInItsRow, RowColumnIsSettled, RowColumnLeadsThere};
-ghost use Rattle.laws_rows.specs.RowReadings.{RowReadingClosings, RowReadingHealings, RowReadingPaintings, SizedRowPaintings};
+ghost use Rattle.laws_rows.specs.RowReadings.{HealedRowReadingClosings, RowReadingClosings, RowReadingHealings, RowReadingPaintings, SizedRowPaintings};
 ghost use Rattle.laws_rows.specs.RowRuns.{HealedRowClosings, RowCallsStack, RowClosings, RowHealings, RowPaintings};
 ghost use Rattle.laws_rows.specs.RowScenes.{RowsAreAPreview};
 ghost use Rattle.laws_rows.specs.RowStations.{ClosesRowStations, HealsRowStations, RowStationsPlayAsSimple, ShowsRowStations};
@@ -86,4 +86,5 @@ pub fn row_readings<H: LineEditorHost, W: Write, A, C>()
     ensures closings { (pen : Pen A C) → RowReadingClosings H.rules W.contents pen }
     ensures sized { (pen : Pen A C) → SizedRowPaintings H.rules W.contents pen }
     ensures healings { (pen : Pen A C) → RowReadingHealings H.rules W.contents pen }
+    ensures healed_closings { (pen : Pen A C) → HealedRowReadingClosings H.rules W.contents pen }
 {}

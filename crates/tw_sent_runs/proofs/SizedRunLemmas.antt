@@ -192,8 +192,17 @@ module _ {V : Type 0} (rules : HostRules V) where
         let written = healed_bytes prompt value old new events held h w earlier since station later k heals.comes.stations heals.sent in
         (written.0, written.1, healings_are_shown pen rules (reading_frame prompt value old events) h w earlier since station later e t carries heals)
 
-    pub healed_closings_are_shown : HealedClosingsAreShown rules contents pen
-    healed_closings_are_shown prompt value old new events held h w earlier since station t k carries heals =
+    -- where that station is the last one, they and those of the closing batch are all that comes after
+    pub healed_run_bytes : (prompt : List ℕ) (value : V) (old new : AnsiTerminal W) (events : List EventView) (held : List ℕ) (h w : ℕ)
+        (earlier since : List (Station V)) (station : Station V) → IsSizedReading rules contents prompt value old new events held
+        → let f = reading_frame prompt value old events in
+        stations_of rules f ≡ earlier ++ (since ++ station ∷ [])
+        → AllByRecursion (IsSentAt h w) (map (sized_scene rules) (since ++ station ∷ []))
+        → let before = sent_sized (stations_sized rules earlier) old.encoder in
+        let taken = map (λ sized. sized.batch) (since_batches rules pen earlier (since ++ station ∷ [])) in
+        let sent = sent_batches (taken ++ closing_if (run_of rules f).mark) (record before.next { cols = w }) in
+        (contents new.writer ≡ Some (held ++ (before.bytes ++ sent.bytes))) × (new.encoder ≡ sent.next)
+    healed_run_bytes prompt value old new events held h w earlier since station k stations-are sent-at =
         let f : Frame V = reading_frame prompt value old events in
         let written = readings_are_sized rules contents prompt value old new events held k in
         let reads = reads_of rules contents prompt value old new events held k in
@@ -208,34 +217,42 @@ module _ {V : Type 0} (rules : HostRules V) where
         let taken : List Batch = map (λ sized. sized.batch) b in
         let sent : Sent = sent_batches (taken ++ end) e in
         let parts : scenes (stations_of rules f) ≡ scenes earlier ++ scenes (since ++ station ∷ []) =
-        ap scenes heals.comes.stations ∙ map-append (sized_scene rules) earlier (since ++ station ∷ []) in
+        ap scenes stations-are ∙ map-append (sized_scene rules) earlier (since ++ station ∷ []) in
         let all : run_sized rules f ≡ a ++ (b ++ sized_at u end) =
         ap (λ l. sized_after None l ++ sized_at u end) parts
         ∙ ap (λ l. l ++ sized_at u end) (sized_after-both None (scenes earlier) (scenes (since ++ station ∷ [])))
         ∙ append_assoc a b (sized_at u end) in
         let size = ends_at rules events false (progress_of f) f.terminal.size (sym reads.left) (subst IsAnswer reads.answer_is (answered k.answer)) in
-        let last = ap (last_size rules f.terminal.size) (heals.comes.stations ∙ sym (append_assoc earlier since (station ∷ [])))
+        let last = ap (last_size rules f.terminal.size) (stations-are ∙ sym (append_assoc earlier since (station ∷ [])))
         ∙ last_size-is rules f.terminal.size (earlier ++ since) station in
-        let here : IsSentAt h w (sized_scene rules station) = last_of_all (IsSentAt h w) (sized_scene rules) since station heals.sent in
+        let here : IsSentAt h w (sized_scene rules station) = last_of_all (IsSentAt h w) (sized_scene rules) since station sent-at in
         let cols : u ≡ w = ap (λ size. size.cols) (sym size ∙ last) ∙ here.cols in
         let lists : b ++ sized_at u end ≡ sized_at w (taken ++ end) =
-        ap (λ l. l ++ sized_at u end) (uniform h w mark (scenes (since ++ station ∷ [])) heals.sent)
+        ap (λ l. l ++ sized_at u end) (uniform h w mark (scenes (since ++ station ∷ [])) sent-at)
         ∙ ap (λ n. sized_at w taken ++ sized_at n end) cols ∙ sym (sized_at-both w taken end) in
         let behind : sent_sized (b ++ sized_at u end) before.next ≡ sent =
         sym (since_set mark since station (sized_at u end) before.next w) ∙ ap (λ l. sent_sized l e) lists ∙ sized_known w (taken ++ end) e refl in
         let is : sent_sized (run_sized rules f) old.encoder ≡ record { bytes = before.bytes ++ sent.bytes; next = sent.next } =
         ap (λ l. sent_sized l old.encoder) all ∙ sized_both a (b ++ sized_at u end) old.encoder
         ∙ ap (λ (s : Sent). record { bytes = before.bytes ++ s.bytes; next = s.next }) behind in
-        let closed = heals_closed pen rules f h w earlier since station [] e t carries heals (All-nil (RendersNothing rules)) in
-        let known : new.encoder ≡ sent.next = written.1 ∙ ap (λ (s : Sent). s.next) is in (
+        (written.0 ∙ ap (λ (s : Sent). Some (held ++ s.bytes)) is, written.1 ∙ ap (λ (s : Sent). s.next) is)
+
+    pub healed_closings_are_shown : HealedClosingsAreShown rules contents pen
+    healed_closings_are_shown prompt value old new events held h w earlier since station t k carries heals =
+        let f : Frame V = reading_frame prompt value old events in
+        let e : Encoder = record (sent_sized (stations_sized rules earlier) old.encoder).next { cols = w } in
+        let taken : List Batch = map (λ sized. sized.batch) (since_batches rules pen earlier (since ++ station ∷ [])) in
+        let sent : Sent = sent_batches (taken ++ closing_if (run_of rules f).mark) e in
+        let written = healed_run_bytes prompt value old new events held h w earlier since station k heals.comes.stations heals.sent in
+        let closed = heals_closed pen rules f h w earlier since station [] e t carries heals (All-nil (RendersNothing rules)) in (
           sent.bytes,
-          written.0 ∙ ap (λ (s : Sent). Some (held ++ s.bytes)) is,
+          written.0,
           (
             closed.0,
             closed.1,
             closed.2,
-            subst (λ next. ShowsPicture pen h w next (receive_all pen h w sent.bytes t) closed.1) (sym known) closed.3,
+            subst (λ next. ShowsPicture pen h w next (receive_all pen h w sent.bytes t) closed.1) (sym written.1) closed.3,
             closed.4,
-            subst (λ next. IsColor next.attributes.background) (sym known) closed.5,
+            subst (λ next. IsColor next.attributes.background) (sym written.1) closed.5,
           ),
         )

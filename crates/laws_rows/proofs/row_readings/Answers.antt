@@ -1,4 +1,4 @@
-use Rattle.laws_rows.proofs.RowReadingLemmas.{row_reading_closings, row_reading_healings, row_reading_paintings, sized_row_paintings}
+use Rattle.laws_rows.proofs.RowReadingLemmas.{healed_row_reading_closings, row_reading_closings, row_reading_healings, row_reading_paintings, sized_row_paintings}
 use Rattle.laws_rows.proofs.row_readings.Goals as goal
 
 pub returns-clause-paintings : goal.returns-clause-paintings
@@ -12,3 +12,6 @@ returns-clause-sized g c = λ pen. sized_row_paintings g.H.LineEditorHost.rules 
 
 pub returns-clause-healings : goal.returns-clause-healings
 returns-clause-healings g c = λ pen. row_reading_healings g.H.LineEditorHost.rules g.W.Write.contents pen
+
+pub returns-clause-healed_closings : goal.returns-clause-healed_closings
+returns-clause-healed_closings g c = λ pen. healed_row_reading_closings g.H.LineEditorHost.rules g.W.Write.contents pen
