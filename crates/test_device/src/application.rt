@@ -51,9 +51,7 @@ pub fn rows_shown(alloc: Global, bytes: &[u8]) -> Result<String, Fail> {
         shown.push_str(text.as_str().trim_end())?;
         shown.push('/')?;
     }
-    let end = shown.as_str().trim_end_matches('/').len();
-    shown.truncate(end);
-    Ok(shown)
+    Ok(String::from_str(alloc, shown.as_str().trim_end_matches('/'))?)
 }
 
 /// Reads a line with the application in a prompt that shows rows.

@@ -169,7 +169,8 @@ fn read_again(alloc: Global, row: &str) -> Result<String, Fail> {
         let mut flushes = 0;
         let writer = Flaky::new(&mut taken, &mut flushes, 0, 0);
         let mut terminal = AnsiTerminal::new(alloc, writer, SIZE);
-        match read_typed_line(alloc, &mut keys, &mut terminal, &mut host, "> ") {
+        let answer = read_typed_line(alloc, &mut keys, &mut terminal, &mut host, "> ");
+        match &answer {
             Ok(Answer::Line(line)) => told.push_str(line.as_str())?,
             Ok(_) => told.push_str("-")?,
             Err(_) => told.push_str("refused ")?,
