@@ -77,9 +77,13 @@ fn table(alloc: Global, shape: Shape<'_>, line: &str) -> Result<Vec<String>, Fai
 
 /// Returns a row with blanks up to the end of the last row of the screen that it takes.
 fn padded(alloc: Global, cols: usize, row: &str) -> Result<String, Fail> {
+    let rows = row
+        .len()
+        .checked_div(cols)
+        .ok_or("no columns")?
+        .saturating_add(1);
     let mut padded = String::from_str(alloc, row)?;
-    padded.push(' ')?;
-    while padded.len().checked_rem(cols).ok_or("no columns")? != 0 {
+    for _ in row.len()..rows.saturating_mul(cols) {
         padded.push(' ')?;
     }
     Ok(padded)
@@ -137,7 +141,9 @@ fn try_line(alloc: Global, shape: Shape<'_>, line: &str) -> Result<(), Fail> {
     for at in 1..=line.len() {
         let _status = editor.feed(&mut host, &back)?;
         played = play(&mut screen, editor.terminal(), played)?;
-        let (before, _) = line.split_at(line.len().saturating_sub(at));
+        let before = line
+            .get(..line.len().saturating_sub(at))
+            .ok_or("no character")?;
         compare(alloc, shape, &screen, line, before)?;
     }
     Ok(())
