@@ -134,11 +134,11 @@ fn try_line(alloc: Global, shape: Shape<'_>, line: &str) -> Result<(), Fail> {
     editor.begin_line(&host, Some(line))?;
     let mut played = play(&mut screen, editor.terminal(), 0)?;
     compare(alloc, shape, &screen, line, line)?;
-    let back = InputEvent::Key(KeyEvent {
-        key: KeyCode::LeftArrow,
-        modifiers: Modifiers::NONE,
-    });
     for at in 1..=line.len() {
+        let back = InputEvent::Key(KeyEvent {
+            key: KeyCode::LeftArrow,
+            modifiers: Modifiers::NONE,
+        });
         let _status = editor.feed(&mut host, &back)?;
         played = play(&mut screen, editor.terminal(), played)?;
         let before = line
