@@ -7,13 +7,12 @@ import sqlite3
 import subprocess
 import tempfile
 
-from prompt_session import LIMIT, ROOT, Session, want
+from prompt_session import LIMIT, PASTE_END, PASTE_START, ROOT, Session, want
 
 START = f"{ROOT}/tools/at_terminal"
 PROGRAM = f"{ROOT}/crates/example_sql/out/example_sql"
 # A blank beside a prompt may be a move, where nothing stood before.
 PROMPT, GOES_ON = b"sql> ", b"...>"
-PASTE_START, PASTE_END = b"\x1b[200~", b"\x1b[201~"
 UP, RIGHT, CTRL_A, CTRL_C, CTRL_D, CTRL_F = b"\x1b[A", b"\x1b[C", b"\x01", b"\x03", b"\x04", b"\x06"
 PEOPLE = b"create table people (id integer primary key, name text);\rinsert into people (name) values ('Ann');\r"
 # A file of a history: a line, one that is not UTF-8, one with a wrong escape, and one that is cut off.
