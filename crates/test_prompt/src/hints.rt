@@ -41,6 +41,16 @@ remember 日本語x; cols 9; type 日; ends {}日{half}本…{} => 日; yes
 remember 日本語x; cols 5; type 日; ends {}日 => 日; yes
 remember ab\tcd; type a; ends {}a{half}b…{} => a; yes
 
+// in the last one of several rows, and no row of the hint but its first
+remember a\ncopy b; rows . ; type a\nkey A-Enter\ntype cop; ends cop{half}y b{} => a\ncop; yes
+remember a\ncopy b; rows . ; cols 9; type a\nkey A-Enter\ntype cop; ends cop{half}y b{} => a\ncop; yes
+remember a\ncopy b; rows . ; cols 8; type a\nkey A-Enter\ntype cop; ends cop{half}y…{} => a\ncop; yes
+remember a\ncopy b; rows . ; cols 6; type a\nkey A-Enter\ntype cop; ends \r\n. cop => a\ncop; yes
+remember a\ncopy b; rows ... ; cols 9; type a\nkey A-Enter\ntype cop; ends cop{half}…{} => a\ncop; yes
+remember cop\ny z; rows . ; type cop; ends {}cop{half}…{} => cop; yes
+remember copy d\ne; rows . ; type cop; ends {}cop{half}y d…{} => cop; yes
+remember copy d\ne; rows . ; type cop\nkey Right => copy d\ne
+
 // or under the line
 hints under; type cop; ends cop\r\n{}y x => cop; yes
 hints under; type z; ends z => z; yes

@@ -16,6 +16,8 @@ type ab\nkey Left\nkey A-. => aquitb
 type ab\nkey Left\nkey A-.\nkey A-.\ntype - => ac-b
 key A-.\nkey Left\nkey A-. => quiquitt
 key C-R\ntype o\nkey A-.\nkey Enter => move  c \u{20}
+remember copy a\nmove; key A-. => move
+remember copy a\nmove b\n; key A-. => b
 no history; type ab\nkey A-.\nkey A-. => ab
 ";
 

@@ -1,10 +1,10 @@
 -- Words that complete what is begun, up to a delimiter.
-use Rattle.std.specs.Prelude.{ℕ, ◌-◌, ◌==◌, Bool, true, false, not, ◌&&◌, List, [], ◌∷◌, length, take, drop, filter, map, nat_le, nat_lt, string_bytes}
+use Rattle.std.specs.Prelude.{ℕ, ◌-◌, ◌==◌, Bool, true, false, not, ◌&&◌, List, length, take, drop, filter, map, nat_le, nat_lt, string_bytes}
 use Rattle.std.specs.List.{list_any, suffix_len}
 use Rattle.std.specs.Str.{str_eq_ignore_ascii_case}
 use Rattle.tw_host.specs.CandidateView.{CandidateView}
 use Rattle.tw_hosts.specs.WordCompletion.{word_candidate}
-use Rattle.tw_hosts.specs.Words.{begins_with}
+use Rattle.tw_hosts.specs.Words.{begins_with, last_row}
 use Rattle.tw_line.specs.Cut.{Cut}
 use Rattle.tw_completion_parts.specs.declared.word_lists.WordList.{WordList}
 
@@ -35,7 +35,7 @@ before_word delimiters text = take (word_start delimiters text) text
 
 -- what stands before the cursor in its row, which begins after a line feed
 abbrev pub row_before : Cut → List ℕ
-row_before cut = begun_word (10 ∷ []) (take cut.cursor cut.line)
+row_before cut = last_row (take cut.cursor cut.line)
 
 -- whether a word begins with a text, where the case of ASCII letters does not count, or does
 abbrev pub begins_in : Bool → List ℕ → List ℕ → Bool

@@ -8,9 +8,10 @@ ghost use Rattle.tw_completion_parts.specs.FileNames.{listing_view};
 
 use crate::contexts::Context;
 use crate::file_names::{Listing, complete_file_name};
-use crate::word_lists::{WordList, complete_listed, row_before};
+use crate::word_lists::{WordList, complete_listed};
 use std::alloc::{AllocError, Global};
 use tw_host::CompletionCandidate;
+use tw_hosts::last_row;
 
 /// What completes a word.
 #[derive(Debug, Drop)]
@@ -76,7 +77,7 @@ pub fn completed_by(
     ensures { IfOk result (λ found. option_map (λ candidates. map candidate_view candidates.items) found
         ≡ completed_by (map context_completer_view rows.now) (map listing_view listings.now) (cut_at line.now cursor)) }
 {
-    match completer_for(rows, row_before(line, cursor)) {
+    match completer_for(rows, last_row(&line[..cursor])) {
         Some(completer) => Ok(Some(candidates_by(alloc, listings, completer, line, cursor)?)),
         None => Ok(None),
     }

@@ -6,10 +6,10 @@ ghost use Rattle.tw_line.specs.Cut.{cut_at};
 ghost use Rattle.tw_hosts.specs.Words.{is_same};
 ghost use Rattle.tw_completion_parts.specs.FileNames.{entries_in, entry_text, entry_view, file_candidates, listing_view, names_from};
 
-use crate::word_lists::{row_before, split_begun};
+use crate::word_lists::split_begun;
 use std::alloc::{AllocError, Global};
 use tw_host::CompletionCandidate;
-use tw_hosts::last_word;
+use tw_hosts::{last_row, last_word};
 
 /// A name in a directory.
 #[derive(Debug, Drop)]
@@ -87,10 +87,9 @@ fn names_from(
     Ok(candidates)
 }
 
-/// The candidates for the path before a cursor, which is a boundary of the line. The path goes back to a space, or to the
-/// start of its row: what
-/// stands after its last slash is begun of a name, and what stands before it is the directory, whose first listing has
-/// the names.
+/// Returns the candidates for the path before a cursor, which is a boundary of the line. The path goes back to a space
+/// or to the start of its row. What stands after its last slash begins a name, and what stands before is the directory:
+/// its first listing has the names.
 pub fn complete_file_name(
     alloc: Global,
     listings: &[Listing],
@@ -100,6 +99,6 @@ pub fn complete_file_name(
     requires { IsCharBoundary line.now cursor }
     ensures { IfOk result (λ candidates. map candidate_view candidates.items ≡ file_candidates (map listing_view listings.now) (cut_at line.now cursor)) }
 {
-    let (directory, text) = split_begun("/", last_word(row_before(line, cursor)));
+    let (directory, text) = split_begun("/", last_word(last_row(&line[..cursor])));
     names_from(alloc, entries_in(listings, directory), cursor, text)
 }

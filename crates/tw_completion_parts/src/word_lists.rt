@@ -3,10 +3,11 @@
 ghost use Rattle.std.specs.Prelude.{◌≡◌, IfOk, IsCharBoundary, map};
 ghost use Rattle.tw_host.specs.CandidateView.{candidate_view};
 ghost use Rattle.tw_line.specs.Cut.{cut_at};
-ghost use Rattle.tw_completion_parts.specs.WordLists.{before_word, begins_in, begun_word, is_delimiter, listed_candidates, row_before, word_list_view, word_start, words_from};
+ghost use Rattle.tw_completion_parts.specs.WordLists.{before_word, begins_in, begun_word, is_delimiter, listed_candidates, word_list_view, word_start, words_from};
 
 use std::alloc::{AllocError, Global};
 use tw_host::CompletionCandidate;
+use tw_hosts::last_row;
 
 /// Words, and how what is begun of one is found in a line.
 #[derive(Debug, Drop)]
@@ -19,7 +20,7 @@ pub struct WordList {
     pub ignores_case: bool,
 }
 
-/// Whether a byte is one of these delimiters, which is a character of ASCII. It takes no memory.
+/// Returns true if a byte is one of these delimiters, and one of ASCII.
 pub fn is_delimiter(delimiters: &str, byte: u8) -> bool
     ensures { result ≡ is_delimiter delimiters.now byte }
 {
@@ -30,7 +31,7 @@ pub fn is_delimiter(delimiters: &str, byte: u8) -> bool
             .any(|delimiter| *delimiter == byte)
 }
 
-/// Where the word begins with which a text ends: after the last delimiter.
+/// Returns where the last word of a text begins: after the last delimiter.
 fn word_start(delimiters: &str, text: &str) -> usize
     ensures value { result ≡ word_start delimiters.now text.now }
     ensures boundary { IsCharBoundary text.now result }
@@ -43,8 +44,7 @@ fn word_start(delimiters: &str, text: &str) -> usize
     start
 }
 
-/// What stands in a text before its last word, which begins after the last of these delimiters, and that word. It takes
-/// no memory.
+/// Splits a text before its last word, which begins after the last of these delimiters.
 pub fn split_begun<'text>(delimiters: &str, text: &'text str) -> (&'text str, &'text str)
     ensures before { result.0.now ≡ before_word delimiters.now text.now }
     ensures word { result.1.now ≡ begun_word delimiters.now text.now }
@@ -52,15 +52,7 @@ pub fn split_begun<'text>(delimiters: &str, text: &'text str) -> (&'text str, &'
     text.split_at(word_start(delimiters, text))
 }
 
-/// Returns what stands in a line before a cursor in its row, which begins after a line feed. It takes no memory.
-pub(crate) fn row_before(line: &str, cursor: usize) -> &str
-    requires { IsCharBoundary line.now cursor }
-    ensures { result.now ≡ row_before (cut_at line.now cursor) }
-{
-    split_begun("\n", &line[..cursor]).1
-}
-
-/// Whether a word begins with a text, where the case of ASCII letters does not count, or does.
+/// Returns true if a word begins with a text. With `ignores_case`, the case of ASCII letters does not count.
 fn begins_in(ignores_case: bool, text: &str, word: &str) -> bool
     ensures { result ≡ begins_in ignores_case text.now word.now }
 {
@@ -72,7 +64,7 @@ fn begins_in(ignores_case: bool, text: &str, word: &str) -> bool
     text.len() <= word.len() && text.eq_ignore_ascii_case(&word[..text.len()])
 }
 
-/// The words of a list that begin with a text, for the bytes that it has before a cursor.
+/// Returns the words of a list that begin with a text, each in place of the bytes that the text has before a cursor.
 fn words_from(
     alloc: Global,
     list: &WordList,
@@ -94,8 +86,8 @@ fn words_from(
     Ok(candidates)
 }
 
-/// The candidates for what stands in its row before a cursor, which is a boundary of the line, after the last delimiter:
-/// those of the words that begin with it, in their order.
+/// Returns the candidates for what stands before a cursor in its row, after the last delimiter: those of the words that
+/// begin with it, in their order. The cursor is a boundary of the line.
 pub fn complete_listed(
     alloc: Global,
     list: &WordList,
@@ -105,6 +97,6 @@ pub fn complete_listed(
     requires { IsCharBoundary line.now cursor }
     ensures { IfOk result (λ candidates. map candidate_view candidates.items ≡ listed_candidates (word_list_view list.now) (cut_at line.now cursor)) }
 {
-    let (_, text) = split_begun(list.delimiters.as_str(), row_before(line, cursor));
+    let (_, text) = split_begun(list.delimiters.as_str(), last_row(&line[..cursor]));
     words_from(alloc, list, cursor, text)
 }

@@ -31,3 +31,7 @@ after_word text = drop (length (leading_word text)) text
 -- what stands after the last space of a text, or all of it where it has none
 abbrev pub last_word : List ℕ → List ℕ
 last_word text = after_last (λ byte. byte == 32) text
+
+-- what stands after its last line feed, or all of it where it has none
+abbrev pub last_row : List ℕ → List ℕ
+last_row text = after_last (λ byte. byte == 10) text

@@ -4,19 +4,19 @@ ghost use Rattle.std.specs.Prelude.{◌≡◌, ◌≤◌, IfOk, IsCharBoundary, 
 ghost use Rattle.tw_host.specs.CandidateView.{candidate_view};
 ghost use Rattle.tw_line.specs.Cut.{cut_at};
 ghost use Rattle.tw_hosts.specs.WordCompletion.{completions};
-ghost use Rattle.tw_hosts.specs.Words.{after_word, leading_word, is_known, last_word, texts_of};
+ghost use Rattle.tw_hosts.specs.Words.{after_word, leading_word, is_known, last_row, last_word, texts_of};
 
 use std::alloc::{AllocError, Global};
 use tw_host::CompletionCandidate;
 
-/// Whether a word is one of these.
+/// Returns true if a word is one of these.
 pub fn is_known(words: &[String], word: &str) -> bool
     ensures { result ≡ is_known (texts_of words.now) word.now }
 {
     words.iter().any(|known| known.as_str() == word)
 }
 
-/// What stands before the first space of a text, or all of it where it has none, and what follows it.
+/// Returns what stands before the first space of a text, or all of it if it has none, and what follows it.
 pub fn split_first_word(text: &str) -> (&str, &str)
     ensures word { result.0.now ≡ leading_word text.now }
     ensures rest { result.1.now ≡ after_word text.now }
@@ -27,14 +27,14 @@ pub fn split_first_word(text: &str) -> (&str, &str)
     }
 }
 
-/// What stands before the first space of a text, or all of it where it has none.
+/// Returns what stands before the first space of a text, or all of it if it has none.
 pub fn first_word(text: &str) -> &str
     ensures { result.now ≡ leading_word text.now }
 {
     split_first_word(text).0
 }
 
-/// What stands after the last space of a text, or all of it where it has none.
+/// Returns what stands after the last space of a text, or all of it if it has none.
 pub fn last_word(text: &str) -> &str
     ensures value { result.now ≡ last_word text.now }
     ensures length { length result.now ≤ length text.now }
@@ -45,8 +45,18 @@ pub fn last_word(text: &str) -> &str
     }
 }
 
-/// The candidates for the word before a cursor, which is a boundary of the line: those of the words that begin with
-/// it, in their order, each in its place.
+/// Returns what stands after the last line feed of a text, or all of it if it has none.
+pub fn last_row(text: &str) -> &str
+    ensures { result.now ≡ last_row text.now }
+{
+    match text.rsplit_once('\n') {
+        Some((_, row)) => row,
+        None => text,
+    }
+}
+
+/// Returns the candidates for the word before a cursor, which is a boundary of the line: those of the words that begin
+/// with it, in their order, each in its place.
 pub fn complete_word(
     alloc: Global,
     words: &[String],

@@ -6,7 +6,7 @@ use Rattle.tw_line.specs.Cut.{Cut}
 use Rattle.tw_host.specs.ActionView.{ActionView, InsertText}
 use Rattle.tw_history.specs.NearestMatch.{last_index, next_index}
 use Rattle.tw_history.specs.declared.history.SearchDirection.TheVariants.{Backwards}
-use Rattle.tw_hosts.specs.Words.{last_word}
+use Rattle.tw_hosts.specs.Words.{last_row, last_word}
 use Rattle.tw_key_parts.specs.KeyRules.{Asked, Edited, KeyRules, Step}
 use Rattle.tw_key_parts.specs.Keys.{is_key, last_word_key}
 use Rattle.tw_key_parts.specs.declared.last_words.PlacedWord.{PlacedWord}
@@ -30,9 +30,9 @@ place_view place = record { cut = place.line; index = place.index }
 abbrev pub word_view : PlacedWord → WordView
 word_view word = record { place = place_view word.place; text = string_bytes word.text }
 
--- the last word of a line, whatever whitespace follows it
+-- the last word of a line in its row, whatever whitespace follows it
 abbrev pub last_argument : List ℕ → List ℕ
-last_argument line = last_word (trim_end line)
+last_argument line = last_word (last_row (trim_end line))
 
 -- a word that was put in right before gives way to the next one
 abbrev pub cut_for : Option PlaceView → Cut → Cut

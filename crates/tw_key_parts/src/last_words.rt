@@ -13,7 +13,7 @@ use crate::part::KeyPart;
 use std::alloc::{AllocError, Global};
 use tw_history::{History, SearchDirection};
 use tw_host::Action;
-use tw_hosts::last_word;
+use tw_hosts::{last_row, last_word};
 use tw_input::InputEvent;
 use tw_line::LineEditBuffer;
 
@@ -37,11 +37,11 @@ pub struct PlacedWord {
     pub text: String,
 }
 
-/// Returns the last word of a line, without whitespace behind it.
+/// Returns the last word of a line, without whitespace behind it. A space or a line feed stands before it.
 fn last_argument(line: &str) -> &str
     ensures { result.now ≡ last_argument line.now }
 {
-    last_word(line.trim_end())
+    last_word(last_row(line.trim_end()))
 }
 
 /// Returns the line without the last insertion, if there is one right before.

@@ -7,8 +7,7 @@ use Rattle.tw_surface.specs.declared.measure.Extent.{Extent}
 use Rattle.tw_surface.specs.Extents.{place_of, reach_all, start_extent}
 use Rattle.tw_surface.specs.Places.{Place, end_of_pieces, is_in_range, origin, pieces, places_after}
 use Rattle.tw_line.specs.Cut.{at_end}
-use Rattle.tw_hosts.specs.Settling.{line_start}
-use Rattle.tw_hosts.specs.SettledRules.{PromptScreenView, column_on}
+use Rattle.tw_hosts.specs.Settling.{line_start, settled_column}
 use Rattle.tw_hosts.proofs.SettlingLemmas.{prompt_end}
 use Rattle.tw_prompt_host.specs.AfterLine.{has_control, prompt_column, room_after, room_from}
 
@@ -23,11 +22,10 @@ ends_at cols prompt t r low high start all e =
     let end : place_of r ≡ line_start cols prompt = prompt_end cols prompt t r e ∙ ap (λ p. end_of_pieces cols (pieces prompt) p) from in
     rw (le-leb 1 cols low, le-leb cols 65535 high, known) (ap (λ (p : Place). Some p.x) end)
 
--- the room after a line
-pub room_is : (screen : PromptScreenView) (line : List ℕ) (start column : ℕ) → Some start ≡ prompt_column screen.cols screen.prompt → has_control line ≡ false
-    → column ≡ column_on screen (at_end line) → screen.cols - 1 - (start % screen.cols + column % screen.cols) % screen.cols ≡ room_after screen line
-room_is screen line start column known none e =
-    let cols = screen.cols in
-    let end = column_on screen (at_end line) in
+-- the room after a row
+pub room_is : (cols : ℕ) (before row : List ℕ) (start column : ℕ) → Some start ≡ prompt_column cols before → has_control row ≡ false
+    → column ≡ settled_column cols before (at_end row) → cols - 1 - (start % cols + column % cols) % cols ≡ room_after cols before row
+room_is cols before row start column known none e =
+    let end = settled_column cols before (at_end row) in
     ap (λ n. cols - 1 - n) (ap (λ k. (start % cols + k % cols) % cols) e ∙ sym (add-mod start end cols))
-    ∙ ap (λ b. if b then 0 else cols - 1 - (start + end) % cols) (sym none) ∙ ap (λ p. room_from p screen line) known
+    ∙ ap (λ b. if b then 0 else cols - 1 - (start + end) % cols) (sym none) ∙ ap (λ p. room_from p cols before row) known

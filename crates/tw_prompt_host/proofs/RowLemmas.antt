@@ -1,10 +1,12 @@
 -- Texts and elements in rows.
-use Rattle.std.proofs.Common.{◌≡◌, ◌≢◌, ℕ, zero, suc, ◌+◌, ◌<◌, ◌≤◌, ◌%◌, ◌-◌, ◌&&◌, ◌||◌, eqb, ltb, Bool, true, false, not, List, [], ◌∷◌, ◌++◌, length, take, drop, get_or, Option, Some, None, refl, ap, sym, ◌∙◌, inl, inr, ◌⊎◌, arith, append_assoc, append-nil, length-append, take-append-drop}
+use Rattle.std.proofs.Common.{◌≡◌, ◌≢◌, ℕ, zero, suc, ◌+◌, ◌<◌, ◌≤◌, ◌%◌, ◌-◌, ◌&&◌, ◌||◌, eqb, ltb, Bool, true, false, not, List, [], ◌∷◌, ◌++◌, length, take, drop, get_or, Option, Some, None, refl, ap, sym, ◌∙◌, inl, inr, ◌⊎◌, arith, append_assoc, append-nil, length-append, subst, take-append-drop}
 use Rattle.std.specs.List.{list_all}
 use Rattle.std.proofs.Math.Nat.{add-mod, add-mod_left, mod-eq_of_lt, mod-lt, mod-zero, mod_self}
 use Rattle.std.proofs.lemmas.Bool.{and_from, and_parts, cases_eq, cases_lt, eq-eqb, lt-ltb, ne_eqb, true≢false}
 use Rattle.std.proofs.lemmas.List.{length-take-le, take_all}
 use Rattle.std.proofs.lemmas.List.Folds.{list_all-append}
+use Rattle.std.proofs.lemmas.Str.Pattern.{NoCharPasses-char}
+use Rattle.std.specs.Str.{NoCharPasses}
 use Rattle.tw_surface.specs.Characters.{is_printable, cr, lf}
 use Rattle.tw_surface.specs.Width.{column_width}
 use Rattle.tw_surface.specs.declared.cell.CellAttributes.{CellAttributes}
@@ -14,7 +16,7 @@ use Rattle.tw_host.specs.Faithful.{text_of_elements}
 use Rattle.tw_hosts.specs.Settling.{settled_column}
 use Rattle.tw_hosts.specs.SettledRules.{PromptScreenView, column_on}
 use Rattle.tw_hosts.proofs.SettlingLemmas.{printable_is_plain}
-use Rattle.tw_prompt_host.specs.Rows.{RowView, before_row, before_rows, break_elements, columns_behind, elements_from, elements_of_rows, first_row, is_row_character, next_row, row_behind, row_break, row_columns, row_edge, row_with, rows_of_text, shown_cut, spread, spread_cut, spread_from}
+use Rattle.tw_prompt_host.specs.Rows.{RowView, before_row, before_rows, break_elements, columns_behind, elements_from, elements_of_rows, first_row, is_row_character, last_shown, next_row, row_behind, row_break, row_columns, row_edge, row_with, rows_of_text, shown_cut, spread, spread_cut, spread_from}
 use Rattle.tw_prompt_host.specs.RowLaws.{ArePrintablePrompts, ElementsAreSpread, OneRowIsSettled, PrintableCutIsShown, PrintableIsShown, PrintableIsSpread, is_one_row}
 
 -- ---- pieces of a text between line feeds
@@ -36,22 +38,45 @@ with-more row a b = ap (λ text. record row { text = text }) (append_assoc row.t
 with-none : (row : RowView) → row_with row [] ≡ row
 with-none row = ap (λ text. record row { text = text }) (append-nil row.text)
 
--- the row behind a piece, and behind a line feed after it
+-- the row behind a piece, and behind a line feed
 pub behind-piece : (row : RowView) (piece : List ℕ) → HasNoFeed piece → row_behind row piece ≡ row_with row piece
 behind-piece row [] none = sym (with-none row)
 behind-piece row (b ∷ piece) none =
     rw (first-other b piece none) (behind-piece (row_with row (b ∷ [])) piece (rest-none b piece none) ∙ with-more row (b ∷ []) piece)
 
-pub behind-feed : (row : RowView) (piece more : List ℕ) → HasNoFeed piece → row_behind row (piece ++ (lf ∷ more)) ≡ row_behind next_row more
-behind-feed row [] more none = refl
-behind-feed row (b ∷ piece) more none = rw (first-other b piece none) (behind-feed (row_with row (b ∷ [])) piece more (rest-none b piece none))
+pub behind-feed : (row : RowView) (front more : List ℕ) → row_behind row (front ++ (lf ∷ more)) ≡ row_behind next_row more
+behind-feed row [] more = refl
+behind-feed row (b ∷ front) more = by (λ r. behind-feed r front more) (eqb b lf) refl
+  where
+    by : ((r : RowView) → row_behind r (front ++ (lf ∷ more)) ≡ row_behind next_row more) → (feed : Bool) → eqb b lf ≡ feed
+        → row_behind row ((b ∷ front) ++ (lf ∷ more)) ≡ row_behind next_row more
+    by so true e = rw e (so next_row)
+    by so false e = rw e (so (row_with row (b ∷ [])))
 
 -- so is the row behind the rest of a text, in the steps of a loop over its pieces
-pub behind-step : (row : RowView) (rest piece more : List ℕ) (all : RowView) → rest ≡ piece ++ (lf ∷ more) → HasNoFeed piece → row_behind row rest ≡ all → row_behind next_row more ≡ all
-behind-step row rest piece more all e none so = sym (behind-feed row piece more none) ∙ ap (row_behind row) (sym e) ∙ so
+pub behind-step : (row : RowView) (rest piece more : List ℕ) (all : RowView) → rest ≡ piece ++ (lf ∷ more) → row_behind row rest ≡ all → row_behind next_row more ≡ all
+behind-step row rest piece more all e so = sym (behind-feed row piece more) ∙ ap (row_behind row) (sym e) ∙ so
 
 pub behind-last : (row : RowView) (rest : List ℕ) (all : RowView) → HasNoFeed rest → row_behind row rest ≡ all → row_with row rest ≡ all
 behind-last row rest all none so = sym (behind-piece row rest none) ∙ so
+
+-- the last row of a line with a line feed, which stands before `j`, and of one without
+module _ (screen : PromptScreenView) (continuation line : List ℕ) where
+  no-feed-in : (text : List ℕ) → NoCharPasses (λ d. eqb d lf) text → HasNoFeed text
+  no-feed-in text none i inside = NoCharPasses-char lf text i none (omega arith) inside
+
+  pub last-behind : (row : List ℕ) (i j : ℕ) → drop i line ≡ lf ∷ drop j line → NoCharPasses (λ d. eqb d lf) (drop j line) → row ≡ drop j line
+      → last_shown screen (Some continuation) line ≡ (continuation, row)
+  last-behind row i j at none back =
+      let whole : line ≡ take i line ++ (lf ∷ row) =
+      sym (take-append-drop i line) ∙ ap (λ text. take i line ++ text) (at ∙ ap (λ text. lf ∷ text) (sym back)) in
+      let last : row_behind first_row line ≡ row_with next_row row =
+      ap (row_behind first_row) whole ∙ behind-feed first_row (take i line) row
+      ∙ behind-piece next_row row (no-feed-in row (subst (NoCharPasses (λ d. eqb d lf)) (sym back) none)) in
+      ap (λ (shown : RowView). (before_row screen continuation shown.is_first, shown.text)) last
+
+  pub last-whole : NoCharPasses (λ d. eqb d lf) line → last_shown screen (Some continuation) line ≡ (screen.prompt, line)
+  last-whole none = ap (λ (shown : RowView). (before_row screen continuation shown.is_first, shown.text)) (behind-piece first_row line (no-feed-in line none))
 
 -- the rows of a piece, and of a piece before a line feed
 pub rows-piece : (piece : List ℕ) → HasNoFeed piece → rows_of_text piece ≡ piece ∷ []

@@ -8,9 +8,10 @@ use Rattle.tw_surface.specs.Width.{cluster_width}
 use Rattle.tw_surface.specs.declared.cell.CellAttributes.{CellAttributes}
 use Rattle.tw_line.specs.Cut.{at_end}
 use Rattle.tw_host.specs.ElementView.{ElementView}
-use Rattle.tw_hosts.specs.Settling.{line_start}
-use Rattle.tw_hosts.specs.SettledRules.{PromptScreenView, column_on}
+use Rattle.tw_hosts.specs.Settling.{line_start, settled_column}
+use Rattle.tw_hosts.specs.SettledRules.{PromptScreenView}
 use Rattle.tw_hosts.specs.Tokens.{styled_text}
+use Rattle.tw_prompt_host.specs.Rows.{last_shown}
 
 -- whether a control character stands in a text
 abbrev pub has_control : List ℕ → Bool
@@ -21,14 +22,19 @@ abbrev pub prompt_column : ℕ → List ℕ → Option ℕ
 prompt_column cols prompt =
     if (leb 1 cols && leb cols 65535) && list_all is_in_range (places_after cols (pieces prompt) origin) then Some (line_start cols prompt).x else None
 
--- the columns after the cell in which the editor shows the cursor at the end of a line, but for the last one, which stays empty; there are none after a line with a control character
-abbrev pub room_from : Option ℕ → PromptScreenView → List ℕ → ℕ
-room_from None screen line = 0
-room_from (Some start) screen line =
-    if has_control line then 0 else screen.cols - 1 - (start + column_on screen (at_end line)) % screen.cols
+-- the columns after the cell in which the editor shows the cursor at the end of a row, but for the last one, which stays empty; there are none after a row with a control character
+abbrev pub room_from : Option ℕ → ℕ → List ℕ → List ℕ → ℕ
+room_from None cols before row = 0
+room_from (Some start) cols before row =
+    if has_control row then 0 else cols - 1 - (start + settled_column cols before (at_end row)) % cols
 
-abbrev pub room_after : PromptScreenView → List ℕ → ℕ
-room_after screen line = room_from (prompt_column screen.cols screen.prompt) screen line
+-- for a row after a prompt
+abbrev pub room_after : ℕ → List ℕ → List ℕ → ℕ
+room_after cols before row = room_from (prompt_column cols before) cols before row
+
+-- for the last row of a line
+abbrev pub room_on : PromptScreenView → Option (List ℕ) → List ℕ → ℕ
+room_on screen rows line = let shown = last_shown screen rows line in room_after screen.cols shown.0 shown.1
 
 -- as many clusters, from the first one on, as fit into the columns, up to a control character
 abbrev pub fitting : ℕ → List (List ℕ) → List ℕ
@@ -49,5 +55,5 @@ styled_if_some style [] = []
 styled_if_some style (byte ∷ bytes) = styled_text style (byte ∷ bytes)
 
 -- a text after a line on a screen
-abbrev pub after_line_on : PromptScreenView → List ℕ → CellAttributes → List ℕ → List ElementView
-after_line_on screen line style text = styled_if_some style (cut_to (room_after screen line) text)
+abbrev pub after_line_on : PromptScreenView → Option (List ℕ) → List ℕ → CellAttributes → List ℕ → List ElementView
+after_line_on screen rows line style text = styled_if_some style (cut_to (room_on screen rows line) text)

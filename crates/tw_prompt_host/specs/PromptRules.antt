@@ -94,14 +94,14 @@ completed_or (Some candidates) others = candidates
 completed_or None others = others
 
 -- that a search fails, after the line of one that was kept
-abbrev pub failing_if : Bool → PromptScreenView → List ℕ → List ElementView
-failing_if true screen line = after_line_on screen line default_attributes failing_text
-failing_if false screen line = []
+abbrev pub failing_if : Bool → PromptScreenView → Option (List ℕ) → List ℕ → List ElementView
+failing_if true screen rows line = after_line_on screen rows line default_attributes failing_text
+failing_if false screen rows line = []
 
 -- a hint after a line, if hints stand there
-abbrev pub hint_if_after : Hints → PromptScreenView → List ℕ → Option (List ℕ) → List ElementView
-hint_if_after (After style) screen line (Some rest) = after_line_on screen line style rest
-hint_if_after _ screen line _ = []
+abbrev pub hint_if_after : Hints → PromptScreenView → Option (List ℕ) → List ℕ → Option (List ℕ) → List ElementView
+hint_if_after (After style) screen rows line (Some rest) = after_line_on screen rows line style rest
+hint_if_after _ screen rows line _ = []
 
 -- a line with more elements after it
 abbrev pub with_more : Highlight → List ElementView → Highlight
@@ -119,8 +119,8 @@ module _ {V S K : Type 0} (keys : KeyRules S K) (rules : HostRules V) where
   -- what stands after the line: in a search that was kept that it fails, and else the hint
   abbrev pub after_line : Prompted V S → Cut → List ElementView
   after_line v cut =
-      if v.going.searching then failing_if v.going.kept v.screen cut.line
-      else if is_hinted v cut then hint_if_after v.hints v.screen cut.line (hint_of v.lent cut.line) else []
+      if v.going.searching then failing_if v.going.kept v.screen v.rows cut.line
+      else if is_hinted v cut then hint_if_after v.hints v.screen v.rows cut.line (hint_of v.lent cut.line) else []
 
   -- the hint that an event takes
   abbrev pub hint_at : Prompted V S → EventView → Cut → Option (List ℕ)

@@ -161,6 +161,11 @@ abbrev pub are_shown : Option (List ℕ) → Bool
 are_shown None = false
 are_shown (Some continuation) = true
 
+-- what stands before the last row of a line, and that row
+abbrev pub last_shown : PromptScreenView → Option (List ℕ) → List ℕ → List ℕ × List ℕ
+last_shown screen None line = (screen.prompt, line)
+last_shown screen (Some continuation) line = let row = row_behind first_row line in (before_row screen continuation row.is_first, row.text)
+
 -- the elements of a line, in rows if it is shown so
 abbrev pub elements_on : PromptScreenView → Option (List ℕ) → List ElementView → List ElementView
 elements_on screen None elements = elements

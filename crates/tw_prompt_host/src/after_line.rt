@@ -5,10 +5,12 @@ ghost use Rattle.unicode_segmentation.specs.Grapheme.{graphemes};
 ghost use Rattle.tw_host.specs.ElementView.{element_view};
 ghost use Rattle.tw_hosts.specs.SettledRules.{screen_view};
 ghost use Rattle.tw_prompt_host.specs.AfterLine.{after_line_on, cut_to, fitting, has_control, prompt_column, room_after};
+ghost use Rattle.tw_prompt_host.specs.Rows.{rows_view};
 
+use crate::rows::Rows;
 use std::alloc::{AllocError, Global};
 use tw_host::OutputElement;
-use tw_hosts::{PromptScreen, styled};
+use tw_hosts::{PromptScreen, settled_column, styled};
 use tw_surface::{CellAttributes, Extent, cluster_width, measure_text, split_cluster};
 
 /// What stands for the rest of a text that is cut.
@@ -32,14 +34,13 @@ fn prompt_column(cols: usize, prompt: &str) -> Option<usize>
     Some(end.x)
 }
 
-/// Returns the columns after the end of a line, up to the last one, which stays empty: text there begins no other row.
-fn room_after(screen: &PromptScreen, line: &str) -> usize
-    ensures { result ≡ room_after (screen_view screen.now) line.now }
+/// Returns the columns after the end of a row, up to the last one, which stays empty: text there begins no other row.
+fn room_after(cols: usize, before: &str, row: &str) -> usize
+    ensures { result ≡ room_after cols before.now row.now }
 {
-    let cols = screen.cols;
-    match prompt_column(cols, screen.prompt.as_str()) {
-        Some(start) if !has_control(line) => {
-            let column = screen.column(line, line.len());
+    match prompt_column(cols, before) {
+        Some(start) if !has_control(row) => {
+            let column = settled_column(cols, before, row, row.len());
             cols - 1 - (start % cols + column % cols) % cols
         }
         _ => 0,
@@ -85,14 +86,16 @@ fn cut_to(alloc: Global, columns: usize, text: &str) -> Result<String, AllocErro
 pub fn after_line_on(
     alloc: Global,
     screen: &PromptScreen,
+    rows: &Rows,
     line: &str,
     style: CellAttributes,
     text: &str,
 ) -> Result<Vec<OutputElement>, AllocError>
     ensures { IfOk result (λ elements. map element_view elements.items
-        ≡ after_line_on (screen_view screen.now) line.now style text.now) }
+        ≡ after_line_on (screen_view screen.now) (rows_view rows.now) line.now style text.now) }
 {
-    let shown = cut_to(alloc, room_after(screen, line), text)?;
+    let (before, row) = rows.last_shown(screen, line);
+    let shown = cut_to(alloc, room_after(screen.cols, before, row), text)?;
     if shown.is_empty() {
         return Ok(Vec::new(alloc));
     }

@@ -142,25 +142,39 @@ fn turn_unless<K: KeyPart>(
     }
 }
 
+/// Returns the action that is done: the one that is answered, or else the key table's.
+fn done<'a>(
+    _event: &InputEvent,
+    action: Option<&'a Action>,
+    default: Option<&'a Action>,
+) -> Option<&'a Action>
+    requires { option_map (λ action. action_view action.now) default ≡ action_of (event_view _event.now) }
+    ensures { option_map (λ action. action_view action.now) result
+        ≡ or_default (option_map (λ action. action_view action.now) action.entry) (event_view _event.now) }
+{
+    match action {
+        Some(action) => Some(action),
+        None => default,
+    }
+}
+
 /// Replaces an action, or else the key table's, that would accept a line which is kept: it begins a row, or does nothing.
 /// Returns true if it is held back.
 fn judged(
     keeps: bool,
     opens: bool,
-    _event: &InputEvent,
+    event: &InputEvent,
     action: Option<Action>,
     default: Option<&Action>,
 ) -> (bool, Option<Action>)
-    requires { option_map (λ action. action_view action.now) default ≡ action_of (event_view _event.now) }
-    ensures back { result.0 ≡ ((keeps && is_accepting (or_default (option_map action_view action) (event_view _event.now))) && not opens) }
-    ensures action { option_map action_view result.1
-        ≡ said (keeps && is_accepting (or_default (option_map action_view action) (event_view _event.now))) opens (option_map action_view action) }
+    requires { option_map (λ action. action_view action.now) default ≡ action_of (event_view event.now) }
+    ensures back { let kept = keeps && is_accepting (or_default (option_map action_view action) (event_view event.now)) in
+        result.0 ≡ (kept && not opens) }
+    ensures action { let kept = keeps && is_accepting (or_default (option_map action_view action) (event_view event.now)) in
+        option_map action_view result.1 ≡ said kept opens (option_map action_view action) }
 {
-    let current = match &action {
-        Some(action) => Some(action),
-        None => default,
-    };
-    match (keeps && is_accepting(current), opens) {
+    let accepts = is_accepting(done(event, action.as_ref(), default));
+    match (keeps && accepts, opens) {
         (true, true) => (false, Some(Action::InsertChar(1, '\n'))),
         (true, false) => (true, Some(Action::NoAction)),
         (false, _) => (false, action),
@@ -226,20 +240,21 @@ impl<H: LineEditorHost, L: History + LentLines, K: KeyPart, V: Validator> Prompt
     /// Returns the hint after a line.
     fn hint_after(&self, alloc: Global, line: &str) -> Result<Vec<OutputElement>, AllocError>
         ensures { IfOk result (λ elements. map element_view elements.items
-            ≡ hint_if_after self.now.hints (screen_view self.now.screen) line.now (hint_of (L.LentLines.lines self.now.history) line.now)) }
+            ≡ hint_if_after self.now.hints (screen_view self.now.screen) (rows_view self.now.rows) line.now (hint_of (L.LentLines.lines self.now.history) line.now)) }
     {
         let Hints::After(style) = self.hints else {
             return Ok(Vec::new(alloc));
         };
         match history_hint(&self.history, line) {
-            Some(rest) => after_line_on(alloc, &self.screen, line, style, rest),
+            Some(rest) => after_line_on(alloc, &self.screen, &self.rows, line, style, rest),
             None => Ok(Vec::new(alloc)),
         }
     }
 
     /// Returns that a search fails, if it was not accepted.
     fn failing_after(&self, alloc: Global, line: &str) -> Result<Vec<OutputElement>, AllocError>
-        ensures { IfOk result (λ elements. map element_view elements.items ≡ failing_if self.now.going.kept (screen_view self.now.screen) line.now) }
+        ensures { IfOk result (λ elements. map element_view elements.items
+            ≡ failing_if self.now.going.kept (screen_view self.now.screen) (rows_view self.now.rows) line.now) }
     {
         if !self.going.kept {
             return Ok(Vec::new(alloc));
@@ -247,6 +262,7 @@ impl<H: LineEditorHost, L: History + LentLines, K: KeyPart, V: Validator> Prompt
         after_line_on(
             alloc,
             &self.screen,
+            &self.rows,
             line,
             CellAttributes::default(),
             FAILING,
@@ -621,34 +637,9 @@ impl<H: LineEditorHost, L: History + LentLines, K: KeyPart, V: Validator> LineEd
         let opens = self.opens_row();
         let (action, note, turn) = self.answer(alloc, event, default.as_ref(), &before, editor)?;
         let (back, action) = judged(keeps, opens, event, action, default.as_ref());
-        match action {
-            Some(action) => {
-                self.follow(
-                    alloc,
-                    note,
-                    event,
-                    before,
-                    editor,
-                    Some(&action),
-                    back,
-                    turn,
-                );
-                Ok(Some(action))
-            }
-            None => {
-                self.follow(
-                    alloc,
-                    note,
-                    event,
-                    before,
-                    editor,
-                    default.as_ref(),
-                    back,
-                    turn,
-                );
-                Ok(None)
-            }
-        }
+        let done = done(event, action.as_ref(), default.as_ref());
+        self.follow(alloc, note, event, before, editor, done, back, turn);
+        Ok(action)
     }
 
     ghost plain_answers = { no_plain_left };

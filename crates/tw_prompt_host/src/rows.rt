@@ -6,7 +6,7 @@ ghost use Rattle.tw_surface.specs.Defaults.{default_attributes};
 ghost use Rattle.tw_host.specs.ElementView.{element_view, Text};
 ghost use Rattle.tw_hosts.specs.SettledRules.{screen_view};
 ghost use Rattle.tw_line.specs.Cut.{cut_at};
-ghost use Rattle.tw_prompt_host.specs.Rows.{are_shown, before_row, break_elements, column_in_rows, cursor_on, elements_in_rows, elements_of_text, elements_on, first_row, is_full, next_row, row_behind, row_break, row_view, row_with, rows_view, spread_from};
+ghost use Rattle.tw_prompt_host.specs.Rows.{are_shown, before_row, break_elements, column_in_rows, cursor_on, elements_in_rows, elements_of_text, elements_on, first_row, is_full, last_shown, next_row, row_behind, row_break, row_view, row_with, rows_view, spread_from};
 
 use std::alloc::{AllocError, Global};
 use tw_host::OutputElement;
@@ -263,6 +263,20 @@ impl Rows {
         ensures { result ≡ are_shown (rows_view self.now) }
     {
         matches!(self, Rows::Several(_))
+    }
+
+    /// Returns what stands before the last row of a line, and that row.
+    pub fn last_shown<'a>(&'a self, screen: &'a PromptScreen, line: &'a str) -> (&'a str, &'a str)
+        ensures { (result.0.now, result.1.now)
+            ≡ last_shown (screen_view screen.now) (rows_view self.now) line.now }
+    {
+        match self {
+            Rows::One => (screen.prompt.as_str(), line),
+            Rows::Several(continuation) => match line.rsplit_once('\n') {
+                Some((_, row)) => (continuation.as_str(), row),
+                None => (screen.prompt.as_str(), line),
+            },
+        }
     }
 
     /// Shows the elements of a line, and returns them with the column of the cursor. If the line is shown in rows, each

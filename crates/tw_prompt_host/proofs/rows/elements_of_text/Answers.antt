@@ -35,7 +35,7 @@ loop-piece-preserved c =
           (map element_view c.append.new.self.items) (elements_of_rows screen continuation set (row_view c.args.row.now) (rows_of_text c.args.text.now))
           parts.0 parts.1 between new c.loop-piece.invariant.shown;
       behind = ap (λ r. row_behind r more) begun
-          ∙ behind-step row rest piece more (row_behind (row_view c.args.row.now) c.args.text.now) parts.0 parts.1 c.loop-piece.invariant.behind;
+          ∙ behind-step row rest piece more (row_behind (row_view c.args.row.now) c.args.text.now) parts.0 c.loop-piece.invariant.behind;
     }
 
 pub returns-clause-elements : goal.returns-clause-elements

@@ -24,7 +24,7 @@ loop-piece-preserved c =
           ∙ spread-step screen continuation row rest piece more (string_bytes c.loop-piece.shown) (string_bytes c.in_ok-row_break.field-0)
           (string_bytes c.push_str-in-Some.new.self) all parts.0 parts.1 between new c.loop-piece.invariant.shown;
       behind = ap (λ r. row_behind r more) begun
-          ∙ behind-step row rest piece more (row_behind (row_view c.args.row.now) c.args.text.now) parts.0 parts.1 c.loop-piece.invariant.behind;
+          ∙ behind-step row rest piece more (row_behind (row_view c.args.row.now) c.args.text.now) parts.0 c.loop-piece.invariant.behind;
     }
 
 pub returns-clause-text : goal.returns-clause-text

@@ -4,6 +4,7 @@ use Rattle.tw_hosts.specs.SettledRules.{screen_view}
 use Rattle.tw_prompt_host.specs.AfterLine.{after_line_on}
 use Rattle.tw_prompt_host.specs.FailingSearch.{failing_text}
 use Rattle.tw_prompt_host.specs.PromptRules.{failing_if}
+use Rattle.tw_prompt_host.specs.Rows.{rows_view}
 use Rattle.tw_prompt_host.proofs.prompt.PromptHost.failing_after.Goals as goal
 
 pub returns : goal.returns
@@ -11,6 +12,6 @@ returns g c =
     let host = c.args.self.now in
     let line = c.args.line.now in
     let kept : host.going.kept ≡ true = search (rules) in
-    let shown = subst (λ style. IfOk c.after_line_on.result (λ elements. map element_view elements.items ≡ after_line_on (screen_view host.screen) line style failing_text))
+    let shown = subst (λ style. IfOk c.after_line_on.result (λ elements. map element_view elements.items ≡ after_line_on (screen_view host.screen) (rows_view host.rows) line style failing_text))
     c.default.ensures c.after_line_on.ensures in
-    subst (λ kept. IfOk c.after_line_on.result (λ elements. map element_view elements.items ≡ failing_if kept (screen_view host.screen) line)) (sym kept) shown
+    subst (λ kept. IfOk c.after_line_on.result (λ elements. map element_view elements.items ≡ failing_if kept (screen_view host.screen) (rows_view host.rows) line)) (sym kept) shown
