@@ -41,8 +41,9 @@ pub fn row_stations<A, C>()
 
 /// Lines of printable rows have rows, whatever their colours are. So have lines that are shown by the text with CR LF
 /// and a continuation prompt for each line feed, as by a host that answers the prompt, that text and the settled column
-/// in it; so answers a prompt that shows in rows what a host shows of a printable line, in whatever colours. Where such a painting is fresh, the prompts, each character and the cursor stand in the cells that division
-/// gives; with nothing under the line its last row is that of the cell after the line.
+/// in it; so answers a prompt that shows in rows what a host shows of a printable line, in whatever colours. In a fresh
+/// painting of them the prompts, each character and the cursor stand in the cells that division gives. With nothing under
+/// the line its last row is that of the cell after the line.
 pub fn row_cells<A, C>()
     ensures plain { (pen : Pen A C) → PlainRowsAreRows pen }
     ensures rows { RowsAnswerLine }

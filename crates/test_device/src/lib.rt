@@ -6,6 +6,8 @@ mod ansi;
 #[cfg(test)]
 mod application;
 #[cfg(test)]
+mod asked;
+#[cfg(test)]
 mod commands;
 #[cfg(test)]
 mod device;

@@ -23,8 +23,8 @@ pub trait DeviceTerminal: Terminal {
         ensures state { Self.state self.new ≡ record (Self.state self.old) { size = size } }
         ensures sized { does self.old self.new (Sized size) };
 
-    /// Says whether another event is at hand. As long as one is, a terminal may keep back what it is to render; what it
-    /// renders next is sent where none is.
+    /// Says whether another event is at hand. As long as one is, a terminal may keep back what it is to render. If none
+    /// is, it sends what it renders next.
     fn set_more_at_hand(&mut self, is_more: bool)
         ensures state { Self.state self.new ≡ Self.state self.old }
         ensures last { is_more ≡ false → may_keep self.new ≡ false }

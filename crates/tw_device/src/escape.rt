@@ -6,15 +6,15 @@ ghost use Rattle.tw_device.specs.Typed.{escape_waits};
 /// What an ESC is after which no byte has come yet. Its owner chooses.
 #[derive(Debug, Clone, Copy, PartialEq, Eq)]
 pub enum Escape {
-    /// It waits for what follows it, so that the keys do not depend on how the bytes come. The key Escape alone is told
-    /// once another key is typed, or at the end.
+    /// It waits for what follows it, so that the keys do not depend on how the bytes come. The key Escape alone comes with
+    /// the next key, or at the end.
     Waits,
-    /// It is the key Escape at once, but for one that ends a read of as many bytes as were asked for: that one waits.
+    /// It is the key Escape at once, unless it ends a read of as many bytes as were asked for: then it waits.
     AtOnce,
 }
 
 impl Escape {
-    /// Whether it waits after a read that was full or not.
+    /// Returns true if it waits after a read.
     pub(crate) fn waits(self, was_full: bool) -> bool
         ensures { result ≡ escape_waits self was_full }
     {

@@ -39,7 +39,7 @@ impl Model for EventLog {
 }
 
 impl EventLog {
-    /// No event.
+    /// Creates a log without events.
     pub fn new() -> Self
         ensures { result ≡ [] }
     {
@@ -48,7 +48,7 @@ impl EventLog {
         }
     }
 
-    /// These events, and one more after them.
+    /// Returns the log with one more event.
     pub fn with_event(&self, event: &InputEvent) -> Self
         ensures { result ≡ self.now ++ event_view event.now ∷ [] }
     {

@@ -49,7 +49,7 @@ pub trait EventSource {
     // What a call did besides: from such a source to such a one, telling these events.
     ghost follows: { Self → Self → List EventView → Type 0 } = { λ _ _ _. ⊤ };
 
-    /// The next event, or none where there are no more. A refusal tells none.
+    /// Returns the next event, or `None` if there are no more. A refusal tells none.
     fn next_event(&mut self) -> Result<Option<InputEvent>, TerminalFault>
         ensures ok { IfOk result (λ event. MatchOption event
             ((told self.new ≡ told self.old) × (state self.new ≡ AtEnd))
@@ -59,7 +59,7 @@ pub trait EventSource {
         ensures refused { IfErr result (λ fault. state self.new ≡ HasRefused fault) }
         ensures follows { follows self.old self.new (answer_events result) };
 
-    /// Whether the next call answers with what is at hand. It is false where it may wait, and where that is not known.
+    /// Returns true if the next call answers with what is at hand, and false if it may wait or that is not known.
     fn has_at_hand(&self) -> bool
         ensures { result ≡ at_hand self.now };
 }
@@ -78,8 +78,7 @@ pub struct KeyReader<R> {
 }
 
 impl<R: Read> KeyReader<R> {
-    /// A reader that has told no event, for which an ESC alone is the key Escape at once and a pasted text has one row.
-    /// It takes no memory.
+    /// Creates a reader for which an ESC alone is the key Escape at once and a pasted text has one row.
     pub fn new(alloc: Global, reader: R) -> Self
         ensures told { ⟦<KeyReader<R> as EventSource>⟧.told result ≡ [] }
         ensures going { ⟦<KeyReader<R> as EventSource>⟧.state result ≡ Going }
@@ -89,7 +88,7 @@ impl<R: Read> KeyReader<R> {
         KeyReader::with_escape(alloc, reader, Escape::AtOnce)
     }
 
-    /// A reader that has told no event, with this choice for an ESC alone. It takes no memory.
+    /// Creates a reader with this choice for an ESC alone. A pasted text has one row.
     pub fn with_escape(alloc: Global, reader: R, escape: Escape) -> Self
         ensures told { ⟦<KeyReader<R> as EventSource>⟧.told result ≡ [] }
         ensures going { ⟦<KeyReader<R> as EventSource>⟧.state result ≡ Going }
@@ -108,7 +107,7 @@ impl<R: Read> KeyReader<R> {
         }
     }
 
-    /// Returns the reader with this choice for pasted texts. It takes no memory.
+    /// Returns the reader with this choice for pasted texts.
     pub fn with_pasted(mut self, pasted: Pasted) -> Self
         ensures { result ≡ record self { pasted = pasted } }
     {
@@ -123,7 +122,7 @@ impl<R: Read> KeyReader<R> {
         matches!(self.state, SourceState::AtEnd)
     }
 
-    /// The next event, or none at the end of what is typed.
+    /// Returns the next event, or `None` at the end of what is typed.
     #[tactic(auto, using(crate::proofs::ReadLemmas::none_left))]
     fn find(&mut self) -> Result<Option<InputEvent>, Refused>
         ensures told { self.new.told ≡ self.old.told }
@@ -151,7 +150,7 @@ impl<R: Read> KeyReader<R> {
         Err(Refused::Device)
     }
 
-    /// The token at the front, where the bytes after it are not known yet. Nothing is taken, and nothing is read.
+    /// Returns the token at the front, if it does not depend on bytes that are not read yet.
     fn front(&self) -> Option<Scanned>
         ensures { result ≡ next_token false (held_by R.remaining self.now) }
     {
@@ -161,7 +160,7 @@ impl<R: Read> KeyReader<R> {
         self.unread.front()
     }
 
-    /// The token at the front, or none where more bytes are wanted.
+    /// Returns the token at the front, or `None` if more bytes are wanted.
     fn scan(&mut self, is_last: bool) -> Option<Scanned>
         ensures token { result ≡ next_token is_last (held_by R.remaining self.old) }
         ensures within { IfSome result (λ s. s.used ≤ length self.old.unread) }
@@ -175,7 +174,7 @@ impl<R: Read> KeyReader<R> {
         self.unread.scan(is_last)
     }
 
-    /// Reads what there is, and waits where there is nothing. It returns false at the end. A refusal loses no byte.
+    /// Reads what there is, and waits if there is nothing. Returns false at the end. A refusal loses no byte.
     fn read(&mut self) -> Result<bool, Refused>
         ensures ok { OnOk result ((more : List ℕ) × (self.new.unread ≡ self.old.unread ++ more)
             × (self.new.was_full ≡ (length more == piece))
@@ -191,8 +190,8 @@ impl<R: Read> KeyReader<R> {
         Ok(count > 0)
     }
 
-    /// Takes a token. Bytes that mean nothing are taken and return none. A refusal takes none, so that the next call
-    /// finds the token again.
+    /// Takes a token and returns its event, or `None` if its bytes mean nothing. A refusal takes no byte, so that the next
+    /// call finds the token again.
     fn take(&mut self, found: Scanned) -> Result<Option<InputEvent>, Refused>
         requires { found.used ≤ length self.old.unread }
         ensures told { self.new.told ≡ self.old.told }
@@ -232,9 +231,9 @@ impl<R: Read> EventSource for KeyReader<R> {
 
     ghost follows = { λ old new events. TellsTyped (held_by R.remaining old) (held_by R.remaining new) events };
 
-    /// It takes bytes at the front alone, and tells what they are: no byte is lost, and none is told twice. It has no
-    /// more events only where the reader has no more bytes and all are taken. Why it refuses is said by `held_up`. Where
-    /// an event is at hand the reader is not asked.
+    /// Takes bytes at the front and tells what they are: no byte is lost, and none is told twice. There are no more events
+    /// only if the reader has no more bytes and all are taken. `held_up` says why a call fails. If an event is at hand,
+    /// the reader is not asked.
     fn next_event(&mut self) -> Result<Option<InputEvent>, TerminalFault>
         ensures ok { IfOk result (λ event. MatchOption event
             ((self.new.told ≡ self.old.told) × (self.new.state ≡ AtEnd))
@@ -268,8 +267,8 @@ impl<R: Read> EventSource for KeyReader<R> {
         }
     }
 
-    /// Whether a key or a pasted text stands whole at the front of what was read. A size does not count, since not every
-    /// size is one of a screen.
+    /// Returns true if a key or a pasted text stands whole at the front of what was read. A size does not count, since not
+    /// every size is one of a screen.
     fn has_at_hand(&self) -> bool
         ensures { result ≡ is_at_hand (held_by R.remaining self.now) }
     {

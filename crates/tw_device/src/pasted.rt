@@ -1,11 +1,11 @@
-//! What a pasted text is told as.
+//! What stands for the characters of a pasted text.
 
 ghost use Rattle.std.specs.Prelude.{◌≡◌, [], ◌∷◌, IfOk, MatchOption, string_bytes};
 ghost use Rattle.tw_device.specs.Told.{pasted_character, pasted_text};
 
 use std::alloc::{AllocError, Global};
 
-/// How the rows of a pasted text are told. Its owner chooses.
+/// What stands for the rows of a pasted text.
 #[derive(Debug, Clone, Copy, PartialEq, Eq)]
 pub enum Pasted {
     /// In one row: each control character, a line end too, is a space.
@@ -15,7 +15,7 @@ pub enum Pasted {
 }
 
 impl Pasted {
-    /// Returns what a character behind `before` is told as, or `None` for the LF of a CR LF, which is told with its CR.
+    /// Returns what stands for a character behind `before`, or `None` for the LF of a CR LF, for which its CR stands.
     fn told(self, before: char, character: char) -> Option<char>
         ensures { MatchOption result (pasted_character self before character ≡ [])
             (λ c. pasted_character self before character ≡ c ∷ []) }
@@ -29,8 +29,8 @@ impl Pasted {
     }
 }
 
-/// A pasted text: its rows as its owner chose, a space for each other control character, and U+FFFD where the bytes are
-/// no text.
+/// Returns a pasted text: its rows as `rows` says, a space for each other control character, and U+FFFD for bytes that
+/// are no text.
 pub(crate) fn pasted_text(alloc: Global, bytes: &[u8], rows: Pasted) -> Result<String, AllocError>
     ensures { IfOk result (λ text. string_bytes text ≡ pasted_text rows bytes.now) }
 {

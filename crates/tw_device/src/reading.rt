@@ -178,7 +178,7 @@ fn finish<T: DeviceTerminal>(editor: &mut LineEditor<'_, T>) -> Result<Option<St
     editor.finish_line()
 }
 
-/// What a line is that was fed so.
+/// Returns what a reading answers, by its line and by why no more events are fed.
 fn answer_of(line: Option<String>, stop: Stop) -> Result<Answer, Error>
     ensures { result ≡ answer_from line stop }
 {

@@ -1,15 +1,17 @@
 //! A terminal over a writer. Its events are not its own affair: they are fed to the editor.
 
 ghost use Rattle.std.specs.Io.KnownBytes.{Appends, Keeps};
-ghost use Rattle.std.specs.Prelude.{◌≡◌, ◌++◌, [], Ok, None, IfOk, OnOk, OnErr, false, refl, string_bytes};
+ghost use Rattle.std.specs.Prelude.{◌≡◌, ◌++◌, [], Ok, None, IfErr, IfOk, OnOk, OnErr, false, refl, string_bytes};
 ghost use Rattle.tw_surface.specs.ChangeView.{batch_view};
 ghost use Rattle.tw_surface.specs.Defaults.{default_attributes};
 ghost use Rattle.tw_terminal.specs.TerminalState.{fresh_terminal, Fails, Flushes, RenderFails, Renders};
 ghost use Rattle.tw_ansi.specs.Encoding.{first_known, without_attributes, sent_batch};
 ghost use Rattle.tw_ansi.specs.Sequences.{set_attributes};
 ghost use Rattle.tw_terminal.specs.Uses.{Other, Refused as BatchRefused, Took};
+ghost use Rattle.tw_terminal.specs.declared.terminal.TerminalFault.TheVariants.{Memory as NoMemory};
 ghost use Rattle.tw_device.specs.Deeds.{Called, Does, Said, Sized};
 ghost use Rattle.tw_device.specs.Terminal.{terminal_state};
+ghost use Rattle.tw_device.specs.declared.refused.Refused.TheVariants.{Memory};
 
 use crate::device::DeviceTerminal;
 use crate::refused::Refused;
@@ -34,7 +36,7 @@ pub struct AnsiTerminal<W> {
 }
 
 impl<W: Write> AnsiTerminal<W> {
-    /// A terminal of this size, whose cursor stands in column 0.
+    /// Creates a terminal of this size, whose cursor stands in column 0.
     pub fn new(alloc: Global, writer: W, size: ScreenSize) -> Self
         ensures state { terminal_state result ≡ fresh_terminal size [] }
         ensures known { result.encoder ≡ first_known size.cols }
@@ -93,7 +95,7 @@ impl<W: Write> AnsiTerminal<W> {
         }
     }
 
-    /// Adds what a batch is sent as, and returns what is then known.
+    /// Appends what a batch is sent as, and returns what is then known.
     fn encode(&self, changes: &[Change], text: &mut String) -> Result<Encoder, AllocError>
         ensures bytes { let sent = sent_batch (batch_view changes.now) self.now.encoder in
             OnOk result (string_bytes text.new ≡ string_bytes text.old ++ sent.bytes) }
@@ -114,6 +116,7 @@ impl<W: Write> AnsiTerminal<W> {
         ensures ok { OnOk result (Renders (batch_view changes.now) (terminal_state self.old) (terminal_state self.new)) }
         ensures err { OnErr result (terminal_state self.new ≡ terminal_state self.old) }
         ensures known { OnErr result (self.new.encoder ≡ self.old.encoder) }
+        ensures unsent { IfErr result (λ refused. refused ≡ Memory → self.new.writer ≡ self.old.writer) }
     {
         let mut text = String::new(self.alloc);
         let encoder = self.encode(changes, &mut text)?;
@@ -131,7 +134,7 @@ impl<W: Write> Terminal for AnsiTerminal<W> {
 
     ghost follows = { λ old new call. Does W.contents old new (Called call) };
 
-    /// The size that its owner gave it. It is never refused.
+    /// Returns the size that its owner gave it. It is never refused.
     fn get_screen_size(&mut self) -> Result<ScreenSize, TerminalFault>
         ensures size { result ≡ Ok (terminal_state self.old).size }
         ensures kept { self.new ≡ self.old }
@@ -140,7 +143,7 @@ impl<W: Write> Terminal for AnsiTerminal<W> {
         Ok(self.size)
     }
 
-    /// None, at every call. It is never refused.
+    /// Returns `None`. It is never refused.
     fn poll_input(&mut self) -> Result<Option<InputEvent>, TerminalFault>
         ensures none { result ≡ Ok None }
         ensures kept { self.new ≡ self.old }
@@ -149,7 +152,8 @@ impl<W: Write> Terminal for AnsiTerminal<W> {
         Ok(None)
     }
 
-    /// Sends the bytes of the changes at once. Where the writer is refused a beginning of them may have been sent.
+    /// Sends the bytes of the changes at once. If the writer refuses, a beginning of them may have been sent, and if
+    /// memory is refused none.
     fn render(&mut self, changes: &[Change]) -> Result<(), TerminalFault>
         ensures ok { OnOk result (Renders (batch_view changes.now) (terminal_state self.old) (terminal_state self.new)) }
         ensures err { OnErr result (RenderFails (batch_view changes.now) (terminal_state self.old) (terminal_state self.new)) }
@@ -157,6 +161,7 @@ impl<W: Write> Terminal for AnsiTerminal<W> {
             OnOk result (Appends (W.contents self.old.writer) (W.contents self.new.writer) sent.bytes) }
         ensures next { OnOk result (self.new.encoder ≡ (sent_batch (batch_view changes.now) self.old.encoder).next) }
         ensures known { OnErr result (self.new.encoder ≡ self.old.encoder) }
+        ensures unsent { IfErr result (λ fault. fault ≡ NoMemory → self.new.writer ≡ self.old.writer) }
         ensures took { OnOk result (Does W.contents self.old self.new (Called (Took (batch_view changes.now)))) }
         ensures refused { OnErr result (Does W.contents self.old self.new (Called BatchRefused)) }
     {

@@ -41,7 +41,7 @@ impl Model for Unread {
 }
 
 impl Unread {
-    /// No bytes.
+    /// Creates a buffer without bytes.
     pub(crate) fn new(alloc: Global) -> Unread
         ensures { result ≡ [] }
     {
@@ -53,14 +53,14 @@ impl Unread {
         }
     }
 
-    /// The bytes.
+    /// Returns the bytes.
     pub(crate) fn bytes(&self) -> &[u8]
         ensures { result.now ≡ self.now }
     {
         &self.buffer.as_slice()[self.taken..self.filled]
     }
 
-    /// Whether they are an ESC, and nothing after it.
+    /// Returns true if they are an ESC alone.
     pub(crate) fn is_lone_escape(&self) -> bool
         ensures { result ≡ is_lone_escape self.now }
     {
@@ -71,7 +71,7 @@ impl Unread {
         }
     }
 
-    /// The token at the front, or none where more bytes are wanted. What was read of them is not read again.
+    /// Returns the token at the front, or `None` if more bytes are wanted. What was scanned is not scanned again.
     pub(crate) fn scan(&mut self, is_last: bool) -> Option<Scanned>
         ensures token { result ≡ token_at is_last self.old }
         ensures within { IfSome result (λ s. s.used ≤ length self.old) }
@@ -86,7 +86,7 @@ impl Unread {
         }
     }
 
-    /// The token at the front, where the bytes after it are not known yet.
+    /// Returns the token at the front, if it does not depend on bytes that are not read yet.
     pub(crate) fn front(&self) -> Option<Scanned>
         ensures { result ≡ token_at false self.now }
     {

@@ -69,7 +69,7 @@ fn read_plainly(rt: HostRuntime) -> Result<Answer, Error> {
     Ok(Answer::Line(line))
 }
 
-/// Returns how pasted texts are told to a prompt: in their rows only if it shows rows.
+/// Returns what stands for the rows of a pasted text in a prompt: its rows only if the prompt shows rows.
 fn pasted_for(rows: &Rows) -> Pasted {
     if rows.are_shown() {
         Pasted::Rows

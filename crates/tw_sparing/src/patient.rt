@@ -1,11 +1,12 @@
 //! A terminal over a writer that is sent nothing while more is at hand, and then what differs.
 
 ghost use Rattle.std.specs.Io.KnownBytes.{Appends, Keeps};
-ghost use Rattle.std.specs.Prelude.{◌≡◌, [], Ok, None, IfOk, OnOk, OnErr, true, false, refl};
+ghost use Rattle.std.specs.Prelude.{◌≡◌, [], Ok, None, IfErr, IfOk, OnOk, OnErr, true, false, refl};
 ghost use Rattle.tw_surface.specs.ChangeView.{batch_view};
 ghost use Rattle.tw_terminal.specs.TerminalState.{fresh_terminal, Fails, Flushes, RenderFails, Renders};
 ghost use Rattle.tw_ansi.specs.Encoding.{first_known, sent_then};
 ghost use Rattle.tw_terminal.specs.Uses.{Other, Refused, Took};
+ghost use Rattle.tw_terminal.specs.declared.terminal.TerminalFault.TheVariants.{Device, Memory};
 ghost use Rattle.tw_device.specs.Deeds.{Called, Said, Sized, sent_deed};
 ghost use Rattle.tw_sparing.specs.Ahead.{groups_with, sent_ahead, latest_known, settled_at, IsJoined};
 ghost use Rattle.tw_sparing.specs.PatientDeeds.{DoesPatiently, FollowsPatiently, IsTakenPatiently, SendsGroups};
@@ -42,7 +43,7 @@ pub struct PatientTerminal<W> {
 }
 
 impl<W: Write> PatientTerminal<W> {
-    /// A terminal of this size, whose cursor stands in column 0. No more is at hand.
+    /// Creates a terminal of this size, whose cursor stands in column 0. No more is at hand.
     pub fn new(alloc: Global, writer: W, size: ScreenSize) -> Self
         ensures state { patient_state result ≡ fresh_terminal size [] }
         ensures known { result.encoder ≡ first_known size.cols }
@@ -79,10 +80,9 @@ impl<W: Write> PatientTerminal<W> {
         self.is_more = is_more;
     }
 
-    /// Sets the size, which nothing else changes. What is kept back is sent first, as one difference. Where that is
-    /// refused, for memory or by the writer, the batches that were kept back are lost and a beginning of it may have
-    /// been sent: it is not counted as a failure, since no call of `Terminal` has failed. What the terminal shows is
-    /// not known afterwards in any case.
+    /// Sets the size, which nothing else changes. What is kept back is sent first, as one difference. If that is refused,
+    /// the batches that were kept back are lost, and a beginning of it may have been sent. It is not counted as a
+    /// failure, since no call of `Terminal` has failed. What the terminal shows is not known afterwards.
     pub fn set_screen_size(&mut self, size: ScreenSize)
         ensures state { patient_state self.new ≡ record (patient_state self.old) { size = size } }
         ensures ahead { self.new.ahead ≡ settled_at size None }
@@ -121,8 +121,8 @@ impl<W: Write> PatientTerminal<W> {
         Ok(())
     }
 
-    /// Sends what is kept back, and returns what is then known, which it does not yet keep. Where it is refused it is
-    /// lost. What the terminal shows is not known afterwards.
+    /// Sends what is kept back, and returns what is then known, which it does not yet keep. What is refused is lost. What
+    /// the terminal shows is not known afterwards.
     fn catch_up(&mut self) -> Result<Encoder, TerminalFault>
         ensures state { patient_state self.new ≡ patient_state self.old }
         ensures encoder { self.new.encoder ≡ self.old.encoder }
@@ -158,6 +158,7 @@ impl<W: Write> PatientTerminal<W> {
         ensures more { self.new.is_more ≡ self.old.is_more }
         ensures start { self.new.at_start ≡ self.old.at_start }
         ensures sent { OnOk result (Appends (W.contents self.old.writer) (W.contents self.new.writer) text.now) }
+        ensures refused { IfErr result (λ fault. fault ≡ Device) }
     {
         match self.writer.write_all(text.as_bytes()) {
             Ok(()) => Ok(()),
@@ -165,8 +166,8 @@ impl<W: Write> PatientTerminal<W> {
         }
     }
 
-    /// Sends a batch with what is kept back, in one write, by what is known after it. Where it is refused it is not
-    /// known what the terminal shows, and what was kept back is lost.
+    /// Sends a batch with what is kept back, in one write, by what is known after it. After a refusal it is not known
+    /// what the terminal shows, and what was kept back is lost.
     fn put(
         &mut self,
         changes: &[Change],
@@ -184,6 +185,7 @@ impl<W: Write> PatientTerminal<W> {
         ensures known { OnErr result (self.new.encoder ≡ self.old.encoder) }
         ensures lost { OnErr result ((self.new.ahead ≡ settled_at self.old.ahead.size None) × (self.new.at_start ≡ false)) }
         ensures last { OnErr result (self.new.is_more ≡ false) }
+        ensures unsent { IfErr result (λ fault. fault ≡ Memory → self.new.writer ≡ self.old.writer) }
     {
         let mut text = String::new(self.alloc);
         let encoded = self.ahead.send_with(
@@ -211,7 +213,7 @@ impl<W: Write> PatientTerminal<W> {
         Ok(())
     }
 
-    /// Keeps a batch back where more is at hand and one difference takes it, and else sends it.
+    /// Keeps a batch back if more is at hand and one difference takes it, and else sends it.
     fn take(&mut self, changes: &[Change]) -> Result<(), TerminalFault>
         ensures ok { OnOk result (Renders (batch_view changes.now) (patient_state self.old) (patient_state self.new)) }
         ensures err { OnErr result (patient_state self.new ≡ patient_state self.old) }
@@ -220,6 +222,7 @@ impl<W: Write> PatientTerminal<W> {
         ensures known { OnErr result (self.new.encoder ≡ self.old.encoder) }
         ensures lost { OnErr result ((self.new.ahead ≡ settled_at self.old.ahead.size None) × (self.new.at_start ≡ false)) }
         ensures last { OnErr result (self.new.is_more ≡ false) }
+        ensures unsent { IfErr result (λ fault. fault ≡ Memory → self.new.writer ≡ self.old.writer) }
     {
         let at_start = self.at_start && self.encoder == Encoder::new(self.ahead.size().cols);
         let (next, is_joined) = self.ahead.known_after(self.alloc, at_start, changes);
@@ -237,7 +240,7 @@ impl<W: Write> Terminal for PatientTerminal<W> {
 
     ghost follows = { FollowsPatiently W.contents };
 
-    /// The size that its owner gave it. It is never refused.
+    /// Returns the size that its owner gave it. It is never refused.
     fn get_screen_size(&mut self) -> Result<ScreenSize, TerminalFault>
         ensures size { result ≡ Ok (patient_state self.old).size }
         ensures kept { self.new ≡ self.old }
@@ -246,7 +249,7 @@ impl<W: Write> Terminal for PatientTerminal<W> {
         Ok(self.ahead.size())
     }
 
-    /// None, at every call. It is never refused.
+    /// Returns `None`. It is never refused.
     fn poll_input(&mut self) -> Result<Option<InputEvent>, TerminalFault>
         ensures none { result ≡ Ok None }
         ensures kept { self.new ≡ self.old }
@@ -255,16 +258,17 @@ impl<W: Write> Terminal for PatientTerminal<W> {
         Ok(None)
     }
 
-    /// Keeps the batch back where more is at hand and one difference takes it with all that is kept back. Else what is
-    /// kept back and the batch are sent at once, in one write: as one difference, or one after the other, each as what
-    /// differs or by its changes. Where memory is refused, or the writer is, of which a beginning may have been sent,
-    /// the batch and those that were kept back are lost, and it is not known what the terminal shows. The next batch is
-    /// sent then, unless it is said once more that more is at hand.
+    /// Keeps the batch back if more is at hand and one difference takes it with all that is kept back. Else sends both at
+    /// once, in one write: as one difference, or one after the other, each as what differs or by its changes. If memory is
+    /// refused nothing is sent, and if the writer refuses a beginning may have been. The batch and those that were kept
+    /// back are lost then, and it is not known what the terminal shows. The next batch is sent, unless it is said once
+    /// more that more is at hand.
     fn render(&mut self, changes: &[Change]) -> Result<(), TerminalFault>
         ensures ok { OnOk result (Renders (batch_view changes.now) (patient_state self.old) (patient_state self.new)) }
         ensures err { OnErr result (RenderFails (batch_view changes.now) (patient_state self.old) (patient_state self.new)) }
         ensures took { OnOk result (FollowsPatiently W.contents self.old self.new (Took (batch_view changes.now))) }
         ensures refused { OnErr result (FollowsPatiently W.contents self.old self.new Refused) }
+        ensures unsent { IfErr result (λ fault. fault ≡ Memory → self.new.writer ≡ self.old.writer) }
     {
         match self.take(changes) {
             Ok(()) => Ok(()),
@@ -275,8 +279,8 @@ impl<W: Write> Terminal for PatientTerminal<W> {
         }
     }
 
-    /// Flushes the writer, to which it adds no byte. Where something is kept back it does nothing, and is not refused:
-    /// what is kept back is flushed with what is sent next.
+    /// Flushes the writer, to which it adds no byte. If something is kept back it does nothing, and is not refused: what is
+    /// kept back is flushed with what is sent next.
     fn flush(&mut self) -> Result<(), TerminalFault>
         ensures ok { OnOk result (Flushes (patient_state self.old) (patient_state self.new)) }
         ensures err { OnErr result (Fails (patient_state self.old) (patient_state self.new)) }

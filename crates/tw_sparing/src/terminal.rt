@@ -1,13 +1,14 @@
 //! A terminal over a writer that is sent what differs.
 
 ghost use Rattle.std.specs.Io.KnownBytes.{Appends, Keeps};
-ghost use Rattle.std.specs.Prelude.{◌≡◌, ◌++◌, [], Ok, None, OnOk, OnErr, false, refl};
+ghost use Rattle.std.specs.Prelude.{◌≡◌, ◌++◌, [], Ok, None, IfErr, OnOk, OnErr, false, refl};
 ghost use Rattle.tw_surface.specs.ChangeView.{batch_view};
 ghost use Rattle.tw_surface.specs.Defaults.{default_attributes};
 ghost use Rattle.tw_terminal.specs.TerminalState.{fresh_terminal, Fails, Flushes, RenderFails, Renders};
 ghost use Rattle.tw_ansi.specs.Encoding.{first_known, without_attributes};
 ghost use Rattle.tw_ansi.specs.Sequences.{set_attributes};
 ghost use Rattle.tw_terminal.specs.Uses.{Other, Refused, Took};
+ghost use Rattle.tw_terminal.specs.declared.terminal.TerminalFault.TheVariants.{Memory};
 ghost use Rattle.tw_device.specs.Deeds.{Called, Said, Sized};
 ghost use Rattle.tw_sparing.specs.Shown.{IsFromStart, IsKnownAfter, sent_for};
 ghost use Rattle.tw_sparing.specs.SparingDeeds.{DoesSparingly};
@@ -24,8 +25,8 @@ use tw_input::InputEvent;
 use tw_surface::Change;
 use tw_terminal::{BatchLog, ScreenSize, Terminal, TerminalFault};
 
-/// A terminal over a writer. It has no events, and the size that its owner gives it. Where it is known what it shows, a
-/// batch is sent as what differs then, and else by its changes.
+/// A terminal over a writer. It has no events, and the size that its owner gives it. If it is known what it shows, a
+/// batch is sent as what differs, and else by its changes.
 #[derive(Drop)]
 pub struct SparingTerminal<W> {
     alloc: Global,
@@ -40,7 +41,7 @@ pub struct SparingTerminal<W> {
 }
 
 impl<W: Write> SparingTerminal<W> {
-    /// A terminal of this size, whose cursor stands in column 0.
+    /// Creates a terminal of this size, whose cursor stands in column 0.
     pub fn new(alloc: Global, writer: W, size: ScreenSize) -> Self
         ensures state { sparing_state result ≡ fresh_terminal size [] }
         ensures known { result.encoder ≡ first_known size.cols }
@@ -112,7 +113,7 @@ impl<W: Write> SparingTerminal<W> {
         }
     }
 
-    /// Sends a batch. Where it is refused it is not known what the terminal shows.
+    /// Sends a batch. After a refusal it is not known what the terminal shows.
     fn put(&mut self, changes: &[Change]) -> Result<(), TerminalFault>
         ensures sent { let sent = sent_for self.old.size.rows (batch_view changes.now) self.old.shown self.new.shown self.old.encoder in
             OnOk result (Appends (W.contents self.old.writer) (W.contents self.new.writer) sent.bytes) }
@@ -123,6 +124,7 @@ impl<W: Write> SparingTerminal<W> {
         ensures err { OnErr result (sparing_state self.new ≡ sparing_state self.old) }
         ensures known { OnErr result (self.new.encoder ≡ self.old.encoder) }
         ensures lost { OnErr result ((self.new.shown ≡ None) × (self.new.at_start ≡ false)) }
+        ensures unsent { IfErr result (λ fault. fault ≡ Memory → self.new.writer ≡ self.old.writer) }
     {
         let at_start = self.at_start && self.encoder == Encoder::new(self.size.cols);
         let next = shown_after(self.alloc, self.size, &self.shown, at_start, changes);
@@ -157,7 +159,7 @@ impl<W: Write> Terminal for SparingTerminal<W> {
 
     ghost follows = { λ old new call. DoesSparingly W.contents old new (Called call) };
 
-    /// The size that its owner gave it. It is never refused.
+    /// Returns the size that its owner gave it. It is never refused.
     fn get_screen_size(&mut self) -> Result<ScreenSize, TerminalFault>
         ensures size { result ≡ Ok (sparing_state self.old).size }
         ensures kept { self.new ≡ self.old }
@@ -166,7 +168,7 @@ impl<W: Write> Terminal for SparingTerminal<W> {
         Ok(self.size)
     }
 
-    /// None, at every call. It is never refused.
+    /// Returns `None`. It is never refused.
     fn poll_input(&mut self) -> Result<Option<InputEvent>, TerminalFault>
         ensures none { result ≡ Ok None }
         ensures kept { self.new ≡ self.old }
@@ -175,8 +177,9 @@ impl<W: Write> Terminal for SparingTerminal<W> {
         Ok(None)
     }
 
-    /// Sends at once what differs, or the bytes of the changes where it is not known what the terminal shows. Where the
-    /// writer is refused a beginning of them may have been sent, and it is not known what the terminal shows.
+    /// Sends at once what differs, or the bytes of the changes if it is not known what the terminal shows. If the writer
+    /// refuses, a beginning of them may have been sent, and if memory is refused none. What the terminal shows is not
+    /// known then.
     fn render(&mut self, changes: &[Change]) -> Result<(), TerminalFault>
         ensures ok { OnOk result (Renders (batch_view changes.now) (sparing_state self.old) (sparing_state self.new)) }
         ensures err { OnErr result (RenderFails (batch_view changes.now) (sparing_state self.old) (sparing_state self.new)) }
@@ -187,6 +190,7 @@ impl<W: Write> Terminal for SparingTerminal<W> {
         ensures start { OnOk result (IsFromStart self.old.encoder.x (batch_view changes.now) self.old.shown self.new.shown) }
         ensures known { OnErr result (self.new.encoder ≡ self.old.encoder) }
         ensures lost { OnErr result (self.new.shown ≡ None) }
+        ensures unsent { IfErr result (λ fault. fault ≡ Memory → self.new.writer ≡ self.old.writer) }
         ensures took { OnOk result (DoesSparingly W.contents self.old self.new (Called (Took (batch_view changes.now)))) }
         ensures refused { OnErr result (DoesSparingly W.contents self.old self.new (Called Refused)) }
     {
