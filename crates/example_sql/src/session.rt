@@ -83,18 +83,22 @@ impl<'a> Session<'a> {
     /// Opens a session at the terminal of the arguments, or at a pipe.
     pub fn open(rt: HostRuntime, options: &'a Options) -> Result<Self, anyhow::Error> {
         let alloc = rt.alloc();
+        let history = open_history(rt, options)?;
+        let language = Language::new(alloc)?;
+        let continuation = String::from_str(alloc, "   ...> ")?;
         let mut host = PromptHost::new(alloc, "sql> ", 80)?
             .with_host(PreparedHost::new(alloc))
-            .with_history(open_history(rt, options)?)
+            .with_history(history)
             .with_keys((RowKeys::new(), all_keys(alloc)))
             .with_validator(PreparedLines::new(alloc));
         host.hints = Hints::dim();
-        host.rows = Rows::Several(String::from_str(alloc, "   ...> ")?);
+        host.rows = Rows::Several(continuation);
+        let prompt = Prompt::over(rt, host)?;
         Ok(Session {
             rt,
             options,
-            prompt: Prompt::over(rt, host)?,
-            language: Language::new(alloc)?,
+            prompt,
+            language,
             begun: String::new(alloc),
             line: 0,
             begun_line: 0,

@@ -25,13 +25,16 @@ pub type DemoHost = PromptHost<TableHost<BasicHistory>, BoundedHistory, DemoKeys
 /// Creates the host. It knows no files and no terminal yet.
 pub fn demo_host(alloc: Global, prompt: &str) -> Result<DemoHost, AllocError> {
     let pairs = common_pairs(alloc)?;
+    let tables = tables(alloc)?;
+    let completers = completers(alloc)?;
+    let continuation = String::from_str(alloc, CONTINUATION)?;
     let mut host = PromptHost::new(alloc, prompt, 80)?
-        .with_host(TableHost::new(tables(alloc)?, BasicHistory::new(alloc)))
+        .with_host(TableHost::new(tables, BasicHistory::new(alloc)))
         .with_history(BoundedHistory::with_limit(alloc, LINES_KEPT))
         .with_keys((RowKeys::new(), all_keys(alloc)))
         .with_validator(NestedLines { pairs });
-    host.completers = completers(alloc)?;
+    host.completers = completers;
     host.hints = Hints::dim();
-    host.rows = Rows::Several(String::from_str(alloc, CONTINUATION)?);
+    host.rows = Rows::Several(continuation);
     Ok(host)
 }

@@ -17,9 +17,12 @@ use host::{DemoKeys, demo_host};
 use tw_device::{AnsiTerminal, Answer, DeviceTerminal};
 use tw_hosts::TableHost;
 use tw_lineedit::{BasicHistory, BoundedHistory};
-use tw_prompt::{Arguments, Prompt, PromptEvents, open_streams, read_listing};
+use tw_prompt::{
+    Arguments, Prompt, PromptEvents, TerminalInput, TypedEvents, open_streams, read_listing,
+};
 use tw_prompt_host::NestedLines;
 use tw_sparing::{PatientTerminal, SparingTerminal};
+use tw_terminal::ScreenSize;
 
 /// What stands before the line.
 const PROMPT: &str = "> ";
@@ -71,30 +74,38 @@ fn serve<T: DeviceTerminal + Drop>(
     Ok(())
 }
 
+/// Reads lines at a terminal.
+fn serve_at<T: DeviceTerminal + Drop>(
+    rt: HostRuntime,
+    events: TypedEvents<TerminalInput, HostRuntime>,
+    terminal: T,
+    size: ScreenSize,
+) -> Result<(), anyhow::Error> {
+    let host = demo_host(rt.alloc(), PROMPT)?;
+    serve(rt, Prompt::at_terminal(rt, host, events, terminal, size)?)
+}
+
 fn main(rt: HostRuntime) -> Result<(), anyhow::Error> {
     let alloc = rt.alloc();
     let arguments = Arguments::read(rt)?;
-    let host = demo_host(alloc, PROMPT)?;
     let Some(size) = arguments.size else {
-        return serve(rt, Prompt::at_pipe(rt, host));
+        return serve(rt, Prompt::at_pipe(rt, demo_host(alloc, PROMPT)?)?);
     };
     let file = arguments.file.as_ref().map(|file| file.as_str());
     let (input, output) = open_streams(rt, file)?;
     match arguments.own.as_slice().first().map(|way| way.as_str()) {
         None => {
             let terminal = AnsiTerminal::new(alloc, output, size);
-            let events = PromptEvents::new(alloc, input, rt);
-            serve(rt, Prompt::at_terminal(rt, host, events, terminal, size)?)
+            serve_at(rt, PromptEvents::new(alloc, input, rt), terminal, size)
         }
         Some("sparing") => {
             let terminal = SparingTerminal::new(alloc, output, size);
-            let events = PromptEvents::new(alloc, input, rt);
-            serve(rt, Prompt::at_terminal(rt, host, events, terminal, size)?)
+            serve_at(rt, PromptEvents::new(alloc, input, rt), terminal, size)
         }
         Some("patient") => {
             let terminal = PatientTerminal::new(alloc, output, size);
             let events = PromptEvents::reading_ahead(alloc, input, rt);
-            serve(rt, Prompt::at_terminal(rt, host, events, terminal, size)?)
+            serve_at(rt, events, terminal, size)
         }
         Some(word) => Err(anyhow!("no argument has the name {word}")),
     }

@@ -7,6 +7,8 @@ use std::test::Fail;
 use styled_screen::ScreenCell;
 use test_cases::{bytes_of, expect_rows, hold};
 use tw_device::{AnsiTerminal, Answer, DeviceTerminal, KeyReader, Pasted};
+use tw_history::BasicHistory;
+use tw_key_parts::KeyPart;
 use tw_prompt::{Application, read_with};
 use tw_prompt_host::{PreparedHost, PreparedLines, PromptHost, Rows};
 use tw_sparing::PatientTerminal;
@@ -54,22 +56,33 @@ pub fn rows_shown(alloc: Global, bytes: &[u8]) -> Result<String, Fail> {
     Ok(String::from_str(alloc, shown.as_str().trim_end_matches('/'))?)
 }
 
+/// Reads a line with the application.
+fn read_in<T: DeviceTerminal, K: KeyPart>(
+    alloc: Global,
+    bytes: &[u8],
+    terminal: &mut T,
+    host: &mut PromptHost<PreparedHost, BasicHistory, K, PreparedLines>,
+) -> Result<String, Fail> {
+    let mut keys = KeyReader::new(alloc, bytes).with_pasted(Pasted::Rows);
+    let mut clerk = Clerk { events: 0 };
+    match read_with(alloc, &mut clerk, &mut keys, terminal, host, "> ")? {
+        Answer::Line(line) => Ok(line),
+        _ => Err(Fail::from("no line")),
+    }
+}
+
 /// Reads a line with the application in a prompt that shows rows.
 fn read_at<T: DeviceTerminal>(
     alloc: Global,
     bytes: &[u8],
     terminal: &mut T,
 ) -> Result<String, Fail> {
+    let continuation = String::from_str(alloc, "- ")?;
     let mut host = PromptHost::new(alloc, "> ", SIZE.cols)?
         .with_host(PreparedHost::new(alloc))
         .with_validator(PreparedLines::new(alloc));
-    host.rows = Rows::Several(String::from_str(alloc, "- ")?);
-    let mut keys = KeyReader::new(alloc, bytes).with_pasted(Pasted::Rows);
-    let mut clerk = Clerk { events: 0 };
-    match read_with(alloc, &mut clerk, &mut keys, terminal, &mut host, "> ")? {
-        Answer::Line(line) => Ok(line),
-        _ => Err(Fail::from("no line")),
-    }
+    host.rows = Rows::Several(continuation);
+    read_in(alloc, bytes, terminal, &mut host)
 }
 
 /// Reads a line at a terminal that paints all, and at one that is sent what differs. Returns the line, and what both

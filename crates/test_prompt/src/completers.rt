@@ -64,9 +64,8 @@ fn listing(alloc: Global, directory: &str, names: &str) -> Result<Listing, Fail>
     })
 }
 
-/// Returns a prompt with commands, which also completes words.
-fn command_prompt(alloc: Global) -> Result<Prompt, Fail> {
-    let mut prompt = new_prompt(alloc)?;
+/// Adds commands to a prompt, which also completes words.
+fn add_commands(alloc: Global, prompt: &mut Prompt) -> Result<(), Fail> {
     for line in CONTEXTS.lines() {
         prompt.completers.push(context_of(alloc, line)?)?;
     }
@@ -76,17 +75,22 @@ fn command_prompt(alloc: Global) -> Result<Prompt, Fail> {
     prompt
         .listings
         .push(listing(alloc, "data/", "one.sql two.sql old/")?)?;
-    Ok(prompt)
+    Ok(())
 }
 
 /// Returns the candidates at the end of a line, each after the offset of the text that it replaces.
-fn offers(alloc: Global, line: &str) -> Result<String, Fail> {
-    let prompt = command_prompt(alloc)?;
+fn offered_by(alloc: Global, prompt: &mut Prompt, line: &str) -> Result<String, Fail> {
+    add_commands(alloc, prompt)?;
     let mut output = String::new(alloc);
     for candidate in &prompt.complete(alloc, line, line.len())? {
         write!(output, "{}{} ", candidate.range.start, candidate.text)?;
     }
     Ok(String::from_str(alloc, output.trim_end())?)
+}
+
+/// Returns those of a new prompt.
+fn offers(alloc: Global, line: &str) -> Result<String, Fail> {
+    offered_by(alloc, &mut new_prompt(alloc)?, line)
 }
 
 const LINES: &str = r"

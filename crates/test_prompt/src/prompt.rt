@@ -43,22 +43,23 @@ fn bold_menu(cols: usize, rows: usize) -> MenuStyle {
 
 /// Returns a prompt on 80 columns that completes some words.
 pub fn new_prompt(alloc: Global) -> Result<Prompt, Fail> {
+    let host = table_host(alloc, "users user_roles orders")?;
+    let pairs = common_pairs(alloc)?;
+    let screen = PromptScreen {
+        cols: 80,
+        prompt: String::from_str(alloc, "> ")?,
+    };
     Ok(PromptHost {
-        host: table_host(alloc, "users user_roles orders")?,
+        host,
         history: BasicHistory::new(alloc),
         completers: Vec::new(alloc),
         listings: Vec::new(alloc),
         keys: all_keys(alloc),
         hints: Hints::dim(),
         stops_failing_searches: true,
-        validator: NestedLines {
-            pairs: common_pairs(alloc)?,
-        },
+        validator: NestedLines { pairs },
         menu: bold_menu(80, 4),
-        screen: PromptScreen {
-            cols: 80,
-            prompt: String::from_str(alloc, "> ")?,
-        },
+        screen,
         rows: Rows::One,
         going: Going::new(),
     })
@@ -136,14 +137,19 @@ fn is_setup(alloc: Global, prompt: &mut Prompt, command: &str) -> Result<bool, F
 /// if the last painting ends with the text, and else the painting), or those of `is_setup`.
 pub fn read_all(alloc: Global, commands: &str) -> Result<String, Fail> {
     let mut prompt = new_prompt(alloc)?;
+    read_with(alloc, &mut prompt, commands)
+}
+
+/// Runs such commands on a prompt. It is lent: a function that owns it has a state for each of its fields at each `?`.
+fn read_with(alloc: Global, prompt: &mut Prompt, commands: &str) -> Result<String, Fail> {
     let mut answers = Vec::new(alloc);
     let mut shown = String::new(alloc);
     for command in commands.split("; ") {
         if let Some(end) = command.strip_prefix("ends ") {
             let is_shown = shown.ends_with(end);
             answers.push(String::from_str(alloc, if is_shown { "yes" } else { shown.as_str() })?)?;
-        } else if !is_setup(alloc, &mut prompt, command)? {
-            let (line, painted) = read_script(alloc, &mut prompt, command)?;
+        } else if !is_setup(alloc, prompt, command)? {
+            let (line, painted) = read_script(alloc, prompt, command)?;
             answers.push(line)?;
             shown = painted;
         }

@@ -82,12 +82,13 @@ fn line_of(alloc: Global, text: &str) -> Result<LineEditBuffer, Fail> {
     Ok(line)
 }
 
-/// A refused resolution leaves the prompt as it was: from then on it answers as one that was never refused.
-#[test]
-fn prompt_resolutions_refused_in_turn(rt: HostRuntime) -> Result<(), Fail> {
-    let alloc = rt.alloc();
-    let mut prompt = new_prompt(alloc)?;
-    let mut other = new_prompt(alloc)?;
+/// Compares two prompts, one of which is refused, at each step.
+fn compare(
+    rt: &impl Abort,
+    alloc: Global,
+    prompt: &mut Prompt,
+    other: &mut Prompt,
+) -> Result<(), Fail> {
     for &line in &["open(", "copy a"] {
         prompt.remember(line)?;
         other.remember(line)?;
@@ -96,16 +97,25 @@ fn prompt_resolutions_refused_in_turn(rt: HostRuntime) -> Result<(), Fail> {
         let (text, name) = step.split_once('|').ok_or("no event")?;
         for event in &events_named(alloc, name)? {
             let mut line = line_of(alloc, text)?;
-            let action = resolve(&rt, alloc, &mut prompt, event, &mut line)?;
+            let action = resolve(rt, alloc, prompt, event, &mut line)?;
             let mut other_line = line_of(alloc, text)?;
             let wanted = other.resolve_action(alloc, event, &mut other_line)?;
-            let wanted = answer_text(alloc, &other, &wanted, &other_line)?;
+            let wanted = answer_text(alloc, other, &wanted, &other_line)?;
             assert_eq!(rt;
-                answer_text(alloc, &prompt, &action, &line)?,
+                answer_text(alloc, prompt, &action, &line)?,
                 wanted,
                 "{step}"
             );
         }
     }
     Ok(())
+}
+
+/// A refused resolution leaves the prompt as it was: from then on it answers as one that was never refused.
+#[test]
+fn prompt_resolutions_refused_in_turn(rt: HostRuntime) -> Result<(), Fail> {
+    let alloc = rt.alloc();
+    let mut prompt = new_prompt(alloc)?;
+    let mut other = new_prompt(alloc)?;
+    compare(&rt, alloc, &mut prompt, &mut other)
 }

@@ -5,7 +5,7 @@ use std::alloc::Global;
 use std::test::Fail;
 use test_cases::{expect_rows, hold};
 use tw_input::{InputEvent, KeyCode, KeyEvent, Modifiers};
-use tw_lineedit::LineEditor;
+use tw_lineedit::{LineEditor, LineEditorHost};
 use tw_prompt_host::{PromptHost, Rows};
 use tw_surface::Screen;
 use tw_terminal::{ScreenSize, ScriptTerminal};
@@ -119,10 +119,13 @@ fn play(screen: &mut Screen, terminal: &ScriptTerminal, played: usize) -> Result
     Ok(terminal.batches().len())
 }
 
-/// Shows a line in rows, with its cursor at the end and then further back at each event, and compares each screen.
-fn try_line(alloc: Global, shape: Shape<'_>, line: &str) -> Result<(), Fail> {
-    let mut host = PromptHost::new(alloc, shape.prompt, shape.cols)?;
-    host.rows = Rows::Several(String::from_str(alloc, shape.continuation)?);
+/// Shows a line with its cursor at the end and then further back at each event, and compares each screen.
+fn show_line<H: LineEditorHost>(
+    alloc: Global,
+    shape: Shape<'_>,
+    host: &mut H,
+    line: &str,
+) -> Result<(), Fail> {
     let size = ScreenSize {
         rows: 24,
         cols: shape.cols,
@@ -131,7 +134,7 @@ fn try_line(alloc: Global, shape: Shape<'_>, line: &str) -> Result<(), Fail> {
     let mut screen = Screen::new(alloc, shape.cols).or(Err("no screen"))?;
     let mut editor = LineEditor::new(alloc, &mut terminal)?;
     editor.set_prompt(shape.prompt)?;
-    editor.begin_line(&host, Some(line))?;
+    editor.begin_line(host, Some(line))?;
     let mut played = play(&mut screen, editor.terminal(), 0)?;
     compare(alloc, shape, &screen, line, line)?;
     for at in 1..=line.len() {
@@ -139,7 +142,7 @@ fn try_line(alloc: Global, shape: Shape<'_>, line: &str) -> Result<(), Fail> {
             key: KeyCode::LeftArrow,
             modifiers: Modifiers::NONE,
         });
-        let _status = editor.feed(&mut host, &back)?;
+        let _status = editor.feed(host, &back)?;
         played = play(&mut screen, editor.terminal(), played)?;
         let before = line
             .get(..line.len().saturating_sub(at))
@@ -147,6 +150,14 @@ fn try_line(alloc: Global, shape: Shape<'_>, line: &str) -> Result<(), Fail> {
         compare(alloc, shape, &screen, line, before)?;
     }
     Ok(())
+}
+
+/// Shows a line in rows.
+fn try_line(alloc: Global, shape: Shape<'_>, line: &str) -> Result<(), Fail> {
+    let continuation = String::from_str(alloc, shape.continuation)?;
+    let mut host = PromptHost::new(alloc, shape.prompt, shape.cols)?;
+    host.rows = Rows::Several(continuation);
+    show_line(alloc, shape, &mut host, line)
 }
 
 /// Tries a line, `PROMPT|CONTINUATION|LINE` with `/` for a line feed, on screens of 2 to 40 columns.

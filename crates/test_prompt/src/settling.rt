@@ -1,7 +1,7 @@
 //! The cursor's column where wide characters leave cells empty at the screen's edge. The columns are counted by hand on
 //! what a terminal shows after the prompt `> `.
 
-use crate::prompt::new_prompt;
+use crate::prompt::{Prompt, new_prompt};
 use std::alloc::Global;
 use std::test::Fail;
 use test_cases::{events_named, expect_rows};
@@ -9,10 +9,9 @@ use tw_host::LineEditorHost;
 use tw_hosts::settled_column;
 use tw_line::LineEditBuffer;
 
-/// Returns the cursor's column at the end of a line before and after an event, at first on 80 columns: `EVENT LINE`.
-fn resized(alloc: Global, command: &str) -> Result<String, Fail> {
+/// Returns the cursor's column at the end of a line before and after an event: `EVENT LINE`.
+fn resized(alloc: Global, prompt: &mut Prompt, command: &str) -> Result<String, Fail> {
     let (name, line) = command.split_once(' ').ok_or("no line")?;
-    let mut prompt = new_prompt(alloc)?;
     let (_, before) = prompt.highlight_line(alloc, line, line.len())?;
     let mut buffer = LineEditBuffer::empty(alloc);
     for event in &events_named(alloc, name)? {
@@ -24,11 +23,11 @@ fn resized(alloc: Global, command: &str) -> Result<String, Fail> {
     Ok(format!(in alloc; "{before} {after}")?)
 }
 
-/// Returns the cursor's column: `COLS CURSOR LINE`, or `resized EVENT LINE`.
+/// Returns the cursor's column: `COLS CURSOR LINE`, or `resized EVENT LINE`, at first on 80 columns.
 fn column(alloc: Global, command: &str) -> Result<String, Fail> {
     let (cols, rest) = command.split_once(' ').ok_or("no line")?;
     if cols == "resized" {
-        return resized(alloc, rest);
+        return resized(alloc, &mut new_prompt(alloc)?, rest);
     }
     let (cursor, line) = rest.split_once(' ').ok_or("no line")?;
     let cursor = cursor.parse()?;

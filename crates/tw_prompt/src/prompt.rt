@@ -37,12 +37,13 @@ pub type PromptTerminal = PatientTerminal<TerminalOutput>;
 /// A prompt in a program that `tools/at_terminal` starts. At a pipe it reads plain lines and shows no prompt.
 #[derive(Drop)]
 pub struct Prompt<T, H, L, K, V> {
-    /// The host: what shows and completes the line, the history, the keys.
-    pub host: PromptHost<H, L, K, V>,
+    /// The host: what shows and completes the line, the history, the keys. It is boxed, since a program that owns all of
+    /// its fields takes minutes to prove.
+    pub host: Box<PromptHost<H, L, K, V>>,
     /// True if accepted lines that are not empty go into the history.
     pub remembers: bool,
     rt: HostRuntime,
-    place: Place<T>,
+    place: Box<Place<T>>,
 }
 
 /// Returns the editor's error for an error of a stream.
@@ -101,7 +102,7 @@ impl<
     pub fn over(rt: HostRuntime, host: PromptHost<H, L, K, V>) -> Result<Self, Error> {
         let arguments = Arguments::read(rt).map_err(refused)?;
         let Some(size) = arguments.size else {
-            return Ok(Prompt::at_pipe(rt, host));
+            return Prompt::at_pipe(rt, host);
         };
         let file = arguments.file.as_ref().map(|file| file.as_str());
         let (input, output) = open_streams(rt, file).map_err(refused)?;
@@ -111,13 +112,15 @@ impl<
     }
 
     /// Creates a prompt at standard input, which is no terminal.
-    pub fn at_pipe(rt: HostRuntime, host: PromptHost<H, L, K, V>) -> Self {
-        Prompt {
+    pub fn at_pipe(rt: HostRuntime, host: PromptHost<H, L, K, V>) -> Result<Self, Error> {
+        let host = Box::new(rt.alloc(), host)?;
+        let place = Box::new(rt.alloc(), Place::Pipe)?;
+        Ok(Prompt {
             host,
             remembers: true,
             rt,
-            place: Place::Pipe,
-        }
+            place,
+        })
     }
 }
 
@@ -132,32 +135,43 @@ impl<
     /// host gets its columns, and pasted texts keep their rows if it shows rows.
     pub fn at_terminal(
         rt: HostRuntime,
-        mut host: PromptHost<H, L, K, V>,
+        host: PromptHost<H, L, K, V>,
         events: TypedEvents<TerminalInput, HostRuntime>,
-        mut terminal: T,
+        terminal: T,
         size: ScreenSize,
     ) -> Result<Self, Error> {
-        terminal.send(BEGIN)?;
+        let mut host = Box::new(rt.alloc(), host)?;
         host.menu.cols = size.cols;
         host.screen.cols = size.cols;
         let events = events.with_pasted(pasted_for(&host.rows));
-        Ok(Prompt {
+        let place = Box::new(rt.alloc(), Place::Terminal { events, terminal })?;
+        let mut prompt = Prompt {
             host,
             remembers: true,
             rt,
-            place: Place::Terminal { events, terminal },
-        })
+            place,
+        };
+        prompt.send(BEGIN)?;
+        Ok(prompt)
+    }
+
+    /// Sends a text to the terminal, and none to a pipe.
+    fn send(&mut self, text: &str) -> Result<(), Error> {
+        match &mut *self.place {
+            Place::Pipe => Ok(()),
+            Place::Terminal { terminal, .. } => Ok(terminal.send(text)?),
+        }
     }
 
     /// Reads a line. The prompt is `host.screen.prompt`. What the last line left, accepted or not, is forgotten first.
     pub fn read(&mut self) -> Result<Answer, Error> {
         self.host.begin_line();
-        let answer = match &mut self.place {
+        let answer = match &mut *self.place {
             Place::Pipe => read_plainly(self.rt)?,
             Place::Terminal { events, terminal } => {
                 let prompt = self.host.screen.prompt.clone()?;
                 let alloc = self.rt.alloc();
-                read_line_from(alloc, events, terminal, &mut self.host, prompt.as_str())?
+                read_line_from(alloc, events, terminal, &mut *self.host, prompt.as_str())?
             }
         };
         self.remember(&answer);
@@ -176,7 +190,7 @@ impl<
 
     /// Prints lines, which end with CR LF at a terminal. An unfinished last line is ended, and of no line nothing is sent.
     pub fn print(&mut self, text: &str) -> Result<(), Error> {
-        let end = match &self.place {
+        let end = match &*self.place {
             Place::Pipe => "\n",
             Place::Terminal { .. } => "\r\n",
         };
@@ -184,7 +198,7 @@ impl<
         if shown.is_empty() {
             return Ok(());
         }
-        match &mut self.place {
+        match &mut *self.place {
             Place::Pipe => self
                 .rt
                 .stdout()
@@ -196,10 +210,7 @@ impl<
 
     /// Has the terminal mark nothing and tell no sizes any more, as before the prompt.
     pub fn close(mut self) -> Result<(), Error> {
-        match &mut self.place {
-            Place::Pipe => Ok(()),
-            Place::Terminal { terminal, .. } => Ok(terminal.send(END)?),
-        }
+        self.send(END)
     }
 }
 
@@ -214,7 +225,7 @@ impl<T: DeviceTerminal + Drop, L: History + LentLines + Drop, K: KeyPart + Drop>
     pub fn read_with<A: Application>(&mut self, application: &mut A) -> Result<Answer, Error> {
         self.host.begin_line();
         self.host.validator.lack = None;
-        let answer = match &mut self.place {
+        let answer = match &mut *self.place {
             Place::Pipe => read_plainly(self.rt)?,
             Place::Terminal { events, terminal } => {
                 let prompt = self.host.screen.prompt.clone()?;
@@ -223,7 +234,7 @@ impl<T: DeviceTerminal + Drop, L: History + LentLines + Drop, K: KeyPart + Drop>
                     application,
                     events,
                     terminal,
-                    &mut self.host,
+                    &mut *self.host,
                     prompt.as_str(),
                 )?
             }

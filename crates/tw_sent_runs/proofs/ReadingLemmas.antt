@@ -13,6 +13,7 @@ use Rattle.tw_lineedit.specs.Frame.{Frame}
 use Rattle.tw_lineedit.specs.Reading.{Reads}
 use Rattle.tw_lineedit.specs.Run.{run_of}
 use Rattle.tw_lineedit.specs.ScreenRuns.{batches_of}
+use Rattle.tw_lineedit.specs.Stations.{Station}
 use Rattle.tw_screen_runs.specs.DrawnRuns.{closed_by}
 use Rattle.tw_ansi.specs.declared.encode.Encoder.{Encoder}
 use Rattle.tw_ansi.specs.Encoding.{Sent}
@@ -26,7 +27,7 @@ use Rattle.tw_device.specs.Terminal.{terminal_state}
 use Rattle.tw_device.specs.declared.terminal.AnsiTerminal.{AnsiTerminal}
 use Rattle.tw_device.proofs.DeedLemmas.{led_is_sent}
 use Rattle.tw_sent_runs.specs.SentReadings.{reading_frame, IsSentReading, ReadingPaintingsAreShown, ReadingClosingsAreShown}
-use Rattle.tw_sent_runs.specs.SentRuns.{sent_paintings, shown_by}
+use Rattle.tw_sent_runs.specs.SentRuns.{sent_paintings, sent_run, shown_by}
 use Rattle.tw_sent_runs.proofs.ClosingLemmas.{sent_both, closings_are_shown}
 use Rattle.tw_sent_runs.proofs.SentLemmas.{paintings_are_shown}
 
@@ -44,7 +45,7 @@ module _ {V W : Type 0} (rules : HostRules V) (contents : W → Option (List ℕ
     pub bytes : contents new.writer ≡ Some (held ++ (sent_batches batches old.encoder).bytes)
     pub known : new.encoder ≡ (sent_batches batches old.encoder).next
 
-  of_run : (prompt : List ℕ) (value : V) (old new : AnsiTerminal W) (events : List EventView) (held : List ℕ)
+  pub of_run : (prompt : List ℕ) (value : V) (old new : AnsiTerminal W) (events : List EventView) (held : List ℕ)
       → IsSentReading rules contents prompt value old new events held → IsOfRun (reading_frame prompt value old events) old new held
   of_run prompt value old new events held k =
       let told = k.read.0.1 in
@@ -63,45 +64,55 @@ module _ {V W : Type 0} (rules : HostRules V) (contents : W → Option (List ℕ
         known = sent.3;
       }
 
+  -- The run begins with some batches: so what is written begins with their bytes.
+  pub written_first : (f : Frame V) (old new : AnsiTerminal W) (held : List ℕ) → IsOfRun f old new held
+      → (shown more : List Batch) → (run_of rules f).taken ≡ f.terminal.batches ++ (shown ++ more)
+      → (rest : List ℕ) × (contents new.writer ≡ Some (held ++ ((sent_batches shown old.encoder).bytes ++ rest)))
+  written_first f old new held run shown more taken =
+      let e : Encoder = old.encoder in
+      let end : List Batch = closing_if (run_of rules f).mark in
+      let all : run.batches ≡ shown ++ (more ++ end) = append_cancel_left f.terminal.batches run.batches (shown ++ (more ++ end)) (
+      sym run.taken ∙ ap (λ l. l ++ end) taken ∙ append_assoc f.terminal.batches (shown ++ more) end
+      ∙ ap (λ l. f.terminal.batches ++ l) (append_assoc shown more end)) in (
+        (sent_batches (more ++ end) (sent_batches shown e).next).bytes,
+        run.bytes ∙ ap (λ l. Some (held ++ (sent_batches l e).bytes)) all ∙ ap (λ (s : Sent). Some (held ++ s.bytes)) (sent_both shown (more ++ end) e),
+      )
+
+  -- The run has these batches and no other: so theirs are all bytes, and those of the closing batch.
+  pub written_all : (f : Frame V) (old new : AnsiTerminal W) (held : List ℕ) → IsOfRun f old new held
+      → (shown : List Batch) → (run_of rules f).taken ≡ f.terminal.batches ++ shown
+      → let sent = sent_batches (shown ++ closing_if (run_of rules f).mark) old.encoder in
+      (contents new.writer ≡ Some (held ++ sent.bytes)) × (new.encoder ≡ sent.next)
+  written_all f old new held run shown taken =
+      let e : Encoder = old.encoder in
+      let end : List Batch = closing_if (run_of rules f).mark in
+      let all : run.batches ≡ shown ++ end = append_cancel_left f.terminal.batches run.batches (shown ++ end)
+      (sym run.taken ∙ ap (λ l. l ++ end) taken ∙ append_assoc f.terminal.batches shown end) in (
+        run.bytes ∙ ap (λ l. Some (held ++ (sent_batches l e).bytes)) all,
+        run.known ∙ ap (λ l. (sent_batches l e).next) all,
+      )
+
   module _ {A C : Type 0} (pen : Pen A C) where
     pub reading_paintings_are_shown : ReadingPaintingsAreShown rules contents pen
     reading_paintings_are_shown prompt value old new events held h w earlier station later t before k carries comes =
         let f : Frame V = reading_frame prompt value old events in
-        let e : Encoder = old.encoder in
-        let shown : List Batch = batches_of rules (earlier ++ station ∷ []) in
-        let painted = paintings_are_shown pen rules f h w earlier station later e t before carries comes in
-        let run = of_run prompt value old new events held k in
-        let behind : List Batch = painted.1.beginning.0 ++ closing_if (run_of rules f).mark in
-        let all : run.batches ≡ shown ++ behind = append_cancel_left f.terminal.batches run.batches (shown ++ behind) (
-        sym run.taken
-        ∙ ap (λ l. l ++ closing_if (run_of rules f).mark) painted.1.beginning.1
-        ∙ append_assoc f.terminal.batches (shown ++ painted.1.beginning.0) (closing_if (run_of rules f).mark)
-        ∙ ap (λ l. f.terminal.batches ++ l) (append_assoc shown painted.1.beginning.0 (closing_if (run_of rules f).mark))) in
-        let sent : Sent = sent_paintings rules pen (earlier ++ station ∷ []) e in
-        let rest : List ℕ = (sent_batches behind sent.next).bytes in (
-          rest,
-          run.bytes ∙ ap (λ l. Some (held ++ (sent_batches l e).bytes)) all ∙ ap (λ (s : Sent). Some (held ++ s.bytes)) (sent_both shown behind e),
-          painted.0,
-          painted.1,
-        )
+        let painted = paintings_are_shown pen rules f h w earlier station later old.encoder t before carries comes in
+        let written = written_first f old new held (of_run prompt value old new events held k)
+        (batches_of rules (earlier ++ station ∷ [])) painted.1.beginning.0 painted.1.beginning.1 in
+        (written.0, written.1, painted.0, painted.1)
 
     pub reading_closings_are_shown : ReadingClosingsAreShown rules contents pen
     reading_closings_are_shown prompt value old new events held h w earlier station later t before k carries comes none =
         let f : Frame V = reading_frame prompt value old events in
         let e : Encoder = old.encoder in
-        let shown : List Batch = batches_of rules (earlier ++ station ∷ []) in
-        let end : List Batch = closing_if (run_of rules f).mark in
+        let stations : List (Station V) = earlier ++ station ∷ [] in
         let closes = closings_are_shown pen rules f h w earlier station later e t before carries comes none in
-        let run = of_run prompt value old new events held k in
-        let all : run.batches ≡ shown ++ end = append_cancel_left f.terminal.batches run.batches (shown ++ end)
-        (sym run.taken ∙ ap (λ l. l ++ end) closes.0 ∙ append_assoc f.terminal.batches shown end) in
-        let closed : PictureOf C = closed_by rules pen (Some h) false w w (pen.attributes (sent_paintings rules pen (earlier ++ station ∷ []) e).next.attributes) f
-        (shown_by rules pen h w e (earlier ++ station ∷ []) before) in
-        let bytes : List ℕ = (sent_batches run.batches e).bytes in (
-          bytes,
-          run.bytes,
-          subst (λ next. ShowsPicture pen h w next (receive_all pen h w bytes t) closed) (sym run.known)
-              (subst (λ l. ShowsPicture pen h w (sent_batches l e).next (receive_all pen h w (sent_batches l e).bytes t) closed) (sym all) closes.1),
+        let written = written_all f old new held (of_run prompt value old new events held k) (batches_of rules stations) closes.0 in
+        let sent : Sent = sent_run rules pen f stations e in
+        let closed : PictureOf C = closed_by rules pen (Some h) false w w (pen.attributes (sent_paintings rules pen stations e).next.attributes) f (shown_by rules pen h w e stations before) in (
+          sent.bytes,
+          written.0,
+          subst (λ next. ShowsPicture pen h w next (receive_all pen h w sent.bytes t) closed) (sym written.1) closes.1,
           closes.2,
-          subst (λ next. IsColor next.attributes.background) (sym run.known) (subst (λ l. IsColor (sent_batches l e).next.attributes.background) (sym all) closes.3),
+          subst (λ next. IsColor next.attributes.background) (sym written.1) closes.3,
         )
