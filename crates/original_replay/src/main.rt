@@ -1,5 +1,5 @@
 //! Plays the scripts that the original crate has answered, and compares what each one prints with its answer.
-//! The answers are files in the folder that the program runs in; how they were made is in docs/ORIGINAL.md.
+//! The answers are files in the folder that the program runs in; how they were made is in docs/DIFFERENCES.md.
 //! Standard output has a line for each file, and each script whose answer differs; the exit status is 1 where
 //! one does.
 #![tactic(auto)]
