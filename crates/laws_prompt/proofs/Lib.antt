@@ -3,3 +3,23 @@ pub mod SearchRunLemmas
 pub mod MenuLemmas
 pub mod MenuRunLemmas
 pub mod SearchEndLemmas
+pub mod RowSpreads
+pub mod RowTexts
+pub mod TypedColumns
+pub mod SpreadLines
+pub mod ColumnLemmas
+pub mod RowSceneLemmas
+pub mod RowStationLemmas
+pub mod PlainRowLemmas
+pub mod ShownRows
+pub mod CellLemmas
+pub mod AnsweredRowLemmas
+pub mod LastRowLemmas
+pub mod RowRunLemmas
+pub mod LineRunLemmas
+pub mod SentRowLemmas
+pub mod RowReadingLemmas
+mod WorkedRows
+mod WorkedRowRuns
+mod WorkedRowScenes
+mod WorkedSentRows

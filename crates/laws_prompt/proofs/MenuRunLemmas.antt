@@ -28,7 +28,7 @@ use Rattle.tw_key_parts.specs.SearchWatch.{has_lines, searches_after}
 use Rattle.tw_prompt_host.specs.Going.{GoingView, at_rest, before_search_after, comes_back_after, give_up_key, line_at}
 use Rattle.tw_prompt_host.specs.MenuState.{MenuView, Closed, Unseen, Few, Open, Shown, back_key, is_completing, menu_after, menu_begun, open_if, step_of_menu, stepped, turned}
 use Rattle.tw_prompt_host.specs.MenuView.{asks, is_still, turn_line, turn_unless}
-use Rattle.tw_prompt_host.specs.PromptRules.{Answer, Prompted, answered, completing, edit_at, found, is_kept, judged, known_at, opens_row, prompt_rules, turn_at}
+use Rattle.tw_prompt_host.specs.PromptRules.{Answer, Prompted, answered, completing, edit_at, fails_by_key, found, is_kept, judged, known_at, opens_row, prompt_rules, turn_at}
 use Rattle.tw_prompt_host.specs.Validation.{is_accepting}
 use Rattle.tw_prompt_host.proofs.SearchLemmas.{said_all}
 use Rattle.laws_prompt.specs.MenuRuns.{ClosesAfterLines, IsMarked, IsMenuTold, TellsLine, TellsLines}
@@ -184,9 +184,9 @@ module _ {V S K : Type 0} (keys : KeyRules S K) (rules : HostRules V) where
         let quiet = subst (λ m. IsQuiet m v.going.searching v.going.comes_back) shown fits.quiet in
         same_is cut after same ∙ ap (λ back. line_at (record v.going { comes_back = back }) s.cut) quiet.1
 
-    unturned : (answer : Answer K) (value : V) (back : Bool) → Led (judged keys rules v e cut value answer None back)
-    unturned answer value back =
-        let r = judged keys rules v e cut value answer None back in
+    unturned : (answer : Answer K) (value : V) (back fails : Bool) → Led (judged keys rules v e cut value answer None back fails)
+    unturned answer value back fails =
+        let r = judged keys rules v e cut value answer None back fails in
         let same = is_same_cut cut answer.cut in (
           applied_if keys rules r.value v.going.menu s answer.cut same (λ x shown. stays x answer.cut shown) going told_line (or_default r.action e) refl,
           quiet_after (is_key give_up_key e) (has_lines v.lines) same v.going v.going.menu fits.still fits.quiet (or_default r.action e),
@@ -244,24 +244,24 @@ module _ {V S K : Type 0} (keys : KeyRules S K) (rules : HostRules V) where
     turns_at (Few candidates) turn is begun = begun_turns (Few candidates) turn _ _ is refl begun
     turns_at (Open x) turn is leads = open_turns x _ _ turn is leads
 
-    turned_to : (turn : MenuView) (rcut : Cut) (value : V) (kept : Bool) → Turns turn
+    turned_to : (turn : MenuView) (rcut : Cut) (value : V) (kept fails : Bool) → Turns turn
         → let answer = answered None (completing None (turn_line (Some turn))) rcut in
-        Led (judged keys rules v e cut value answer (Some turn) (kept && is_accepting (or_default answer.action e)))
+        Led (judged keys rules v e cut value answer (Some turn) (kept && is_accepting (or_default answer.action e)) fails)
     unfolding apply
-    turned_to Closed rcut value kept turns = absurd turns.ready
-    turned_to Unseen rcut value kept turns = absurd turns.ready
-    turned_to (Few candidates) rcut value kept turns =
+    turned_to Closed rcut value kept fails turns = absurd turns.ready
+    turned_to Unseen rcut value kept fails turns = absurd turns.ready
+    turned_to (Few candidates) rcut value kept fails turns =
         let answer = answered None None rcut in
-        let r = judged keys rules v e cut value answer (Some (Few candidates)) (kept && is_accepting (action_of e)) in
+        let r = judged keys rules v e cut value answer (Some (Few candidates)) (kept && is_accepting (action_of e)) fails in
         let action : or_default r.action e ≡ Some Complete =
         ap (λ a. or_default a e) (said_all kept (opens_row keys rules v) (action_of e) None (ap is_accepting turns.ready.1)) ∙ turns.ready.1 in (
           subst (λ a. Leads (Few candidates) (apply_if Host r.value a (record s { cut = rcut }))) (sym action)
               (completes (record s { cut = rcut }) going (Few candidates) (found keys rules r.value) (sym fits.watch ∙ turns.still) turns.none turns.ready.0),
           tt,
         )
-    turned_to (Open m) rcut value kept turns =
+    turned_to (Open m) rcut value kept fails turns =
         let answer = answered None (completing None (Some m.line)) rcut in
-        let r = judged keys rules v e cut value answer (Some (Open m)) (kept && is_accepting (Some Complete)) in
+        let r = judged keys rules v e cut value answer (Some (Open m)) (kept && is_accepting (Some Complete)) fails in
         let action : or_default r.action e ≡ Some Complete = ap (λ a. or_default a e) (said_all kept (opens_row keys rules v) (Some Complete) (Some Complete) refl) in
         let gave = is_key give_up_key e in (
           subst (λ a. Leads (Open m) (apply_if Host r.value a (record s { cut = m.line }))) (sym action)
@@ -270,21 +270,21 @@ module _ {V S K : Type 0} (keys : KeyRules S K) (rules : HostRules V) where
               (refl, none_back gave false v.going.before_search (fits.still turns.still)),
         )
 
-    led_by : (own : Option ActionView) (rcut : Cut) (value : V) (edit : Option (Edited (Option K))) (turn : Option MenuView) (kept : Bool) → turn_at keys rules v e cut ≡ turn
+    led_by : (own : Option ActionView) (rcut : Cut) (value : V) (edit : Option (Edited (Option K))) (turn : Option MenuView) (kept fails : Bool) → turn_at keys rules v e cut ≡ turn
         → let answer = answered own (completing edit (turn_line turn)) rcut in
-        Led (judged keys rules v e cut value answer (turn_unless own edit turn) (kept && is_accepting (or_default answer.action e)))
-    led_by (Some a) rcut value edit turn kept is =
-        let answer : Answer K = answered (Some a) (completing edit (turn_line turn)) rcut in unturned answer value (kept && is_accepting (or_default answer.action e))
-    led_by None rcut value (Some edit) turn kept is =
-        let answer : Answer K = answered None (completing (Some edit) (turn_line turn)) rcut in unturned answer value (kept && is_accepting (or_default answer.action e))
-    led_by None rcut value None None kept is =
-        let answer : Answer K = answered None (completing None (turn_line None)) rcut in unturned answer value (kept && is_accepting (or_default answer.action e))
-    led_by None rcut value None (Some turn) kept is = turned_to turn rcut value kept (turns_at v.going.menu turn refl is)
+        Led (judged keys rules v e cut value answer (turn_unless own edit turn) (kept && is_accepting (or_default answer.action e)) fails)
+    led_by (Some a) rcut value edit turn kept fails is =
+        let answer : Answer K = answered (Some a) (completing edit (turn_line turn)) rcut in unturned answer value (kept && is_accepting (or_default answer.action e)) fails
+    led_by None rcut value (Some edit) turn kept fails is =
+        let answer : Answer K = answered None (completing (Some edit) (turn_line turn)) rcut in unturned answer value (kept && is_accepting (or_default answer.action e)) fails
+    led_by None rcut value None None kept fails is =
+        let answer : Answer K = answered None (completing None (turn_line None)) rcut in unturned answer value (kept && is_accepting (or_default answer.action e)) fails
+    led_by None rcut value None (Some turn) kept fails is = turned_to turn rcut value kept fails (turns_at v.going.menu turn refl is)
 
     led : Led (Host.resolve v e s.cut)
     led =
         let own = rules.resolve v.host e cut in
-        led_by own.action own.cut own.value (edit_at keys rules v e cut) (turn_at keys rules v e cut) (is_kept keys rules v cut.line) refl
+        led_by own.action own.cut own.value (edit_at keys rules v e cut) (turn_at keys rules v e cut) (is_kept keys rules v cut.line) (fails_by_key keys rules v e cut) refl
 
   -- a prompt fits how far a run has come
   abbrev IsRight : Progress (Prompted V S) → Type 0

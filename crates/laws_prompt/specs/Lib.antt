@@ -1,3 +1,14 @@
 pub mod SearchRuns
 pub mod MenuRuns
 pub mod SearchEnds
+pub mod Rows
+pub mod RowColumns
+pub mod RowScenes
+pub mod RowStations
+pub mod PlainRows
+pub mod RowCells
+pub mod AnsweredRows
+pub mod RowRuns
+pub mod SentRows
+pub mod LineRuns
+pub mod RowReadings

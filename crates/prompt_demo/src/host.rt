@@ -2,13 +2,12 @@
 
 use crate::completers::completers;
 use crate::tables::tables;
-use nested_marks::common_pairs;
 use std::alloc::{AllocError, Global};
 use tw_hosts::TableHost;
 use tw_key_parts::RowKeys;
 use tw_lineedit::{BasicHistory, BoundedHistory};
 use tw_prompt::{AllKeys, all_keys};
-use tw_prompt_host::{Hints, NestedLines, PromptHost, Rows};
+use tw_prompt_host::{Hints, NestedLines, PromptHost, Rows, common_pairs};
 
 /// How many lines the history keeps.
 const LINES_KEPT: usize = 100;

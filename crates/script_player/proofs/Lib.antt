@@ -1,3 +1,10 @@
+pub mod Numbers
+pub mod Writes
+pub mod DirectiveLemmas
+pub mod EscapeLemmas
+pub mod EventLemmas
+pub mod KeyNameLemmas
+pub mod LineLemmas
 pub mod Steadiness
 pub mod PlayingLemmas
 pub mod ReadingLemmas

@@ -1,15 +1,15 @@
 -- Lines that are played one after the other.
 use Rattle.std.proofs.Common.{◌≡◌, ℕ, suc, zero, ◌+◌, ◌<◌, List, [], ◌∷◌, ◌++◌, length, Some, None, Ok, Err, refl, sym, subst, ◌∙◌, append_assoc, length-append, inl, inr, arith}
 use Rattle.std.specs.List.{slice_get}
-use Rattle.script_language.specs.Lines.{IsBad, IsBadAt, IsFirstBad, script_lines}
-use Rattle.script_language.specs.Directives.{IsLineOf}
+use Rattle.script_player.specs.Lines.{IsBad, IsBadAt, IsFirstBad, script_lines}
+use Rattle.script_player.specs.Directives.{IsLineOf}
 use Rattle.script_player.specs.Playback.{FailsToObey, Stage, first_stage}
 use Rattle.script_player.specs.Playing.{Ends, FailsToPlay, Plays, PlaysLine, PlaysUpTo, Runs}
-use Rattle.script_language.specs.Written.{Contents, ExtendsInPart, NamesBadLine, bad_line}
+use Rattle.script_player.specs.Written.{Contents, ExtendsInPart, NamesBadLine, bad_line}
 use Rattle.std.specs.Io.KnownBytes.{Appends, Consumes, IsAtEnd, Keeps}
-use Rattle.script_language.specs.declared.directive.Directive.{Directive}
-use Rattle.script_language.specs.declared.fault.RunFault.{RunFault}
-use Rattle.script_language.specs.declared.fault.RunFault.TheVariants.{BadLine, Io, Memory}
+use Rattle.script_player.specs.declared.directive.Directive.{Directive}
+use Rattle.script_player.specs.declared.fault.RunFault.{RunFault}
+use Rattle.script_player.specs.declared.fault.RunFault.TheVariants.{BadLine, Io, Memory}
 
 -- one line more is played
 plays_more : (before : List (List ℕ)) (line : List ℕ) (s t u : Stage) (old held new : Contents)

@@ -10,11 +10,11 @@ use Rattle.tw_lineedit.specs.Reading.{Reads, start}
 use Rattle.tw_lineedit.specs.Run.{run_of}
 use Rattle.tw_lineedit.specs.declared.Error.{Error}
 use Rattle.tw_lineedit.specs.declared.Error.TheVariants as error
-use Rattle.script_language.specs.Written.{Contents, ExtendsInPart}
-use Rattle.script_language.specs.declared.directive.Directive.{Directive}
-use Rattle.script_language.specs.declared.directive.Directive.TheVariants.{Read}
-use Rattle.script_language.specs.declared.fault.RunFault.{RunFault}
-use Rattle.script_language.specs.declared.fault.RunFault.TheVariants.{Io}
+use Rattle.script_player.specs.Written.{Contents, ExtendsInPart}
+use Rattle.script_player.specs.declared.directive.Directive.{Directive}
+use Rattle.script_player.specs.declared.directive.Directive.TheVariants.{Read}
+use Rattle.script_player.specs.declared.fault.RunFault.{RunFault}
+use Rattle.script_player.specs.declared.fault.RunFault.TheVariants.{Io}
 use Rattle.script_player.specs.Answers.{IsAnswerTo, IsContinuation, answer_text, text_of_answer}
 use Rattle.script_player.specs.NewEditor.{AnswersLine, ReadsLine, RefusesLine, before}
 use Rattle.script_player.specs.Playback.{FailsToObey, Stage, Stays, Tells}

@@ -8,8 +8,8 @@ use Rattle.tw_lineedit.specs.declared.Error.{Error}
 use Rattle.tw_lineedit.specs.declared.Error.TheVariants as error
 use Rattle.script_player.specs.declared.answer.Answer.{Answer}
 use Rattle.script_player.specs.declared.answer.Answer.TheVariants.{Line, Cancelled, Refused}
-use Rattle.script_language.specs.declared.fault.RunFault.{RunFault}
-use Rattle.script_language.specs.declared.fault.RunFault.TheVariants as fault
+use Rattle.script_player.specs.declared.fault.RunFault.{RunFault}
+use Rattle.script_player.specs.declared.fault.RunFault.TheVariants as fault
 
 -- a line, no line, or the number of a refusal
 abbrev pub answer_text : Outcome → List ℕ

@@ -1,3 +1,9 @@
+pub mod Directives
+pub mod Events
+pub mod Escapes
+pub mod KeyNames
+pub mod Lines
+pub mod Written
 pub mod NewEditor
 pub mod ScriptRules
 pub mod Playback

@@ -7,15 +7,15 @@ use Rattle.tw_terminal.specs.TerminalState.{TerminalState, fresh_terminal}
 use Rattle.tw_lineedit.specs.CandidateView.{candidate_view}
 use Rattle.tw_lineedit.specs.Outcomes.{Outcome}
 use Rattle.script_player.specs.Answers.{answer_text}
-use Rattle.script_language.specs.Escapes.{unescaped_text}
-use Rattle.script_language.specs.Events.{directive_events}
+use Rattle.script_player.specs.Escapes.{unescaped_text}
+use Rattle.script_player.specs.Events.{directive_events}
 use Rattle.script_player.specs.NewEditor.{ReadsLine}
 use Rattle.script_player.specs.ScriptRules.{Scripted, scripted_candidate, history_only, script_rules, with_last_candidate, with_line_added, with_preview}
-use Rattle.script_language.specs.Written.{Contents, ExtendsInPart}
-use Rattle.script_language.specs.declared.directive.Directive.{Directive}
-use Rattle.script_language.specs.declared.directive.Directive.TheVariants.{Cols, Prompt, Preview, History, Candidate, «Type», Paste, Key, Read}
-use Rattle.script_language.specs.declared.fault.RunFault.{RunFault}
-use Rattle.script_language.specs.declared.fault.RunFault.TheVariants.{BadLine, Io, Memory}
+use Rattle.script_player.specs.Written.{Contents, ExtendsInPart}
+use Rattle.script_player.specs.declared.directive.Directive.{Directive}
+use Rattle.script_player.specs.declared.directive.Directive.TheVariants.{Cols, Prompt, Preview, History, Candidate, «Type», Paste, Key, Read}
+use Rattle.script_player.specs.declared.fault.RunFault.{RunFault}
+use Rattle.script_player.specs.declared.fault.RunFault.TheVariants.{BadLine, Io, Memory}
 use Rattle.script_player.specs.declared.playback.Playback.{Playback}
 
 -- the columns, the prompt and the events for the next reading, the host's value, and the screen, if there is one

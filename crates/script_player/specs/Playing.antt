@@ -1,13 +1,13 @@
 -- How the lines of a script are played, in order, up to the first bad one.
 use Rattle.std.specs.Prelude.{◌≡◌, ℕ, ◌+◌, ◌⊎◌, List, [], ◌∷◌, ◌++◌, codes, length, Result, Ok, Err, IsUtf8}
 use Rattle.std.specs.Io.KnownBytes.{Appends, Consumes, IsAtEnd, Keeps}
-use Rattle.script_language.specs.Directives.{IsLineOf}
-use Rattle.script_language.specs.Lines.{IsBad, IsFirstBad, script_lines}
+use Rattle.script_player.specs.Directives.{IsLineOf}
+use Rattle.script_player.specs.Lines.{IsBad, IsFirstBad, script_lines}
 use Rattle.script_player.specs.Playback.{Stage, first_stage, Obeys, Tells}
-use Rattle.script_language.specs.Written.{Contents, ExtendsInPart, IsOutside, bad_line}
-use Rattle.script_language.specs.declared.directive.Directive.{Directive}
-use Rattle.script_language.specs.declared.fault.RunFault.{RunFault}
-use Rattle.script_language.specs.declared.fault.RunFault.TheVariants.{BadLine, Io, Memory}
+use Rattle.script_player.specs.Written.{Contents, ExtendsInPart, IsOutside, bad_line}
+use Rattle.script_player.specs.declared.directive.Directive.{Directive}
+use Rattle.script_player.specs.declared.fault.RunFault.{RunFault}
+use Rattle.script_player.specs.declared.fault.RunFault.TheVariants.{BadLine, Io, Memory}
 
 -- a line that is not bad is played: an empty one does nothing, and a directive is obeyed
 abbrev pub PlaysLine : List ℕ → Stage → Stage → Contents → Contents → Type 0

@@ -2,9 +2,9 @@
 
 ghost use Rattle.std.specs.Prelude.{IfErr, Some};
 ghost use Rattle.script_player.specs.Answers.{IsAnswerTo, text_of_answer};
-ghost use Rattle.script_language.specs.Written.{IsOutside};
+ghost use Rattle.script_player.specs.Written.{IsOutside};
 
-use script_language::RunFault;
+use crate::RunFault;
 use std::fmt;
 use tw_lineedit::Error;
 

@@ -76,7 +76,8 @@ impl History for ListHistory {
 
     /// The line at `idx`, which is lent and not copied. Takes no memory.
     fn get(&self, _alloc: Global, idx: HistoryIndex) -> Result<Option<CowStr<'_>>, AllocError>
-        ensures line { IsOkAnd result (λ line. option_map cow_str_bytes line ≡ slice_get self.now idx) }
+        ensures line { IsOkAnd result (λ line. option_map cow_str_bytes line
+            ≡ slice_get self.now idx) }
         ensures borrowed { IfOk result (λ line. IfSome line IsBorrowedStr) }
     {
         match self.entries.get(idx) {

@@ -16,10 +16,12 @@ pub fn read_line<T: Terminal, H: LineEditorHost>(
 ) -> Result<Option<String>, Error>
     ensures read { let before = T.state terminal.old in
         let after = T.state terminal.new in
-        IfOk result (AnswersLine H.rules prompt.now (H.value host.old) (H.value host.new) before after) }
+        IfOk result (AnswersLine H.rules prompt.now (H.value host.old)
+        (H.value host.new) before after) }
     ensures refused { let before = T.state terminal.old in
         let after = T.state terminal.new in
-        IfErr result (RefusesLine H.rules H.OVERRIDES prompt.now (H.value host.old) (H.value host.new) before after) }
+        IfErr result (RefusesLine H.rules H.OVERRIDES prompt.now (H.value host.old)
+        (H.value host.new) before after) }
     ensures kept { IsSteady H.rules → H.value host.new ≡ H.value host.old }
 {
     let mut editor = LineEditor::new(alloc, terminal)?;

@@ -2,14 +2,18 @@
 
 ghost use Rattle.std.specs.Prelude.{◌≡◌, [], IfErr, IfOk, OnErr, OnOk, string_bytes};
 ghost use Rattle.script_player.specs.Answers.{IsContinuation};
-ghost use Rattle.script_language.specs.Written.{Extends, IsOutside};
+ghost use Rattle.script_player.specs.Written.{Extends, IsOutside};
 
 use crate::answer::Answer;
+use crate::directive::Directive;
 use crate::display::show_screen;
+use crate::escapes::unescape;
+use crate::events::push_events;
+use crate::fault::RunFault;
 use crate::new_editor::read_line;
+use crate::output::put;
 use crate::script_host::ScriptHost;
 use crate::shown::{Played, ScreenTerminal};
-use script_language::{Directive, RunFault, push_events, put, unescape};
 use std::alloc::{AllocError, Global};
 use std::io::Write;
 use std::mem;
@@ -63,9 +67,11 @@ impl Playback {
         ensures kept { Extends (W.contents writer.old) (W.contents writer.new) }
         ensures fault { IfErr result IsOutside }
         ensures obeyed { OnOk result
-            (Obeys directive.entry (stage_of self.old) (stage_of self.new) (W.contents writer.old) (W.contents writer.new)) }
+            (Obeys directive.entry (stage_of self.old) (stage_of self.new) (W.contents writer.old)
+            (W.contents writer.new)) }
         ensures refused { IfErr result
-            (FailsToObey directive.entry (stage_of self.old) (stage_of self.new) (W.contents writer.old) (W.contents writer.new)) }
+            (FailsToObey directive.entry (stage_of self.old) (stage_of self.new)
+            (W.contents writer.old) (W.contents writer.new)) }
     {
         match directive {
             Directive::Cols(cols) => {
@@ -92,7 +98,8 @@ impl Playback {
 
     /// A new screen, or none where no screen has so many columns.
     fn clear_screen(&mut self)
-        ensures { stage_of self.new ≡ record (stage_of self.old) { screen = screen_of self.old.cols } }
+        ensures { stage_of self.new
+            ≡ record (stage_of self.old) { screen = screen_of self.old.cols } }
     {
         self.screen = Screen::new(self.alloc, self.cols).ok();
     }
@@ -101,7 +108,8 @@ impl Playback {
     fn read(&mut self) -> Result<String, RunFault>
         ensures told { IfOk result (λ shown. Tells (stage_of self.old) (string_bytes shown)) }
         ensures memory { IfErr result (λ fault. fault ≡ RunFault.Memory) }
-        ensures kept { stage_of self.new ≡ record (stage_of self.old) { events = []; screen = self.new.screen } }
+        ensures kept { stage_of self.new
+            ≡ record (stage_of self.old) { events = []; screen = self.new.screen } }
     {
         let events = mem::replace(&mut self.events, Vec::new(self.alloc));
         let size = ScreenSize {
@@ -122,7 +130,8 @@ impl Playback {
 
     /// Adds what the screen shows. Where it can not tell, the next reading begins on a new one.
     fn show(&mut self, played: Played, shown: &mut String) -> Result<(), RunFault>
-        ensures more { OnOk result (IsContinuation (string_bytes shown.old) (string_bytes shown.new)) }
+        ensures more { OnOk result
+            (IsContinuation (string_bytes shown.old) (string_bytes shown.new)) }
         ensures memory { IfErr result (λ fault. fault ≡ RunFault.Memory) }
         ensures kept { stage_of self.new ≡ record (stage_of self.old) { screen = self.new.screen } }
     {

@@ -2,13 +2,17 @@
 
 ghost use Rattle.std.specs.Prelude.{◌≡◌, ◌<◌, ◌⊎◌, IfErr, OnOk};
 ghost use Rattle.std.specs.Io.KnownBytes.{IsAtEnd};
-ghost use Rattle.script_language.specs.Lines.{script_lines};
-ghost use Rattle.script_language.specs.Written.{Extends, NamesBadLine};
+ghost use Rattle.script_player.specs.Lines.{script_lines};
+ghost use Rattle.script_player.specs.Written.{Extends, NamesBadLine};
 ghost use Rattle.script_player.specs.Playback.{stage_of};
 ghost use Rattle.script_player.specs.Playing.{Ends, FailsToPlay, PlaysLine, Runs};
 
+use crate::directive::parse_line;
+use crate::fault::RunFault;
+use crate::input::read_script;
+use crate::lines::split_line;
+use crate::output::{bad_line_text, put};
 use crate::playback::Playback;
-use script_language::{RunFault, bad_line_text, parse_line, put, read_script, split_line};
 use std::alloc::Global;
 use std::io::{Read, Write};
 
@@ -17,7 +21,8 @@ use std::io::{Read, Write};
 pub fn run<R: Read, W: Write>(alloc: Global, reader: &mut R, writer: &mut W) -> Result<(), RunFault>
     ensures kept { Extends (W.contents writer.old) (W.contents writer.new) }
     ensures bad_line { IfErr result (NamesBadLine (W.contents writer.old) (W.contents writer.new)) }
-    ensures played { Runs (R.remaining reader.old) (R.remaining reader.new) (W.contents writer.old) (W.contents writer.new) result }
+    ensures played { Runs (R.remaining reader.old) (R.remaining reader.new) (W.contents writer.old)
+        (W.contents writer.new) result }
     ensures end { OnOk result (IsAtEnd (R.remaining reader.new)) }
     ensures unread { IsAtEnd (R.remaining reader.new) ⊎ (writer.new ≡ writer.old) }
 {
@@ -33,7 +38,8 @@ pub fn run<R: Read, W: Write>(alloc: Global, reader: &mut R, writer: &mut W) -> 
 fn play_script<W: Write>(alloc: Global, script: &[u8], writer: &mut W) -> Result<(), RunFault>
     ensures kept { Extends (W.contents writer.old) (W.contents writer.new) }
     ensures bad_line { IfErr result (NamesBadLine (W.contents writer.old) (W.contents writer.new)) }
-    ensures played { Ends (script_lines script.now) (W.contents writer.old) (W.contents writer.new) result }
+    ensures played { Ends (script_lines script.now) (W.contents writer.old)
+        (W.contents writer.new) result }
 {
     let mut playback = Playback::new(alloc)?;
     let mut rest = script;
@@ -59,9 +65,11 @@ fn play_line<W: Write>(
     ensures kept { Extends (W.contents writer.old) (W.contents writer.new) }
     ensures bad_line { IfErr result (NamesBadLine (W.contents writer.old) (W.contents writer.new)) }
     ensures played { OnOk result
-        (PlaysLine line.now (stage_of playback.old) (stage_of playback.new) (W.contents writer.old) (W.contents writer.new)) }
+        (PlaysLine line.now (stage_of playback.old) (stage_of playback.new) (W.contents writer.old)
+        (W.contents writer.new)) }
     ensures fails { IfErr result
-        (FailsToPlay number line.now (stage_of playback.old) (W.contents writer.old) (W.contents writer.new)) }
+        (FailsToPlay number line.now (stage_of playback.old) (W.contents writer.old)
+        (W.contents writer.new)) }
 {
     if line.is_empty() {
         return Ok(());

@@ -32,7 +32,8 @@ impl<L: History> ScriptHost<L> {
 
     /// Shows this preview from now on, and none where it is empty. Where it is refused nothing is changed.
     pub fn set_preview(&mut self, preview: &str) -> Result<(), AllocError>
-        ensures set { OnOk result (value_of L.lines self.new ≡ with_preview preview.now (value_of L.lines self.old)) }
+        ensures set { OnOk result (value_of L.lines self.new
+            ≡ with_preview preview.now (value_of L.lines self.old)) }
         ensures refused { OnErr result (value_of L.lines self.new ≡ value_of L.lines self.old) }
     {
         self.preview = String::from_str(self.alloc, preview)?;
@@ -42,7 +43,8 @@ impl<L: History> ScriptHost<L> {
     /// Adds a candidate after the others. Where it is refused nothing is changed.
     pub fn offer(&mut self, range: Range<usize>, text: &str) -> Result<(), AllocError>
         ensures last { OnOk result (value_of L.lines self.new
-            ≡ with_last_candidate (scripted_candidate range.start range.end text.now) (value_of L.lines self.old)) }
+            ≡ with_last_candidate (scripted_candidate range.start range.end text.now)
+            (value_of L.lines self.old)) }
         ensures refused { OnErr result (value_of L.lines self.new ≡ value_of L.lines self.old) }
     {
         let text = String::from_str(self.alloc, text)?;

@@ -1,7 +1,6 @@
 //! Events by their names.
 
-use script_language::{Directive, parse_line, push_events};
-use script_player::event_named;
+use script_player::{Directive, event_named, parse_line, push_events};
 use std::alloc::{AllocError, Global};
 use std::test::Fail;
 use tw_input::{InputEvent, KeyCode, KeyEvent, Modifiers};

@@ -107,12 +107,30 @@ fn write_nowhere(alloc: Global, word: &str, lines: &str) -> Result<String, Fail>
     failures(alloc, &mut history, lines)
 }
 
-/// Runs `read BYTES`, `write BYTES<LINES`, `full CALLS BYTES<LINES`, `unwritten LINES` or `memory LINES`.
+/// Adds a line of `count` letters, and returns the number of bytes written, and `true` if reading them gives the line.
+fn write_long(alloc: Global, count: &str) -> Result<String, Fail> {
+    let line = "x".repeat(alloc, count.parse()?)?;
+    let mut bytes = Vec::new(alloc);
+    {
+        let mut history = resume(alloc, b"", &mut bytes)?;
+        history.add(line.as_str())?;
+    }
+    let again = resume(alloc, &bytes, Vec::new(alloc))?;
+    let is_same = match again.get(alloc, 0)? {
+        Some(read) => read.as_str() == line.as_str(),
+        None => false,
+    };
+    Ok(format!(in alloc; "{} {is_same}", bytes.len())?)
+}
+
+/// Runs `read BYTES`, `write BYTES<LINES`, `long LETTERS`, `full CALLS BYTES<LINES`, `unwritten LINES` or
+/// `memory LINES`.
 fn obey(alloc: Global, command: &str) -> Result<String, Fail> {
     let (word, rest) = command.split_once(' ').unwrap_or((command, ""));
     match word {
         "read" => read(alloc, rest),
         "write" => write(alloc, rest),
+        "long" => write_long(alloc, rest),
         "full" => write_full(alloc, rest),
         _ => write_nowhere(alloc, word, rest),
     }
@@ -135,6 +153,11 @@ write <ls|a\nb|c:\\new| => ls\na\\nb\nc:\\\\new\n\n
 write one\n<two => two\n
 write one\ntw<two => \ntwo\n
 read ls\na\\nb\nc:\\\\new\n\n => "ls" "a\\nb" "c:\\\\new" ""
+
+// however long a line is
+long 600 => 601 true
+long 5000 => 5001 true
+long 70000 => 70001 true
 
 // a failure is reported once, and no line is lost
 full 1 <one|two|three => false true false "one" "two" "three"

@@ -1,9 +1,9 @@
 //! What texts leave open.
 
-use nested_marks::{Nesting, common_pairs, nesting_in};
 use std::alloc::Global;
 use std::test::Fail;
 use test_cases::expect_rows;
+use tw_prompt_host::{Nesting, common_pairs, nesting_in};
 
 /// Returns the open marks of a text with their places, or the wrong one after `!`.
 fn left(alloc: Global, text: &str) -> Result<String, Fail> {

@@ -1,7 +1,6 @@
 //! A prompt with all parts, and scripts that are played on it.
 
 use crate::tables::table_host;
-use nested_marks::common_pairs;
 use std::alloc::Global;
 use std::test::Fail;
 use test_cases::{expect_rows, painted_text, script_events};
@@ -12,7 +11,7 @@ use tw_key_parts::{
     WordKeys,
 };
 use tw_lineedit::{BasicHistory, LineEditor, LineEditorHost};
-use tw_prompt_host::{Going, Hints, MenuStyle, NestedLines, PromptHost, Rows};
+use tw_prompt_host::{Going, Hints, MenuStyle, NestedLines, PromptHost, Rows, common_pairs};
 use tw_surface::{CellAttributes, Intensity};
 use tw_terminal::{ScreenSize, ScriptTerminal};
 

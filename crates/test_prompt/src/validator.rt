@@ -19,9 +19,16 @@ type "a\"\nkey Enter; ends " is open => "a\"; yes
 // a validator judges no pattern, and judges the line that a search finds
 key C-R\ntype op\nkey Enter\ntype z; ends open( => open(; yes
 key C-R\ntype c\nkey C-Left\ntype (\nkey Enter\ntype z => (zcopy a
-// a search that fails accepts no line, and says so after the one that it found last
+// a search that fails says so after the line that it found last, and accepts none
+key C-R\ntype z; ends {}open({}  failing: no line has it{}{}\r\nbck-i-search: z_ => z; yes
+key C-R\ntype zz\nkey Backspace; ends {}open({}  failing: no line has it{}{}\r\nbck-i-search: z_ => z; yes
+key C-R\ntype oz\nkey Backspace; ends {}open({}\r\nbck-i-search: o_ => o; yes
+type z\nkey C-R; ends {}open({}\r\nbck-i-search: _ => ; yes
+key C-R\ntype z\nkey C-R; ends {}open({}  failing: no line has it{}{}\r\nbck-i-search: z_ => z; yes
+key C-R\ntype z\nkey Up; ends {}open({}  failing: no line has it{}{}\r\nbck-i-search: z_ => z; yes
+searches accept; key C-R\ntype z; ends {}open({}\r\nbck-i-search: z_ => z; yes
 key C-R\ntype zz\nkey Enter; ends {}open({}  failing: no line has it{}{}\r\nbck-i-search: zz_ => zz; yes
-key C-R\ntype zz\nkey Enter\nkey Backspace; ends {}open({}\r\nbck-i-search: z_ => z; yes
+key C-R\ntype zz\nkey Enter\nkey Backspace; ends {}open({}  failing: no line has it{}{}\r\nbck-i-search: z_ => z; yes
 key C-R\ntype copz\nkey Enter\nkey Backspace\nkey Enter => copy a
 searches accept; key C-R\ntype copz\nkey Enter => copy a
 // Ctrl-G gives a search up: the line from before it comes back with its cursor

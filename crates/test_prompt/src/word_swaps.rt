@@ -3,8 +3,8 @@
 use std::alloc::{AllocError, Global};
 use std::test::Fail;
 use test_cases::expect_rows;
+use tw_key_parts::with_swapped_words;
 use tw_line::LineEditBuffer;
-use tw_word_parts::with_swapped_words;
 
 /// The line that a text writes, with its cursor.
 fn line_of(alloc: Global, text: &str) -> Result<LineEditBuffer, AllocError> {

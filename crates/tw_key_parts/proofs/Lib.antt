@@ -1,3 +1,4 @@
+pub mod LetterLemmas
 pub mod RingLemmas
 pub mod UndoLemmas
 pub mod PrefixLemmas

@@ -9,7 +9,7 @@ use Rattle.tw_line.specs.declared.movements.Movement.TheVariants as movement
 use Rattle.tw_host.specs.ActionView.{ActionView, Kill, KillAndMove, Move}
 use Rattle.tw_host.specs.KeyTable.{key_press, letter, looked_up}
 use Rattle.tw_key_parts.specs.KeyRules.{Asked, Edited}
-use Rattle.tw_word_parts.specs.LetterWords.{steps_to_word_end, steps_to_word_start}
+use Rattle.tw_key_parts.specs.LetterWords.{steps_to_word_end, steps_to_word_start}
 
 -- the keys with their actions on a line
 abbrev pub letter_table : Cut → List (KeyEvent × ActionView)

@@ -1,3 +1,6 @@
+pub mod WordEdits
+pub mod WordSwaps
+pub mod LetterWords
 pub mod KeyRules
 pub mod EditView
 pub mod Pairs

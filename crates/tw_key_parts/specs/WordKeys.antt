@@ -7,9 +7,9 @@ use Rattle.tw_line.specs.Cut.{Cut}
 use Rattle.tw_host.specs.ActionView.{InsertChar}
 use Rattle.tw_host.specs.KeyTable.{is_same_key, key_press, letter}
 use Rattle.tw_key_parts.specs.KeyRules.{Asked, Edited}
-use Rattle.tw_word_parts.specs.WordEdits.{with_swapped_clusters, with_word_in}
-use Rattle.tw_word_parts.specs.WordSwaps.{with_swapped_words}
-use Rattle.tw_word_parts.specs.declared.cases.WordCase.TheVariants.{Upper, Lower, Capitalized}
+use Rattle.tw_key_parts.specs.WordEdits.{with_swapped_clusters, with_word_in}
+use Rattle.tw_key_parts.specs.WordSwaps.{with_swapped_words}
+use Rattle.tw_key_parts.specs.declared.cases.WordCase.TheVariants.{Upper, Lower, Capitalized}
 use Rattle.tw_key_parts.specs.declared.word_keys.WordEdit.{WordEdit}
 use Rattle.tw_key_parts.specs.declared.word_keys.WordEdit.TheVariants.{SwapClusters, SwapWords, Write}
 

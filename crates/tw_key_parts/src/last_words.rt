@@ -2,9 +2,9 @@
 
 ghost use Rattle.std.specs.Prelude.{◌≡◌, IfOk, IfSome, None, option_map, slice_get, string_bytes};
 ghost use Rattle.tw_input.specs.EventView.{event_view};
+ghost use Rattle.tw_key_parts.specs.EditView.{lent_action};
 ghost use Rattle.tw_key_parts.specs.LastWords.{cut_for, index_for, last_argument, place_view, word_by, word_view};
 ghost use Rattle.tw_key_parts.specs.KeyRules.{step_of};
-ghost use Rattle.tw_host.specs.ActionView.{action_view};
 ghost use Rattle.tw_key_parts.specs.LastWords.{place_after};
 
 use crate::edit::Edit;
@@ -50,7 +50,8 @@ pub fn line_for(
     place: Option<&WordPlace>,
     editor: &LineEditBuffer,
 ) -> Result<LineEditBuffer, AllocError>
-    ensures { IfOk result (λ line. line ≡ cut_for (option_map (λ place. place_view place.now) place.entry) editor.now) }
+    ensures { IfOk result (λ line. line
+        ≡ cut_for (option_map (λ place. place_view place.now) place.entry) editor.now) }
 {
     match place {
         Some(place) => place.line.try_clone(alloc),
@@ -60,7 +61,8 @@ pub fn line_for(
 
 /// Returns the index of the line with the next word: before that of the last insertion, or else the last line.
 fn index_for<L: History>(place: Option<&WordPlace>, history: &L) -> Option<usize>
-    ensures { result ≡ index_for (option_map (λ place. place_view place.now) place.entry) (L.lines history.now) }
+    ensures { result ≡ index_for (option_map (λ place. place_view place.now) place.entry)
+        (L.lines history.now) }
 {
     match place {
         Some(place) => SearchDirection::Backwards.next(place.index),
@@ -74,7 +76,8 @@ fn argument_at<L: History>(
     history: &L,
     index: usize,
 ) -> Result<Option<String>, AllocError>
-    ensures { IfOk result (λ word. option_map string_bytes word ≡ option_map last_argument (slice_get (L.lines history.now) index)) }
+    ensures { IfOk result (λ word. option_map string_bytes word
+        ≡ option_map last_argument (slice_get (L.lines history.now) index)) }
 {
     match history.get(alloc, index)? {
         Some(line) => Ok(Some(String::from_str(alloc, last_argument(&line))?)),
@@ -107,7 +110,13 @@ impl LastWords {
         line: &LineEditBuffer,
     ) -> Result<Option<PlacedWord>, AllocError>
         ensures word { IfOk result (λ word. option_map word_view word
-            ≡ word_by (option_map place_view self.now.place) (record { event = event_view event.now; searching = searching; lines = L.lines history.now; cut = line.now })) }
+            ≡ word_by (option_map place_view self.now.place)
+            (record {
+              event = event_view event.now;
+              searching = searching;
+              lines = L.lines history.now;
+              cut = line.now;
+            })) }
         ensures line { IfOk result (λ word. IfSome word (λ it. it.line ≡ it.place.line)) }
     {
         if searching || !is_key(LAST_WORD, event) {
@@ -181,8 +190,10 @@ impl KeyPart for LastWords {
         action: Option<&Action>,
     )
         requires ready { Unit {0} }
-        ensures { option_map place_view self.new.place ≡ place_after (option_map place_view self.old.place) (option_map place_view note)
-            (step_of (event_view event.now) _searching _before.now _after.now (option_map (λ action. action_view action.now) action.entry)) }
+        ensures { option_map place_view self.new.place
+            ≡ place_after (option_map place_view self.old.place) (option_map place_view note)
+            (step_of (event_view event.now) _searching _before.now _after.now
+            (lent_action action.entry)) }
     {
         if note.is_some() {
             self.place = note;

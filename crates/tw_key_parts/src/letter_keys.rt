@@ -5,27 +5,29 @@ ghost use Rattle.tw_host.specs.ActionView.{action_view};
 ghost use Rattle.tw_host.specs.KeyTable.{key_press, looked_up};
 ghost use Rattle.tw_input.specs.Modifiers.{alt, ctrl};
 ghost use Rattle.tw_key_parts.specs.LetterKeys.{letter_table};
-ghost use Rattle.tw_word_parts.specs.LetterWords.{steps_to_word_end, steps_to_word_start};
+ghost use Rattle.tw_key_parts.specs.LetterWords.{steps_to_word_end, steps_to_word_start};
 
 use crate::edit::Edit;
+use crate::letters::{steps_to_word_end, steps_to_word_start};
 use crate::plain_keys::PlainKeys;
 use std::alloc::{AllocError, Global};
 use tw_history::History;
 use tw_host::Action;
 use tw_input::{InputEvent, KeyCode, KeyEvent, Modifiers};
 use tw_line::{LineEditBuffer, Movement};
-use tw_word_parts::{steps_to_word_end, steps_to_word_start};
 
 /// Returns the movement past the next word.
 fn ahead(alloc: Global, editor: &LineEditBuffer) -> Result<Movement, AllocError>
-    ensures { IfOk result (λ movement. movement ≡ Movement.ForwardChar (steps_to_word_end editor.now)) }
+    ensures { IfOk result (λ movement. movement
+        ≡ Movement.ForwardChar (steps_to_word_end editor.now)) }
 {
     Ok(Movement::ForwardChar(steps_to_word_end(alloc, editor)?))
 }
 
 /// Returns the movement to the start of the previous word.
 fn back(alloc: Global, editor: &LineEditBuffer) -> Result<Movement, AllocError>
-    ensures { IfOk result (λ movement. movement ≡ Movement.BackwardChar (steps_to_word_start editor.now)) }
+    ensures { IfOk result (λ movement. movement
+        ≡ Movement.BackwardChar (steps_to_word_start editor.now)) }
 {
     Ok(Movement::BackwardChar(steps_to_word_start(alloc, editor)?))
 }
@@ -36,7 +38,8 @@ fn ctrl_action(
     key: KeyCode,
     editor: &LineEditBuffer,
 ) -> Result<Option<Action>, AllocError>
-    ensures { IfOk result (λ action. option_map action_view action ≡ looked_up (letter_table editor.now) (key_press ctrl key)) }
+    ensures { IfOk result (λ action. option_map action_view action
+        ≡ looked_up (letter_table editor.now) (key_press ctrl key)) }
 {
     match key {
         KeyCode::RightArrow => Ok(Some(Action::Move(ahead(alloc, editor)?))),
@@ -51,7 +54,8 @@ fn alt_action(
     key: KeyCode,
     editor: &LineEditBuffer,
 ) -> Result<Option<Action>, AllocError>
-    ensures { IfOk result (λ action. option_map action_view action ≡ looked_up (letter_table editor.now) (key_press alt key)) }
+    ensures { IfOk result (λ action. option_map action_view action
+        ≡ looked_up (letter_table editor.now) (key_press alt key)) }
 {
     match key {
         KeyCode::Char('f') => Ok(Some(Action::Move(ahead(alloc, editor)?))),
@@ -68,7 +72,8 @@ fn key_action(
     key: KeyEvent,
     editor: &LineEditBuffer,
 ) -> Result<Option<Action>, AllocError>
-    ensures { IfOk result (λ action. option_map action_view action ≡ looked_up (letter_table editor.now) key) }
+    ensures { IfOk result (λ action. option_map action_view action
+        ≡ looked_up (letter_table editor.now) key) }
 {
     match key.modifiers {
         Modifiers::CTRL => ctrl_action(alloc, key.key, editor),

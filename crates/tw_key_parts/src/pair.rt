@@ -1,8 +1,8 @@
 //! Two parts as one.
 
 ghost use Rattle.std.specs.Prelude.{◌≡◌, option_map};
-ghost use Rattle.tw_host.specs.ActionView.{action_view};
 ghost use Rattle.tw_input.specs.EventView.{event_view};
+ghost use Rattle.tw_key_parts.specs.EditView.{lent_action};
 ghost use Rattle.tw_key_parts.specs.Pairs.{pair_rules};
 ghost use Rattle.tw_key_parts.specs.KeyRules.{step_of};
 
@@ -73,8 +73,10 @@ impl<A: KeyPart, B: KeyPart> KeyPart for (A, B) {
     )
         requires ready { A.is_ready self.old.0 before.now × B.is_ready self.old.1 before.now }
         ensures { (A.state self.new.0, B.state self.new.1)
-            ≡ (pair_rules A.keys B.keys).follows (A.state self.old.0, B.state self.old.1) (option_map (λ note. (option_map A.kept note.0, option_map B.kept note.1)) note)
-            (step_of (event_view event.now) searching before.now after.now (option_map (λ action. action_view action.now) action.entry)) }
+            ≡ (pair_rules A.keys B.keys).follows (A.state self.old.0, B.state self.old.1)
+            (option_map (λ note. (option_map A.kept note.0, option_map B.kept note.1)) note)
+            (step_of (event_view event.now) searching before.now after.now
+            (lent_action action.entry)) }
     {
         let (first, second) = match note {
             Some((first, second)) => (first, second),

@@ -1,9 +1,8 @@
 //! Parts with keys.
 
 ghost use Rattle.std.specs.Prelude.{◌≡◌, IfOk, OnOk, Option, option_map};
-ghost use Rattle.tw_host.specs.ActionView.{action_view};
 ghost use Rattle.tw_input.specs.EventView.{event_view};
-ghost use Rattle.tw_key_parts.specs.EditView.{edit_view};
+ghost use Rattle.tw_key_parts.specs.EditView.{edit_view, lent_action};
 ghost use Rattle.tw_key_parts.specs.KeyRules.{step_of};
 
 use crate::edit::Edit;
@@ -44,7 +43,13 @@ pub trait KeyPart {
         line: &LineEditBuffer,
     ) -> Result<Option<Edit<Self::Note>>, AllocError>
         ensures { IfOk result (λ edit. option_map (edit_view kept) edit
-            ≡ keys.edits (state self.now) (record { event = event_view event.now; searching = searching; lines = L.lines history.now; cut = line.now })) };
+            ≡ keys.edits (state self.now)
+            (record {
+              event = event_view event.now;
+              searching = searching;
+              lines = L.lines history.now;
+              cut = line.now;
+            })) };
 
     /// Reserves the memory that `follow` needs.
     fn prepare(&mut self, alloc: Global, line: &LineEditBuffer) -> Result<(), AllocError>
@@ -65,7 +70,8 @@ pub trait KeyPart {
     )
         requires ready { is_ready self.old before.now }
         ensures { state self.new ≡ keys.follows (state self.old) (option_map kept note)
-            (step_of (event_view event.now) searching before.now after.now (option_map (λ action. action_view action.now) action.entry)) };
+            (step_of (event_view event.now) searching before.now after.now
+            (lent_action action.entry)) };
 
     /// Resets the state that belongs to one line.
     fn leave_line(&mut self)

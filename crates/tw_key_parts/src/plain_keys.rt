@@ -29,7 +29,12 @@ pub trait PlainKeys {
         line: &LineEditBuffer,
     ) -> Result<Option<Edit<()>>, AllocError>
         ensures { IfOk result (λ edit. option_map (edit_view (λ note. note)) edit
-            ≡ edits (record { event = event_view event.now; searching = searching; lines = L.lines history.now; cut = line.now })) };
+            ≡ edits (record {
+              event = event_view event.now;
+              searching = searching;
+              lines = L.lines history.now;
+              cut = line.now;
+            })) };
 }
 
 /// Plain keys as a part.

@@ -3,8 +3,8 @@
 ghost use Rattle.std.specs.Prelude.{◌≡◌, IfOk, None, Some, if◌then◌else◌, length, option_map};
 ghost use Rattle.tw_hosts.specs.Words.{begins_with};
 ghost use Rattle.tw_input.specs.EventView.{event_view};
+ghost use Rattle.tw_key_parts.specs.EditView.{lent_action};
 ghost use Rattle.tw_line.specs.Cut.{cut_at};
-ghost use Rattle.tw_host.specs.ActionView.{action_view};
 ghost use Rattle.tw_key_parts.specs.KeyRules.{step_of};
 ghost use Rattle.tw_key_parts.specs.PrefixSearch.{back_to, is_prefix_key, is_prefix_match, newer_match, newer_step, older_match, older_start, older_step, oldest_step, prefix_match_at, prefix_match_view, prefix_step, prefix_step_view, recalled_after, recalled_step, recalled_view, typed_in, typed_step};
 
@@ -77,7 +77,9 @@ pub fn is_prefix_key(event: &InputEvent) -> bool
 
 /// Returns a line with the cursor after the text that it begins with, or `None` if it begins otherwise.
 fn line_from(alloc: Global, text: &str, line: &str) -> Result<Option<LineEditBuffer>, AllocError>
-    ensures { IfOk result (λ found. found ≡ (if begins_with text.now line.now then Some (cut_at line.now (length text.now)) else None)) }
+    ensures { IfOk result (λ found. found
+        ≡ (if begins_with text.now line.now then
+        Some (cut_at line.now (length text.now)) else None)) }
 {
     match line.strip_prefix(text) {
         Some(_) => Ok(Some(LineEditBuffer::new(alloc, line, text.len())?)),
@@ -93,7 +95,8 @@ fn match_at<L: History>(
     index: usize,
 ) -> Result<Option<PrefixMatch>, AllocError>
     ensures { IfOk result (λ found. option_map prefix_match_view found
-        ≡ (if is_prefix_match (L.lines lines.now) editor.now index then Some (prefix_match_at (L.lines lines.now) editor.now index) else None)) }
+        ≡ (if is_prefix_match (L.lines lines.now) editor.now index then
+        Some (prefix_match_at (L.lines lines.now) editor.now index) else None)) }
 {
     let Some(line) = lines.get(alloc, index)? else {
         return Ok(None);
@@ -115,7 +118,8 @@ fn older_match_from<L: History>(
     editor: &LineEditBuffer,
     from: usize,
 ) -> Result<Option<PrefixMatch>, AllocError>
-    ensures { IfOk result (λ found. option_map prefix_match_view found ≡ older_match (L.lines lines.now) editor.now (Some from)) }
+    ensures { IfOk result (λ found. option_map prefix_match_view found
+        ≡ older_match (L.lines lines.now) editor.now (Some from)) }
 {
     for index in (0..=from).rev() {
         if let Some(found) = match_at(alloc, lines, editor, index)? {
@@ -132,7 +136,8 @@ fn newer_match_from<L: History>(
     editor: &LineEditBuffer,
     from: usize,
 ) -> Result<Option<PrefixMatch>, AllocError>
-    ensures { IfOk result (λ found. option_map prefix_match_view found ≡ newer_match (L.lines lines.now) editor.now (Some from)) }
+    ensures { IfOk result (λ found. option_map prefix_match_view found
+        ≡ newer_match (L.lines lines.now) editor.now (Some from)) }
 {
     let Some(last) = lines.last() else {
         return Ok(None);
@@ -147,7 +152,8 @@ fn newer_match_from<L: History>(
 
 /// Returns the index where the search for older lines starts: before the last match, or at the last line.
 fn older_start<L: History>(recalled: Option<&Recalled>, lines: &L) -> Option<usize>
-    ensures { result ≡ older_start (option_map (λ recalled. recalled_view recalled.now) recalled.entry) (L.lines lines.now) }
+    ensures { result ≡ older_start
+        (option_map (λ recalled. recalled_view recalled.now) recalled.entry) (L.lines lines.now) }
 {
     match recalled {
         Some(recalled) => SearchDirection::Backwards.next(recalled.index),
@@ -161,7 +167,9 @@ fn typed_in(
     recalled: Option<&Recalled>,
     editor: &LineEditBuffer,
 ) -> Result<LineEditBuffer, AllocError>
-    ensures { IfOk result (λ typed. typed ≡ typed_in (option_map (λ recalled. recalled_view recalled.now) recalled.entry) editor.now) }
+    ensures { IfOk result (λ typed. typed
+        ≡ typed_in (option_map (λ recalled. recalled_view recalled.now) recalled.entry)
+        editor.now) }
 {
     match recalled {
         Some(recalled) => recalled.typed.try_clone(alloc),
@@ -190,7 +198,8 @@ fn older_step<L: History>(
     editor: &LineEditBuffer,
 ) -> Result<Option<PrefixStep>, AllocError>
     ensures { IfOk result (λ step. option_map prefix_step_view step
-        ≡ older_step (L.lines lines.now) (option_map (λ recalled. recalled_view recalled.now) recalled.entry) editor.now) }
+        ≡ older_step (L.lines lines.now)
+        (option_map (λ recalled. recalled_view recalled.now) recalled.entry) editor.now) }
 {
     let Some(from) = older_start(recalled, lines) else {
         return Ok(None);
@@ -212,7 +221,8 @@ fn oldest_step<L: History>(
     editor: &LineEditBuffer,
 ) -> Result<Option<PrefixStep>, AllocError>
     ensures { IfOk result (λ step. option_map prefix_step_view step
-        ≡ oldest_step (L.lines lines.now) (option_map (λ recalled. recalled_view recalled.now) recalled.entry) editor.now) }
+        ≡ oldest_step (L.lines lines.now)
+        (option_map (λ recalled. recalled_view recalled.now) recalled.entry) editor.now) }
 {
     let Some(oldest) = lines.get(alloc, 0)? else {
         return Ok(None);
@@ -250,7 +260,8 @@ fn newer_match<L: History>(
     editor: &LineEditBuffer,
     from: Option<usize>,
 ) -> Result<Option<PrefixMatch>, AllocError>
-    ensures { IfOk result (λ found. option_map prefix_match_view found ≡ newer_match (L.lines lines.now) editor.now from) }
+    ensures { IfOk result (λ found. option_map prefix_match_view found
+        ≡ newer_match (L.lines lines.now) editor.now from) }
 {
     match from {
         Some(from) => newer_match_from(alloc, lines, editor, from),
@@ -266,7 +277,8 @@ fn newer_step<L: History>(
     editor: &LineEditBuffer,
 ) -> Result<Option<PrefixStep>, AllocError>
     ensures { IfOk result (λ step. option_map prefix_step_view step
-        ≡ newer_step (L.lines lines.now) (option_map (λ recalled. recalled_view recalled.now) recalled.entry) editor.now) }
+        ≡ newer_step (L.lines lines.now)
+        (option_map (λ recalled. recalled_view recalled.now) recalled.entry) editor.now) }
 {
     let Some(recalled) = recalled else {
         return Ok(None);
@@ -307,7 +319,8 @@ impl PrefixSearch {
         line: &LineEditBuffer,
     ) -> Result<Option<PrefixStep>, AllocError>
         ensures { IfOk result (λ step. option_map prefix_step_view step
-            ≡ prefix_step searching (event_view event.now) (option_map recalled_view self.now.recalled) (L.lines history.now) line.now) }
+            ≡ prefix_step searching (event_view event.now)
+            (option_map recalled_view self.now.recalled) (L.lines history.now) line.now) }
     {
         if searching {
             return Ok(None);
@@ -379,8 +392,11 @@ impl KeyPart for PrefixSearch {
         action: Option<&Action>,
     )
         requires ready { Unit {0} }
-        ensures { option_map recalled_view self.new.recalled ≡ recalled_after (option_map recalled_view self.old.recalled) (option_map (λ recalled. option_map recalled_view recalled) note)
-            (step_of (event_view event.now) _searching _before.now _after.now (option_map (λ action. action_view action.now) action.entry)) }
+        ensures { option_map recalled_view self.new.recalled
+            ≡ recalled_after (option_map recalled_view self.old.recalled)
+            (option_map (λ recalled. option_map recalled_view recalled) note)
+            (step_of (event_view event.now) _searching _before.now _after.now
+            (lent_action action.entry)) }
     {
         match note {
             Some(recalled) => self.recalled = recalled,

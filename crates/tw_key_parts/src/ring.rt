@@ -4,7 +4,7 @@ ghost use Rattle.std.specs.Prelude.{◌≡◌, ◌≤◌, ◌+◌, ◌<◌, ◌-
 ghost use Rattle.std.specs.String.{string_capacity};
 ghost use Rattle.std.specs.Vec.{vec_capacity, vec_len};
 ghost use Rattle.tw_input.specs.EventView.{event_view};
-ghost use Rattle.tw_host.specs.ActionView.{action_view};
+ghost use Rattle.tw_key_parts.specs.EditView.{lent_action};
 ghost use Rattle.tw_key_parts.specs.declared.ring.Latest.TheVariants as Latest;
 ghost use Rattle.tw_key_parts.specs.Ring.{index_below, is_same_cut, joined, kill_movement, killing, newest_kill, ring_view, rotated, taken_out, with_killed, with_killing, with_room, yank_by, yank_of, yank_view};
 ghost use Rattle.tw_key_parts.specs.KeyRules.{step_of};
@@ -67,7 +67,7 @@ pub fn is_same_cut(line: &LineEditBuffer, other: &LineEditBuffer) -> bool
 
 /// Returns how far an action kills.
 fn kill_movement(action: Option<&Action>) -> Option<Movement>
-    ensures { result ≡ kill_movement (option_map (λ action. action_view action.now) action.entry) }
+    ensures { result ≡ kill_movement (lent_action action.entry) }
 {
     match action {
         Some(Action::Kill(movement)) | Some(Action::KillAndMove(movement, _)) => Some(*movement),
@@ -77,7 +77,7 @@ fn kill_movement(action: Option<&Action>) -> Option<Movement>
 
 /// Returns how far the action of an event kills, unless its key deletes a character.
 fn killing(event: &InputEvent, action: Option<&Action>) -> Option<Movement>
-    ensures { result ≡ killing (event_view event.now) (option_map (λ action. action_view action.now) action.entry) }
+    ensures { result ≡ killing (event_view event.now) (lent_action action.entry) }
 {
     if deletes_character(event) {
         None
@@ -119,7 +119,8 @@ impl KillRing {
     /// Joins a kill to the newest one.
     fn join(&mut self, ahead: bool, killed: &str, mut text: String)
         requires empty { string_bytes text ≡ [] }
-        requires text { length (newest_kill (map string_bytes self.old.kills.items)) + length killed.now ≤ string_capacity text }
+        requires text { length (newest_kill (map string_bytes self.old.kills.items))
+            + length killed.now ≤ string_capacity text }
         requires kills { vec_len self.old.kills < vec_capacity self.old.kills }
         ensures kills { map string_bytes self.new.kills.items
             ≡ take (length self.old.kills.items - 1) (map string_bytes self.old.kills.items)
@@ -152,7 +153,8 @@ impl KillRing {
         requires empty { string_bytes text ≡ [] }
         requires text { length killed.now ≤ string_capacity text }
         requires kills { vec_len self.old.kills < vec_capacity self.old.kills }
-        ensures kills { map string_bytes self.new.kills.items ≡ with_room (map string_bytes self.old.kills.items) ++ killed.now ∷ [] }
+        ensures kills { map string_bytes self.new.kills.items
+            ≡ with_room (map string_bytes self.old.kills.items) ++ killed.now ∷ [] }
         ensures latest { self.new.latest ≡ self.old.latest }
     {
         let Ok(()) = text.push_str(killed) else {
@@ -169,7 +171,8 @@ impl KillRing {
     /// Adds or joins a kill, unless it is empty.
     fn take_in(&mut self, ahead: bool, killed: &str, text: String)
         requires empty { string_bytes text ≡ [] }
-        requires text { length (newest_kill (map string_bytes self.old.kills.items)) + length killed.now ≤ string_capacity text }
+        requires text { length (newest_kill (map string_bytes self.old.kills.items))
+            + length killed.now ≤ string_capacity text }
         requires kills { vec_len self.old.kills < vec_capacity self.old.kills }
         ensures { ring_view self.new ≡ with_killed ahead killed.now (ring_view self.old) }
     {
@@ -187,7 +190,8 @@ impl KillRing {
     /// Keeps what a movement kills; `None` ends a run of kills or yanks.
     fn kill(&mut self, alloc: Global, movement: Option<Movement>)
         requires empty { string_bytes self.old.spare ≡ [] }
-        requires text { length (newest_kill (map string_bytes self.old.kills.items)) + length self.old.probe.line ≤ string_capacity self.old.spare }
+        requires text { length (newest_kill (map string_bytes self.old.kills.items))
+            + length self.old.probe.line ≤ string_capacity self.old.spare }
         requires kills { vec_len self.old.kills < vec_capacity self.old.kills }
         ensures { ring_view self.new ≡ with_killing movement self.old.probe (ring_view self.old) }
     {
@@ -211,7 +215,8 @@ impl KillRing {
         index: usize,
         line: LineEditBuffer,
     ) -> Result<Option<Yank>, AllocError>
-        ensures { IfOk result (λ yank. option_map yank_view yank ≡ yank_of (map string_bytes self.now.kills.items) index line) }
+        ensures { IfOk result (λ yank. option_map yank_view yank
+            ≡ yank_of (map string_bytes self.now.kills.items) index line) }
     {
         let Some(kill) = self.kills.get(index) else {
             return Ok(None);
@@ -232,7 +237,8 @@ impl KillRing {
 
     /// Replaces the last yank by the kill before.
     fn rotate(&self, alloc: Global, editor: &LineEditBuffer) -> Result<Option<Yank>, AllocError>
-        ensures { IfOk result (λ yank. option_map yank_view yank ≡ rotated (map string_bytes self.now.kills.items) self.now.latest editor.now) }
+        ensures { IfOk result (λ yank. option_map yank_view yank
+            ≡ rotated (map string_bytes self.now.kills.items) self.now.latest editor.now) }
     {
         let Latest::Yank(index) = self.latest else {
             return Ok(None);
@@ -254,7 +260,8 @@ impl KillRing {
         event: &InputEvent,
         editor: &LineEditBuffer,
     ) -> Result<Option<Yank>, AllocError>
-        ensures { IfOk result (λ yank. option_map yank_view yank ≡ yank_by searching (event_view event.now) (ring_view self.now) editor.now) }
+        ensures { IfOk result (λ yank. option_map yank_view yank
+            ≡ yank_by searching (event_view event.now) (ring_view self.now) editor.now) }
     {
         if searching {
             return Ok(None);
@@ -336,10 +343,13 @@ impl KeyPart for KillRing {
         action: Option<&Action>,
     )
         requires ready { (self.old.probe ≡ before.now) × (string_bytes self.old.spare ≡ [])
-            × (length (newest_kill (map string_bytes self.old.kills.items)) + length before.now.line ≤ string_capacity self.old.spare)
+            × (length (newest_kill (map string_bytes self.old.kills.items)) + length before.now.line
+            ≤ string_capacity self.old.spare)
             × (vec_len self.old.kills < vec_capacity self.old.kills) }
-        ensures { ring_view self.new ≡ ring_follows (ring_view self.old) (option_map (λ index. index) note)
-            (step_of (event_view event.now) searching before.now after.now (option_map (λ action. action_view action.now) action.entry)) }
+        ensures { ring_view self.new
+            ≡ ring_follows (ring_view self.old) (option_map (λ index. index) note)
+            (step_of (event_view event.now) searching before.now after.now
+            (lent_action action.entry)) }
     {
         match note {
             Some(index) => self.latest = Latest::Yank(index),

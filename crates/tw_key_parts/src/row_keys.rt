@@ -307,7 +307,8 @@ fn edit_of_pattern(
     alloc: Global,
     event: &InputEvent,
 ) -> Result<Option<Edit<Option<usize>>>, AllocError>
-    ensures { IfOk result (λ edit. option_map (edit_view (λ note. note)) edit ≡ edit_of_pattern (event_view event.now)) }
+    ensures { IfOk result (λ edit. option_map (edit_view (λ note. note)) edit
+        ≡ edit_of_pattern (event_view event.now)) }
 {
     match event {
         InputEvent::Paste(text) if has_rows(text.as_str()) => {

@@ -3,7 +3,7 @@
 ghost use Rattle.std.specs.Prelude.{◌≡◌, ◌<◌, IfOk, IfSome, length, option_map};
 ghost use Rattle.std.specs.Vec.{vec_capacity, vec_len};
 ghost use Rattle.tw_input.specs.EventView.{event_view};
-ghost use Rattle.tw_host.specs.ActionView.{action_view};
+ghost use Rattle.tw_key_parts.specs.EditView.{lent_action};
 ghost use Rattle.tw_key_parts.specs.Undo.{if_any, is_edit, is_end, is_prefix, is_same_line, is_undo, last_change, types_character, no_steps, steps_with, typing_after, undo_after, undo_behind, undo_view, undone};
 ghost use Rattle.tw_key_parts.specs.KeyRules.{step_of};
 ghost use Rattle.tw_key_parts.specs.Undo.{undo_follows};
@@ -39,7 +39,7 @@ fn is_same_line(editor: &LineEditBuffer, other: &LineEditBuffer) -> bool
 
 /// Returns true for an action that changes the line, or searches.
 fn is_edit(action: Option<&Action>) -> bool
-    ensures { result ≡ if_any is_edit (option_map (λ action. action_view action.now) action.entry) }
+    ensures { result ≡ if_any is_edit (lent_action action.entry) }
 {
     matches!(
         action,
@@ -59,14 +59,14 @@ fn is_edit(action: Option<&Action>) -> bool
 
 /// Returns true for an action that types a character.
 fn types_character(action: Option<&Action>) -> bool
-    ensures { result ≡ if_any types_character (option_map (λ action. action_view action.now) action.entry) }
+    ensures { result ≡ if_any types_character (lent_action action.entry) }
 {
     matches!(action, Some(Action::InsertChar(_, _)))
 }
 
 /// Returns true for an action that ends the line.
 fn is_end(action: Option<&Action>) -> bool
-    ensures { result ≡ if_any is_end (option_map (λ action. action_view action.now) action.entry) }
+    ensures { result ≡ if_any is_end (lent_action action.entry) }
 {
     matches!(
         action,
@@ -76,7 +76,7 @@ fn is_end(action: Option<&Action>) -> bool
 
 /// Returns true if the last step is a run of typed characters that may go on.
 fn typing_after(action: Option<&Action>, typing: bool) -> bool
-    ensures { result ≡ typing_after (option_map (λ action. action_view action.now) action.entry) typing }
+    ensures { result ≡ typing_after (lent_action action.entry) typing }
 {
     match action {
         None | Some(Action::NoAction | Action::Repaint) => typing,
@@ -86,7 +86,7 @@ fn typing_after(action: Option<&Action>, typing: bool) -> bool
 
 /// Returns true for the prefix of the undo key, if nothing is done.
 fn is_prefix(action: Option<&Action>, event: &InputEvent) -> bool
-    ensures { result ≡ is_prefix (option_map (λ action. action_view action.now) action.entry) (event_view event.now) }
+    ensures { result ≡ is_prefix (lent_action action.entry) (event_view event.now) }
 {
     action.is_none() && is_key(UNDO_PREFIX, event)
 }
@@ -146,7 +146,8 @@ impl UndoSteps {
     )
         requires spare { self.old.spare ≡ before.now }
         requires room { vec_len self.old.before < vec_capacity self.old.before }
-        ensures before { self.new.before.items ≡ steps_with (option_map (λ action. action_view action.now) action.entry) before.now after.now (undo_view self.old) }
+        ensures before { self.new.before.items
+            ≡ steps_with (lent_action action.entry) before.now after.now (undo_view self.old) }
         ensures typing { self.new.typing ≡ self.old.typing }
         ensures prefixed { self.new.prefixed ≡ self.old.prefixed }
     {
@@ -178,7 +179,7 @@ impl UndoSteps {
               searching = searching;
               before = before.now;
               after = after.now;
-              action = option_map (λ action. action_view action.now) action.entry;
+              action = lent_action action.entry;
             }) (undo_view self.old) }
     {
         let typing = !searching && typing_after(action, self.typing) && is_same_line(before, after);
@@ -247,9 +248,12 @@ impl KeyPart for UndoSteps {
         after: &LineEditBuffer,
         action: Option<&Action>,
     )
-        requires ready { (self.old.spare ≡ before.now) × (vec_len self.old.before < vec_capacity self.old.before) }
-        ensures { undo_view self.new ≡ undo_follows (undo_view self.old) (option_map (λ left. left) note)
-            (step_of (event_view event.now) searching before.now after.now (option_map (λ action. action_view action.now) action.entry)) }
+        requires ready { (self.old.spare ≡ before.now)
+            × (vec_len self.old.before < vec_capacity self.old.before) }
+        ensures { undo_view self.new
+            ≡ undo_follows (undo_view self.old) (option_map (λ left. left) note)
+            (step_of (event_view event.now) searching before.now after.now
+            (lent_action action.entry)) }
     {
         match note {
             Some(left) => {

@@ -1,7 +1,7 @@
 //! Whether the editor searches.
 
-ghost use Rattle.std.specs.Prelude.{◌≡◌, option_map};
-ghost use Rattle.tw_host.specs.ActionView.{action_view};
+ghost use Rattle.std.specs.Prelude.{◌≡◌};
+ghost use Rattle.tw_key_parts.specs.EditView.{lent_action};
 ghost use Rattle.tw_key_parts.specs.SearchWatch.{has_lines, searches_after};
 
 use tw_history::History;
@@ -9,7 +9,7 @@ use tw_host::Action;
 
 /// Returns true if the editor searches after an action. A search begins only if the history has lines.
 pub fn searches_after(lines: bool, action: Option<&Action>, before: bool) -> bool
-    ensures { result ≡ searches_after lines (option_map (λ action. action_view action.now) action.entry) before }
+    ensures { result ≡ searches_after lines (lent_action action.entry) before }
 {
     match action {
         Some(Action::HistoryIncSearchBackwards | Action::HistoryIncSearchForwards) => {

@@ -6,14 +6,16 @@ ghost use Rattle.tw_input.specs.EventView.{event_view};
 ghost use Rattle.tw_input.specs.Modifiers.{alt, ctrl};
 ghost use Rattle.tw_key_parts.specs.WordKeys.{edit_in, edited_cut, word_edit, word_keys};
 
+use crate::cases::{WordCase, with_word_in};
 use crate::edit::Edit;
 use crate::plain_keys::PlainKeys;
+use crate::swaps::with_swapped_clusters;
+use crate::word_swaps::with_swapped_words;
 use std::alloc::{AllocError, Global};
 use tw_history::History;
 use tw_host::Action;
 use tw_input::{InputEvent, KeyCode, KeyEvent, Modifiers};
 use tw_line::LineEditBuffer;
-use tw_word_parts::{WordCase, with_swapped_clusters, with_swapped_words, with_word_in};
 
 /// An edit of the words or characters around the cursor.
 #[derive(Clone, Copy, Debug, PartialEq, Eq)]

@@ -1,8 +1,7 @@
 //! The brackets at the cursor.
 
-use nested_marks::{MarkPair, closed_mark};
 use std::alloc::{AllocError, Global};
-use tw_prompt_host::StyledRange;
+use tw_prompt_host::{MarkPair, StyledRange, closed_mark};
 use tw_surface::CellAttributes;
 
 /// Returns the last character of a text, and the text before it.

@@ -1,3 +1,6 @@
+pub mod NestingLemmas
+pub mod StackLemmas
+pub mod WholeLemmas
 pub mod AfterLineLemmas
 pub mod FailingLemmas
 pub mod LayoutLemmas

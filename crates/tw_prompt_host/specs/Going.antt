@@ -18,9 +18,10 @@ use Rattle.tw_prompt_host.specs.declared.going.Going.{Going}
 abbrev pub give_up_key : KeyEvent
 give_up_key = key_press ctrl (letter (codes "G"))
 
--- whether the editor searches and the line before that, a line that comes back with the next event, whether the line was kept from being accepted, whether it is over, and the menu
+-- whether the editor searches, whether the search fails, the line before it, a line that comes back with the next event, whether the line was kept from being accepted, whether it is over, and the menu
 pub record GoingView : Type 0 where
   pub searching : Bool
+  pub fails : Bool
   pub before_search : Option Cut
   pub comes_back : Option Cut
   pub kept : Bool
@@ -31,6 +32,7 @@ pub record GoingView : Type 0 where
 abbrev pub going_view : Going → GoingView
 going_view going = record {
   searching = going.searching;
+  fails = going.fails;
   before_search = going.before_search;
   comes_back = going.comes_back;
   kept = going.kept;
@@ -40,7 +42,7 @@ going_view going = record {
 
 -- before a line
 abbrev pub at_rest : GoingView
-at_rest = record { searching = false; before_search = None; comes_back = None; kept = false; over = false; menu = Closed }
+at_rest = record { searching = false; fails = false; before_search = None; comes_back = None; kept = false; over = false; menu = Closed }
 
 -- the line at an event: the one that comes back, or else the editor's
 abbrev pub line_at : GoingView → Cut → Cut
@@ -69,13 +71,14 @@ is_last (Some Cancel) = true
 is_last (Some EndOfFile) = true
 is_last _ = false
 
--- an event, the line before and after it, the action that follows if there is one, whether one was kept back, and where it turns the menu
+-- an event, the line before and after it, the action that follows if there is one, whether one was kept back, whether a search fails, and where it turns the menu
 pub record Came : Type 0 where
   pub event : EventView
   pub before : Cut
   pub after : Cut
   pub action : Option ActionView
   pub back : Bool
+  pub fails : Bool
   pub turn : Option MenuView
 
 -- all of it after an event, in a history that has lines or none
@@ -84,6 +87,7 @@ going_after lines came going =
     let searches = searches_after lines came.action going.searching in
     record {
       searching = searches;
+      fails = came.fails;
       before_search = before_search_after going.searching searches came.before going.before_search;
       comes_back = comes_back_after (is_key give_up_key came.event) searches going.before_search;
       kept = kept_after came.back came.action going.kept;

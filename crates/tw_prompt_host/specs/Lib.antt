@@ -1,3 +1,6 @@
+pub mod Marks
+pub mod Nesting
+pub mod NestingLaws
 pub mod MenuLayout
 pub mod MenuState
 pub mod MenuView

@@ -1,8 +1,8 @@
 -- What a line with brackets and quotations lacks.
 use Rattle.std.specs.Prelude.{ℕ, List, ◌++◌, Option, Some, option_map, codes, encode_utf8}
-use Rattle.nested_marks.specs.Nesting.{NestingView, Open, Wrong, innermost, nesting_of}
-use Rattle.nested_marks.specs.declared.marks.MarkPair.{MarkPair}
-use Rattle.nested_marks.specs.declared.marks.OpenMark.{OpenMark}
+use Rattle.tw_prompt_host.specs.Nesting.{NestingView, Open, Wrong, innermost, nesting_of}
+use Rattle.tw_prompt_host.specs.declared.marks.MarkPair.{MarkPair}
+use Rattle.tw_prompt_host.specs.declared.marks.OpenMark.{OpenMark}
 
 -- a text after a mark
 abbrev pub marked_text : ℕ → List ℕ → List ℕ

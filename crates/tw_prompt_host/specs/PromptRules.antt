@@ -1,5 +1,6 @@
 -- A prompt: a host with a history, completers, keys, hints, a validator, a menu and a screen.
-use Rattle.std.specs.Prelude.{ℕ, ◌==◌, ◌&&◌, Bool, true, false, not, List, [], ◌++◌, length, Option, Some, None, option_map, unwrap_or, if◌then◌else◌}
+use Rattle.std.specs.Prelude.{ℕ, ◌==◌, ◌&&◌, ◌||◌, Bool, true, false, not, List, [], ◌++◌, length, Option, Some, None, option_map, unwrap_or, if◌then◌else◌}
+use Rattle.std.specs.Option.{is_none}
 use Rattle.tw_surface.specs.Characters.{lf}
 use Rattle.tw_surface.specs.Defaults.{default_attributes}
 use Rattle.tw_input.specs.EventView.{EventView}
@@ -20,7 +21,7 @@ use Rattle.tw_key_parts.specs.SearchWatch.{has_lines}
 use Rattle.tw_prompt_host.specs.Going.{Came, GoingView, give_up_key, going_after, line_at}
 use Rattle.tw_prompt_host.specs.Hint.{are_on, hint_if_under, hint_of, hint_taken_by, shown_under}
 use Rattle.tw_prompt_host.specs.AfterLine.{after_line_on}
-use Rattle.tw_prompt_host.specs.FailingSearch.{failing_text, is_failing}
+use Rattle.tw_prompt_host.specs.FailingSearch.{failing_text, fails_after, is_failing}
 use Rattle.tw_prompt_host.specs.MenuLayout.{style_after}
 use Rattle.tw_prompt_host.specs.MenuState.{MenuView, menu_begun, turned}
 use Rattle.tw_prompt_host.specs.MenuView.{is_open, known, offered, page_or, turn_line, turn_unless}
@@ -88,12 +89,16 @@ abbrev pub said : Bool → Bool → Option ActionView → Option ActionView
 said true opens action = Some (instead opens)
 said false opens action = action
 
+-- a prompt says that a search fails: accepting its line was held back, or nothing is answered and it fails by the key table
+abbrev pub says_failing : Bool → Option ActionView → Bool → Bool
+says_failing back action fails = back || (is_none action && fails)
+
 -- what completers offer, or else these
 abbrev pub completed_or : Option (List CandidateView) → List CandidateView → List CandidateView
 completed_or (Some candidates) others = candidates
 completed_or None others = others
 
--- that a search fails, after the line of one that was kept
+-- that a search fails, after the line
 abbrev pub failing_if : Bool → PromptScreenView → Option (List ℕ) → List ℕ → List ElementView
 failing_if true screen rows line = after_line_on screen rows line default_attributes failing_text
 failing_if false screen rows line = []
@@ -116,10 +121,10 @@ module _ {V S K : Type 0} (keys : KeyRules S K) (rules : HostRules V) where
   abbrev pub is_hinted : Prompted V S → Cut → Bool
   is_hinted v cut = (not v.going.over && not v.going.kept) && (not (is_open v.going.menu) && (cut.cursor == length cut.line))
 
-  -- what stands after the line: in a search that was kept that it fails, and else the hint
+  -- what stands after the line: in a search that it fails, and else the hint
   abbrev pub after_line : Prompted V S → Cut → List ElementView
   after_line v cut =
-      if v.going.searching then failing_if v.going.kept v.screen v.rows cut.line
+      if v.going.searching then failing_if v.going.fails v.screen v.rows cut.line
       else if is_hinted v cut then hint_if_after v.hints v.screen v.rows cut.line (hint_of v.lent cut.line) else []
 
   -- the hint that an event takes
@@ -157,6 +162,10 @@ module _ {V S K : Type 0} (keys : KeyRules S K) (rules : HostRules V) where
   abbrev pub is_back : Prompted V S → EventView → Cut → Option ActionView → Bool
   is_back v event cut action = is_kept v cut.line && is_accepting (or_default action event)
 
+  -- a search would fail after the key table's action
+  abbrev pub fails_by_key : Prompted V S → EventView → Cut → Bool
+  fails_by_key v event cut = v.stops_failing_searches && fails_after v.lines v.going.searching (action_of event) cut
+
   -- all follow what came of an event in the end
   abbrev pub followed : Prompted V S → V → Option K → Came → Option ActionView → Resolution (Prompted V S)
   followed v value kept came action = record {
@@ -171,11 +180,13 @@ module _ {V S K : Type 0} (keys : KeyRules S K) (rules : HostRules V) where
     action = action;
   }
 
-  abbrev pub judged : Prompted V S → EventView → Cut → V → Answer K → Option MenuView → Bool → Resolution (Prompted V S)
-  judged v event cut value answer turn back =
+  -- an answer is done, or held back; `fails` is whether a search would fail by the key table
+  abbrev pub judged : Prompted V S → EventView → Cut → V → Answer K → Option MenuView → Bool → Bool → Resolution (Prompted V S)
+  judged v event cut value answer turn back fails =
       let action = said back (opens_row v) answer.action in
+      let held = back && not (opens_row v) in
       followed v value answer.kept
-      (record { event = event; before = cut; after = answer.cut; action = or_default action event; back = back && not (opens_row v); turn = turn }) action
+      (record { event = event; before = cut; after = answer.cut; action = or_default action event; back = held; fails = says_failing held action fails; turn = turn }) action
 
   -- what is answered to an event at a line: the host goes first, and then the edit, which a completion is too
   abbrev pub answer_at : Prompted V S → EventView → Cut → Answer K
@@ -190,7 +201,7 @@ module _ {V S K : Type 0} (keys : KeyRules S K) (rules : HostRules V) where
   abbrev pub resolved_at : Prompted V S → EventView → Cut → Resolution (Prompted V S)
   resolved_at v event cut =
       let answer = answer_at v event cut in
-      judged v event cut (rules.resolve v.host event cut).value answer (turn_taken_at v event cut) (is_back v event cut answer.action)
+      judged v event cut (rules.resolve v.host event cut).value answer (turn_taken_at v event cut) (is_back v event cut answer.action) (fails_by_key v event cut)
 
   abbrev pub prompt_rules : HostRules (Prompted V S)
   prompt_rules = record {

@@ -49,7 +49,8 @@ fn room_after(cols: usize, before: &str, row: &str) -> usize
 
 /// Returns as many grapheme clusters of a text as fit into `columns` columns, up to a control character.
 fn fitting(alloc: Global, columns: usize, text: &str) -> Result<String, AllocError>
-    ensures { IfOk result (λ shown. string_bytes shown ≡ fitting columns (graphemes true text.now)) }
+    ensures { IfOk result (λ shown. string_bytes shown
+        ≡ fitting columns (graphemes true text.now)) }
 {
     let mut shown = String::new(alloc);
     let mut left = columns;

@@ -1,10 +1,14 @@
 //! Searches that find nothing.
 
 ghost use Rattle.std.specs.Prelude.{◌≡◌, IfOk};
-ghost use Rattle.tw_prompt_host.specs.FailingSearch.{is_failing};
+ghost use Rattle.tw_key_parts.specs.EditView.{lent_action};
+ghost use Rattle.tw_prompt_host.specs.FailingSearch.{fails_after, is_failing, pattern_after};
 
 use std::alloc::{AllocError, Global};
 use tw_history::{History, SearchDirection, SearchStyle};
+use tw_host::Action;
+use tw_key_parts::{is_filled, searches_after};
+use tw_line::LineEditBuffer;
 
 /// What is said after the line of a search that fails.
 pub const FAILING: &str = "  failing: no line has it";
@@ -24,4 +28,41 @@ pub fn is_failing<L: History>(alloc: Global, history: &L, pattern: &str) -> Resu
         pattern,
     )?;
     Ok(found.is_none())
+}
+
+/// Returns the pattern of a search after an action that leaves the search on.
+fn pattern_after(
+    alloc: Global,
+    action: Option<&Action>,
+    pattern: &LineEditBuffer,
+) -> Result<LineEditBuffer, AllocError>
+    ensures { IfOk result (λ after. after ≡ pattern_after (lent_action action.entry) pattern.now) }
+{
+    let mut after = pattern.try_clone(alloc)?;
+    match action {
+        Some(Action::InsertChar(count, c)) => after.insert_char_times(*count, *c)?,
+        Some(Action::InsertText(count, text)) => after.insert_text_times(*count, text)?,
+        Some(Action::Kill(movement)) => after.kill_text(*movement, *movement),
+        Some(Action::KillAndMove(kill, movement)) => after.kill_text(*kill, *movement),
+        _ => {}
+    }
+    Ok(after)
+}
+
+/// Returns true if the editor searches, and goes on after an action for a pattern that no line of the history contains.
+pub fn fails_after<L: History>(
+    alloc: Global,
+    history: &L,
+    searching: bool,
+    action: Option<&Action>,
+    pattern: &LineEditBuffer,
+) -> Result<bool, AllocError>
+    ensures { IfOk result (λ fails. fails
+        ≡ fails_after (L.lines history.now) searching (lent_action action.entry) pattern.now) }
+{
+    if !searching || !searches_after(is_filled(history), action, searching) {
+        return Ok(false);
+    }
+    let after = pattern_after(alloc, action, pattern)?;
+    is_failing(alloc, history, after.get_line())
 }

@@ -1,8 +1,8 @@
 //! The state of one line.
 
 ghost use Rattle.std.specs.Prelude.{◌≡◌, option_map};
-ghost use Rattle.tw_host.specs.ActionView.{action_view};
 ghost use Rattle.tw_input.specs.EventView.{event_view};
+ghost use Rattle.tw_key_parts.specs.EditView.{lent_action};
 ghost use Rattle.tw_key_parts.specs.Keys.{is_key};
 ghost use Rattle.tw_key_parts.specs.SearchWatch.{searches_after};
 ghost use Rattle.tw_prompt_host.specs.Going.{at_rest, before_search_after, comes_back_after, give_up_key, going_after, going_view, is_last, kept_after};
@@ -25,6 +25,8 @@ const GIVE_UP: KeyEvent = KeyEvent {
 pub struct Going {
     /// True while the editor searches.
     pub(crate) searching: bool,
+    /// True if the prompt says that the search fails.
+    pub(crate) fails: bool,
     /// The line before the search, while the editor searches.
     pub(crate) before_search: Option<LineEditBuffer>,
     /// The line that comes back with the next event, after a search that was given up.
@@ -46,14 +48,14 @@ pub fn gives_up(event: &InputEvent) -> bool
 
 /// Returns true if the line was not accepted, now or before.
 fn kept_after(back: bool, action: Option<&Action>, kept: bool) -> bool
-    ensures { result ≡ kept_after back (option_map (λ action. action_view action.now) action.entry) kept }
+    ensures { result ≡ kept_after back (lent_action action.entry) kept }
 {
     back || (kept && action.is_none())
 }
 
 /// Returns true for an action that ends the line.
 fn is_last(action: Option<&Action>) -> bool
-    ensures { result ≡ is_last (option_map (λ action. action_view action.now) action.entry) }
+    ensures { result ≡ is_last (lent_action action.entry) }
 {
     matches!(
         action,
@@ -68,6 +70,7 @@ impl Going {
     {
         Going {
             searching: false,
+            fails: false,
             before_search: None,
             comes_back: None,
             kept: false,
@@ -78,7 +81,8 @@ impl Going {
 
     /// Returns true if an action begins a completion outside a search.
     pub(crate) fn asks(&self, action: Option<&Action>) -> bool
-        ensures { result ≡ asks self.now.searching (menu_view self.now.menu) (option_map (λ action. action_view action.now) action.entry) }
+        ensures { result ≡ asks self.now.searching (menu_view self.now.menu)
+            (lent_action action.entry) }
     {
         if self.searching {
             return false;
@@ -94,7 +98,8 @@ impl Going {
         ensures { let old = going_view self.old in going_view self.new ≡ record old {
           searching = searches;
           before_search = before_search_after old.searching searches line old.before_search;
-          comes_back = comes_back_after (is_key give_up_key (event_view event.now)) searches old.before_search;
+          comes_back = comes_back_after (is_key give_up_key (event_view event.now)) searches
+              old.before_search;
         } }
     {
         let before = self.before_search.take();
@@ -111,7 +116,8 @@ impl Going {
         self.searching = searches;
     }
 
-    /// Follows an event, which leads from the line before to the one after. `back` is true if its action was held back.
+    /// Follows an event, which leads from the line before to the one after. `back` is true if its action was held back,
+    /// `fails` if the search fails after it.
     pub(crate) fn follow(
         &mut self,
         lines: bool,
@@ -120,20 +126,23 @@ impl Going {
         after: &LineEditBuffer,
         action: Option<&Action>,
         back: bool,
+        fails: bool,
         turn: Option<Turn>,
     )
         ensures { going_view self.new ≡ going_after lines (record {
           event = event_view event.now;
           before = before;
           after = after.now;
-          action = option_map (λ action. action_view action.now) action.entry;
+          action = lent_action action.entry;
           back = back;
+          fails = fails;
           turn = option_map (turn_view (menu_view self.old.menu)) turn;
         }) (going_view self.old) }
     {
         self.menu.follow(turn, &before, after, action);
         self.kept = kept_after(back, action, self.kept);
         self.over = is_last(action);
+        self.fails = fails;
         let searches = searches_after(lines, action, self.searching);
         self.follow_search(event, searches, before);
     }

@@ -1,7 +1,7 @@
 //! Hints from a history.
 
 ghost use Rattle.std.specs.Prelude.{◌≡◌, option_map};
-ghost use Rattle.tw_host.specs.ActionView.{action_view};
+ghost use Rattle.tw_key_parts.specs.EditView.{lent_action};
 ghost use Rattle.tw_prompt_host.specs.Hint.{are_on, continuation_of, dim_hints, hint_of, is_taking, newest_rest, part_taken, rest_behind, word_of};
 
 use tw_history::LentLines;
@@ -83,7 +83,7 @@ pub fn history_hint<'a, L: LentLines>(lines: &'a L, text: &str) -> Option<&'a st
 
 /// Returns true for an action that moves forward at the end of the line.
 pub fn is_taking(action: Option<&Action>, editor: &LineEditBuffer) -> bool
-    ensures { result ≡ is_taking (option_map (λ action. action_view action.now) action.entry) editor.now }
+    ensures { result ≡ is_taking (lent_action action.entry) editor.now }
 {
     matches!(
         action,
@@ -103,7 +103,7 @@ fn word_of(rest: &str) -> &str
 
 /// Returns what an action takes of a hint.
 pub fn part_taken<'rest>(action: Option<&Action>, rest: &'rest str) -> &'rest str
-    ensures { result.now ≡ part_taken (option_map (λ action. action_view action.now) action.entry) rest.now }
+    ensures { result.now ≡ part_taken (lent_action action.entry) rest.now }
 {
     match action {
         Some(Action::Move(Movement::ForwardWord(_))) => word_of(rest),

@@ -1,6 +1,7 @@
 //! What follows from the definitions.
 
 ghost use Rattle.tw_host.specs.Faithful.{IsFaithful};
+ghost use Rattle.tw_prompt_host.specs.NestingLaws.{BracketedIsWhole, JoinedIsWhole, PlainIsWhole, QuotedIsWhole};
 ghost use Rattle.tw_prompt_host.specs.Prepared.{prepared_rules};
 ghost use Rattle.tw_prompt_host.specs.PromptLaws.{GivesLineBack, KeepsLineOfSearch, PromptHasWatch};
 ghost use Rattle.tw_prompt_host.specs.RowLaws.{ElementsAreSpread, OneRowIsSettled, PrintableCutIsShown, PrintableIsShown, PrintableIsSpread};
@@ -34,4 +35,14 @@ pub fn rows()
 /// A prepared host shows the prompt and the line themselves, whatever the ranges are.
 pub fn prepared()
     ensures { IsFaithful prepared_rules }
+{}
+
+/// Whole are a text without marks (`plain`), two whole texts one after the other (`joined`), a whole text between
+/// brackets (`bracketed`), and a text between the marks of a quotation that has its closing mark only behind the escape
+/// character (`quoted`).
+pub fn whole()
+    ensures plain { PlainIsWhole }
+    ensures joined { JoinedIsWhole }
+    ensures bracketed { BracketedIsWhole }
+    ensures quoted { QuotedIsWhole }
 {}

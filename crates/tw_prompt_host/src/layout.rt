@@ -107,7 +107,8 @@ fn menu_cell(
     is_chosen: bool,
     text: &str,
 ) -> Result<Vec<OutputElement>, AllocError>
-    ensures { IfOk result (λ cell. map element_view cell.items ≡ menu_cell style before.now is_chosen text.now) }
+    ensures { IfOk result (λ cell. map element_view cell.items
+        ≡ menu_cell style before.now is_chosen text.now) }
 {
     let mut cell = plain_element(alloc, before)?;
     let mut shown = if is_chosen {
@@ -139,7 +140,8 @@ pub fn menu_page(
     chosen: usize,
 ) -> Result<Vec<OutputElement>, AllocError>
     requires { chosen < length candidates.now }
-    ensures { IfOk result (λ elements. map element_view elements.items ≡ menu_page style (map candidate_view candidates.now) chosen) }
+    ensures { IfOk result (λ elements. map element_view elements.items
+        ≡ menu_page style (map candidate_view candidates.now) chosen) }
 {
     let width = widest(candidates);
     let in_row = row_len(style.cols, width);

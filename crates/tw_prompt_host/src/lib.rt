@@ -10,23 +10,29 @@
 #![tactic(auto)]
 
 mod after_line;
+mod answers;
 mod failing;
 mod going;
 mod hint;
 pub mod laws;
 mod layout;
+mod marks;
 mod menu;
 mod nested_lines;
+mod nesting;
 mod plain;
 mod prepared;
 mod prompt;
 mod rows;
+mod shown;
 mod validator;
 
 pub use going::{Going, gives_up};
 pub use hint::Hints;
 pub use layout::MenuStyle;
+pub use marks::{MarkKind, MarkPair, OpenMark, common_pairs};
 pub use nested_lines::NestedLines;
+pub use nesting::{Nesting, closed_mark, nesting_in};
 pub use prepared::{PreparedHost, StyledRange, styled_ranges};
 pub use prompt::PromptHost;
 pub use rows::Rows;

@@ -1,9 +1,9 @@
 //! The menu of a completion.
 
 ghost use Rattle.std.specs.Prelude.{◌≡◌, None, map, option_map, IfOk};
-ghost use Rattle.tw_host.specs.ActionView.{action_view};
 ghost use Rattle.tw_host.specs.CandidateView.{candidate_view};
 ghost use Rattle.tw_input.specs.EventView.{event_view};
+ghost use Rattle.tw_key_parts.specs.EditView.{lent_action};
 ghost use Rattle.tw_key_parts.specs.Ring.{is_same_cut};
 ghost use Rattle.tw_prompt_host.specs.MenuView.{chosen_of, is_open, menu_view, turn_line, turn_view};
 ghost use Rattle.tw_prompt_host.specs.MenuState.{menu_after, menu_begun, menu_behind, menu_stepped, next_in, previous_in, stepped, turned};
@@ -126,7 +126,7 @@ impl Menu {
     /// Returns where an event leads an open menu.
     pub fn turn(&self, event: &InputEvent, action: Option<&Action>) -> Option<Turn>
         ensures { option_map (turn_view (menu_view self.now)) result
-            ≡ turned None (event_view event.now) (option_map (λ action. action_view action.now) action.entry) (menu_view self.now) }
+            ≡ turned None (event_view event.now) (lent_action action.entry) (menu_view self.now) }
     {
         if !self.is_open() {
             return None;
@@ -146,7 +146,8 @@ impl Menu {
         alloc: Global,
         turn: Option<&Turn>,
     ) -> Result<Option<LineEditBuffer>, AllocError>
-        ensures { IfOk result (λ line. line ≡ turn_line (option_map (λ turn. turn_view (menu_view self.now) turn.now) turn.entry)) }
+        ensures { IfOk result (λ line. line
+            ≡ turn_line (option_map (λ turn. turn_view (menu_view self.now) turn.now) turn.entry)) }
     {
         match (turn, self) {
             (Some(Turn::Next | Turn::Back), Menu::Open(menu))
@@ -167,7 +168,8 @@ impl Menu {
     /// Follows the action of an event that does not turn the menu.
     fn go_on(&mut self, before: &LineEditBuffer, after: &LineEditBuffer, action: Option<&Action>)
         ensures { menu_view self.new
-            ≡ menu_after (is_same_cut before.now after.now) (option_map (λ action. action_view action.now) action.entry) (menu_view self.old) }
+            ≡ menu_after (is_same_cut before.now after.now) (lent_action action.entry)
+            (menu_view self.old) }
     {
         match action {
             Some(Action::Complete) => *self = Menu::Unseen,
@@ -188,8 +190,9 @@ impl Menu {
         after: &LineEditBuffer,
         action: Option<&Action>,
     )
-        ensures { menu_view self.new ≡ menu_behind (option_map (turn_view (menu_view self.old)) turn)
-            (is_same_cut before.now after.now) (option_map (λ action. action_view action.now) action.entry) (menu_view self.old) }
+        ensures { menu_view self.new
+            ≡ menu_behind (option_map (turn_view (menu_view self.old)) turn)
+            (is_same_cut before.now after.now) (lent_action action.entry) (menu_view self.old) }
     {
         match turn {
             Some(Turn::Next) => self.step(false),
@@ -205,7 +208,8 @@ pub fn copied(
     alloc: Global,
     candidates: &[CompletionCandidate],
 ) -> Result<Vec<CompletionCandidate>, AllocError>
-    ensures { IfOk result (λ copies. map candidate_view copies.items ≡ map candidate_view candidates.now) }
+    ensures { IfOk result (λ copies. map candidate_view copies.items
+        ≡ map candidate_view candidates.now) }
 {
     let mut copies = Vec::new(alloc);
     for candidate in candidates {

@@ -1,11 +1,12 @@
 //! Lines whose brackets and quotations are whole.
 
 ghost use Rattle.std.specs.Prelude.{◌≡◌, IfOk, option_map, string_bytes};
-ghost use Rattle.nested_marks.specs.Nesting.{nesting_view};
+ghost use Rattle.tw_prompt_host.specs.Nesting.{nesting_view};
 ghost use Rattle.tw_prompt_host.specs.NestedLines.{lack_of, marked_text, nested_lack, open_lack};
 
+use crate::marks::{MarkPair, OpenMark};
+use crate::nesting::{Nesting, nesting_in};
 use crate::validator::Validator;
-use nested_marks::{MarkPair, Nesting, OpenMark, nesting_in};
 use std::alloc::{AllocError, Global};
 
 /// Accepts a line if each of its brackets and quotations is closed. Otherwise it names the innermost open mark, or the

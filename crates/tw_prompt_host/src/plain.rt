@@ -27,10 +27,12 @@ impl PromptHost<NopLineEditorHost, BasicHistory, Keys<ReadlineKeys>, AllLines> {
     /// line at a search that fails, and everything else is off. Change its fields, or write the literal, for more.
     pub fn new(alloc: Global, prompt: &str, cols: usize) -> Result<Self, AllocError>
         ensures lines { IfOk result (λ it. it.history ≡ []) }
-        ensures off { IfOk result (λ it. (it.completers.items ≡ []) × (it.listings.items ≡ []) × (it.hints ≡ Off)) }
+        ensures off { IfOk result (λ it. (it.completers.items ≡ []) × (it.listings.items ≡ [])
+            × (it.hints ≡ Off)) }
         ensures searches { IfOk result (λ it. it.stops_failing_searches ≡ true) }
         ensures menu { IfOk result (λ it. it.menu ≡ reverse_style cols 4) }
-        ensures screen { IfOk result (λ it. screen_view it.screen ≡ record { cols = cols; prompt = prompt.now }) }
+        ensures screen { IfOk result (λ it. screen_view it.screen
+            ≡ record { cols = cols; prompt = prompt.now }) }
         ensures rows { IfOk result (λ it. rows_view it.rows ≡ None) }
         ensures going { IfOk result (λ it. going_view it.going ≡ at_rest) }
     {

@@ -55,7 +55,8 @@ fn show_range<'line>(
     range: &StyledRange,
     rest: &'line str,
 ) -> Result<(Vec<OutputElement>, &'line str), AllocError>
-    ensures shown { IfOk result (λ it. map element_view it.0.items ≡ shown_range total range.now rest.now) }
+    ensures shown { IfOk result (λ it. map element_view it.0.items
+        ≡ shown_range total range.now rest.now) }
     ensures left { IfOk result (λ it. it.1.now ≡ behind_range total range.now rest.now) }
 {
     let (before, inside) = split_before(total, range.start, rest);
@@ -72,7 +73,8 @@ pub fn styled_ranges(
     ranges: &[StyledRange],
     line: &str,
 ) -> Result<Vec<OutputElement>, AllocError>
-    ensures { IfOk result (λ elements. map element_view elements.items ≡ styled_ranges ranges.now line.now) }
+    ensures { IfOk result (λ elements. map element_view elements.items
+        ≡ styled_ranges ranges.now line.now) }
 {
     let mut elements = Vec::new(alloc);
     let mut rest = line;
@@ -108,7 +110,8 @@ pub struct PreparedHost {
 impl PreparedHost {
     /// Creates the host with a plain prompt and nothing prepared. It takes no memory.
     pub fn new(alloc: Global) -> Self
-        ensures { (result.prompt ≡ default_attributes) × (result.ranges.items ≡ []) × (result.candidates.items ≡ []) }
+        ensures { (result.prompt ≡ default_attributes) × (result.ranges.items ≡ [])
+            × (result.candidates.items ≡ []) }
     {
         PreparedHost {
             prompt: CellAttributes::default(),
@@ -122,7 +125,8 @@ impl PreparedHost {
 
     /// Returns true if candidates are prepared for a line with its cursor.
     fn is_asked(&self, line: &str, cursor: usize) -> bool
-        ensures { result ≡ is_same_cut (record { line = line.now; cursor = cursor }) self.now.asked }
+        ensures { result
+            ≡ is_same_cut (record { line = line.now; cursor = cursor }) self.now.asked }
     {
         line == self.asked.get_line() && cursor == self.asked.get_cursor()
     }

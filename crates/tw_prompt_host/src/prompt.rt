@@ -3,7 +3,6 @@
 ghost use Rattle.std.specs.Prelude.{◌≡◌, ◌&&◌, IfOk, OnErr, OnOk, IsCharBoundary, None, if◌then◌else◌, map, not, option_map, refl, string_bytes};
 ghost use Rattle.tw_host.specs.ActionView.{action_view};
 ghost use Rattle.tw_host.specs.CandidateView.{candidate_view};
-ghost use Rattle.tw_host.specs.ElementView.{element_view};
 ghost use Rattle.tw_host.specs.HostRules.{or_default};
 ghost use Rattle.tw_host.specs.KeyTable.{action_of};
 ghost use Rattle.tw_host.specs.PlainAnswers.{all_overrides, no_plain_left};
@@ -12,20 +11,20 @@ ghost use Rattle.tw_input.specs.EventView.{event_view};
 ghost use Rattle.tw_line.specs.Cut.{cut_at};
 ghost use Rattle.tw_completion_parts.specs.Completers.{context_completer_view};
 ghost use Rattle.tw_completion_parts.specs.FileNames.{listing_view};
-ghost use Rattle.tw_key_parts.specs.EditView.{edit_view};
+ghost use Rattle.tw_key_parts.specs.EditView.{edit_view, lent_action};
 ghost use Rattle.tw_key_parts.specs.KeyRules.{step_of};
 ghost use Rattle.tw_key_parts.specs.SearchWatch.{has_lines};
 ghost use Rattle.tw_prompt_host.specs.Going.{at_rest, give_up_key, going_after, going_view, line_at};
-ghost use Rattle.tw_prompt_host.specs.Hint.{are_on, hint_of, hint_taken_by};
-ghost use Rattle.tw_prompt_host.specs.FailingSearch.{is_failing};
+ghost use Rattle.tw_prompt_host.specs.Hint.{are_on, hint_taken_by};
+ghost use Rattle.tw_prompt_host.specs.FailingSearch.{fails_after, is_failing};
 ghost use Rattle.tw_prompt_host.specs.MenuLayout.{style_after};
 ghost use Rattle.tw_prompt_host.specs.MenuView.{known, menu_view, turn_line, turn_unless, turn_view};
-ghost use Rattle.tw_prompt_host.specs.PromptRules.{Prompted, after_line, answer_at, answered, completing, edit_at, followed, failing_if, found, hint_if_after, hint_under, is_hinted, is_kept, leaving, opens_row, prompt_rules, said, turn_at, turn_taken_at};
+ghost use Rattle.tw_prompt_host.specs.PromptRules.{Prompted, after_line, answer_at, answered, completing, edit_at, followed, found, hint_under, is_kept, says_failing, judged, leaving, opens_row, prompt_rules, said, turn_at, turn_taken_at};
 ghost use Rattle.tw_prompt_host.specs.Rows.{rows_view};
 ghost use Rattle.tw_prompt_host.specs.Validation.{is_accepting};
 
-use crate::after_line::after_line_on;
-use crate::failing::{FAILING, is_failing};
+use crate::answers::{answered, completing, done, judged, says_failing, turn_unless};
+use crate::failing::{fails_after, is_failing};
 use crate::going::{Going, gives_up};
 use crate::hint::{Hints, history_hint, is_taking, part_taken};
 use crate::layout::{MenuStyle, menu_page};
@@ -43,7 +42,6 @@ use tw_hosts::PromptScreen;
 use tw_input::InputEvent;
 use tw_key_parts::{Edit, KeyPart, is_filled};
 use tw_line::{LineEditBuffer, Movement};
-use tw_surface::CellAttributes;
 
 /// A prompt with the comforts of readline. Each event goes to the application's host first, then a hint may be taken,
 /// then the parts with keys are asked, and at last the key table. Accepting a line that is not whole does nothing, and
@@ -64,7 +62,7 @@ pub struct PromptHost<H, L, K, V> {
     pub keys: K,
     /// How the rest of the newest line that begins with the line is shown.
     pub hints: Hints,
-    /// Accepts no line during a search whose pattern stands in no line, and then says so after the line.
+    /// Says after the line that a search fails, if its pattern stands in no line, and accepts no line then.
     pub stops_failing_searches: bool,
     /// Decides whether a line may be accepted.
     pub validator: V,
@@ -79,114 +77,15 @@ pub struct PromptHost<H, L, K, V> {
     pub going: Going,
 }
 
-/// Returns true if an action accepts the line.
-fn is_accepting(action: Option<&Action>) -> bool
-    ensures { result ≡ is_accepting (option_map (λ action. action_view action.now) action.entry) }
-{
-    matches!(action, Some(Action::AcceptLine))
-}
-
-/// Returns the host's action, or else the edit's, whose line replaces the line.
-fn answered<K: KeyPart>(
-    own: Option<Action>,
-    edit: Option<Edit<Option<K::Note>>>,
-    editor: &mut LineEditBuffer,
-) -> (Option<Action>, Option<K::Note>)
-    ensures { record { cut = editor.new; action = option_map action_view result.0; kept = option_map K.kept result.1 }
-        ≡ answered (option_map action_view own) (option_map (edit_view (option_map K.kept)) edit) editor.old }
-{
-    match (own, edit) {
-        (Some(action), _) => (Some(action), None),
-        (None, Some(Edit { line, action, note })) => {
-            if let Some(line) = line {
-                *editor = line;
-            }
-            (Some(action), note)
-        }
-        (None, None) => (None, None),
-    }
-}
-
-/// Returns the edit, or else the completion of a line.
-fn completing<K: KeyPart>(
-    edit: Option<Edit<Option<K::Note>>>,
-    line: Option<LineEditBuffer>,
-) -> Option<Edit<Option<K::Note>>>
-    ensures { option_map (edit_view (option_map K.kept)) result ≡ completing (option_map (edit_view (option_map K.kept)) edit) line }
-{
-    match (edit, line) {
-        (Some(edit), _) => Some(edit),
-        (None, Some(line)) => Some(Edit {
-            line: Some(line),
-            action: Action::Complete,
-            note: None,
-        }),
-        (None, None) => None,
-    }
-}
-
-/// Returns where an event turns the menu, unless it has an action or an edit of its own.
-fn turn_unless<K: KeyPart>(
-    _menu: &Menu,
-    own: Option<&Action>,
-    edit: Option<&Edit<Option<K::Note>>>,
-    turn: Option<Turn>,
-) -> Option<Turn>
-    ensures { option_map (turn_view (menu_view _menu.now)) result
-        ≡ turn_unless (option_map (λ action. action_view action.now) own.entry) (option_map (λ edit. edit_view (option_map K.kept) edit.now) edit.entry)
-        (option_map (turn_view (menu_view _menu.now)) turn) }
-{
-    match (own, edit) {
-        (None, None) => turn,
-        _ => None,
-    }
-}
-
-/// Returns the action that is done: the one that is answered, or else the key table's.
-fn done<'a>(
-    _event: &InputEvent,
-    action: Option<&'a Action>,
-    default: Option<&'a Action>,
-) -> Option<&'a Action>
-    requires { option_map (λ action. action_view action.now) default ≡ action_of (event_view _event.now) }
-    ensures { option_map (λ action. action_view action.now) result
-        ≡ or_default (option_map (λ action. action_view action.now) action.entry) (event_view _event.now) }
-{
-    match action {
-        Some(action) => Some(action),
-        None => default,
-    }
-}
-
-/// Replaces an action, or else the key table's, that would accept a line which is kept: it begins a row, or does nothing.
-/// Returns true if it is held back.
-fn judged(
-    keeps: bool,
-    opens: bool,
-    event: &InputEvent,
-    action: Option<Action>,
-    default: Option<&Action>,
-) -> (bool, Option<Action>)
-    requires { option_map (λ action. action_view action.now) default ≡ action_of (event_view event.now) }
-    ensures back { let kept = keeps && is_accepting (or_default (option_map action_view action) (event_view event.now)) in
-        result.0 ≡ (kept && not opens) }
-    ensures action { let kept = keeps && is_accepting (or_default (option_map action_view action) (event_view event.now)) in
-        option_map action_view result.1 ≡ said kept opens (option_map action_view action) }
-{
-    let accepts = is_accepting(done(event, action.as_ref(), default));
-    match (keeps && accepts, opens) {
-        (true, true) => (false, Some(Action::InsertChar(1, '\n'))),
-        (true, false) => (true, Some(Action::NoAction)),
-        (false, _) => (false, action),
-    }
-}
-
 impl<H: LineEditorHost, L: History + LentLines, K: KeyPart, V: Validator> PromptHost<H, L, K, V> {
     /// Resets the state of the current line. Call it before each line: the last one may have been left in a search or a
     /// completion.
     pub fn begin_line(&mut self)
         ensures { ⟦<PromptHost<H, L, K, V> as LineEditorHost>⟧.value self.new
-            ≡ record (⟦<PromptHost<H, L, K, V> as LineEditorHost>⟧.value self.old) { keys = K.keys.leaves (K.state self.old.keys); going = at_rest } }
+            ≡ record (⟦<PromptHost<H, L, K, V> as LineEditorHost>⟧.value self.old) {
+              keys = K.keys.leaves (K.state self.old.keys);
+              going = at_rest;
+            } }
     {
         self.keys.leave_line();
         self.going = Going::new();
@@ -194,7 +93,8 @@ impl<H: LineEditorHost, L: History + LentLines, K: KeyPart, V: Validator> Prompt
 
     /// Returns true if the editor searches for a pattern that no line contains, and is not to accept one then.
     fn is_failing(&self, alloc: Global, pattern: &str) -> Result<bool, AllocError>
-        ensures { IfOk result (λ fails. fails ≡ (self.now.stops_failing_searches && is_failing (L.History.lines self.now.history) pattern.now)) }
+        ensures { IfOk result (λ fails. fails ≡ (self.now.stops_failing_searches
+            && is_failing (L.History.lines self.now.history) pattern.now)) }
     {
         if !self.stops_failing_searches {
             return Ok(false);
@@ -202,9 +102,27 @@ impl<H: LineEditorHost, L: History + LentLines, K: KeyPart, V: Validator> Prompt
         is_failing(alloc, &self.history, pattern)
     }
 
+    /// Returns true if a search fails after an action.
+    fn fails_after(
+        &self,
+        alloc: Global,
+        action: Option<&Action>,
+        line: &LineEditBuffer,
+    ) -> Result<bool, AllocError>
+        ensures { IfOk result (λ fails. fails ≡ (self.now.stops_failing_searches
+            && fails_after (L.History.lines self.now.history) self.now.going.searching
+            (lent_action action.entry) line.now)) }
+    {
+        if !self.stops_failing_searches {
+            return Ok(false);
+        }
+        fails_after(alloc, &self.history, self.going.searching, action, line)
+    }
+
     /// Returns true if the line is not whole, or during a search if the pattern fails.
     fn keeps(&self, alloc: Global, line: &str) -> Result<bool, AllocError>
-        ensures { IfOk result (λ keeps. keeps ≡ is_kept K.keys H.rules (⟦<PromptHost<H, L, K, V> as LineEditorHost>⟧.value self.now) line.now) }
+        ensures { let v = ⟦<PromptHost<H, L, K, V> as LineEditorHost>⟧.value self.now in
+            IfOk result (λ keeps. keeps ≡ is_kept K.keys H.rules v line.now) }
     {
         if self.going.searching {
             return self.is_failing(alloc, line);
@@ -214,78 +132,10 @@ impl<H: LineEditorHost, L: History + LentLines, K: KeyPart, V: Validator> Prompt
 
     /// Returns true if a row begins in place of accepting a line that is not whole.
     fn opens_row(&self) -> bool
-        ensures { result ≡ opens_row K.keys H.rules (⟦<PromptHost<H, L, K, V> as LineEditorHost>⟧.value self.now) }
+        ensures { let v = ⟦<PromptHost<H, L, K, V> as LineEditorHost>⟧.value self.now in
+            result ≡ opens_row K.keys H.rules v }
     {
         self.rows.are_shown() && !self.going.searching
-    }
-
-    /// Returns the hint under a line.
-    fn hint_under<'a>(&'a self, line: &str) -> Option<&'a str>
-        ensures { option_map (λ rest. rest.now) result ≡ hint_under K.keys H.rules (⟦<PromptHost<H, L, K, V> as LineEditorHost>⟧.value self.now) line.now }
-    {
-        match self.hints {
-            Hints::Under => history_hint(&self.history, line),
-            Hints::Off | Hints::After(_) => None,
-        }
-    }
-
-    /// Returns true if a hint may stand after the line.
-    fn is_hinted(&self, line: &str, cursor: usize) -> bool
-        ensures { result ≡ is_hinted K.keys H.rules (⟦<PromptHost<H, L, K, V> as LineEditorHost>⟧.value self.now) (cut_at line.now cursor) }
-    {
-        let is_still = !self.going.over && !self.going.kept;
-        is_still && !self.going.menu.is_open() && cursor == line.len()
-    }
-
-    /// Returns the hint after a line.
-    fn hint_after(&self, alloc: Global, line: &str) -> Result<Vec<OutputElement>, AllocError>
-        ensures { IfOk result (λ elements. map element_view elements.items
-            ≡ hint_if_after self.now.hints (screen_view self.now.screen) (rows_view self.now.rows) line.now (hint_of (L.LentLines.lines self.now.history) line.now)) }
-    {
-        let Hints::After(style) = self.hints else {
-            return Ok(Vec::new(alloc));
-        };
-        match history_hint(&self.history, line) {
-            Some(rest) => after_line_on(alloc, &self.screen, &self.rows, line, style, rest),
-            None => Ok(Vec::new(alloc)),
-        }
-    }
-
-    /// Returns that a search fails, if it was not accepted.
-    fn failing_after(&self, alloc: Global, line: &str) -> Result<Vec<OutputElement>, AllocError>
-        ensures { IfOk result (λ elements. map element_view elements.items
-            ≡ failing_if self.now.going.kept (screen_view self.now.screen) (rows_view self.now.rows) line.now) }
-    {
-        if !self.going.kept {
-            return Ok(Vec::new(alloc));
-        }
-        after_line_on(
-            alloc,
-            &self.screen,
-            &self.rows,
-            line,
-            CellAttributes::default(),
-            FAILING,
-        )
-    }
-
-    /// Returns what stands after the line.
-    fn after_line(
-        &self,
-        alloc: Global,
-        line: &str,
-        cursor: usize,
-    ) -> Result<Vec<OutputElement>, AllocError>
-        ensures { IfOk result (λ elements. map element_view elements.items
-            ≡ after_line K.keys H.rules (⟦<PromptHost<H, L, K, V> as LineEditorHost>⟧.value self.now) (cut_at line.now cursor)) }
-    {
-        if self.going.searching {
-            return self.failing_after(alloc, line);
-        }
-        if self.is_hinted(line, cursor) {
-            return self.hint_after(alloc, line);
-        }
-        Ok(Vec::new(alloc))
     }
 
     /// Returns the hint that an action inserts.
@@ -296,7 +146,8 @@ impl<H: LineEditorHost, L: History + LentLines, K: KeyPart, V: Validator> Prompt
         line: &LineEditBuffer,
     ) -> Result<Option<String>, AllocError>
         ensures { IfOk result (λ rest. option_map string_bytes rest
-            ≡ (if are_on self.now.hints then hint_taken_by (L.LentLines.lines self.now.history) self.now.going.searching (option_map (λ action. action_view action.now) action.entry) line.now else None)) }
+            ≡ (if are_on self.now.hints then hint_taken_by (L.LentLines.lines self.now.history)
+            self.now.going.searching (lent_action action.entry) line.now else None)) }
     {
         if !self.hints.are_on() || self.going.searching || !is_taking(action, line) {
             return Ok(None);
@@ -325,9 +176,10 @@ impl<H: LineEditorHost, L: History + LentLines, K: KeyPart, V: Validator> Prompt
         default: Option<&Action>,
         line: &LineEditBuffer,
     ) -> Result<Option<Edit<Option<K::Note>>>, AllocError>
-        requires { option_map (λ action. action_view action.now) default ≡ action_of (event_view event.now) }
-        ensures { IfOk result (λ edit. option_map (edit_view (option_map K.kept)) edit
-            ≡ edit_at K.keys H.rules (⟦<PromptHost<H, L, K, V> as LineEditorHost>⟧.value self.now) (event_view event.now) line.now) }
+        requires { lent_action default ≡ action_of (event_view event.now) }
+        ensures { let v = ⟦<PromptHost<H, L, K, V> as LineEditorHost>⟧.value self.now in
+            IfOk result (λ edit. option_map (edit_view (option_map K.kept)) edit
+            ≡ edit_at K.keys H.rules v (event_view event.now) line.now) }
     {
         if self.going.searching && gives_up(event) {
             return Ok(Some(Edit {
@@ -363,8 +215,9 @@ impl<H: LineEditorHost, L: History + LentLines, K: KeyPart, V: Validator> Prompt
         cursor: usize,
     ) -> Result<Vec<CompletionCandidate>, AllocError>
         requires { IsCharBoundary line.now cursor }
-        ensures { IfOk result (λ candidates. map candidate_view candidates.items
-            ≡ found K.keys H.rules (⟦<PromptHost<H, L, K, V> as LineEditorHost>⟧.value self.now) (cut_at line.now cursor)) }
+        ensures { let v = ⟦<PromptHost<H, L, K, V> as LineEditorHost>⟧.value self.now in
+            IfOk result (λ candidates. map candidate_view candidates.items
+            ≡ found K.keys H.rules v (cut_at line.now cursor)) }
     {
         let completed = completed_by(
             alloc,
@@ -386,8 +239,9 @@ impl<H: LineEditorHost, L: History + LentLines, K: KeyPart, V: Validator> Prompt
         alloc: Global,
         line: &LineEditBuffer,
     ) -> Result<Vec<CompletionCandidate>, AllocError>
-        ensures { IfOk result (λ candidates. map candidate_view candidates.items
-            ≡ found K.keys H.rules (⟦<PromptHost<H, L, K, V> as LineEditorHost>⟧.value self.now) line.now) }
+        ensures { let v = ⟦<PromptHost<H, L, K, V> as LineEditorHost>⟧.value self.now in
+            IfOk result (λ candidates. map candidate_view candidates.items
+            ≡ found K.keys H.rules v line.now) }
     {
         self.found(alloc, line.get_line(), line.get_cursor())
     }
@@ -399,9 +253,10 @@ impl<H: LineEditorHost, L: History + LentLines, K: KeyPart, V: Validator> Prompt
         action: Option<&Action>,
         line: &LineEditBuffer,
     ) -> Result<Option<Vec<CompletionCandidate>>, AllocError>
-        ensures { IfOk result (λ it. option_map (λ candidates. map candidate_view candidates.items) it
-            ≡ known self.now.going.searching (menu_view self.now.going.menu) (option_map (λ action. action_view action.now) action.entry)
-            (found K.keys H.rules (⟦<PromptHost<H, L, K, V> as LineEditorHost>⟧.value self.now) line.now)) }
+        ensures { let v = ⟦<PromptHost<H, L, K, V> as LineEditorHost>⟧.value self.now in
+            IfOk result (λ it. option_map (λ candidates. map candidate_view candidates.items) it
+            ≡ known self.now.going.searching (menu_view self.now.going.menu)
+            (lent_action action.entry) (found K.keys H.rules v line.now)) }
     {
         if !self.going.asks(action) {
             return Ok(None);
@@ -418,9 +273,10 @@ impl<H: LineEditorHost, L: History + LentLines, K: KeyPart, V: Validator> Prompt
         default: Option<&Action>,
         line: &LineEditBuffer,
     ) -> Result<Option<Turn>, AllocError>
-        requires { option_map (λ action. action_view action.now) default ≡ action_of (event_view event.now) }
-        ensures { IfOk result (λ turn. option_map (turn_view (menu_view self.now.going.menu)) turn
-            ≡ turn_at K.keys H.rules (⟦<PromptHost<H, L, K, V> as LineEditorHost>⟧.value self.now) (event_view event.now) line.now) }
+        requires { lent_action default ≡ action_of (event_view event.now) }
+        ensures { let v = ⟦<PromptHost<H, L, K, V> as LineEditorHost>⟧.value self.now in
+            IfOk result (λ turn. option_map (turn_view (menu_view self.now.going.menu)) turn
+            ≡ turn_at K.keys H.rules v (event_view event.now) line.now) }
     {
         if self.going.menu.is_open() {
             return Ok(self.going.menu.turn(event, default));
@@ -443,16 +299,23 @@ impl<H: LineEditorHost, L: History + LentLines, K: KeyPart, V: Validator> Prompt
         editor: &mut LineEditBuffer,
     ) -> Result<Option<Action>, AllocError>
         requires { line.now ≡ line_at (going_view self.old.going) editor.old }
-        ensures value { let r = H.rules.resolve (H.value self.old.host) (event_view event.now) line.now in
+        ensures value { let r = H.rules.resolve (H.value self.old.host)
+            (event_view event.now) line.now in
             OnOk result (⟦<PromptHost<H, L, K, V> as LineEditorHost>⟧.value self.new
-            ≡ record (⟦<PromptHost<H, L, K, V> as LineEditorHost>⟧.value self.old) { host = r.value }) }
-        ensures line { let r = H.rules.resolve (H.value self.old.host) (event_view event.now) line.now in OnOk result (editor.new ≡ r.cut) }
-        ensures action { let r = H.rules.resolve (H.value self.old.host) (event_view event.now) line.now in
+            ≡ record (⟦<PromptHost<H, L, K, V> as LineEditorHost>⟧.value self.old) {
+              host = r.value;
+            }) }
+        ensures line { let r = H.rules.resolve (H.value self.old.host)
+            (event_view event.now) line.now in
+            OnOk result (editor.new ≡ r.cut) }
+        ensures action { let r = H.rules.resolve (H.value self.old.host)
+            (event_view event.now) line.now in
             IfOk result (λ action. option_map action_view action ≡ r.action) }
         ensures keys { self.new.keys ≡ self.old.keys }
         ensures going { self.new.going ≡ self.old.going }
         ensures err { OnErr result ((editor.new ≡ editor.old)
-            × (⟦<PromptHost<H, L, K, V> as LineEditorHost>⟧.value self.new ≡ ⟦<PromptHost<H, L, K, V> as LineEditorHost>⟧.value self.old)) }
+            × (⟦<PromptHost<H, L, K, V> as LineEditorHost>⟧.value self.new
+            ≡ ⟦<PromptHost<H, L, K, V> as LineEditorHost>⟧.value self.old)) }
     {
         if self.going.comes_back.is_none() {
             return self.host.resolve_action(alloc, event, editor);
@@ -473,18 +336,24 @@ impl<H: LineEditorHost, L: History + LentLines, K: KeyPart, V: Validator> Prompt
         line: &LineEditBuffer,
         editor: &mut LineEditBuffer,
     ) -> Result<(Option<Action>, Option<K::Note>, Option<Turn>), AllocError>
-        requires default { option_map (λ action. action_view action.now) default ≡ action_of (event_view event.now) }
+        requires default { lent_action default ≡ action_of (event_view event.now) }
         requires line { line.now ≡ line_at (going_view self.old.going) editor.old }
         ensures value { let v = ⟦<PromptHost<H, L, K, V> as LineEditorHost>⟧.value self.old in
             OnOk result (⟦<PromptHost<H, L, K, V> as LineEditorHost>⟧.value self.new
             ≡ record v { host = (H.rules.resolve v.host (event_view event.now) line.now).value }) }
-        ensures answer { IfOk result (λ it. record { cut = editor.new; action = option_map action_view it.0; kept = option_map K.kept it.1 }
-            ≡ answer_at K.keys H.rules (⟦<PromptHost<H, L, K, V> as LineEditorHost>⟧.value self.old) (event_view event.now) line.now) }
-        ensures turn { IfOk result (λ it. option_map (turn_view (menu_view self.new.going.menu)) it.2
-            ≡ turn_taken_at K.keys H.rules (⟦<PromptHost<H, L, K, V> as LineEditorHost>⟧.value self.old) (event_view event.now) line.now) }
+        ensures answer { let v = ⟦<PromptHost<H, L, K, V> as LineEditorHost>⟧.value self.old in
+            IfOk result (λ it. record {
+              cut = editor.new;
+              action = option_map action_view it.0;
+              kept = option_map K.kept it.1;
+            } ≡ answer_at K.keys H.rules v (event_view event.now) line.now) }
+        ensures turn { let v = ⟦<PromptHost<H, L, K, V> as LineEditorHost>⟧.value self.old in
+            IfOk result (λ it. option_map (turn_view (menu_view self.new.going.menu)) it.2
+            ≡ turn_taken_at K.keys H.rules v (event_view event.now) line.now) }
         ensures ready { OnOk result (K.is_ready self.new.keys line.now) }
         ensures err { OnErr result ((editor.new ≡ editor.old)
-            × (⟦<PromptHost<H, L, K, V> as LineEditorHost>⟧.value self.new ≡ ⟦<PromptHost<H, L, K, V> as LineEditorHost>⟧.value self.old)) }
+            × (⟦<PromptHost<H, L, K, V> as LineEditorHost>⟧.value self.new
+            ≡ ⟦<PromptHost<H, L, K, V> as LineEditorHost>⟧.value self.old)) }
     {
         let edit = self.edit_at(alloc, event, default, line)?;
         let turn = self.turn_at(alloc, event, default, line)?;
@@ -497,7 +366,7 @@ impl<H: LineEditorHost, L: History + LentLines, K: KeyPart, V: Validator> Prompt
     }
 
     /// Lets every part follow an event, which leads from the line before to the one after. `back` is true if its action
-    /// was held back.
+    /// was held back, `fails` if the search fails after it.
     fn follow(
         &mut self,
         alloc: Global,
@@ -507,17 +376,20 @@ impl<H: LineEditorHost, L: History + LentLines, K: KeyPart, V: Validator> Prompt
         after: &LineEditBuffer,
         action: Option<&Action>,
         back: bool,
+        fails: bool,
         turn: Option<Turn>,
     )
         requires { K.is_ready self.old.keys before }
         ensures { let v = ⟦<PromptHost<H, L, K, V> as LineEditorHost>⟧.value self.old in
-            ⟦<PromptHost<H, L, K, V> as LineEditorHost>⟧.value self.new ≡ (followed K.keys H.rules v v.host (option_map K.kept note)
+            ⟦<PromptHost<H, L, K, V> as LineEditorHost>⟧.value self.new
+            ≡ (followed K.keys H.rules v v.host (option_map K.kept note)
             (record {
               event = event_view event.now;
               before = before;
               after = after.now;
-              action = option_map (λ action. action_view action.now) action.entry;
+              action = lent_action action.entry;
               back = back;
+              fails = fails;
               turn = option_map (turn_view (menu_view self.old.going.menu)) turn;
             }) None).value }
     {
@@ -532,9 +404,46 @@ impl<H: LineEditorHost, L: History + LentLines, K: KeyPart, V: Validator> Prompt
         );
         let lines = is_filled(&self.history);
         self.going
-            .follow(lines, event, before, after, action, back, turn);
+            .follow(lines, event, before, after, action, back, fails, turn);
         self.menu.resize(event);
         self.screen.resize(event);
+    }
+
+    /// Does an answer to an event, or holds it back if it would accept a line that is kept, and lets every part follow.
+    /// `fails` is true if a search would fail after the key table's action. Returns the action.
+    fn settle(
+        &mut self,
+        alloc: Global,
+        event: &InputEvent,
+        default: Option<Action>,
+        before: LineEditBuffer,
+        after: &LineEditBuffer,
+        answer: (Option<Action>, Option<K::Note>, Option<Turn>),
+        keeps: bool,
+        fails: bool,
+    ) -> Option<Action>
+        requires default { option_map action_view default ≡ action_of (event_view event.now) }
+        requires ready { K.is_ready self.old.keys before }
+        ensures { let v = ⟦<PromptHost<H, L, K, V> as LineEditorHost>⟧.value self.old in
+            let action = option_map action_view answer.0 in
+            let turn = option_map (turn_view (menu_view self.old.going.menu)) answer.2 in
+            let back = keeps && is_accepting (or_default action (event_view event.now)) in
+            judged K.keys H.rules v (event_view event.now) before v.host
+            (record { cut = after.now; action = action; kept = option_map K.kept answer.1 })
+            turn back fails
+            ≡ record {
+              value = ⟦<PromptHost<H, L, K, V> as LineEditorHost>⟧.value self.new;
+              cut = after.now;
+              action = option_map action_view result;
+            } }
+    {
+        let (action, note, turn) = answer;
+        let opens = self.opens_row();
+        let (back, action) = judged(keeps, opens, event, action, default.as_ref());
+        let fails = says_failing(back, action.as_ref(), fails);
+        let done = done(event, action.as_ref(), default.as_ref());
+        self.follow(alloc, note, event, before, after, done, back, fails, turn);
+        action
     }
 }
 
@@ -634,12 +543,9 @@ impl<H: LineEditorHost, L: History + LentLines, K: KeyPart, V: Validator> LineEd
         let default = default_action(alloc, event)?;
         let before = self.line_at(alloc, editor)?;
         let keeps = self.keeps(alloc, before.get_line())?;
-        let opens = self.opens_row();
-        let (action, note, turn) = self.answer(alloc, event, default.as_ref(), &before, editor)?;
-        let (back, action) = judged(keeps, opens, event, action, default.as_ref());
-        let done = done(event, action.as_ref(), default.as_ref());
-        self.follow(alloc, note, event, before, editor, done, back, turn);
-        Ok(action)
+        let fails = self.fails_after(alloc, default.as_ref(), &before)?;
+        let answer = self.answer(alloc, event, default.as_ref(), &before, editor)?;
+        Ok(self.settle(alloc, event, default, before, editor, answer, keeps, fails))
     }
 
     ghost plain_answers = { no_plain_left };

@@ -192,7 +192,8 @@ fn elements_of_text(
     text: &str,
 ) -> Result<Vec<OutputElement>, AllocError>
     ensures elements { IfOk result (λ elements. map element_view elements.items
-        ≡ elements_of_text (screen_view screen.now) continuation.now set (row_view row.old) text.now) }
+        ≡ elements_of_text (screen_view screen.now) continuation.now set
+        (row_view row.old) text.now) }
     ensures row { OnOk result (row_view row.new ≡ row_behind (row_view row.old) text.now) }
 {
     let mut elements = Vec::new(alloc);
@@ -226,7 +227,8 @@ fn elements_in_rows(
     elements: &[OutputElement],
 ) -> Result<Vec<OutputElement>, AllocError>
     ensures { IfOk result (λ shown. map element_view shown.items
-        ≡ elements_in_rows (screen_view screen.now) continuation.now (map element_view elements.now)) }
+        ≡ elements_in_rows (screen_view screen.now) continuation.now
+        (map element_view elements.now)) }
 {
     let mut shown = Vec::new(alloc);
     let mut set = None;
@@ -294,7 +296,8 @@ impl Rows {
     ) -> Result<(Vec<OutputElement>, usize), AllocError>
         requires { IsCharBoundary line.now cursor }
         ensures elements { IfOk result (λ shown. map element_view shown.0.items
-            ≡ elements_on (screen_view screen.now) (rows_view self.now) (map element_view elements.items)) }
+            ≡ elements_on (screen_view screen.now) (rows_view self.now)
+            (map element_view elements.items)) }
         ensures column { IfOk result (λ shown. shown.1
             ≡ cursor_on (screen_view screen.now) (rows_view self.now) (cut_at line.now cursor)) }
     {

@@ -25,7 +25,24 @@ use Rattle.tw_lineedit.specs.Run.{run_of}
 use Rattle.tw_lineedit.specs.ScreenRuns.{sized_scene, batches_of, Comes}
 use Rattle.tw_lineedit.specs.Stations.{Station}
 use Rattle.tw_lineedit.proofs.StationLemmas.{played-is, first_batches, all_taken, closing-is}
-use Rattle.tw_screen_runs.specs.DrawnRuns.{begins_cleared, paintings_at, painted_at, play_stations, closed_by, play_since, ComesSimply, ShowsDrawn, ComesHealed, DrawnPaintings, DrawnClosings, DrawnCallsStack, DrawnHealings, HealedClosings}
+use Rattle.tw_screen_runs.specs.DrawnRuns.{begins_cleared, paintings_at, painted_at, play_stations, closed_by, play_since, ComesSimply, ComesHealed, DrawnPaintings, DrawnClosings, DrawnCallsStack, DrawnHealings, HealedClosings}
+
+module _ {A C : Type 0} (pen : Pen A C) where
+  narrowest-le : (v : ℕ) (widths : List ℕ) → narrowest v widths ≤ v
+  narrowest-le v [] = omega arith
+  narrowest-le v (w ∷ more) = omega arith
+
+  seen-le : (rows : Option ℕ) (r : ℕ) → seen_row rows r ≤ r
+  seen-le None r = omega arith
+  seen-le (Some h) r = omega arith
+
+  pub drawn_calls_stack : DrawnCallsStack pen
+  drawn_calls_stack rows cuts w last shown entered after painting paintings closed over r c low inside least =
+      let up : top_row rows entered.row paintings ≤ entered.row = top-le rows entered.row paintings in
+      let down : entered.row ≤ last + 1 = omega (arith, closed.row, seen-le rows (last + 1)) in
+      over.above r c low inside least
+      ∙ closed.moved_up (r + (entered.row - top_row rows entered.row paintings)) c (omega (arith, up, low)) (omega (arith, least, narrowest-le w (cols_of paintings)))
+      ∙ ap (λ (x : ℕ). shown.cell x c) (omega (arith, up, down))
 
 module _ {V A C : Type 0} (rules : HostRules V) (pen : Pen A C) where
   comes_simply : {rows : Option ℕ} {f : Frame V} {earlier : List (Station V)} {station : Station V} {later : List (Station V)} {before : PictureOf C}
@@ -74,31 +91,6 @@ module _ {V A C : Type 0} (rules : HostRules V) (pen : Pen A C) where
         all_taken rules comes none,
         closes f rows cuts w (top_row rows before.row (paintings_at rules pen (earlier ++ station ∷ []))) kept station (play_stations rules pen rows cuts v a (earlier ++ station ∷ []) before)
             closing wide (some-rows rows before.row h.in_sight) simple q.shown.fresh.row,
-      )
-
-  narrowest-le : (v : ℕ) (widths : List ℕ) → narrowest v widths ≤ v
-  narrowest-le v [] = omega arith
-  narrowest-le v (w ∷ more) = omega arith
-
-  seen-le : (rows : Option ℕ) (r : ℕ) → seen_row rows r ≤ r
-  seen-le None r = omega arith
-  seen-le (Some h) r = omega arith
-
-  pub drawn_calls_stack : DrawnCallsStack rules pen
-  drawn_calls_stack f g rows cuts v w a kept again earlier station none others second later before h nothing wide k =
-      let shown : PictureOf C = resized cuts (blank_of pen) station.size.cols w (play_stations rules pen rows cuts v a (earlier ++ station ∷ []) before) in
-      let entered : PictureOf C = closed_by rules pen rows cuts station.size.cols w kept f (play_stations rules pen rows cuts v a (earlier ++ station ∷ []) before) in
-      let last : ℕ = top_row rows before.row (paintings_at rules pen (earlier ++ station ∷ [])) + sheet_last_row station.size.cols (painted_at rules pen station).sheet in
-      let paintings : List (SheetPainting C) = paintings_at rules pen (others ++ second ∷ []) in
-      let s : ℕ = top_row rows entered.row paintings in
-      let closed : IsClosedSheet rows w (blank_of pen) last shown entered = (drawn_closings f rows cuts v w a kept earlier station none before h nothing wide).1 in
-      let fresh : ShowsDrawn rules pen rows cuts w again g others second entered = drawn_paintings g rows cuts w again others second later entered k in
-      let up : s ≤ entered.row = top-le rows entered.row paintings in
-      let down : entered.row ≤ last + 1 = omega (arith, closed.row, seen-le rows (last + 1)) in (
-        fresh,
-        λ r c low inside least. fresh.shown.above r c low inside least
-            ∙ closed.moved_up (r + (entered.row - s)) c (omega (arith, up, low)) (omega (arith, least, narrowest-le w (cols_of paintings)))
-            ∙ ap (λ (x : ℕ). shown.cell x c) (omega (arith, up, down)),
       )
 
   -- ---- after a clearing

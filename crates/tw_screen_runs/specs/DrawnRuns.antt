@@ -25,6 +25,16 @@ abbrev pub begins_cleared : List SizedScene → Bool
 begins_cleared [] = false
 begins_cleared (station ∷ more) = station.scene.cleared
 
+module _ {A C : Type 0} (pen : Pen A C) where
+  -- Calls stack: over the picture that a closing batch left, a painting leaves what the batch was played on as it was, moved up, in the columns that the screen had since then.
+  abbrev pub DrawnCallsStack : Type 0
+  DrawnCallsStack = (rows : Option ℕ) (cuts : Bool) (w last : ℕ) (shown entered after : PictureOf C) (painting : drawn.SheetPainting C) (paintings : List (drawn.SheetPainting C))
+      → IsClosedSheet rows w (blank_of pen) last shown entered
+      → let top = top_row rows entered.row paintings in
+      let least = narrowest w (cols_of paintings) in
+      AreShownOver cuts (blank_of pen) least entered.row top painting entered after
+      → (r c : ℕ) → r < top → c < painting.cols → c < least → after.cell r c ≡ shown.cell (r + (last + 1 - top)) c
+
 module _ {V A C : Type 0} (rules : HostRules V) (pen : Pen A C) where
   -- what is painted at a station, and at each of some stations
   abbrev pub painted_at : Station V → drawn.SheetPainting C
@@ -74,22 +84,6 @@ module _ {V A C : Type 0} (rules : HostRules V) (pen : Pen A C) where
       let shown = play_stations rows cuts v a (earlier ++ station ∷ []) before in
       ((run_of rules f).taken ≡ f.terminal.batches ++ batches_of rules (earlier ++ station ∷ []))
       × IsClosedSheet rows w (blank_of pen) last (resized cuts (blank_of pen) cols w shown) (closed_by rows cuts cols w kept f shown)
-
-  -- Two calls stack: a second run that enters the screen where the closing batch of a first one left it is fresh, and what the first one showed is as it was, moved up, in the columns that the screen had since then.
-  abbrev pub DrawnCallsStack : Type 0
-  DrawnCallsStack = (f g : Frame V) (rows : Option ℕ) (cuts : Bool) (v w : ℕ) (a kept again : A)
-      (earlier : List (Station V)) (station : Station V) (none : List (Station V)) (others : List (Station V)) (second : Station V) (later : List (Station V)) (before : PictureOf C)
-      → ComesSimply rows f earlier station none before → All (RendersNothing rules) none → 2 ≤ w
-      → let cols = station.size.cols in
-      let under = top_row rows before.row (paintings_at (earlier ++ station ∷ [])) + sheet_last_row cols (painted_at station).sheet + 1 in
-      let shown = play_stations rows cuts v a (earlier ++ station ∷ []) before in
-      let entered = closed_by rows cuts cols w kept f shown in
-      let paintings = paintings_at (others ++ second ∷ []) in
-      let s = top_row rows entered.row paintings in
-      ComesSimply rows g others second later entered
-      → ShowsDrawn rows cuts w again g others second entered
-      × ((r c : ℕ) → r < s → c < second.size.cols → c < narrowest w (cols_of paintings)
-      → (play_stations rows cuts w again (others ++ second ∷ []) entered).cell r c ≡ (resized cuts (blank_of pen) cols w shown).cell (r + (under - s)) c)
 
   -- The run from a frame comes to a station and paints it. The screen was cleared before the first of the stations since then, and these are simple and low enough; those before may be anything.
   pub record ComesHealed (rows : Option ℕ) (f : Frame V) (earlier since : List (Station V)) (station : Station V) (later : List (Station V)) : Type 0 where

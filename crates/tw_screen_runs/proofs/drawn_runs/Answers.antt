@@ -8,7 +8,7 @@ pub returns-clause-closing : goal.returns-clause-closing
 returns-clause-closing g c pen = drawn_closings g.H.LineEditorHost.rules pen
 
 pub returns-clause-stacking : goal.returns-clause-stacking
-returns-clause-stacking g c pen = drawn_calls_stack g.H.LineEditorHost.rules pen
+returns-clause-stacking g c pen = drawn_calls_stack pen
 
 pub returns-clause-healing : goal.returns-clause-healing
 returns-clause-healing g c pen = drawn_healings g.H.LineEditorHost.rules pen

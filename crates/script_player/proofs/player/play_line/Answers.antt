@@ -1,10 +1,10 @@
 use Rattle.std.proofs.Common.{rules, ◌≡◌, subst, arith}
 use Rattle.std.specs.Io.KnownBytes.{Appends}
 use Rattle.std.proofs.lemmas.Result.{IfErr-weaker}
-use Rattle.script_language.specs.Lines.{IsBad}
+use Rattle.script_player.specs.Lines.{IsBad}
 use Rattle.script_player.specs.Playback.{stage_of}
 use Rattle.script_player.specs.Playing.{FailsToPlay}
-use Rattle.script_language.specs.Written.{bad_line}
+use Rattle.script_player.specs.Written.{bad_line}
 use Rattle.script_player.proofs.PlayingLemmas.{bad_line_named, naming_refused, directive_refused}
 use Rattle.script_player.proofs.player.play_line.Goals as goal
 

@@ -1,10 +1,10 @@
 use Rattle.std.proofs.Common.{rules, ◌≡◌, ◌+◌, ◌∷◌, subst, arith}
-use Rattle.script_language.specs.Lines.{script_lines}
+use Rattle.script_player.specs.Lines.{script_lines}
 use Rattle.script_player.specs.Playback.{stage_of}
 use Rattle.script_player.specs.Playing.{PlaysUpTo}
-use Rattle.script_language.proofs.LineLemmas.{lines_at_end, lines_split}
+use Rattle.script_player.proofs.LineLemmas.{lines_at_end, lines_split}
 use Rattle.script_player.proofs.PlayingLemmas.{ends_at, nothing_played, plays_next}
-use Rattle.script_language.proofs.Writes.{extends_then, names_then}
+use Rattle.script_player.proofs.Writes.{extends_then, names_then}
 use Rattle.script_player.proofs.player.play_script.Goals as goal
 
 pub returns-in_err-play_line-clause-kept : goal.returns-in_err-play_line-clause-kept

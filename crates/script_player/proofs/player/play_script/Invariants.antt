@@ -1,9 +1,9 @@
 -- The lines so far were played and counted, and each of them takes at least a byte of what is left.
 use Rattle.std.proofs.Common.{◌+◌, ◌≤◌, length}
-use Rattle.script_language.specs.Lines.{script_lines}
+use Rattle.script_player.specs.Lines.{script_lines}
 use Rattle.script_player.specs.Playback.{stage_of}
 use Rattle.script_player.specs.Playing.{PlaysUpTo}
-use Rattle.script_language.specs.Written.{Extends}
+use Rattle.script_player.specs.Written.{Extends}
 use Rattle.script_player.proofs.player.play_script.Given as goal
 
 abbrev pub invariant-loop-rest : goal.invariant-loop-rest

@@ -11,7 +11,7 @@ pub returns : goal.returns
 returns g c =
     let host = c.args.self.now in
     let line = c.args.line.now in
-    let kept : host.going.kept ≡ true = search (rules) in
+    let fails : host.going.fails ≡ true = search (rules) in
     let shown = subst (λ style. IfOk c.after_line_on.result (λ elements. map element_view elements.items ≡ after_line_on (screen_view host.screen) (rows_view host.rows) line style failing_text))
     c.default.ensures c.after_line_on.ensures in
-    subst (λ kept. IfOk c.after_line_on.result (λ elements. map element_view elements.items ≡ failing_if kept (screen_view host.screen) (rows_view host.rows) line)) (sym kept) shown
+    subst (λ fails. IfOk c.after_line_on.result (λ elements. map element_view elements.items ≡ failing_if fails (screen_view host.screen) (rows_view host.rows) line)) (sym fails) shown

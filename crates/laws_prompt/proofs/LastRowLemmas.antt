@@ -1,0 +1,226 @@
+-- The last row of a painting with nothing under the line.
+use Rattle.std.proofs.Common.{◌≡◌, ℕ, zero, suc, ◌+◌, ◌-◌, ◌/◌, ◌%◌, ◌<◌, ◌≤◌, max, Bool, true, false, ◌&&◌, eqb, ltb, List, [], ◌∷◌, ◌++◌, length, map, refl, ap, sym, ◌∙◌, arith, inl, inr, length-append, append_assoc, append-nil, if◌then◌else◌}
+use Rattle.std.specs.List.{list_all, sum_by}
+use Rattle.std.proofs.lemmas.Bool.{and_parts, and_from, false≢true, cases_eq, eq-eqb, ne_eqb, le-leb}
+use Rattle.std.proofs.lemmas.List.Folds.{list_all-append}
+use Rattle.std.proofs.lemmas.List.Sums.{sum_by-cons}
+use Rattle.tw_strokes.specs.Sheets.{rows_of_line, sheet_last_row}
+use Rattle.tw_surface.specs.ChangeView.{Batch}
+use Rattle.tw_surface.specs.ChangeView.{Attribute, AllAttributes, Text, ClearScreen, ClearToEndOfScreen, CursorPosition}
+use Rattle.tw_surface.specs.Characters.{is_printable, cr, lf}
+use Rattle.tw_surface.specs.Fresh.{text_of}
+use Rattle.tw_surface.specs.Lines.{lines_of}
+use Rattle.tw_surface.specs.Paintings.{before_line, edge_space, lower_changes}
+use Rattle.tw_surface.specs.Pictures.{blank}
+use Rattle.tw_surface.specs.Places.{Place, origin, end_of_pieces, pieces, place_after, place_after_all}
+use Rattle.tw_surface.specs.Scenes.{Scene, typed_text}
+use Rattle.tw_surface.specs.Scenes.Lower.{NoLower}
+use Rattle.tw_surface.specs.Simple.{spelled_scene}
+use Rattle.tw_screens.specs.Pens.{letter_cell}
+use Rattle.tw_screens.specs.SceneSheets.{sheet_of, lower_letters}
+use Rattle.tw_screens.specs.StyledCells.{characters}
+use Rattle.tw_screens.proofs.PlainScenes.{plain_is_simple}
+use Rattle.tw_screens.proofs.PlainTexts.{one_line}
+use Rattle.laws_prompt.specs.Rows.{is_row_character, rows_of_text, rows_taken, rows_down, row_edge, spread, columns_behind}
+use Rattle.laws_prompt.specs.RowScenes.{place_behind, folded}
+use Rattle.laws_prompt.specs.PlainRows.{is_row_typing, has_pair, first_row, other_rows, HasPlainRows}
+use Rattle.laws_prompt.specs.RowCells.{ShowsLine, LastRowByDivision}
+use Rattle.laws_prompt.proofs.RowSpreads.{printable-row, edge-printable, some-rows, before-row}
+use Rattle.laws_prompt.proofs.RowTexts.{ends_there, are_rows, rows_plain}
+use Rattle.laws_prompt.proofs.SpreadLines.{edge-off, rows-off-edge, rows-with-edge, both-printable}
+use Rattle.laws_prompt.proofs.TypedColumns.{IsTip, tip-inside, tip-full, after, after-append, plain-pieces}
+use Rattle.laws_prompt.proofs.ColumnLemmas.{spread-tip}
+use Rattle.laws_prompt.proofs.PlainRowLemmas.{typed-both, folded_is_plain}
+use Rattle.laws_prompt.proofs.CellLemmas.{start, edge_of, text-is, printable_typed, unpaired, other, head, below, folded_text, folded_lower, folded_lines, head_rows, line-is, rows-typed, has_rows, is_plain_scene, prompt_tip}
+
+-- ---- the rows of the lines
+
+module _ (cols : ℕ) (two : 2 ≤ cols) (continuation : List ℕ) (printable : list_all is_printable continuation ≡ true) where
+  abbrev c : ℕ
+  c = length continuation
+
+  -- a row with its edge
+  edged : (n : ℕ) (x : List ℕ) → length x ≡ n → rows_of_line cols (x ++ row_edge cols n) ≡ rows_taken cols n
+  edged n x long =
+      ap (λ i. max 1 ((i + cols - 1) / cols)) (length-append x (row_edge cols n) ∙ ap (λ i. i + length (row_edge cols n)) long) ∙ rows-with-edge cols n two
+
+  -- the rows of the lines of a text, after the x before its first row
+  rows-summed : (n : ℕ) (x text : List ℕ) → length x ≡ n → list_all is_printable x ≡ true → list_all is_row_character text ≡ true
+      → sum_by (rows_of_line cols) (lines_of (x ++ (spread cols continuation n text ++ row_edge cols (columns_behind c n text)))) ≡ 1 + rows_down cols n c (rows_of_text text)
+  rows-summed n x [] long plain rows =
+      let all = one_line (x ++ row_edge cols n) (both-printable x (row_edge cols n) plain (edge-printable cols n)) in
+      let none : n ≡ n + 0 = omega arith in
+      rw (all, edged n x long, ← none) (omega arith)
+  rows-summed n x (ch ∷ text) long plain rows =
+      let both = and_parts (is_row_character ch) (list_all is_row_character text) rows in
+      by both.0 (λ m y e p. rows-summed m y text e p both.1) (eqb ch lf) refl
+    where
+      by : is_row_character ch ≡ true
+          → ((m : ℕ) (y : List ℕ) → length y ≡ m → list_all is_printable y ≡ true
+          → sum_by (rows_of_line cols) (lines_of (y ++ (spread cols continuation m text ++ row_edge cols (columns_behind c m text)))) ≡ 1 + rows_down cols m c (rows_of_text text))
+          → (k : Bool) → eqb ch lf ≡ k
+          → sum_by (rows_of_line cols) (lines_of (x ++ (spread cols continuation n (ch ∷ text) ++ row_edge cols (columns_behind c n (ch ∷ text))))) ≡ 1 + rows_down cols n c (rows_of_text (ch ∷ text))
+      by here so true e =
+          let shown : List ℕ = spread cols continuation c text in
+          let last : List ℕ = row_edge cols (columns_behind c c text) in
+          let edge : List ℕ = row_edge cols n in
+          let under : List ℕ = continuation ++ (shown ++ last) in
+          let all : x ++ ((edge ++ (cr ∷ lf ∷ (continuation ++ shown))) ++ last) ≡ (x ++ edge) ++ (cr ∷ lf ∷ under) =
+          ap (λ (l : List ℕ). x ++ l) (append_assoc edge (cr ∷ lf ∷ (continuation ++ shown)) last)
+          ∙ ap (λ (l : List ℕ). x ++ (edge ++ (cr ∷ lf ∷ l))) (append_assoc continuation shown last)
+          ∙ sym (append_assoc x edge (cr ∷ lf ∷ under)) in
+          let cut : lines_of ((x ++ edge) ++ (cr ∷ lf ∷ under)) ≡ (x ++ edge) ∷ lines_of under = ends_there (x ++ edge) under (both-printable x edge plain (edge-printable cols n)) in
+          let it = some-rows text in
+          let rest = rw it.2 at (so c continuation refl printable) in
+          let none : n ≡ n + 0 = omega arith in
+          rw (e, it.2) (rw (← none) (ap (λ (t : List ℕ). sum_by (rows_of_line cols) (lines_of t)) all ∙ ap (sum_by (rows_of_line cols)) cut
+          ∙ sum_by-cons (rows_of_line cols) (x ++ edge) (lines_of under)
+          ∙ ap (λ i. i + sum_by (rows_of_line cols) (lines_of under)) (edged n x long) ∙ ap (λ i. rows_taken cols n + i) rest ∙ omega arith))
+      by here so false e =
+          let shown : List ℕ = spread cols continuation (n + 1) text in
+          let last : List ℕ = row_edge cols (columns_behind c (n + 1) text) in
+          let it = some-rows text in
+          let same = before-row cols n c ch it.0 it.1 in
+          let long' : length (x ++ ch ∷ []) ≡ n + 1 = length-append x (ch ∷ []) ∙ ap (λ i. i + 1) long in
+          let plain' = both-printable x (ch ∷ []) plain (and_from (is_printable ch) true (printable-row ch here e) refl) in
+          let all : x ++ ((ch ∷ shown) ++ last) ≡ (x ++ ch ∷ []) ++ (shown ++ last) = sym (append_assoc x (ch ∷ []) (shown ++ last)) in
+          let rest = rw it.2 at (so (n + 1) (x ++ ch ∷ []) long' plain') in
+          rw (e, it.2) (ap (λ (t : List ℕ). sum_by (rows_of_line cols) (lines_of t)) all ∙ rest ∙ ap (λ i. 1 + i) same.0)
+
+  -- a printable text that shows a line is the line
+  printable-alone : (n : ℕ) (text : List ℕ) → list_all is_printable (spread cols continuation n text) ≡ true
+      → (spread cols continuation n text ≡ text) × (columns_behind c n text ≡ n + length text)
+  printable-alone n [] h = (refl, omega arith)
+  printable-alone n (ch ∷ text) h = by (λ m. printable-alone m text) (eqb ch lf) refl
+    where
+      by : ((m : ℕ) → list_all is_printable (spread cols continuation m text) ≡ true → (spread cols continuation m text ≡ text) × (columns_behind c m text ≡ m + length text))
+          → (k : Bool) → eqb ch lf ≡ k → (spread cols continuation n (ch ∷ text) ≡ ch ∷ text) × (columns_behind c n (ch ∷ text) ≡ n + length (ch ∷ text))
+      by so true e =
+          let rest : List ℕ = continuation ++ spread cols continuation c text in
+          let both = and_parts (list_all is_printable (row_edge cols n)) (list_all is_printable (cr ∷ lf ∷ rest)) (sym (list_all-append is_printable (row_edge cols n) (cr ∷ lf ∷ rest)) ∙ (rw e at h)) in
+          absurd (false≢true both.1)
+      by so false e =
+          let rest = so (n + 1) (and_parts (is_printable ch) (list_all is_printable (spread cols continuation (n + 1) text)) (rw e at h)).1 in
+          rw e (ap (λ (l : List ℕ). ch ∷ l) rest.0, rest.1 ∙ omega arith)
+
+-- ---- the space at the edge
+
+edge-typed : (cols from n : ℕ) (p : Place) → 0 < cols → IsTip cols from n p → typed_text (edge_space cols p) ≡ row_edge cols n
+edge-typed cols from n p some tip = elim (cases_eq p.x cols) [
+  | inl full ↦
+      let at = tip-full cols from n p some tip full in
+      let filled : 0 < n = omega (arith, tip.columns, full, some) in
+      rw (eq-eqb p.x cols full, le-leb 1 n filled, eq-eqb (n % cols) 0 at.col) refl
+  | inr more ↦
+      let at = tip-inside cols from n p tip (omega (arith, tip.within, more)) in
+      rw (ne_eqb p.x cols more) (sym (none n p.x at.col tip.off_start))
+]
+  where
+    none : (n x : ℕ) → n % cols ≡ x → (0 < n → 0 < x) → row_edge cols n ≡ []
+    none zero x col off = refl
+    none (suc m) x col off =
+        let inside : 0 < x = off (omega arith) in
+        rw (le-leb 1 (suc m) (omega arith), ne_eqb (suc m % cols) 0 (λ z. omega (arith, z, col, inside))) refl
+
+-- attributes and texts of printable rows lead where their characters lead
+changes-after : (cols : ℕ) (changes : Batch) (p : Place) → list_all is_row_typing changes ≡ true → place_after_all cols changes p ≡ after cols (typed_text changes) p
+changes-after cols [] p h = refl
+changes-after cols (Text text ∷ more) p h =
+    let both = and_parts (are_rows text) (list_all is_row_typing more) h in
+    changes-after cols more (end_of_pieces cols (pieces text) p) both.1
+    ∙ ap (λ ps. after cols (typed_text more) (end_of_pieces cols ps p)) (plain-pieces text (rows_plain text both.0))
+    ∙ sym (after-append cols text (typed_text more) p)
+changes-after cols (Attribute x ∷ more) p h = changes-after cols more p h
+changes-after cols (AllAttributes x ∷ more) p h = changes-after cols more p h
+changes-after cols (ClearScreen x ∷ more) p h = absurd (false≢true h)
+changes-after cols (ClearToEndOfScreen x ∷ more) p h = absurd (false≢true h)
+changes-after cols (CursorPosition x y ∷ more) p h = absurd (false≢true h)
+
+place-both : (cols : ℕ) (a b : Batch) (p : Place) → place_after_all cols (a ++ b) p ≡ place_after_all cols b (place_after_all cols a p)
+place-both cols [] b p = refl
+place-both cols (change ∷ a) b p = place-both cols a b (place_after cols change p)
+
+-- ---- the last row
+
+module _ (cols : ℕ) (prompt continuation before rest : List ℕ) (scene : Scene) (h : ShowsLine cols prompt continuation before rest scene) (bare : scene.lower ≡ NoLower) where
+  abbrev n : ℕ
+  n = length prompt
+
+  abbrev text : List ℕ
+  text = before ++ rest
+
+  abbrev edge : List ℕ
+  edge = row_edge cols (columns_behind (length continuation) n text)
+
+  -- all lines
+  summed : sum_by (rows_of_line cols) (lines_of (typed_text scene.prompt ++ (typed_text scene.line ++ edge))) ≡ 1 + rows_down cols n (length continuation) (rows_of_text text)
+  summed =
+      rw (h.prompt_is, line-is cols prompt continuation before rest scene h)
+      (rows-summed cols h.wide continuation h.printable.printable_continuation n prompt text refl h.printable.printable_prompt (rows-typed cols prompt continuation before rest scene h))
+
+  -- the space that is painted after the line
+  edge_painted : typed_text (edge_space cols (place_behind cols scene scene.line) ++ lower_changes scene.lower) ≡ edge
+  edge_painted =
+      let some : 0 < cols = omega (arith, h.wide) in
+      let from : Place = place_after_all cols (before_line scene.prompt) origin in
+      let long : length (typed_text scene.prompt) ≡ n = ap (λ (t : List ℕ). length t) h.prompt_is in
+      let tip : IsTip cols 0 n from = rw long at (prompt_tip cols prompt continuation before rest scene h) in
+      let went = spread-tip cols continuation 0 n text from some h.printable.printable_continuation (rows-typed cols prompt continuation before rest scene h) tip in
+      let at : place_behind cols scene scene.line ≡ after cols (spread cols continuation n text) from =
+      place-both cols (before_line scene.prompt) scene.line origin ∙ changes-after cols scene.line from h.line_typing
+      ∙ ap (λ (t : List ℕ). after cols t from) (line-is cols prompt continuation before rest scene h) in
+      typed-both (edge_space cols (place_behind cols scene scene.line)) (lower_changes scene.lower)
+      ∙ ap (λ lower. typed_text (edge_space cols (place_behind cols scene scene.line)) ++ typed_text (lower_changes lower)) bare
+      ∙ append-nil (typed_text (edge_space cols (place_behind cols scene scene.line)))
+      ∙ ap (λ p. typed_text (edge_space cols p)) at
+      ∙ edge-typed cols went.0 (columns_behind (length continuation) n text) (after cols (spread cols continuation n text) from) some went.1
+
+  -- a line of rows
+  last_of_rows : (rows : HasPlainRows cols scene) → sheet_last_row cols (sheet_of characters cols (other cols scene rows)) ≡ rows_down cols n (length continuation) (rows_of_text text)
+  last_of_rows rows =
+      let first : List ℕ = head cols scene rows in
+      let lines = ap (λ (t : List ℕ). lines_of (typed_text scene.prompt ++ (typed_text scene.line ++ t))) edge_painted in
+      let all : rows_of_line cols first + sum_by (rows_of_line cols) (below cols scene rows) ≡ 1 + rows_down cols n (length continuation) (rows_of_text text) =
+      sym (sum_by-cons (rows_of_line cols) first (below cols scene rows)) ∙ ap (sum_by (rows_of_line cols)) (sym (folded_lines cols scene rows) ∙ lines) ∙ summed in
+      rw (folded_text cols scene rows, folded_lower cols scene rows) (omega (arith, all, head_rows cols scene rows))
+
+  -- a line of one row
+  last_of_row : has_pair scene.line ≡ false → sheet_last_row cols (sheet_of characters cols scene) ≡ rows_down cols n (length continuation) (rows_of_text text)
+  last_of_row none =
+      let line : List ℕ = typed_text scene.line in
+      let typing = unpaired scene.line h.line_typing none in
+      let shown = line-is cols prompt continuation before rest scene h in
+      let plain : list_all is_printable line ≡ true = printable_typed scene.line typing in
+      let alone = printable-alone cols h.wide continuation h.printable.printable_continuation n text (rw shown at plain) in
+      let count : columns_behind (length continuation) n text ≡ length (text_of scene) =
+      alone.1 ∙ ap (λ (t : List ℕ). n + length t) (sym (shown ∙ alone.0)) ∙ ap (λ (t : List ℕ). length t + length line) (sym h.prompt_is) ∙ sym (length-append (typed_text scene.prompt) line) in
+      let last : edge_of cols scene ≡ edge = by (ltb 0 (length (text_of scene)) && eqb (length (text_of scene) % cols) 0) ∙ ap (row_edge cols) (sym count) in
+      let all : List ℕ = typed_text scene.prompt ++ (line ++ edge) in
+      let one : lines_of all ≡ all ∷ [] =
+      one_line all (both-printable (typed_text scene.prompt) (line ++ edge) (printable_typed scene.prompt h.prompt_typing) (both-printable line edge plain (edge-printable cols (columns_behind (length continuation) n text)))) in
+      let long : length all ≡ length (text_of scene) + length (row_edge cols (length (text_of scene))) =
+      omega (arith, length-append (typed_text scene.prompt) (line ++ edge), length-append line edge, length-append (typed_text scene.prompt) line, ap (λ i. length (row_edge cols i)) count) in
+      let off : length all % cols ≡ 0 → length all ≡ 0 = λ e. long ∙ edge-off cols (length (text_of scene)) h.wide (ap (λ i. i % cols) (sym long) ∙ e) in
+      let rows : rows_of_line cols all + 0 ≡ 1 + rows_down cols n (length continuation) (rows_of_text text) =
+      sym (sum_by-cons (rows_of_line cols) all []) ∙ ap (sum_by (rows_of_line cols)) (sym one) ∙ summed in
+      let text_is : (sheet_of characters cols scene).text ≡ all = text-is cols scene ∙ ap (λ (l : List ℕ). typed_text scene.prompt ++ (line ++ l)) last in
+      let lower_is : (sheet_of characters cols scene).lower ≡ [] = ap (λ lower. map (map (letter_cell characters)) (lower_letters characters start lower)) bare in
+      rw (text_is, lower_is) (omega (arith, rows, rows-off-edge cols (length all) h.wide off))
+    where
+      by : (k : Bool) → map (letter_cell characters) (if k then record { kept = tt; ch = blank } ∷ [] else []) ≡ (if k then blank ∷ [] else [])
+      by true = refl
+      by false = refl
+
+pub last_row_by_division : LastRowByDivision
+last_row_by_division cols prompt continuation before rest scene h bare = by (has_pair scene.line) refl
+  where
+    by : (k : Bool) → has_pair scene.line ≡ k
+        → sheet_last_row cols (sheet_of characters cols (spelled_scene (if k then folded cols scene (first_row scene.line) (other_rows scene.line) else scene)))
+        ≡ rows_down cols (length prompt) (length continuation) (rows_of_text (before ++ rest))
+    by true e =
+        let rows = has_rows cols prompt continuation before rest scene h e in
+        ap (λ (x : Scene). sheet_last_row cols (sheet_of characters cols x)) (plain_is_simple (other cols scene rows) (folded_is_plain cols scene rows)).1
+        ∙ last_of_rows cols prompt continuation before rest scene h bare rows
+    by false e =
+        ap (λ (x : Scene). sheet_last_row cols (sheet_of characters cols x)) (plain_is_simple scene (is_plain_scene cols prompt continuation before rest scene h e)).1
+        ∙ last_of_row cols prompt continuation before rest scene h bare e

@@ -1,0 +1,392 @@
+-- Worked runs of a host that shows rows, by computation and by the clauses: on a screen that scrolls, and on one that cuts its rows.
+use Rattle.std.proofs.Common.{◌≡◌, ℕ, zero, suc, ◌+◌, ◌≤◌, pos, List, [], ◌∷◌, take, drop, true, false, refl, sym, subst, None, Some, Option, Ok, Err, Result, arith}
+use Rattle.std.specs.List.{All}
+use Rattle.std.proofs.lemmas.List.Elements.{All-nil, All-cons}
+use Rattle.unicode_segmentation.proofs.Computing.{unicode_segmentation}
+use Rattle.tw_strokes.specs.Sheets.{IsLow, sheet_last_row}
+use Rattle.tw_strokes.specs.Strokes.{PictureOf}
+use Rattle.tw_surface.specs.Paintings.{Painting}
+use Rattle.tw_surface.specs.PaintingBatches.{SizedScene}
+use Rattle.tw_surface.specs.Places.{pieces}
+use Rattle.tw_surface.specs.Scenes.{IsPlain}
+use Rattle.tw_surface.specs.Width.{column_width}
+use Rattle.tw_screens.specs.SceneSheets.{painting_of, sheet_of}
+use Rattle.tw_screens.specs.Screens.{HasRoom}
+use Rattle.tw_screens.specs.StyledCells.{characters}
+use Rattle.tw_screens.proofs.PlainScenes.{plain_is_simple}
+use Rattle.tw_input.specs.EventView.{EventView, Key, Resized, Paste}
+use Rattle.tw_input.specs.declared.key.KeyCode.TheVariants.{Char}
+use Rattle.tw_extremes.specs.Extremes.{iterate, greatest_below, least_from}
+use Rattle.tw_line.specs.Boundaries.{boundary_below, is_boundary}
+use Rattle.tw_line.specs.Cut.{Cut}
+use Rattle.tw_line.specs.Movements.{destination}
+use Rattle.tw_host.specs.HostRules.{HostRules, Highlight, Resolution, no_resolution, plain_rules, plain_text}
+use Rattle.tw_host.specs.KeyTable.{key_press}
+use Rattle.tw_hosts.specs.Settling.{settled_column, settled_pieces, needed_by_text}
+use Rattle.tw_painter.specs.Painting.{painted_on}
+use Rattle.tw_painter.specs.Refusal.{Refusal}
+use Rattle.tw_session.specs.Search.{searched_again, search_step}
+use Rattle.tw_session.specs.SessionView.{new_state}
+use Rattle.tw_session.specs.Steps.{apply}
+use Rattle.tw_lineedit.specs.Frame.{Frame}
+use Rattle.tw_lineedit.specs.Reading.{start}
+use Rattle.tw_lineedit.specs.ScreenRuns.{sized_scene, RendersNothing}
+use Rattle.tw_lineedit.specs.Stations.{Station, station_painting, stations_of}
+use Rattle.tw_screen_runs.specs.DrawnRuns.{play_stations, play_since, closed_by}
+use Rattle.laws_prompt.specs.Rows.{shown_cut}
+use Rattle.laws_prompt.specs.RowStations.{IsRowStation, simple_at}
+use Rattle.laws_prompt.specs.RowStations.IsRowStation.{Simple, WithRows}
+use Rattle.laws_prompt.specs.PlainRows.{HasPlainRows, first_row, other_rows}
+use Rattle.laws_prompt.specs.RowRuns.{AreRowStations, painted_with_rows, paintings_with_rows, simple_stations, ComesWithRows, HealsWithRows}
+use Rattle.laws_prompt.specs.RowCells.{ShowsLine, AnswersLine}
+use Rattle.laws_prompt.specs.LineRuns.{ComesToLine}
+use Rattle.laws_prompt.proofs.PlainRowLemmas.{plain_rows_are_rows, folded_is_plain}
+use Rattle.tw_screen_runs.proofs.DrawnRunLemmas.{drawn_calls_stack}
+use Rattle.laws_prompt.proofs.RowRunLemmas.{row_paintings, row_closings, row_healings, healed_row_closings}
+use Rattle.laws_prompt.proofs.CellLemmas.{answers_show_lines}
+use Rattle.laws_prompt.proofs.LineRunLemmas.{lines_stand_in_rows}
+use Rattle.laws_prompt.proofs.LastRowLemmas.{last_row_by_division}
+
+-- ---- a host that knows the columns of its screen, and shows ". " before each row but the first
+
+abbrev in_rows : ℕ → Cut → Highlight
+in_rows cols cut =
+    let shown = shown_cut cols (46 ∷ 32 ∷ []) 2 (take cut.cursor cut.line) (drop cut.cursor cut.line) in
+    record { elements = plain_text shown.line; column = settled_column cols (62 ∷ 32 ∷ []) shown }
+
+abbrev resized_to : ℕ → EventView → Cut → Resolution ℕ
+resized_to cols (Resized new rows) cut = no_resolution new cut
+resized_to cols event cut = no_resolution cols cut
+
+abbrev pub rules : HostRules ℕ
+rules = record (plain_rules (λ (v : ℕ). [])) { highlight = in_rows; resolve = resized_to }
+
+abbrev pub frame_with : ℕ → List EventView → Frame ℕ
+frame_with cols events = start None (record { state = new_state; value = cols; mark = None; terminal = record { size = record { rows = 24; cols = cols }; events = events; batches = []; flushed = 0; failures = 0 } })
+
+-- rows of A, of B and of C and so on
+abbrev full : ℕ → PictureOf ℕ
+full row = record { cell = λ r c. 65 + r; row = row; col = 0 }
+
+abbrev pub painting_in : Result Painting Refusal → Painting
+painting_in (Ok p) = p
+painting_in (Err r) = record { changes = []; row = pos 0; height = 0 }
+
+abbrev pub nth : List (Station ℕ) → ℕ → Station ℕ
+nth [] n = record { state = new_state; value = 0; size = record { rows = 0; cols = 0 }; cleared = false }
+nth (s ∷ more) zero = s
+nth (s ∷ more) (suc n) = nth more n
+
+-- plain stations are simple, those of printable rows have rows, and their sheets are those of their bytes
+abbrev pub simple : (station : SizedScene) → 2 ≤ station.cols → IsPlain station.scene → IsRowStation characters station
+simple station two plain = Simple (two, (plain_is_simple station.scene plain).0)
+
+abbrev pub with_rows : (station : SizedScene) → HasPlainRows station.cols station.scene → IsRowStation characters station
+with_rows station h = WithRows (first_row station.scene.line) (other_rows station.scene.line) (plain_rows_are_rows characters station.cols station.scene h)
+
+pub room : (rows : Option ℕ) (station : SizedScene) → IsPlain station.scene → IsLow rows station.cols (sheet_of characters station.cols station.scene) → HasRoom rows characters station
+room rows station plain low = subst (λ scene. IsLow rows station.cols (sheet_of characters station.cols scene)) (sym (plain_is_simple station.scene plain).1) low
+
+-- ---- eight columns and five rows, entered in the last row: three rows are pasted, "abcdef", "gh" and "ij"
+
+abbrev low_text : List ℕ
+low_text = 97 ∷ 98 ∷ 99 ∷ 100 ∷ 101 ∷ 102 ∷ 10 ∷ 103 ∷ 104 ∷ 10 ∷ 105 ∷ 106 ∷ []
+
+abbrev low_run : Frame ℕ
+low_run = frame_with 8 (Paste low_text ∷ [])
+
+abbrev low_station : ℕ → Station ℕ
+low_station n = nth (stations_of rules low_run) n
+
+abbrev low_at : ℕ → SizedScene
+low_at n = sized_scene rules (low_station n)
+
+low_wide : (2 ≤ (low_at 0).cols) × ((low_at 1).cols ≡ 8)
+unfolding pieces column_width painted_on apply destination searched_again search_step boundary_below is_boundary iterate greatest_below least_from settled_pieces needed_by_text
+low_wide = (omega arith, refl)
+
+low_plain : IsPlain (low_at 0).scene
+unfolding pieces column_width painted_on apply destination searched_again search_step boundary_below is_boundary iterate greatest_below least_from settled_pieces needed_by_text
+low_plain = record { prompt = refl; line = refl; lower = tt }
+
+low_rows : HasPlainRows (low_at 1).cols (low_at 1).scene
+unfolding pieces column_width painted_on apply destination searched_again search_step boundary_below is_boundary iterate greatest_below least_from settled_pieces needed_by_text
+low_rows = record { wide = omega arith; prompt = refl; line = refl; lower = tt; pair = refl; off_edge = λ e. (let off : 1 ≡ 0 = e in omega (arith, off)) }
+
+abbrev low_are : AreRowStations rules characters (low_station 0 ∷ []) (low_station 1)
+low_are = record { before_it = (simple (low_at 0) low_wide.0 low_plain, tt); it = with_rows (low_at 1) low_rows }
+
+abbrev low_folded : SizedScene
+low_folded = simple_at characters (low_at 1) low_are.it
+
+comes_low : ComesWithRows rules characters (Some 5) low_run (low_station 0 ∷ []) (low_station 1) [] low_are (full 4)
+unfolding pieces column_width painted_on apply destination searched_again search_step boundary_below is_boundary iterate greatest_below least_from settled_pieces needed_by_text
+comes_low = record {
+  comes = record { nothing_painted = refl; stations = refl; painting = painting_in (station_painting rules (low_station 1)); painted = refl };
+  low = All-cons (HasRoom (Some 5) characters) (low_at 0) (low_folded ∷ []) (room (Some 5) (low_at 0) low_plain (omega arith))
+      (All-cons (HasRoom (Some 5) characters) low_folded [] (room (Some 5) low_folded (folded_is_plain 8 (low_at 1).scene low_rows) (omega arith)) (All-nil (HasRoom (Some 5) characters)));
+  at_start = refl;
+  in_sight = omega arith;
+}
+
+abbrev low_shown : PictureOf ℕ
+low_shown = play_stations rules characters (Some 5) false 8 tt (low_station 0 ∷ low_station 1 ∷ []) (full 4)
+
+abbrev low_closed : PictureOf ℕ
+low_closed = closed_by rules characters (Some 5) false 8 8 tt low_run low_shown
+
+-- "> abcdef", an empty row, ". gh" and ". ij" from row 1 on, below what stood there before
+low_by_clause : (low_shown.row ≡ 4) × (low_shown.col ≡ 4) × (low_shown.cell 1 7 ≡ 102) × (low_shown.cell 3 0 ≡ 46) × (low_shown.cell 4 3 ≡ 106) × (low_shown.cell 0 0 ≡ 68)
+unfolding pieces column_width painted_on apply destination searched_again search_step boundary_below is_boundary iterate greatest_below least_from settled_pieces needed_by_text unicode_segmentation
+low_by_clause =
+    let s = (row_paintings rules characters low_run (Some 5) false 8 tt (low_station 0 ∷ []) (low_station 1) [] low_are (full 4) comes_low).shown in
+    (s.fresh.row, s.fresh.col, s.fresh.shown 7 (omega arith), s.fresh.below.0 0 (omega arith), s.fresh.below.1.0 3 (omega arith), s.above 0 0 (omega arith) (omega arith) (omega arith))
+
+low_by_computing : (low_shown.row ≡ 4) × (low_shown.col ≡ 4) × (low_shown.cell 1 7 ≡ 102) × (low_shown.cell 2 0 ≡ 32) × (low_shown.cell 3 0 ≡ 46) × (low_shown.cell 3 3 ≡ 104) × (low_shown.cell 4 3 ≡ 106) × (low_shown.cell 0 0 ≡ 68)
+unfolding pieces column_width painted_on apply destination searched_again search_step boundary_below is_boundary iterate greatest_below least_from settled_pieces needed_by_text unicode_segmentation
+low_by_computing = (refl, refl, refl, refl, refl, refl, refl, refl)
+
+-- the closing batch scrolls it up by a row
+low_closed_by_clause : (low_closed.row ≡ 4) × (low_closed.col ≡ 0) × (low_closed.cell 4 0 ≡ 32)
+unfolding pieces column_width painted_on apply destination searched_again search_step boundary_below is_boundary iterate greatest_below least_from settled_pieces needed_by_text unicode_segmentation
+low_closed_by_clause =
+    let c = (row_closings rules characters low_run (Some 5) false 8 8 tt tt (low_station 0 ∷ []) (low_station 1) [] low_are (full 4) comes_low (All-nil (RendersNothing rules)) (omega arith)).1 in
+    (c.row, c.col, c.blank_below 4 0 (omega arith) (omega arith))
+
+low_closed_by_computing : (low_closed.row ≡ 4) × (low_closed.col ≡ 0) × (low_closed.cell 0 7 ≡ 102) × (low_closed.cell 3 3 ≡ 106) × (low_closed.cell 4 0 ≡ 32)
+unfolding pieces column_width painted_on apply destination searched_again search_step boundary_below is_boundary iterate greatest_below least_from settled_pieces needed_by_text unicode_segmentation
+low_closed_by_computing = (refl, refl, refl, refl, refl)
+
+-- the host answers the line, so the scene shows it, and each of its characters stands in its cell: "f" at the edge, "g" after the continuation prompt, "." before "ij", and the cursor after it
+low_answers : AnswersLine 8 (62 ∷ 32 ∷ []) (46 ∷ 32 ∷ []) low_text [] (low_at 1).scene
+unfolding pieces column_width painted_on apply destination searched_again search_step boundary_below is_boundary iterate greatest_below least_from settled_pieces needed_by_text unicode_segmentation
+low_answers = record {
+  wide = omega arith;
+  narrow = omega arith;
+  printable = record { printable_prompt = refl; printable_continuation = refl; rows_before = refl; rows_behind = refl };
+  short = omega arith;
+  prompt_is = refl;
+  line_typing = refl;
+  line_is = refl;
+  lower = tt;
+  column_is = refl;
+}
+
+low_line : ShowsLine 8 (62 ∷ 32 ∷ []) (46 ∷ 32 ∷ []) low_text [] (low_at 1).scene
+low_line = answers_show_lines 8 (62 ∷ 32 ∷ []) (46 ∷ 32 ∷ []) low_text [] (low_at 1).scene low_answers
+
+low_no_line : ShowsLine 8 (62 ∷ 32 ∷ []) (46 ∷ 32 ∷ []) [] [] (low_at 0).scene
+unfolding pieces column_width painted_on apply destination searched_again search_step boundary_below is_boundary iterate greatest_below least_from settled_pieces needed_by_text unicode_segmentation
+low_no_line = record {
+  wide = omega arith;
+  printable = record { printable_prompt = refl; printable_continuation = refl; rows_before = refl; rows_behind = refl };
+  prompt_typing = refl;
+  prompt_is = refl;
+  line_typing = refl;
+  line_is = refl;
+  lower = tt;
+  cursor = refl;
+}
+
+low_to_line : ComesToLine rules (Some 5) low_run (low_station 0 ∷ []) (low_station 1) [] (62 ∷ 32 ∷ []) (46 ∷ 32 ∷ []) low_text [] (full 4)
+unfolding pieces column_width painted_on apply destination searched_again search_step boundary_below is_boundary iterate greatest_below least_from settled_pieces needed_by_text unicode_segmentation
+low_to_line = record {
+  comes = comes_low.comes;
+  lines = (record { prompt = 62 ∷ 32 ∷ []; continuation = 46 ∷ 32 ∷ []; left = []; right = []; shows = low_no_line }, tt);
+  line = low_line;
+  low = comes_low.low;
+  at_start = refl;
+  in_sight = omega arith;
+}
+
+low_cells : (low_shown.cell 1 7 ≡ 102) × (low_shown.cell 3 2 ≡ 103) × (low_shown.cell 1 0 ≡ 62) × (low_shown.cell 4 0 ≡ 46) × (low_shown.row ≡ 4) × (low_shown.col ≡ 4)
+unfolding pieces column_width painted_on apply destination searched_again search_step boundary_below is_boundary iterate greatest_below least_from settled_pieces needed_by_text unicode_segmentation
+low_cells =
+    let stand = lines_stand_in_rows rules low_run (Some 5) false 8 (low_station 0 ∷ []) (low_station 1) [] (62 ∷ 32 ∷ []) (46 ∷ 32 ∷ []) low_text [] (full 4) low_to_line in (
+      stand.cells (97 ∷ 98 ∷ 99 ∷ 100 ∷ 101 ∷ []) 102 (10 ∷ 103 ∷ 104 ∷ 10 ∷ 105 ∷ 106 ∷ []) refl refl,
+      stand.cells (97 ∷ 98 ∷ 99 ∷ 100 ∷ 101 ∷ 102 ∷ 10 ∷ []) 103 (104 ∷ 10 ∷ 105 ∷ 106 ∷ []) refl refl,
+      stand.prompt_cells 0 (omega arith),
+      stand.continuation_cells (97 ∷ 98 ∷ 99 ∷ 100 ∷ 101 ∷ 102 ∷ 10 ∷ 103 ∷ 104 ∷ []) (105 ∷ 106 ∷ []) refl 0 (omega arith),
+      stand.row,
+      stand.col,
+    )
+
+-- and the last row is the third after the first one
+low_last_row : sheet_last_row 8 (painting_of characters low_folded).sheet ≡ 3
+unfolding pieces column_width painted_on apply destination searched_again search_step boundary_below is_boundary iterate greatest_below least_from settled_pieces needed_by_text unicode_segmentation
+low_last_row = last_row_by_division 8 (62 ∷ 32 ∷ []) (46 ∷ 32 ∷ []) low_text [] (low_at 1).scene low_line refl
+
+-- the second row does not begin in the row after the text of the first one, nor is the cursor a row higher
+low_is_down : low_shown.cell 2 2 ≡ 103 → ⊥
+unfolding pieces column_width painted_on apply destination searched_again search_step boundary_below is_boundary iterate greatest_below least_from settled_pieces needed_by_text unicode_segmentation
+low_is_down higher = let off : 32 ≡ 103 = higher in omega (arith, off)
+
+low_is_low : low_shown.row ≡ 3 → ⊥
+unfolding pieces column_width painted_on apply destination searched_again search_step boundary_below is_boundary iterate greatest_below least_from settled_pieces needed_by_text unicode_segmentation
+low_is_low higher = let off : 4 ≡ 3 = higher in omega (arith, off)
+
+-- ---- a second call on the screen that the first one left: "x" and "y" are pasted
+
+abbrev next_run : Frame ℕ
+next_run = frame_with 8 (Paste (120 ∷ 10 ∷ 121 ∷ []) ∷ [])
+
+abbrev next_station : ℕ → Station ℕ
+next_station n = nth (stations_of rules next_run) n
+
+abbrev next_at : ℕ → SizedScene
+next_at n = sized_scene rules (next_station n)
+
+next_wide : 2 ≤ (next_at 0).cols
+unfolding pieces column_width painted_on apply destination searched_again search_step boundary_below is_boundary iterate greatest_below least_from settled_pieces needed_by_text
+next_wide = omega arith
+
+next_plain : IsPlain (next_at 0).scene
+unfolding pieces column_width painted_on apply destination searched_again search_step boundary_below is_boundary iterate greatest_below least_from settled_pieces needed_by_text
+next_plain = record { prompt = refl; line = refl; lower = tt }
+
+next_rows : HasPlainRows (next_at 1).cols (next_at 1).scene
+unfolding pieces column_width painted_on apply destination searched_again search_step boundary_below is_boundary iterate greatest_below least_from settled_pieces needed_by_text
+next_rows = record { wide = omega arith; prompt = refl; line = refl; lower = tt; pair = refl; off_edge = λ e. (let off : 3 ≡ 0 = e in omega (arith, off)) }
+
+abbrev next_are : AreRowStations rules characters (next_station 0 ∷ []) (next_station 1)
+next_are = record { before_it = (simple (next_at 0) next_wide next_plain, tt); it = with_rows (next_at 1) next_rows }
+
+abbrev next_folded : SizedScene
+next_folded = simple_at characters (next_at 1) next_are.it
+
+comes_next : ComesWithRows rules characters (Some 5) next_run (next_station 0 ∷ []) (next_station 1) [] next_are low_closed
+unfolding pieces column_width painted_on apply destination searched_again search_step boundary_below is_boundary iterate greatest_below least_from settled_pieces needed_by_text unicode_segmentation
+comes_next = record {
+  comes = record { nothing_painted = refl; stations = refl; painting = painting_in (station_painting rules (next_station 1)); painted = refl };
+  low = All-cons (HasRoom (Some 5) characters) (next_at 0) (next_folded ∷ []) (room (Some 5) (next_at 0) next_plain (omega arith))
+      (All-cons (HasRoom (Some 5) characters) next_folded [] (room (Some 5) next_folded (folded_is_plain 8 (next_at 1).scene next_rows) (omega arith)) (All-nil (HasRoom (Some 5) characters)));
+  at_start = refl;
+  in_sight = omega arith;
+}
+
+abbrev next_shown : PictureOf ℕ
+next_shown = play_stations rules characters (Some 5) false 8 tt (next_station 0 ∷ next_station 1 ∷ []) low_closed
+
+-- the rows of the first line stand above it
+stacked_by_clause : (next_shown.row ≡ 4) × (next_shown.cell 3 2 ≡ 120) × (next_shown.cell 1 2 ≡ 103) × (next_shown.cell 2 3 ≡ 106)
+unfolding pieces column_width painted_on apply destination searched_again search_step boundary_below is_boundary iterate greatest_below least_from settled_pieces needed_by_text unicode_segmentation
+stacked_by_clause =
+    let over = (row_paintings rules characters next_run (Some 5) false 8 tt (next_station 0 ∷ []) (next_station 1) [] next_are low_closed comes_next).shown in
+    let closed = (row_closings rules characters low_run (Some 5) false 8 8 tt tt (low_station 0 ∷ []) (low_station 1) [] low_are (full 4) comes_low (All-nil (RendersNothing rules)) (omega arith)).1 in
+    let above = drawn_calls_stack characters (Some 5) false 8 _ _ low_closed next_shown (painted_with_rows rules characters (next_station 1) next_are.it)
+    (paintings_with_rows rules characters (next_station 0 ∷ []) (next_station 1) next_are) closed over in
+    (over.fresh.row, over.fresh.shown 2 (omega arith), above 1 2 (omega arith) (omega arith) (omega arith), above 2 3 (omega arith) (omega arith) (omega arith))
+
+stacked_by_computing : (next_shown.row ≡ 4) × (next_shown.cell 3 2 ≡ 120) × (next_shown.cell 1 2 ≡ 103) × (next_shown.cell 2 3 ≡ 106)
+unfolding pieces column_width painted_on apply destination searched_again search_step boundary_below is_boundary iterate greatest_below least_from settled_pieces needed_by_text unicode_segmentation
+stacked_by_computing = (refl, refl, refl, refl)
+
+-- ---- two rows are pasted at four columns, "ab" and "c", and then the screen has three
+
+abbrev cut_run : Frame ℕ
+cut_run = frame_with 4 (Paste (97 ∷ 98 ∷ 10 ∷ 99 ∷ []) ∷ Resized 3 24 ∷ [])
+
+abbrev cut_station : ℕ → Station ℕ
+cut_station n = nth (stations_of rules cut_run) n
+
+abbrev cut_at : ℕ → SizedScene
+cut_at n = sized_scene rules (cut_station n)
+
+cut_wide : 2 ≤ (cut_at 0).cols
+unfolding pieces column_width painted_on apply destination searched_again search_step boundary_below is_boundary iterate greatest_below least_from settled_pieces needed_by_text
+cut_wide = omega arith
+
+cut_plain : IsPlain (cut_at 0).scene
+unfolding pieces column_width painted_on apply destination searched_again search_step boundary_below is_boundary iterate greatest_below least_from settled_pieces needed_by_text
+cut_plain = record { prompt = refl; line = refl; lower = tt }
+
+cut_rows : HasPlainRows (cut_at 1).cols (cut_at 1).scene
+unfolding pieces column_width painted_on apply destination searched_again search_step boundary_below is_boundary iterate greatest_below least_from settled_pieces needed_by_text
+cut_rows = record { wide = omega arith; prompt = refl; line = refl; lower = tt; pair = refl; off_edge = λ e. (let off : 1 ≡ 0 = e in omega (arith, off)) }
+
+narrow_rows : HasPlainRows (cut_at 2).cols (cut_at 2).scene
+unfolding pieces column_width painted_on apply destination searched_again search_step boundary_below is_boundary iterate greatest_below least_from settled_pieces needed_by_text
+narrow_rows = record { wide = omega arith; prompt = refl; line = refl; lower = tt; pair = refl; off_edge = λ e. (let off : 1 ≡ 0 = e in omega (arith, off)) }
+
+abbrev cut_are : AreRowStations rules characters (cut_station 0 ∷ cut_station 1 ∷ []) (cut_station 2)
+cut_are = record { before_it = (simple (cut_at 0) cut_wide cut_plain, (with_rows (cut_at 1) cut_rows, tt)); it = with_rows (cut_at 2) narrow_rows }
+
+-- a screen without a bottom has room for all
+all_low : (stations : List SizedScene) → All (HasRoom None characters) stations
+all_low stations k station h = tt
+
+comes_cut : ComesWithRows rules characters None cut_run (cut_station 0 ∷ cut_station 1 ∷ []) (cut_station 2) [] cut_are (full 1)
+unfolding pieces column_width painted_on apply destination searched_again search_step boundary_below is_boundary iterate greatest_below least_from settled_pieces needed_by_text
+comes_cut = record {
+  comes = record { nothing_painted = refl; stations = refl; painting = painting_in (station_painting rules (cut_station 2)); painted = refl };
+  low = all_low (simple_stations rules characters (cut_station 0 ∷ cut_station 1 ∷ []) (cut_station 2) cut_are);
+  at_start = refl;
+  in_sight = tt;
+}
+
+abbrev cut_shown : PictureOf ℕ
+cut_shown = play_stations rules characters None true 4 tt (cut_station 0 ∷ cut_station 1 ∷ cut_station 2 ∷ []) (full 1)
+
+-- "> a", "b" and ". c" from row 1 on, and the cursor after a row that fills its last column
+cut_by_clause : (cut_shown.row ≡ 4) × (cut_shown.col ≡ 0) × (cut_shown.cell 1 2 ≡ 97) × (cut_shown.cell 2 0 ≡ 98) × (cut_shown.cell 3 2 ≡ 99) × (cut_shown.cell 0 2 ≡ 65)
+unfolding pieces column_width painted_on apply destination searched_again search_step boundary_below is_boundary iterate greatest_below least_from settled_pieces needed_by_text unicode_segmentation
+cut_by_clause =
+    let s = (row_paintings rules characters cut_run None true 4 tt (cut_station 0 ∷ cut_station 1 ∷ []) (cut_station 2) [] cut_are (full 1) comes_cut).shown in
+    (s.fresh.row, s.fresh.col, s.fresh.shown 2 (omega arith), s.fresh.shown 3 (omega arith), s.fresh.below.0 2 (omega arith), s.above 0 2 (omega arith) (omega arith) (omega arith))
+
+cut_by_computing : (cut_shown.row ≡ 4) × (cut_shown.col ≡ 0) × (cut_shown.cell 1 2 ≡ 97) × (cut_shown.cell 2 0 ≡ 98) × (cut_shown.cell 2 1 ≡ 32) × (cut_shown.cell 3 2 ≡ 99) × (cut_shown.cell 0 2 ≡ 65)
+unfolding pieces column_width painted_on apply destination searched_again search_step boundary_below is_boundary iterate greatest_below least_from settled_pieces needed_by_text unicode_segmentation
+cut_by_computing = (refl, refl, refl, refl, refl, refl, refl)
+
+-- ---- the same rows are pasted at three columns, and the screen is cleared by a Repaint
+
+abbrev healed_run : Frame ℕ
+healed_run = frame_with 3 (Paste (97 ∷ 98 ∷ 10 ∷ 99 ∷ []) ∷ Key (key_press 8 (Char 76)) ∷ [])
+
+abbrev healed_station : ℕ → Station ℕ
+healed_station n = nth (stations_of rules healed_run) n
+
+abbrev healed_at : ℕ → SizedScene
+healed_at n = sized_scene rules (healed_station n)
+
+cleared_rows : HasPlainRows (healed_at 2).cols (healed_at 2).scene
+unfolding pieces column_width painted_on apply destination searched_again search_step boundary_below is_boundary iterate greatest_below least_from settled_pieces needed_by_text
+cleared_rows = record { wide = omega arith; prompt = refl; line = refl; lower = tt; pair = refl; off_edge = λ e. (let off : 1 ≡ 0 = e in omega (arith, off)) }
+
+abbrev healed_are : AreRowStations rules characters [] (healed_station 2)
+healed_are = record { before_it = tt; it = with_rows (healed_at 2) cleared_rows }
+
+heals : HealsWithRows rules characters None healed_run (healed_station 0 ∷ healed_station 1 ∷ []) [] (healed_station 2) [] healed_are
+unfolding pieces column_width painted_on apply destination searched_again search_step boundary_below is_boundary iterate greatest_below least_from settled_pieces needed_by_text
+heals = record {
+  comes = record { nothing_painted = refl; stations = refl; painting = painting_in (station_painting rules (healed_station 2)); painted = refl };
+  cleared = refl;
+  low = all_low (simple_stations rules characters [] (healed_station 2) healed_are);
+  in_sight = tt;
+}
+
+abbrev healed_shown : PictureOf ℕ → PictureOf ℕ
+healed_shown before = play_since rules characters None false 3 tt (healed_station 0 ∷ healed_station 1 ∷ []) (healed_station 2 ∷ []) before
+
+-- from row 0 on it is fresh, whatever the screen showed
+healed_by_clause : (before : PictureOf ℕ) → ((healed_shown before).row ≡ 3) × ((healed_shown before).col ≡ 0) × ((healed_shown before).cell 1 0 ≡ 98) × ((healed_shown before).cell 2 2 ≡ 99)
+unfolding pieces column_width painted_on apply destination searched_again search_step boundary_below is_boundary iterate greatest_below least_from settled_pieces needed_by_text unicode_segmentation
+healed_by_clause before =
+    let f = (row_healings rules characters healed_run None (healed_station 0 ∷ healed_station 1 ∷ []) [] (healed_station 2) [] healed_are heals).fresh false 3 tt before in
+    (f.row, f.col, f.shown 3 (omega arith), f.below.0 2 (omega arith))
+
+healed_by_computing : (before : PictureOf ℕ) → ((healed_shown before).row ≡ 3) × ((healed_shown before).col ≡ 0) × ((healed_shown before).cell 1 0 ≡ 98) × ((healed_shown before).cell 2 2 ≡ 99) × ((healed_shown before).cell 3 0 ≡ 32)
+unfolding pieces column_width painted_on apply destination searched_again search_step boundary_below is_boundary iterate greatest_below least_from settled_pieces needed_by_text unicode_segmentation
+healed_by_computing before = (refl, refl, refl, refl, refl)
+
+-- and the closing batch ends below it, where the last row fills its last column too
+healed_closed_by_clause : (before : PictureOf ℕ) → let after = closed_by rules characters None false 3 7 tt healed_run (healed_shown before) in (after.row ≡ 4) × (after.col ≡ 0)
+unfolding pieces column_width painted_on apply destination searched_again search_step boundary_below is_boundary iterate greatest_below least_from settled_pieces needed_by_text unicode_segmentation
+healed_closed_by_clause before =
+    let c = (healed_row_closings rules characters healed_run None (healed_station 0 ∷ healed_station 1 ∷ []) [] (healed_station 2) [] healed_are heals (All-nil (RendersNothing rules))).1 false 3 7 tt tt before (omega arith) in
+    (c.row, c.col)
+
+-- a character of the first painting does not stay
+healed_is_fresh : (before : PictureOf ℕ) → (healed_shown before).cell 0 3 ≡ 98 → ⊥
+unfolding pieces column_width painted_on apply destination searched_again search_step boundary_below is_boundary iterate greatest_below least_from settled_pieces needed_by_text unicode_segmentation
+healed_is_fresh before stale = let off : 32 ≡ 98 = stale in omega (arith, off)

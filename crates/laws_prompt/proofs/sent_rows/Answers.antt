@@ -1,0 +1,11 @@
+use Rattle.laws_prompt.proofs.SentRowLemmas.{row_closings_are_shown, row_healings_are_shown, row_paintings_are_shown}
+use Rattle.laws_prompt.proofs.sent_rows.Goals as goal
+
+pub returns-clause-paintings : goal.returns-clause-paintings
+returns-clause-paintings g c pen = row_paintings_are_shown g.H.LineEditorHost.rules pen
+
+pub returns-clause-closings : goal.returns-clause-closings
+returns-clause-closings g c pen = row_closings_are_shown g.H.LineEditorHost.rules pen
+
+pub returns-clause-healings : goal.returns-clause-healings
+returns-clause-healings g c pen = row_healings_are_shown g.H.LineEditorHost.rules pen

@@ -1,0 +1,69 @@
+-- What a screen of characters shows of a run each station of which shows a line in rows.
+use Rattle.std.specs.Prelude.{◌≡◌, ℕ, ◌+◌, ◌≤◌, Bool, List, [], ◌∷◌, ◌++◌, length, map, Option}
+use Rattle.std.specs.List.{All, AllByRecursion}
+use Rattle.tw_strokes.specs.Strokes.{PictureOf, InSight, resized}
+use Rattle.tw_strokes.specs.Paintings.{SheetPainting, IsClosedSheet, top_row}
+use Rattle.tw_surface.specs.PaintingBatches.{SizedScene}
+use Rattle.tw_surface.specs.Pictures.{blank}
+use Rattle.tw_surface.specs.Scenes.Lower.{NoLower}
+use Rattle.tw_screens.specs.SceneSheets.{painting_of}
+use Rattle.tw_screens.specs.Screens.{HasRoom}
+use Rattle.tw_screens.specs.StyledCells.{characters}
+use Rattle.tw_host.specs.HostRules.{HostRules}
+use Rattle.tw_lineedit.specs.Frame.{Frame}
+use Rattle.tw_lineedit.specs.ScreenRuns.{sized_scene, Comes, RendersNothing}
+use Rattle.tw_lineedit.specs.Stations.{Station}
+use Rattle.tw_screen_runs.specs.DrawnRuns.{play_stations, closed_by}
+use Rattle.laws_prompt.specs.Rows.{rows_of_text, rows_down}
+use Rattle.laws_prompt.specs.PlainRows.{plain_folded}
+use Rattle.laws_prompt.specs.RowCells.{ShowsLine, StandInRows}
+
+-- a station shows some line
+pub record ShowsSomeLine (station : SizedScene) : Type 0 where
+  pub prompt : List ℕ
+  pub continuation : List ℕ
+  pub left : List ℕ
+  pub right : List ℕ
+  pub shows : ShowsLine station.cols prompt continuation left right station.scene
+
+-- the simple station that it is painted as
+abbrev pub plain_station : SizedScene → SizedScene
+plain_station station = record station { scene = plain_folded station.cols station.scene }
+
+module _ {V : Type 0} (rules : HostRules V) where
+  abbrev pub line_stations : List (Station V) → List SizedScene
+  line_stations stations = map (λ station. plain_station (sized_scene rules station)) stations
+
+  -- what is painted at stations that show lines
+  abbrev pub line_paintings : List (Station V) → List (SheetPainting ℕ)
+  line_paintings stations = map (painting_of characters) (line_stations stations)
+
+  -- The run from a frame comes to a station that shows this line, and paints it. So far every station showed some line, and was low enough; a screen is entered at column 0 of a row in sight.
+  pub record ComesToLine (rows : Option ℕ) (f : Frame V) (earlier : List (Station V)) (station : Station V) (later : List (Station V))
+      (prompt continuation left right : List ℕ) (screen : PictureOf ℕ) : Type 0 where
+    pub comes : Comes rules f earlier station later
+    pub lines : AllByRecursion (λ s. ShowsSomeLine (sized_scene rules s)) earlier
+    pub line : ShowsLine station.size.cols prompt continuation left right (sized_scene rules station).scene
+    pub low : All (HasRoom rows characters) (line_stations (earlier ++ station ∷ []))
+    pub at_start : screen.col ≡ 0
+    pub in_sight : InSight rows screen.row
+
+  -- Then the cursor, the prompts and each character of the line stand in their cells, from the row on to which the paintings so far have gone up.
+  abbrev pub LinesStandInRows : Type 0
+  LinesStandInRows = (f : Frame V) (rows : Option ℕ) (cuts : Bool) (v : ℕ) (earlier : List (Station V)) (station : Station V) (later : List (Station V))
+      (prompt continuation left right : List ℕ) (screen : PictureOf ℕ)
+      → ComesToLine rows f earlier station later prompt continuation left right screen
+      → let top = top_row rows screen.row (line_paintings (earlier ++ station ∷ [])) in
+      StandInRows station.size.cols top prompt continuation left right (play_stations rules characters rows cuts v tt (earlier ++ station ∷ []) screen)
+
+  -- With nothing under the last line that is painted, the closing batch leaves the cursor in the row below that of the cell after the line.
+  abbrev pub LinesCloseBelow : Type 0
+  LinesCloseBelow = (f : Frame V) (rows : Option ℕ) (cuts : Bool) (v w : ℕ) (earlier : List (Station V)) (station : Station V) (later : List (Station V))
+      (prompt continuation left right : List ℕ) (screen : PictureOf ℕ)
+      → ComesToLine rows f earlier station later prompt continuation left right screen
+      → (sized_scene rules station).scene.lower ≡ NoLower → All (RendersNothing rules) later → 2 ≤ w
+      → let cols = station.size.cols in
+      let top = top_row rows screen.row (line_paintings (earlier ++ station ∷ [])) in
+      let last = top + rows_down cols (length prompt) (length continuation) (rows_of_text (left ++ right)) in
+      let shown = play_stations rules characters rows cuts v tt (earlier ++ station ∷ []) screen in
+      IsClosedSheet rows w blank last (resized cuts blank cols w shown) (closed_by rules characters rows cuts cols w tt f shown)

@@ -1,0 +1,81 @@
+-- Scenes that show a line of rows: where its characters and the cursor stand on a screen of characters.
+use Rattle.std.specs.Prelude.{ℕ, ◌≡◌, ◌≤◌, ◌<◌, ◌+◌, ◌/◌, ◌%◌, slice_index_or, eqb, true, false, List, ◌∷◌, ◌++◌, length}
+use Rattle.std.specs.List.{list_all}
+use Rattle.tw_strokes.specs.Strokes.{PictureOf}
+use Rattle.tw_strokes.specs.Sheets.{IsFreshSheet, sheet_last_row}
+use Rattle.tw_surface.specs.Characters.{lf}
+use Rattle.tw_surface.specs.Paintings.{cursor_place}
+use Rattle.tw_surface.specs.PaintingBatches.{SizedScene}
+use Rattle.tw_surface.specs.Pictures.{blank}
+use Rattle.tw_surface.specs.Scenes.{Scene, IsPlainLower, is_typing, typed_text}
+use Rattle.tw_surface.specs.Scenes.Lower.{NoLower}
+use Rattle.tw_screens.specs.Pens.{Pen}
+use Rattle.tw_screens.specs.SceneSheets.{painting_of}
+use Rattle.tw_screens.specs.StyledCells.{characters}
+use Rattle.tw_host.specs.ElementView.{changes_of}
+use Rattle.tw_host.specs.HostRules.{plain_text}
+use Rattle.tw_hosts.specs.Settling.{settled_column}
+use Rattle.laws_prompt.specs.Rows.{rows_of_text, rows_down, column_after, row_cell, shown_cut}
+use Rattle.laws_prompt.specs.RowColumns.{ArePrintableRows}
+use Rattle.laws_prompt.specs.RowStations.{IsRowStation, simple_at}
+use Rattle.laws_prompt.specs.PlainRows.{is_row_typing, plain_folded}
+
+-- A scene shows a line, in whatever colours: its texts are the prompt and the text that shows the line, and its cursor stands in its row.
+pub record ShowsLine (cols : ℕ) (prompt continuation before rest : List ℕ) (scene : Scene) : Type 0 where
+  pub wide : 2 ≤ cols
+  pub printable : ArePrintableRows prompt continuation before rest
+  pub prompt_typing : list_all is_typing scene.prompt ≡ true
+  pub prompt_is : typed_text scene.prompt ≡ prompt
+  pub line_typing : list_all is_row_typing scene.line ≡ true
+  pub line_is : typed_text scene.line ≡ (shown_cut cols continuation (length prompt) before rest).line
+  pub lower : IsPlainLower scene.lower
+  pub cursor : cursor_place cols scene ≡ row_cell cols (length prompt) (length continuation) before
+
+-- What a host is to answer for it: the prompt itself, the text that shows the line, and the settled column in it.
+pub record AnswersLine (cols : ℕ) (prompt continuation before rest : List ℕ) (scene : Scene) : Type 0 where
+  pub wide : 2 ≤ cols
+  pub narrow : cols ≤ 65535
+  pub printable : ArePrintableRows prompt continuation before rest
+  pub short : length prompt + (shown_cut cols continuation (length prompt) before rest).cursor ≤ 2147483647
+  pub prompt_is : scene.prompt ≡ changes_of (plain_text prompt)
+  pub line_typing : list_all is_row_typing scene.line ≡ true
+  pub line_is : typed_text scene.line ≡ (shown_cut cols continuation (length prompt) before rest).line
+  pub lower : IsPlainLower scene.lower
+  pub column_is : scene.column ≡ settled_column cols prompt (shown_cut cols continuation (length prompt) before rest)
+
+-- Then the scene shows the line.
+abbrev pub AnswersShowLines : Type 0
+AnswersShowLines = (cols : ℕ) (prompt continuation before rest : List ℕ) (scene : Scene)
+    → AnswersLine cols prompt continuation before rest scene → ShowsLine cols prompt continuation before rest scene
+
+-- The station of such a scene is simple or has rows, for every pen.
+abbrev pub ShownLinesAreRowStations : {A C : Type 0} → Pen A C → Type 0
+ShownLinesAreRowStations pen = (cols : ℕ) (prompt continuation before rest : List ℕ) (scene : Scene) → ShowsLine cols prompt continuation before rest scene
+    → let station : SizedScene = record { scene = scene; cols = cols } in
+    (it : IsRowStation pen station) × (simple_at pen station it ≡ record { scene = plain_folded cols scene; cols = cols })
+
+-- From row s on, the prompt, the continuation prompt after each line feed, and each character of a line stand in their cells, and so does the cursor.
+pub record StandInRows (cols s : ℕ) (prompt continuation before rest : List ℕ) (shown : PictureOf ℕ) : Type 0 where
+  pub row : shown.row ≡ s + rows_down cols (length prompt) (length continuation) (rows_of_text before)
+  pub col : shown.col ≡ column_after cols (length prompt) (length continuation) (rows_of_text before)
+  pub prompt_cells : (k : ℕ) → k < length prompt → shown.cell (s + k / cols) (k % cols) ≡ slice_index_or prompt k blank
+  pub continuation_cells : (left right : List ℕ) → before ++ rest ≡ left ++ lf ∷ right → (k : ℕ) → k < length continuation
+      → let above = s + rows_down cols (length prompt) (length continuation) (rows_of_text left) in
+      shown.cell (above + 1 + k / cols) (k % cols) ≡ slice_index_or continuation k blank
+  pub cells : (left : List ℕ) (ch : ℕ) (right : List ℕ) → before ++ rest ≡ left ++ ch ∷ right → eqb ch lf ≡ false
+      → let rows = rows_of_text left in
+      shown.cell (s + rows_down cols (length prompt) (length continuation) rows) (column_after cols (length prompt) (length continuation) rows) ≡ ch
+
+-- They do so where its painting is fresh.
+abbrev pub CellsByDivision : Type 0
+CellsByDivision = (cols s : ℕ) (prompt continuation before rest : List ℕ) (scene : Scene) (shown : PictureOf ℕ)
+    → ShowsLine cols prompt continuation before rest scene
+    → IsFreshSheet cols s blank (painting_of characters (record { scene = plain_folded cols scene; cols = cols })).sheet shown
+    → StandInRows cols s prompt continuation before rest shown
+
+-- With nothing under the line, the last row of its painting is that of the cell after the line.
+abbrev pub LastRowByDivision : Type 0
+LastRowByDivision = (cols : ℕ) (prompt continuation before rest : List ℕ) (scene : Scene)
+    → ShowsLine cols prompt continuation before rest scene → scene.lower ≡ NoLower
+    → sheet_last_row cols (painting_of characters (record { scene = plain_folded cols scene; cols = cols })).sheet
+    ≡ rows_down cols (length prompt) (length continuation) (rows_of_text (before ++ rest))

@@ -1,3 +1,0 @@
-pub mod NestingLemmas
-pub mod StackLemmas
-pub mod WholeLemmas

@@ -1,0 +1,49 @@
+-- Words of letters and digits, as so many steps by grapheme clusters.
+use Rattle.std.specs.Prelude.{ℕ, ◌+◌, Bool, false, not, ◌&&◌, ◌||◌, List, [], ◌∷◌, length, drop, Option, Some, None, unwrap_or}
+use Rattle.std.specs.Char.Unicode.Alphabetic.{is_alphabetic}
+use Rattle.std.specs.Char.Unicode.Numeric.{is_numeric}
+use Rattle.std.specs.Str.{chars}
+use Rattle.tw_extremes.specs.Extremes.{least_from}
+use Rattle.tw_line.specs.Cut.{Cut}
+use Rattle.tw_line.specs.Movements.{destination}
+use Rattle.tw_line.specs.declared.movements.Movement.{Movement}
+use Rattle.tw_line.specs.declared.movements.Movement.TheVariants.{BackwardChar, ForwardChar}
+use Rattle.tw_key_parts.specs.declared.letters.Side.{Side}
+use Rattle.tw_key_parts.specs.declared.letters.Side.TheVariants.{Ahead, Back}
+
+-- whether the first of some characters is a letter or a digit, and whether a text begins with one
+abbrev pub is_letter_first : List ℕ → Bool
+is_letter_first [] = false
+is_letter_first (c ∷ cs) = is_alphabetic c || is_numeric c
+
+abbrev pub begins_with_letter : List ℕ → Bool
+begins_with_letter text = is_letter_first (chars text)
+
+-- so many steps by grapheme clusters
+abbrev pub cluster_steps : Side → ℕ → Movement
+cluster_steps Ahead count = ForwardChar count
+cluster_steps Back count = BackwardChar count
+
+-- whether a letter stands where so many steps lead
+abbrev pub is_letter_after : Side → Cut → ℕ → Bool
+is_letter_after side cut count = begins_with_letter (drop (destination (cluster_steps side count) cut) cut.line)
+
+-- whether one stands there, and none a step further
+abbrev pub is_last_letter : Side → Cut → ℕ → Bool
+is_last_letter side cut count = is_letter_after side cut count && not (is_letter_after side cut (count + 1))
+
+-- the least number of steps, from one on, that lead to the last letter of a word
+abbrev pub last_letter : Side → ℕ → Cut → Option ℕ
+last_letter side from cut = least_from (is_last_letter side cut) from (length cut.line)
+
+-- past the last letter of the word ahead, or to the end of the line
+abbrev pub past_or : Option ℕ → ℕ → ℕ
+past_or (Some count) end = count + 1
+past_or None end = end
+
+abbrev pub steps_to_word_end : Cut → ℕ
+steps_to_word_end cut = past_or (last_letter Ahead 0 cut) (length cut.line)
+
+-- to the first letter of the word before, or to the start of the line
+abbrev pub steps_to_word_start : Cut → ℕ
+steps_to_word_start cut = unwrap_or (last_letter Back 1 cut) (length cut.line)

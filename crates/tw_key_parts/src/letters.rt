@@ -1,0 +1,93 @@
+//! Words of letters and digits, as so many steps by grapheme clusters.
+
+ghost use Rattle.std.specs.Prelude.{◌≡◌, ◌+◌, ◌<◌, ◌≤◌, IfOk, IfSome, drop, length};
+ghost use Rattle.tw_key_parts.specs.LetterWords.{begins_with_letter, last_letter, cluster_steps, steps_to_word_end, steps_to_word_start};
+
+use std::alloc::{AllocError, Global};
+use tw_line::{LineEditBuffer, Movement};
+
+/// A side of the cursor.
+#[derive(Clone, Copy, Debug, PartialEq, Eq)]
+enum Side {
+    /// To the end of the line.
+    Ahead,
+    /// To the start of the line.
+    Back,
+}
+
+/// Whether a text begins with a letter or a digit.
+fn begins_with_letter(text: &str) -> bool
+    ensures { result ≡ begins_with_letter text.now }
+{
+    match text.chars().next() {
+        Some(c) => c.is_alphanumeric(),
+        None => false,
+    }
+}
+
+/// So many steps by grapheme clusters.
+fn cluster_steps(side: Side, count: usize) -> Movement
+    ensures { result ≡ cluster_steps side count }
+{
+    match side {
+        Side::Ahead => Movement::ForwardChar(count),
+        Side::Back => Movement::BackwardChar(count),
+    }
+}
+
+/// Whether a letter or a digit stands at the cursor.
+fn is_at_letter(editor: &LineEditBuffer) -> bool
+    ensures { result ≡ begins_with_letter (drop editor.now.cursor editor.now.line) }
+{
+    begins_with_letter(&editor.get_line()[editor.get_cursor()..])
+}
+
+/// The least number of steps, from one on, that lead to the last letter of a word.
+fn last_letter(
+    alloc: Global,
+    side: Side,
+    from: usize,
+    editor: &LineEditBuffer,
+) -> Result<Option<usize>, AllocError>
+    requires { from ≤ 1 }
+    ensures count { IfOk result (λ count. count ≡ last_letter side from editor.now) }
+    ensures within { IfOk result
+        (λ count. IfSome count (λ count. count < from + length editor.now.line)) }
+{
+    let mut at = editor.try_clone(alloc)?;
+    at.exec_movement(cluster_steps(side, from));
+    let mut is_letter = is_at_letter(&at);
+    let end = from + editor.get_line().len();
+    for count in from..end {
+        at.exec_movement(cluster_steps(side, 1));
+        let is_next = is_at_letter(&at);
+        if is_letter && !is_next {
+            return Ok(Some(count));
+        }
+        is_letter = is_next;
+    }
+    Ok(None)
+}
+
+/// How many grapheme clusters lead past the last letter or digit of the word ahead, or to the end of the line and
+/// further where there is none.
+pub fn steps_to_word_end(alloc: Global, editor: &LineEditBuffer) -> Result<usize, AllocError>
+    ensures { IfOk result (λ count. count ≡ steps_to_word_end editor.now) }
+{
+    let end = editor.get_line().len();
+    match last_letter(alloc, Side::Ahead, 0, editor)? {
+        Some(count) => Ok(count + 1),
+        None => Ok(end),
+    }
+}
+
+/// How many grapheme clusters lead back to the first letter or digit of the word before the cursor, or to the start of
+/// the line and further where there is none.
+pub fn steps_to_word_start(alloc: Global, editor: &LineEditBuffer) -> Result<usize, AllocError>
+    ensures { IfOk result (λ count. count ≡ steps_to_word_start editor.now) }
+{
+    match last_letter(alloc, Side::Back, 1, editor)? {
+        Some(count) => Ok(count),
+        None => Ok(editor.get_line().len()),
+    }
+}

@@ -1,0 +1,105 @@
+//! Words that change places.
+
+ghost use Rattle.std.specs.Prelude.{◌≡◌, ◌++◌, IfOk, option_map, string_bytes};
+ghost use Rattle.tw_key_parts.specs.WordSwaps.{after_blanks, before_blanks, before_last_word, final_word, past_word, swapped_words, with_swapped_words};
+
+use crate::passed::passed_text;
+use std::alloc::{AllocError, Global};
+use tw_line::{LineEditBuffer, Movement};
+
+/// A text without the whitespace at its end, and that whitespace.
+fn split_blanks(text: &str) -> (&str, &str)
+    ensures words { result.0.now ≡ before_blanks text.now }
+    ensures blanks { result.1.now ≡ after_blanks text.now }
+{
+    let words = text.trim_end();
+    text.split_at(words.len())
+}
+
+/// What stands before the last word of a text that does not end in whitespace, and that word.
+fn split_last_word(alloc: Global, text: &str) -> Result<(String, String), AllocError>
+    ensures before { IfOk result (λ parts. string_bytes parts.0 ≡ before_last_word text.now) }
+    ensures word { IfOk result (λ parts. string_bytes parts.1 ≡ final_word text.now) }
+{
+    let mut editor = LineEditBuffer::new(alloc, text, text.len())?;
+    editor.exec_movement(Movement::BackwardWord(1));
+    let (before, word) = editor.get_line().split_at(editor.get_cursor());
+    Ok((
+        String::from_str(alloc, before)?,
+        String::from_str(alloc, word)?,
+    ))
+}
+
+/// Some texts, one after the other.
+fn joined(
+    alloc: Global,
+    first: &str,
+    second: &str,
+    third: &str,
+    last: &str,
+) -> Result<String, AllocError>
+    ensures { IfOk result (λ text. string_bytes text
+        ≡ first.now ++ second.now ++ third.now ++ last.now) }
+{
+    let mut text = String::from_str(alloc, first)?;
+    text.push_str(second)?;
+    text.push_str(third)?;
+    text.push_str(last)?;
+    Ok(text)
+}
+
+/// A text that does not end in whitespace, with its last two words in each other's place; none where it has no two.
+fn swapped_words(alloc: Global, text: &str) -> Result<Option<String>, AllocError>
+    ensures { IfOk result (λ swapped. option_map string_bytes swapped ≡ swapped_words text.now) }
+{
+    let (before, second) = split_last_word(alloc, text)?;
+    let (head, blanks) = split_blanks(before.as_str());
+    if head.is_empty() {
+        return Ok(None);
+    }
+    let (before, first) = split_last_word(alloc, head)?;
+    let swapped = joined(
+        alloc,
+        before.as_str(),
+        second.as_str(),
+        blanks,
+        first.as_str(),
+    )?;
+    Ok(Some(swapped))
+}
+
+/// The line with the cursor past the word at it, or past the next word where whitespace stands at it.
+fn past_word(alloc: Global, editor: &LineEditBuffer) -> Result<LineEditBuffer, AllocError>
+    ensures { IfOk result (λ past. past ≡ past_word editor.now) }
+{
+    let passed = passed_text(alloc, editor, Movement::ForwardWord(1))?;
+    let mut past = editor.try_clone(alloc)?;
+    past.exec_movement(Movement::ForwardWord(1));
+    if passed.as_str().trim_end().is_empty() {
+        past.exec_movement(Movement::ForwardWord(1));
+    }
+    Ok(past)
+}
+
+/// The line in which the word at the cursor, or the next one, and the word before it have changed places, with the
+/// cursor after both. At the end of the line these are the last two words; where there are no two nothing changes.
+/// Words end at whitespace, which stays where it is.
+pub fn with_swapped_words(
+    alloc: Global,
+    editor: &LineEditBuffer,
+) -> Result<LineEditBuffer, AllocError>
+    ensures { IfOk result (λ changed. changed ≡ with_swapped_words editor.now) }
+{
+    let past = past_word(alloc, editor)?;
+    let (head, rest) = past.get_line().split_at(past.get_cursor());
+    let (words, blanks) = split_blanks(head);
+    match swapped_words(alloc, words)? {
+        Some(mut line) => {
+            let cursor = line.as_str().len();
+            line.push_str(blanks)?;
+            line.push_str(rest)?;
+            LineEditBuffer::new(alloc, line.as_str(), cursor)
+        }
+        None => editor.try_clone(alloc),
+    }
+}

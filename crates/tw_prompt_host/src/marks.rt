@@ -1,0 +1,134 @@
+//! The marks of a language.
+
+ghost use Rattle.std.specs.Prelude.{◌≡◌, IfOk};
+ghost use Rattle.tw_prompt_host.specs.Marks.{brackets, closes, common_pairs, escape_pair, escapes, is_closing, opened_pair, quotation};
+
+use std::alloc::{AllocError, Global};
+
+/// What stands between two marks.
+#[derive(Clone, Copy, Debug, PartialEq, Eq)]
+pub enum MarkKind {
+    /// Text with marks of its own.
+    Brackets,
+    /// Text up to the closing mark. After the escape character, if there is one, any character is text.
+    Quotation {
+        /// The escape character.
+        escape: Option<char>,
+    },
+    /// One character, whichever it is: the mark is an escape character.
+    Escape,
+}
+
+/// Two marks that belong together: brackets, or the marks around a quotation.
+#[derive(Clone, Copy, Debug, PartialEq, Eq)]
+pub struct MarkPair {
+    /// The mark that opens.
+    pub opening: char,
+    /// The mark that closes. It may be the same one.
+    pub closing: char,
+    /// What stands between them.
+    pub kind: MarkKind,
+}
+
+impl MarkPair {
+    /// Returns true if a character closes the pair once it is open.
+    pub fn closes(&self, c: char) -> bool
+        ensures { result ≡ closes self.now c }
+    {
+        match self.kind {
+            MarkKind::Escape => true,
+            MarkKind::Brackets | MarkKind::Quotation { .. } => self.closing == c,
+        }
+    }
+}
+
+/// An opening mark in a text.
+#[derive(Clone, Copy, Debug, PartialEq, Eq)]
+pub struct OpenMark {
+    /// Its pair.
+    pub pair: MarkPair,
+    /// The byte offset of the mark.
+    pub at: usize,
+}
+
+/// Returns the pairs of many languages: round, square and curly brackets, and quotations in single or double marks with
+/// a backslash as their escape character.
+pub fn common_pairs(alloc: Global) -> Result<Vec<MarkPair>, AllocError>
+    ensures { IfOk result (λ pairs. pairs.items ≡ common_pairs) }
+{
+    let pairs = vec![in alloc;
+        brackets('(', ')'),
+        brackets('[', ']'),
+        brackets('{', '}'),
+        quotation('"'),
+        quotation('\''),
+    ]?;
+    Ok(pairs)
+}
+
+/// Returns a pair of brackets.
+fn brackets(opening: char, closing: char) -> MarkPair
+    ensures { result ≡ brackets opening closing }
+{
+    MarkPair {
+        opening,
+        closing,
+        kind: MarkKind::Brackets,
+    }
+}
+
+/// Returns a quotation between two marks of one kind, with a backslash as its escape character.
+fn quotation(mark: char) -> MarkPair
+    ensures { result ≡ quotation mark }
+{
+    MarkPair {
+        opening: mark,
+        closing: mark,
+        kind: MarkKind::Quotation { escape: Some('\\') },
+    }
+}
+
+/// Returns the pair that an escape character opens in a quotation.
+pub fn escape_pair(escape: char) -> MarkPair
+    ensures { result ≡ escape_pair escape }
+{
+    MarkPair {
+        opening: escape,
+        closing: escape,
+        kind: MarkKind::Escape,
+    }
+}
+
+/// Returns true if a character is the escape character.
+pub fn escapes(escape: Option<char>, c: char) -> bool
+    ensures { result ≡ escapes escape c }
+{
+    match escape {
+        Some(escape) => escape == c,
+        None => false,
+    }
+}
+
+/// Returns the first pair that a character opens.
+pub fn opened_pair(pairs: &[MarkPair], c: char) -> Option<MarkPair>
+    ensures { result ≡ opened_pair pairs.now c }
+{
+    for pair in pairs {
+        if pair.opening == c {
+            return Some(*pair);
+        }
+    }
+    None
+}
+
+/// Returns true if a character is the closing mark of one of the pairs.
+pub fn is_closing(pairs: &[MarkPair], c: char) -> bool
+    ensures { result ≡ is_closing pairs.now c }
+{
+    for pair in pairs {
+        if pair.closing == c {
+            return true;
+        }
+    }
+    false
+}

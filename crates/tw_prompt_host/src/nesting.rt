@@ -1,0 +1,123 @@
+//! The marks that a text leaves open.
+
+ghost use Rattle.std.specs.Prelude.{◌≡◌, ◌+◌, ◌^◌, ◌<◌, IfOk, length, encode_utf8};
+ghost use Rattle.tw_prompt_host.specs.Nesting.{after_character, after_text, closed_mark, innermost, nesting_of, nesting_view, opens_behind, where_right};
+
+use crate::marks::{MarkKind, MarkPair, OpenMark, escape_pair, escapes, is_closing, opened_pair};
+use std::alloc::{AllocError, Global};
+
+/// The marks that a text leaves open, or its first wrong one.
+#[derive(Debug, Drop)]
+pub enum Nesting {
+    /// The marks that are open at the end of the text, the outermost first. If there are none the text is whole. An escape
+    /// character at the end is open too.
+    Open(Vec<OpenMark>),
+    /// The first mark that closes what is not open, and its byte offset.
+    Wrong(char, usize),
+}
+
+/// Returns the last of the open marks.
+fn innermost(opens: &[OpenMark]) -> Option<OpenMark>
+    ensures { result ≡ innermost opens.now }
+{
+    opens.last().copied()
+}
+
+/// Takes in a character outside of quotations that does not close the innermost open mark. Returns false if it is wrong.
+fn take_opening(
+    pairs: &[MarkPair],
+    opens: &mut Vec<OpenMark>,
+    at: usize,
+    c: char,
+) -> Result<bool, AllocError>
+    ensures { IfOk result (λ right. opens_behind pairs.now opens.old.items at c
+        ≡ where_right right opens.new.items) }
+{
+    match opened_pair(pairs, c) {
+        Some(pair) => {
+            opens.push(OpenMark { pair, at })?;
+            Ok(true)
+        }
+        None => Ok(!is_closing(pairs, c)),
+    }
+}
+
+/// Takes in a character that does not close the innermost open mark. Returns false if it is wrong.
+fn take_text(
+    pairs: &[MarkPair],
+    opens: &mut Vec<OpenMark>,
+    kind: MarkKind,
+    at: usize,
+    c: char,
+) -> Result<bool, AllocError>
+    ensures { IfOk result (λ right. after_text pairs.now kind opens.old.items at c
+        ≡ where_right right opens.new.items) }
+{
+    match kind {
+        MarkKind::Brackets => take_opening(pairs, opens, at, c),
+        MarkKind::Quotation { escape } => {
+            if escapes(escape, c) {
+                opens.push(OpenMark {
+                    pair: escape_pair(c),
+                    at,
+                })?;
+            }
+            Ok(true)
+        }
+        MarkKind::Escape => Ok(true),
+    }
+}
+
+/// Takes in one more character. Returns false if it is wrong.
+fn take_in(
+    pairs: &[MarkPair],
+    opens: &mut Vec<OpenMark>,
+    at: usize,
+    c: char,
+) -> Result<bool, AllocError>
+    ensures { IfOk result (λ right. after_character pairs.now opens.old.items at c
+        ≡ where_right right opens.new.items) }
+{
+    let Some(last) = innermost(opens.as_slice()) else {
+        return take_opening(pairs, opens, at, c);
+    };
+    if last.pair.closes(c) {
+        opens.pop();
+        return Ok(true);
+    }
+    take_text(pairs, opens, last.pair.kind, at, c)
+}
+
+/// Returns the marks that a text leaves open, or its first wrong mark. If two pairs have one opening mark the first of
+/// them counts. A mark that closes the innermost open one does nothing else.
+pub fn nesting_in(alloc: Global, pairs: &[MarkPair], text: &str) -> Result<Nesting, AllocError>
+    ensures { IfOk result (λ nesting. nesting_view nesting ≡ nesting_of pairs.now text.now) }
+{
+    let mut opens = Vec::new(alloc);
+    let mut at = 0;
+    for c in text.chars() {
+        if !take_in(pairs, &mut opens, at, c)? {
+            return Ok(Nesting::Wrong(c, at));
+        }
+        at += c.len_utf8();
+    }
+    Ok(Nesting::Open(opens))
+}
+
+/// Returns the mark that a character closes behind a text, if it closes one.
+pub fn closed_mark(
+    alloc: Global,
+    pairs: &[MarkPair],
+    text: &str,
+    c: char,
+) -> Result<Option<OpenMark>, AllocError>
+    ensures { IfOk result (λ mark. mark ≡ closed_mark pairs.now text.now c) }
+{
+    let Nesting::Open(opens) = nesting_in(alloc, pairs, text)? else {
+        return Ok(None);
+    };
+    match innermost(&opens) {
+        Some(open) if open.pair.closes(c) => Ok(Some(open)),
+        _ => Ok(None),
+    }
+}

@@ -1,4 +1,0 @@
-pub mod Rests
-pub mod SentReadings
-pub mod SentRuns
-pub mod SizedReadings

@@ -1,3 +1,0 @@
-pub mod WordEdits
-pub mod WordSwaps
-pub mod LetterWords
