@@ -5,12 +5,12 @@ use Rattle.std.proofs.lemmas.Bool.{cases_eq, cases_lt, eq-eqb, ne_eqb, le-leb, l
 use Rattle.std.proofs.lemmas.Bool.Decides.{nat_tests}
 use Rattle.std.proofs.lemmas.List.{get_or-set_same, get_or-set_other}
 use Rattle.std.proofs.lemmas.Nat.{mul-le}
-use Rattle.tw_strokes.specs.Strokes.{put_in}
-use Rattle.tw_strokes.proofs.LineOfCells.{same_cell, next_row, behind_cell, below_row}
+use Rattle.laws_screens.specs.Strokes.{put_in}
+use Rattle.laws_screens.proofs.LineOfCells.{same_cell, next_row, behind_cell, below_row}
 use Rattle.tw_surface.specs.Defaults.{default_color}
-use Rattle.tw_screens.specs.StyledCells.{StyledCell}
-use Rattle.styled_screen.specs.declared.cell.ScreenCell.{ScreenCell}
-use Rattle.styled_screen.specs.StyledScreens.{styled_cell, paper_cell}
+use Rattle.laws_screens.specs.StyledCells.{StyledCell}
+use Rattle.tw_changed.specs.declared.cell.ScreenCell.{ScreenCell}
+use Rattle.tw_changed.specs.StyledScreens.{styled_cell, paper_cell}
 use Rattle.ecma_terminal.specs.Grids.{Redraws, ShowsCells, AreFilled, AreShifted, raised_rows}
 
 -- ---- lists of cells

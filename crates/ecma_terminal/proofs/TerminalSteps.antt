@@ -3,8 +3,8 @@ use Rattle.std.proofs.Common.{◌≡◌, ℕ, ◌+◌, ◌-◌, ◌<◌, ◌≤�
 use Rattle.std.specs.List.{list_all}
 use Rattle.std.proofs.lemmas.Bool.{cases_eq, cases_lt, ne_eqb}
 use Rattle.std.proofs.lemmas.List.{take_more, take_all}
-use Rattle.tw_strokes.specs.Strokes.{cleared_in}
-use Rattle.tw_screens.specs.StyledCells.{StyledCell, styled}
+use Rattle.laws_screens.specs.Strokes.{cleared_in}
+use Rattle.laws_screens.specs.StyledCells.{StyledCell, styled}
 use Rattle.tw_ansi.specs.KeyBytes.{is_digit, is_parameter, most, value_after}
 use Rattle.tw_ansi.specs.Selections.{selected}
 use Rattle.tw_ansi.specs.EcmaScreen.{EcmaScreen, act, act_by, feed_line, receive, receive_all, receive_by, return_to_start, row_cleared, told_steps, write, write_here}

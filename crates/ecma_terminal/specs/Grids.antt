@@ -1,9 +1,9 @@
 -- The cells that a terminal holds.
 use Rattle.std.specs.Prelude.{ℕ, ◌≡◌, ◌+◌, ◌*◌, ◌<◌, ◌≤◌, ◌&&◌, leb, ltb, if◌then◌else◌, List, length, slice_index_or}
 use Rattle.tw_surface.specs.Defaults.{default_color}
-use Rattle.tw_screens.specs.StyledCells.{StyledCell}
-use Rattle.styled_screen.specs.declared.cell.ScreenCell.{ScreenCell}
-use Rattle.styled_screen.specs.StyledScreens.{styled_cell, paper_cell}
+use Rattle.laws_screens.specs.StyledCells.{StyledCell}
+use Rattle.tw_changed.specs.declared.cell.ScreenCell.{ScreenCell}
+use Rattle.tw_changed.specs.StyledScreens.{styled_cell, paper_cell}
 
 -- its rows and columns, and its cells, row after row
 pub record GridView : Type 0 where

@@ -2,7 +2,7 @@
 use Rattle.std.specs.Prelude.{ℕ, ◌≡◌, ◌<◌, ◌≤◌, ◌&&◌, ◌⊎◌, not, if◌then◌else◌, Bool, true, false, List, ◌∷◌, ◌++◌}
 use Rattle.tw_surface.specs.declared.cell.CellAttributes.{CellAttributes}
 use Rattle.tw_surface.specs.Defaults.{default_attributes}
-use Rattle.tw_screens.specs.StyledCells.{StyledCell, styled}
+use Rattle.laws_screens.specs.StyledCells.{StyledCell, styled}
 use Rattle.tw_ansi.specs.EcmaScreen.{EcmaScreen, Reading, Text, Escaped, Parameters, receive_all, feed_line, return_to_start}
 use Rattle.tw_ansi.specs.KeyBytes.{is_parameter}
 use Rattle.ecma_terminal.specs.declared.fault.EcmaFault.{EcmaFault}

@@ -1,14 +1,14 @@
 //! The cells of a terminal.
 
 ghost use Rattle.std.specs.Prelude.{◌≡◌, ◌<◌, ◌≤◌, None, Some, length, IfOk};
-ghost use Rattle.tw_strokes.specs.Strokes.{put_in, cleared_in};
+ghost use Rattle.laws_screens.specs.Strokes.{put_in, cleared_in};
 ghost use Rattle.tw_ansi.specs.EcmaScreen.{row_cleared};
-ghost use Rattle.styled_screen.specs.StyledScreens.{styled_cell};
+ghost use Rattle.tw_changed.specs.StyledScreens.{styled_cell};
 ghost use Rattle.ecma_terminal.specs.Grids.{AreFilled, AreShifted, IsFilledWith, Redraws, grid_cell, raised_rows};
 
 use std::alloc::{AllocError, Global};
 use std::marker::Model;
-use styled_screen::ScreenCell;
+use tw_changed::ScreenCell;
 
 /// The cells of some rows and columns, one row after the other. Both are numbered from 0.
 #[derive(Debug, Drop)]
@@ -25,7 +25,8 @@ impl Model for Grid {
 
     ghost view = { λ s. record { rows = s.rows; cols = s.cols; cells = s.cells.items } };
 
-    ghost invariant = { λ s. IsGrid (record { rows = s.rows; cols = s.cols; cells = s.cells.items }) };
+    ghost invariant = { λ s. IsGrid
+        (record { rows = s.rows; cols = s.cols; cells = s.cells.items }) };
 }
 
 /// Makes the cells from one place to before another all the same.
@@ -90,7 +91,8 @@ impl Grid {
 
     /// The cell at a row and a column, or none after the last ones.
     pub(crate) fn cell(&self, row: usize, col: usize) -> Option<ScreenCell>
-        ensures inside { row < self.now.rows → col < self.now.cols → result ≡ Some (grid_cell self.now row col) }
+        ensures inside { row < self.now.rows → col < self.now.cols → result
+            ≡ Some (grid_cell self.now row col) }
         ensures below { self.now.rows ≤ row → result ≡ None }
         ensures behind { self.now.cols ≤ col → result ≡ None }
     {
@@ -130,7 +132,8 @@ impl Grid {
     pub(crate) fn clear_behind(&mut self, row: usize, col: usize, paper: ScreenCell)
         requires row { row < self.old.rows }
         requires col { col < self.old.cols }
-        ensures { Redraws self.old (λ cells. cleared_in cells row col (styled_cell paper)) self.new }
+        ensures { Redraws self.old (λ cells. cleared_in cells row col
+            (styled_cell paper)) self.new }
     {
         let end = self.cells.len();
         fill(self.cells.as_mut_slice(), row * self.cols + col, end, paper);
@@ -140,7 +143,8 @@ impl Grid {
     pub(crate) fn clear_row(&mut self, row: usize, col: usize, paper: ScreenCell)
         requires row { row < self.old.rows }
         requires col { col < self.old.cols }
-        ensures { Redraws self.old (λ cells. row_cleared cells row col (styled_cell paper)) self.new }
+        ensures { Redraws self.old (λ cells. row_cleared cells row col
+            (styled_cell paper)) self.new }
     {
         let start = row * self.cols;
         fill(

@@ -18,7 +18,8 @@ pub(crate) fn number_of(digits: &[u8]) -> u32
 
 /// The number that digits write, or none where it is above 255.
 pub(crate) fn byte_of(digits: &[u8]) -> Option<u8>
-    ensures { result ≡ (if ltb (value_after 0 digits.now) 256 then Some (value_after 0 digits.now) else None) }
+    ensures { let value = value_after 0 digits.now in
+        result ≡ (if ltb value 256 then Some value else None) }
 {
     let number = number_of(digits);
     if number < 256 {

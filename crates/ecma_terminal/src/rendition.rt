@@ -68,7 +68,10 @@ impl Selection {
 
     /// These attributes, and a colour is awaited of which these numbers were read.
     fn awaiting(attributes: CellAttributes, ground: Ground, numbers: Numbers) -> Self
-        ensures { selection_of result ≡ record { attributes = attributes; awaited = Color (kind_of ground) (numbers_in numbers) } }
+        ensures { selection_of result ≡ record {
+          attributes = attributes;
+          awaited = Color (kind_of ground) (numbers_in numbers);
+        } }
     {
         Selection {
             attributes,
@@ -102,7 +105,8 @@ fn semicolon_at(bytes: &[u8]) -> usize
 /// The first of some parameters, and those after its semicolon, if there is one.
 fn first_field(parameters: &[u8]) -> (&[u8], Option<&[u8]>)
     ensures { MatchOption result.1 (fields parameters.now ≡ result.0.now ∷ [])
-        (λ more. (fields parameters.now ≡ result.0.now ∷ fields more.now) × (length more.now < length parameters.now)) }
+        (λ more. (fields parameters.now ≡ result.0.now ∷ fields more.now)
+        × (length more.now < length parameters.now)) }
 {
     let (field, rest) = parameters.split_at(semicolon_at(parameters));
     match rest.split_first() {
@@ -210,7 +214,8 @@ fn begun(field: &[u8], attributes: CellAttributes) -> Selection
 
 /// One more number of a colour.
 fn colored(ground: Ground, numbers: Numbers, next: u8, attributes: CellAttributes) -> Selection
-    ensures { selection_of result ≡ colored (kind_of ground) (numbers_in numbers ++ next ∷ []) attributes }
+    ensures { selection_of result ≡ colored (kind_of ground)
+        (numbers_in numbers ++ next ∷ []) attributes }
 {
     match numbers {
         Numbers::None => Selection::awaiting(attributes, ground, Numbers::One(next)),
@@ -231,8 +236,10 @@ fn colored(ground: Ground, numbers: Numbers, next: u8, attributes: CellAttribute
 
 /// One more parameter, or none where it is a number of a colour above 255.
 fn select(selection: Selection, field: &[u8]) -> Option<Selection>
-    ensures { let s = selection_of selection in MatchOption result (fits_awaited s.awaited field.now ≡ false)
-        (λ next. (fits_awaited s.awaited field.now ≡ true) × (selection_of next ≡ select s.awaited field.now s.attributes)) }
+    ensures { let s = selection_of selection in
+        MatchOption result (fits_awaited s.awaited field.now ≡ false)
+        (λ next. (fits_awaited s.awaited field.now ≡ true)
+        × (selection_of next ≡ select s.awaited field.now s.attributes)) }
 {
     match selection.awaited {
         Awaited::Nothing => Some(begun(field, selection.attributes)),

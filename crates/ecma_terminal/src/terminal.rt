@@ -1,12 +1,12 @@
 //! The terminal.
 
 ghost use Rattle.std.specs.Prelude.{◌≡◌, ◌<◌, ◌≤◌, ◌↔◌, ◌⊎◌, true, false, None, Some, Ok, Err, IfOk, IfErr, OnOk, OnErr};
-ghost use Rattle.tw_screens.specs.Screens.{blank_of};
-ghost use Rattle.tw_screens.specs.StyledCells.{styled};
+ghost use Rattle.laws_screens.specs.Screens.{blank_of};
+ghost use Rattle.laws_screens.specs.StyledCells.{styled};
 ghost use Rattle.tw_ansi.specs.EcmaScreen.{act, act_by, feed_line, receive, receive_all, receive_text, return_to_start, step_back, told_steps, write, write_here};
 ghost use Rattle.tw_ansi.specs.EcmaScreen as terminal;
 ghost use Rattle.tw_ansi.specs.KeyBytes.{is_parameter};
-ghost use Rattle.styled_screen.specs.StyledScreens.{styled_cell};
+ghost use Rattle.tw_changed.specs.StyledScreens.{styled_cell};
 ghost use Rattle.ecma_terminal.specs.Grids.{grid_cell};
 ghost use Rattle.ecma_terminal.specs.Colors.{ends_in_large};
 ghost use Rattle.ecma_terminal.specs.Terminals.{Becomes, HasNoSize, IsNew, IsRefusedFor, StopsWithin, is_too_large, takes_memory, wrapped};
@@ -18,7 +18,7 @@ use crate::rendition::selected;
 use std::alloc::Global;
 use std::marker::Model;
 use std::mem;
-use styled_screen::ScreenCell;
+use tw_changed::ScreenCell;
 use tw_surface::{CellAttributes, ColorAttribute};
 
 /// The greatest number of rows, and of columns.
@@ -61,7 +61,8 @@ impl Model for EcmaTerminal {
 
     ghost view = { λ s. record { grid = s.grid; row = s.row; col = s.col; waits = s.waits; attributes = s.attributes; reading = reading_of s.reading } };
 
-    ghost invariant = { λ s. IsTerminal (record { grid = s.grid; row = s.row; col = s.col; waits = s.waits; attributes = s.attributes; reading = reading_of s.reading }) };
+    ghost invariant = { λ s. IsTerminal
+        (record { grid = s.grid; row = s.row; col = s.col; waits = s.waits; attributes = s.attributes; reading = reading_of s.reading }) };
 }
 
 /// A number of steps: none written means one.
@@ -109,7 +110,8 @@ impl EcmaTerminal {
 
     /// What stands at a row and a column, or none after the last ones.
     pub fn cell(&self, row: usize, col: usize) -> Option<ScreenCell>
-        ensures inside { row < self.now.grid.rows → col < self.now.grid.cols → result ≡ Some (grid_cell self.now.grid row col) }
+        ensures inside { row < self.now.grid.rows → col < self.now.grid.cols → result
+            ≡ Some (grid_cell self.now.grid row col) }
         ensures below { self.now.grid.rows ≤ row → result ≡ None }
         ensures behind { self.now.grid.cols ≤ col → result ≡ None }
     {
@@ -193,7 +195,8 @@ impl EcmaTerminal {
     /// Writes a character at the cursor, or at the start of the next row where the cursor waits.
     fn write(&mut self, character: char)
         ensures { let cell = styled.ink self.old.attributes character in
-            Becomes self.old (write (blank_of styled) self.old.grid.rows self.old.grid.cols cell) self.new }
+            Becomes self.old (write (blank_of styled) self.old.grid.rows self.old.grid.cols cell)
+            self.new }
     {
         let cell = ScreenCell {
             character,
@@ -206,7 +209,8 @@ impl EcmaTerminal {
     /// Does what a sequence of one number does.
     fn act_by(&mut self, number: usize, letter: u8)
         requires { number ≤ 4294967295 }
-        ensures { Becomes self.old (act_by styled self.old.grid.rows self.old.grid.cols number letter) self.new }
+        ensures { Becomes self.old
+            (act_by styled self.old.grid.rows self.old.grid.cols number letter) self.new }
     {
         let paper = ScreenCell::blank(self.attributes.background);
         let (row, col) = self.cursor();
@@ -231,7 +235,8 @@ impl EcmaTerminal {
     fn lead_to(&mut self, row: usize, col: usize)
         requires row { row < self.old.grid.rows }
         requires col { col < self.old.grid.cols }
-        ensures { Becomes self.old (λ t. record t { row = row; col = col; waits = false }) self.new }
+        ensures { Becomes self.old (λ t. record t { row = row; col = col; waits = false })
+            self.new }
     {
         self.row = row;
         self.col = col;
@@ -240,11 +245,15 @@ impl EcmaTerminal {
 
     /// Does what a sequence does.
     fn act(&mut self, parameters: &[u8], letter: u8) -> Result<(), EcmaFault>
-        ensures ok { OnOk result (Becomes self.old (act styled self.old.grid.rows self.old.grid.cols parameters.now letter) self.new) }
+        ensures ok { OnOk result (Becomes self.old
+            (act styled self.old.grid.rows self.old.grid.cols parameters.now letter) self.new) }
         ensures err { OnErr result (self.new ≡ self.old) }
-        ensures cause { IfErr result (λ fault. (fault ≡ EcmaFault.Color) × (ends_in_large parameters.now letter self.old.attributes ≡ true)) }
-        ensures large { ends_in_large parameters.now letter self.old.attributes ≡ true → result ≡ Err EcmaFault.Color }
-        ensures sure { ends_in_large parameters.now letter self.old.attributes ≡ false → result ≡ Ok tt }
+        ensures cause { IfErr result (λ fault. (fault ≡ EcmaFault.Color)
+            × (ends_in_large parameters.now letter self.old.attributes ≡ true)) }
+        ensures large { ends_in_large parameters.now letter self.old.attributes ≡ true → result
+            ≡ Err EcmaFault.Color }
+        ensures sure { ends_in_large parameters.now letter self.old.attributes ≡ false
+            → result ≡ Ok tt }
     {
         let before = self.attributes;
         if letter == b'm' {
@@ -260,7 +269,8 @@ impl EcmaTerminal {
 
     /// Receives a byte outside a sequence.
     fn receive_text(&mut self, byte: u8)
-        ensures { Becomes self.old (receive_text styled self.old.grid.rows self.old.grid.cols byte) self.new }
+        ensures { Becomes self.old (receive_text styled self.old.grid.rows self.old.grid.cols byte)
+            self.new }
     {
         match byte {
             ESC => self.reading = Reading::Escaped,
@@ -276,12 +286,17 @@ impl EcmaTerminal {
     fn receive_behind(&mut self, mut parameters: Vec<u8>, byte: u8) -> Result<(), EcmaFault>
         requires { self.old.reading ≡ terminal.Text }
         ensures ok { let before = record self.old { reading = terminal.Parameters parameters.items } in
-            OnOk result (Becomes before (receive styled self.old.grid.rows self.old.grid.cols byte) self.new) }
-        ensures err { OnErr result (self.new ≡ record self.old { reading = terminal.Parameters parameters.items }) }
+            OnOk result (Becomes before
+            (receive styled self.old.grid.rows self.old.grid.cols byte) self.new) }
+        ensures err { OnErr result (self.new
+            ≡ record self.old { reading = terminal.Parameters parameters.items }) }
         ensures cause { let before = record self.old { reading = terminal.Parameters parameters.items } in
             IfErr result (λ fault. IsRefusedFor fault before byte) }
-        ensures large { is_parameter byte ≡ false → ends_in_large parameters.items byte self.old.attributes ≡ true → result ≡ Err EcmaFault.Color }
-        ensures sure { is_parameter byte ≡ false → ends_in_large parameters.items byte self.old.attributes ≡ false → result ≡ Ok tt }
+        ensures large { is_parameter byte ≡ false
+            → ends_in_large parameters.items byte self.old.attributes ≡ true → result
+            ≡ Err EcmaFault.Color }
+        ensures sure { is_parameter byte ≡ false
+            → ends_in_large parameters.items byte self.old.attributes ≡ false → result ≡ Ok tt }
     {
         if (b' '..=b'?').contains(&byte) {
             let pushed = parameters.push(byte);
@@ -301,11 +316,13 @@ impl EcmaTerminal {
     /// Receives a byte. It takes memory for a parameter alone, and a byte is refused for a colour where it ends an SGR
     /// sequence in which a number of a colour is above 255. One that is refused leaves the terminal as it was.
     pub fn receive(&mut self, byte: u8) -> Result<(), EcmaFault>
-        ensures ok { OnOk result (Becomes self.old (receive styled self.old.grid.rows self.old.grid.cols byte) self.new) }
+        ensures ok { OnOk result (Becomes self.old
+            (receive styled self.old.grid.rows self.old.grid.cols byte) self.new) }
         ensures err { OnErr result (self.new ≡ self.old) }
         ensures cause { IfErr result (λ fault. IsRefusedFor fault self.old byte) }
         ensures large { is_too_large self.old byte ≡ true → result ≡ Err EcmaFault.Color }
-        ensures sure { takes_memory self.old byte ≡ false → is_too_large self.old byte ≡ false → result ≡ Ok tt }
+        ensures sure { takes_memory self.old byte ≡ false → is_too_large self.old byte ≡ false
+            → result ≡ Ok tt }
     {
         match mem::replace(&mut self.reading, Reading::Text) {
             Reading::Text => self.receive_text(byte),
@@ -321,7 +338,8 @@ impl EcmaTerminal {
 
     /// Receives bytes, one after the other. Where one is refused those before it were received, and no more.
     pub fn receive_all(&mut self, bytes: &[u8]) -> Result<(), EcmaFault>
-        ensures ok { OnOk result (Becomes self.old (receive_all styled self.old.grid.rows self.old.grid.cols bytes.now) self.new) }
+        ensures ok { OnOk result (Becomes self.old
+            (receive_all styled self.old.grid.rows self.old.grid.cols bytes.now) self.new) }
         ensures err { IfErr result (λ fault. StopsWithin fault bytes.now self.old self.new) }
     {
         for byte in bytes {

@@ -4,12 +4,12 @@ use Rattle.tw_line.specs.Cut.{Cut}
 use Rattle.tw_host.specs.ActionView.{ActionView, AcceptLine, Cancel, EndOfFile, InsertChar, InsertText, Repaint, Move, Kill, KillAndMove, HistoryPrevious, HistoryNext, Complete, NoAction, HistoryIncSearchBackwards, HistoryIncSearchForwards}
 use Rattle.tw_host.specs.CandidateView.{CandidateView, completed_by}
 use Rattle.tw_host.specs.HostRules.{HostRules}
-use Rattle.tw_history.specs.NearestMatch.{MatchView, last_index}
-use Rattle.tw_history.specs.declared.history.SearchStyle.{SearchStyle}
-use Rattle.tw_history.specs.declared.history.SearchDirection.{SearchDirection}
-use Rattle.tw_history.specs.declared.history.SearchDirection.TheVariants.{Backwards, Forwards}
-use Rattle.tw_painter.specs.EditState.{EditState, ModeView, CycleView, Inactive, Editing, Cancelled, Accepted, Searching}
-use Rattle.tw_painter.specs.Refusal.{Refusal}
+use Rattle.tw_line.specs.NearestMatch.{MatchView, last_index}
+use Rattle.tw_line.specs.declared.history.SearchStyle.{SearchStyle}
+use Rattle.tw_line.specs.declared.history.SearchDirection.{SearchDirection}
+use Rattle.tw_line.specs.declared.history.SearchDirection.TheVariants.{Backwards, Forwards}
+use Rattle.tw_session.specs.EditState.{EditState, ModeView, CycleView, Inactive, Editing, Cancelled, Accepted, Searching}
+use Rattle.tw_session.specs.Refusal.{Refusal}
 use Rattle.tw_session.specs.Completion.{with_completion, with_candidate, completed_from, completion_step}
 use Rattle.tw_session.specs.Walk.{with_line_if, previous_of_typed, previous_from, previous_step, with_line_or_typed, next_from, next_step}
 use Rattle.tw_session.specs.Search.{search_left_in, search_left, shown_match, searched_again_in, searched_again, search_step_from, search_step_in, search_step}

@@ -6,8 +6,8 @@ use Rattle.std.proofs.lemmas.Int.{ints}
 use Rattle.std.proofs.lemmas.List.{map-append}
 use Rattle.std.proofs.lemmas.List.Folds.{list_all-append}
 use Rattle.std.proofs.Math.Nat.{mul-add-mod_self_right, mul-add-div_right}
-use Rattle.tw_strokes.specs.Strokes.{PictureOf}
-use Rattle.tw_strokes.specs.Sheets.{IsFreshSheet, AreLinesShown, IsTextShown, rows_of_line}
+use Rattle.laws_screens.specs.Strokes.{PictureOf}
+use Rattle.laws_screens.specs.Sheets.{IsFreshSheet, AreLinesShown, IsTextShown, rows_of_line}
 use Rattle.tw_surface.specs.ChangeView.{Batch}
 use Rattle.tw_surface.specs.ChangeView.{Attribute, AllAttributes, Text, ClearScreen, ClearToEndOfScreen, CursorPosition}
 use Rattle.tw_surface.specs.Characters.{is_printable, cr, lf}
@@ -18,12 +18,12 @@ use Rattle.tw_surface.specs.Paintings.{before_line, edge_space, lower_changes}
 use Rattle.tw_surface.specs.Pictures.{blank}
 use Rattle.tw_surface.specs.Places.{Place, origin, place_after_all}
 use Rattle.tw_surface.specs.Scenes.{Scene, IsPlain, is_typing, typed_text}
-use Rattle.tw_screens.specs.Pens.{Pen, letters_of, letter_cell, lines_of_letters}
-use Rattle.tw_screens.specs.SceneSheets.{sheet_of, edge_letters}
-use Rattle.tw_screens.specs.StyledCells.{characters}
-use Rattle.tw_screens.proofs.DrawnChanges.{lines-chars, chars-typed}
-use Rattle.tw_screens.proofs.PlainScenes.{plain_is_simple}
-use Rattle.tw_screens.proofs.PlainTexts.{one_line}
+use Rattle.laws_screens.specs.Pens.{Pen, letters_of, letter_cell, lines_of_letters}
+use Rattle.laws_screens.specs.SceneSheets.{sheet_of, edge_letters}
+use Rattle.laws_screens.specs.StyledCells.{characters}
+use Rattle.laws_screens.proofs.DrawnChanges.{lines-chars, chars-typed}
+use Rattle.laws_screens.proofs.PlainScenes.{plain_is_simple}
+use Rattle.laws_screens.proofs.PlainTexts.{one_line}
 use Rattle.laws_prompt.specs.Rows.{is_row_character, rows_of_text, rows_down, column_after, spread}
 use Rattle.laws_prompt.specs.RowScenes.{place_behind, folded}
 use Rattle.laws_prompt.specs.RowStations.{IsRowStation, simple_at}

@@ -4,7 +4,7 @@ use Rattle.std.specs.List.{list_all, sum_by}
 use Rattle.std.proofs.lemmas.Bool.{and_parts, and_from, false≢true, cases_eq, eq-eqb, ne_eqb, le-leb}
 use Rattle.std.proofs.lemmas.List.Folds.{list_all-append}
 use Rattle.std.proofs.lemmas.List.Sums.{sum_by-cons}
-use Rattle.tw_strokes.specs.Sheets.{rows_of_line, sheet_last_row}
+use Rattle.laws_screens.specs.Sheets.{rows_of_line, sheet_last_row}
 use Rattle.tw_surface.specs.ChangeView.{Batch}
 use Rattle.tw_surface.specs.ChangeView.{Attribute, AllAttributes, Text, ClearScreen, ClearToEndOfScreen, CursorPosition}
 use Rattle.tw_surface.specs.Characters.{is_printable, cr, lf}
@@ -16,11 +16,11 @@ use Rattle.tw_surface.specs.Places.{Place, origin, end_of_pieces, pieces, place_
 use Rattle.tw_surface.specs.Scenes.{Scene, typed_text}
 use Rattle.tw_surface.specs.Scenes.Lower.{NoLower}
 use Rattle.tw_surface.specs.Simple.{spelled_scene}
-use Rattle.tw_screens.specs.Pens.{letter_cell}
-use Rattle.tw_screens.specs.SceneSheets.{sheet_of, lower_letters}
-use Rattle.tw_screens.specs.StyledCells.{characters}
-use Rattle.tw_screens.proofs.PlainScenes.{plain_is_simple}
-use Rattle.tw_screens.proofs.PlainTexts.{one_line}
+use Rattle.laws_screens.specs.Pens.{letter_cell}
+use Rattle.laws_screens.specs.SceneSheets.{sheet_of, lower_letters}
+use Rattle.laws_screens.specs.StyledCells.{characters}
+use Rattle.laws_screens.proofs.PlainScenes.{plain_is_simple}
+use Rattle.laws_screens.proofs.PlainTexts.{one_line}
 use Rattle.laws_prompt.specs.Rows.{is_row_character, rows_of_text, rows_taken, rows_down, row_edge, spread, columns_behind}
 use Rattle.laws_prompt.specs.RowScenes.{place_behind, folded}
 use Rattle.laws_prompt.specs.PlainRows.{is_row_typing, has_pair, first_row, other_rows, HasPlainRows}

@@ -2,19 +2,19 @@
 use Rattle.std.proofs.Common.{◌≡◌, ℕ, ◌+◌, Option, List, [], ◌∷◌, ◌++◌, map, refl, ap, sym, subst, ◌∙◌}
 use Rattle.std.specs.List.{All, AllByRecursion}
 use Rattle.std.proofs.lemmas.List.{map-append}
-use Rattle.tw_strokes.specs.Strokes.{PictureOf, resized}
-use Rattle.tw_strokes.specs.Sheets.{IsFreshSheet, sheet_last_row}
-use Rattle.tw_strokes.specs.Paintings.{IsClosedSheet, top_row}
+use Rattle.laws_screens.specs.Strokes.{PictureOf, resized}
+use Rattle.laws_screens.specs.Sheets.{IsFreshSheet, sheet_last_row}
+use Rattle.laws_screens.specs.Paintings.{IsClosedSheet, top_row}
 use Rattle.tw_surface.specs.PaintingBatches.{SizedScene}
 use Rattle.tw_surface.specs.Pictures.{blank}
-use Rattle.tw_screens.specs.SceneSheets.{painting_of}
-use Rattle.tw_screens.specs.Screens.{HasRoom}
-use Rattle.tw_screens.specs.StyledCells.{characters}
+use Rattle.laws_screens.specs.SceneSheets.{painting_of}
+use Rattle.laws_screens.specs.Screens.{HasRoom}
+use Rattle.laws_screens.specs.StyledCells.{characters}
 use Rattle.tw_host.specs.HostRules.{HostRules}
 use Rattle.tw_lineedit.specs.Frame.{Frame}
 use Rattle.tw_lineedit.specs.ScreenRuns.{sized_scene}
 use Rattle.tw_lineedit.specs.Stations.{Station}
-use Rattle.tw_screen_runs.specs.DrawnRuns.{play_stations, closed_by}
+use Rattle.laws_runs.specs.DrawnRuns.{play_stations, closed_by}
 use Rattle.laws_prompt.specs.RowStations.{IsRowStation, simple_at, simple_all}
 use Rattle.laws_prompt.specs.RowRuns.{AreRowStations, simple_stations, ComesWithRows}
 use Rattle.laws_prompt.specs.LineRuns.{ShowsSomeLine, plain_station, line_stations, ComesToLine, LinesStandInRows, LinesCloseBelow}

@@ -7,8 +7,8 @@ use Rattle.tw_line.specs.Cut.{Cut}
 use Rattle.tw_host.specs.ActionView.{ActionView, AcceptLine, Cancel, EndOfFile, InsertChar, InsertText, Repaint, Move, Kill, KillAndMove, HistoryPrevious, HistoryNext, Complete, NoAction, HistoryIncSearchBackwards, HistoryIncSearchForwards}
 use Rattle.tw_host.specs.CandidateView.{CandidateView, completed_by}
 use Rattle.tw_host.specs.HostRules.{HostRules}
-use Rattle.tw_painter.specs.EditState.{EditState, ModeView, CycleView, Inactive, Editing, Cancelled, Accepted, Searching}
-use Rattle.tw_painter.specs.Refusal.{Refusal}
+use Rattle.tw_session.specs.EditState.{EditState, ModeView, CycleView, Inactive, Editing, Cancelled, Accepted, Searching}
+use Rattle.tw_session.specs.Refusal.{Refusal}
 use Rattle.tw_session.specs.Completion.{with_completion, with_candidate, cycle_of, next_in, completed_from, completion_step}
 use Rattle.tw_session.specs.Outcomes.{is_over}
 use Rattle.tw_session.specs.Search.{search_left_in, search_left}

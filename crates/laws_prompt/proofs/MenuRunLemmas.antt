@@ -12,9 +12,9 @@ use Rattle.tw_host.specs.ActionView.{ActionView, AcceptLine, Cancel, EndOfFile, 
 use Rattle.tw_host.specs.CandidateView.{CandidateView}
 use Rattle.tw_host.specs.HostRules.{HostRules, Resolution, or_default}
 use Rattle.tw_host.specs.KeyTable.{action_of}
-use Rattle.tw_painter.specs.EditState.{EditState}
-use Rattle.tw_painter.specs.Painting.{Rendering}
-use Rattle.tw_painter.specs.Refusal.{Refusal}
+use Rattle.tw_session.specs.EditState.{EditState}
+use Rattle.tw_session.specs.Painting.{Rendering}
+use Rattle.tw_session.specs.Refusal.{Refusal}
 use Rattle.tw_session.specs.Outcomes.{is_over, answer_at}
 use Rattle.tw_session.specs.Steps.{apply, apply_if}
 use Rattle.tw_lineedit.specs.Frame.{Frame}

@@ -4,8 +4,8 @@ use Rattle.std.specs.List.{list_all}
 use Rattle.std.proofs.lemmas.Bool.{and_parts, and_from, false≢true}
 use Rattle.std.proofs.lemmas.List.{map-append}
 use Rattle.std.proofs.lemmas.List.Folds.{list_all-append}
-use Rattle.tw_strokes.specs.Strokes.{Stroke}
-use Rattle.tw_strokes.specs.Strokes.Stroke.{Return, Feed}
+use Rattle.laws_screens.specs.Strokes.{Stroke}
+use Rattle.laws_screens.specs.Strokes.Stroke.{Return, Feed}
 use Rattle.tw_surface.specs.ChangeView.{Batch}
 use Rattle.tw_surface.specs.ChangeView.{Attribute, AllAttributes, Text, ClearScreen, ClearToEndOfScreen, CursorPosition}
 use Rattle.tw_surface.specs.Characters.{is_plain, is_printable, cr, lf}
@@ -17,9 +17,9 @@ use Rattle.tw_surface.specs.Places.{Place, origin}
 use Rattle.tw_surface.specs.Scenes.{Scene, Lower, IsPlain, IsPlainLower, is_text, is_typing, typed_text}
 use Rattle.tw_surface.specs.Scenes.Lower.{NoLower, Preview, Search}
 use Rattle.tw_surface.specs.Simple.{spelled_all, AreCounted}
-use Rattle.tw_screens.specs.Pens.{Pen, kept_after_all, char_stroke, strokes_of}
-use Rattle.tw_screens.proofs.PlainScenes.{plain_chars, plain_is_simple}
-use Rattle.tw_screens.proofs.PlainTexts.{text_of_lines-lines}
+use Rattle.laws_screens.specs.Pens.{Pen, kept_after_all, char_stroke, strokes_of}
+use Rattle.laws_screens.proofs.PlainScenes.{plain_chars, plain_is_simple}
+use Rattle.laws_screens.proofs.PlainTexts.{text_of_lines-lines}
 use Rattle.laws_prompt.specs.RowScenes.{place_behind, folded}
 use Rattle.laws_prompt.specs.PlainRows.{is_row_typing, has_pair, first_in, first_row, others_in, other_rows, HasPlainRows, PlainRowsAreRows}
 use Rattle.laws_prompt.proofs.RowTexts.{some_lines, are_rows, rows_plain, printable_rows, joined_rows, broken_rows, rows_after}

@@ -1,27 +1,27 @@
 -- What a reading with rows has written leaves a terminal as its run leaves a picture.
 use Rattle.std.proofs.Common.{ℕ, Some, Option, false, List, [], ◌∷◌, ◌++◌, map, ap, subst, ◌∙◌, sym, append_assoc}
 use Rattle.std.proofs.lemmas.List.Elements.{All-nil}
-use Rattle.tw_strokes.specs.Strokes.{PictureOf}
+use Rattle.laws_screens.specs.Strokes.{PictureOf}
 use Rattle.tw_surface.specs.ChangeView.{Batch}
 use Rattle.tw_surface.specs.PaintingBatches.{closing_if}
-use Rattle.tw_screens.specs.Pens.{Pen}
+use Rattle.laws_screens.specs.Pens.{Pen}
 use Rattle.tw_host.specs.HostRules.{HostRules}
 use Rattle.tw_lineedit.specs.Frame.{Frame}
 use Rattle.tw_lineedit.specs.Run.{run_of}
 use Rattle.tw_lineedit.specs.ScreenRuns.{batches_of, RendersNothing}
 use Rattle.tw_lineedit.specs.Stations.{Station}
-use Rattle.tw_screen_runs.specs.DrawnRuns.{closed_by, since_batches}
+use Rattle.laws_runs.specs.DrawnRuns.{closed_by, since_batches}
 use Rattle.tw_ansi.specs.declared.encode.Encoder.{Encoder}
 use Rattle.tw_ansi.specs.Encoding.{Sent}
 use Rattle.tw_ansi.specs.EcmaLaws.{IsColor}
 use Rattle.tw_ansi.specs.EcmaPaintings.{sent_batches}
 use Rattle.tw_ansi.specs.EcmaScreen.{receive_all}
 use Rattle.tw_ansi.specs.EcmaTexts.{ShowsPicture}
-use Rattle.tw_screen_runs.specs.SentReadings.{reading_frame}
-use Rattle.tw_screen_runs.specs.SentRuns.{sent_paintings, sent_run, shown_by}
-use Rattle.tw_screen_runs.specs.SizedReadings.{sent_sized, stations_sized}
-use Rattle.tw_screen_runs.proofs.ReadingLemmas.{of_run, written_all, written_first}
-use Rattle.tw_screen_runs.proofs.SizedRunLemmas.{healed_bytes, healed_run_bytes, sized_bytes}
+use Rattle.laws_runs.specs.SentReadings.{reading_frame}
+use Rattle.laws_runs.specs.SentRuns.{sent_paintings, sent_run, shown_by}
+use Rattle.laws_runs.specs.SizedReadings.{sent_sized, stations_sized}
+use Rattle.laws_runs.proofs.ReadingLemmas.{of_run, written_all, written_first}
+use Rattle.laws_runs.proofs.SizedRunLemmas.{healed_bytes, healed_run_bytes, sized_bytes}
 use Rattle.laws_prompt.specs.RowReadings.{RowReadingPaintings, RowReadingClosings, RowReadingHealings, HealedRowReadingClosings, SizedRowPaintings}
 use Rattle.laws_prompt.proofs.SentRowLemmas.{row_paintings_are_shown, row_closings_are_shown, row_healings_are_shown, row_heals_closed}
 

@@ -2,28 +2,28 @@
 use Rattle.std.proofs.Common.{◌≡◌, ℕ, ◌+◌, ◌≤◌, List, [], ◌∷◌, ◌++◌, ◌∙◌, sym, ap, map, refl, subst, arith, Option, Some, None, Bool, true, false}
 use Rattle.std.specs.List.{All, AllByRecursion}
 use Rattle.std.proofs.lemmas.List.{map-append}
-use Rattle.tw_strokes.specs.Strokes.{PictureOf, InSight, resized}
-use Rattle.tw_strokes.specs.Sheets.{IsFreshSheet, sheet_last_row, sheet_cursor_row}
-use Rattle.tw_strokes.specs.Paintings.{SheetPainting, IsClosedSheet, top_row, last_painting}
+use Rattle.laws_screens.specs.Strokes.{PictureOf, InSight, resized}
+use Rattle.laws_screens.specs.Sheets.{IsFreshSheet, sheet_last_row, sheet_cursor_row}
+use Rattle.laws_screens.specs.Paintings.{SheetPainting, IsClosedSheet, top_row, last_painting}
 use Rattle.tw_surface.specs.ChangeView.{Batch}
 use Rattle.tw_surface.specs.Paintings.{Mark, painting, mark_of, closing}
 use Rattle.tw_surface.specs.PaintingBatches.{SizedScene, shot_of, batches, mark_after, closing_if, closing_batch}
 use Rattle.tw_surface.proofs.BatchLemmas.{batches_after-append}
-use Rattle.tw_screens.specs.Pens.{Pen}
-use Rattle.tw_screens.specs.SceneSheets.{painting_of}
-use Rattle.tw_screens.specs.Screens.{HasTextPrompt, HasRoom, blank_of}
-use Rattle.tw_screens.specs.SizedBatches.{sized_after}
-use Rattle.tw_screens.proofs.DrawnStations.{last_is}
-use Rattle.tw_screens.proofs.SizedBatchLemmas.{sized_are, sized_batches_are}
-use Rattle.tw_screens.proofs.StationMarks.{closing_is}
+use Rattle.laws_screens.specs.Pens.{Pen}
+use Rattle.laws_screens.specs.SceneSheets.{painting_of}
+use Rattle.laws_screens.specs.Screens.{HasTextPrompt, HasRoom, blank_of}
+use Rattle.laws_screens.specs.SizedBatches.{sized_after}
+use Rattle.laws_screens.proofs.DrawnStations.{last_is}
+use Rattle.laws_screens.proofs.SizedBatchLemmas.{sized_are, sized_batches_are}
+use Rattle.laws_screens.proofs.StationMarks.{closing_is}
 use Rattle.tw_host.specs.HostRules.{HostRules}
 use Rattle.tw_lineedit.specs.Frame.{Frame}
 use Rattle.tw_lineedit.specs.Run.{run_of}
 use Rattle.tw_lineedit.specs.ScreenRuns.{sized_scene, batches_of}
 use Rattle.tw_lineedit.specs.Stations.{Station}
 use Rattle.tw_lineedit.proofs.StationLemmas.{played-is, first_batches, all_taken, closing-is}
-use Rattle.tw_screen_runs.specs.DrawnRuns.{begins_cleared, play_stations, closed_by, play_since}
-use Rattle.tw_screen_runs.proofs.ClearedRunLemmas.{text_prompts, up_to-is, played_since, first_since}
+use Rattle.laws_runs.specs.DrawnRuns.{begins_cleared, play_stations, closed_by, play_since}
+use Rattle.laws_runs.proofs.ClearedRunLemmas.{text_prompts, up_to-is, played_since, first_since}
 use Rattle.laws_prompt.specs.RowStations.{IsRowStation, simple_at, simple_all, play_after}
 use Rattle.laws_prompt.specs.RowStations.IsRowStation.{Simple, WithRows}
 use Rattle.laws_prompt.specs.RowRuns.{paintings_with_rows, painted_with_rows, RowPaintings, RowClosings, RowHealings, HealedRowClosings}

@@ -3,8 +3,8 @@ use Rattle.std.proofs.Common.{◌≡◌, ℕ, ℤ, Option, Some, None, List, [],
 use Rattle.std.proofs.lemmas.Bool.{ne_eqb}
 use Rattle.std.proofs.lemmas.Int.{ints}
 use Rattle.std.proofs.lemmas.List.{append_assoc, map-append}
-use Rattle.tw_strokes.specs.Strokes.{PictureOf, Stroke, filled, step, steps}
-use Rattle.tw_strokes.specs.Strokes.Stroke.{Return, Feed, ClearBehind}
+use Rattle.laws_screens.specs.Strokes.{PictureOf, Stroke, filled, step, steps}
+use Rattle.laws_screens.specs.Strokes.Stroke.{Return, Feed, ClearBehind}
 use Rattle.tw_surface.specs.ChangeView.{Batch}
 use Rattle.tw_surface.specs.ChangeView.{Attribute, AllAttributes, Text, ClearScreen, ClearToEndOfScreen, CursorPosition}
 use Rattle.tw_surface.specs.Defaults.{default_color, default_attributes}
@@ -14,9 +14,9 @@ use Rattle.tw_surface.specs.PaintingBatches.{start_of}
 use Rattle.tw_surface.specs.Places.{Place, place_after_all, origin, move_between}
 use Rattle.tw_surface.specs.Scenes.{Scene}
 use Rattle.tw_surface.specs.Simple.{spelled_change, spelled_all, AreCounted}
-use Rattle.tw_screens.specs.Pens.{Pen, kept_after_all, char_stroke, strokes_of}
-use Rattle.tw_screens.proofs.DrawnChanges.{Tracks, simple-counted, counted-append, tracks-changes, strokes-append, kept-append}
-use Rattle.tw_screens.proofs.MeasuredHeights.{crlf_is, crlf_counted, measured_height}
+use Rattle.laws_screens.specs.Pens.{Pen, kept_after_all, char_stroke, strokes_of}
+use Rattle.laws_screens.proofs.DrawnChanges.{Tracks, simple-counted, counted-append, tracks-changes, strokes-append, kept-append}
+use Rattle.laws_screens.proofs.MeasuredHeights.{crlf_is, crlf_counted, measured_height}
 use Rattle.laws_prompt.specs.RowScenes.{place_behind, folded, HasRows, ArePaintedAlike, RowsAreAPreview}
 
 -- the second of two lists of changes

@@ -2,18 +2,18 @@
 use Rattle.std.proofs.Common.{◌≡◌, ℕ, ◌+◌, Bool, true, false, Option, Some, None, List, [], ◌∷◌, ◌++◌, map, refl, sym, ap, subst, ◌∙◌}
 use Rattle.std.specs.List.{All, AllByRecursion}
 use Rattle.std.proofs.lemmas.List.Elements.{All-nil, All-cons}
-use Rattle.tw_strokes.specs.Strokes.{PictureOf, resized, steps_on}
-use Rattle.tw_strokes.specs.Sheets.{sheet_last_row}
-use Rattle.tw_strokes.specs.Paintings.{IsClosedSheet}
+use Rattle.laws_screens.specs.Strokes.{PictureOf, resized, steps_on}
+use Rattle.laws_screens.specs.Sheets.{sheet_last_row}
+use Rattle.laws_screens.specs.Paintings.{IsClosedSheet}
 use Rattle.tw_surface.specs.Paintings.{Mark, painting, mark_of, closing}
 use Rattle.tw_surface.specs.PaintingBatches.{SizedScene, shot_of, mark_after, clear_batch, clearing, start_of}
 use Rattle.tw_surface.specs.Scenes.{Scene}
 use Rattle.tw_surface.specs.Simple.{spelled_all, IsSimpleWide}
-use Rattle.tw_screens.specs.Pens.{Pen, kept_after_all, strokes_of}
-use Rattle.tw_screens.specs.SceneSheets.{painting_of}
-use Rattle.tw_screens.specs.Screens.{blank_of, play_sized}
-use Rattle.tw_screens.specs.SizedBatches.{SizedBatch, sized_at, sized_after, spelled_sized}
-use Rattle.tw_screens.proofs.DrawnStations.{shows_stations, heals_stations, closes_stations}
+use Rattle.laws_screens.specs.Pens.{Pen, kept_after_all, strokes_of}
+use Rattle.laws_screens.specs.SceneSheets.{painting_of}
+use Rattle.laws_screens.specs.Screens.{blank_of, play_sized}
+use Rattle.laws_screens.specs.SizedBatches.{SizedBatch, sized_at, sized_after, spelled_sized}
+use Rattle.laws_screens.proofs.DrawnStations.{shows_stations, heals_stations, closes_stations}
 use Rattle.laws_prompt.specs.RowScenes.{folded, ArePaintedAlike}
 use Rattle.laws_prompt.specs.RowStations.{IsRowStation, simple_at, simple_all, play_after, RowStationsPlayAsSimple, ShowsRowStations, HealsRowStations, ClosesRowStations}
 use Rattle.laws_prompt.specs.RowStations.IsRowStation.{Simple, WithRows}

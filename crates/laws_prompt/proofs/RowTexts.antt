@@ -4,8 +4,8 @@ use Rattle.std.specs.List.{list_all}
 use Rattle.std.proofs.lemmas.Bool.{and_parts, and_from, ne_eqb, leb-true}
 use Rattle.tw_surface.specs.Characters.{is_plain, is_printable, cr, lf}
 use Rattle.tw_surface.specs.Lines.{before_lines, lines_of, text_of_lines}
-use Rattle.tw_screens.proofs.JoinedLines.{lines_of_joined}
-use Rattle.tw_screens.proofs.PlainTexts.{breaks-lines, breaks-plain, one_line, text_of_lines-lines}
+use Rattle.laws_screens.proofs.JoinedLines.{lines_of_joined}
+use Rattle.laws_screens.proofs.PlainTexts.{breaks-lines, breaks-plain, one_line, text_of_lines-lines}
 
 -- each text has a line
 pub some_lines : (text : List ℕ) → (line : List ℕ) × (more : List (List ℕ)) × (lines_of text ≡ line ∷ more)

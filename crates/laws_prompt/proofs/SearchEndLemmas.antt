@@ -6,8 +6,8 @@ use Rattle.tw_line.specs.Cut.{Cut, cut_at}
 use Rattle.tw_host.specs.ActionView.{ActionView, AcceptLine, Cancel, EndOfFile, InsertChar, InsertText, Repaint, Move, Kill, KillAndMove, HistoryPrevious, HistoryNext, Complete, NoAction, HistoryIncSearchBackwards, HistoryIncSearchForwards}
 use Rattle.tw_host.specs.CandidateView.{CandidateView, fits, landing, line_with}
 use Rattle.tw_host.specs.HostRules.{HostRules}
-use Rattle.tw_painter.specs.EditState.{CycleView, EditState, Editing}
-use Rattle.tw_painter.specs.Refusal.{Refusal}
+use Rattle.tw_session.specs.EditState.{CycleView, EditState, Editing}
+use Rattle.tw_session.specs.Refusal.{Refusal}
 use Rattle.tw_session.specs.Completion.{completed_from, completion_step, with_candidate, with_completion}
 use Rattle.tw_session.specs.Search.{search_left, search_left_in}
 use Rattle.tw_session.specs.Steps.{apply}

@@ -5,9 +5,9 @@ use Rattle.std.specs.List.{All}
 use Rattle.std.proofs.lemmas.List.Elements.{All-cons, All-nil}
 use Rattle.tw_input.specs.EventView.{EventView}
 use Rattle.tw_host.specs.HostRules.{HostRules}
-use Rattle.tw_painter.specs.EditState.{EditState, ModeView, Inactive, Editing, Cancelled, Accepted, Searching}
-use Rattle.tw_painter.specs.Painting.{Rendering}
-use Rattle.tw_painter.specs.Refusal.{Refusal}
+use Rattle.tw_session.specs.EditState.{EditState, ModeView, Inactive, Editing, Cancelled, Accepted, Searching}
+use Rattle.tw_session.specs.Painting.{Rendering}
+use Rattle.tw_session.specs.Refusal.{Refusal}
 use Rattle.tw_session.specs.Outcomes.{is_over, answer_at}
 use Rattle.tw_lineedit.specs.Run.{Progress, Ending, progress_of, run, ends, at_no_event, at_event, after_event, painting_at, after_painting, chosen_action, after_resolution, state_after, after_action}
 use Rattle.tw_lineedit.specs.Reading.{start}

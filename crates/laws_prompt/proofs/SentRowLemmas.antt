@@ -2,24 +2,24 @@
 use Rattle.std.proofs.Common.{◌≡◌, ◌≤◌, ◌<◌, ◌+◌, ◌-ℤ◌, ℕ, pos, false, Option, Some, None, List, [], ◌∷◌, ◌++◌, map, ap, subst, ◌∙◌, sym, arith}
 use Rattle.std.specs.List.{All}
 use Rattle.std.proofs.lemmas.List.{map-append}
-use Rattle.tw_strokes.specs.Strokes.{PictureOf, filled}
-use Rattle.tw_strokes.specs.Sheets.{IsFreshSheet, sheet_last_row}
-use Rattle.tw_strokes.specs.Paintings.{IsClosedSheet, top_row}
+use Rattle.laws_screens.specs.Strokes.{PictureOf, filled}
+use Rattle.laws_screens.specs.Sheets.{IsFreshSheet, sheet_last_row}
+use Rattle.laws_screens.specs.Paintings.{IsClosedSheet, top_row}
 use Rattle.tw_surface.specs.declared.change.Position.TheVariants.{Relative}
 use Rattle.tw_surface.specs.ChangeView.{Batch}
 use Rattle.tw_surface.specs.Paintings.{Mark, painting, mark_of, closing}
 use Rattle.tw_surface.specs.PaintingBatches.{SizedScene, shot_of, batches, mark_after, closing_if, closing_batch}
-use Rattle.tw_screens.specs.Pens.{Pen}
-use Rattle.tw_screens.specs.Screens.{blank_of, play_sized}
-use Rattle.tw_screens.proofs.SizedBatchLemmas.{sized_are, sized_batches_are}
-use Rattle.tw_screens.proofs.StationMarks.{closing_is}
+use Rattle.laws_screens.specs.Pens.{Pen}
+use Rattle.laws_screens.specs.Screens.{blank_of, play_sized}
+use Rattle.laws_screens.proofs.SizedBatchLemmas.{sized_are, sized_batches_are}
+use Rattle.laws_screens.proofs.StationMarks.{closing_is}
 use Rattle.tw_host.specs.HostRules.{HostRules}
 use Rattle.tw_lineedit.specs.Frame.{Frame}
 use Rattle.tw_lineedit.specs.Run.{run_of}
 use Rattle.tw_lineedit.specs.ScreenRuns.{sized_scene, batches_of, RendersNothing}
 use Rattle.tw_lineedit.specs.Stations.{Station}
 use Rattle.tw_lineedit.proofs.StationLemmas.{closing-is}
-use Rattle.tw_screen_runs.specs.DrawnRuns.{closed_by, play_since, play_stations, since_batches}
+use Rattle.laws_runs.specs.DrawnRuns.{closed_by, play_since, play_stations, since_batches}
 use Rattle.tw_ansi.specs.declared.encode.Encoder.{Encoder}
 use Rattle.tw_ansi.specs.Encoding.{Sent}
 use Rattle.tw_ansi.specs.EcmaLaws.{IsColor}
@@ -28,10 +28,10 @@ use Rattle.tw_ansi.specs.EcmaPaintings.{sent_batches}
 use Rattle.tw_ansi.specs.EcmaScreen.{EcmaScreen, receive_all}
 use Rattle.tw_ansi.specs.EcmaTexts.{ShowsPicture}
 use Rattle.tw_ansi.proofs.EcmaPaintings.{batches_are_shown}
-use Rattle.tw_screen_runs.specs.SentRuns.{IsSentAt, sent_paintings, shown_by}
-use Rattle.tw_screen_runs.proofs.SentLemmas.{sized_is, stations_sendable}
-use Rattle.tw_screen_runs.proofs.ClosingLemmas.{known_color, closing_shown, closing_color, last_of_all}
-use Rattle.tw_screen_runs.proofs.HealingLemmas.{healed_by}
+use Rattle.laws_runs.specs.SentRuns.{IsSentAt, sent_paintings, shown_by}
+use Rattle.laws_runs.proofs.SentLemmas.{sized_is, stations_sendable}
+use Rattle.laws_runs.proofs.ClosingLemmas.{known_color, closing_shown, closing_color, last_of_all}
+use Rattle.laws_runs.proofs.HealingLemmas.{healed_by}
 use Rattle.laws_prompt.specs.RowStations.{IsRowStation}
 use Rattle.laws_prompt.specs.RowStations.IsRowStation.{Simple, WithRows}
 use Rattle.laws_prompt.specs.RowRuns.{AreRowStations, paintings_with_rows, painted_with_rows}

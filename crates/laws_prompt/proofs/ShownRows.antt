@@ -5,8 +5,8 @@ use Rattle.std.specs.List.{list_all}
 use Rattle.std.proofs.lemmas.Bool.{and_parts, and_from}
 use Rattle.std.proofs.lemmas.List.{get_or_append_left}
 use Rattle.std.proofs.Math.Seq.{get_or-append_seam}
-use Rattle.tw_strokes.specs.Strokes.{PictureOf}
-use Rattle.tw_strokes.specs.Sheets.{AreLinesShown, IsTextShown, rows_of_line}
+use Rattle.laws_screens.specs.Strokes.{PictureOf}
+use Rattle.laws_screens.specs.Sheets.{AreLinesShown, IsTextShown, rows_of_line}
 use Rattle.tw_surface.specs.Characters.{is_printable, cr, lf}
 use Rattle.tw_surface.specs.Lines.{before_lines, lines_of}
 use Rattle.tw_surface.specs.Pictures.{blank}

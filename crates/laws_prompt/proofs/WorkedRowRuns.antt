@@ -3,28 +3,28 @@ use Rattle.std.proofs.Common.{◌≡◌, ℕ, zero, suc, ◌+◌, ◌≤◌, pos
 use Rattle.std.specs.List.{All}
 use Rattle.std.proofs.lemmas.List.Elements.{All-nil, All-cons}
 use Rattle.unicode_segmentation.proofs.Computing.{unicode_segmentation}
-use Rattle.tw_strokes.specs.Sheets.{IsLow, sheet_last_row}
-use Rattle.tw_strokes.specs.Strokes.{PictureOf}
+use Rattle.laws_screens.specs.Sheets.{IsLow, sheet_last_row}
+use Rattle.laws_screens.specs.Strokes.{PictureOf}
 use Rattle.tw_surface.specs.Paintings.{Painting}
 use Rattle.tw_surface.specs.PaintingBatches.{SizedScene}
 use Rattle.tw_surface.specs.Places.{pieces}
 use Rattle.tw_surface.specs.Scenes.{IsPlain}
 use Rattle.tw_surface.specs.Width.{column_width}
-use Rattle.tw_screens.specs.SceneSheets.{painting_of, sheet_of}
-use Rattle.tw_screens.specs.Screens.{HasRoom}
-use Rattle.tw_screens.specs.StyledCells.{characters}
-use Rattle.tw_screens.proofs.PlainScenes.{plain_is_simple}
+use Rattle.laws_screens.specs.SceneSheets.{painting_of, sheet_of}
+use Rattle.laws_screens.specs.Screens.{HasRoom}
+use Rattle.laws_screens.specs.StyledCells.{characters}
+use Rattle.laws_screens.proofs.PlainScenes.{plain_is_simple}
 use Rattle.tw_input.specs.EventView.{EventView, Key, Resized, Paste}
 use Rattle.tw_input.specs.declared.key.KeyCode.TheVariants.{Char}
-use Rattle.tw_extremes.specs.Extremes.{iterate, greatest_below, least_from}
+use Rattle.tw_line.specs.Extremes.{iterate, greatest_below, least_from}
 use Rattle.tw_line.specs.Boundaries.{boundary_below, is_boundary}
 use Rattle.tw_line.specs.Cut.{Cut}
 use Rattle.tw_line.specs.Movements.{destination}
 use Rattle.tw_host.specs.HostRules.{HostRules, Highlight, Resolution, no_resolution, plain_rules, plain_text}
 use Rattle.tw_host.specs.KeyTable.{key_press}
 use Rattle.tw_hosts.specs.Settling.{settled_column, settled_pieces, needed_by_text}
-use Rattle.tw_painter.specs.Painting.{painted_on}
-use Rattle.tw_painter.specs.Refusal.{Refusal}
+use Rattle.tw_session.specs.Painting.{painted_on}
+use Rattle.tw_session.specs.Refusal.{Refusal}
 use Rattle.tw_session.specs.Search.{searched_again, search_step}
 use Rattle.tw_session.specs.SessionView.{new_state}
 use Rattle.tw_session.specs.Steps.{apply}
@@ -32,7 +32,7 @@ use Rattle.tw_lineedit.specs.Frame.{Frame}
 use Rattle.tw_lineedit.specs.Reading.{start}
 use Rattle.tw_lineedit.specs.ScreenRuns.{sized_scene, RendersNothing}
 use Rattle.tw_lineedit.specs.Stations.{Station, station_painting, stations_of}
-use Rattle.tw_screen_runs.specs.DrawnRuns.{play_stations, play_since, closed_by}
+use Rattle.laws_runs.specs.DrawnRuns.{play_stations, play_since, closed_by}
 use Rattle.laws_prompt.specs.Rows.{shown_cut}
 use Rattle.laws_prompt.specs.RowStations.{IsRowStation, simple_at}
 use Rattle.laws_prompt.specs.RowStations.IsRowStation.{Simple, WithRows}
@@ -41,7 +41,7 @@ use Rattle.laws_prompt.specs.RowRuns.{AreRowStations, painted_with_rows, paintin
 use Rattle.laws_prompt.specs.RowCells.{ShowsLine, AnswersLine}
 use Rattle.laws_prompt.specs.LineRuns.{ComesToLine}
 use Rattle.laws_prompt.proofs.PlainRowLemmas.{plain_rows_are_rows, folded_is_plain}
-use Rattle.tw_screen_runs.proofs.DrawnRunLemmas.{drawn_calls_stack}
+use Rattle.laws_runs.proofs.DrawnRunLemmas.{drawn_calls_stack}
 use Rattle.laws_prompt.proofs.RowRunLemmas.{row_paintings, row_closings, row_healings, healed_row_closings}
 use Rattle.laws_prompt.proofs.CellLemmas.{answers_show_lines}
 use Rattle.laws_prompt.proofs.LineRunLemmas.{lines_stand_in_rows}

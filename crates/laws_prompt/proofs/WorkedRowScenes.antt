@@ -10,8 +10,8 @@ use Rattle.tw_surface.specs.Places.{pieces}
 use Rattle.tw_surface.specs.Scenes.{Scene}
 use Rattle.tw_surface.specs.Scenes.Lower.{NoLower}
 use Rattle.tw_surface.specs.Simple.{spelled_all}
-use Rattle.tw_screens.specs.Pens.{strokes_of}
-use Rattle.tw_screens.specs.StyledCells.{characters, styled}
+use Rattle.laws_screens.specs.Pens.{strokes_of}
+use Rattle.laws_screens.specs.StyledCells.{characters, styled}
 use Rattle.laws_prompt.specs.RowScenes.{folded, HasRows}
 use Rattle.laws_prompt.specs.PlainRows.{first_row, other_rows}
 

@@ -4,20 +4,20 @@ use Rattle.std.specs.List.{AllByRecursion}
 use Rattle.std.proofs.lemmas.List.Elements.{All-nil, All-cons}
 use Rattle.std.specs.Fmt.{digits}
 use Rattle.unicode_segmentation.proofs.Computing.{unicode_segmentation}
-use Rattle.tw_strokes.specs.Strokes.{PictureOf}
+use Rattle.laws_screens.specs.Strokes.{PictureOf}
 use Rattle.tw_surface.specs.Defaults.{default_attributes}
 use Rattle.tw_surface.specs.PaintingBatches.{SizedScene}
 use Rattle.tw_surface.specs.Places.{pieces}
 use Rattle.tw_surface.specs.Scenes.{IsPlain}
 use Rattle.tw_surface.specs.Width.{column_width}
-use Rattle.tw_screens.specs.Screens.{HasRoom}
-use Rattle.tw_screens.specs.StyledCells.{characters}
+use Rattle.laws_screens.specs.Screens.{HasRoom}
+use Rattle.laws_screens.specs.StyledCells.{characters}
 use Rattle.tw_input.specs.EventView.{Paste}
 use Rattle.tw_line.specs.Boundaries.{boundary_below, is_boundary}
-use Rattle.tw_extremes.specs.Extremes.{iterate, greatest_below, least_from}
+use Rattle.tw_line.specs.Extremes.{iterate, greatest_below, least_from}
 use Rattle.tw_line.specs.Movements.{destination}
 use Rattle.tw_hosts.specs.Settling.{settled_pieces, needed_by_text}
-use Rattle.tw_painter.specs.Painting.{painted_on}
+use Rattle.tw_session.specs.Painting.{painted_on}
 use Rattle.tw_session.specs.Search.{searched_again, search_step}
 use Rattle.tw_session.specs.Steps.{apply}
 use Rattle.tw_lineedit.specs.Frame.{Frame}
@@ -28,8 +28,8 @@ use Rattle.tw_ansi.specs.EcmaBatches.{first_picture}
 use Rattle.tw_ansi.specs.EcmaScreen.{EcmaScreen, receive_all}
 use Rattle.tw_ansi.specs.EcmaScreen as terminal
 use Rattle.tw_ansi.proofs.EcmaBatches.{first_is_shown}
-use Rattle.tw_screen_runs.specs.SentRuns.{IsSentAt, sent_paintings, sent_run}
-use Rattle.tw_screen_runs.proofs.WorkedParts.{carries}
+use Rattle.laws_runs.specs.SentRuns.{IsSentAt, sent_paintings, sent_run}
+use Rattle.laws_runs.proofs.WorkedParts.{carries}
 use Rattle.laws_prompt.specs.RowStations.{simple_at}
 use Rattle.laws_prompt.specs.PlainRows.{HasPlainRows}
 use Rattle.laws_prompt.specs.RowRuns.{AreRowStations, ComesWithRows}

@@ -1,19 +1,19 @@
 -- What a screen of characters shows of a run each station of which shows a line in rows.
 use Rattle.std.specs.Prelude.{◌≡◌, ℕ, ◌+◌, ◌≤◌, Bool, List, [], ◌∷◌, ◌++◌, length, map, Option}
 use Rattle.std.specs.List.{All, AllByRecursion}
-use Rattle.tw_strokes.specs.Strokes.{PictureOf, InSight, resized}
-use Rattle.tw_strokes.specs.Paintings.{SheetPainting, IsClosedSheet, top_row}
+use Rattle.laws_screens.specs.Strokes.{PictureOf, InSight, resized}
+use Rattle.laws_screens.specs.Paintings.{SheetPainting, IsClosedSheet, top_row}
 use Rattle.tw_surface.specs.PaintingBatches.{SizedScene}
 use Rattle.tw_surface.specs.Pictures.{blank}
 use Rattle.tw_surface.specs.Scenes.Lower.{NoLower}
-use Rattle.tw_screens.specs.SceneSheets.{painting_of}
-use Rattle.tw_screens.specs.Screens.{HasRoom}
-use Rattle.tw_screens.specs.StyledCells.{characters}
+use Rattle.laws_screens.specs.SceneSheets.{painting_of}
+use Rattle.laws_screens.specs.Screens.{HasRoom}
+use Rattle.laws_screens.specs.StyledCells.{characters}
 use Rattle.tw_host.specs.HostRules.{HostRules}
 use Rattle.tw_lineedit.specs.Frame.{Frame}
 use Rattle.tw_lineedit.specs.ScreenRuns.{sized_scene, Comes, RendersNothing}
 use Rattle.tw_lineedit.specs.Stations.{Station}
-use Rattle.tw_screen_runs.specs.DrawnRuns.{play_stations, closed_by}
+use Rattle.laws_runs.specs.DrawnRuns.{play_stations, closed_by}
 use Rattle.laws_prompt.specs.Rows.{rows_of_text, rows_down}
 use Rattle.laws_prompt.specs.PlainRows.{plain_folded}
 use Rattle.laws_prompt.specs.RowCells.{ShowsLine, StandInRows}

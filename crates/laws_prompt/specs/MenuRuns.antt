@@ -3,7 +3,7 @@ use Rattle.std.specs.Prelude.{ℕ, ◌≡◌, ◌<◌, ⊤, true, false, List, l
 use Rattle.std.specs.List.{All}
 use Rattle.tw_host.specs.CandidateView.{CandidateView, completed_by}
 use Rattle.tw_host.specs.HostRules.{HostRules}
-use Rattle.tw_painter.specs.EditState.{EditState}
+use Rattle.tw_session.specs.EditState.{EditState}
 use Rattle.tw_session.specs.Outcomes.{is_over}
 use Rattle.tw_lineedit.specs.Frame.{Frame}
 use Rattle.tw_lineedit.specs.Reading.{start}

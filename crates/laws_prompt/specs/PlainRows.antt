@@ -6,7 +6,7 @@ use Rattle.tw_surface.specs.ChangeView.{Attribute, AllAttributes, Text, ClearScr
 use Rattle.tw_surface.specs.Characters.{is_printable}
 use Rattle.tw_surface.specs.Lines.{lines_of, text_of_lines}
 use Rattle.tw_surface.specs.Scenes.{Scene, IsPlainLower, is_typing, typed_text}
-use Rattle.tw_screens.specs.Pens.{Pen}
+use Rattle.laws_screens.specs.Pens.{Pen}
 use Rattle.laws_prompt.specs.RowScenes.{HasRows, folded}
 
 -- an attribute, or a text of printable lines with CR LF between each two

@@ -1,17 +1,17 @@
 -- Scenes that show a line of rows: where its characters and the cursor stand on a screen of characters.
 use Rattle.std.specs.Prelude.{ℕ, ◌≡◌, ◌≤◌, ◌<◌, ◌+◌, ◌/◌, ◌%◌, slice_index_or, eqb, true, false, List, ◌∷◌, ◌++◌, length}
 use Rattle.std.specs.List.{list_all}
-use Rattle.tw_strokes.specs.Strokes.{PictureOf}
-use Rattle.tw_strokes.specs.Sheets.{IsFreshSheet, sheet_last_row}
+use Rattle.laws_screens.specs.Strokes.{PictureOf}
+use Rattle.laws_screens.specs.Sheets.{IsFreshSheet, sheet_last_row}
 use Rattle.tw_surface.specs.Characters.{lf}
 use Rattle.tw_surface.specs.Paintings.{cursor_place}
 use Rattle.tw_surface.specs.PaintingBatches.{SizedScene}
 use Rattle.tw_surface.specs.Pictures.{blank}
 use Rattle.tw_surface.specs.Scenes.{Scene, IsPlainLower, is_typing, typed_text}
 use Rattle.tw_surface.specs.Scenes.Lower.{NoLower}
-use Rattle.tw_screens.specs.Pens.{Pen}
-use Rattle.tw_screens.specs.SceneSheets.{painting_of}
-use Rattle.tw_screens.specs.StyledCells.{characters}
+use Rattle.laws_screens.specs.Pens.{Pen}
+use Rattle.laws_screens.specs.SceneSheets.{painting_of}
+use Rattle.laws_screens.specs.StyledCells.{characters}
 use Rattle.tw_host.specs.ElementView.{changes_of}
 use Rattle.tw_host.specs.HostRules.{plain_text}
 use Rattle.tw_hosts.specs.Settling.{settled_column}

@@ -1,25 +1,25 @@
 -- What a terminal shows after the bytes that a reading has written whose stations are simple or have rows.
 use Rattle.std.specs.Prelude.{◌≡◌, ◌+◌, ℕ, Some, false, Option, List, [], ◌∷◌, ◌++◌, map}
 use Rattle.std.specs.List.{All}
-use Rattle.tw_strokes.specs.Strokes.{PictureOf}
-use Rattle.tw_strokes.specs.Sheets.{IsFreshSheet, sheet_last_row}
-use Rattle.tw_strokes.specs.Paintings.{IsClosedSheet, top_row}
-use Rattle.tw_screens.specs.Pens.{Pen}
-use Rattle.tw_screens.specs.Screens.{blank_of}
+use Rattle.laws_screens.specs.Strokes.{PictureOf}
+use Rattle.laws_screens.specs.Sheets.{IsFreshSheet, sheet_last_row}
+use Rattle.laws_screens.specs.Paintings.{IsClosedSheet, top_row}
+use Rattle.laws_screens.specs.Pens.{Pen}
+use Rattle.laws_screens.specs.Screens.{blank_of}
 use Rattle.tw_input.specs.EventView.{EventView}
 use Rattle.tw_host.specs.HostRules.{HostRules}
 use Rattle.tw_lineedit.specs.ScreenRuns.{RendersNothing}
 use Rattle.tw_lineedit.specs.Stations.{Station}
-use Rattle.tw_screen_runs.specs.DrawnRuns.{closed_by, since_batches}
+use Rattle.laws_runs.specs.DrawnRuns.{closed_by, since_batches}
 use Rattle.tw_ansi.specs.EcmaLaws.{IsColor}
 use Rattle.tw_ansi.specs.EcmaBatches.{CarriesAttributes}
 use Rattle.tw_ansi.specs.EcmaPaintings.{sent_batches}
 use Rattle.tw_ansi.specs.EcmaScreen.{EcmaScreen, receive_all}
 use Rattle.tw_ansi.specs.EcmaTexts.{ShowsPicture}
 use Rattle.tw_device.specs.declared.terminal.AnsiTerminal.{AnsiTerminal}
-use Rattle.tw_screen_runs.specs.SentReadings.{IsSentReading, reading_frame}
-use Rattle.tw_screen_runs.specs.SentRuns.{sent_paintings, shown_by}
-use Rattle.tw_screen_runs.specs.SizedReadings.{IsSizedReading, sent_sized, stations_sized}
+use Rattle.laws_runs.specs.SentReadings.{IsSentReading, reading_frame}
+use Rattle.laws_runs.specs.SentRuns.{sent_paintings, shown_by}
+use Rattle.laws_runs.specs.SizedReadings.{IsSizedReading, sent_sized, stations_sized}
 use Rattle.laws_prompt.specs.RowRuns.{AreRowStations, paintings_with_rows, painted_with_rows, ShowsWithRows}
 use Rattle.laws_prompt.specs.SentRows.{ComesSentWithRows, HealsSentWithRows}
 

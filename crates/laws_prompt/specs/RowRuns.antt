@@ -1,21 +1,21 @@
 -- What a screen of any kind of cells shows while the batches of a run are played on it whose stations are simple or have rows.
 use Rattle.std.specs.Prelude.{◌≡◌, ℕ, ◌+◌, ◌≤◌, Bool, true, List, [], ◌∷◌, ◌++◌, map, Option}
 use Rattle.std.specs.List.{All, AllByRecursion}
-use Rattle.tw_strokes.specs.Strokes.{PictureOf, InSight, narrowest, resized}
-use Rattle.tw_strokes.specs.Sheets.{IsFreshSheet, sheet_last_row}
-use Rattle.tw_strokes.specs.Paintings.{SheetPainting, AreShownOver, IsClosedSheet, cols_of, top_row}
+use Rattle.laws_screens.specs.Strokes.{PictureOf, InSight, narrowest, resized}
+use Rattle.laws_screens.specs.Sheets.{IsFreshSheet, sheet_last_row}
+use Rattle.laws_screens.specs.Paintings.{SheetPainting, AreShownOver, IsClosedSheet, cols_of, top_row}
 use Rattle.tw_surface.specs.ChangeView.{Batch}
 use Rattle.tw_surface.specs.PaintingBatches.{SizedScene}
-use Rattle.tw_screens.specs.Pens.{Pen}
-use Rattle.tw_screens.specs.SceneSheets.{painting_of}
-use Rattle.tw_screens.specs.Screens.{HasRoom, blank_of}
-use Rattle.tw_screens.specs.SizedBatches.{sized_batches}
+use Rattle.laws_screens.specs.Pens.{Pen}
+use Rattle.laws_screens.specs.SceneSheets.{painting_of}
+use Rattle.laws_screens.specs.Screens.{HasRoom, blank_of}
+use Rattle.laws_screens.specs.SizedBatches.{sized_batches}
 use Rattle.tw_host.specs.HostRules.{HostRules}
 use Rattle.tw_lineedit.specs.Frame.{Frame}
 use Rattle.tw_lineedit.specs.Run.{run_of}
 use Rattle.tw_lineedit.specs.ScreenRuns.{sized_scene, batches_of, Comes, RendersNothing}
 use Rattle.tw_lineedit.specs.Stations.{Station}
-use Rattle.tw_screen_runs.specs.DrawnRuns.{begins_cleared, play_stations, closed_by, play_since, since_batches}
+use Rattle.laws_runs.specs.DrawnRuns.{begins_cleared, play_stations, closed_by, play_since, since_batches}
 use Rattle.laws_prompt.specs.RowStations.{IsRowStation, simple_at, simple_all}
 
 module _ {V A C : Type 0} (rules : HostRules V) (pen : Pen A C) where

@@ -1,6 +1,6 @@
 -- Scenes whose line has several rows on the screen, told by simple ones: the rows after the first are a preview.
 use Rattle.std.specs.Prelude.{ℕ, ◌≡◌, ◌≢◌, ◌≤◌, Option, ◌∷◌, ◌++◌}
-use Rattle.tw_strokes.specs.Strokes.Stroke.{Return, Feed}
+use Rattle.laws_screens.specs.Strokes.Stroke.{Return, Feed}
 use Rattle.tw_surface.specs.ChangeView.{Batch}
 use Rattle.tw_surface.specs.Defaults.{default_attributes}
 use Rattle.tw_surface.specs.Paintings.{Mark, painting, mark_of, before_line, edge_space, lower_changes}
@@ -9,7 +9,7 @@ use Rattle.tw_surface.specs.Places.{Place, place_after_all, origin}
 use Rattle.tw_surface.specs.Scenes.{Scene}
 use Rattle.tw_surface.specs.Scenes.Lower.{Preview}
 use Rattle.tw_surface.specs.Simple.{spelled_all, AreCounted, IsSimple}
-use Rattle.tw_screens.specs.Pens.{Pen, kept_after_all, strokes_of}
+use Rattle.laws_screens.specs.Pens.{Pen, kept_after_all, strokes_of}
 
 -- the place after the prompt and some changes of the line
 abbrev pub place_behind : ℕ → Scene → Batch → Place

@@ -1,17 +1,17 @@
 -- What a screen shows of the batches of stations each of which is simple or has rows.
 use Rattle.std.specs.Prelude.{ℕ, ◌≡◌, ◌+◌, ◌≤◌, Bool, true, Option, None, List, [], ◌∷◌, ◌++◌, map}
 use Rattle.std.specs.List.{All, AllByRecursion}
-use Rattle.tw_strokes.specs.Strokes.{PictureOf, InSight, steps_on, narrowest}
-use Rattle.tw_strokes.specs.Sheets.{IsFreshSheet, sheet_last_row, sheet_cursor_row}
-use Rattle.tw_strokes.specs.Paintings.{top_row, cols_of, last_painting, AreShownOver, IsClosedSheet}
+use Rattle.laws_screens.specs.Strokes.{PictureOf, InSight, steps_on, narrowest}
+use Rattle.laws_screens.specs.Sheets.{IsFreshSheet, sheet_last_row, sheet_cursor_row}
+use Rattle.laws_screens.specs.Paintings.{top_row, cols_of, last_painting, AreShownOver, IsClosedSheet}
 use Rattle.tw_surface.specs.ChangeView.{Batch}
 use Rattle.tw_surface.specs.Paintings.{Mark, painting, mark_of, closing}
 use Rattle.tw_surface.specs.PaintingBatches.{SizedScene, shot_of, mark_after}
 use Rattle.tw_surface.specs.Simple.{spelled_all, IsSimpleWide}
-use Rattle.tw_screens.specs.Pens.{Pen, strokes_of}
-use Rattle.tw_screens.specs.SceneSheets.{painting_of}
-use Rattle.tw_screens.specs.Screens.{HasRoom, HasTextPrompt, blank_of, play_sized}
-use Rattle.tw_screens.specs.SizedBatches.{sized_after, spelled_sized}
+use Rattle.laws_screens.specs.Pens.{Pen, strokes_of}
+use Rattle.laws_screens.specs.SceneSheets.{painting_of}
+use Rattle.laws_screens.specs.Screens.{HasRoom, HasTextPrompt, blank_of, play_sized}
+use Rattle.laws_screens.specs.SizedBatches.{sized_after, spelled_sized}
 use Rattle.laws_prompt.specs.RowScenes.{HasRows, folded}
 
 -- a station is simple, or its scene has rows: a first one, and others

@@ -1,11 +1,11 @@
 -- What an action leads to from a search, where the line is edited after it.
 use Rattle.std.specs.Prelude.{◌≡◌, ◌≢◌, ◌+◌, length, None, Ok}
-use Rattle.tw_history.specs.declared.history.SearchStyle.{SearchStyle}
-use Rattle.tw_history.specs.declared.history.SearchDirection.{SearchDirection}
+use Rattle.tw_line.specs.declared.history.SearchStyle.{SearchStyle}
+use Rattle.tw_line.specs.declared.history.SearchDirection.{SearchDirection}
 use Rattle.tw_line.specs.Cut.{Cut}
 use Rattle.tw_host.specs.ActionView.{ActionView, Complete}
 use Rattle.tw_host.specs.HostRules.{HostRules}
-use Rattle.tw_painter.specs.EditState.{EditState, Editing, Searching}
+use Rattle.tw_session.specs.EditState.{EditState, Editing, Searching}
 use Rattle.tw_session.specs.Steps.{apply}
 
 module _ {V : Type 0} (rules : HostRules V) where

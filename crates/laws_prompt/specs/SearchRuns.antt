@@ -2,7 +2,7 @@
 use Rattle.std.specs.Prelude.{ℕ, ◌≡◌, Bool, true, false, List, Option}
 use Rattle.std.specs.List.{All}
 use Rattle.tw_host.specs.HostRules.{HostRules}
-use Rattle.tw_painter.specs.EditState.{ModeView, Searching}
+use Rattle.tw_session.specs.EditState.{ModeView, Searching}
 use Rattle.tw_session.specs.Outcomes.{is_over}
 use Rattle.tw_lineedit.specs.Frame.{Frame}
 use Rattle.tw_lineedit.specs.Reading.{start}

@@ -1,20 +1,20 @@
 -- What a terminal shows that is sent the bytes of a run whose stations are simple or have rows.
 use Rattle.std.specs.Prelude.{◌≡◌, ◌<◌, ◌+◌, ◌^◌, neg_ℤ, ℕ, Some, None, false, List, [], ◌∷◌, ◌++◌, map}
 use Rattle.std.specs.List.{All, AllByRecursion}
-use Rattle.tw_strokes.specs.Strokes.{PictureOf}
-use Rattle.tw_strokes.specs.Sheets.{IsFreshSheet, sheet_last_row}
-use Rattle.tw_strokes.specs.Paintings.{IsClosedSheet, top_row}
+use Rattle.laws_screens.specs.Strokes.{PictureOf}
+use Rattle.laws_screens.specs.Sheets.{IsFreshSheet, sheet_last_row}
+use Rattle.laws_screens.specs.Paintings.{IsClosedSheet, top_row}
 use Rattle.tw_surface.specs.declared.change.Position.TheVariants.{Relative}
 use Rattle.tw_surface.specs.Paintings.{Mark}
 use Rattle.tw_surface.specs.PaintingBatches.{shot_of, mark_after}
-use Rattle.tw_screens.specs.Pens.{Pen}
-use Rattle.tw_screens.specs.Screens.{blank_of}
+use Rattle.laws_screens.specs.Pens.{Pen}
+use Rattle.laws_screens.specs.Screens.{blank_of}
 use Rattle.tw_host.specs.HostRules.{HostRules}
 use Rattle.tw_lineedit.specs.Frame.{Frame}
 use Rattle.tw_lineedit.specs.Run.{run_of}
 use Rattle.tw_lineedit.specs.ScreenRuns.{sized_scene, batches_of, RendersNothing}
 use Rattle.tw_lineedit.specs.Stations.{Station}
-use Rattle.tw_screen_runs.specs.DrawnRuns.{closed_by, since_batches}
+use Rattle.laws_runs.specs.DrawnRuns.{closed_by, since_batches}
 use Rattle.tw_ansi.specs.declared.encode.Encoder.{Encoder}
 use Rattle.tw_ansi.specs.EcmaLaws.{IsColor}
 use Rattle.tw_ansi.specs.EcmaBatches.{CarriesAttributes, IsReached}
@@ -22,7 +22,7 @@ use Rattle.tw_ansi.specs.EcmaPaintings.{sent_batches}
 use Rattle.tw_ansi.specs.EcmaScreen.{EcmaScreen, receive_all}
 use Rattle.tw_ansi.specs.EcmaScreen as terminal
 use Rattle.tw_ansi.specs.EcmaTexts.{ShowsPicture}
-use Rattle.tw_screen_runs.specs.SentRuns.{IsSentAt, sent_paintings, sent_run, shown_by}
+use Rattle.laws_runs.specs.SentRuns.{IsSentAt, sent_paintings, sent_run, shown_by}
 use Rattle.laws_prompt.specs.RowRuns.{AreRowStations, paintings_with_rows, painted_with_rows, ComesWithRows, HealsWithRows, ShowsWithRows}
 
 module _ {V A C : Type 0} (rules : HostRules V) (pen : Pen A C) where

@@ -19,7 +19,7 @@ ghost use Rattle.laws_prompt.specs.RowRuns.{HealedRowClosings, RowClosings, RowH
 ghost use Rattle.laws_prompt.specs.RowScenes.{RowsAreAPreview};
 ghost use Rattle.laws_prompt.specs.RowStations.{ClosesRowStations, HealsRowStations, RowStationsPlayAsSimple, ShowsRowStations};
 ghost use Rattle.laws_prompt.specs.SentRows.{RowClosingsAreShown, RowHealingsAreShown, RowPaintingsAreShown};
-ghost use Rattle.tw_screens.specs.Pens.{Pen};
+ghost use Rattle.laws_screens.specs.Pens.{Pen};
 
 use std::io::Write;
 use tw_host::LineEditorHost;
@@ -60,7 +60,7 @@ pub fn row_cells<A, C>()
 {}
 
 /// After each painting of a run whose stations are simple or have rows, a screen shows the fresh painting. The closing
-/// batch ends below its last row, so calls stack as `drawn_runs` of `tw_screen_runs` says, and a clearing heals whatever
+/// batch ends below its last row, so calls stack as `drawn_runs` of `laws_runs` says, and a clearing heals whatever
 /// was shown and painted before.
 pub fn row_runs<H: LineEditorHost, A, C>()
     ensures painting { (pen : Pen A C) → RowPaintings H.rules pen }

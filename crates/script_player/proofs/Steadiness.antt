@@ -9,7 +9,7 @@ use Rattle.tw_lineedit.specs.EditState.{EditState}
 use Rattle.tw_lineedit.specs.Refusal.{Refusal}
 use Rattle.tw_lineedit.specs.Outcomes.{Outcome, is_over}
 use Rattle.tw_lineedit.specs.Painting.{Rendering}
-use Rattle.tw_lineedit.specs.Run.{Progress, Ending, Moment, Cause, painting_at, state_after, after_painting, after_action, at_no_event, after_event, at_event, run, run_of, CanStop, unmeasured, unpainted, half_painted, unpolled, uncopied, unresolved, unapplied, half_cleared, later}
+use Rattle.tw_lineedit.specs.Run.{Progress, Ending, Moment, Cause, painting_at, state_after, after_painting, after_action, at_no_event, after_event, at_event, run, run_of, CanMiss, unmeasured, unpainted, half_painted, CanRefuse, unresolved, unapplied, half_cleared, missed, CanStop, at_painting, behind_painting, CanStopOn, unpolled, uncopied, taking, CanStopAt, refused, later}
 use Rattle.tw_lineedit.specs.Reading.{start, Reads, FailsToRead, Starves, Halts, ClosesBadly}
 use Rattle.tw_lineedit.specs.declared.Error.{Error}
 use Rattle.tw_lineedit.specs.declared.Error.TheVariants.{Memory, Terminal}
@@ -46,16 +46,30 @@ module _ {V : Type 0} (rules : HostRules V) (overrides : Overrides) (steady : Is
   run-value (e ∷ es) s = at_event-value e es s (run rules es) (painting_at rules s) (run-value es)
 
   -- where a run can be stopped
-  stop-value : {c : Cause} {es : List EventView} {s : Progress V} {m : Moment V} → CanStop rules overrides c es s m → m.value ≡ s.value
-  stop-value unmeasured = refl
-  stop-value (unpainted sized) = refl
-  stop-value (half_painted painted) = refl
-  stop-value (unpolled painted goes) = refl
-  stop-value (uncopied painted over line) = refl
-  stop-value (unresolved painted goes own) = refl
-  stop-value {s = s} (unapplied {e = e} painted goes takes) = steady s.value e s.state.cut
-  stop-value {s = s} (half_cleared {e = e} painted goes clears) = steady s.value e s.state.cut
-  stop-value {s = s} (later {e = e} painted goes leads rest) = stop-value rest ∙ steady s.value e s.state.cut
+  miss-value : {c : Cause} {es : List EventView} {s : Progress V} {m : Moment V} → CanMiss rules c es s m → m.value ≡ s.value
+  miss-value unmeasured = refl
+  miss-value (unpainted sized) = refl
+  miss-value (half_painted painted) = refl
+
+  refuse-value : {c : Cause} {e : EventView} {es : List EventView} {s : Progress V} {m : Moment V} → CanRefuse rules overrides c e es s m → m.value ≡ s.value
+  refuse-value (unresolved own) = refl
+  refuse-value {e = e} {s = s} (unapplied takes) = steady s.value e s.state.cut
+  refuse-value {e = e} {s = s} (half_cleared clears) = steady s.value e s.state.cut
+  refuse-value {e = e} {s = s} (missed leads miss) = miss-value miss ∙ steady s.value e s.state.cut
+
+  mutual
+    stop-value : {c : Cause} {es : List EventView} {s : Progress V} {m : Moment V} → CanStop rules overrides c es s m → m.value ≡ s.value
+    stop-value (at_painting miss) = miss-value miss
+    stop-value (behind_painting painted rest) = on-value rest
+
+    on-value : {c : Cause} {es : List EventView} {s : Progress V} {m : Moment V} → CanStopOn rules overrides c es s m → m.value ≡ s.value
+    on-value (unpolled goes) = refl
+    on-value (uncopied over line) = refl
+    on-value (taking goes rest) = at-value rest
+
+    at-value : {c : Cause} {e : EventView} {es : List EventView} {s : Progress V} {m : Moment V} → CanStopAt rules overrides c e es s m → m.value ≡ s.value
+    at-value (refused r) = refuse-value r
+    at-value {e = e} {s = s} (later leads rest) = stop-value rest ∙ steady s.value e s.state.cut
 
   -- where memory was refused
   starved-value : (f : Frame V) (m : Moment V) → Starves rules overrides None f m → m.value ≡ f.value

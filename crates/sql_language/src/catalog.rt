@@ -43,14 +43,16 @@ fn has_column(tables: &[&SqlTable], name: &str) -> bool
 
 /// Returns true if a statement that names some of the tables may mean a name.
 fn is_in_scope(tables: &[SqlTable], named: &[&SqlTable], name: &str) -> bool
-    ensures { result ≡ is_in_scope (map table_view tables.now) (map (λ table. table_view table.now) named.now) name.now }
+    ensures { result ≡ is_in_scope (map table_view tables.now)
+        (map (λ table. table_view table.now) named.now) name.now }
 {
     named.is_empty() || has_table(tables, name) || has_column(named, name)
 }
 
 /// Returns true if a name completes a word in a statement that names some of the tables.
 fn completes(tables: &[SqlTable], named: &[&SqlTable], word: &str, name: &str) -> bool
-    ensures { result ≡ completes (map table_view tables.now) (map (λ table. table_view table.now) named.now) word.now name.now }
+    ensures { result ≡ completes (map table_view tables.now)
+        (map (λ table. table_view table.now) named.now) word.now name.now }
 {
     is_start_of(word, name) && is_in_scope(tables, named, name)
 }
@@ -83,7 +85,8 @@ pub fn completing_names(
     word: &str,
 ) -> Result<Vec<String>, AllocError>
     ensures { IfOk result (λ texts. map string_bytes texts.items
-        ≡ completing_names (map string_bytes keywords.now) (catalog_view catalog.now) (map (λ table. table_view table.now) named.now) word.now) }
+        ≡ completing_names (map string_bytes keywords.now) (catalog_view catalog.now)
+        (map (λ table. table_view table.now) named.now) word.now) }
 {
     let mut texts = Vec::new(alloc);
     for name in &catalog.names {

@@ -31,7 +31,8 @@ fn completing_keywords(
     keywords: &[String],
     word: &str,
 ) -> Result<Vec<String>, AllocError>
-    ensures { IfOk result (λ texts. map string_bytes texts.items ≡ completing_keywords (map string_bytes keywords.now) word.now) }
+    ensures { IfOk result (λ texts. map string_bytes texts.items
+        ≡ completing_keywords (map string_bytes keywords.now) word.now) }
 {
     let mut texts = Vec::new(alloc);
     for keyword in keywords {
@@ -52,7 +53,8 @@ pub fn completions(
     word: &str,
 ) -> Result<Vec<String>, AllocError>
     ensures { IfOk result (λ texts. map string_bytes texts.items
-        ≡ completions (map string_bytes keywords.now) (catalog_view catalog.now) statement.now word.now) }
+        ≡ completions (map string_bytes keywords.now) (catalog_view catalog.now)
+        statement.now word.now) }
 {
     let tokens = tokenize(alloc, statement)?;
     let named = named_tables(alloc, &catalog.tables, &tokens)?;

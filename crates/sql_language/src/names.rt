@@ -65,7 +65,8 @@ pub(crate) fn written_name(
     keywords: &[String],
     name: &str,
 ) -> Result<String, AllocError>
-    ensures { IfOk result (λ written. string_bytes written ≡ written_name (map string_bytes keywords.now) name.now) }
+    ensures { IfOk result (λ written. string_bytes written
+        ≡ written_name (map string_bytes keywords.now) name.now) }
 {
     if is_one_word(name) && !has_word(keywords, name) {
         String::from_str(alloc, name)

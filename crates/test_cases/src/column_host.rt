@@ -16,7 +16,8 @@ pub struct ColumnHost {
 impl ColumnHost {
     /// The host with an empty history and this column. It takes no memory.
     pub fn new(alloc: Global, column: usize) -> Self
-        ensures { ⟦<ColumnHost as LineEditorHost>⟧.value result ≡ record { lines = []; column = column } }
+        ensures { ⟦<ColumnHost as LineEditorHost>⟧.value result
+            ≡ record { lines = []; column = column } }
     {
         let history = BasicHistory::new(alloc);
         ColumnHost { history, column }

@@ -4,7 +4,7 @@ use crate::expected::expect;
 use std::alloc::{AllocError, AllocFailed, Global};
 use std::test::Fail;
 use test_cases::expect_rows;
-use tw_painter::Error;
+use tw_session::Error;
 use tw_surface::{AddFault, ScreenFault, SizeFault};
 use tw_terminal::TerminalFault;
 

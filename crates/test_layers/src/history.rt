@@ -5,7 +5,7 @@ use std::alloc::{AllocError, Global};
 use std::borrow::CowStr;
 use std::test::Fail;
 use test_cases::expect_rows;
-use tw_history::{BasicHistory, History, SearchDirection, SearchResult, SearchStyle};
+use tw_line::{BasicHistory, History, SearchDirection, SearchResult, SearchStyle};
 
 /// The history with lines added in turn.
 fn filled<H: History + Drop>(mut history: H, lines: &[&str]) -> Result<H, AllocError> {

@@ -3,10 +3,9 @@
 use std::alloc::{AllocError, Global};
 use std::test::Fail;
 use test_cases::{expect_runs, pair_of, write_batch};
-use tw_history::SearchDirection;
 use tw_host::NopLineEditorHost;
-use tw_line::LineEditBuffer;
-use tw_painter::{Below, Error, Mark, painting};
+use tw_line::{LineEditBuffer, SearchDirection};
+use tw_session::{Below, Error, Mark, painting};
 use tw_surface::Change;
 use tw_terminal::ScreenSize;
 

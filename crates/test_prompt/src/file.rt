@@ -5,8 +5,8 @@ use std::alloc::Global;
 use std::io::{self, Error, ErrorKind, Write};
 use std::test::Fail;
 use test_cases::{bytes_of, expect_rows};
-use tw_history::History;
 use tw_history_parts::{RecentHistory, WrittenHistory};
+use tw_line::History;
 
 /// How many lines the histories keep.
 const LINES_KEPT: usize = 10;

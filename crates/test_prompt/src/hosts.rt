@@ -3,14 +3,13 @@
 use std::alloc::{AllocError, Global};
 use std::test::Fail;
 use test_cases::{events_named, expect_rows, parted};
-use tw_history::BasicHistory;
 use tw_host::{LineEditorHost, OutputElement};
 use tw_hosts::{
     Binding, Hint, KeyBinding, Styles, TableHost, Tables, first_word, is_known, last_word,
     split_token,
 };
 use tw_input::{KeyCode, KeyEvent, Modifiers};
-use tw_line::LineEditBuffer;
+use tw_line::{BasicHistory, LineEditBuffer};
 use tw_surface::{CellAttributes, ColorAttribute, Intensity};
 
 /// The elements as text: `B` before a bold text, `G` before a green one, `.` before a plain one, all between bars.

@@ -3,8 +3,8 @@
 use std::alloc::Global;
 use std::test::Fail;
 use test_cases::expect_rows;
-use tw_history::{History, LentLines, SearchDirection, SearchStyle};
 use tw_history_parts::RecentHistory;
+use tw_line::{History, LentLines, SearchDirection, SearchStyle};
 
 /// Returns the lines of a history in quotation marks.
 pub fn lines_text<L: LentLines>(alloc: Global, history: &L) -> Result<String, Fail> {

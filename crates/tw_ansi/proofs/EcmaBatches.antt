@@ -5,10 +5,10 @@ use Rattle.tw_surface.specs.Attributes.{with_attribute}
 use Rattle.tw_surface.specs.declared.cell.CellAttributes.{CellAttributes}
 use Rattle.tw_surface.specs.declared.color.ColorAttribute.{ColorAttribute}
 use Rattle.tw_surface.specs.ChangeView.{ChangeView, Attribute, AllAttributes, Text, ClearScreen, ClearToEndOfScreen, CursorPosition}
-use Rattle.tw_strokes.specs.Strokes.{PictureOf, Stroke, cleared_in, filled, steps_on}
-use Rattle.tw_strokes.proofs.SeenRows.{steps_on-append}
-use Rattle.tw_screens.specs.Pens.{Pen, change_strokes, strokes_of, kept_after}
-use Rattle.tw_screens.specs.Screens.{blank_of}
+use Rattle.laws_screens.specs.Strokes.{PictureOf, Stroke, cleared_in, filled, steps_on}
+use Rattle.laws_screens.proofs.SeenRows.{steps_on-append}
+use Rattle.laws_screens.specs.Pens.{Pen, change_strokes, strokes_of, kept_after}
+use Rattle.laws_screens.specs.Screens.{blank_of}
 use Rattle.tw_ansi.specs.declared.encode.Encoder.{Encoder}
 use Rattle.tw_ansi.specs.Encoding.{Sent, sent_change, sent_batch, terse_change, terse_batch, at_column, parted_from_wait}
 use Rattle.tw_ansi.specs.Sequences.{set_attribute, set_attributes, to_column, to_first_cell, clear_below, clear_rows, clear_all, clear_with, up_a_row}

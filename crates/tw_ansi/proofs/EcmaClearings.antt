@@ -1,11 +1,11 @@
 -- What a terminal does at each clearing that is sent.
 use Rattle.std.proofs.Common.{◌≡◌, ◌-◌, ℕ, Bool, true, false, ◌&&◌, cond, eqb, min, List, ◌++◌, arith, ap, ◌∙◌, sym, refl}
 use Rattle.std.proofs.lemmas.Bool.{eqb-true, and_parts}
-use Rattle.tw_strokes.specs.Strokes.{cleared_in}
+use Rattle.laws_screens.specs.Strokes.{cleared_in}
 use Rattle.tw_surface.specs.declared.cell.AttributeChange.TheVariants.{Background}
 use Rattle.tw_surface.specs.declared.color.ColorAttribute.{ColorAttribute}
 use Rattle.tw_surface.specs.declared.color.ColorAttribute.TheVariants.{Default, PaletteIndex, TrueColorWithDefaultFallback}
-use Rattle.tw_screens.specs.Pens.{Pen}
+use Rattle.laws_screens.specs.Pens.{Pen}
 use Rattle.tw_ansi.specs.Sequences.{set_attribute, clear_below, clear_rows, clear_all, clear_with, is_same_color}
 use Rattle.tw_ansi.specs.EcmaScreen.{EcmaScreen, receive_all}
 use Rattle.tw_ansi.specs.EcmaScreen as terminal

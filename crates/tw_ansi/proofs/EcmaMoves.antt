@@ -6,11 +6,11 @@ use Rattle.std.proofs.lemmas.Int.{ints}
 use Rattle.tw_surface.specs.declared.cell.CellAttributes.{CellAttributes}
 use Rattle.tw_surface.specs.declared.change.Position.{Position}
 use Rattle.tw_surface.specs.declared.change.Position.TheVariants.{Absolute, Relative}
-use Rattle.tw_strokes.specs.Strokes.{PictureOf, scrolled, steps_on}
+use Rattle.laws_screens.specs.Strokes.{PictureOf, scrolled, steps_on}
 use Rattle.tw_surface.specs.ChangeView.{CursorPosition}
 use Rattle.tw_surface.specs.Positions.{position_after, at_least_0}
-use Rattle.tw_screens.specs.Pens.{Pen, change_strokes}
-use Rattle.tw_screens.specs.Screens.{blank_of}
+use Rattle.laws_screens.specs.Pens.{Pen, change_strokes}
+use Rattle.laws_screens.specs.Screens.{blank_of}
 use Rattle.tw_ansi.specs.declared.encode.Encoder.{Encoder}
 use Rattle.tw_ansi.specs.Encoding.{sent_change, terse_change, at_column, column_of}
 use Rattle.tw_ansi.specs.Sequences.{to_column, to_row, along_column, along_row, up_a_row, sequence, most_rows}

@@ -13,10 +13,10 @@ use Rattle.tw_surface.specs.Pictures.{blank}
 use Rattle.tw_surface.specs.Places.{place_after_all, origin, move_between}
 use Rattle.tw_surface.specs.Scenes.{Scene, Lower}
 use Rattle.tw_surface.specs.Scenes.Lower.{NoLower, Preview, Search}
-use Rattle.tw_strokes.specs.Strokes.{PictureOf, steps_on}
-use Rattle.tw_screens.specs.Pens.{Pen, change_strokes, strokes_of, kept_after_all}
-use Rattle.tw_screens.specs.Screens.{play_sized}
-use Rattle.tw_screens.specs.SizedBatches.{sized_at}
+use Rattle.laws_screens.specs.Strokes.{PictureOf, steps_on}
+use Rattle.laws_screens.specs.Pens.{Pen, change_strokes, strokes_of, kept_after_all}
+use Rattle.laws_screens.specs.Screens.{play_sized}
+use Rattle.laws_screens.specs.SizedBatches.{sized_at}
 use Rattle.tw_surface.specs.PaintingBatches.{clear_batch, clearing, batches_after, shots, closing_of}
 use Rattle.tw_ansi.specs.declared.encode.Encoder.{Encoder}
 use Rattle.tw_ansi.specs.Encoding.{sent_change, sent_batch}

@@ -14,7 +14,7 @@ use Rattle.tw_surface.specs.declared.color.ColorAttribute.{ColorAttribute}
 use Rattle.tw_surface.specs.declared.color.ColorAttribute.TheVariants.{Default, PaletteIndex, TrueColorWithDefaultFallback}
 use Rattle.tw_surface.specs.Attributes.{with_attribute}
 use Rattle.tw_surface.specs.Defaults.{default_attributes}
-use Rattle.tw_screens.specs.Pens.{Pen}
+use Rattle.laws_screens.specs.Pens.{Pen}
 use Rattle.tw_ansi.specs.KeyBytes.{is_digit, is_parameter, value_after}
 use Rattle.tw_ansi.specs.Sequences.{sequence, color_parameters, attribute_parameters, set_attribute, set_unless_off, attributes_of, is_off}
 use Rattle.tw_ansi.specs.Selections.{fields, onto_first, selected, selected_by, selects}

@@ -1,8 +1,8 @@
 -- A line feed on a terminal, and a picture that scrolls.
 use Rattle.std.proofs.Common.{Some, ◌≡◌, ◌≤◌, ◌<◌, ◌+◌, ◌-◌, ℕ, false, cond, ltb, ap, subst, ◌∙◌, sym, refl, inl, inr, ◌⊎◌, arith}
 use Rattle.std.proofs.lemmas.Bool.{eq-eqb, ne_eqb, lt-ltb, le-ltb, cases_eq, cases_lt}
-use Rattle.tw_strokes.specs.Strokes.{PictureOf, scrolled}
-use Rattle.tw_screens.specs.Pens.{Pen}
+use Rattle.laws_screens.specs.Strokes.{PictureOf, scrolled}
+use Rattle.laws_screens.specs.Pens.{Pen}
 use Rattle.tw_ansi.specs.declared.encode.Encoder.{Encoder}
 use Rattle.tw_ansi.specs.EcmaScreen.{EcmaScreen, feed_line}
 use Rattle.tw_ansi.specs.EcmaTexts.{IsOfRows, ShowsPicture}

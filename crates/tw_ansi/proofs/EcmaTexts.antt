@@ -3,12 +3,12 @@ use Rattle.std.proofs.Common.{◌≡◌, ◌≤◌, ◌<◌, ◌+◌, ◌-◌, �
 use Rattle.std.specs.List.{list_all}
 use Rattle.std.proofs.lemmas.Bool.{eq-eqb, ne_eqb, le-leb, lt-leb, cases_lt, cases_Bool, and_parts}
 use Rattle.unicode_segmentation.specs.Grapheme.{graphemes}
-use Rattle.tw_strokes.specs.Strokes.{PictureOf, Stroke, put, step, steps_on, scrolled}
-use Rattle.tw_strokes.specs.Strokes.Stroke.{Put, Return, Feed}
+use Rattle.laws_screens.specs.Strokes.{PictureOf, Stroke, put, step, steps_on, scrolled}
+use Rattle.laws_screens.specs.Strokes.Stroke.{Put, Return, Feed}
 use Rattle.tw_surface.specs.declared.cell.CellAttributes.{CellAttributes}
 use Rattle.tw_surface.specs.Characters.{is_plain, is_printable}
-use Rattle.tw_screens.specs.Pens.{Pen, char_stroke}
-use Rattle.tw_screens.specs.Screens.{blank_of}
+use Rattle.laws_screens.specs.Pens.{Pen, char_stroke}
+use Rattle.laws_screens.specs.Screens.{blank_of}
 use Rattle.tw_ansi.specs.declared.encode.Encoder.{Encoder}
 use Rattle.tw_ansi.specs.Encoding.{Sent, at_column, parted_from_wait, sent_return, sent_feed, sent_byte, sent_columns, sent_beginning, sent_plain, sent_clusters, sent_text}
 use Rattle.tw_ansi.specs.Sequences.{to_column}

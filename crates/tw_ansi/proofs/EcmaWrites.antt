@@ -2,9 +2,9 @@
 use Rattle.std.proofs.Common.{Some, ◌≡◌, ◌≤◌, ◌<◌, ◌+◌, ◌-◌, ℕ, true, false, not, ◌&&◌, cond, eqb, min, ap, subst, ◌∙◌, sym, refl, inl, inr, ◌⊎◌, arith}
 use Rattle.std.proofs.lemmas.Bool.{eq-eqb, ne_eqb, cases_eq, and_parts, leb-true}
 use Rattle.tw_surface.specs.Characters.{is_printable}
-use Rattle.tw_strokes.specs.Strokes.{PictureOf, put_in, scrolled}
-use Rattle.tw_screens.specs.Pens.{Pen}
-use Rattle.tw_screens.specs.Screens.{blank_of}
+use Rattle.laws_screens.specs.Strokes.{PictureOf, put_in, scrolled}
+use Rattle.laws_screens.specs.Pens.{Pen}
+use Rattle.laws_screens.specs.Screens.{blank_of}
 use Rattle.tw_ansi.specs.declared.encode.Encoder.{Encoder}
 use Rattle.tw_ansi.specs.Encoding.{at_column}
 use Rattle.tw_ansi.specs.EcmaScreen.{EcmaScreen, receive, receive_by, return_to_start, step_back, feed_line, write, write_here}

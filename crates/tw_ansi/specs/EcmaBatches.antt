@@ -1,7 +1,7 @@
 -- What a terminal shows that is sent the bytes of a batch.
 use Rattle.std.specs.Prelude.{◌≡◌, ◌≤◌, ◌<◌, ◌+◌, ◌^◌, ℕ, ltb, pos, negsuc, true, false, if◌then◌else◌, Some, [], ◌∷◌, ⊤}
 use Rattle.std.specs.List.{list_all}
-use Rattle.tw_strokes.specs.Strokes.{PictureOf, steps_on}
+use Rattle.laws_screens.specs.Strokes.{PictureOf, steps_on}
 use Rattle.tw_surface.specs.declared.cell.AttributeChange.{AttributeChange}
 use Rattle.tw_surface.specs.declared.cell.CellAttributes.{CellAttributes}
 use Rattle.tw_surface.specs.declared.change.Position.{Position}
@@ -11,8 +11,8 @@ use Rattle.tw_surface.specs.ChangeView.{Attribute, AllAttributes, Text, ClearScr
 use Rattle.tw_surface.specs.Attributes.{with_attribute}
 use Rattle.tw_surface.specs.Characters.{is_plain}
 use Rattle.tw_surface.specs.Defaults.{default_attributes}
-use Rattle.tw_screens.specs.Pens.{Pen, change_strokes, strokes_of, kept_after}
-use Rattle.tw_screens.specs.Screens.{blank_of}
+use Rattle.laws_screens.specs.Pens.{Pen, change_strokes, strokes_of, kept_after}
+use Rattle.laws_screens.specs.Screens.{blank_of}
 use Rattle.tw_ansi.specs.declared.encode.Encoder.{Encoder}
 use Rattle.tw_ansi.specs.Sequences.{most_rows}
 use Rattle.tw_ansi.specs.Encoding.{first_known, sent_change, sent_batch, terse_batch}

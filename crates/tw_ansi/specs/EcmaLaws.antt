@@ -1,6 +1,6 @@
 -- What a terminal does that is sent the bytes of changes.
 use Rattle.std.specs.Prelude.{◌≡◌, ◌<◌, ◌≤◌, ◌+◌, ◌-◌, ◌^◌, ℕ, min, pos, negsuc, false, ◌++◌, ⊤}
-use Rattle.tw_strokes.specs.Strokes.{cleared_in}
+use Rattle.laws_screens.specs.Strokes.{cleared_in}
 use Rattle.tw_surface.specs.declared.cell.AttributeChange.{AttributeChange}
 use Rattle.tw_surface.specs.declared.cell.AttributeChange.TheVariants.{Foreground, Background}
 use Rattle.tw_surface.specs.declared.change.Position.TheVariants.{Relative}
@@ -8,7 +8,7 @@ use Rattle.tw_surface.specs.declared.color.ColorAttribute.{ColorAttribute}
 use Rattle.tw_surface.specs.declared.color.ColorAttribute.TheVariants.{Default, PaletteIndex, TrueColorWithDefaultFallback}
 use Rattle.tw_surface.specs.declared.cell.CellAttributes.{CellAttributes}
 use Rattle.tw_surface.specs.Attributes.{with_attribute}
-use Rattle.tw_screens.specs.Pens.{Pen}
+use Rattle.laws_screens.specs.Pens.{Pen}
 use Rattle.tw_ansi.specs.Sequences.{along_row, along_column, to_column, to_row, set_attribute, set_attributes, clear_below, clear_rows, clear_all, clear_with, to_first_cell, most_rows}
 use Rattle.tw_ansi.specs.EcmaScreen.{EcmaScreen, receive_all, row_cleared}
 use Rattle.tw_ansi.specs.EcmaScreen as terminal

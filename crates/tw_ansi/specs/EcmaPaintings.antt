@@ -1,7 +1,7 @@
 -- Paintings whose bytes do what they do.
 use Rattle.std.specs.Prelude.{◌≡◌, ◌<◌, ◌+◌, ◌^◌, ◌-ℤ◌, neg_ℤ, ℕ, pos, true, false, Some, List, [], ◌∷◌, ⊤}
 use Rattle.std.specs.List.{list_all, AllByRecursion}
-use Rattle.tw_strokes.specs.Strokes.{PictureOf, steps_on}
+use Rattle.laws_screens.specs.Strokes.{PictureOf, steps_on}
 use Rattle.tw_surface.specs.declared.change.Position.TheVariants.{Relative}
 use Rattle.tw_surface.specs.ChangeView.{ChangeView, Batch}
 use Rattle.tw_surface.specs.ChangeView.{Attribute, AllAttributes, Text, ClearScreen, ClearToEndOfScreen, CursorPosition}
@@ -11,9 +11,9 @@ use Rattle.tw_surface.specs.Places.{place_after_all, origin}
 use Rattle.tw_surface.specs.Scenes.{Scene, Lower}
 use Rattle.tw_surface.specs.PaintingBatches.{run_batches}
 use Rattle.tw_surface.specs.Scenes.Lower.{NoLower, Preview, Search}
-use Rattle.tw_screens.specs.Pens.{Pen, strokes_of}
-use Rattle.tw_screens.specs.Screens.{play_sized}
-use Rattle.tw_screens.specs.SizedBatches.{sized_at}
+use Rattle.laws_screens.specs.Pens.{Pen, strokes_of}
+use Rattle.laws_screens.specs.Screens.{play_sized}
+use Rattle.laws_screens.specs.SizedBatches.{sized_at}
 use Rattle.tw_ansi.specs.declared.encode.Encoder.{Encoder}
 use Rattle.tw_ansi.specs.Encoding.{Sent, sends, sent_then, sent_batch}
 use Rattle.tw_ansi.specs.EcmaLaws.{IsColor, IsAttribute}

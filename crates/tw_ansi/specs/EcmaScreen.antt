@@ -1,11 +1,11 @@
 -- A small terminal after ECMA-48: w columns and h rows of any kind of cells, and what each byte that comes does to it.
 use Rattle.std.specs.Prelude.{ℕ, ◌+◌, ◌-◌, ◌&&◌, eqb, ltb, leb, min, Bool, true, false, if◌then◌else◌, List, [], ◌∷◌, ◌++◌}
 use Rattle.std.specs.List.{list_all}
-use Rattle.tw_strokes.specs.Strokes.{put_in, cleared_in}
+use Rattle.laws_screens.specs.Strokes.{put_in, cleared_in}
 use Rattle.tw_surface.specs.declared.cell.CellAttributes.{CellAttributes}
 use Rattle.tw_surface.specs.Characters.{is_printable, cr, lf}
-use Rattle.tw_screens.specs.Pens.{Pen}
-use Rattle.tw_screens.specs.Screens.{blank_of}
+use Rattle.laws_screens.specs.Pens.{Pen}
+use Rattle.laws_screens.specs.Screens.{blank_of}
 use Rattle.tw_ansi.specs.KeyBytes.{is_digit, is_parameter, value_after}
 use Rattle.tw_ansi.specs.Selections.{selected}
 use Rattle.tw_ansi.specs.Sequences.{bs}

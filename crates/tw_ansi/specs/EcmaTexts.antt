@@ -1,10 +1,10 @@
 -- What a terminal shows that is sent the bytes of plain texts.
 use Rattle.std.specs.Prelude.{◌≡◌, ◌≤◌, ◌<◌, ◌-◌, ◌^◌, ◌&&◌, not, ℕ, eqb, min, true, Some, List, map}
 use Rattle.std.specs.List.{list_all}
-use Rattle.tw_strokes.specs.Strokes.{PictureOf, steps_on}
+use Rattle.laws_screens.specs.Strokes.{PictureOf, steps_on}
 use Rattle.tw_surface.specs.Characters.{is_plain}
-use Rattle.tw_screens.specs.Pens.{Pen, char_stroke}
-use Rattle.tw_screens.specs.Screens.{blank_of}
+use Rattle.laws_screens.specs.Pens.{Pen, char_stroke}
+use Rattle.laws_screens.specs.Screens.{blank_of}
 use Rattle.tw_ansi.specs.declared.encode.Encoder.{Encoder}
 use Rattle.tw_ansi.specs.Encoding.{sent_text}
 use Rattle.tw_ansi.specs.EcmaScreen.{EcmaScreen, receive_all}

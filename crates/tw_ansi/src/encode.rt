@@ -66,8 +66,10 @@ impl Encoder {
 
     /// Adds what the change is sent as. A refusal leaves the text and what is known as they were.
     pub fn encode(&mut self, change: &Change, out: &mut String) -> Result<(), AllocError>
-        ensures bytes { OnOk result (string_bytes out.new ≡ string_bytes out.old ++ (sent_change (change_view change.now) self.old).bytes) }
-        ensures next { OnOk result (self.new ≡ (sent_change (change_view change.now) self.old).next) }
+        ensures bytes { OnOk result (string_bytes out.new
+            ≡ string_bytes out.old ++ (sent_change (change_view change.now) self.old).bytes) }
+        ensures next { OnOk result (self.new
+            ≡ (sent_change (change_view change.now) self.old).next) }
         ensures text_stays { OnErr result (string_bytes out.new ≡ string_bytes out.old) }
         ensures stays { OnErr result (self.new ≡ self.old) }
     {
@@ -86,8 +88,10 @@ impl Encoder {
     /// Adds what the change is sent as, and a move by few bytes, as from a cursor that stands where it is known to
     /// stand: to a row of the terminal, since it does not scroll. A refusal may have added a part of it.
     pub fn encode_tersely(&mut self, change: &Change, out: &mut String) -> Result<(), AllocError>
-        ensures bytes { OnOk result (string_bytes out.new ≡ string_bytes out.old ++ (terse_change (change_view change.now) self.old).bytes) }
-        ensures next { OnOk result (self.new ≡ (terse_change (change_view change.now) self.old).next) }
+        ensures bytes { OnOk result (string_bytes out.new
+            ≡ string_bytes out.old ++ (terse_change (change_view change.now) self.old).bytes) }
+        ensures next { OnOk result (self.new
+            ≡ (terse_change (change_view change.now) self.old).next) }
         ensures err { OnErr result (ExtendsBytes (string_bytes out.old) (string_bytes out.new)) }
     {
         match change {
@@ -103,7 +107,8 @@ impl Encoder {
     /// Adds what a character of a plain text is sent as. A refusal may have added a part of it.
     pub fn encode_byte(&mut self, byte: u8, out: &mut String) -> Result<(), AllocError>
         requires { is_plain byte ≡ true }
-        ensures bytes { OnOk result (string_bytes out.new ≡ string_bytes out.old ++ (sent_byte self.old byte).bytes) }
+        ensures bytes { OnOk result (string_bytes out.new
+            ≡ string_bytes out.old ++ (sent_byte self.old byte).bytes) }
         ensures next { OnOk result (self.new ≡ (sent_byte self.old byte).next) }
         ensures err { OnErr result (ExtendsBytes (string_bytes out.old) (string_bytes out.new)) }
     {
@@ -112,8 +117,10 @@ impl Encoder {
 
     /// Adds what the change is sent as, or a part of it.
     fn send(&mut self, change: &Change, out: &mut String) -> Result<(), AllocError>
-        ensures bytes { OnOk result (string_bytes out.new ≡ string_bytes out.old ++ (sent_change (change_view change.now) self.old).bytes) }
-        ensures next { OnOk result (self.new ≡ (sent_change (change_view change.now) self.old).next) }
+        ensures bytes { OnOk result (string_bytes out.new
+            ≡ string_bytes out.old ++ (sent_change (change_view change.now) self.old).bytes) }
+        ensures next { OnOk result (self.new
+            ≡ (sent_change (change_view change.now) self.old).next) }
         ensures err { OnErr result (ExtendsBytes (string_bytes out.old) (string_bytes out.new)) }
     {
         match change {
@@ -130,8 +137,10 @@ impl Encoder {
     }
 
     fn set_attribute(&mut self, change: AttributeChange, out: &mut String) -> Result<(), AllocError>
-        ensures bytes { OnOk result (string_bytes out.new ≡ string_bytes out.old ++ set_attribute change) }
-        ensures next { self.new ≡ record self.old { attributes = with_attribute change self.old.attributes } }
+        ensures bytes { OnOk result (string_bytes out.new
+            ≡ string_bytes out.old ++ set_attribute change) }
+        ensures next { self.new
+            ≡ record self.old { attributes = with_attribute change self.old.attributes } }
         ensures err { OnErr result (ExtendsBytes (string_bytes out.old) (string_bytes out.new)) }
     {
         self.attributes.apply_change(&change);
@@ -140,7 +149,8 @@ impl Encoder {
 
     /// A text: a plain one character by character, any other one cluster by cluster.
     fn write(&mut self, text: &str, out: &mut String) -> Result<(), AllocError>
-        ensures bytes { OnOk result (string_bytes out.new ≡ string_bytes out.old ++ (sent_text text.now self.old).bytes) }
+        ensures bytes { OnOk result (string_bytes out.new
+            ≡ string_bytes out.old ++ (sent_text text.now self.old).bytes) }
         ensures next { OnOk result (self.new ≡ (sent_text text.now self.old).next) }
         ensures err { OnErr result (ExtendsBytes (string_bytes out.old) (string_bytes out.new)) }
     {
@@ -153,7 +163,8 @@ impl Encoder {
 
     fn write_plain(&mut self, text: &[u8], out: &mut String) -> Result<(), AllocError>
         requires { list_all is_plain text.now ≡ true }
-        ensures bytes { OnOk result (string_bytes out.new ≡ string_bytes out.old ++ (sent_plain text.now self.old).bytes) }
+        ensures bytes { OnOk result (string_bytes out.new
+            ≡ string_bytes out.old ++ (sent_plain text.now self.old).bytes) }
         ensures next { OnOk result (self.new ≡ (sent_plain text.now self.old).next) }
         ensures err { OnErr result (ExtendsBytes (string_bytes out.old) (string_bytes out.new)) }
     {
@@ -166,7 +177,8 @@ impl Encoder {
     fn write_clusters(&mut self, text: &str, out: &mut String) -> Result<(), AllocError>
         ensures bytes { OnOk result (string_bytes out.new
             ≡ string_bytes out.old ++ (sent_clusters (graphemes true text.now) self.old).bytes) }
-        ensures next { OnOk result (self.new ≡ (sent_clusters (graphemes true text.now) self.old).next) }
+        ensures next { OnOk result (self.new
+            ≡ (sent_clusters (graphemes true text.now) self.old).next) }
         ensures err { OnErr result (ExtendsBytes (string_bytes out.old) (string_bytes out.new)) }
     {
         for cluster in text.graphemes(true) {
@@ -178,7 +190,8 @@ impl Encoder {
     /// A character of a plain text.
     fn write_byte(&mut self, byte: u8, out: &mut String) -> Result<(), AllocError>
         requires { byte < 128 }
-        ensures bytes { OnOk result (string_bytes out.new ≡ string_bytes out.old ++ (sent_byte self.old byte).bytes) }
+        ensures bytes { OnOk result (string_bytes out.new
+            ≡ string_bytes out.old ++ (sent_byte self.old byte).bytes) }
         ensures next { OnOk result (self.new ≡ (sent_byte self.old byte).next) }
         ensures err { OnErr result (ExtendsBytes (string_bytes out.old) (string_bytes out.new)) }
     {
@@ -194,7 +207,8 @@ impl Encoder {
 
     /// A cluster of any other text.
     fn write_cluster(&mut self, cluster: &str, out: &mut String) -> Result<(), AllocError>
-        ensures bytes { OnOk result (string_bytes out.new ≡ string_bytes out.old ++ (sent_cluster self.old cluster.now).bytes) }
+        ensures bytes { OnOk result (string_bytes out.new
+            ≡ string_bytes out.old ++ (sent_cluster self.old cluster.now).bytes) }
         ensures next { OnOk result (self.new ≡ (sent_cluster self.old cluster.now).next) }
         ensures err { OnErr result (ExtendsBytes (string_bytes out.old) (string_bytes out.new)) }
     {
@@ -210,7 +224,8 @@ impl Encoder {
     }
 
     fn return_to_start(&mut self, out: &mut String) -> Result<(), AllocError>
-        ensures bytes { OnOk result (string_bytes out.new ≡ string_bytes out.old ++ (sent_return self.old).bytes) }
+        ensures bytes { OnOk result (string_bytes out.new
+            ≡ string_bytes out.old ++ (sent_return self.old).bytes) }
         ensures next { OnOk result (self.new ≡ (sent_return self.old).next) }
         ensures err { OnErr result (ExtendsBytes (string_bytes out.old) (string_bytes out.new)) }
     {
@@ -219,7 +234,8 @@ impl Encoder {
     }
 
     fn return_and_feed(&mut self, out: &mut String) -> Result<(), AllocError>
-        ensures bytes { OnOk result (string_bytes out.new ≡ string_bytes out.old ++ (sent_return_feed self.old).bytes) }
+        ensures bytes { OnOk result (string_bytes out.new
+            ≡ string_bytes out.old ++ (sent_return_feed self.old).bytes) }
         ensures next { OnOk result (self.new ≡ (sent_return_feed self.old).next) }
         ensures err { OnErr result (ExtendsBytes (string_bytes out.old) (string_bytes out.new)) }
     {
@@ -230,7 +246,8 @@ impl Encoder {
     /// What a terminal that waits after the last column does at a line feed is not known: so the column is gone
     /// to again.
     fn feed_line(&mut self, out: &mut String) -> Result<(), AllocError>
-        ensures bytes { OnOk result (string_bytes out.new ≡ string_bytes out.old ++ (sent_feed self.old).bytes) }
+        ensures bytes { OnOk result (string_bytes out.new
+            ≡ string_bytes out.old ++ (sent_feed self.old).bytes) }
         ensures next { OnOk result (self.new ≡ (sent_feed self.old).next) }
         ensures err { OnErr result (ExtendsBytes (string_bytes out.old) (string_bytes out.new)) }
     {
@@ -244,7 +261,8 @@ impl Encoder {
 
     /// Makes room for so many columns: in the row where they fit, and else in the next one.
     fn begin_columns(&mut self, width: usize, out: &mut String) -> Result<(), AllocError>
-        ensures bytes { OnOk result (string_bytes out.new ≡ string_bytes out.old ++ (sent_beginning self.old width).bytes) }
+        ensures bytes { OnOk result (string_bytes out.new
+            ≡ string_bytes out.old ++ (sent_beginning self.old width).bytes) }
         ensures next { OnOk result (self.new ≡ (sent_beginning self.old width).next) }
         ensures err { OnErr result (ExtendsBytes (string_bytes out.old) (string_bytes out.new)) }
     {
@@ -271,7 +289,8 @@ impl Encoder {
     /// Clears the screen to a colour, and goes to its first cell.
     fn clear_screen(&mut self, color: ColorAttribute, out: &mut String) -> Result<(), AllocError>
         ensures bytes { OnOk result (string_bytes out.new
-            ≡ string_bytes out.old ++ (to_first_cell ++ clear_with clear_all color self.old.attributes.background)) }
+            ≡ string_bytes out.old ++ (to_first_cell
+            ++ clear_with clear_all color self.old.attributes.background)) }
         ensures next { self.new ≡ at_column 0 self.old }
         ensures err { OnErr result (ExtendsBytes (string_bytes out.old) (string_bytes out.new)) }
     {
@@ -283,7 +302,8 @@ impl Encoder {
     /// Clears from the cursor on: from column 0 on by rows. Where the last column is written and the cursor stands
     /// after it, that column is kept.
     fn clear_to_end(&mut self, color: ColorAttribute, out: &mut String) -> Result<(), AllocError>
-        ensures bytes { OnOk result (string_bytes out.new ≡ string_bytes out.old ++ (sent_clear color self.old).bytes) }
+        ensures bytes { OnOk result (string_bytes out.new
+            ≡ string_bytes out.old ++ (sent_clear color self.old).bytes) }
         ensures next { OnOk result (self.new ≡ (sent_clear color self.old).next) }
         ensures err { OnErr result (ExtendsBytes (string_bytes out.old) (string_bytes out.new)) }
     {
@@ -303,7 +323,8 @@ impl Encoder {
 
     /// Moves the cursor. A move down below the last row scrolls.
     fn move_cursor(&mut self, x: Position, y: Position, out: &mut String) -> Result<(), AllocError>
-        ensures bytes { OnOk result (string_bytes out.new ≡ string_bytes out.old ++ (to_row y ++ to_column (column_of x self.old))) }
+        ensures bytes { OnOk result (string_bytes out.new
+            ≡ string_bytes out.old ++ (to_row y ++ to_column (column_of x self.old))) }
         ensures next { OnOk result (self.new ≡ at_column (column_of x self.old) self.old) }
         ensures err { OnErr result (ExtendsBytes (string_bytes out.old) (string_bytes out.new)) }
     {
@@ -316,7 +337,8 @@ impl Encoder {
     /// Moves the cursor to a row of the terminal by few bytes: by steps from where it stands, and where it stands after
     /// the last column by the way from the start of the row.
     fn step_cursor(&mut self, x: Position, y: Position, out: &mut String) -> Result<(), AllocError>
-        ensures bytes { OnOk result (string_bytes out.new ≡ string_bytes out.old ++ terse_move x y self.old) }
+        ensures bytes { OnOk result (string_bytes out.new
+            ≡ string_bytes out.old ++ terse_move x y self.old) }
         ensures next { OnOk result (self.new ≡ at_column (column_of x self.old) self.old) }
         ensures err { OnErr result (ExtendsBytes (string_bytes out.old) (string_bytes out.new)) }
     {

@@ -2,8 +2,8 @@
 
 ghost use Rattle.tw_input.specs.Equality.{ComparesValues};
 ghost use Rattle.tw_ansi.specs.Renditions.{AttributesByNumber};
-ghost use Rattle.tw_screens.specs.Pens.{Pen};
-ghost use Rattle.tw_screens.specs.StyledCells.{characters, styled};
+ghost use Rattle.laws_screens.specs.Pens.{Pen};
+ghost use Rattle.laws_screens.specs.StyledCells.{characters, styled};
 ghost use Rattle.tw_ansi.specs.EcmaLaws.{AttributeIsSelected, AttributesAreSelected, ColumnsAreReached, AlongRowsAreReached, RowsAboveAreReached, RowsBelowAreReached, ClearsBelow, ClearsRows, ClearsAll};
 ghost use Rattle.tw_ansi.specs.EcmaTexts.{PlainTextIsShown};
 ghost use Rattle.tw_ansi.specs.EcmaBatches.{CarriesAttributes, FirstIsShown, ChangeIsShown, BatchIsShown, TerseBatchIsShown};

@@ -47,7 +47,8 @@ pub fn scan_on(bytes: &[u8], progress: Progress, is_last: bool) -> Result<Scanne
 /// The token at the front, or how far the bytes were read.
 fn go_on(progress: Progress, bytes: &[u8], is_last: bool) -> Result<Scanned, Progress>
     requires { passed_len progress ≤ length bytes.now }
-    ensures { result ≡ ok_or (token_resumed progress is_last bytes.now) (read_on progress bytes.now) }
+    ensures { result ≡ ok_or (token_resumed progress is_last bytes.now)
+        (read_on progress bytes.now) }
 {
     match progress {
         Progress::Start => begin(bytes, is_last),
@@ -74,7 +75,8 @@ fn begin(bytes: &[u8], is_last: bool) -> Result<Scanned, Progress>
 fn parameters_on(len: usize, bytes: &[u8], is_last: bool) -> Result<Scanned, Progress>
     requires within { len ≤ length bytes.now }
     requires room { length bytes.now + 3 < 2 ^ 64 }
-    ensures { result ≡ ok_or (parameters_on is_last len bytes.now) (behind_parameters len bytes.now) }
+    ensures { result ≡ ok_or (parameters_on is_last len bytes.now)
+        (behind_parameters len bytes.now) }
 {
     let all = len + parameters_len(&bytes[len..]);
     let progress = if all == bytes.len() || bytes.len() < PASTE_MARK_LEN {
@@ -110,7 +112,8 @@ fn searched_to(searched: usize, len: usize) -> usize
 fn paste_on(from: usize, searched: usize, bytes: &[u8], is_last: bool) -> Result<Scanned, Progress>
     requires within { searched ≤ length bytes.now }
     requires room { from + length bytes.now < 2 ^ 64 }
-    ensures { result ≡ ok_or (paste_on is_last from searched bytes.now) (Paste from (searched_to searched (length bytes.now))) }
+    ensures { result ≡ ok_or (paste_on is_last from searched bytes.now)
+        (Paste from (searched_to searched (length bytes.now))) }
 {
     let len = paste_len(&bytes[searched..]).map(|len| len + searched);
     paste_of(from, bytes.len(), len, is_last).ok_or(Progress::Paste {

@@ -18,7 +18,8 @@ const MOST_ROWS: usize = 65_535;
 
 /// Adds texts, one after the other.
 pub fn push_all(out: &mut String, texts: &[&str]) -> Result<(), AllocError>
-    ensures ok { OnOk result (string_bytes out.new ≡ string_bytes out.old ++ flat_map (λ text. text.now) texts.now) }
+    ensures ok { OnOk result (string_bytes out.new
+        ≡ string_bytes out.old ++ flat_map (λ text. text.now) texts.now) }
     ensures err { OnErr result (ExtendsBytes (string_bytes out.old) (string_bytes out.new)) }
 {
     for text in texts {
@@ -29,7 +30,8 @@ pub fn push_all(out: &mut String, texts: &[&str]) -> Result<(), AllocError>
 
 /// Adds a control sequence of one number.
 fn push_number(out: &mut String, number: usize, letter: &str) -> Result<(), AllocError>
-    ensures ok { OnOk result (string_bytes out.new ≡ string_bytes out.old ++ sequence (decimal number) letter.now) }
+    ensures ok { OnOk result (string_bytes out.new
+        ≡ string_bytes out.old ++ sequence (decimal number) letter.now) }
     ensures err { OnErr result (ExtendsBytes (string_bytes out.old) (string_bytes out.new)) }
 {
     push_all(out, &["\x1b[", Buffer::new().format(number), letter])
@@ -37,7 +39,8 @@ fn push_number(out: &mut String, number: usize, letter: &str) -> Result<(), Allo
 
 /// Adds a control sequence of so many steps. One step is told by no number.
 fn push_steps(out: &mut String, count: usize, letter: &str) -> Result<(), AllocError>
-    ensures ok { OnOk result (string_bytes out.new ≡ string_bytes out.old ++ sequence (step_count count) letter.now) }
+    ensures ok { OnOk result (string_bytes out.new
+        ≡ string_bytes out.old ++ sequence (step_count count) letter.now) }
     ensures err { OnErr result (ExtendsBytes (string_bytes out.old) (string_bytes out.new)) }
 {
     if count == 1 {
@@ -155,7 +158,8 @@ fn plain_parameters(change: AttributeChange) -> &'static str
 
 /// Sets a colour, the text's own one by 3 or the one after it by 4.
 fn send_color(kind: &str, color: ColorAttribute, out: &mut String) -> Result<(), AllocError>
-    ensures ok { OnOk result (string_bytes out.new ≡ string_bytes out.old ++ sequence (color_parameters kind.now color) (codes "m")) }
+    ensures ok { OnOk result (string_bytes out.new
+        ≡ string_bytes out.old ++ sequence (color_parameters kind.now color) (codes "m")) }
     ensures err { OnErr result (ExtendsBytes (string_bytes out.old) (string_bytes out.new)) }
 {
     match color {
@@ -213,7 +217,8 @@ fn is_off(change: AttributeChange) -> bool
 
 /// Sets an attribute that has not its first value.
 fn send_if_on(change: AttributeChange, out: &mut String) -> Result<(), AllocError>
-    ensures ok { OnOk result (string_bytes out.new ≡ string_bytes out.old ++ set_unless_off change) }
+    ensures ok { OnOk result (string_bytes out.new
+        ≡ string_bytes out.old ++ set_unless_off change) }
     ensures err { OnErr result (ExtendsBytes (string_bytes out.old) (string_bytes out.new)) }
 {
     if is_off(change) {
@@ -224,7 +229,8 @@ fn send_if_on(change: AttributeChange, out: &mut String) -> Result<(), AllocErro
 
 /// Sets those attributes that have not their first values.
 fn send_those_on(changes: &[AttributeChange], out: &mut String) -> Result<(), AllocError>
-    ensures ok { OnOk result (string_bytes out.new ≡ string_bytes out.old ++ flat_map set_unless_off changes.now) }
+    ensures ok { OnOk result (string_bytes out.new
+        ≡ string_bytes out.old ++ flat_map set_unless_off changes.now) }
     ensures err { OnErr result (ExtendsBytes (string_bytes out.old) (string_bytes out.new)) }
 {
     for change in changes {
@@ -275,7 +281,8 @@ pub fn clear_with(
     set: ColorAttribute,
     out: &mut String,
 ) -> Result<(), AllocError>
-    ensures ok { OnOk result (string_bytes out.new ≡ string_bytes out.old ++ clear_with clear.now color set) }
+    ensures ok { OnOk result (string_bytes out.new
+        ≡ string_bytes out.old ++ clear_with clear.now color set) }
     ensures err { OnErr result (ExtendsBytes (string_bytes out.old) (string_bytes out.new)) }
 {
     if is_same_color(color, set) {

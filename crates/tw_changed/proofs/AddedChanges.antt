@@ -9,7 +9,7 @@ use Rattle.tw_ansi.specs.declared.encode.Encoder.{Encoder}
 use Rattle.tw_ansi.specs.Encoding.{Sent, sent_byte, terse_batch, sent_plain, sent_clusters, ExtendsBytes}
 use Rattle.tw_changed.specs.declared.hand.Hand.{Hand}
 use Rattle.tw_changed.specs.declared.redrawer.Redrawer.{Redrawer}
-use Rattle.tw_screens.specs.StyledCells.{StyledCell}
+use Rattle.laws_screens.specs.StyledCells.{StyledCell}
 use Rattle.tw_changed.specs.Redrawings.{Redrawing, at_ease, redraw_then, span_redrawn, row_redrawn, rows_redrawn, rest_of, rest_emptied, left_of, led_to, fed_once, fed, lowest_reached, sunk_to, lowered, handed_to, rows_drawn_on, under, hand_index, indexed, typed_in_cell, cell_redrawn, cells_redrawn, goes_onward, gone_onward, redrawn}
 use Rattle.tw_changed.specs.Differences.{end_of}
 use Rattle.tw_changed.specs.Sending.{IsAdded}

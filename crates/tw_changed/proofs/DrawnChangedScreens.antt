@@ -1,9 +1,9 @@
 -- A picture on which the difference is rows is the new one.
 use Rattle.std.proofs.Common.{◌≡◌, ◌<◌, ◌≤◌, ◌+◌, ◌-◌, ◌/◌, ◌%◌, ℕ, max, Bool, true, false, cond, Option, Some, None, ap, subst, ◌∙◌, sym, refl, inl, inr, arith}
 use Rattle.std.proofs.lemmas.Bool.{cases_lt}
-use Rattle.tw_strokes.specs.Strokes.{PictureOf, cleared_in}
-use Rattle.tw_screens.specs.Pens.{strokes_of, kept_after_all}
-use Rattle.tw_screens.specs.StyledCells.{StyledCell, styled}
+use Rattle.laws_screens.specs.Strokes.{PictureOf, cleared_in}
+use Rattle.laws_screens.specs.Pens.{strokes_of, kept_after_all}
+use Rattle.laws_screens.specs.StyledCells.{StyledCell, styled}
 use Rattle.tw_changed.specs.Differences.{blank_cell}
 use Rattle.tw_changed.specs.declared.hand.Hand.{Hand}
 use Rattle.tw_changed.specs.Redrawings.{Redrawing, redraw_then, sunk_to, under, handed_to, rest_of, rest_emptied, left_of, lowered, rows_redrawn, rows_drawn_on}

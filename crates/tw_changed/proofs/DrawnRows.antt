@@ -10,12 +10,12 @@ use Rattle.tw_surface.specs.ChangeView.{Batch}
 use Rattle.tw_surface.specs.ChangeView.{AllAttributes, CursorPosition}
 use Rattle.tw_surface.specs.declared.change.Position.TheVariants.{Absolute, Relative}
 use Rattle.tw_surface.specs.Positions.{at_least_0}
-use Rattle.tw_strokes.specs.Strokes.{PictureOf, Stroke, put_in, step, steps_on, scrolled}
-use Rattle.tw_strokes.specs.Strokes.Stroke.{Put, Return, Feed}
-use Rattle.tw_strokes.proofs.SeenRows.{steps_on-append}
-use Rattle.tw_screens.specs.Pens.{strokes_of, change_strokes, kept_after, kept_after_all, char_stroke}
-use Rattle.tw_screens.specs.StyledCells.{StyledCell, styled}
-use Rattle.tw_screens.proofs.DrawnChanges.{strokes-append, kept-append}
+use Rattle.laws_screens.specs.Strokes.{PictureOf, Stroke, put_in, step, steps_on, scrolled}
+use Rattle.laws_screens.specs.Strokes.Stroke.{Put, Return, Feed}
+use Rattle.laws_screens.proofs.SeenRows.{steps_on-append}
+use Rattle.laws_screens.specs.Pens.{strokes_of, change_strokes, kept_after, kept_after_all, char_stroke}
+use Rattle.laws_screens.specs.StyledCells.{StyledCell, styled}
+use Rattle.laws_screens.proofs.DrawnChanges.{strokes-append, kept-append}
 use Rattle.tw_ansi.specs.EcmaBatches.{StaysInRows, AllStayInRows}
 use Rattle.tw_changed.specs.declared.hand.Hand.{Hand}
 use Rattle.tw_changed.specs.Redrawings.{Redrawing, at_ease, redraw_then, led_to, under}

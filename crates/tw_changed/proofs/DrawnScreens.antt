@@ -2,9 +2,9 @@
 use Rattle.std.proofs.Common.{◌≡◌, ◌<◌, ◌≤◌, ◌+◌, ◌-◌, ◌*◌, ℕ, zero, suc, false, Some, ap, ◌∙◌, sym, refl, inl, inr, arith}
 use Rattle.std.proofs.lemmas.Bool.{cases_eq, cases_lt, false≢true}
 use Rattle.tw_changed.specs.Sending.{ArePrintable}
-use Rattle.tw_extremes.specs.Extremes.{IsLeast, IsGreatest}
-use Rattle.tw_strokes.specs.Strokes.{PictureOf}
-use Rattle.tw_screens.specs.StyledCells.{StyledCell}
+use Rattle.tw_line.specs.Extremes.{IsLeast, IsGreatest}
+use Rattle.laws_screens.specs.Strokes.{PictureOf}
+use Rattle.laws_screens.specs.StyledCells.{StyledCell}
 use Rattle.tw_changed.specs.Differences.{differ_in, first_changed, last_changed}
 use Rattle.tw_changed.specs.declared.hand.Hand.{Hand}
 use Rattle.tw_changed.specs.Redrawings.{Redrawing, at_ease, led_to, cells_redrawn, span_redrawn, row_redrawn, rows_redrawn}

@@ -2,10 +2,10 @@
 use Rattle.std.proofs.Common.{◌≡◌, ◌<◌, ◌≤◌, ◌+◌, ◌-◌, ◌*◌, ◌/◌, ◌%◌, is_none, mod-lt, div-add-mod', ◌⊎◌, ℕ, zero, suc, Bool, true, false, not, Some, None, ap, ◌∙◌, sym, refl, inl, inr, arith}
 use Rattle.std.proofs.lemmas.Nat.{div-mul-add, mod-mul-add}
 use Rattle.std.proofs.lemmas.Bool.{cases_Bool, cases_eq, cases_lt, and_parts, eqb-true, eq-eqb, and_from, false≢true}
-use Rattle.tw_extremes.specs.Extremes.{least_from, greatest_below, NonePasses, IsLeast, IsGreatest}
-use Rattle.tw_extremes.proofs.ExtremesLemmas.{least_from-none, greatest_below-is, greatest_below-none}
+use Rattle.tw_line.specs.Extremes.{least_from, greatest_below, NonePasses, IsLeast, IsGreatest}
+use Rattle.tw_line.proofs.ExtremesLemmas.{least_from-none, greatest_below-is, greatest_below-none}
 use Rattle.tw_surface.proofs.EqualityLemmas.{attributes_equal}
-use Rattle.tw_screens.specs.StyledCells.{StyledCell}
+use Rattle.laws_screens.specs.StyledCells.{StyledCell}
 use Rattle.tw_changed.specs.Differences.{is_same_cell, differ_in, first_changed, is_used, end_of}
 use Rattle.tw_changed.specs.Redrawings.{indexed}
 

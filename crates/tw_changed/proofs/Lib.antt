@@ -1,3 +1,4 @@
+pub mod DrawnCells
 pub mod FoundColumns
 pub mod DrawnRows
 pub mod TypedCells

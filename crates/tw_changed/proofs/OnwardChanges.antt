@@ -4,7 +4,7 @@ use Rattle.std.proofs.lemmas.Bool.{cases_lt, and_parts, ne_eqb, le-leb, lt-leb, 
 use Rattle.unicode_segmentation.specs.Grapheme.{graphemes}
 use Rattle.tw_surface.specs.Characters.{is_printable}
 use Rattle.tw_surface.specs.ChangeView.{Batch, Text}
-use Rattle.tw_screens.specs.StyledCells.{StyledCell}
+use Rattle.laws_screens.specs.StyledCells.{StyledCell}
 use Rattle.tw_ansi.specs.declared.encode.Encoder.{Encoder}
 use Rattle.tw_ansi.specs.Encoding.{Sent, sent_byte, sent_return, sent_feed, sent_columns, sent_plain, sent_clusters, terse_change, terse_batch}
 use Rattle.tw_changed.specs.declared.hand.Hand.{Hand}

@@ -3,10 +3,10 @@ use Rattle.std.proofs.Common.{◌≡◌, ◌<◌, ◌≤◌, ◌+◌, ◌-◌, �
 use Rattle.std.proofs.Math.Nat.{mod-lt, div-lt_iff_lt-mul}
 use Rattle.std.proofs.lemmas.Bool.{cases_lt, and_parts, leb-true, false≢true}
 use Rattle.std.proofs.lemmas.Nat.{div-mul-add, mod-mul-add, mul-le}
-use Rattle.tw_extremes.specs.Extremes.{NonePasses}
-use Rattle.tw_strokes.specs.Strokes.{PictureOf}
-use Rattle.tw_screens.specs.Pens.{strokes_of}
-use Rattle.tw_screens.specs.StyledCells.{StyledCell, styled}
+use Rattle.tw_line.specs.Extremes.{NonePasses}
+use Rattle.laws_screens.specs.Strokes.{PictureOf}
+use Rattle.laws_screens.specs.Pens.{strokes_of}
+use Rattle.laws_screens.specs.StyledCells.{StyledCell, styled}
 use Rattle.tw_changed.specs.declared.hand.Hand.{Hand}
 use Rattle.tw_changed.specs.Differences.{differ_in, blank_cell, end_of}
 use Rattle.tw_changed.specs.Redrawings.{Redrawing, hand_index, indexed, cells_redrawn, goes_onward, gone_onward, handed_to}

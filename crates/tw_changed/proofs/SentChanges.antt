@@ -9,9 +9,9 @@ use Rattle.tw_surface.specs.declared.change.Position.TheVariants.{Absolute, Rela
 use Rattle.tw_surface.specs.Characters.{is_plain, is_printable}
 use Rattle.tw_surface.specs.ChangeView.{ChangeView, Batch}
 use Rattle.tw_surface.specs.ChangeView.{Attribute, AllAttributes, Text, ClearScreen, ClearToEndOfScreen, CursorPosition}
-use Rattle.tw_strokes.specs.Strokes.{PictureOf, steps_on}
-use Rattle.tw_screens.specs.Pens.{change_strokes}
-use Rattle.tw_screens.specs.StyledCells.{StyledCell, styled}
+use Rattle.laws_screens.specs.Strokes.{PictureOf, steps_on}
+use Rattle.laws_screens.specs.Pens.{change_strokes}
+use Rattle.laws_screens.specs.StyledCells.{StyledCell, styled}
 use Rattle.tw_ansi.specs.declared.encode.Encoder.{Encoder}
 use Rattle.tw_ansi.specs.Sequences.{most_rows}
 use Rattle.tw_ansi.specs.Encoding.{sent_change}

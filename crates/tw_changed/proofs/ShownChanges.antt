@@ -7,9 +7,9 @@ use Rattle.tw_surface.specs.ChangeView.{Batch}
 use Rattle.tw_surface.specs.ChangeView.{AllAttributes}
 use Rattle.tw_surface.specs.contracts.cell.CellAttributesPartialEq.TheImpl.{ghosts as attributes}
 use Rattle.tw_surface.proofs.EqualityLemmas.{attributes_equal}
-use Rattle.tw_strokes.specs.Strokes.{PictureOf, steps_on}
-use Rattle.tw_screens.specs.Pens.{change_strokes, strokes_of, kept_after_all}
-use Rattle.tw_screens.specs.StyledCells.{StyledCell, styled}
+use Rattle.laws_screens.specs.Strokes.{PictureOf, steps_on}
+use Rattle.laws_screens.specs.Pens.{change_strokes, strokes_of, kept_after_all}
+use Rattle.laws_screens.specs.StyledCells.{StyledCell, styled}
 use Rattle.tw_ansi.specs.declared.encode.Encoder.{Encoder}
 use Rattle.tw_ansi.specs.Sequences.{most_rows}
 use Rattle.tw_ansi.specs.Encoding.{sent_change, terse_batch}

@@ -4,9 +4,9 @@ use Rattle.std.proofs.Math.Nat.{mod-lt, div-lt_iff_lt-mul}
 use Rattle.std.proofs.lemmas.Bool.{cases_eq, cases_lt, eq-eqb, ne_eqb}
 use Rattle.std.proofs.lemmas.Nat.{div-mul-add, mod-mul-add, mul-le, div-add-mod'}
 use Rattle.tw_surface.specs.Characters.{is_printable}
-use Rattle.tw_strokes.specs.Strokes.{PictureOf, put_in, step, scrolled}
-use Rattle.tw_screens.specs.Pens.{strokes_of}
-use Rattle.tw_screens.specs.StyledCells.{StyledCell, styled}
+use Rattle.laws_screens.specs.Strokes.{PictureOf, put_in, step, scrolled}
+use Rattle.laws_screens.specs.Pens.{strokes_of}
+use Rattle.laws_screens.specs.StyledCells.{StyledCell, styled}
 use Rattle.tw_changed.specs.declared.hand.Hand.{Hand}
 use Rattle.tw_changed.specs.Redrawings.{Redrawing, under, hand_index, indexed, typed_in_cell, cell_redrawn, cells_redrawn}
 use Rattle.tw_changed.proofs.DrawnRows.{Holds, redrawn_on, redrawn_both, Leads, leads_then, leads_ease, is_under, put_stroke, put_here, put_there, put_beside, put_away, unscrolled, rows_inside}

@@ -2,8 +2,8 @@
 use Rattle.std.specs.Prelude.{◌≡◌, ◌≤◌, ◌<◌, ◌+◌, ◌-◌, ◌^◌, ℕ, ltb, min, true, if◌then◌else◌}
 use Rattle.tw_surface.specs.declared.cell.CellAttributes.{CellAttributes}
 use Rattle.tw_surface.specs.Characters.{is_printable}
-use Rattle.tw_strokes.specs.Strokes.{PictureOf}
-use Rattle.tw_screens.specs.StyledCells.{StyledCell, styled}
+use Rattle.laws_screens.specs.Strokes.{PictureOf}
+use Rattle.laws_screens.specs.StyledCells.{StyledCell, styled}
 use Rattle.tw_ansi.specs.declared.encode.Encoder.{Encoder}
 use Rattle.tw_ansi.specs.Sequences.{most_rows}
 use Rattle.tw_ansi.specs.Encoding.{terse_batch}

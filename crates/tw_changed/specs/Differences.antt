@@ -1,9 +1,9 @@
 -- Where two rows differ.
 use Rattle.std.specs.Prelude.{ℕ, ◌+◌, ◌*◌, ◌/◌, ◌%◌, Bool, ◌&&◌, not, eqb, Option, Some, None}
 use Rattle.tw_surface.specs.contracts.cell.CellAttributesPartialEq.TheImpl.{ghosts as attributes}
-use Rattle.tw_screens.specs.Screens.{blank_of}
-use Rattle.tw_screens.specs.StyledCells.{StyledCell, styled}
-use Rattle.tw_extremes.specs.Extremes.{least_from, greatest_below}
+use Rattle.laws_screens.specs.Screens.{blank_of}
+use Rattle.laws_screens.specs.StyledCells.{StyledCell, styled}
+use Rattle.tw_line.specs.Extremes.{least_from, greatest_below}
 
 -- the same character under the same attributes
 abbrev pub is_same_cell : StyledCell → StyledCell → Bool

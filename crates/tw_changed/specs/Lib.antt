@@ -1,3 +1,4 @@
+pub mod StyledScreens
 pub mod Differences
 pub mod Redrawings
 pub mod ChangedScreens

@@ -7,10 +7,10 @@ use Rattle.tw_surface.specs.ChangeView.{Batch}
 use Rattle.tw_surface.specs.ChangeView.{AllAttributes, Text, ClearToEndOfScreen, CursorPosition}
 use Rattle.tw_surface.specs.Characters.{lf}
 use Rattle.tw_surface.specs.Defaults.{default_color}
-use Rattle.tw_strokes.specs.Strokes.{cleared_in}
-use Rattle.tw_screens.specs.StyledCells.{StyledCell}
+use Rattle.laws_screens.specs.Strokes.{cleared_in}
+use Rattle.laws_screens.specs.StyledCells.{StyledCell}
 use Rattle.tw_changed.specs.declared.hand.Hand.{Hand}
-use Rattle.tw_extremes.specs.Extremes.{least_from, greatest_below}
+use Rattle.tw_line.specs.Extremes.{least_from, greatest_below}
 use Rattle.tw_changed.specs.Differences.{is_same_cell, differ_in, first_changed, last_changed, blank_cell, end_of}
 
 -- changes, and where they leave the hand

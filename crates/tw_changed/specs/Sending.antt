@@ -2,8 +2,8 @@
 use Rattle.std.specs.Prelude.{◌≡◌, ◌<◌, ℕ, ◌+◌, ◌*◌, true, List, ◌++◌}
 use Rattle.tw_surface.specs.ChangeView.{Batch}
 use Rattle.tw_surface.specs.Characters.{is_printable}
-use Rattle.tw_screens.specs.StyledCells.{StyledCell}
-use Rattle.styled_screen.specs.StyledScreens.{StyledView, styled_at}
+use Rattle.laws_screens.specs.StyledCells.{StyledCell}
+use Rattle.tw_changed.specs.StyledScreens.{StyledView, styled_at}
 use Rattle.tw_ansi.specs.Encoding.{terse_batch}
 use Rattle.tw_changed.specs.declared.hand.Hand.{Hand}
 use Rattle.tw_changed.specs.declared.redrawer.Redrawer.{Redrawer}

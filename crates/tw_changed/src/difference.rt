@@ -1,16 +1,17 @@
 //! Where two screens differ.
 
 ghost use Rattle.std.specs.Prelude.{◌≡◌, ℕ, ◌<◌, ◌≤◌, ◌+◌, ◌-◌, ◌*◌, IfSome, Some, None, is_none, ltb, true, false, if◌then◌else◌};
-ghost use Rattle.styled_screen.specs.StyledScreens.{styled_cell};
+ghost use Rattle.tw_changed.specs.StyledScreens.{styled_cell};
 ghost use Rattle.tw_changed.specs.ChangedScreens.{AreByBytes, AreAllByBytes};
 ghost use Rattle.tw_changed.specs.Differences.{differ_in, first_changed, last_changed, is_used, end_of};
-ghost use Rattle.tw_extremes.specs.Extremes.{greatest_below, least_from};
+ghost use Rattle.tw_line.specs.Extremes.{greatest_below, least_from};
 ghost use Rattle.tw_changed.specs.Redrawings.{ends_blank, goes_onward, indexed, left_of};
 ghost use Rattle.tw_changed.specs.Sending.{ArePrintable, IsPrintable, screen_cells};
 
+use crate::cell::ScreenCell;
 use crate::hand::Hand;
 use crate::laws::colors;
-use styled_screen::{ScreenCell, StyledScreen};
+use crate::screen::StyledScreen;
 use tw_surface::ColorAttribute;
 
 /// What stands at a row and a column.
@@ -48,7 +49,8 @@ fn differ_at(
 ) -> bool
     requires old { col < old.now.width }
     requires new { col < new.now.width }
-    ensures { result ≡ differ_in (left_of old.now.width from (screen_cells old.now) row) (screen_cells new.now row) col }
+    ensures { result ≡ differ_in (left_of old.now.width from (screen_cells old.now) row)
+        (screen_cells new.now row) col }
 {
     left_at(old, from, row, col) != cell_at(new, row, col)
 }
@@ -61,7 +63,8 @@ pub fn first_changed(
     row: usize,
 ) -> Option<usize>
     requires { old.now.width ≡ new.now.width }
-    ensures value { result ≡ first_changed new.now.width (left_of old.now.width from (screen_cells old.now) row) (screen_cells new.now row) }
+    ensures value { result ≡ first_changed new.now.width
+        (left_of old.now.width from (screen_cells old.now) row) (screen_cells new.now row) }
     ensures bound { IfSome result (λ col. col < new.now.width) }
 {
     for col in 0..new.width() {
@@ -80,7 +83,8 @@ pub fn last_changed(
     row: usize,
 ) -> Option<usize>
     requires { old.now.width ≡ new.now.width }
-    ensures value { result ≡ last_changed new.now.width (left_of old.now.width from (screen_cells old.now) row) (screen_cells new.now row) }
+    ensures value { result ≡ last_changed new.now.width
+        (left_of old.now.width from (screen_cells old.now) row) (screen_cells new.now row) }
     ensures bound { IfSome result (λ col. col < new.now.width) }
 {
     let mut end = new.width();
@@ -121,7 +125,8 @@ pub fn end_of(screen: &StyledScreen, rows: usize) -> usize
 /// after it.
 pub fn rest_of(old: &StyledScreen, rows: usize, end: usize) -> Option<usize>
     requires { rows ≤ 65535 }
-    ensures value { result ≡ (if ltb end (end_of old.now.width rows (screen_cells old.now)) then Some end else None) }
+    ensures value { result ≡ (if ltb end (end_of old.now.width rows (screen_cells old.now))
+        then Some end else None) }
     ensures bound { IfSome result (λ from. from < rows * old.now.width) }
 {
     if end < end_of(old, rows) {
@@ -134,7 +139,9 @@ pub fn rest_of(old: &StyledScreen, rows: usize, end: usize) -> Option<usize>
 pub fn is_same_in_row(old: &StyledScreen, new: &StyledScreen, row: usize, cols: usize) -> bool
     requires width { old.now.width ≡ new.now.width }
     requires cols { cols ≤ new.now.width }
-    ensures { result ≡ is_none (least_from (differ_in (screen_cells old.now row) (screen_cells new.now row)) 0 cols) }
+    ensures { result
+        ≡ is_none (least_from (differ_in (screen_cells old.now row)
+        (screen_cells new.now row)) 0 cols) }
 {
     for col in 0..cols {
         if differ_at(old, None, new, row, col) {
@@ -147,7 +154,9 @@ pub fn is_same_in_row(old: &StyledScreen, new: &StyledScreen, row: usize, cols: 
 /// Whether two screens show the same before an index, counted along the rows.
 fn is_same_before(old: &StyledScreen, new: &StyledScreen, end: usize) -> bool
     requires { old.now.width ≡ new.now.width }
-    ensures { result ≡ is_none (greatest_below (differ_in (indexed new.now.width (screen_cells old.now)) (indexed new.now.width (screen_cells new.now))) end) }
+    ensures { result
+        ≡ is_none (greatest_below (differ_in (indexed new.now.width (screen_cells old.now))
+        (indexed new.now.width (screen_cells new.now))) end) }
 {
     let width = new.width();
     for row in 0..end / width {
@@ -167,7 +176,8 @@ fn ends_blank(screen: &StyledScreen, row: usize) -> bool
 
 /// Whether none of the rows from one to before another ends in a blank.
 fn are_full(screen: &StyledScreen, from: usize, to: usize) -> bool
-    ensures { result ≡ is_none (least_from (ends_blank screen.now.width (screen_cells screen.now)) from (to - from)) }
+    ensures { result ≡ is_none (least_from (ends_blank screen.now.width (screen_cells screen.now))
+        from (to - from)) }
 {
     for row in from..to {
         if ends_blank(screen, row) {
@@ -194,7 +204,8 @@ pub fn goes_onward(
     requires to { to.row ≤ 4294967295 }
     requires row { hand.row ≤ 4294967295 }
     requires col { hand.col ≤ new.now.width }
-    ensures { result ≡ goes_onward new.now.width reached rows (screen_cells old.now) (screen_cells new.now) to hand }
+    ensures { result ≡ goes_onward new.now.width reached rows (screen_cells old.now)
+        (screen_cells new.now) to hand }
 {
     let width = new.width();
     let at = hand.row * width + hand.col;
@@ -208,7 +219,8 @@ pub fn goes_onward(
 fn is_printable_row(screen: &StyledScreen, row: usize) -> bool
     ensures yes { result ≡ true → ArePrintable screen.now.width (screen_cells screen.now row) }
     ensures no { result ≡ false → ArePrintable screen.now.width (screen_cells screen.now row) → ⊥ }
-    ensures colors { result ≡ true → (j : ℕ) → j < screen.now.width → AreByBytes (screen_cells screen.now row j).attributes }
+    ensures colors { result ≡ true → (j : ℕ) → j < screen.now.width
+        → AreByBytes (screen_cells screen.now row j).attributes }
 {
     for col in 0..screen.width() {
         let cell = cell_at(screen, row, col);

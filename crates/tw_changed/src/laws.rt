@@ -1,9 +1,12 @@
 //! Laws of this crate's definitions: each function does nothing, and its contract is the law.
 
+ghost use Rattle.std.specs.Prelude.{◌≡◌, ◌↔◌, IsTrue};
 ghost use Rattle.tw_ansi.specs.EcmaLaws.{IsColor, IsAttribute};
 ghost use Rattle.tw_changed.specs.ChangedScreens.{AreByBytes, ChangedIsShown};
+ghost use Rattle.tw_changed.specs.declared.cell.ScreenCell.{ScreenCell};
 ghost use Rattle.tw_changed.specs.Shortness.{NothingIsSentForNothing, TypedIsSentAlone, TypedOnIsSentAlone};
 
+use crate::cell::ScreenCell;
 use tw_surface::{AttributeChange, CellAttributes, ColorAttribute};
 
 /// A terminal after ECMA-48 that shows a screen, and is sent the difference of that screen and another one, shows the
@@ -48,3 +51,8 @@ pub fn attribute(change: AttributeChange)
         _ => {}
     }
 }
+
+/// `==` of cells is equality of values.
+pub fn equality()
+    ensures { (a b : ScreenCell) → IsTrue (⟦<ScreenCell as PartialEq>⟧.eq a b) ↔ (a ≡ b) }
+{}

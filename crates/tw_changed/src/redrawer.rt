@@ -8,8 +8,8 @@ ghost use Rattle.tw_changed.specs.Sending.{IsAdded, IsPrintable, screen_cells, c
 
 use crate::difference::{cell_at, end_of, first_changed, goes_onward, last_changed, rest_of};
 use crate::hand::Hand;
+use crate::screen::StyledScreen;
 use std::alloc::AllocError;
-use styled_screen::StyledScreen;
 use tw_ansi::Encoder;
 use tw_surface::{CellAttributes, Change, ColorAttribute, Position};
 
@@ -25,7 +25,8 @@ impl Redrawer {
     fn lead_to(&mut self, row: usize, col: usize, out: &mut String) -> Result<(), AllocError>
         requires from { self.old.hand.row ≤ 4294967295 }
         requires to { row ≤ 4294967295 }
-        ensures ok { OnOk result (IsAdded (led_to row col self.old.hand) self.old (string_bytes out.old) self.new (string_bytes out.new)) }
+        ensures ok { OnOk result (IsAdded (led_to row col self.old.hand) self.old
+            (string_bytes out.old) self.new (string_bytes out.new)) }
         ensures row { OnOk result (self.new.hand.row ≡ row) }
         ensures col { OnOk result (self.new.hand.col ≡ col) }
         ensures err { OnErr result (ExtendsBytes (string_bytes out.old) (string_bytes out.new)) }
@@ -46,7 +47,8 @@ impl Redrawer {
 
     /// Selects attributes, unless they are selected.
     fn select(&mut self, to: CellAttributes, out: &mut String) -> Result<(), AllocError>
-        ensures ok { OnOk result (IsAdded (under to self.old.hand) self.old (string_bytes out.old) self.new (string_bytes out.new)) }
+        ensures ok { OnOk result (IsAdded (under to self.old.hand) self.old (string_bytes out.old)
+            self.new (string_bytes out.new)) }
         ensures col { self.new.hand.col ≡ self.old.hand.col }
         ensures row { self.new.hand.row ≡ self.old.hand.row }
         ensures err { OnErr result (ExtendsBytes (string_bytes out.old) (string_bytes out.new)) }
@@ -68,8 +70,11 @@ impl Redrawer {
         index: usize,
         out: &mut String,
     ) -> Result<(), AllocError>
-        requires printable { is_printable (indexed screen.now.width (screen_cells screen.now) index).ch ≡ true }
-        ensures ok { OnOk result (IsAdded (cell_redrawn screen.now.width (screen_cells screen.now) index self.old.hand) self.old (string_bytes out.old) self.new (string_bytes out.new)) }
+        requires printable { is_printable
+            (indexed screen.now.width (screen_cells screen.now) index).ch ≡ true }
+        ensures ok { OnOk result (IsAdded
+            (cell_redrawn screen.now.width (screen_cells screen.now) index self.old.hand) self.old
+            (string_bytes out.old) self.new (string_bytes out.new)) }
         ensures row { OnOk result (self.new.hand.row ≡ index / screen.now.width) }
         ensures err { OnErr result (ExtendsBytes (string_bytes out.old) (string_bytes out.new)) }
     {
@@ -91,10 +96,13 @@ impl Redrawer {
         to: usize,
         out: &mut String,
     ) -> Result<(), AllocError>
-        requires printable { (index : ℕ) → from ≤ index → index < to → is_printable (indexed screen.now.width (screen_cells screen.now) index).ch ≡ true }
+        requires printable { (index : ℕ) → from ≤ index → index < to
+            → is_printable (indexed screen.now.width (screen_cells screen.now) index).ch ≡ true }
         requires to { to ≤ 4294967296 * screen.now.width }
         requires held { self.old.hand.row ≤ 4294967295 }
-        ensures ok { OnOk result (IsAdded (cells_redrawn screen.now.width (screen_cells screen.now) from (to - from) self.old.hand) self.old (string_bytes out.old) self.new (string_bytes out.new)) }
+        ensures ok { OnOk result (IsAdded
+            (cells_redrawn screen.now.width (screen_cells screen.now) from (to - from)
+            self.old.hand) self.old (string_bytes out.old) self.new (string_bytes out.new)) }
         ensures held { OnOk result (self.new.hand.row ≤ 4294967295) }
         ensures err { OnErr result (ExtendsBytes (string_bytes out.old) (string_bytes out.new)) }
     {
@@ -114,10 +122,14 @@ impl Redrawer {
         out: &mut String,
     ) -> Result<(), AllocError>
         requires width { old.now.width ≡ new.now.width }
-        requires printable { (j : ℕ) → j < new.now.width → is_printable (screen_cells new.now row j).ch ≡ true }
+        requires printable { (j : ℕ) → j < new.now.width
+            → is_printable (screen_cells new.now row j).ch ≡ true }
         requires row { row ≤ 4294967295 }
         requires held { self.old.hand.row ≤ 4294967295 }
-        ensures ok { OnOk result (IsAdded (row_redrawn new.now.width (left_of old.now.width from (screen_cells old.now)) (screen_cells new.now) row self.old.hand) self.old (string_bytes out.old) self.new (string_bytes out.new)) }
+        ensures ok { OnOk result (IsAdded
+            (row_redrawn new.now.width (left_of old.now.width from (screen_cells old.now))
+            (screen_cells new.now) row self.old.hand) self.old (string_bytes out.old) self.new
+            (string_bytes out.new)) }
         ensures held { OnOk result (self.new.hand.row ≤ 4294967295) }
         ensures err { OnErr result (ExtendsBytes (string_bytes out.old) (string_bytes out.new)) }
     {
@@ -145,7 +157,10 @@ impl Redrawer {
         requires printable { IsPrintable rows new.now }
         requires rows { rows ≤ 65535 }
         requires held { self.old.hand.row ≤ 4294967295 }
-        ensures ok { OnOk result (IsAdded (rows_redrawn new.now.width (left_of old.now.width from (screen_cells old.now)) (screen_cells new.now) 0 rows self.old.hand) self.old (string_bytes out.old) self.new (string_bytes out.new)) }
+        ensures ok { OnOk result (IsAdded
+            (rows_redrawn new.now.width (left_of old.now.width from (screen_cells old.now))
+            (screen_cells new.now) 0 rows self.old.hand) self.old (string_bytes out.old) self.new
+            (string_bytes out.new)) }
         ensures held { OnOk result (self.new.hand.row ≤ 4294967295) }
         ensures err { OnErr result (ExtendsBytes (string_bytes out.old) (string_bytes out.new)) }
     {
@@ -158,7 +173,8 @@ impl Redrawer {
     /// Feeds so many lines.
     fn feed_lines(&mut self, count: usize, out: &mut String) -> Result<(), AllocError>
         requires held { self.old.hand.row + count ≤ 4294967295 }
-        ensures ok { OnOk result (IsAdded (fed count self.old.hand) self.old (string_bytes out.old) self.new (string_bytes out.new)) }
+        ensures ok { OnOk result (IsAdded (fed count self.old.hand) self.old (string_bytes out.old)
+            self.new (string_bytes out.new)) }
         ensures row { OnOk result (self.new.hand.row ≡ self.old.hand.row + count) }
         ensures err { OnErr result (ExtendsBytes (string_bytes out.old) (string_bytes out.new)) }
     {
@@ -180,7 +196,8 @@ impl Redrawer {
     ) -> Result<(), AllocError>
         requires from { self.old.hand.row ≤ 4294967295 }
         requires to { row ≤ 4294967295 }
-        ensures ok { OnOk result (IsAdded (sunk_to reached row col self.old.hand) self.old (string_bytes out.old) self.new (string_bytes out.new)) }
+        ensures ok { OnOk result (IsAdded (sunk_to reached row col self.old.hand) self.old
+            (string_bytes out.old) self.new (string_bytes out.new)) }
         ensures row { OnOk result (self.new.hand.row ≡ row) }
         ensures err { OnErr result (ExtendsBytes (string_bytes out.old) (string_bytes out.new)) }
     {
@@ -197,7 +214,8 @@ impl Redrawer {
     fn hand_over(&mut self, reached: usize, to: Hand, out: &mut String) -> Result<(), AllocError>
         requires to { to.row ≤ 4294967295 }
         requires held { self.old.hand.row ≤ 4294967295 }
-        ensures ok { OnOk result (IsAdded (handed_to reached to self.old.hand) self.old (string_bytes out.old) self.new (string_bytes out.new)) }
+        ensures ok { OnOk result (IsAdded (handed_to reached to self.old.hand) self.old
+            (string_bytes out.old) self.new (string_bytes out.new)) }
         ensures err { OnErr result (ExtendsBytes (string_bytes out.old) (string_bytes out.new)) }
     {
         self.sink_to(reached, to.row, to.col, out)?;
@@ -206,7 +224,8 @@ impl Redrawer {
 
     /// Empties what stands from the cursor on.
     fn empty_here(&mut self, out: &mut String) -> Result<(), AllocError>
-        ensures ok { OnOk result (IsAdded (emptied_here self.old.hand) self.old (string_bytes out.old) self.new (string_bytes out.new)) }
+        ensures ok { OnOk result (IsAdded (emptied_here self.old.hand) self.old
+            (string_bytes out.old) self.new (string_bytes out.new)) }
         ensures row { self.new.hand.row ≡ self.old.hand.row }
         ensures err { OnErr result (ExtendsBytes (string_bytes out.old) (string_bytes out.new)) }
     {
@@ -224,7 +243,8 @@ impl Redrawer {
         requires width { 0 < width }
         requires from { IfSome from (λ index. index ≤ 4294967295) }
         requires held { self.old.hand.row ≤ 4294967295 }
-        ensures ok { OnOk result (IsAdded (rest_emptied width from self.old.hand) self.old (string_bytes out.old) self.new (string_bytes out.new)) }
+        ensures ok { OnOk result (IsAdded (rest_emptied width from self.old.hand) self.old
+            (string_bytes out.old) self.new (string_bytes out.new)) }
         ensures held { OnOk result (self.new.hand.row ≤ 4294967295) }
         ensures err { OnErr result (ExtendsBytes (string_bytes out.old) (string_bytes out.new)) }
     {
@@ -241,7 +261,8 @@ impl Redrawer {
     fn lower(&mut self, reached: usize, rows: usize, out: &mut String) -> Result<(), AllocError>
         requires rows { rows ≤ 65535 }
         requires held { self.old.hand.row ≤ 4294967295 }
-        ensures ok { OnOk result (IsAdded (lowered reached rows self.old.hand) self.old (string_bytes out.old) self.new (string_bytes out.new)) }
+        ensures ok { OnOk result (IsAdded (lowered reached rows self.old.hand) self.old
+            (string_bytes out.old) self.new (string_bytes out.new)) }
         ensures held { OnOk result (self.new.hand.row ≤ 4294967295) }
         ensures err { OnErr result (ExtendsBytes (string_bytes out.old) (string_bytes out.new)) }
     {
@@ -260,14 +281,17 @@ impl Redrawer {
         to: Hand,
         out: &mut String,
     ) -> Result<(), AllocError>
-        requires printable { (index : ℕ) → index < end → is_printable (indexed new.now.width (screen_cells new.now) index).ch ≡ true }
+        requires printable { (index : ℕ) → index < end
+            → is_printable (indexed new.now.width (screen_cells new.now) index).ch ≡ true }
         requires end { end ≤ 4294967296 * new.now.width }
         requires to { to.row ≤ 4294967295 }
         requires row { self.old.hand.row ≤ 4294967295 }
         requires col { self.old.hand.col ≤ new.now.width }
         ensures ok { let start = hand_index new.now.width self.old.hand in
-            let typed = cells_redrawn new.now.width (screen_cells new.now) start (end - start) self.old.hand in
-            OnOk result (IsAdded (redraw_then typed (handed_to reached to)) self.old (string_bytes out.old) self.new (string_bytes out.new)) }
+            let typed = cells_redrawn new.now.width (screen_cells new.now) start (end - start)
+            self.old.hand in
+            OnOk result (IsAdded (redraw_then typed (handed_to reached to)) self.old
+            (string_bytes out.old) self.new (string_bytes out.new)) }
         ensures err { OnErr result (ExtendsBytes (string_bytes out.old) (string_bytes out.new)) }
     {
         let from = self.hand.row * new.width() + self.hand.col;
@@ -292,7 +316,9 @@ impl Redrawer {
         requires to { to.row ≤ 4294967295 }
         requires held { self.old.hand.row ≤ 4294967295 }
         requires col { self.old.hand.col ≤ new.now.width }
-        ensures ok { OnOk result (IsAdded (redrawn new.now.width reached rows (screen_cells old.now) (screen_cells new.now) to self.old.hand) self.old (string_bytes out.old) self.new (string_bytes out.new)) }
+        ensures ok { OnOk result (IsAdded
+            (redrawn new.now.width reached rows (screen_cells old.now) (screen_cells new.now)
+            to self.old.hand) self.old (string_bytes out.old) self.new (string_bytes out.new)) }
         ensures err { OnErr result (ExtendsBytes (string_bytes out.old) (string_bytes out.new)) }
     {
         let end = end_of(new, rows);
@@ -335,8 +361,11 @@ pub fn send_changed(
     requires width { old.now.width ≡ new.now.width }
     requires printable { IsPrintable rows new.now }
     requires rows { rows ≤ 65535 }
-    ensures bytes { OnOk result (string_bytes out.new ≡ string_bytes out.old ++ (terse_batch (changes_between reached rows old.now new.now) encoder).bytes) }
-    ensures next { IfOk result (λ next. next ≡ (terse_batch (changes_between reached rows old.now new.now) encoder).next) }
+    ensures bytes { OnOk result (string_bytes out.new
+        ≡ string_bytes out.old ++ (terse_batch (changes_between reached rows old.now new.now)
+        encoder).bytes) }
+    ensures next { IfOk result (λ next. next
+        ≡ (terse_batch (changes_between reached rows old.now new.now) encoder).next) }
     ensures err { OnErr result (ExtendsBytes (string_bytes out.old) (string_bytes out.new)) }
 {
     let mut redrawer = Redrawer {

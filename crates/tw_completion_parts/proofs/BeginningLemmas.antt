@@ -8,8 +8,8 @@ use Rattle.std.proofs.lemmas.Str.{IsCharBoundary-end}
 use Rattle.std.proofs.lemmas.Slice.Eq.{starts_is}
 use Rattle.std.specs.List.{list_all, starts_with}
 use Rattle.std.specs.Str.{IsCharBoundary}
-use Rattle.tw_extremes.specs.Extremes.{IsGreatest}
-use Rattle.tw_extremes.proofs.ExtremesLemmas.{greatest_below-is}
+use Rattle.tw_line.specs.Extremes.{IsGreatest}
+use Rattle.tw_line.proofs.ExtremesLemmas.{greatest_below-is}
 use Rattle.tw_line.specs.Boundaries.{is_boundary}
 use Rattle.tw_line.proofs.BoundaryLemmas.{is_boundary-from, IsCharBoundary-from}
 use Rattle.tw_completion_parts.specs.Beginnings.{is_shared, shared_len}

@@ -1,7 +1,7 @@
 -- What all of several texts begin with.
 use Rattle.std.specs.Prelude.{ℕ, ◌&&◌, ◌+◌, Bool, List, [], ◌∷◌, length, take, unwrap_or, eqb}
 use Rattle.std.specs.List.{list_all, starts_with}
-use Rattle.tw_extremes.specs.Extremes.{greatest_below}
+use Rattle.tw_line.specs.Extremes.{greatest_below}
 use Rattle.tw_line.specs.Boundaries.{is_boundary}
 
 -- whether so many bytes of a text are whole characters, and each of the others begins with them

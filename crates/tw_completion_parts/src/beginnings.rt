@@ -11,7 +11,8 @@ fn shared_len(text: &str, limit: usize, other: &str) -> usize
     ensures within { result ≤ limit }
     ensures boundary { IsCharBoundary text.now result }
     ensures same { starts_with eqb other.now (take result text.now) ≡ true }
-    ensures longest { (n : ℕ) → result < n → n ≤ limit → IsCharBoundary text.now n → starts_with eqb other.now (take n text.now) ≡ false }
+    ensures longest { (n : ℕ) → result < n → n ≤ limit → IsCharBoundary text.now n
+        → starts_with eqb other.now (take n text.now) ≡ false }
 {
     let mut end = limit;
     while end > 0 && !other.starts_with(&text[..end]) {

@@ -35,7 +35,8 @@ pub struct ContextCompleter {
 
 /// The completer of the first context in which stands what is before a cursor.
 fn completer_for<'rows>(rows: &'rows [ContextCompleter], before: &str) -> Option<&'rows Completer>
-    ensures { option_map (λ completer. completer_view completer.now) result ≡ completer_for (map context_completer_view rows.now) before.now }
+    ensures { option_map (λ completer. completer_view completer.now) result
+        ≡ completer_for (map context_completer_view rows.now) before.now }
 {
     for row in rows {
         if row.context.has(before) {
@@ -55,7 +56,8 @@ fn candidates_by(
 ) -> Result<Vec<CompletionCandidate>, AllocError>
     requires { IsCharBoundary line.now cursor }
     ensures { IfOk result (λ candidates. map candidate_view candidates.items
-        ≡ candidates_by (map listing_view listings.now) (completer_view completer.now) (cut_at line.now cursor)) }
+        ≡ candidates_by (map listing_view listings.now) (completer_view completer.now)
+        (cut_at line.now cursor)) }
 {
     match completer {
         Completer::Words(list) => complete_listed(alloc, list, line, cursor),
@@ -74,8 +76,9 @@ pub fn completed_by(
     cursor: usize,
 ) -> Result<Option<Vec<CompletionCandidate>>, AllocError>
     requires { IsCharBoundary line.now cursor }
-    ensures { IfOk result (λ found. option_map (λ candidates. map candidate_view candidates.items) found
-        ≡ completed_by (map context_completer_view rows.now) (map listing_view listings.now) (cut_at line.now cursor)) }
+    ensures { IfOk result (λ found. option_map (λ it. map candidate_view it.items) found
+        ≡ completed_by (map context_completer_view rows.now) (map listing_view listings.now)
+        (cut_at line.now cursor)) }
 {
     match completer_for(rows, last_row(&line[..cursor])) {
         Some(completer) => Ok(Some(candidates_by(alloc, listings, completer, line, cursor)?)),

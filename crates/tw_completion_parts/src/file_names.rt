@@ -72,7 +72,8 @@ fn names_from(
     cursor: usize,
     text: &str,
 ) -> Result<Vec<CompletionCandidate>, AllocError>
-    ensures { IfOk result (λ candidates. map candidate_view candidates.items ≡ names_from (map entry_view entries.now) cursor text.now) }
+    ensures { IfOk result (λ candidates. map candidate_view candidates.items
+        ≡ names_from (map entry_view entries.now) cursor text.now) }
 {
     let start = cursor.saturating_sub(text.len());
     let mut candidates = Vec::new(alloc);
@@ -97,7 +98,8 @@ pub fn complete_file_name(
     cursor: usize,
 ) -> Result<Vec<CompletionCandidate>, AllocError>
     requires { IsCharBoundary line.now cursor }
-    ensures { IfOk result (λ candidates. map candidate_view candidates.items ≡ file_candidates (map listing_view listings.now) (cut_at line.now cursor)) }
+    ensures { IfOk result (λ candidates. map candidate_view candidates.items
+        ≡ file_candidates (map listing_view listings.now) (cut_at line.now cursor)) }
 {
     let (directory, text) = split_begun("/", last_word(last_row(&line[..cursor])));
     names_from(alloc, entries_in(listings, directory), cursor, text)

@@ -13,7 +13,8 @@ fn candidate_texts(
     alloc: Global,
     candidates: &[CompletionCandidate],
 ) -> Result<Vec<String>, AllocError>
-    ensures { IfOk result (λ texts. map string_bytes texts.items ≡ candidate_texts (map candidate_view candidates.now)) }
+    ensures { IfOk result (λ texts. map string_bytes texts.items
+        ≡ candidate_texts (map candidate_view candidates.now)) }
 {
     let mut texts = Vec::new(alloc);
     for candidate in candidates {
@@ -44,7 +45,8 @@ fn shared_candidate(
     alloc: Global,
     candidates: &[CompletionCandidate],
 ) -> Result<Option<CompletionCandidate>, AllocError>
-    ensures { IfOk result (λ shared. option_map candidate_view shared ≡ shared_candidate (map candidate_view candidates.now)) }
+    ensures { IfOk result (λ shared. option_map candidate_view shared
+        ≡ shared_candidate (map candidate_view candidates.now)) }
 {
     let [first, _, ..] = candidates else {
         return Ok(None);
@@ -69,7 +71,8 @@ pub fn beginning_first(
     alloc: Global,
     candidates: Vec<CompletionCandidate>,
 ) -> Result<Vec<CompletionCandidate>, AllocError>
-    ensures { IfOk result (λ first. map candidate_view first.items ≡ beginning_first (map candidate_view candidates.items)) }
+    ensures { IfOk result (λ first. map candidate_view first.items
+        ≡ beginning_first (map candidate_view candidates.items)) }
 {
     let Some(shared) = shared_candidate(alloc, &candidates)? else {
         return Ok(candidates);

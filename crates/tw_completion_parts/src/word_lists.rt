@@ -71,7 +71,8 @@ fn words_from(
     cursor: usize,
     text: &str,
 ) -> Result<Vec<CompletionCandidate>, AllocError>
-    ensures { IfOk result (λ candidates. map candidate_view candidates.items ≡ words_from (word_list_view list.now) cursor text.now) }
+    ensures { IfOk result (λ candidates. map candidate_view candidates.items
+        ≡ words_from (word_list_view list.now) cursor text.now) }
 {
     let start = cursor.saturating_sub(text.len());
     let mut candidates = Vec::new(alloc);
@@ -95,7 +96,8 @@ pub fn complete_listed(
     cursor: usize,
 ) -> Result<Vec<CompletionCandidate>, AllocError>
     requires { IsCharBoundary line.now cursor }
-    ensures { IfOk result (λ candidates. map candidate_view candidates.items ≡ listed_candidates (word_list_view list.now) (cut_at line.now cursor)) }
+    ensures { IfOk result (λ candidates. map candidate_view candidates.items
+        ≡ listed_candidates (word_list_view list.now) (cut_at line.now cursor)) }
 {
     let (_, text) = split_begun(list.delimiters.as_str(), last_row(&line[..cursor]));
     words_from(alloc, list, cursor, text)

@@ -15,13 +15,13 @@ use Rattle.tw_lineedit.specs.declared.Overrides.{Overrides}
 use Rattle.tw_lineedit.specs.Painting.{Rendering}
 use Rattle.tw_lineedit.specs.Outcomes.{Outcome, outcome_of, answer_at, line_in, is_over, is_open}
 use Rattle.tw_lineedit.specs.Refusal.{Refusal, refusal_of}
-use Rattle.tw_lineedit.specs.Feeding.{paint_end, painted_run, fed_run, run_on, CanMiss, CanRefuse, unresolved, unapplied, half_cleared, missed, CanStopAt, refused, later, CanStopOn, uncopied, at_event, Begins, begun_run, WantsToBegin, FaultsToBegin, FailsToBegin, IsFed, event_run, WantsToFeed, FaultsToFeed, FailsToFeed, FailsToFinish, Uncopied}
+use Rattle.tw_lineedit.specs.Feeding.{paint_end, painted_run, fed_run, run_on, Begins, begun_run, WantsToBegin, FaultsToBegin, FailsToBegin, IsFed, event_run, WantsToFeed, FaultsToFeed, FailsToFeed, FailsToFinish, Uncopied}
 use Rattle.tw_lineedit.specs.Reading.{start, Reads, FailsIn, HaltsIn, HaltsRefused, ClosesBadly, final_moment}
-use Rattle.tw_lineedit.specs.Run.{Progress, Ending, Moment, Cause, want, fault, run, ends, ending, at_no_event, moment, progress_of, painting_at, after_taking, after_resolution, after_action, state_after, after_event, CanStop, Quiet}
+use Rattle.tw_lineedit.specs.Run.{Progress, Ending, Moment, Cause, want, fault, run, ends, ending, at_no_event, moment, progress_of, painting_at, after_taking, after_resolution, after_action, state_after, after_event, CanStop, Quiet, CanMiss, CanRefuse, unresolved, unapplied, half_cleared, missed, CanStopAt, refused, later, CanStopOn, uncopied, taking, at_painting}
 use Rattle.tw_lineedit.specs.SessionView.{SessionView}
 use Rattle.tw_lineedit.specs.declared.Error.{Error}
 use Rattle.tw_lineedit.specs.declared.Error.TheVariants.{Memory, Terminal}
-use Rattle.tw_lineedit.proofs.FeedingLemmas.{open_goes_on, stops_unpainted}
+use Rattle.tw_lineedit.proofs.FeedingLemmas.{open_goes_on}
 use Rattle.tw_device.specs.Live.{resized_frame, frame_of, Opens, WaitsAfter, ComesBy, FailsFrom, FailsBy, FailsOver, FailsTold, ReadsTold, run_over, IsRead, StopsFeeding, answer_from}
 use Rattle.tw_device.specs.Live as live
 use Rattle.tw_device.specs.declared.keys.SourceState.{SourceState}
@@ -164,7 +164,7 @@ module _ {V : Type 0} (rules : HostRules V) (overrides : Overrides) where
   pub comes_one : (e : EventView) (f g : Frame V) → is_over f.state.mode ≡ false → IsFed rules overrides e (resized_frame e f) g → WaitsAfter rules overrides (e ∷ []) f g
   comes_one e f g o t = record {
     run = λ xs. sym (run_twice (progress_of f) e xs o) ∙ t.run xs;
-    stops = λ c xs m r. at_event o (stop_twice c e xs (progress_of f) m (t.stops c xs m r));
+    stops = λ c xs m r. taking o (stop_twice c e xs (progress_of f) m (t.stops c xs m r));
     quiet = record { flushed = t.quiet.flushed; failures = t.quiet.failures };
     left = t.left;
   }
@@ -182,14 +182,14 @@ module _ {V : Type 0} (rules : HostRules V) (overrides : Overrides) where
       let s : Progress V = progress_of (start None f) in
       let same : run rules [] s ≡ begun_run rules None f = run_none f.terminal.events s none in
       let starves : (m : Moment V) → WantsToBegin rules None f m → CanStop rules overrides want [] s m = λ m can. elim can [
-        | inl miss ↦ stops_unpainted rules overrides want [] s m (subst (λ (es : List EventView). CanMiss rules want es s m) none miss)
+        | inl miss ↦ at_painting (subst (λ (es : List EventView). CanMiss rules want es s m) none miss)
         | inr given ↦ absurd (false≢true given.0)
       ] in
       fails_later (run rules [] s) (begun_run rules None f) same
       (start None f) f h (record { flushed = refl; failures = refl })
       (CanStop rules overrides want [] s) (CanStop rules overrides fault [] s) (WantsToBegin rules None f) (FaultsToBegin rules None f) (HaltsRefused (begun_run rules None f) (WantsToBegin rules None f))
       starves
-      (λ m can. stops_unpainted rules overrides fault [] s m (subst (λ (es : List EventView). CanMiss rules fault es s m) none can))
+      (λ m can. at_painting (subst (λ (es : List EventView). CanMiss rules fault es s m) none can))
       (halts_refused (run rules [] s) (begun_run rules None f) same (start None f) f h (record { flushed = refl; failures = refl }) (CanStop rules overrides want [] s) (WantsToBegin rules None f) starves)
       e r
 
@@ -200,7 +200,7 @@ module _ {V : Type 0} (rules : HostRules V) (overrides : Overrides) where
       let rest : Ending V = event_run rules e (resized_frame e f) in
       let same : run_on rules (e ∷ []) s ≡ rest = run_one f.terminal.events s e o none in
       let stops : (c : Cause) (m : Moment V) → CanRefuse rules overrides c e f.terminal.events (after_taking s e) m → CanStopOn rules overrides c (e ∷ []) s m =
-      λ c m can. at_event o (refused (refuse_twice c e [] s m (subst (λ (es : List EventView). CanRefuse rules overrides c e es (after_taking s e) m) none can))) in
+      λ c m can. taking o (refused (refuse_twice c e [] s m (subst (λ (es : List EventView). CanRefuse rules overrides c e es (after_taking s e) m) none can))) in
       fails_later (run_on rules (e ∷ []) s) rest same
       f (resized_frame e f) h (record { flushed = refl; failures = refl })
       (CanStopOn rules overrides want (e ∷ []) s) (CanStopOn rules overrides fault (e ∷ []) s) (WantsToFeed rules overrides e (resized_frame e f)) (FaultsToFeed rules overrides e (resized_frame e f)) (HaltsRefused rest (WantsToFeed rules overrides e (resized_frame e f)))

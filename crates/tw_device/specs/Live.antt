@@ -8,10 +8,10 @@ use Rattle.tw_lineedit.specs.Frame.{Frame}
 use Rattle.tw_lineedit.specs.HostRules.{HostRules}
 use Rattle.tw_lineedit.specs.declared.Overrides.{Overrides}
 use Rattle.tw_lineedit.specs.Outcomes.{Outcome, is_over}
-use Rattle.tw_lineedit.specs.Feeding.{run_on, CanStopOn}
+use Rattle.tw_lineedit.specs.Feeding.{run_on}
 use Rattle.tw_lineedit.specs.Reading.{start, Reads, FailsIn, HaltsIn}
 use Rattle.tw_lineedit.specs.Refusal.{IsMemory}
-use Rattle.tw_lineedit.specs.Run.{Ending, Moment, Cause, want, fault, run, progress_of, CanStop, Quiet}
+use Rattle.tw_lineedit.specs.Run.{Ending, Moment, Cause, want, fault, run, progress_of, CanStop, Quiet, CanStopOn}
 use Rattle.tw_lineedit.specs.SessionView.{SessionView, new_state}
 use Rattle.tw_lineedit.specs.declared.Error.{Error}
 use Rattle.tw_lineedit.specs.declared.Error.TheVariants.{EndOfFile, Terminal}

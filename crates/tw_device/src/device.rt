@@ -40,8 +40,10 @@ pub trait DeviceTerminal: Terminal {
     ghost no_event: { (it : Self) → (Self.state it).events ≡ [] };
 
     // What a call of `Terminal` did besides is its deed.
-    ghost call_does: { (old new : Self) (call : Call) → Self.follows old new call → does old new (Called call) };
+    ghost call_does: { (old new : Self) (call : Call) → Self.follows old new call
+        → does old new (Called call) };
 
     // After a call of `Terminal` it may keep something back only where it might before.
-    ghost call_keeps: { (old new : Self) (call : Call) → Self.follows old new call → may_keep old ≡ false → may_keep new ≡ false };
+    ghost call_keeps: { (old new : Self) (call : Call) → Self.follows old new call → may_keep old
+        ≡ false → may_keep new ≡ false };
 }

@@ -126,13 +126,15 @@ impl<R: Read> KeyReader<R> {
     #[tactic(auto, using(crate::proofs::ReadLemmas::none_left))]
     fn find(&mut self) -> Result<Option<InputEvent>, Refused>
         ensures told { self.new.told ≡ self.old.told }
-        ensures tells { TellsTyped (held_by R.remaining self.old) (held_by R.remaining self.new) (answer_events result) }
+        ensures tells { TellsTyped (held_by R.remaining self.old) (held_by R.remaining self.new)
+            (answer_events result) }
         ensures at_end { IfOk result (λ event. MatchOption event
             ((self.new.unread ≡ []) × IsAtEnd (R.remaining self.new.reader))
             (λ _. ⊤)) }
         ensures held_up { IfErr result (λ refused. IsHeldUp (fault_of refused)
             (held_by R.remaining self.old) (held_by R.remaining self.new)) }
-        ensures at_hand { is_at_hand (held_by R.remaining self.old) ≡ true → self.new.reader ≡ self.old.reader }
+        ensures at_hand { is_at_hand (held_by R.remaining self.old) ≡ true → self.new.reader
+            ≡ self.old.reader }
     {
         let mut is_last = false;
         for turn in 0..u64::MAX {
@@ -179,10 +181,13 @@ impl<R: Read> KeyReader<R> {
         ensures ok { OnOk result ((more : List ℕ) × (self.new.unread ≡ self.old.unread ++ more)
             × (self.new.was_full ≡ (length more == piece))
             × Consumes (R.remaining self.old.reader) (R.remaining self.new.reader) more) }
-        ensures end { IfOk result (λ is_more. is_more ≡ false → IsAtEnd (R.remaining self.new.reader)) }
-        ensures err { OnErr result ((self.new.unread ≡ self.old.unread) × (self.new.was_full ≡ self.old.was_full)
+        ensures end { IfOk result (λ is_more. is_more ≡ false
+            → IsAtEnd (R.remaining self.new.reader)) }
+        ensures err { OnErr result ((self.new.unread ≡ self.old.unread)
+            × (self.new.was_full ≡ self.old.was_full)
             × Keeps (R.remaining self.old.reader) (R.remaining self.new.reader)) }
-        ensures choices { (self.new.escape ≡ self.old.escape) × (self.new.pasted ≡ self.old.pasted) }
+        ensures choices { (self.new.escape ≡ self.old.escape)
+            × (self.new.pasted ≡ self.old.pasted) }
         ensures told { self.new.told ≡ self.old.told }
     {
         let count = self.unread.read_from(&mut self.reader)?;
@@ -195,7 +200,8 @@ impl<R: Read> KeyReader<R> {
     fn take(&mut self, found: Scanned) -> Result<Option<InputEvent>, Refused>
         requires { found.used ≤ length self.old.unread }
         ensures told { self.new.told ≡ self.old.told }
-        ensures event { IfOk result (λ event. events_in_option event ≡ token_events self.old.pasted found.token self.old.unread) }
+        ensures event { IfOk result (λ event. events_in_option event
+            ≡ token_events self.old.pasted found.token self.old.unread) }
         ensures taken { OnOk result (self.new.unread ≡ drop found.used self.old.unread) }
         ensures kept { OnErr result (self.new.unread ≡ self.old.unread) }
         ensures refused { IfErr result (λ refused. (refused ≡ Memory) × IsPasted found.token) }
@@ -229,7 +235,8 @@ impl<R: Read> EventSource for KeyReader<R> {
 
     ghost at_hand = { λ it. is_at_hand (held_by R.remaining it) };
 
-    ghost follows = { λ old new events. TellsTyped (held_by R.remaining old) (held_by R.remaining new) events };
+    ghost follows = { λ old new events. TellsTyped (held_by R.remaining old)
+        (held_by R.remaining new) events };
 
     /// Takes bytes at the front and tells what they are: no byte is lost, and none is told twice. There are no more events
     /// only if the reader has no more bytes and all are taken. `held_up` says why a call fails. If an event is at hand,
@@ -241,13 +248,15 @@ impl<R: Read> EventSource for KeyReader<R> {
         ensures going { IfOk result (λ event. IfSome event (λ _. self.new.state ≡ Going)) }
         ensures told { OnErr result (self.new.told ≡ self.old.told) }
         ensures refused { IfErr result (λ fault. self.new.state ≡ HasRefused fault) }
-        ensures follows { TellsTyped (held_by R.remaining self.old) (held_by R.remaining self.new) (answer_events result) }
+        ensures follows { TellsTyped (held_by R.remaining self.old) (held_by R.remaining self.new)
+            (answer_events result) }
         ensures at_end { IfOk result (λ event. MatchOption event
             ((self.new.unread ≡ []) × IsAtEnd (R.remaining self.new.reader))
             (λ _. ⊤)) }
         ensures held_up { IfErr result (λ fault. IsHeldUp fault
             (held_by R.remaining self.old) (held_by R.remaining self.new)) }
-        ensures at_hand { is_at_hand (held_by R.remaining self.old) ≡ true → self.new.reader ≡ self.old.reader }
+        ensures at_hand { is_at_hand (held_by R.remaining self.old) ≡ true → self.new.reader
+            ≡ self.old.reader }
     {
         match self.find() {
             Ok(Some(event)) => {

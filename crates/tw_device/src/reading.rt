@@ -51,7 +51,9 @@ enum Stop {
 /// Gives the terminal the size that an event tells.
 fn resize<T: DeviceTerminal>(terminal: &mut T, event: &InputEvent)
     ensures state { let before = T.state terminal.old in
-        T.state terminal.new ≡ record before { size = size_after (event_view event.now) before.size } }
+        T.state terminal.new ≡ record before {
+          size = size_after (event_view event.now) before.size;
+        } }
     ensures sized { IsSizedBy T.does (event_view event.now) terminal.old terminal.new }
 {
     if let InputEvent::Resized { cols, rows } = event {
@@ -73,8 +75,10 @@ fn begin<T: DeviceTerminal, H: LineEditorHost>(
     ensures told { IsCalledWith T.state T.follows T.may_keep T.does is_more editor.old.terminal.now editor.new.terminal.now }
     ensures ok { let before = frame T.state H.value editor.old host.now in
         let after = frame T.state H.value editor.new host.now in
-        before.state.mode ≡ Inactive → OnOk result (Begins H.rules H.OVERRIDES (start None before) after) }
-    ensures open { editor.old.session.state.mode ≡ Inactive → OnOk result (is_open editor.new.session.state.mode ≡ true) }
+        before.state.mode ≡ Inactive → OnOk result
+        (Begins H.rules H.OVERRIDES (start None before) after) }
+    ensures open { editor.old.session.state.mode ≡ Inactive
+        → OnOk result (is_open editor.new.session.state.mode ≡ true) }
     ensures err { let before = frame T.state H.value editor.old host.now in
         let after = frame T.state H.value editor.new host.now in
         before.state.mode ≡ Inactive → IfErr result (FailsToBegin H.rules None before after) }
@@ -86,7 +90,9 @@ fn begin<T: DeviceTerminal, H: LineEditorHost>(
 /// Gives the terminal the size that an event tells, and says whether more events are at hand.
 fn prepare<T: DeviceTerminal>(terminal: &mut T, event: &InputEvent, is_more: bool)
     ensures state { let before = T.state terminal.old in
-        T.state terminal.new ≡ record before { size = size_after (event_view event.now) before.size } }
+        T.state terminal.new ≡ record before {
+          size = size_after (event_view event.now) before.size;
+        } }
     ensures sized { (sized : T) × IsSizedBy T.does (event_view event.now) terminal.old sized
         × T.does sized terminal.new (Called Other) × (T.state terminal.new ≡ T.state sized) }
     ensures last { is_more ≡ false → T.may_keep terminal.new ≡ false }
@@ -108,12 +114,15 @@ fn feed<T: DeviceTerminal, H: LineEditorHost>(
         let after = frame T.state H.value editor.new host.new in
         OnOk result (WaitsAfter H.rules H.OVERRIDES (event_view event.now ∷ []) before after) }
     ensures begun { OnOk result (editor.new.session.state.mode ≢ Inactive) }
-    ensures status { IfOk result (λ status. status ≡ status_if (is_open editor.new.session.state.mode)) }
+    ensures status { IfOk result (λ status. status
+        ≡ status_if (is_open editor.new.session.state.mode)) }
     ensures err { let before = frame T.state H.value editor.old host.old in
         let after = frame T.state H.value editor.new host.new in
         IfErr result (FailsFrom H.rules H.OVERRIDES (event_view event.now ∷ []) before after) }
-    ensures led { IsLedBy T.does (event_view event.now ∷ []) editor.old.terminal.now editor.new.terminal.now }
-    ensures sized { IsLedByEvent T.does (event_view event.now) editor.old.terminal.now editor.new.terminal.now }
+    ensures led { IsLedBy T.does (event_view event.now ∷ [])
+        editor.old.terminal.now editor.new.terminal.now }
+    ensures sized { IsLedByEvent T.does (event_view event.now)
+        editor.old.terminal.now editor.new.terminal.now }
     ensures fed { IsFedWith T.state T.follows T.may_keep T.does is_more (event_view event.now ∷ [])
         editor.old.terminal.now editor.new.terminal.now }
 {
@@ -132,15 +141,19 @@ fn take_events<S: EventSource, T: DeviceTerminal, H: LineEditorHost>(
     ensures same_reference { editor.new.terminal.ghost_name ≡ editor.old.terminal.ghost_name }
     ensures ok { let before = frame T.state H.value editor.old host.old in
         let after = frame T.state H.value editor.new host.new in
-        OnOk result (ComesBy H.rules H.OVERRIDES (S.told source.old) (S.told source.new) before after) }
+        OnOk result (ComesBy H.rules H.OVERRIDES (S.told source.old) (S.told source.new)
+        before after) }
     ensures begun { OnOk result (editor.new.session.state.mode ≢ Inactive) }
     ensures stopped { let is_open_after = is_open editor.new.session.state.mode in
-        IfOk result (λ stop. StopsFeeding stop is_open_after (S.state source.new) (S.told source.old) (S.told source.new)) }
+        IfOk result (λ stop. StopsFeeding stop is_open_after (S.state source.new)
+        (S.told source.old) (S.told source.new)) }
     ensures err { let before = frame T.state H.value editor.old host.old in
         let after = frame T.state H.value editor.new host.new in
-        IfErr result (FailsBy H.rules H.OVERRIDES (S.told source.old) (S.told source.new) before after) }
+        IfErr result (FailsBy H.rules H.OVERRIDES (S.told source.old) (S.told source.new)
+        before after) }
     ensures called { IsCalled S.told S.follows source.old source.new }
-    ensures led { IsLedAsTold T.does (S.told source.old) (S.told source.new) editor.old.terminal.now editor.new.terminal.now }
+    ensures led { IsLedAsTold T.does (S.told source.old) (S.told source.new)
+        editor.old.terminal.now editor.new.terminal.now }
     ensures along { let before = frame T.state H.value editor.old host.old in
         IsToldAlong T.state T.does (taken_on H.rules before) (S.told source.old) (S.told source.new)
         editor.old.terminal.now editor.new.terminal.now }
@@ -169,7 +182,8 @@ fn finish<T: DeviceTerminal>(editor: &mut LineEditor<'_, T>) -> Result<Option<St
     ensures ok { let before = own_frame T.state editor.old in
         let after = own_frame T.state editor.new in
         let run = ending (answer_at before.state) before in
-        before.state.mode ≢ Inactive → IfOk result (λ it. Reads run before after (outcome_of (Ok it))) }
+        before.state.mode ≢ Inactive → IfOk result
+        (λ it. Reads run before after (outcome_of (Ok it))) }
     ensures err { let before = own_frame T.state editor.old in
         let after = own_frame T.state editor.new in
         IfErr result (FailsToFinish before after) }
@@ -200,15 +214,19 @@ fn read_events<S: EventSource, T: DeviceTerminal, H: LineEditorHost>(
     prompt: &str,
 ) -> Result<Answer, Error>
     ensures ok { let begun = fresh_frame prompt.now (H.value host.old) (T.state terminal.old) in
-        IfOk result (IsRead H.rules (S.told source.old) (S.told source.new) (S.state source.new) begun
+        IfOk result (IsRead H.rules (S.told source.old) (S.told source.new)
+        (S.state source.new) begun
         (H.value host.new) (T.state terminal.new)) }
     ensures err { let begun = fresh_frame prompt.now (H.value host.old) (T.state terminal.old) in
-        IfErr result (FailsToReadTold H.rules H.OVERRIDES (S.told source.old) (S.told source.new) (S.state source.new) begun
+        IfErr result (FailsToReadTold H.rules H.OVERRIDES (S.told source.old) (S.told source.new)
+        (S.state source.new) begun
         (H.value host.new) (T.state terminal.new)) }
     ensures called { IsCalled S.told S.follows source.old source.new }
-    ensures led { IsLedAsTold T.does (S.told source.old) (S.told source.new) terminal.old terminal.new }
+    ensures led { IsLedAsTold T.does (S.told source.old) (S.told source.new)
+        terminal.old terminal.new }
     ensures along { let begun = fresh_frame prompt.now (H.value host.old) (T.state terminal.old) in
-        IsToldAlong T.state T.does (taken_over H.rules begun) (S.told source.old) (S.told source.new)
+        IsToldAlong T.state T.does (taken_over H.rules begun) (S.told source.old)
+        (S.told source.new)
         terminal.old terminal.new }
     ensures asked { IsUntouchedOrAsked T.state T.follows T.may_keep T.does S.at_hand S.follows source.old source.new
         terminal.old terminal.new }
@@ -243,17 +261,21 @@ pub fn read_line_from<S: EventSource, T: DeviceTerminal, H: LineEditorHost>(
     prompt: &str,
 ) -> Result<Answer, Error>
     ensures ok { let begun = fresh_frame prompt.now (H.value host.old) (T.state terminal.old) in
-        IfOk result (IsToldAnswer H.rules H.OVERRIDES (S.told source.old) (S.told source.new) (S.state source.new) begun
+        IfOk result (IsToldAnswer H.rules H.OVERRIDES (S.told source.old) (S.told source.new)
+        (S.state source.new) begun
         (H.value host.new) (T.state terminal.new)
         (IsClosedAsTold T.state T.follows T.may_keep T.does (taken_over H.rules begun)
         (S.told source.old) (S.told source.new) terminal.old terminal.new)) }
     ensures err { let begun = fresh_frame prompt.now (H.value host.old) (T.state terminal.old) in
-        IfErr result (IsRefusedTold H.rules H.OVERRIDES (S.told source.old) (S.told source.new) (S.state source.new) begun
+        IfErr result (IsRefusedTold H.rules H.OVERRIDES (S.told source.old) (S.told source.new)
+        (S.state source.new) begun
         (H.value host.new) (T.state terminal.new)) }
     ensures called { IsCalled S.told S.follows source.old source.new }
-    ensures led { IsLedAsTold T.does (S.told source.old) (S.told source.new) terminal.old terminal.new }
+    ensures led { IsLedAsTold T.does (S.told source.old) (S.told source.new)
+        terminal.old terminal.new }
     ensures along { let begun = fresh_frame prompt.now (H.value host.old) (T.state terminal.old) in
-        IsToldAlong T.state T.does (taken_over H.rules begun) (S.told source.old) (S.told source.new)
+        IsToldAlong T.state T.does (taken_over H.rules begun) (S.told source.old)
+        (S.told source.new)
         terminal.old terminal.new }
     ensures asked { IsUntouchedOrAsked T.state T.follows T.may_keep T.does S.at_hand S.follows source.old source.new
         terminal.old terminal.new }

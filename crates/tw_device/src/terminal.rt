@@ -87,7 +87,8 @@ impl<W: Write> AnsiTerminal<W> {
     fn write(&mut self, text: &str) -> Result<(), TerminalFault>
         ensures kept { terminal_state self.new ≡ terminal_state self.old }
         ensures known { self.new.encoder ≡ self.old.encoder }
-        ensures sent { OnOk result (Appends (W.contents self.old.writer) (W.contents self.new.writer) text.now) }
+        ensures sent { OnOk result (Appends (W.contents self.old.writer)
+            (W.contents self.new.writer) text.now) }
     {
         match self.writer.write_all(text.as_bytes()) {
             Ok(()) => Ok(()),
@@ -99,7 +100,8 @@ impl<W: Write> AnsiTerminal<W> {
     fn encode(&self, changes: &[Change], text: &mut String) -> Result<Encoder, AllocError>
         ensures bytes { let sent = sent_batch (batch_view changes.now) self.now.encoder in
             OnOk result (string_bytes text.new ≡ string_bytes text.old ++ sent.bytes) }
-        ensures next { IfOk result (λ encoder. encoder ≡ (sent_batch (batch_view changes.now) self.now.encoder).next) }
+        ensures next { IfOk result (λ encoder. encoder
+            ≡ (sent_batch (batch_view changes.now) self.now.encoder).next) }
     {
         let mut encoder = self.encoder;
         for change in changes {
@@ -111,12 +113,16 @@ impl<W: Write> AnsiTerminal<W> {
     /// Sends a batch.
     fn put(&mut self, changes: &[Change]) -> Result<(), Refused>
         ensures sent { let sent = sent_batch (batch_view changes.now) self.old.encoder in
-            OnOk result (Appends (W.contents self.old.writer) (W.contents self.new.writer) sent.bytes) }
-        ensures next { OnOk result (self.new.encoder ≡ (sent_batch (batch_view changes.now) self.old.encoder).next) }
-        ensures ok { OnOk result (Renders (batch_view changes.now) (terminal_state self.old) (terminal_state self.new)) }
+            OnOk result (Appends (W.contents self.old.writer)
+            (W.contents self.new.writer) sent.bytes) }
+        ensures next { OnOk result (self.new.encoder
+            ≡ (sent_batch (batch_view changes.now) self.old.encoder).next) }
+        ensures ok { OnOk result (Renders (batch_view changes.now) (terminal_state self.old)
+            (terminal_state self.new)) }
         ensures err { OnErr result (terminal_state self.new ≡ terminal_state self.old) }
         ensures known { OnErr result (self.new.encoder ≡ self.old.encoder) }
-        ensures unsent { IfErr result (λ refused. refused ≡ Memory → self.new.writer ≡ self.old.writer) }
+        ensures unsent { IfErr result (λ refused. refused ≡ Memory → self.new.writer
+            ≡ self.old.writer) }
     {
         let mut text = String::new(self.alloc);
         let encoder = self.encode(changes, &mut text)?;
@@ -155,14 +161,20 @@ impl<W: Write> Terminal for AnsiTerminal<W> {
     /// Sends the bytes of the changes at once. If the writer refuses, a beginning of them may have been sent, and if
     /// memory is refused none.
     fn render(&mut self, changes: &[Change]) -> Result<(), TerminalFault>
-        ensures ok { OnOk result (Renders (batch_view changes.now) (terminal_state self.old) (terminal_state self.new)) }
-        ensures err { OnErr result (RenderFails (batch_view changes.now) (terminal_state self.old) (terminal_state self.new)) }
+        ensures ok { OnOk result (Renders (batch_view changes.now) (terminal_state self.old)
+            (terminal_state self.new)) }
+        ensures err { OnErr result (RenderFails (batch_view changes.now) (terminal_state self.old)
+            (terminal_state self.new)) }
         ensures sent { let sent = sent_batch (batch_view changes.now) self.old.encoder in
-            OnOk result (Appends (W.contents self.old.writer) (W.contents self.new.writer) sent.bytes) }
-        ensures next { OnOk result (self.new.encoder ≡ (sent_batch (batch_view changes.now) self.old.encoder).next) }
+            OnOk result (Appends (W.contents self.old.writer)
+            (W.contents self.new.writer) sent.bytes) }
+        ensures next { OnOk result (self.new.encoder
+            ≡ (sent_batch (batch_view changes.now) self.old.encoder).next) }
         ensures known { OnErr result (self.new.encoder ≡ self.old.encoder) }
-        ensures unsent { IfErr result (λ fault. fault ≡ NoMemory → self.new.writer ≡ self.old.writer) }
-        ensures took { OnOk result (Does W.contents self.old self.new (Called (Took (batch_view changes.now)))) }
+        ensures unsent { IfErr result (λ fault. fault ≡ NoMemory → self.new.writer
+            ≡ self.old.writer) }
+        ensures took { OnOk result (Does W.contents self.old self.new
+            (Called (Took (batch_view changes.now)))) }
         ensures refused { OnErr result (Does W.contents self.old self.new (Called BatchRefused)) }
     {
         match self.put(changes) {

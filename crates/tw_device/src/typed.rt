@@ -31,13 +31,15 @@ pub fn read_typed_line<R: Read, T: DeviceTerminal, H: LineEditorHost>(
         (IsClosedAsTold T.state T.follows T.may_keep T.does (taken_over H.rules begun)
         keys.old.told keys.new.told terminal.old terminal.new)) }
     ensures err { let begun = fresh_frame prompt.now (H.value host.old) (T.state terminal.old) in
-        IfErr result (IsRefusedTold H.rules H.OVERRIDES keys.old.told keys.new.told keys.new.state begun
+        IfErr result
+        (IsRefusedTold H.rules H.OVERRIDES keys.old.told keys.new.told keys.new.state begun
         (H.value host.new) (T.state terminal.new)) }
     ensures typed { (events : List EventView) × (keys.new.told ≡ keys.old.told ++ events)
         × TellsTyped (held_by R.remaining keys.old) (held_by R.remaining keys.new) events }
     ensures led { IsLedAsTold T.does keys.old.told keys.new.told terminal.old terminal.new }
     ensures along { let begun = fresh_frame prompt.now (H.value host.old) (T.state terminal.old) in
-        IsToldAlong T.state T.does (taken_over H.rules begun) keys.old.told keys.new.told terminal.old terminal.new }
+        IsToldAlong T.state T.does (taken_over H.rules begun)
+        keys.old.told keys.new.told terminal.old terminal.new }
     ensures asked { IsUntouchedOrAsked T.state T.follows T.may_keep T.does
         (λ it. is_at_hand (held_by R.remaining it))
         (λ old new events. TellsTyped (held_by R.remaining old) (held_by R.remaining new) events)

@@ -105,7 +105,8 @@ impl Unread {
     /// Reads what there is, and waits if there is nothing. Returns the number of bytes that came, or 0 at the end. Room
     /// for the bytes is found before the reader is asked, so that none is lost for want of memory.
     pub(crate) fn read_from<R: Read>(&mut self, reader: &mut R) -> Result<usize, Refused>
-        ensures ok { IfOk result (λ count. (more : List ℕ) × (self.new ≡ self.old ++ more) × (length more ≡ count)
+        ensures ok { IfOk result (λ count. (more : List ℕ) × (self.new ≡ self.old ++ more)
+            × (length more ≡ count)
             × Consumes (R.remaining reader.old) (R.remaining reader.new) more) }
         ensures end { IfOk result (λ count. count ≡ 0 → IsAtEnd (R.remaining reader.new)) }
         ensures err { OnErr result (self.new ≡ self.old) }
@@ -149,7 +150,8 @@ fn read_more<R: Read>(reader: &mut R, buffer: &mut Vec<u8>, held: usize) -> Resu
         × (take (held + count) buffer.new.items ≡ take held buffer.old.items ++ more)
         × (length more ≡ count) × Consumes (R.remaining reader.old) (R.remaining reader.new) more) }
     ensures end { IfOk result (λ count. count ≡ 0 → IsAtEnd (R.remaining reader.new)) }
-    ensures err { OnErr result ((held ≤ length buffer.new.items) × (take held buffer.new.items ≡ take held buffer.old.items)) }
+    ensures err { OnErr result ((held ≤ length buffer.new.items)
+        × (take held buffer.new.items ≡ take held buffer.old.items)) }
     ensures kept { OnErr result (Keeps (R.remaining reader.old) (R.remaining reader.new)) }
 {
     buffer.resize(held.saturating_add(PIECE), 0)?;

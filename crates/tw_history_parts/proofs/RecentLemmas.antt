@@ -10,10 +10,10 @@ use Rattle.std.proofs.lemmas.List.{get_or_default, length-map, map-append, take-
 use Rattle.std.proofs.lemmas.List.Edits.{length-remove, remove-append_left}
 use Rattle.std.proofs.lemmas.List.Elements.{filter_passes, All-push, AllWithin-more}
 use Rattle.std.proofs.lemmas.List.Kept.{AllPairs-cons, AllPairs-filter}
-use Rattle.tw_history.specs.Bounded.{lines_of_entries, newest}
-use Rattle.tw_history.specs.HistoryAdditions.{is_line}
-use Rattle.tw_history.specs.NearestMatch.{last_line, line_at}
-use Rattle.tw_history.proofs.BoundedLemmas.{last_line_newest}
+use Rattle.tw_line.specs.Bounded.{lines_of_entries, newest}
+use Rattle.tw_line.specs.HistoryAdditions.{is_line}
+use Rattle.tw_line.specs.NearestMatch.{last_line, line_at}
+use Rattle.tw_line.proofs.BoundedLemmas.{last_line_newest}
 use Rattle.tw_history_parts.specs.Reading.{AddsAll}
 use Rattle.tw_history_parts.specs.Recent.{AreUnique, RecentLines, StaysUnique, is_other, older_lines, with_recent, without}
 

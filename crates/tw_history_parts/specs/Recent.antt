@@ -2,9 +2,9 @@
 use Rattle.std.specs.Prelude.{◌≡◌, ◌≢◌, ◌==◌, ℕ, Bool, true, eqb, not, List, [], ◌∷◌, ◌++◌, Option, Some, None, if◌then◌else◌}
 use Rattle.std.specs.Cmp.Lexicographic.{pointwise}
 use Rattle.std.specs.List.{AllPairs, filter, remove}
-use Rattle.tw_history.specs.Bounded.{newest}
-use Rattle.tw_history.specs.HistoryAdditions.{is_line}
-use Rattle.tw_history.specs.NearestMatch.{last_line}
+use Rattle.tw_line.specs.Bounded.{newest}
+use Rattle.tw_line.specs.HistoryAdditions.{is_line}
+use Rattle.tw_line.specs.NearestMatch.{last_line}
 
 -- the lines, how many are kept at most, and whether none is to stand twice
 pub record RecentLines : Type 0 where

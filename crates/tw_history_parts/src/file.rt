@@ -7,7 +7,7 @@ ghost use Rattle.tw_history_parts.specs.Reading.{AddsAll, AddsSome};
 use crate::lines::{line_of, split_line};
 use std::alloc::{AllocError, Global};
 use std::fmt;
-use tw_history::History;
+use tw_line::History;
 
 /// What of a file is not read.
 #[derive(Clone, Copy, Debug, PartialEq, Eq)]
@@ -49,7 +49,8 @@ pub fn read_lines<L: History>(
 ) -> Result<usize, AllocError>
     ensures added { OnOk result (AddsAll L.add_gives (lines_in bytes.now) history.old history.new) }
     ensures lost { IfOk result (λ lost. lost ≡ lost_in bytes.now) }
-    ensures refused { OnErr result (AddsSome L.lines L.add_gives (lines_in bytes.now) history.old history.new) }
+    ensures refused { OnErr result
+        (AddsSome L.lines L.add_gives (lines_in bytes.now) history.old history.new) }
 {
     let mut rest = bytes;
     let mut lost = 0;

@@ -1,4 +1,4 @@
-//! Histories beside those of `tw_history`: `FileHistory` is kept in a file, and `RecentHistory` keeps the newest lines,
+//! Histories beside those of `tw_line`: `FileHistory` is kept in a file, and `RecentHistory` keeps the newest lines,
 //! no line twice if it is unique.
 //!
 //! `lines` has how a line stands in a file, `file` what reads such lines, `written` a history whose lines are written,

@@ -53,7 +53,8 @@ fn push_plain(bytes: &mut Vec<u8>, byte: u8) -> Result<Option<bool>, AllocError>
 /// Adds what a byte stands for, after a backslash or not, and tells whether the next one stands after a backslash;
 /// none where a backslash stands before another byte.
 fn push_meant(bytes: &mut Vec<u8>, escapes: bool, byte: u8) -> Result<Option<bool>, AllocError>
-    ensures { (text : List ℕ) → IfOk result (λ behind. understood bytes.new.items behind text ≡ understood bytes.old.items (Some escapes) (byte ∷ text)) }
+    ensures { (text : List ℕ) → IfOk result (λ behind. understood bytes.new.items behind text
+        ≡ understood bytes.old.items (Some escapes) (byte ∷ text)) }
 {
     match (escapes, byte) {
         (false, b'\\') => Ok(Some(true)),

@@ -3,16 +3,16 @@
 ghost use Rattle.std.specs.Cow.{IsBorrowedStr, cow_str_bytes};
 ghost use Rattle.std.specs.List.{All, remove};
 ghost use Rattle.std.specs.Prelude.{◌≡◌, ◌≢◌, ◌≤◌, ◌<◌, ◌==◌, ◌++◌, ◌∷◌, [], IfOk, IfSome, IsCharBoundary, IsOkAnd, None, OnErr, OnOk, Some, false, if◌then◌else◌, length, option_map, slice_get, string_bytes, true};
-ghost use Rattle.tw_history.specs.Bounded.{lines_of_entries, newest};
-ghost use Rattle.tw_history.specs.HistoryAdditions.{is_line, match_view};
-ghost use Rattle.tw_history.specs.NearestMatch.{last_line, line_at, nearest_match};
+ghost use Rattle.tw_line.specs.Bounded.{lines_of_entries, newest};
+ghost use Rattle.tw_line.specs.HistoryAdditions.{is_line, match_view};
+ghost use Rattle.tw_line.specs.NearestMatch.{last_line, line_at, nearest_match};
 ghost use Rattle.tw_history_parts.specs.Recent.{at_least_one, no_recent_lines, older_lines, with_recent, without};
 
 use std::alloc::{AllocError, Global};
 use std::borrow::CowStr;
 use std::collections::VecDeque;
 use std::marker::Model;
-use tw_history::{
+use tw_line::{
     History, HistoryIndex, LentLines, SearchDirection, SearchResult, SearchStyle, nearest_line,
 };
 
@@ -32,7 +32,11 @@ impl Model for RecentHistory {
 
     ghost Value = { RecentLines };
 
-    ghost view = { λ h. record { lines = map string_bytes h.entries.items; limit = h.limit; is_unique = h.is_unique } };
+    ghost view = { λ h. record {
+      lines = map string_bytes h.entries.items;
+      limit = h.limit;
+      is_unique = h.is_unique;
+    } };
 
     ghost invariant = { λ h. (0 < h.limit) × (length h.entries.items ≤ h.limit)
         × (h.is_unique ≡ true → AreUnique (map string_bytes h.entries.items)) };
@@ -64,9 +68,11 @@ fn push_recent(
     requires fits { length entries.old.items ≤ limit }
     requires inside { IfSome double (λ at. at < length entries.old.items) }
     ensures ok { OnOk result (lines_of_entries entries.new.items
-        ≡ newest limit (without double (lines_of_entries entries.old.items) ++ string_bytes entry ∷ [])) }
+        ≡ newest limit (without double (lines_of_entries entries.old.items)
+        ++ string_bytes entry ∷ [])) }
     ensures fits { length entries.new.items ≤ limit }
-    ensures err { OnErr result (lines_of_entries entries.new.items ≡ lines_of_entries entries.old.items) }
+    ensures err { OnErr result (lines_of_entries entries.new.items
+        ≡ lines_of_entries entries.old.items) }
 {
     entries.push_back(entry)?;
     if let Some(at) = double {
@@ -161,7 +167,8 @@ impl History for RecentHistory {
 
     /// The line at `idx`, which is lent and not copied. Takes no memory.
     fn get(&self, _alloc: Global, idx: HistoryIndex) -> Result<Option<CowStr<'_>>, AllocError>
-        ensures line { IsOkAnd result (λ line. option_map cow_str_bytes line ≡ slice_get self.now.lines idx) }
+        ensures line { IsOkAnd result (λ line. option_map cow_str_bytes line
+            ≡ slice_get self.now.lines idx) }
         ensures borrowed { IfOk result (λ line. IfSome line IsBorrowedStr) }
     {
         match self.entries.get(idx) {

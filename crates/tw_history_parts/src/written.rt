@@ -2,7 +2,7 @@
 
 ghost use Rattle.std.specs.Cow.{cow_str_bytes};
 ghost use Rattle.std.specs.Prelude.{◌≡◌, ◌∷◌, [], IfOk, IfSome, IsCharBoundary, None, OnErr, OnOk, Some, false, is_none, option_map, slice_get, true};
-ghost use Rattle.tw_history.specs.NearestMatch.{last_line};
+ghost use Rattle.tw_line.specs.NearestMatch.{last_line};
 ghost use Rattle.tw_history_parts.specs.HistoryFile.{is_cut_off, lines_in, unread_in};
 ghost use Rattle.tw_history_parts.specs.Reading.{AddsAll};
 ghost use Rattle.tw_history_parts.specs.Recent.{at_least_one};
@@ -15,7 +15,7 @@ use std::alloc::{AllocError, Global};
 use std::borrow::CowStr;
 use std::fs::{self, File, OpenOptions};
 use std::io::{self, ErrorKind, Write};
-use tw_history::{History, HistoryIndex, LentLines, SearchDirection, SearchResult, SearchStyle};
+use tw_line::{History, HistoryIndex, LentLines, SearchDirection, SearchResult, SearchStyle};
 
 /// Another history, whose lines are written too, each as it is added, such as to the end of a file.
 ///
@@ -62,7 +62,8 @@ impl<L: History, W: Write + Drop> WrittenHistory<L, W> {
     ) -> Result<Self, AllocError>
     where
         L: Drop,
-        ensures added { IfOk result (λ it. AddsAll L.add_gives (lines_in bytes.now) history it.history) }
+        ensures added { IfOk result (λ it. AddsAll L.add_gives (lines_in bytes.now)
+            history it.history) }
         ensures unread { IfOk result (λ it. it.unread ≡ unread_in bytes.now) }
         ensures failed { IfOk result (λ it. it.has_failed ≡ is_none it.writer) }
         ensures ended { is_cut_off bytes.now ≡ true → IfOk result (λ it.
@@ -109,7 +110,8 @@ impl<L: History, W: Write + Drop> WrittenHistory<L, W> {
 
     /// Writes some bytes, if lines are written. A writer that refuses is let go.
     fn put(&mut self, bytes: &[u8])
-        ensures put { IsPut W.contents bytes.now self.old.has_failed self.old.writer self.new.has_failed self.new.writer }
+        ensures put { IsPut W.contents bytes.now self.old.has_failed self.old.writer
+            self.new.has_failed self.new.writer }
         ensures history { self.new.history ≡ self.old.history }
         ensures unread { self.new.unread ≡ self.old.unread }
     {
@@ -144,7 +146,8 @@ impl WrittenHistory<RecentHistory, File> {
     /// A file that can't be read is not written either. `unread` returns what was not read, and `take_failure` whether
     /// lines can't be written: they are kept in memory then.
     pub fn open(rt: HostRuntime, path: &str, limit: usize) -> Result<Self, AllocError>
-        ensures kept { IfOk result (λ it. (it.history.limit ≡ at_least_one limit) × (it.history.is_unique ≡ false)) }
+        ensures kept { IfOk result (λ it. (it.history.limit ≡ at_least_one limit)
+            × (it.history.is_unique ≡ false)) }
         ensures failed { IfOk result (λ it. it.has_failed ≡ is_none it.writer) }
     {
         FileHistory::open_over(rt, path, RecentHistory::new(rt.alloc(), limit))
@@ -153,7 +156,8 @@ impl WrittenHistory<RecentHistory, File> {
     /// Opens the history in a file as `open` does, but keeps no line twice in memory: one that is added again goes to the
     /// end.
     pub fn open_unique(rt: HostRuntime, path: &str, limit: usize) -> Result<Self, AllocError>
-        ensures kept { IfOk result (λ it. (it.history.limit ≡ at_least_one limit) × (it.history.is_unique ≡ true)) }
+        ensures kept { IfOk result (λ it. (it.history.limit ≡ at_least_one limit)
+            × (it.history.is_unique ≡ true)) }
         ensures failed { IfOk result (λ it. it.has_failed ≡ is_none it.writer) }
     {
         FileHistory::open_over(rt, path, RecentHistory::unique(rt.alloc(), limit))

@@ -8,15 +8,14 @@ ghost use Rattle.tw_line.specs.Cut.{cut_at};
 ghost use Rattle.tw_host.specs.ElementView.{element_view};
 ghost use Rattle.tw_host.specs.CandidateView.{candidate_view};
 ghost use Rattle.tw_host.specs.HostRules.{HostRules, Resolves, candidates_for, plain_text, plain_highlight, plain_rules, shown_column, shown_elements};
-ghost use Rattle.tw_history.specs.NearestMatch.{last_line};
+ghost use Rattle.tw_line.specs.NearestMatch.{last_line};
 ghost use Rattle.tw_host.specs.PlainAnswers.{IsPlainBut, no_overrides, plain_is_plain};
 
 use crate::actions::Action;
 use std::alloc::{AllocError, Global};
 use std::ops::Range;
-use tw_history::{BasicHistory, History};
 use tw_input::InputEvent;
-use tw_line::LineEditBuffer;
+use tw_line::{BasicHistory, History, LineEditBuffer};
 use tw_surface::{AttributeChange, CellAttributes, Change, unicode_column_width};
 
 /// A part of what is shown.
@@ -107,8 +106,10 @@ pub fn plain_line(
     cursor: usize,
 ) -> Result<(Vec<OutputElement>, usize), AllocError>
     requires { IsCharBoundary line.now cursor }
-    ensures elements { IfOk result (λ shown. map element_view shown.0.items ≡ (plain_highlight (cut_at line.now cursor)).elements) }
-    ensures column { IfOk result (λ shown. shown.1 ≡ (plain_highlight (cut_at line.now cursor)).column) }
+    ensures elements { IfOk result (λ shown. map element_view shown.0.items
+        ≡ (plain_highlight (cut_at line.now cursor)).elements) }
+    ensures column { IfOk result (λ shown. shown.1
+        ≡ (plain_highlight (cut_at line.now cursor)).column) }
 {
     let elements = plain_element(alloc, line)?;
     Ok((elements, unicode_column_width(&line[..cursor])))
@@ -142,12 +143,14 @@ pub trait LineEditorHost {
 
     /// Lends the history. Given back as it was, the host is as it was.
     fn history(&mut self) -> &mut Self::Hist
-        ensures* lends { sem 𝓛 (Lends Self.row Self.Hist.row self.entry result (with_history self.old)) }
+        ensures* lends { sem 𝓛 (Lends Self.row Self.Hist.row self.entry result
+            (with_history self.old)) }
         ensures shows { result.now ≡ history_of self.old };
 
     /// The prompt as it is shown. By default the text itself.
     fn render_prompt(&self, alloc: Global, prompt: &str) -> Result<Vec<OutputElement>, AllocError>
-        ensures { IfOk result (λ elements. map element_view elements.items ≡ rules.prompt (value self.now) prompt.now) }
+        ensures { IfOk result (λ elements. map element_view elements.items
+            ≡ rules.prompt (value self.now) prompt.now) }
     {
         if Self::OVERRIDES.render_prompt {
             return Err(AllocError);
@@ -157,7 +160,8 @@ pub trait LineEditorHost {
 
     /// What is shown under the line while it is edited. By default nothing.
     fn render_preview(&self, alloc: Global, line: &str) -> Result<Vec<OutputElement>, AllocError>
-        ensures { IfOk result (λ elements. map element_view elements.items ≡ rules.preview (value self.now) line.now) }
+        ensures { IfOk result (λ elements. map element_view elements.items
+            ≡ rules.preview (value self.now) line.now) }
     {
         if Self::OVERRIDES.render_preview {
             return Err(AllocError);
@@ -176,7 +180,8 @@ pub trait LineEditorHost {
         requires { IsCharBoundary line.now cursor_position }
         ensures elements { IfOk result (λ shown. map element_view shown.0.items
             ≡ shown_elements rules (value self.now) line.now cursor_position) }
-        ensures column { IfOk result (λ shown. shown.1 ≡ shown_column rules (value self.now) line.now cursor_position) }
+        ensures column { IfOk result (λ shown. shown.1
+            ≡ shown_column rules (value self.now) line.now cursor_position) }
     {
         if Self::OVERRIDES.highlight_line {
             return Err(AllocError);
@@ -210,7 +215,8 @@ pub trait LineEditorHost {
         event: &InputEvent,
         editor: &mut LineEditBuffer,
     ) -> Result<Option<Action>, AllocError>
-        ensures ok { IfOk result (Resolves rules (event_view event.now) (value self.old) editor.old (value self.new) editor.new) }
+        ensures ok { IfOk result (Resolves rules (event_view event.now) (value self.old) editor.old
+            (value self.new) editor.new) }
         ensures refused { OnErr result (value self.new ≡ value self.old) }
         ensures refused_cut { OnErr result (editor.new ≡ editor.old) }
     {
@@ -224,17 +230,21 @@ pub trait LineEditorHost {
 
     ghost history_put_back: { (host : Self) → with_history host (history_of host) ≡ host };
 
-    ghost held_put: { (host : Self) (history : Self.Hist) → history_of (with_history host history) ≡ history };
+    ghost held_put: { (host : Self) (history : Self.Hist)
+        → history_of (with_history host history) ≡ history };
 
-    ghost held_lines: { (host : Self) → Self.Hist.lines (history_of host) ≡ rules.lines (value host) };
+    ghost held_lines: { (host : Self) → Self.Hist.lines (history_of host)
+        ≡ rules.lines (value host) };
 
     /// Adds a line to the history, which the editor itself never does. The rest of the host stays as it was.
     /// Where memory is lacking, the history's lines stay too.
     final fn remember(&mut self, line: &str) -> Result<(), AllocError>
         ensures kept { self.new ≡ with_history self.old (history_of self.new) }
         ensures last { OnOk result (last_line (rules.lines (value self.new)) ≡ Some line.now) }
-        ensures added { OnOk result (Self.Hist.add_gives (history_of self.old) line.now (history_of self.new)) }
-        ensures refused { OnErr result (rules.lines (value self.new) ≡ rules.lines (value self.old)) }
+        ensures added { OnOk result (Self.Hist.add_gives (history_of self.old) line.now
+            (history_of self.new)) }
+        ensures refused { OnErr result (rules.lines (value self.new)
+            ≡ rules.lines (value self.old)) }
     {
         self.history().add(line)
     }
@@ -249,7 +259,8 @@ pub struct NopLineEditorHost {
 impl NopLineEditorHost {
     /// The host with an empty history. It takes no memory.
     pub fn new(alloc: Global) -> Self
-        ensures rules { ⟦<NopLineEditorHost as LineEditorHost>⟧.rules ≡ plain_rules (λ lines. lines) }
+        ensures rules { ⟦<NopLineEditorHost as LineEditorHost>⟧.rules
+            ≡ plain_rules (λ lines. lines) }
         ensures empty { ⟦<NopLineEditorHost as LineEditorHost>⟧.value result ≡ [] }
     {
         NopLineEditorHost {

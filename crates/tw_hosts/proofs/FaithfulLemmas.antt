@@ -1,13 +1,13 @@
 -- The tokens of a line, one after the other, are the line.
-use Rattle.std.proofs.Common.{◌≡◌, ℕ, zero, suc, ◌<◌, ◌≤◌, ◌==◌, Bool, true, false, List, [], ◌∷◌, ◌++◌, length, take, drop, min, refl, ap, sym, ◌∙◌, arith, append-nil, take-append-drop, if◌then◌else◌}
+use Rattle.std.proofs.Common.{◌≡◌, ℕ, zero, suc, ◌<◌, ◌≤◌, ◌==◌, Bool, true, false, List, [], ◌∷◌, ◌++◌, Option, Some, None, length, take, drop, min, refl, ap, sym, ◌∙◌, arith, append-nil, take-append-drop, if◌then◌else◌}
 use Rattle.std.proofs.lemmas.Bool.{true≢false}
 use Rattle.std.proofs.lemmas.List.{append_assoc, length-drop}
 use Rattle.tw_host.specs.ElementView.{ElementView, Attribute, AllAttributes, Text}
 use Rattle.tw_host.specs.Faithful.{text_of_elements, IsFaithful}
 use Rattle.tw_hosts.specs.FaithfulParts.{StyledIsText, TokensAreLine}
 use Rattle.tw_hosts.specs.TableRules.{table_rules}
-use Rattle.tw_hosts.specs.Tokens.{is_quote, quote_len, word_len, token_len, styled_token, styled_tokens, up_to}
-use Rattle.tw_hosts.specs.Words.{is_known}
+use Rattle.tw_hosts.specs.Tokens.{before, is_quote, joined, quote_len, shown_in, style_of, styled_tokens, token_len, up_to, word_len}
+use Rattle.tw_surface.specs.declared.cell.CellAttributes.{CellAttributes}
 use Rattle.tw_hosts.specs.declared.tokens.Styles.{Styles}
 
 -- the texts of two lists of elements
@@ -21,16 +21,23 @@ pub styled_is_text : StyledIsText
 styled_is_text attributes text = append-nil text
 
 -- a token's elements are the token
-token-text : (styles : Styles) (keywords : List (List ℕ)) (token : List ℕ) → text_of_elements (styled_token styles keywords token) ≡ token
-token-text styles keywords token = by_quote (is_quote token) refl
-  where
-    by_word : (known : Bool) → is_known keywords token ≡ known → is_quote token ≡ false → text_of_elements (styled_token styles keywords token) ≡ token
-    by_word true k q = rw q (rw k (append-nil token))
-    by_word false k q = rw q (rw k (append-nil token))
+token-text : (style : Option CellAttributes) (token : List ℕ) → text_of_elements (shown_in style token) ≡ token
+token-text (Some attributes) token = append-nil token
+token-text None token = append-nil token
 
-    by_quote : (quote : Bool) → is_quote token ≡ quote → text_of_elements (styled_token styles keywords token) ≡ token
-    by_quote true q = rw q (append-nil token)
-    by_quote false q = by_word (is_known keywords token) refl q
+-- joined elements have their texts
+before-text : (text : List ℕ) (elements : List ElementView) → text_of_elements (before text elements) ≡ text ++ text_of_elements elements
+before-text [] elements = refl
+before-text (byte ∷ rest) [] = refl
+before-text (byte ∷ rest) (Text text ∷ elements) = append_assoc (byte ∷ rest) text (text_of_elements elements)
+before-text (byte ∷ rest) (Attribute change ∷ elements) = refl
+before-text (byte ∷ rest) (AllAttributes attributes ∷ elements) = refl
+
+joined-text : (elements : List ElementView) → text_of_elements (joined elements) ≡ text_of_elements elements
+joined-text [] = refl
+joined-text (Text text ∷ elements) = before-text text (joined elements) ∙ ap (λ rest. text ++ rest) (joined-text elements)
+joined-text (Attribute change ∷ elements) = joined-text elements
+joined-text (AllAttributes attributes ∷ elements) = joined-text elements
 
 -- a token has a byte
 some-if : (b : Bool) (end : ℕ) → (b ≡ false → 0 < end) → 0 < (if b then 1 else end)
@@ -67,13 +74,14 @@ tokens-text (suc count) styles keywords (byte ∷ rest) low =
     let len = token_len text in
     let some : 0 < len = some-token byte rest in
     let left : length (drop len text) ≤ count = omega (arith, length-drop len text, some, low) in
-    text-append (styled_token styles keywords (take len text)) (styled_tokens count styles keywords (drop len text))
-    ∙ ap (λ t. t ++ text_of_elements (styled_tokens count styles keywords (drop len text))) (token-text styles keywords (take len text))
+    let style = style_of styles keywords (take len text) in
+    text-append (shown_in style (take len text)) (styled_tokens count styles keywords (drop len text))
+    ∙ ap (λ t. t ++ text_of_elements (styled_tokens count styles keywords (drop len text))) (token-text style (take len text))
     ∙ ap (λ t. take len text ++ t) (tokens-text count styles keywords (drop len text) left)
     ∙ take-append-drop len text
 
 pub tokens_are_line : TokensAreLine
-tokens_are_line styles keywords line = tokens-text (length line) styles keywords line (omega arith)
+tokens_are_line styles keywords line = joined-text (styled_tokens (length line) styles keywords line) ∙ tokens-text (length line) styles keywords line (omega arith)
 
 pub tables_are_faithful : IsFaithful table_rules
 tables_are_faithful = record {

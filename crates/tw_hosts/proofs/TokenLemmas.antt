@@ -1,13 +1,12 @@
 -- How the first token of a text is cut off, and the tokens of a text one after the other.
-use Rattle.std.proofs.Common.{◌≡◌, ◌≢◌, ℕ, ◌+◌, ◌<◌, ◌≤◌, ◌==◌, true, false, List, [], ◌∷◌, ◌++◌, length, take, drop, get_or, min, refl, ap, sym, subst, inl, inr, ◌⊎◌, ⊎_elim, zero, suc, ◌∙◌, arith, append-nil}
+use Rattle.std.proofs.Common.{◌≡◌, ◌≢◌, ℕ, ◌+◌, ◌<◌, ◌≤◌, ◌==◌, true, false, List, [], ◌∷◌, ◌++◌, length, take, drop, get_or, min, refl, ap, sym, subst, inl, inr, ◌⊎◌, ⊎_elim, zero, suc, ◌∙◌, arith}
 use Rattle.std.specs.Str.{IsUtf8, IsCharBoundary}
 use Rattle.std.proofs.lemmas.Bool.{eq-eqb, ne_eqb, cases_eq, true≢false}
 use Rattle.std.proofs.lemmas.Bool.Decides.{eqb_tells}
 use Rattle.std.proofs.lemmas.List.{get_or-drop, get_or-take, length-drop, length-take}
 use Rattle.std.proofs.lemmas.List.Sums.{position_or_len_is, fails_before_first, passes_at_first}
 use Rattle.std.proofs.lemmas.Str.{IsCharBoundary-after_ascii}
-use Rattle.tw_host.specs.ElementView.{ElementView}
-use Rattle.tw_hosts.specs.Tokens.{up_to, is_quote, token_len, styled_token, styled_tokens}
+use Rattle.tw_hosts.specs.Tokens.{up_to, is_quote, shown_in, style_of, styled_tokens, token_len}
 use Rattle.tw_hosts.specs.declared.tokens.Styles.{Styles}
 
 -- the first mark stands at k, or there is none and k is the length
@@ -75,19 +74,16 @@ tokens-none (suc count) styles keywords [] e = refl
 tokens-none (suc count) styles keywords (byte ∷ rest) e = absurd (omega (arith, e))
 
 pub tokens-step : (left next : ℕ) (styles : Styles) (keywords : List (List ℕ)) (text : List ℕ) → left ≡ next + 1 → 0 < length text
-    → styled_tokens left styles keywords text ≡ styled_token styles keywords (take (token_len text) text) ++ styled_tokens next styles keywords (drop (token_len text) text)
+    → styled_tokens left styles keywords text ≡ shown_in (style_of styles keywords (take (token_len text) text)) (take (token_len text) text) ++ styled_tokens next styles keywords (drop (token_len text) text)
 unfolding styled_tokens
 tokens-step zero next styles keywords text e some = absurd (omega (arith, e))
 tokens-step (suc left) next styles keywords [] e some = absurd (omega (arith, some))
 tokens-step (suc left) next styles keywords (byte ∷ rest) e some =
     let same : left ≡ next = omega (arith, e) in
-    ap (λ n. styled_token styles keywords (take (token_len (byte ∷ rest)) (byte ∷ rest)) ++ styled_tokens n styles keywords (drop (token_len (byte ∷ rest)) (byte ∷ rest))) same
+    ap (λ n. shown_in (style_of styles keywords (take (token_len (byte ∷ rest)) (byte ∷ rest))) (take (token_len (byte ∷ rest)) (byte ∷ rest)) ++ styled_tokens n styles keywords (drop (token_len (byte ∷ rest)) (byte ∷ rest))) same
 
 -- where nothing is left to show, all was shown
 pub tokens-zero : (count : ℕ) (styles : Styles) (keywords : List (List ℕ)) (text : List ℕ) → count ≡ 0 → styled_tokens count styles keywords text ≡ []
 unfolding styled_tokens
 tokens-zero zero styles keywords text e = refl
 tokens-zero (suc count) styles keywords text e = absurd (omega (arith, e))
-
-pub all-shown : (elements left all : List ElementView) → left ≡ [] → elements ++ left ≡ all → elements ≡ all
-all-shown elements left all e h = sym (append-nil elements) ∙ ap (λ s. elements ++ s) (sym e) ∙ h

@@ -1,9 +1,9 @@
 -- How a line is cut into tokens, and how each is shown. A token is a quoted text, a space, or what stands up to one of them.
-use Rattle.std.specs.Prelude.{ℕ, zero, suc, ◌==◌, ◌+◌, Bool, false, List, [], ◌∷◌, ◌++◌, length, take, drop, min, if◌then◌else◌}
+use Rattle.std.specs.Prelude.{ℕ, zero, suc, ◌==◌, ◌+◌, Bool, false, List, [], ◌∷◌, ◌++◌, length, take, drop, min, Option, Some, None, if◌then◌else◌}
 use Rattle.std.specs.List.{position_or_len}
 use Rattle.tw_surface.specs.Defaults.{default_attributes}
 use Rattle.tw_surface.specs.declared.cell.CellAttributes.{CellAttributes}
-use Rattle.tw_host.specs.ElementView.{ElementView, AllAttributes, Text}
+use Rattle.tw_host.specs.ElementView.{ElementView, Attribute, AllAttributes, Text}
 use Rattle.tw_hosts.specs.Words.{is_known}
 use Rattle.tw_hosts.specs.declared.tokens.Styles.{Styles}
 
@@ -32,12 +32,17 @@ token_len text = if is_quote text then quote_len text else word_len text
 abbrev pub styled_text : CellAttributes → List ℕ → List ElementView
 styled_text attributes text = AllAttributes attributes ∷ Text text ∷ AllAttributes default_attributes ∷ []
 
--- a quoted text and a keyword in their styles, all else as it is
-abbrev pub styled_token : Styles → List (List ℕ) → List ℕ → List ElementView
-styled_token styles keywords token =
-    if is_quote token then styled_text styles.quote token
-    else if is_known keywords token then styled_text styles.keyword token
-    else Text token ∷ []
+-- the style of a quoted text and of a keyword
+abbrev pub style_of : Styles → List (List ℕ) → List ℕ → Option CellAttributes
+style_of styles keywords token =
+    if is_quote token then Some styles.quote
+    else if is_known keywords token then Some styles.keyword
+    else None
+
+-- a text in a style, or as it is
+abbrev pub shown_in : Option CellAttributes → List ℕ → List ElementView
+shown_in (Some attributes) text = styled_text attributes text
+shown_in None text = Text text ∷ []
 
 -- the first so many tokens of a text
 unfoldable pub styled_tokens : ℕ → Styles → List (List ℕ) → List ℕ → List ElementView
@@ -45,8 +50,22 @@ styled_tokens zero styles keywords text = []
 styled_tokens (suc count) styles keywords [] = []
 styled_tokens (suc count) styles keywords (byte ∷ rest) =
     let text = byte ∷ rest in
-    styled_token styles keywords (take (token_len text) text) ++ styled_tokens count styles keywords (drop (token_len text) text)
+    let token = take (token_len text) text in
+    shown_in (style_of styles keywords token) token ++ styled_tokens count styles keywords (drop (token_len text) text)
+
+-- a text before elements: it joins a text with which they begin, and the empty one is no element
+abbrev pub before : List ℕ → List ElementView → List ElementView
+before [] elements = elements
+before (byte ∷ rest) (Text text ∷ elements) = Text (byte ∷ rest ++ text) ∷ elements
+before (byte ∷ rest) elements = Text (byte ∷ rest) ∷ elements
+
+-- elements whose texts are joined, where no attributes stand between them
+abbrev pub joined : List ElementView → List ElementView
+joined [] = []
+joined (Text text ∷ elements) = before text (joined elements)
+joined (Attribute change ∷ elements) = Attribute change ∷ joined elements
+joined (AllAttributes attributes ∷ elements) = AllAttributes attributes ∷ joined elements
 
 -- all tokens of a line: it has no more than bytes
 abbrev pub styled_line : Styles → List (List ℕ) → List ℕ → List ElementView
-styled_line styles keywords line = styled_tokens (length line) styles keywords line
+styled_line styles keywords line = joined (styled_tokens (length line) styles keywords line)

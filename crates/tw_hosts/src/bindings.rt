@@ -112,7 +112,8 @@ pub fn resolve_key(
     editor: &mut LineEditBuffer,
 ) -> Option<Action>
     ensures cut { editor.new ≡ cut_by (bound_event rows.now (event_view event.now)) editor.old }
-    ensures action { option_map action_view result ≡ option_map binding_action (bound_event rows.now (event_view event.now)) }
+    ensures action { option_map action_view result
+        ≡ option_map binding_action (bound_event rows.now (event_view event.now)) }
 {
     let InputEvent::Key(key) = event else {
         return None;

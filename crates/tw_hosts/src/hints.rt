@@ -45,7 +45,8 @@ pub fn show_hint(
     hints: &[Hint],
     line: &str,
 ) -> Result<Vec<OutputElement>, AllocError>
-    ensures { IfOk result (λ elements. map element_view elements.items ≡ hint_elements (map hint_view hints.now) line.now) }
+    ensures { IfOk result (λ elements. map element_view elements.items
+        ≡ hint_elements (map hint_view hints.now) line.now) }
 {
     match hint_for(hints, first_word(line)) {
         Some(text) => plain_element(alloc, text),

@@ -41,7 +41,8 @@ impl PromptScreen {
 
     /// Takes the columns that an event tells. It is for a host's `resolve_action`.
     pub fn resize(&mut self, event: &InputEvent)
-        ensures { screen_view self.new ≡ screen_after (event_view event.now) (screen_view self.old) }
+        ensures { screen_view self.new
+            ≡ screen_after (event_view event.now) (screen_view self.old) }
     {
         if let InputEvent::Resized { cols, .. } = event {
             self.cols = *cols;
@@ -76,7 +77,8 @@ fn is_parted(cluster: &str) -> bool
 fn after_characters(cols: usize, start: Extent, text: &str) -> Option<Extent>
     requires cols { cols ≤ 65535 }
     requires range { is_in_range (place_of start) ≡ true }
-    ensures { Measures start (places_after cols (character_pieces (chars text.now)) (place_of start)) result }
+    ensures { Measures start
+        (places_after cols (character_pieces (chars text.now)) (place_of start)) result }
 {
     let mut extent = start;
     for c in text.chars() {
@@ -221,9 +223,9 @@ fn after_prompt(cols: usize, prompt: &str) -> Option<Extent>
 fn after_text(cols: usize, start: Extent, text: &str) -> Option<Extent>
     requires cols { cols ≤ 65535 }
     requires range { is_in_range (place_of start) ≡ true }
-    ensures { MatchOption result
-        (list_all is_in_range (places_after cols (settled_pieces text.now) (place_of start)) ≡ false)
-        (λ end. (list_all is_in_range (places_after cols (settled_pieces text.now) (place_of start)) ≡ true)
+    ensures { let places = places_after cols (settled_pieces text.now) (place_of start) in
+        MatchOption result (list_all is_in_range places ≡ false)
+        (λ end. (list_all is_in_range places ≡ true)
         × (place_of end ≡ place_after_text cols text.now (place_of start))
         × (is_in_range (place_of end) ≡ true)) }
 {
@@ -254,7 +256,8 @@ fn settled(cols: usize, prompt: &str, line: &str, cursor: usize) -> Option<usize
     ensures { MatchOption result
         (is_settled cols prompt.now (cut_at line.now cursor) ≡ false)
         (λ column. (is_settled cols prompt.now (cut_at line.now cursor) ≡ true)
-        × (column ≡ columns_between cols (line_start cols prompt.now) (settled_place cols prompt.now (cut_at line.now cursor)))) }
+        × (column ≡ columns_between cols (line_start cols prompt.now)
+        (settled_place cols prompt.now (cut_at line.now cursor)))) }
 {
     let (before, rest) = line.split_at(cursor);
     let (start, end) = measured(cols, prompt, before)?;

@@ -9,12 +9,11 @@ use crate::hints::{Hint, show_hint};
 use crate::tokens::{Styles, highlight_tokens};
 use crate::words::complete_word;
 use std::alloc::{AllocError, Global};
-use tw_history::History;
 use tw_host::{
     Action, CompletionCandidate, LineEditorHost, OutputElement, Overrides, plain_element,
 };
 use tw_input::InputEvent;
-use tw_line::LineEditBuffer;
+use tw_line::{History, LineEditBuffer};
 use tw_surface::unicode_column_width;
 
 /// What a host of tables shows and completes, and what its keys do.
@@ -43,14 +42,16 @@ impl<H: History> TableHost<H> {
     /// The host of these tables and this history. It takes no memory.
     pub fn new(tables: Tables, history: H) -> Self
         ensures rules { ⟦<TableHost<H> as LineEditorHost>⟧.rules ≡ table_rules }
-        ensures value { ⟦<TableHost<H> as LineEditorHost>⟧.value result ≡ tables_view tables (H.lines history) }
+        ensures value { ⟦<TableHost<H> as LineEditorHost>⟧.value result
+            ≡ tables_view tables (H.lines history) }
     {
         TableHost { tables, history }
     }
 
     /// Puts other tables in the place of those that the host has. The history stays. It takes no memory.
     pub fn set_tables(&mut self, tables: Tables)
-        ensures value { ⟦<TableHost<H> as LineEditorHost>⟧.value self.new ≡ tables_view tables (H.lines self.old.history) }
+        ensures value { ⟦<TableHost<H> as LineEditorHost>⟧.value self.new
+            ≡ tables_view tables (H.lines self.old.history) }
         ensures history { self.new.history ≡ self.old.history }
     {
         self.tables = tables;

@@ -1,12 +1,12 @@
 //! How a line is cut into tokens, and how each is shown.
 
-ghost use Rattle.std.specs.Prelude.{◌≡◌, ◌<◌, true, IfOk, IsCharBoundary, drop, length, map, string_bytes, take};
-ghost use Rattle.tw_host.specs.ElementView.{element_view};
-ghost use Rattle.tw_hosts.specs.Tokens.{is_quote, quote_len, styled_text, styled_line, styled_token, token_len, up_to, word_len};
+ghost use Rattle.std.specs.Prelude.{◌≡◌, ◌<◌, ◌++◌, true, IfOk, IsCharBoundary, List, [], OnOk, drop, length, map, string_bytes, take};
+ghost use Rattle.tw_host.specs.ElementView.{ElementView, element_view};
+ghost use Rattle.tw_hosts.specs.Tokens.{before, is_quote, joined, quote_len, shown_in, style_of, styled_text, styled_line, token_len, up_to, word_len};
 
 use crate::words::is_known;
 use std::alloc::{AllocError, Global};
-use tw_host::{OutputElement, plain_element};
+use tw_host::OutputElement;
 use tw_surface::CellAttributes;
 
 /// The attributes in which keywords and quoted texts are shown.
@@ -93,7 +93,8 @@ pub fn styled(
     attributes: CellAttributes,
     text: &str,
 ) -> Result<Vec<OutputElement>, AllocError>
-    ensures { IfOk result (λ elements. map element_view elements.items ≡ styled_text attributes text.now) }
+    ensures { IfOk result (λ elements. map element_view elements.items
+        ≡ styled_text attributes text.now) }
 {
     let elements = vec![in alloc;
         OutputElement::AllAttributes(attributes),
@@ -103,26 +104,56 @@ pub fn styled(
     Ok(elements)
 }
 
-/// A token as it is shown.
-fn show_token(
-    alloc: Global,
-    styles: Styles,
-    keywords: &[String],
-    token: &str,
-) -> Result<Vec<OutputElement>, AllocError>
-    ensures { IfOk result (λ elements. map element_view elements.items
-        ≡ styled_token styles (map string_bytes keywords.now) token.now) }
+/// Returns the attributes in which a token is shown, if it is a quoted text or a keyword.
+fn style_of(styles: Styles, keywords: &[String], token: &str) -> Option<CellAttributes>
+    ensures { result ≡ style_of styles (map string_bytes keywords.now) token.now }
 {
     if is_quote(token) {
-        return styled(alloc, styles.quote, token);
+        return Some(styles.quote);
     }
     if is_known(keywords, token) {
-        return styled(alloc, styles.keyword, token);
+        return Some(styles.keyword);
     }
-    plain_element(alloc, token)
+    None
 }
 
-/// The tokens of a line, one after the other: a quoted text and a keyword in their styles, all else as it is.
+/// Appends a text as it is. The empty one is no element.
+fn push_plain(elements: &mut Vec<OutputElement>, text: String) -> Result<(), AllocError>
+    ensures { OnOk result (map element_view elements.new.items
+        ≡ map element_view elements.old.items ++ before (string_bytes text) []) }
+{
+    if text.is_empty() {
+        return Ok(());
+    }
+    elements.push(OutputElement::Text(text))?;
+    Ok(())
+}
+
+/// Shows one more token behind elements and the plain text after them.
+fn push_token(
+    alloc: Global,
+    style: Option<CellAttributes>,
+    token: &str,
+    elements: &mut Vec<OutputElement>,
+    plain: &mut String,
+) -> Result<(), AllocError>
+    requires { 0 < length token.now }
+    ensures { OnOk result ((more : List ElementView) →
+        map element_view elements.new.items ++ before (string_bytes plain.new) (joined more)
+        ≡ map element_view elements.old.items ++ before (string_bytes plain.old)
+        (joined (shown_in style token.now ++ more))) }
+{
+    let Some(attributes) = style else {
+        plain.push_str(token)?;
+        return Ok(());
+    };
+    push_plain(elements, std::mem::replace(plain, String::new(alloc)))?;
+    elements.append(&mut styled(alloc, attributes, token)?)?;
+    Ok(())
+}
+
+/// The tokens of a line, one after the other: a quoted text and a keyword in their styles, and what stands between them as
+/// it is, in one element.
 pub fn highlight_tokens(
     alloc: Global,
     styles: Styles,
@@ -133,15 +164,17 @@ pub fn highlight_tokens(
         ≡ styled_line styles (map string_bytes keywords.now) line.now) }
 {
     let mut elements = Vec::new(alloc);
+    let mut plain = String::new(alloc);
     let mut rest = line;
     for _ in 0..line.len() {
         if rest.is_empty() {
             break;
         }
         let (token, after) = split_token(rest);
-        let mut shown = show_token(alloc, styles, keywords, token)?;
-        elements.append(&mut shown)?;
+        let style = style_of(styles, keywords, token);
+        push_token(alloc, style, token, &mut elements, &mut plain)?;
         rest = after;
     }
+    push_plain(&mut elements, plain)?;
     Ok(elements)
 }

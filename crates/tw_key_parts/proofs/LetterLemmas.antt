@@ -1,8 +1,8 @@
 -- One step more by grapheme clusters, and the first place where letters end.
 use Rattle.std.proofs.Common.{◌≡◌, ◌+◌, ◌<◌, ◌≤◌, ℕ, Bool, true, false, not, ◌&&◌, Some, None, length, refl, ap, sym, ◌∙◌, ⊎_elim, arith}
 use Rattle.std.proofs.lemmas.Bool.{cases_lt}
-use Rattle.tw_extremes.specs.Extremes.{NonePasses, iterate}
-use Rattle.tw_extremes.proofs.ExtremesLemmas.{iterate-add, least_from-is, least_from-none}
+use Rattle.tw_line.specs.Extremes.{NonePasses, iterate}
+use Rattle.tw_line.proofs.ExtremesLemmas.{iterate-add, least_from-is, least_from-none}
 use Rattle.tw_line.specs.Clusters.{cluster_after, cluster_before}
 use Rattle.tw_line.specs.Cut.{Cut, cut_at}
 use Rattle.tw_line.specs.Movements.{after_move, destination}

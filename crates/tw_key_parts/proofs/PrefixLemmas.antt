@@ -2,9 +2,9 @@
 use Rattle.std.proofs.Common.{◌≡◌, ◌<◌, ◌≤◌, ◌+◌, ◌-◌, ℕ, Bool, true, false, List, [], ◌∷◌, length, Option, Some, None, refl, ap, sym, ◌∙◌, if◌then◌else◌, ⊎_elim, arith}
 use Rattle.std.specs.Prelude.{option_map}
 use Rattle.std.proofs.lemmas.Bool.{cases_lt}
-use Rattle.tw_extremes.specs.Extremes.{NonePasses}
-use Rattle.tw_extremes.proofs.ExtremesLemmas.{greatest_below-is, greatest_below-none, least_from-is, least_from-none}
-use Rattle.tw_history.specs.NearestMatch.{last_index}
+use Rattle.tw_line.specs.Extremes.{NonePasses}
+use Rattle.tw_line.proofs.ExtremesLemmas.{greatest_below-is, greatest_below-none, least_from-is, least_from-none}
+use Rattle.tw_line.specs.NearestMatch.{last_index}
 use Rattle.tw_line.specs.Cut.{Cut}
 use Rattle.tw_key_parts.specs.PrefixSearch.{PrefixMatchView, is_prefix_match, newer_match, older_match, prefix_match_at}
 

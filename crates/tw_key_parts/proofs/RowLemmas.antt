@@ -7,8 +7,8 @@ use Rattle.std.proofs.lemmas.List.Folds.{list_any_at}
 use Rattle.std.proofs.lemmas.Str.{IsCharBoundary-after_ascii, IsCharBoundary-before_ascii}
 use Rattle.std.specs.Str.{IsCharBoundary, IsUtf8}
 use Rattle.tw_surface.specs.Characters.{lf}
-use Rattle.tw_extremes.specs.Extremes.{NonePasses, iterate}
-use Rattle.tw_extremes.proofs.ExtremesLemmas.{greatest_below-is, iterate-add, least_from-is, least_from-none}
+use Rattle.tw_line.specs.Extremes.{NonePasses, iterate}
+use Rattle.tw_line.proofs.ExtremesLemmas.{greatest_below-is, iterate-add, least_from-is, least_from-none}
 use Rattle.tw_line.specs.Clusters.{cluster_after, cluster_before, is_cluster_boundary}
 use Rattle.tw_line.proofs.StepLawLemmas.{offsets_are_extremes}
 use Rattle.tw_line.specs.Cut.{Cut, cut_at}

@@ -3,7 +3,7 @@ use Rattle.std.proofs.Common.{◌≡◌, ◌≤◌, ◌<◌, ℕ, zero, suc, Lis
 use Rattle.std.proofs.lemmas.Slice.Eq.{bytes_eq-Decides}
 use Rattle.std.specs.Prelude.{option_map}
 use Rattle.std.specs.Cmp.Lexicographic.{pointwise}
-use Rattle.tw_extremes.specs.Extremes.{greatest_below, iterate}
+use Rattle.tw_line.specs.Extremes.{greatest_below, iterate}
 use Rattle.tw_line.specs.Cut.{Cut}
 use Rattle.tw_key_parts.specs.Undo.{Undo, is_other, last_change, left_behind, step_at, undo_behind, undone}
 use Rattle.tw_key_parts.specs.UndoLaws.{oldest_line, undo_once, UndosGiveOldest, UndoKeepsOldest}

@@ -1,7 +1,7 @@
 -- The last step that changed the line, from the last step on backwards.
 use Rattle.std.proofs.Common.{◌≡◌, ◌<◌, ◌+◌, ◌-◌, ℕ, suc, List, eqb, Some, None, Bool, true, false, not, ap, sym, ◌∙◌, if◌then◌else◌, arith}
 use Rattle.std.specs.Cmp.Lexicographic.{pointwise}
-use Rattle.tw_extremes.specs.Extremes.{greatest_below}
+use Rattle.tw_line.specs.Extremes.{greatest_below}
 use Rattle.tw_line.specs.Cut.{Cut}
 use Rattle.tw_key_parts.specs.Undo.{step_at, is_other, last_change}
 

@@ -4,8 +4,8 @@ use Rattle.std.specs.Str.{trim_end}
 use Rattle.tw_input.specs.EventView.{EventView}
 use Rattle.tw_line.specs.Cut.{Cut}
 use Rattle.tw_host.specs.ActionView.{ActionView, InsertText}
-use Rattle.tw_history.specs.NearestMatch.{last_index, next_index}
-use Rattle.tw_history.specs.declared.history.SearchDirection.TheVariants.{Backwards}
+use Rattle.tw_line.specs.NearestMatch.{last_index, next_index}
+use Rattle.tw_line.specs.declared.history.SearchDirection.TheVariants.{Backwards}
 use Rattle.tw_hosts.specs.Words.{last_row, last_word}
 use Rattle.tw_key_parts.specs.KeyRules.{Asked, Edited, KeyRules, Step}
 use Rattle.tw_key_parts.specs.Keys.{is_key, last_word_key}

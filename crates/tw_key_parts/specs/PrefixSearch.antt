@@ -1,8 +1,8 @@
 -- A search for lines of the history that begin as the line does.
 use Rattle.std.specs.Prelude.{ℕ, ◌+◌, ◌-◌, ◌&&◌, ◌||◌, Bool, true, false, not, List, length, take, codes, Option, Some, None, option_map, slice_get, if◌then◌else◌}
-use Rattle.tw_extremes.specs.Extremes.{greatest_below, least_from}
-use Rattle.tw_history.specs.NearestMatch.{last_index, line_at, next_index}
-use Rattle.tw_history.specs.declared.history.SearchDirection.TheVariants.{Backwards, Forwards}
+use Rattle.tw_line.specs.Extremes.{greatest_below, least_from}
+use Rattle.tw_line.specs.NearestMatch.{last_index, line_at, next_index}
+use Rattle.tw_line.specs.declared.history.SearchDirection.TheVariants.{Backwards, Forwards}
 use Rattle.tw_input.specs.declared.key.KeyCode.TheVariants.{PageUp, PageDown}
 use Rattle.tw_input.specs.declared.key.KeyEvent.{KeyEvent}
 use Rattle.tw_input.specs.EventView.{EventView}

@@ -4,7 +4,7 @@ use Rattle.std.specs.List.{list_any}
 use Rattle.std.specs.Option.{option_flatten}
 use Rattle.std.specs.Str.{encode_utf8_all}
 use Rattle.tw_surface.specs.Characters.{lf}
-use Rattle.tw_extremes.specs.Extremes.{greatest_below, least_from}
+use Rattle.tw_line.specs.Extremes.{greatest_below, least_from}
 use Rattle.tw_input.specs.declared.key.KeyCode.TheVariants as keycode
 use Rattle.tw_input.specs.declared.key.KeyEvent.{KeyEvent}
 use Rattle.tw_input.specs.EventView.{EventView, Key, Resized, Paste, Wake}

@@ -2,7 +2,7 @@
 use Rattle.std.specs.Prelude.{ℕ, ◌&&◌, ◌||◌, Bool, true, false, not, List, [], ◌∷◌, ◌++◌, length, take, eqb, Option, Some, None, if◌then◌else◌, option_map, unwrap_or}
 use Rattle.std.specs.Cmp.Lexicographic.{pointwise}
 use Rattle.std.specs.List.{slice_index_or}
-use Rattle.tw_extremes.specs.Extremes.{greatest_below}
+use Rattle.tw_line.specs.Extremes.{greatest_below}
 use Rattle.tw_input.specs.EventView.{EventView}
 use Rattle.tw_line.specs.Cut.{Cut, empty_cut}
 use Rattle.tw_host.specs.ActionView.{ActionView, AcceptLine, Cancel, EndOfFile, InsertChar, InsertText, Repaint, Kill, KillAndMove, HistoryPrevious, HistoryNext, Complete, NoAction, HistoryIncSearchBackwards, HistoryIncSearchForwards}

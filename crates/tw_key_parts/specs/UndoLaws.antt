@@ -1,6 +1,6 @@
 -- What undos lead to.
 use Rattle.std.specs.Prelude.{ℕ, ◌≡◌, List, [], ◌∷◌, length}
-use Rattle.tw_extremes.specs.Extremes.{iterate}
+use Rattle.tw_line.specs.Extremes.{iterate}
 use Rattle.tw_line.specs.Cut.{Cut}
 use Rattle.tw_key_parts.specs.Undo.{Undo, left_behind, undo_behind, undone}
 

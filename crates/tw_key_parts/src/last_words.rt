@@ -11,11 +11,10 @@ use crate::edit::Edit;
 use crate::keys::{LAST_WORD, is_key};
 use crate::part::KeyPart;
 use std::alloc::{AllocError, Global};
-use tw_history::{History, SearchDirection};
 use tw_host::Action;
 use tw_hosts::{last_row, last_word};
 use tw_input::InputEvent;
-use tw_line::LineEditBuffer;
+use tw_line::{History, LineEditBuffer, SearchDirection};
 
 /// The last insertion.
 #[derive(Debug, Drop)]

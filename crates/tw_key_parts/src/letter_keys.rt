@@ -11,10 +11,9 @@ use crate::edit::Edit;
 use crate::letters::{steps_to_word_end, steps_to_word_start};
 use crate::plain_keys::PlainKeys;
 use std::alloc::{AllocError, Global};
-use tw_history::History;
 use tw_host::Action;
 use tw_input::{InputEvent, KeyCode, KeyEvent, Modifiers};
-use tw_line::{LineEditBuffer, Movement};
+use tw_line::{History, LineEditBuffer, Movement};
 
 /// Returns the movement past the next word.
 fn ahead(alloc: Global, editor: &LineEditBuffer) -> Result<Movement, AllocError>

@@ -9,10 +9,9 @@ ghost use Rattle.tw_key_parts.specs.KeyRules.{step_of};
 use crate::edit::Edit;
 use crate::part::KeyPart;
 use std::alloc::{AllocError, Global};
-use tw_history::History;
 use tw_host::Action;
 use tw_input::InputEvent;
-use tw_line::LineEditBuffer;
+use tw_line::{History, LineEditBuffer};
 
 impl<A: KeyPart, B: KeyPart> KeyPart for (A, B) {
     ghost use Rattle.std.specs.Prelude.{Option, option_map};

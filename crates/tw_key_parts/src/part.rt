@@ -7,10 +7,9 @@ ghost use Rattle.tw_key_parts.specs.KeyRules.{step_of};
 
 use crate::edit::Edit;
 use std::alloc::{AllocError, Global};
-use tw_history::History;
 use tw_host::Action;
 use tw_input::InputEvent;
-use tw_line::LineEditBuffer;
+use tw_line::{History, LineEditBuffer};
 
 /// A part with keys. At each event a prompt calls `edit`, then `prepare`, then `follow`, whoever answered the event.
 /// The rules `keys` are functions of the part's `state`; contracts see nothing else of a part.

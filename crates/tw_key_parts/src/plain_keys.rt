@@ -7,10 +7,9 @@ ghost use Rattle.tw_key_parts.specs.EditView.{edit_view};
 use crate::edit::Edit;
 use crate::part::KeyPart;
 use std::alloc::{AllocError, Global};
-use tw_history::History;
 use tw_host::Action;
 use tw_input::InputEvent;
-use tw_line::LineEditBuffer;
+use tw_line::{History, LineEditBuffer};
 
 /// Keys without a state: each edit is a function of the event, the line and the history.
 pub trait PlainKeys {

@@ -12,10 +12,9 @@ use crate::edit::Edit;
 use crate::keys::is_key;
 use crate::part::KeyPart;
 use std::alloc::{AllocError, Global};
-use tw_history::{History, SearchDirection};
 use tw_host::Action;
 use tw_input::{InputEvent, KeyCode, KeyEvent, Modifiers};
-use tw_line::LineEditBuffer;
+use tw_line::{History, LineEditBuffer, SearchDirection};
 
 /// Asks for an older line.
 const OLDER: KeyEvent = KeyEvent {

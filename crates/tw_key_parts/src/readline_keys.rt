@@ -10,10 +10,9 @@ ghost use Rattle.tw_key_parts.specs.ReadlineKeys.{delete_action, readline_action
 use crate::edit::Edit;
 use crate::plain_keys::PlainKeys;
 use std::alloc::{AllocError, Global};
-use tw_history::History;
 use tw_host::Action;
 use tw_input::{InputEvent, KeyCode, KeyEvent, Modifiers};
-use tw_line::{LineEditBuffer, Movement};
+use tw_line::{History, LineEditBuffer, Movement};
 
 /// Returns the action of a key with CTRL.
 fn ctrl_action(key: KeyCode) -> Option<Action>

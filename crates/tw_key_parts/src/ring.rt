@@ -14,10 +14,9 @@ use crate::edit::Edit;
 use crate::keys::{ROTATE, YANK, deletes_character, is_key};
 use crate::part::KeyPart;
 use std::alloc::{AllocError, Global};
-use tw_history::History;
 use tw_host::Action;
 use tw_input::InputEvent;
-use tw_line::{LineEditBuffer, Movement};
+use tw_line::{History, LineEditBuffer, Movement};
 
 /// The number of kills that are kept.
 const MOST_KILLS: usize = 10;
@@ -299,7 +298,8 @@ impl KeyPart for KillRing {
     ghost keys = { ring_key_rules };
 
     ghost is_ready = { λ it cut. (it.probe ≡ cut) × (string_bytes it.spare ≡ [])
-        × (length (newest_kill (map string_bytes it.kills.items)) + length cut.line ≤ string_capacity it.spare)
+        × (length (newest_kill (map string_bytes it.kills.items)) + length cut.line
+        ≤ string_capacity it.spare)
         × (vec_len it.kills < vec_capacity it.kills) };
 
     fn edit<L: History>(
@@ -320,7 +320,7 @@ impl KeyPart for KillRing {
         }
     }
 
-    fn prepare(&mut self, _alloc: Global, line: &LineEditBuffer) -> Result<(), AllocError> {
+    fn prepare(&mut self, alloc: Global, line: &LineEditBuffer) -> Result<(), AllocError> {
         self.kills.reserve(1)?;
         let newest = match self.kills.last() {
             Some(newest) => newest.len(),
@@ -328,8 +328,8 @@ impl KeyPart for KillRing {
         };
         self.spare.clear();
         self.spare.reserve(newest + line.get_line().len())?;
-        self.probe
-            .set_line_and_cursor(line.get_line(), line.get_cursor())
+        self.probe = line.try_clone(alloc)?;
+        Ok(())
     }
 
     fn follow(

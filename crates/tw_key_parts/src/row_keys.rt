@@ -12,10 +12,9 @@ ghost use Rattle.tw_key_parts.specs.RowKeys.{cursor_column, edit_by, edit_of_pat
 use crate::edit::Edit;
 use crate::part::KeyPart;
 use std::alloc::{AllocError, Global};
-use tw_history::History;
 use tw_host::Action;
 use tw_input::{InputEvent, KeyCode, KeyEvent, Modifiers};
-use tw_line::{LineEditBuffer, Movement};
+use tw_line::{History, LineEditBuffer, Movement};
 
 /// A key for lines of several rows.
 #[derive(Clone, Copy, Debug, PartialEq, Eq)]

@@ -12,10 +12,9 @@ use crate::edit::Edit;
 use crate::keys::{PREFIXED_UNDO, UNDO, UNDO_PREFIX, is_key};
 use crate::part::KeyPart;
 use std::alloc::{AllocError, Global};
-use tw_history::History;
 use tw_host::Action;
 use tw_input::InputEvent;
-use tw_line::LineEditBuffer;
+use tw_line::{History, LineEditBuffer};
 
 /// Ctrl-_ undoes the last step: it restores the line before it, with its cursor. So does Ctrl-X Ctrl-U, if this part
 /// stands before any other with Ctrl-U.
@@ -232,10 +231,10 @@ impl KeyPart for UndoSteps {
         }))
     }
 
-    fn prepare(&mut self, _alloc: Global, line: &LineEditBuffer) -> Result<(), AllocError> {
+    fn prepare(&mut self, alloc: Global, line: &LineEditBuffer) -> Result<(), AllocError> {
         self.before.reserve(1)?;
-        self.spare
-            .set_line_and_cursor(line.get_line(), line.get_cursor())
+        self.spare = line.try_clone(alloc)?;
+        Ok(())
     }
 
     fn follow(

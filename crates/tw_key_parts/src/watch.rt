@@ -4,8 +4,8 @@ ghost use Rattle.std.specs.Prelude.{◌≡◌};
 ghost use Rattle.tw_key_parts.specs.EditView.{lent_action};
 ghost use Rattle.tw_key_parts.specs.SearchWatch.{has_lines, searches_after};
 
-use tw_history::History;
 use tw_host::Action;
+use tw_line::History;
 
 /// Returns true if the editor searches after an action. A search begins only if the history has lines.
 pub fn searches_after(lines: bool, action: Option<&Action>, before: bool) -> bool

@@ -12,10 +12,9 @@ use crate::plain_keys::PlainKeys;
 use crate::swaps::with_swapped_clusters;
 use crate::word_swaps::with_swapped_words;
 use std::alloc::{AllocError, Global};
-use tw_history::History;
 use tw_host::Action;
 use tw_input::{InputEvent, KeyCode, KeyEvent, Modifiers};
-use tw_line::LineEditBuffer;
+use tw_line::{History, LineEditBuffer};
 
 /// An edit of the words or characters around the cursor.
 #[derive(Clone, Copy, Debug, PartialEq, Eq)]

@@ -6,7 +6,7 @@ use Rattle.std.proofs.lemmas.Str.{IsUtf8-take, IsCharBoundary-from_take}
 use Rattle.std.specs.List.{insert_slice}
 use Rattle.std.specs.Str.{IsUtf8, IsCharBoundary}
 use Rattle.tw_line.specs.Boundaries.{is_boundary, boundary_below}
-use Rattle.tw_extremes.proofs.ExtremesLemmas.{greatest_below-is}
+use Rattle.tw_line.proofs.ExtremesLemmas.{greatest_below-is}
 
 -- the test passes at what std calls a boundary
 pub is_boundary-from : (text : List ℕ) (at : ℕ) → IsCharBoundary text at → is_boundary text at ≡ true

@@ -9,9 +9,9 @@ use Rattle.unicode_segmentation.specs.Grapheme.{is_grapheme_break}
 use Rattle.unicode_segmentation.specs.Segments.{breaks_at}
 use Rattle.tw_line.specs.Boundaries.{is_boundary}
 use Rattle.tw_line.specs.Clusters.{is_cluster_boundary, cluster_after, cluster_before}
-use Rattle.tw_extremes.specs.Extremes.{NonePasses}
+use Rattle.tw_line.specs.Extremes.{NonePasses}
 use Rattle.tw_line.proofs.BoundaryLemmas.{is_boundary-from, IsCharBoundary-from, is_boundary-false}
-use Rattle.tw_extremes.proofs.ExtremesLemmas.{least_from-is, least_from-none, greatest_below-is, greatest_below-none}
+use Rattle.tw_line.proofs.ExtremesLemmas.{least_from-is, least_from-none, greatest_below-is, greatest_below-none}
 
 -- no cluster begins or ends in between
 abbrev pub NoneBetween : List ℕ → ℕ → ℕ → Type 0

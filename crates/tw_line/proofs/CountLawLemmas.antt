@@ -1,13 +1,13 @@
 -- The law of counted movements.
 use Rattle.std.proofs.Common.{ℕ, zero, suc, ◌≤◌, length, sym, ap, ◌∙◌, arith}
 use Rattle.std.specs.Str.{chars}
-use Rattle.tw_extremes.specs.Extremes.{iterate}
+use Rattle.tw_line.specs.Extremes.{iterate}
 use Rattle.tw_line.specs.Laws.{CountsAddUp}
 use Rattle.tw_line.specs.Movements.{destination}
 use Rattle.tw_line.specs.Words.{word_before, word_after}
 use Rattle.tw_line.specs.Indices.{index_of, offset_of}
 use Rattle.tw_line.specs.declared.movements.Movement.TheVariants as movement
-use Rattle.tw_extremes.proofs.ExtremesLemmas.{iterate-add}
+use Rattle.tw_line.proofs.ExtremesLemmas.{iterate-add}
 use Rattle.tw_line.proofs.WordLemmas.{word_after-le, word_before-le}
 use Rattle.tw_line.proofs.IndexLemmas.{index_of-offset, index_of-le}
 

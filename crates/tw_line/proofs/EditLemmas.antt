@@ -7,8 +7,8 @@ use Rattle.std.specs.Str.{chars, IsUtf8, IsCharBoundary}
 use Rattle.tw_line.specs.Boundaries.{boundary_below}
 use Rattle.tw_line.specs.Cut.{Cut, cut_at}
 use Rattle.tw_line.specs.Edits.{with_text, without}
-use Rattle.tw_extremes.specs.Extremes.{iterate}
-use Rattle.tw_extremes.proofs.ExtremesLemmas.{repeated_stays}
+use Rattle.tw_line.specs.Extremes.{iterate}
+use Rattle.tw_line.proofs.ExtremesLemmas.{repeated_stays}
 
 -- the length after an insertion
 pub length-insert_slice : (s t line : List ℕ) (i : ℕ) → line ≡ insert_slice s i t → length line ≡ length s + length t

@@ -1,3 +1,7 @@
+pub mod SearchLemmas
+pub mod JoinedLemmas
+pub mod BoundedLemmas
+pub mod ExtremesLemmas
 pub mod BoundaryLemmas
 pub mod ClusterLemmas
 pub mod IndexLemmas

@@ -1,7 +1,7 @@
 -- Steps over characters, taken by offsets.
 use Rattle.std.proofs.Common.{◌≡◌, ℕ, zero, suc, ◌≤◌, List, length, refl, sym, ap, ◌∙◌}
 use Rattle.std.specs.Str.{chars, IsUtf8, IsCharBoundary}
-use Rattle.tw_extremes.specs.Extremes.{iterate}
+use Rattle.tw_line.specs.Extremes.{iterate}
 use Rattle.tw_line.specs.Indices.{index_of, offset_of}
 use Rattle.tw_line.specs.OffsetSteps.{by_offset}
 use Rattle.tw_line.proofs.IndexLemmas.{index_of-le, index_of-offset, offset_of-index}

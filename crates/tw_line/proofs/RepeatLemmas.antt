@@ -3,7 +3,7 @@ use Rattle.std.proofs.Common.{◌≡◌, ℕ, zero, suc, ◌+◌, ◌≤◌, Lis
 use Rattle.std.specs.List.{insert_slice, repeat}
 use Rattle.tw_line.specs.Cut.{Cut, cut_at}
 use Rattle.tw_line.specs.Edits.{with_text}
-use Rattle.tw_extremes.specs.Extremes.{iterate}
+use Rattle.tw_line.specs.Extremes.{iterate}
 use Rattle.tw_line.proofs.EditLemmas.{length-insert_slice, with_text-nil}
 
 -- a text inserted after one that was inserted

@@ -14,7 +14,7 @@ use Rattle.std.specs.List.{insert_slice, remove_range, range_with_len}
 use Rattle.std.specs.Str.{chars, IsUtf8, IsCharBoundary}
 use Rattle.std.specs.List.Sorted.{IsStrictlyIncreasing}
 use Rattle.unicode_segmentation.proofs.TextLemmas.{encode_utf8_nonempty}
-use Rattle.tw_extremes.specs.Extremes.{least_from}
+use Rattle.tw_line.specs.Extremes.{least_from}
 use Rattle.tw_line.specs.Boundaries.{boundary_below}
 use Rattle.tw_line.specs.Indices.{index_of, offset_of}
 use Rattle.tw_line.specs.Starts.{starts_from, starts_of, binary_digits}

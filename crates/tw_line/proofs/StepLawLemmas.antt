@@ -3,7 +3,7 @@ use Rattle.std.proofs.Common.{◌≡◌, ℕ, zero, suc, ◌+◌, ◌-◌, ◌<�
 use Rattle.std.proofs.lemmas.Bool.{cases_Bool, cases_eq, cases_lt}
 use Rattle.tw_line.specs.Boundaries.{is_boundary, boundary_below}
 use Rattle.tw_line.specs.Clusters.{is_cluster_boundary, cluster_after, cluster_before}
-use Rattle.tw_extremes.specs.Extremes.{least_from, greatest_below, IsLeastOr, IsGreatestOr}
+use Rattle.tw_line.specs.Extremes.{least_from, greatest_below, IsLeastOr, IsGreatestOr}
 use Rattle.tw_line.specs.Laws.{OffsetsAreExtremes, WordsAreExtremes}
 use Rattle.tw_line.proofs.BoundaryLemmas.{is_boundary-from, IsCharBoundary-from}
 use Rattle.tw_line.specs.Words.{is_space, is_no_space, follows_space, space_from, word_from, word_before}

@@ -3,8 +3,8 @@ use Rattle.std.proofs.Common.{◌≡◌, ℕ, zero, suc, ◌+◌, ◌-◌, ◌<�
 use Rattle.std.proofs.lemmas.Bool.{and_left, and_right, and_from, lt-ltb, le-ltb}
 use Rattle.std.specs.Prelude.{if◌then◌else◌}
 use Rattle.std.specs.Bool.{beq}
-use Rattle.tw_extremes.specs.Extremes.{least_from, greatest_below}
-use Rattle.tw_extremes.proofs.ExtremesLemmas.{greatest_below-none}
+use Rattle.tw_line.specs.Extremes.{least_from, greatest_below}
+use Rattle.tw_line.proofs.ExtremesLemmas.{greatest_below-none}
 use Rattle.tw_line.specs.Words.{is_space, is_no_space, follows_space, word_before, word_after, space_from, word_from, kind_from}
 
 -- one number less to try, from below

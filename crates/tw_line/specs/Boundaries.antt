@@ -1,6 +1,6 @@
 -- The boundaries of a text: the byte offsets at which a character starts, and the length.
 use Rattle.std.specs.Prelude.{ℕ, ◌+◌, Bool, ◌&&◌, ◌||◌, ◌==◌, nat_lt, nat_le, List, length, slice_index, unwrap_or}
-use Rattle.tw_extremes.specs.Extremes.{greatest_below}
+use Rattle.tw_line.specs.Extremes.{greatest_below}
 
 -- a character starts at the offset, or the text ends there
 unfoldable pub is_boundary : List ℕ → ℕ → Bool

@@ -3,7 +3,7 @@ use Rattle.std.specs.Prelude.{ℕ, ◌+◌, ◌-◌, Bool, false, ◌&&◌, List
 use Rattle.unicode_segmentation.specs.Grapheme.{is_grapheme_break}
 use Rattle.unicode_segmentation.specs.Segments.{breaks_at}
 use Rattle.tw_line.specs.Boundaries.{is_boundary}
-use Rattle.tw_extremes.specs.Extremes.{least_from, greatest_below}
+use Rattle.tw_line.specs.Extremes.{least_from, greatest_below}
 
 -- a cluster that is not extended begins or ends at the offset
 unfoldable pub is_cluster_boundary : List ℕ → ℕ → Bool

@@ -4,7 +4,7 @@ use Rattle.std.specs.Str.{IsCharBoundary}
 use Rattle.tw_line.specs.Cut.{Cut, IsCut}
 use Rattle.tw_line.specs.Boundaries.{is_boundary, boundary_below}
 use Rattle.tw_line.specs.Clusters.{is_cluster_boundary, cluster_after, cluster_before}
-use Rattle.tw_extremes.specs.Extremes.{IsLeastOr, IsGreatestOr}
+use Rattle.tw_line.specs.Extremes.{IsLeastOr, IsGreatestOr}
 use Rattle.tw_line.specs.Movements.{destination, after_move}
 use Rattle.tw_line.specs.Words.{is_space, is_no_space, follows_space, space_from, word_from, word_before}
 use Rattle.tw_line.specs.declared.movements.Movement.{Movement}

@@ -1,3 +1,10 @@
+pub mod Patterns
+pub mod NearestMatch
+pub mod HistoryAdditions
+pub mod Joined
+pub mod Bounded
+pub mod SearchLaws
+pub mod Extremes
 pub mod Cut
 pub mod Boundaries
 pub mod Clusters

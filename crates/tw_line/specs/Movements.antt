@@ -2,7 +2,7 @@
 use Rattle.std.specs.Prelude.{ℕ, length}
 use Rattle.std.specs.Str.{chars}
 use Rattle.tw_line.specs.Cut.{Cut, cut_at}
-use Rattle.tw_extremes.specs.Extremes.{iterate}
+use Rattle.tw_line.specs.Extremes.{iterate}
 use Rattle.tw_line.specs.Clusters.{cluster_after, cluster_before}
 use Rattle.tw_line.specs.Indices.{index_of, offset_of}
 use Rattle.tw_line.specs.Words.{word_after, word_before}

@@ -2,7 +2,7 @@
 use Rattle.std.specs.Prelude.{ℕ, ◌+◌, ◌^◌, ◌++◌, nat_lt, List, length, map, take, drop, encode_utf8_all, unwrap_or}
 use Rattle.std.specs.List.{range_with_len}
 use Rattle.std.specs.Str.{chars}
-use Rattle.tw_extremes.specs.Extremes.{least_from}
+use Rattle.tw_line.specs.Extremes.{least_from}
 
 -- the offsets at which these characters start where they stand one after the other from `at` on: each stands after those before it
 unfoldable pub starts_from : ℕ → List ℕ → List ℕ

@@ -1,7 +1,7 @@
 -- Steps over words, by the indices of characters.
 use Rattle.std.specs.Prelude.{ℕ, ◌-◌, Bool, true, false, not, ◌&&◌, nat_lt, List, length, slice_index, unwrap_or}
 use Rattle.std.specs.Char.{is_whitespace}
-use Rattle.tw_extremes.specs.Extremes.{least_from, greatest_below}
+use Rattle.tw_line.specs.Extremes.{least_from, greatest_below}
 
 -- character i is whitespace
 abbrev pub is_space : List ℕ → ℕ → Bool

@@ -32,7 +32,7 @@ impl Model for LineEditBuffer {
 impl LineEditBuffer {
     ghost use Rattle.tw_line.specs.Cut.{cut_at, empty_cut, IsCut};
     ghost use Rattle.tw_line.specs.Edits.{with_char, with_text, after_kill};
-    ghost use Rattle.tw_extremes.specs.Extremes.{iterate};
+    ghost use Rattle.tw_line.specs.Extremes.{iterate};
     ghost use Rattle.tw_line.specs.Indices.{index_of};
     ghost use Rattle.tw_line.specs.Movements.{after_move};
     ghost use Rattle.tw_line.specs.Starts.{binary_digits};
@@ -62,7 +62,11 @@ impl LineEditBuffer {
         ensures equal { IfOk result (λ copy. copy ≡ self.now) }
         ensures empty { self.now.line ≡ [] → IsOk result }
     {
-        LineEditBuffer::new(alloc, self.get_line(), self.cursor)
+        let line = self.line.try_clone(alloc)?;
+        Ok(LineEditBuffer {
+            line,
+            cursor: self.cursor,
+        })
     }
 
     /// Replaces the line, and sets the cursor to the byte offset `cursor`, a boundary of the new
@@ -142,7 +146,8 @@ impl LineEditBuffer {
         ensures ok { OnOk result (self.new ≡ iterate (with_char c) count self.old) }
         ensures err { OnErr result (self.new ≡ self.old) }
         ensures nothing { count ≡ 0 → IsOk result }
-        ensures too_long { 2 ^ 63 ≤ length self.old.line + count * length (encode_utf8 c) → IsErr result }
+        ensures too_long { 2 ^ 63 ≤ length self.old.line + count * length (encode_utf8 c)
+            → IsErr result }
     {
         let Some(more) = c.len_utf8().checked_mul(count) else {
             return Err(AllocError);

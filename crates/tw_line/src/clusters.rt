@@ -3,7 +3,7 @@
 ghost use Rattle.std.specs.Prelude.{◌≡◌, ◌≤◌, ◌<◌, true, length};
 ghost use Rattle.std.specs.Str.{IsCharBoundary};
 ghost use Rattle.tw_line.specs.Clusters.{is_cluster_boundary, cluster_after, cluster_before};
-ghost use Rattle.tw_extremes.specs.Extremes.{iterate};
+ghost use Rattle.tw_line.specs.Extremes.{iterate};
 
 use crate::movements::RepeatCount;
 use unicode_segmentation::GraphemeCursor;

@@ -1,12 +1,17 @@
-//! A line of text with a cursor, and the movements over it.
+//! A line of text with a cursor, the movements over it, and histories of lines.
 //!
 //! `buffer` has the line with its cursor; `movements` the movements and where they lead, by `clusters`, the steps
 //! over grapheme clusters, and `words`, those over words. `text` is the text that the line stands in, and `starts`
-//! the list of the offsets at which its characters start. `laws` has what follows from the definitions.
+//! the list of the offsets at which its characters start.
+//!
+//! `history` has the trait of histories and the one in memory; `history::bounded` the one that forgets its oldest
+//! lines; `history::nearest` lines that are lent, and the search for the nearest one. `laws` has what follows from
+//! the definitions.
 #![tactic(auto)]
 
 mod buffer;
 mod clusters;
+mod history;
 pub mod laws;
 mod movements;
 mod starts;
@@ -14,4 +19,8 @@ mod text;
 mod words;
 
 pub use buffer::LineEditBuffer;
+pub use history::{
+    BasicHistory, BoundedHistory, History, HistoryIndex, LentLines, SearchDirection, SearchResult,
+    SearchStyle, nearest_line,
+};
 pub use movements::{Movement, RepeatCount};

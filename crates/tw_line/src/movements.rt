@@ -3,7 +3,7 @@
 ghost use Rattle.std.specs.Prelude.{◌≡◌};
 ghost use Rattle.std.specs.Str.{IsCharBoundary};
 ghost use Rattle.tw_line.specs.Cut.{cut_at};
-ghost use Rattle.tw_extremes.specs.Extremes.{iterate};
+ghost use Rattle.tw_line.specs.Extremes.{iterate};
 ghost use Rattle.tw_line.specs.Movements.{destination};
 ghost use Rattle.tw_line.specs.OffsetSteps.{step_from};
 ghost use Rattle.tw_line.specs.Text.{bytes_of};

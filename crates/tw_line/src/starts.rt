@@ -80,7 +80,8 @@ fn push_starts(starts: &mut Vec<usize>, at: usize, text: &str)
 fn raise_from(starts: &mut Vec<usize>, index: usize, by: usize)
     requires inside { index ≤ vec_len starts.old }
     requires fits { All (λ n. n + by < 2 ^ 64) (drop index starts.old.items) }
-    ensures items { starts.new.items ≡ take index starts.old.items ++ map (λ n. n + by) (drop index starts.old.items) }
+    ensures items { starts.new.items ≡ take index starts.old.items
+        ++ map (λ n. n + by) (drop index starts.old.items) }
     ensures capacity { vec_capacity starts.new ≡ vec_capacity starts.old }
 {
     raise(&mut starts[index..], by);
@@ -120,7 +121,8 @@ pub fn remove_starts(starts: &mut Vec<usize>, first: usize, last: usize, bytes: 
     requires order { first ≤ last }
     requires inside { last ≤ vec_len starts.old }
     requires later { All (λ n. bytes ≤ n) (drop last starts.old.items) }
-    ensures items { starts.new.items ≡ take first starts.old.items ++ map (λ n. n - bytes) (drop last starts.old.items) }
+    ensures items { starts.new.items ≡ take first starts.old.items
+        ++ map (λ n. n - bytes) (drop last starts.old.items) }
     ensures capacity { vec_capacity starts.new ≡ vec_capacity starts.old }
 {
     starts.drain(first..last);

@@ -44,6 +44,19 @@ impl Text {
         Ok(made)
     }
 
+    /// The same text, with room of its own. The empty one takes no memory.
+    pub fn try_clone(&self, alloc: Global) -> Result<Self, AllocError>
+        ensures ok { IfOk result (λ t. bytes_of t ≡ bytes_of self.now) }
+        ensures empty { bytes_of self.now ≡ [] → IsOk result }
+    {
+        if self.line.is_empty() {
+            return Ok(Text::new(alloc));
+        }
+        let line = String::from_str(alloc, self.line.as_str())?;
+        let starts = Vec::from_slice(alloc, &self.starts)?;
+        Ok(Text { line, starts })
+    }
+
     /// Replaces the text. The empty one takes no memory.
     pub fn set(&mut self, text: &str) -> Result<(), AllocError>
         ensures ok { OnOk result (bytes_of self.new ≡ text.now) }
@@ -84,7 +97,8 @@ impl Text {
     pub fn reserve(&mut self, bytes: usize, characters: usize) -> Result<(), AllocError>
         ensures bytes { bytes_of self.new ≡ bytes_of self.old }
         ensures room { OnOk result (length (bytes_of self.new) + bytes ≤ room_of self.new) }
-        ensures places { OnOk result (length (chars_of self.new) + characters ≤ places_of self.new) }
+        ensures places { OnOk result (length (chars_of self.new) + characters
+            ≤ places_of self.new) }
         ensures err { OnErr result (LacksRoom bytes characters self.old) }
         ensures limit { room_of self.new < 2 ^ 63 }
         ensures kept_room { room_of self.old ≤ room_of self.new }
@@ -98,7 +112,8 @@ impl Text {
     /// Inserts the character at the boundary `at`. It can be refused only where there is no room.
     pub fn insert_char(&mut self, at: usize, c: char) -> Result<(), AllocError>
         requires { IsCharBoundary (bytes_of self.old) at }
-        ensures ok { OnOk result (bytes_of self.new ≡ insert_slice (bytes_of self.old) at (encode_utf8 c)) }
+        ensures ok { OnOk result (bytes_of self.new
+            ≡ insert_slice (bytes_of self.old) at (encode_utf8 c)) }
         ensures err { OnErr result (bytes_of self.new ≡ bytes_of self.old) }
         ensures room { room_of self.old ≤ room_of self.new }
         ensures places { places_of self.old ≤ places_of self.new }
@@ -112,11 +127,13 @@ impl Text {
     /// takes none.
     pub fn insert_text(&mut self, at: usize, text: &str) -> Result<(), AllocError>
         requires { IsCharBoundary (bytes_of self.old) at }
-        ensures ok { OnOk result (bytes_of self.new ≡ insert_slice (bytes_of self.old) at text.now) }
+        ensures ok { OnOk result (bytes_of self.new
+            ≡ insert_slice (bytes_of self.old) at text.now) }
         ensures err { OnErr result (bytes_of self.new ≡ bytes_of self.old) }
         ensures room { room_of self.old ≤ room_of self.new }
         ensures places { places_of self.old ≤ places_of self.new }
-        ensures full { OnErr result (LacksRoom (length text.now) (length (chars text.now)) self.old) }
+        ensures full { OnErr result (LacksRoom (length text.now)
+            (length (chars text.now)) self.old) }
         ensures empty { text.now ≡ [] → IsOk result }
     {
         self.reserve(text.len(), text.chars().count())?;

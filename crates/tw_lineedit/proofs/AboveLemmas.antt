@@ -10,14 +10,14 @@ use Rattle.tw_surface.specs.Paintings.{Mark, Painting, painting, mark_of}
 use Rattle.tw_surface.specs.Pictures.{Picture, cells_cleared_from, play_char, play_text, play_all}
 use Rattle.tw_surface.specs.Positions.{at_least_0}
 use Rattle.tw_surface.proofs.TextCursor.{text-row}
-use Rattle.tw_screens.proofs.SceneLists.{first_painting}
+use Rattle.laws_screens.proofs.SceneLists.{first_painting}
 use Rattle.tw_terminal.specs.TerminalState.{TerminalState, Renders, RenderFails}
 use Rattle.tw_terminal.specs.declared.terminal.ScreenSize.{ScreenSize}
 use Rattle.tw_terminal.specs.declared.terminal.TerminalFault.{TerminalFault}
 use Rattle.tw_host.specs.HostRules.{HostRules}
-use Rattle.tw_painter.specs.Painting.{Rendering, rendering_of, painted_on, scene_of}
-use Rattle.tw_painter.specs.Refusal.{Refusal}
-use Rattle.tw_painter.specs.declared.error.Error.TheVariants.{Terminal}
+use Rattle.tw_session.specs.Painting.{Rendering, rendering_of, painted_on, scene_of}
+use Rattle.tw_session.specs.Refusal.{Refusal}
+use Rattle.tw_session.specs.declared.error.Error.TheVariants.{Terminal}
 use Rattle.tw_lineedit.specs.Above.{text_above, EntersAt, printed_from, FailsToPrint, PrintsAbove, ShowsAbove}
 use Rattle.tw_lineedit.specs.EditorSteps.{Keeps}
 use Rattle.tw_lineedit.specs.Frame.{Frame}

@@ -8,15 +8,15 @@ use Rattle.tw_surface.specs.PaintingBatches.{closing_if}
 use Rattle.tw_terminal.specs.TerminalState.{TerminalState, count_up, RenderFails}
 use Rattle.tw_host.specs.HostRules.{HostRules}
 use Rattle.tw_host.specs.declared.host.Overrides.{Overrides}
-use Rattle.tw_painter.specs.EditState.{EditState, Inactive}
-use Rattle.tw_painter.specs.Refusal.{Refusal, refusal_of, IsMemory}
+use Rattle.tw_session.specs.EditState.{EditState, Inactive}
+use Rattle.tw_session.specs.Refusal.{Refusal, refusal_of, IsMemory}
 use Rattle.tw_session.specs.Outcomes.{Outcome, answer_at, IsLine, IsRefusal}
 use Rattle.tw_lineedit.specs.Frame.{Frame, with_value}
 use Rattle.tw_lineedit.specs.Run.{Ending, Moment, run_of, ending, StandsAt, Quiet, IsAnswered, moment, progress_of, IsRefusedIn}
 use Rattle.tw_lineedit.specs.EditorSteps.{Closes, CutsClosing, MissesFlush, FailsToClose, GivesUp}
 use Rattle.tw_lineedit.specs.Reading.{start, unbegun, Reads, final_moment, Leaves, ClosesWhole, ClosesInPart, ClosesUnflushed, ClosesBadly, Starves, Faults, Halts, FailsToRead, IsTurnedDown, HaltsIn, HaltsRefused, FailsIn}
-use Rattle.tw_painter.specs.declared.error.Error.{Error}
-use Rattle.tw_painter.specs.declared.error.Error.TheVariants.{Memory, Terminal}
+use Rattle.tw_session.specs.declared.error.Error.{Error}
+use Rattle.tw_session.specs.declared.error.Error.TheVariants.{Memory, Terminal}
 use Rattle.tw_lineedit.specs.Feeding.{Uncopied, FailsToFinish, begun_run, WantsToBegin, FaultsToBegin, IsNotBegun, FailsToBegin}
 use Rattle.tw_lineedit.proofs.StandLemmas.{stands_here}
 

@@ -5,8 +5,8 @@ use Rattle.tw_terminal.specs.TerminalState.{count_up}
 use Rattle.tw_lineedit.specs.Frame.{Frame}
 use Rattle.tw_lineedit.specs.Run.{Ending, Moment}
 use Rattle.tw_lineedit.specs.Reading.{FailsIn, FailuresTell}
-use Rattle.tw_painter.specs.declared.error.Error.{Error}
-use Rattle.tw_painter.specs.declared.error.Error.TheVariants.{Memory, Terminal}
+use Rattle.tw_session.specs.declared.error.Error.{Error}
+use Rattle.tw_session.specs.declared.error.Error.TheVariants.{Memory, Terminal}
 
 -- the count rose, or could not
 abbrev Rose : ℕ → ℕ → Type 0

@@ -10,20 +10,20 @@ use Rattle.tw_terminal.specs.declared.terminal.ScreenSize.{ScreenSize}
 use Rattle.tw_host.specs.ActionView.{Repaint}
 use Rattle.tw_host.specs.HostRules.{HostRules}
 use Rattle.tw_host.specs.declared.host.Overrides.{Overrides}
-use Rattle.tw_painter.specs.EditState.{EditState, ModeView, Inactive, Editing, Searching}
-use Rattle.tw_painter.specs.Refusal.{Refusal, refusal_of}
-use Rattle.tw_painter.specs.Painting.{Rendering}
-use Rattle.tw_painter.specs.declared.error.Error.{Error}
-use Rattle.tw_painter.specs.declared.error.Error.TheVariants.{Memory, Terminal}
+use Rattle.tw_session.specs.EditState.{EditState, ModeView, Inactive, Editing, Searching}
+use Rattle.tw_session.specs.Refusal.{Refusal, refusal_of}
+use Rattle.tw_session.specs.Painting.{Rendering}
+use Rattle.tw_session.specs.declared.error.Error.{Error}
+use Rattle.tw_session.specs.declared.error.Error.TheVariants.{Memory, Terminal}
 use Rattle.tw_session.specs.Outcomes.{Outcome, is_over, is_open, answer_at}
 use Rattle.tw_session.specs.Memory.{TakesMemory}
 use Rattle.tw_session.specs.Steps.{clears_if}
 use Rattle.tw_lineedit.specs.Frame.{Frame}
-use Rattle.tw_lineedit.specs.Run.{Progress, Ending, Moment, Cause, want, fault, run, run_of, ends, ending, at_no_event, after_event, chosen_action, resolution_of, after_action, state_after, after_resolution, after_taking, after_painting, painting_at, moment, progress_of, CanStop, StandsAt, Quiet, IsRefusedIn}
+use Rattle.tw_lineedit.specs.Run.{Progress, Ending, Moment, Cause, want, fault, run, run_of, ends, ending, at_no_event, after_event, chosen_action, resolution_of, after_action, state_after, after_resolution, after_taking, after_painting, painting_at, moment, progress_of, CanStop, StandsAt, Quiet, IsRefusedIn, CanMiss, unmeasured, unpainted, half_painted, CanRefuse, unresolved, unapplied, half_cleared, missed, CanStopAt, refused, later, CanStopOn, unpolled, uncopied, taking, behind_painting, at_painting}
 use Rattle.tw_lineedit.specs.Run as stop
 use Rattle.tw_lineedit.specs.EditorSteps.{Paints, FailsToPaint, Handles, FailsToHandle, HandlesAndPaints, FailsToHandleOrPaint, GivesUp, answered_frame}
 use Rattle.tw_lineedit.specs.Reading.{start, IsTurnedDown}
-use Rattle.tw_lineedit.specs.Feeding.{paint_end, painted_run, fed_run, run_on, CanMiss, unmeasured, unpainted, half_painted, CanRefuse, unresolved, unapplied, half_cleared, missed, CanStopAt, refused, later, CanStopOn, unpolled, uncopied, at_event, Begins, IsFed, IsNotBegun, begun_run, WantsToBegin, FaultsToBegin, FailsToFeed, event_run, WantsToFeed, FaultsToFeed}
+use Rattle.tw_lineedit.specs.Feeding.{paint_end, painted_run, fed_run, run_on, Begins, IsFed, IsNotBegun, begun_run, WantsToBegin, FaultsToBegin, FailsToFeed, event_run, WantsToFeed, FaultsToFeed}
 use Rattle.tw_lineedit.specs.Reading as call
 use Rattle.tw_lineedit.proofs.ClosingLemmas.{gives_up_refused}
 use Rattle.tw_session.proofs.ModeLemmas.{never_inactive}
@@ -212,32 +212,12 @@ module _ {V : Type 0} (rules : HostRules V) where
   advances_if A (Err y) e f g h a p = tt
 
 module _ {V : Type 0} (rules : HostRules V) (overrides : Overrides) where
-  -- a moment at which a painting can be refused is one of the run
-  pub stops_unpainted : (c : Cause) (es : List EventView) (s : Progress V) (m : Moment V) → CanMiss rules c es s m → CanStop rules overrides c es s m
-  stops_unpainted c es s m unmeasured = stop.unmeasured
-  stops_unpainted c es s m (unpainted sized) = stop.unpainted sized
-  stops_unpainted c es s m (half_painted h) = stop.half_painted h
-
-  -- a moment at which an event can be refused, after a painting
-  stops_refused : (c : Cause) (e : EventView) (es : List EventView) (s : Progress V) (p : Rendering) (m : Moment V) → painting_at rules s ≡ Ok p → is_over s.state.mode ≡ false → CanRefuse rules overrides c e es (after_painting s p) m → CanStop rules overrides c (e ∷ es) s m
-  stops_refused c e es s p m h o (unresolved own) = stop.unresolved h o own
-  stops_refused c e es s p m h o (unapplied t) = stop.unapplied h o t
-  stops_refused c e es s p m h o (half_cleared r) = stop.half_cleared h o r
-  stops_refused c e es s p m h o (missed st r) = stop.later h o st (stops_unpainted c es _ m r)
-
-  -- a moment at which the run can be stopped after its first painting
-  stops_painted : (c : Cause) (es : List EventView) (s : Progress V) (p : Rendering) (m : Moment V) → painting_at rules s ≡ Ok p → CanStopOn rules overrides c es (after_painting s p) m → CanStop rules overrides c es s m
-  stops_painted c es s p m h (unpolled o) = stop.unpolled h o
-  stops_painted c es s p m h (uncopied o l) = stop.uncopied h o l
-  stops_painted c es s p m h (at_event o (refused r)) = stops_refused c _ _ s p m h o r
-  stops_painted c es s p m h (at_event o (later st r)) = stop.later h o st r
-
   -- the first painting
   pub begins : (f g : Frame V) → Paints rules f g → Begins rules overrides f g
   begins f g h = record {
     paints = h;
     run = run_begun rules f g h;
-    stops = λ c es m r. stops_painted c es (progress_of f) h.picture.0 m h.picture.1 (subst (λ (s : Progress V). CanStopOn rules overrides c es s m) (painted_is rules f g h) r);
+    stops = λ c es m r. behind_painting h.picture.1 (subst (λ (s : Progress V). CanStopOn rules overrides c es s m) (painted_is rules f g h) r);
     quiet = quiet_painted rules f g h;
     left = ap (λ (t : TerminalState). t.events) h.picture.3;
   }
@@ -338,10 +318,10 @@ module _ {V : Type 0} (rules : HostRules V) (overrides : Overrides) where
       (call.Starves rules overrides initial f) (call.Faults rules overrides initial f) (WantsToBegin rules initial f) (FaultsToBegin rules initial f) f f h
       (λ n at. refused_painting rules f.terminal.events (progress_of (start initial f)) n h at)
       (λ m can. elim can [
-        | inl miss ↦ inl (stops_unpainted want f.terminal.events (progress_of (start initial f)) m miss)
+        | inl miss ↦ inl (at_painting miss)
         | inr given ↦ inr given
       ])
-      (λ m can. stops_unpainted fault f.terminal.events (progress_of (start initial f)) m can)
+      (λ m can. at_painting can)
       (quiet_self f) e r
 
   -- how a part that comes last is answered

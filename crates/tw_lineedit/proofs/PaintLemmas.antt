@@ -3,11 +3,11 @@ use Rattle.std.proofs.Common.{◌≡◌, sym, ◌∙◌, ap, subst, inr, Some, O
 use Rattle.tw_surface.specs.ChangeView.{Batch}
 use Rattle.tw_terminal.specs.TerminalState.{Renders, RenderFails}
 use Rattle.tw_terminal.specs.declared.terminal.ScreenSize.{ScreenSize}
-use Rattle.tw_painter.specs.Painting.{Rendering, rendering_of, painted_on, scene_of}
+use Rattle.tw_session.specs.Painting.{Rendering, rendering_of, painted_on, scene_of}
 use Rattle.tw_lineedit.specs.Frame.{Frame}
 use Rattle.tw_lineedit.specs.EditorSteps.{Paints, FailsToPaint, ShowsBatch, FailsToShow}
-use Rattle.tw_painter.specs.declared.error.Error.{Error}
-use Rattle.tw_painter.specs.declared.error.Error.TheVariants.{Terminal}
+use Rattle.tw_session.specs.declared.error.Error.{Error}
+use Rattle.tw_session.specs.declared.error.Error.TheVariants.{Terminal}
 use Rattle.tw_host.specs.HostRules.{HostRules}
 
 module _ {V : Type 0} (rules : HostRules V) where

@@ -5,7 +5,7 @@ use Rattle.std.proofs.lemmas.List.{map-append}
 use Rattle.tw_surface.specs.Pictures.{Picture}
 use Rattle.tw_surface.specs.Fresh.{IsFresh, IsSameAbove, IsClosed, last_row}
 use Rattle.tw_surface.specs.PaintingBatches.{play_batches, scenes_of, closing_batch}
-use Rattle.tw_screens.proofs.PlainStations.{every_painting, last_painting}
+use Rattle.laws_screens.proofs.PlainStations.{every_painting, last_painting}
 use Rattle.tw_input.specs.EventView.{EventView}
 use Rattle.tw_host.specs.HostRules.{HostRules}
 use Rattle.tw_lineedit.specs.Frame.{Frame}

@@ -8,9 +8,9 @@ use Rattle.tw_surface.specs.PaintingBatches.{closing_if}
 use Rattle.tw_terminal.specs.TerminalState.{TerminalState}
 use Rattle.tw_host.specs.HostRules.{HostRules}
 use Rattle.tw_host.specs.declared.host.Overrides.{Overrides}
-use Rattle.tw_painter.specs.declared.error.Error.{Error}
-use Rattle.tw_painter.specs.declared.error.Error.TheVariants.{Memory, Terminal}
-use Rattle.tw_painter.specs.Refusal.{refusal_of}
+use Rattle.tw_session.specs.declared.error.Error.{Error}
+use Rattle.tw_session.specs.declared.error.Error.TheVariants.{Memory, Terminal}
+use Rattle.tw_session.specs.Refusal.{refusal_of}
 use Rattle.tw_session.specs.Outcomes.{Outcome}
 use Rattle.tw_lineedit.specs.Feeding.{Begins}
 use Rattle.tw_lineedit.specs.Frame.{Frame}
@@ -39,21 +39,11 @@ module _ {V : Type 0} (rules : HostRules V) where
 
     -- then a screen shows the call
     module _ (taken : AreTaken) (all : AreAllTaken) where
-      shows_one : (w s : ℕ) (earlier : List (Station V)) (station : Station V) (later : List (Station V)) (before : Picture) → ReachesPlainly rules f w earlier station later before
-          → HasPainted rules f g result earlier → first_row rules before.row (earlier ++ station ∷ []) ≡ s → ShowsFresh rules f g w s earlier station before
-      shows_one w s earlier station later before h painted row =
-          let q = fresh_there rules f w earlier station later before h in
-          subst (λ (n : ℕ). ShowsFresh rules f g w n earlier station before) row
-          (record { beginning = taken earlier station later (comes_plainly rules h) painted; fresh = q.0; above = q.1 })
-
       shows : Shows rules f g result
       shows = record {
-        first = λ w station later before h painted.
-            shows_one w before.row [] station later before h painted (first_row-is rules f w [] station later before h false (first_not_cleared rules f station later h.stations));
-        later = λ w earlier station later before h painted none.
-            shows_one w before.row earlier station later before h painted (first_row-is rules f w earlier station later before h false none);
-        cleared = λ w earlier station later before h painted some.
-            shows_one w 0 earlier station later before h painted (first_row-is rules f w earlier station later before h true some);
+        painting = λ w earlier station later before h painted.
+            let q = fresh_there rules f w earlier station later before h in
+            record { beginning = taken earlier station later (comes_plainly rules h) painted; fresh = q.0; above = q.1 };
         closing = λ w earlier station later before h none whole. record {
           end = closing_if (run_of rules f).mark;
           taken = all earlier station later (comes_plainly rules h) none whole;
@@ -141,9 +131,7 @@ module _ {V : Type 0} (rules : HostRules V) where
   -- a call that nothing stopped, once the host alone changed, whatever is answered then
   pub shows_ended : {A B : Type 0} (f g h : Frame V) (it : A) (result : Result B Error) → h.terminal ≡ g.terminal → (let whole : Result A Error = Ok it in Shows rules f g whole) → Shows rules f h result
   shows_ended f g h it result same q = record {
-    first = λ w station later before reaches painted. fresh (q.first w station later before reaches (λ bad. absurd bad));
-    later = λ w earlier station later before reaches painted none. fresh (q.later w earlier station later before reaches (λ bad. absurd bad) none);
-    cleared = λ w earlier station later before reaches painted some. fresh (q.cleared w earlier station later before reaches (λ bad. absurd bad) some);
+    painting = λ w earlier station later before reaches painted. fresh (q.painting w earlier station later before reaches (λ bad. absurd bad));
     closing = λ w earlier station later before reaches none whole.
         let c = q.closing w earlier station later before reaches none (λ bad. bad) in
         record { end = c.end; taken = ap (λ (t : TerminalState). t.batches) same ∙ c.taken; closed = c.closed };

@@ -3,12 +3,12 @@ use Rattle.std.proofs.Common.{◌≡◌, [], refl, sym, ◌∙◌, ap, None, Som
 use Rattle.std.proofs.lemmas.List.{append-nil}
 use Rattle.tw_surface.specs.ChangeView.{Batch}
 use Rattle.tw_terminal.specs.TerminalState.{TerminalState, Fails, RenderFails, count_up}
-use Rattle.tw_painter.specs.Refusal.{Refusal, refusal_of}
+use Rattle.tw_session.specs.Refusal.{Refusal, refusal_of}
 use Rattle.tw_lineedit.specs.Frame.{Frame}
 use Rattle.tw_lineedit.specs.Run.{Ending, Moment, ending, progress_of, moment, StandsAt, Quiet, FailsOnce, IsRefusedIn}
 use Rattle.tw_lineedit.specs.EditorSteps.{Keeps}
-use Rattle.tw_painter.specs.declared.error.Error.{Error}
-use Rattle.tw_painter.specs.declared.error.Error.TheVariants.{Memory, Terminal}
+use Rattle.tw_session.specs.declared.error.Error.{Error}
+use Rattle.tw_session.specs.declared.error.Error.TheVariants.{Memory, Terminal}
 
 module _ {V : Type 0} where
   -- a frame stands at its own moment

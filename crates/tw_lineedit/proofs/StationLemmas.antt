@@ -11,9 +11,9 @@ use Rattle.tw_surface.proofs.BatchLemmas.{batches_after-append}
 use Rattle.tw_input.specs.EventView.{EventView}
 use Rattle.tw_terminal.specs.declared.terminal.ScreenSize.{ScreenSize}
 use Rattle.tw_host.specs.HostRules.{HostRules}
-use Rattle.tw_painter.specs.EditState.{EditState}
-use Rattle.tw_painter.specs.Painting.{Rendering, rendering_of, painted_on, is_paintable}
-use Rattle.tw_painter.specs.Refusal.{Refusal, ZeroSize, SizeOutOfRange}
+use Rattle.tw_session.specs.EditState.{EditState}
+use Rattle.tw_session.specs.Painting.{Rendering, rendering_of, painted_on, is_paintable}
+use Rattle.tw_session.specs.Refusal.{Refusal, ZeroSize, SizeOutOfRange}
 use Rattle.tw_session.specs.Outcomes.{is_over, answer_at}
 use Rattle.tw_session.specs.Steps.{is_repaint}
 use Rattle.tw_lineedit.specs.Frame.{Frame}

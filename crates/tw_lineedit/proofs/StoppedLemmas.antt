@@ -9,15 +9,15 @@ use Rattle.tw_input.specs.EventView.{EventView}
 use Rattle.tw_terminal.specs.TerminalState.{TerminalState}
 use Rattle.tw_host.specs.HostRules.{HostRules}
 use Rattle.tw_host.specs.declared.host.Overrides.{Overrides}
-use Rattle.tw_painter.specs.EditState.{EditState}
-use Rattle.tw_painter.specs.Painting.{Rendering, rendering_of}
-use Rattle.tw_painter.specs.Refusal.{Refusal}
+use Rattle.tw_session.specs.EditState.{EditState}
+use Rattle.tw_session.specs.Painting.{Rendering, rendering_of}
+use Rattle.tw_session.specs.Refusal.{Refusal}
 use Rattle.tw_session.specs.Outcomes.{is_over}
 use Rattle.tw_session.specs.Steps.{is_repaint}
 use Rattle.tw_lineedit.specs.EditorSteps.{Paints}
 use Rattle.tw_lineedit.specs.Frame.{Frame}
 use Rattle.tw_lineedit.specs.Run.{Progress, Moment, Cause, CanStop, progress_of, painting_at, after_painting, chosen_action, state_after, after_action}
-use Rattle.tw_lineedit.specs.Run.CanStop.{unmeasured, unpainted, half_painted, unpolled, uncopied, unresolved, unapplied, half_cleared, later}
+use Rattle.tw_lineedit.specs.Run.{CanMiss, unmeasured, unpainted, half_painted, CanRefuse, unresolved, unapplied, half_cleared, missed, at_painting, behind_painting, CanStopOn, unpolled, uncopied, taking, CanStopAt, refused, later}
 use Rattle.tw_lineedit.specs.Stations.{Station, station_at, station_batches, station_painting, painted_shots, stations_by, stations_unless, stations_after, stations_from}
 use Rattle.tw_lineedit.specs.ScreenRuns.{batches_of, shots_at, Comes}
 use Rattle.tw_lineedit.proofs.StationLemmas.{IsErrRendered, ArePainted, rendered_at, alone, shots_before, all_painted, played-is}
@@ -131,16 +131,40 @@ module _ {V : Type 0} (rules : HostRules V) where
         enough = omega (arith, rest.enough);
       }
 
-  pub stopped : (overrides : Overrides) (c : Cause) (es : List EventView) (cleared : Bool) (s : Progress V) (base : List Batch) (m : Moment V) → s.taken ≡ base ++ clearing cleared → CanStop rules overrides c es s m → Stopped es cleared s base m
-  stopped overrides c es cleared s base m h (unmeasured) = nothing es cleared s base m h refl refl
-  stopped overrides c es cleared s base m h (unpainted sized) = nothing es cleared s base m h refl refl
-  stopped overrides c es cleared s base m h (half_painted k) = nothing es cleared s base m h refl refl
-  stopped overrides c es cleared s base m h (unpolled k over) = one es cleared s base _ m k h refl (omega arith)
-  stopped overrides c es cleared s base m h (uncopied k over line) = one es cleared s base _ m k h refl (omega arith)
-  stopped overrides c es cleared s base m h (unresolved k over own) = one es cleared s base _ m k h refl (omega arith)
-  stopped overrides c es cleared s base m h (unapplied k over takes) = one es cleared s base _ m k h refl (omega arith)
-  stopped overrides c es cleared s base m h (half_cleared k over repaint) = one es cleared s base _ m k h refl (omega arith)
-  stopped overrides c (e ∷ es) cleared s base m h (later k over leads n) = more e es cleared s base _ _ m k over leads h (stopped overrides c es _ _ _ m refl n)
+  -- where a painting, or an event after one, is refused
+  unpainted_stop : (c : Cause) (es : List EventView) (cleared : Bool) (s : Progress V) (base : List Batch) (m : Moment V) → s.taken ≡ base ++ clearing cleared → CanMiss rules c es s m → Stopped es cleared s base m
+  unpainted_stop c es cleared s base m h unmeasured = nothing es cleared s base m h refl refl
+  unpainted_stop c es cleared s base m h (unpainted sized) = nothing es cleared s base m h refl refl
+  unpainted_stop c es cleared s base m h (half_painted k) = nothing es cleared s base m h refl refl
+
+  refused_stop : (overrides : Overrides) (c : Cause) (e : EventView) (es : List EventView) (cleared : Bool) (s : Progress V) (base : List Batch) (p : Rendering) (m : Moment V) → s.taken ≡ base ++ clearing cleared
+      → painting_at rules s ≡ Ok p → is_over s.state.mode ≡ false → CanRefuse rules overrides c e es (after_painting s p) m → Stopped (e ∷ es) cleared s base m
+  refused_stop overrides c e es cleared s base p m h k over (unresolved own) = one (e ∷ es) cleared s base p m k h refl (omega arith)
+  refused_stop overrides c e es cleared s base p m h k over (unapplied takes) = one (e ∷ es) cleared s base p m k h refl (omega arith)
+  refused_stop overrides c e es cleared s base p m h k over (half_cleared repaint) = one (e ∷ es) cleared s base p m k h refl (omega arith)
+  refused_stop overrides c e es cleared s base p m h k over (missed leads miss) = more e es cleared s base p _ m k over leads h (unpainted_stop c es _ _ _ m refl miss)
+
+  -- at each moment; t is the run once it is painted
+  mutual
+    pub stopped : (overrides : Overrides) (c : Cause) (es : List EventView) (cleared : Bool) (s : Progress V) (base : List Batch) (m : Moment V) → s.taken ≡ base ++ clearing cleared → CanStop rules overrides c es s m → Stopped es cleared s base m
+    stopped overrides c es cleared s base m h (at_painting miss) = unpainted_stop c es cleared s base m h miss
+    stopped overrides c es cleared s base m h (behind_painting {p = p} k n) = painted_stop overrides c es cleared s base p (after_painting s p) m h k refl n
+
+    painted_stop : (overrides : Overrides) (c : Cause) (es : List EventView) (cleared : Bool) (s : Progress V) (base : List Batch) (p : Rendering) (t : Progress V) (m : Moment V) → s.taken ≡ base ++ clearing cleared
+        → painting_at rules s ≡ Ok p → t ≡ after_painting s p → CanStopOn rules overrides c es t m → Stopped es cleared s base m
+    painted_stop overrides c es cleared s base p t m h k same (unpolled over) = one es cleared s base p m k h (ap (λ (x : Progress V). x.taken) same) (omega arith)
+    painted_stop overrides c es cleared s base p t m h k same (uncopied over line) = one es cleared s base p m k h (ap (λ (x : Progress V). x.taken) same) (omega arith)
+    painted_stop overrides c (e ∷ es) cleared s base p t m h k same (taking over n) =
+        taken_stop overrides c e es cleared s base p t m h k same (ap (λ (x : Progress V). is_over x.state.mode) (sym same) ∙ over) n
+
+    taken_stop : (overrides : Overrides) (c : Cause) (e : EventView) (es : List EventView) (cleared : Bool) (s : Progress V) (base : List Batch) (p : Rendering) (t : Progress V) (m : Moment V) → s.taken ≡ base ++ clearing cleared
+        → painting_at rules s ≡ Ok p → t ≡ after_painting s p → is_over s.state.mode ≡ false → CanStopAt rules overrides c e es t m → Stopped (e ∷ es) cleared s base m
+    taken_stop overrides c e es cleared s base p t m h k same over (refused r) =
+        refused_stop overrides c e es cleared s base p m h k over (subst (λ (x : Progress V). CanRefuse rules overrides c e es x m) same r)
+    taken_stop overrides c e es cleared s base p t m h k same over (later {state = state} leads n) =
+        more e es cleared s base p state m k over (subst (λ (x : Progress V). state_after rules x e ≡ Ok state) same leads) h
+        (subst (λ (x : Progress V). Stopped es (is_repaint (chosen_action rules x e)) (after_action rules x e state) x.taken m) same
+        (stopped overrides c es (is_repaint (chosen_action rules t e)) (after_action rules t e state) t.taken m refl n))
 
   -- where a station was painted before a run was stopped, its batches are the first that were taken
   pub first_stopped : {f : Frame V} {earlier : List (Station V)} {station : Station V} {behind : List (Station V)} → Comes rules f earlier station behind

@@ -4,14 +4,14 @@ use Rattle.tw_input.specs.EventView.{EventView}
 use Rattle.tw_terminal.specs.TerminalState.{TerminalState}
 use Rattle.tw_session.specs.Outcomes.{is_over, answer_at, IsLine, Outcome}
 use Rattle.tw_lineedit.specs.Frame.{Frame}
-use Rattle.tw_lineedit.specs.Run.{Progress, Moment, Cause, want, fault, run, ends, after_event, state_after, after_taking, moment, progress_of, CanStopFrom, Quiet, run_of, IsAnswered}
+use Rattle.tw_lineedit.specs.Run.{Progress, Moment, Cause, want, fault, run, ends, after_event, state_after, after_taking, moment, progress_of, CanStopFrom, Quiet, run_of, IsAnswered, CanRefuse, refused, CanStopOn, taking, unpolled, uncopied}
 use Rattle.tw_lineedit.specs.EditorSteps.{CallFails, TakesEvent, HasNoEvent, HandlesAndPaints, FailsToHandleOrPaint}
 use Rattle.std.specs.declared.alloc.AllocError.{AllocError}
-use Rattle.tw_painter.specs.declared.error.Error.{Error}
-use Rattle.tw_painter.specs.declared.error.Error.TheVariants.{Memory, Terminal}
+use Rattle.tw_session.specs.declared.error.Error.{Error}
+use Rattle.tw_session.specs.declared.error.Error.TheVariants.{Memory, Terminal}
 use Rattle.tw_host.specs.HostRules.{HostRules}
 use Rattle.tw_host.specs.declared.host.Overrides.{Overrides}
-use Rattle.tw_lineedit.specs.Feeding.{fed_run, run_on, CanRefuse, refused, CanStopOn, at_event, unpolled, uncopied, Begins, IsAnsweredOn, IsRefusedOn, Follows, Continues, IsEnded}
+use Rattle.tw_lineedit.specs.Feeding.{fed_run, run_on, Begins, IsAnsweredOn, IsRefusedOn, Follows, Continues, IsEnded}
 use Rattle.tw_lineedit.specs.Reading.{start, Starves, Faults, IsTurnedDown}
 use Rattle.tw_lineedit.proofs.StandLemmas.{stands_here, stands_failed, quiet_self, quiet_on, failed, refused_later}
 use Rattle.tw_lineedit.proofs.FeedingLemmas.{refused_event, run_advanced, stops_advanced, refused_advance, quiet_advanced, left_advanced, same_progress}
@@ -61,8 +61,8 @@ module _ {V : Type 0} (rules : HostRules V) (overrides : Overrides) where
       (CanStopOn rules overrides want f.terminal.events (progress_of f)) (CanStopOn rules overrides fault f.terminal.events (progress_of f)) (CanRefuse rules overrides want e g.terminal.events (progress_of f)) (CanRefuse rules overrides fault e g.terminal.events (progress_of f))
       f g k
       (λ n at. ap (λ (xs : List EventView). run_on rules xs (progress_of f)) taken ∙ refused_event rules e g.terminal.events (progress_of f) n k o at)
-      (λ m h. subst (λ (xs : List EventView). CanStopOn rules overrides want xs (progress_of f) m) (sym taken) (at_event o (refused h)))
-      (λ m h. subst (λ (xs : List EventView). CanStopOn rules overrides fault xs (progress_of f) m) (sym taken) (at_event o (refused h)))
+      (λ m h. subst (λ (xs : List EventView). CanStopOn rules overrides want xs (progress_of f) m) (sym taken) (taking o (refused h)))
+      (λ m h. subst (λ (xs : List EventView). CanStopOn rules overrides fault xs (progress_of f) m) (sym taken) (taking o (refused h)))
       (quiet_taken f g e t)
       x (refused_advance rules overrides (progress_of f) e g (taken_is f g e t) k x r)
 
@@ -76,7 +76,7 @@ module _ {V : Type 0} (rules : HostRules V) (overrides : Overrides) where
           run = ap (λ (xs : List EventView). run_on rules xs (progress_of f)) taken
               ∙ run_advanced rules (progress_of f) e g (taken_is f g e t) o k a k.terminal.events;
           stops = λ c m h. subst (λ (xs : List EventView). CanStopOn rules overrides c xs (progress_of f) m) (sym taken)
-              (at_event o (stops_advanced rules overrides (progress_of f) e g (taken_is f g e t) k a c k.terminal.events m h));
+              (taking o (stops_advanced rules overrides (progress_of f) e g (taken_is f g e t) k a c k.terminal.events m h));
           quiet = quiet_on f g k (quiet_taken f g e t) (quiet_advanced rules e g k a);
         };
         fewer = rw taken (omega arith);

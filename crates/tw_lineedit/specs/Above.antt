@@ -9,10 +9,10 @@ use Rattle.tw_surface.specs.Pictures.{Picture, cells_cleared_from, play_text, pl
 use Rattle.tw_surface.specs.Scenes.{IsPlain}
 use Rattle.tw_terminal.specs.TerminalState.{Fails, Renders, RenderFails}
 use Rattle.tw_host.specs.HostRules.{HostRules}
-use Rattle.tw_painter.specs.Painting.{Rendering, scene_of}
-use Rattle.tw_painter.specs.Refusal.{refusal_of}
-use Rattle.tw_painter.specs.declared.error.Error.{Error}
-use Rattle.tw_painter.specs.declared.error.Error.TheVariants.{Memory, Terminal}
+use Rattle.tw_session.specs.Painting.{Rendering, scene_of}
+use Rattle.tw_session.specs.Refusal.{refusal_of}
+use Rattle.tw_session.specs.declared.error.Error.{Error}
+use Rattle.tw_session.specs.declared.error.Error.TheVariants.{Memory, Terminal}
 use Rattle.tw_lineedit.specs.EditorSteps.{Keeps}
 use Rattle.tw_lineedit.specs.Frame.{Frame}
 use Rattle.tw_lineedit.specs.Run.{progress_of, painting_at}

@@ -8,16 +8,16 @@ use Rattle.tw_terminal.specs.TerminalState.{Fails, Takes, Renders, RenderFails, 
 use Rattle.tw_host.specs.ActionView.{ActionView, Repaint}
 use Rattle.tw_host.specs.HostRules.{HostRules}
 use Rattle.tw_host.specs.declared.host.Overrides.{Overrides}
-use Rattle.tw_painter.specs.EditState.{Inactive}
-use Rattle.tw_painter.specs.Refusal.{refusal_of}
+use Rattle.tw_session.specs.EditState.{Inactive}
+use Rattle.tw_session.specs.Refusal.{refusal_of}
 use Rattle.tw_session.specs.Memory.{TakesMemory}
 use Rattle.tw_session.specs.Steps.{apply_if, clears_if}
-use Rattle.tw_painter.specs.Painting.{Rendering}
+use Rattle.tw_session.specs.Painting.{Rendering}
 use Rattle.tw_lineedit.specs.Frame.{Frame}
 use Rattle.tw_lineedit.specs.Run.{progress_of, painting_at, chosen_action, after_resolution}
-use Rattle.tw_painter.specs.DrawSteps.{IsSized}
-use Rattle.tw_painter.specs.declared.error.Error.{Error}
-use Rattle.tw_painter.specs.declared.error.Error.TheVariants.{Memory, Terminal}
+use Rattle.tw_session.specs.DrawSteps.{IsSized}
+use Rattle.tw_session.specs.declared.error.Error.{Error}
+use Rattle.tw_session.specs.declared.error.Error.TheVariants.{Memory, Terminal}
 
 module _ {V : Type 0} where
   -- the state, the host and the painting before are the same

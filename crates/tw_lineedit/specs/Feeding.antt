@@ -1,19 +1,15 @@
 -- A line that is fed its events, one after another.
 use Rattle.std.specs.Prelude.{◌≡◌, ◌≢◌, ℕ, ◌<◌, ◌∷◌, [], ◌⊎◌, cond, Bool, true, false, length, List, Option, Some, None, IsSome, Result, Ok, Err}
-use Rattle.tw_surface.specs.PaintingBatches.{clear_batch}
 use Rattle.tw_input.specs.EventView.{EventView}
-use Rattle.tw_host.specs.ActionView.{Repaint}
 use Rattle.tw_host.specs.HostRules.{HostRules}
 use Rattle.tw_host.specs.declared.host.Overrides.{Overrides}
-use Rattle.tw_painter.specs.DrawSteps.{IsSized}
-use Rattle.tw_painter.specs.EditState.{EditState, Inactive}
-use Rattle.tw_painter.specs.Painting.{Rendering}
-use Rattle.tw_painter.specs.Refusal.{Refusal}
-use Rattle.tw_painter.specs.declared.error.Error.{Error}
+use Rattle.tw_session.specs.EditState.{EditState, Inactive}
+use Rattle.tw_session.specs.Painting.{Rendering}
+use Rattle.tw_session.specs.Refusal.{Refusal}
+use Rattle.tw_session.specs.declared.error.Error.{Error}
 use Rattle.tw_session.specs.Outcomes.{Outcome, answer_at, IsLine, is_over}
-use Rattle.tw_session.specs.Memory.{TakesMemory}
 use Rattle.tw_lineedit.specs.Frame.{Frame}
-use Rattle.tw_lineedit.specs.Run.{Progress, Ending, Moment, Cause, want, fault, ends, ending, after_painting, after_taking, moment, progress_of, painting_at, chosen_action, after_resolution, after_action, state_after, after_event, run, CanStop, Quiet, IsRefusedIn}
+use Rattle.tw_lineedit.specs.Run.{Progress, Ending, Moment, Cause, want, fault, ends, ending, after_painting, moment, progress_of, painting_at, state_after, after_event, run, CanMiss, CanRefuse, CanStop, CanStopOn, CanStopAt, Quiet, IsRefusedIn}
 use Rattle.tw_lineedit.specs.EditorSteps.{Paints, HandlesAndPaints}
 use Rattle.tw_lineedit.specs.Reading.{start, unbegun, FailsIn, HaltsIn, HaltsRefused}
 use Rattle.tw_lineedit.specs.declared.editor.feeding.LineStatus.{LineStatus}
@@ -45,15 +41,6 @@ module _ {V : Type 0} (rules : HostRules V) where
       (ends (answer_at s.state) (e ∷ es) s)
       (after_event rules e es s (run rules es) (state_after rules s e))
 
-  -- the moments at which a painting can be refused, by the cause
-  pub data CanMiss : Cause → List EventView → Progress V → Moment V → Type 0 where
-    -- the size was not told
-    unmeasured : {es : List EventView} {s : Progress V} → CanMiss fault es s (moment None es s)
-    -- it found no memory; a size that is refused takes none
-    unpainted : {es : List EventView} {s : Progress V} → IsSized s.size → CanMiss want es s (moment None es s)
-    -- it was not rendered
-    half_painted : {es : List EventView} {s : Progress V} {p : Rendering} → painting_at rules s ≡ Ok p → CanMiss fault es s (moment (Some p.changes) es s)
-
   -- A line that begins at f with an initial value.
   module _ (initial : Option (List ℕ)) (f : Frame V) where
     -- the run that paints it
@@ -62,11 +49,11 @@ module _ {V : Type 0} (rules : HostRules V) where
 
     -- where memory can be refused
     abbrev pub WantsToBegin : Moment V → Type 0
-    WantsToBegin m = CanMiss want f.terminal.events (progress_of (start initial f)) m ⊎ (IsSome initial × (m ≡ unbegun f))
+    WantsToBegin m = CanMiss rules want f.terminal.events (progress_of (start initial f)) m ⊎ (IsSome initial × (m ≡ unbegun f))
 
     -- where the terminal can refuse a call before the closing
     abbrev pub FaultsToBegin : Moment V → Type 0
-    FaultsToBegin m = CanMiss fault f.terminal.events (progress_of (start initial f)) m
+    FaultsToBegin m = CanMiss rules fault f.terminal.events (progress_of (start initial f)) m
 
     -- what a refused beginning leaves, before the closing
     abbrev pub IsNotBegun : Frame V → Error → Type 0
@@ -86,38 +73,11 @@ module _ {V : Type 0} (rules : HostRules V) where
     pub quiet : Quiet f g
 
 module _ {V : Type 0} (rules : HostRules V) (overrides : Overrides) where
-  -- the moments at which an event that is fed can be refused, by the cause
-  pub data CanRefuse : Cause → EventView → List EventView → Progress V → Moment V → Type 0 where
-    -- a host that answers events for itself refused this one
-    unresolved : {e : EventView} {es : List EventView} {s : Progress V} → overrides.resolve_action ≡ true → CanRefuse want e es s (moment None es (after_taking s e))
-    -- the action or its making was refused
-    unapplied : {e : EventView} {es : List EventView} {s : Progress V} → TakesMemory rules overrides (after_resolution rules s e).value (chosen_action rules s e) (after_resolution rules s e).state → CanRefuse want e es s (moment None es (after_resolution rules s e))
-    -- the clearing of the screen was not rendered
-    half_cleared : {e : EventView} {es : List EventView} {s : Progress V} → chosen_action rules s e ≡ Some Repaint → CanRefuse fault e es s (moment (Some clear_batch) es (after_resolution rules s e))
-    -- the painting after it was refused
-    missed : {c : Cause} {e : EventView} {es : List EventView} {s : Progress V} {state : EditState} {m : Moment V} → state_after rules s e ≡ Ok state → CanMiss rules c es (after_action rules s e state) m → CanRefuse c e es s m
-
-  -- the moments at which the run that takes an event can be stopped, by the cause
-  pub data CanStopAt : Cause → EventView → List EventView → Progress V → Moment V → Type 0 where
-    -- at the event
-    refused : {c : Cause} {e : EventView} {es : List EventView} {s : Progress V} {m : Moment V} → CanRefuse c e es s m → CanStopAt c e es s m
-    -- after it
-    later : {c : Cause} {e : EventView} {es : List EventView} {s : Progress V} {state : EditState} {m : Moment V} → state_after rules s e ≡ Ok state → CanStop rules overrides c es (after_action rules s e state) m → CanStopAt c e es s m
-
-  -- the moments at which the run from a painting on can be stopped
-  pub data CanStopOn : Cause → List EventView → Progress V → Moment V → Type 0 where
-    -- no event was told
-    unpolled : {es : List EventView} {s : Progress V} → is_over s.state.mode ≡ false → CanStopOn fault es s (moment None es s)
-    -- the run ended with a line, and the line was not copied
-    uncopied : {es : List EventView} {s : Progress V} → (is_over s.state.mode ≡ true) ⊎ (es ≡ []) → IsLine (answer_at s.state) → CanStopOn want es s (moment None es s)
-    -- at an event, or after it
-    at_event : {c : Cause} {e : EventView} {es : List EventView} {s : Progress V} {m : Moment V} → is_over s.state.mode ≡ false → CanStopAt c e es s m → CanStopOn c (e ∷ es) s m
-
   -- the run from f over these events, before its first painting, goes on from g as one that is painted
   pub record Begins (f g : Frame V) : Type 0 where
     pub paints : Paints rules f g
     pub run : (es : List EventView) → run rules es (progress_of f) ≡ run_on rules es (progress_of g)
-    pub stops : (c : Cause) (es : List EventView) (m : Moment V) → CanStopOn c es (progress_of g) m → CanStop rules overrides c es (progress_of f) m
+    pub stops : (c : Cause) (es : List EventView) (m : Moment V) → CanStopOn rules overrides c es (progress_of g) m → CanStop rules overrides c es (progress_of f) m
     pub quiet : Quiet f g
     pub left : g.terminal.events ≡ f.terminal.events
 
@@ -125,24 +85,24 @@ module _ {V : Type 0} (rules : HostRules V) (overrides : Overrides) where
   pub record IsFed (e : EventView) (f g : Frame V) : Type 0 where
     pub advances : HandlesAndPaints rules e f g
     pub run : (es : List EventView) → run_on rules (e ∷ es) (progress_of f) ≡ run_on rules es (progress_of g)
-    pub stops : (c : Cause) (es : List EventView) (m : Moment V) → CanStopOn c es (progress_of g) m → CanStopAt c e es (progress_of f) m
+    pub stops : (c : Cause) (es : List EventView) (m : Moment V) → CanStopOn rules overrides c es (progress_of g) m → CanStopAt rules overrides c e es (progress_of f) m
     pub begun : g.state.mode ≢ Inactive
     pub quiet : Quiet f g
     pub left : g.terminal.events ≡ f.terminal.events
 
   -- what a refusal of the run over these events leaves, before the closing
   abbrev pub IsRefusedOn : List EventView → Frame V → Frame V → Error → Type 0
-  IsRefusedOn es f g e = IsRefusedIn (run_on rules es (progress_of f)) (CanStopOn want es (progress_of f)) (CanStopOn fault es (progress_of f)) f g e
+  IsRefusedOn es f g e = IsRefusedIn (run_on rules es (progress_of f)) (CanStopOn rules overrides want es (progress_of f)) (CanStopOn rules overrides fault es (progress_of f)) f g e
 
   -- An event that is fed to a line at f; those that are left at the terminal come after it.
   module _ (e : EventView) (f : Frame V) where
     -- where memory can be refused
     abbrev pub WantsToFeed : Moment V → Type 0
-    WantsToFeed m = CanRefuse want e f.terminal.events (progress_of f) m
+    WantsToFeed m = CanRefuse rules overrides want e f.terminal.events (progress_of f) m
 
     -- where the terminal can refuse a call before the closing
     abbrev pub FaultsToFeed : Moment V → Type 0
-    FaultsToFeed m = CanRefuse fault e f.terminal.events (progress_of f) m
+    FaultsToFeed m = CanRefuse rules overrides fault e f.terminal.events (progress_of f) m
 
     -- what a refused event leaves, once the line is closed
     abbrev pub FailsToFeed : Frame V → Error → Type 0
@@ -151,7 +111,7 @@ module _ {V : Type 0} (rules : HostRules V) (overrides : Overrides) where
   -- the run from a painting of f leads to one of g: it goes on from g as it does from f
   pub record Follows (f g : Frame V) : Type 0 where
     pub run : run_on rules f.terminal.events (progress_of f) ≡ run_on rules g.terminal.events (progress_of g)
-    pub stops : (c : Cause) (m : Moment V) → CanStopOn c g.terminal.events (progress_of g) m → CanStopOn c f.terminal.events (progress_of f) m
+    pub stops : (c : Cause) (m : Moment V) → CanStopOn rules overrides c g.terminal.events (progress_of g) m → CanStopOn rules overrides c f.terminal.events (progress_of f) m
     pub quiet : Quiet f g
 
   pub record Continues (f g : Frame V) : Type 0 where
@@ -161,7 +121,7 @@ module _ {V : Type 0} (rules : HostRules V) (overrides : Overrides) where
   -- the run from a painting of f ends at g without refusal
   pub record IsEnded (f g : Frame V) : Type 0 where
     pub run : run_on rules f.terminal.events (progress_of f) ≡ ending (answer_at g.state) g
-    pub stops : IsLine (answer_at g.state) → CanStopOn want f.terminal.events (progress_of f) (moment None g.terminal.events (progress_of g))
+    pub stops : IsLine (answer_at g.state) → CanStopOn rules overrides want f.terminal.events (progress_of f) (moment None g.terminal.events (progress_of g))
     pub quiet : Quiet f g
 
 module _ {V : Type 0} where

@@ -2,7 +2,7 @@
 use Rattle.std.specs.Prelude.{◌≡◌, Option, ⊤}
 use Rattle.tw_surface.specs.Paintings.{Mark}
 use Rattle.tw_terminal.specs.TerminalState.{TerminalState}
-use Rattle.tw_painter.specs.EditState.{EditState}
+use Rattle.tw_session.specs.EditState.{EditState}
 use Rattle.tw_session.specs.SessionView.{SessionView}
 use Rattle.tw_lineedit.specs.declared.editor.EditorOver.{EditorOver}
 

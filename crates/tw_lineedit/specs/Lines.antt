@@ -2,7 +2,7 @@
 use Rattle.std.specs.Prelude.{ℕ, List, Option, Result}
 use Rattle.tw_host.specs.HostRules.{HostRules}
 use Rattle.tw_host.specs.declared.host.Overrides.{Overrides}
-use Rattle.tw_painter.specs.declared.error.Error.{Error}
+use Rattle.tw_session.specs.declared.error.Error.{Error}
 use Rattle.tw_session.specs.Outcomes.{Outcome, answer_at}
 use Rattle.tw_lineedit.specs.Frame.{Frame}
 use Rattle.tw_lineedit.specs.Run.{ending, run_of, IsAnswered}

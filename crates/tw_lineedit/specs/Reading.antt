@@ -7,14 +7,14 @@ use Rattle.tw_surface.specs.PaintingBatches.{closing_if}
 use Rattle.tw_terminal.specs.TerminalState.{count_up, IsPart}
 use Rattle.tw_host.specs.HostRules.{HostRules}
 use Rattle.tw_host.specs.declared.host.Overrides.{Overrides}
-use Rattle.tw_painter.specs.EditState.{Inactive}
+use Rattle.tw_session.specs.EditState.{Inactive}
 use Rattle.tw_session.specs.SessionView.{initial_cut, begun_state}
-use Rattle.tw_painter.specs.Refusal.{refusal_of}
+use Rattle.tw_session.specs.Refusal.{refusal_of}
 use Rattle.tw_session.specs.Outcomes.{Outcome, IsRefusal}
 use Rattle.tw_lineedit.specs.Frame.{Frame}
 use Rattle.tw_lineedit.specs.Run.{Ending, Moment, want, fault, progress_of, moment, run_of, CanStopFrom, IsPartOf, IsRefusedIn}
-use Rattle.tw_painter.specs.declared.error.Error.{Error}
-use Rattle.tw_painter.specs.declared.error.Error.TheVariants.{Memory, Terminal}
+use Rattle.tw_session.specs.declared.error.Error.{Error}
+use Rattle.tw_session.specs.declared.error.Error.TheVariants.{Memory, Terminal}
 
 -- the text of an initial value, if there is one
 abbrev pub initial_text : Option (Bor (List ℕ)) → Option (List ℕ)

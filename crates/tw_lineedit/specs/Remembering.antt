@@ -2,12 +2,12 @@
 use Rattle.std.specs.Prelude.{◌≡◌, ℕ, List, Option, Some, None, Ok, ◌⊎◌}
 use Rattle.tw_host.specs.HostRules.{HostRules}
 use Rattle.tw_host.specs.declared.host.Overrides.{Overrides}
-use Rattle.tw_history.specs.NearestMatch.{last_line}
+use Rattle.tw_line.specs.NearestMatch.{last_line}
 use Rattle.tw_lineedit.specs.Frame.{Frame}
 use Rattle.tw_lineedit.specs.Reading.{start, Reads, FailsToRead}
-use Rattle.tw_painter.specs.Refusal.{IsMemory}
+use Rattle.tw_session.specs.Refusal.{IsMemory}
 use Rattle.tw_lineedit.specs.Run.{run_of}
-use Rattle.tw_painter.specs.declared.error.Error.{Error}
+use Rattle.tw_session.specs.declared.error.Error.{Error}
 
 -- What a host is: its rules, its value, its history, the host with another history, and what an addition to that gives.
 module _ {H Hist V : Type 0} (rules : HostRules V) (value : H → V) (history_of : H → Hist) (with_history : H → Hist → H) (gives : Hist → List ℕ → Hist → Type 0) where

@@ -10,16 +10,16 @@ use Rattle.tw_host.specs.ActionView.{ActionView}
 use Rattle.tw_host.specs.HostRules.{HostRules, Resolution, or_default}
 use Rattle.tw_host.specs.declared.host.Overrides.{Overrides}
 use Rattle.tw_host.specs.ActionView.{Repaint}
-use Rattle.tw_painter.specs.EditState.{EditState}
-use Rattle.tw_painter.specs.Refusal.{Refusal, refusal_of}
+use Rattle.tw_session.specs.EditState.{EditState}
+use Rattle.tw_session.specs.Refusal.{Refusal, refusal_of}
 use Rattle.tw_lineedit.specs.Frame.{Frame}
 use Rattle.tw_session.specs.Outcomes.{Outcome, answer_at, IsLine, is_over}
 use Rattle.tw_session.specs.Memory.{TakesMemory}
 use Rattle.tw_session.specs.Steps.{apply_if, clears_if}
-use Rattle.tw_painter.specs.Painting.{Rendering, rendering_of, painted_on, scene_of}
-use Rattle.tw_painter.specs.DrawSteps.{IsSized}
-use Rattle.tw_painter.specs.declared.error.Error.{Error}
-use Rattle.tw_painter.specs.declared.error.Error.TheVariants.{Memory, Terminal}
+use Rattle.tw_session.specs.Painting.{Rendering, rendering_of, painted_on, scene_of}
+use Rattle.tw_session.specs.DrawSteps.{IsSized}
+use Rattle.tw_session.specs.declared.error.Error.{Error}
+use Rattle.tw_session.specs.declared.error.Error.TheVariants.{Memory, Terminal}
 
 -- how far a run has come: the state, the host's value and the screen's size, the mark of the painting before, and the batches so far
 pub record Progress (V : Type 0) : Type 0 where
@@ -130,27 +130,51 @@ module _ {V : Type 0} (rules : HostRules V) where
   abbrev pub run_of : Frame V → Ending V
   run_of f = run f.terminal.events (progress_of f)
 
-module _ {V : Type 0} (rules : HostRules V) (overrides : Overrides) where
-  -- the moments at which a run can be stopped, by the cause
-  pub data CanStop : Cause → List EventView → Progress V → Moment V → Type 0 where
+module _ {V : Type 0} (rules : HostRules V) where
+  -- the moments at which a painting can be refused, by the cause
+  pub data CanMiss : Cause → List EventView → Progress V → Moment V → Type 0 where
     -- the size was not told
-    unmeasured : {es : List EventView} {s : Progress V} → CanStop fault es s (moment None es s)
-    -- the painting found no memory; a size that is refused takes none
-    unpainted : {es : List EventView} {s : Progress V} → IsSized s.size → CanStop want es s (moment None es s)
-    -- the painting was not rendered
-    half_painted : {es : List EventView} {s : Progress V} {p : Rendering} → painting_at rules s ≡ Ok p → CanStop fault es s (moment (Some p.changes) es s)
-    -- no event was told
-    unpolled : {es : List EventView} {s : Progress V} {p : Rendering} → painting_at rules s ≡ Ok p → is_over s.state.mode ≡ false → CanStop fault es s (moment None es (after_painting s p))
-    -- the run ended with a line, and the line was not copied
-    uncopied : {es : List EventView} {s : Progress V} {p : Rendering} → painting_at rules s ≡ Ok p → (is_over s.state.mode ≡ true) ⊎ (es ≡ []) → IsLine (answer_at s.state) → CanStop want es s (moment None es (after_painting s p))
+    unmeasured : {es : List EventView} {s : Progress V} → CanMiss fault es s (moment None es s)
+    -- it found no memory; a size that is refused takes none
+    unpainted : {es : List EventView} {s : Progress V} → IsSized s.size → CanMiss want es s (moment None es s)
+    -- it was not rendered
+    half_painted : {es : List EventView} {s : Progress V} {p : Rendering} → painting_at rules s ≡ Ok p → CanMiss fault es s (moment (Some p.changes) es s)
+
+module _ {V : Type 0} (rules : HostRules V) (overrides : Overrides) where
+  -- the moments at which an event that is fed can be refused, by the cause
+  pub data CanRefuse : Cause → EventView → List EventView → Progress V → Moment V → Type 0 where
     -- a host that answers events for itself refused this one
-    unresolved : {e : EventView} {es : List EventView} {s : Progress V} {p : Rendering} → painting_at rules s ≡ Ok p → is_over s.state.mode ≡ false → overrides.resolve_action ≡ true → CanStop want (e ∷ es) s (moment None es (after_taking (after_painting s p) e))
+    unresolved : {e : EventView} {es : List EventView} {s : Progress V} → overrides.resolve_action ≡ true → CanRefuse want e es s (moment None es (after_taking s e))
     -- the action or its making was refused
-    unapplied : {e : EventView} {es : List EventView} {s : Progress V} {p : Rendering} → painting_at rules s ≡ Ok p → is_over s.state.mode ≡ false → TakesMemory rules overrides (after_resolution rules s e).value (chosen_action rules s e) (after_resolution rules s e).state → CanStop want (e ∷ es) s (moment None es (after_resolution rules (after_painting s p) e))
+    unapplied : {e : EventView} {es : List EventView} {s : Progress V} → TakesMemory rules overrides (after_resolution rules s e).value (chosen_action rules s e) (after_resolution rules s e).state → CanRefuse want e es s (moment None es (after_resolution rules s e))
     -- the clearing of the screen was not rendered
-    half_cleared : {e : EventView} {es : List EventView} {s : Progress V} {p : Rendering} → painting_at rules s ≡ Ok p → is_over s.state.mode ≡ false → chosen_action rules s e ≡ Some Repaint → CanStop fault (e ∷ es) s (moment (Some clear_batch) es (after_resolution rules (after_painting s p) e))
-    -- after the first painting
-    later : {c : Cause} {e : EventView} {es : List EventView} {s : Progress V} {p : Rendering} {state : EditState} {m : Moment V} → painting_at rules s ≡ Ok p → is_over s.state.mode ≡ false → state_after rules s e ≡ Ok state → CanStop c es (after_action rules (after_painting s p) e state) m → CanStop c (e ∷ es) s m
+    half_cleared : {e : EventView} {es : List EventView} {s : Progress V} → chosen_action rules s e ≡ Some Repaint → CanRefuse fault e es s (moment (Some clear_batch) es (after_resolution rules s e))
+    -- the painting after it was refused
+    missed : {c : Cause} {e : EventView} {es : List EventView} {s : Progress V} {state : EditState} {m : Moment V} → state_after rules s e ≡ Ok state → CanMiss rules c es (after_action rules s e state) m → CanRefuse c e es s m
+
+  mutual
+    -- the moments at which a run can be stopped, by the cause
+    pub data CanStop : Cause → List EventView → Progress V → Moment V → Type 0 where
+      -- at its painting
+      at_painting : {c : Cause} {es : List EventView} {s : Progress V} {m : Moment V} → CanMiss rules c es s m → CanStop c es s m
+      -- after it
+      behind_painting : {c : Cause} {es : List EventView} {s : Progress V} {p : Rendering} {m : Moment V} → painting_at rules s ≡ Ok p → CanStopOn c es (after_painting s p) m → CanStop c es s m
+
+    -- the moments at which the run from a painting on can be stopped
+    pub data CanStopOn : Cause → List EventView → Progress V → Moment V → Type 0 where
+      -- no event was told
+      unpolled : {es : List EventView} {s : Progress V} → is_over s.state.mode ≡ false → CanStopOn fault es s (moment None es s)
+      -- the run ended with a line, and the line was not copied
+      uncopied : {es : List EventView} {s : Progress V} → (is_over s.state.mode ≡ true) ⊎ (es ≡ []) → IsLine (answer_at s.state) → CanStopOn want es s (moment None es s)
+      -- at an event, or after it
+      taking : {c : Cause} {e : EventView} {es : List EventView} {s : Progress V} {m : Moment V} → is_over s.state.mode ≡ false → CanStopAt c e es s m → CanStopOn c (e ∷ es) s m
+
+    -- the moments at which the run that takes an event can be stopped
+    pub data CanStopAt : Cause → EventView → List EventView → Progress V → Moment V → Type 0 where
+      -- at the event
+      refused : {c : Cause} {e : EventView} {es : List EventView} {s : Progress V} {m : Moment V} → CanRefuse c e es s m → CanStopAt c e es s m
+      -- after it
+      later : {c : Cause} {e : EventView} {es : List EventView} {s : Progress V} {state : EditState} {m : Moment V} → state_after rules s e ≡ Ok state → CanStop c es (after_action rules s e state) m → CanStopAt c e es s m
 
   -- the moments at which that run can be stopped
   abbrev pub CanStopFrom : Cause → Frame V → Moment V → Type 0

@@ -7,10 +7,10 @@ use Rattle.tw_surface.specs.Pictures.{Picture}
 use Rattle.tw_surface.specs.Fresh.{IsFresh, IsSameAbove, IsClosed, last_row}
 use Rattle.tw_surface.specs.PaintingBatches.{SizedScene, Shot, shot_of, IsPlainAt, play_batches, scenes_of, start_row, batches, closing_batch, closing_if}
 use Rattle.tw_host.specs.HostRules.{HostRules}
-use Rattle.tw_painter.specs.Painting.{scene_of}
-use Rattle.tw_painter.specs.Refusal.{Refusal}
-use Rattle.tw_painter.specs.declared.error.Error.{Error}
-use Rattle.tw_painter.specs.declared.error.Error.TheVariants.{Memory, Terminal}
+use Rattle.tw_session.specs.Painting.{scene_of}
+use Rattle.tw_session.specs.Refusal.{Refusal}
+use Rattle.tw_session.specs.declared.error.Error.{Error}
+use Rattle.tw_session.specs.declared.error.Error.TheVariants.{Memory, Terminal}
 use Rattle.tw_lineedit.specs.Frame.{Frame}
 use Rattle.tw_lineedit.specs.Run.{run_of}
 use Rattle.tw_lineedit.specs.Stations.{Station, station_painting, station_batches, stations_of}
@@ -44,7 +44,7 @@ module _ {V : Type 0} (rules : HostRules V) where
     pub two_columns : 2 ≤ w
     pub at_start : before.col ≡ 0
 
-  -- the row from which a station is painted on a screen that is entered in a row
+  -- the row from which a station is painted on a screen that is entered in a row: that row, or row 0 once it was cleared
   abbrev pub first_row : ℕ → List (Station V) → ℕ
   first_row entry stations = start_row entry (scenes_of (map sized_scene stations))
 
@@ -102,17 +102,11 @@ module _ {V : Type 0} (rules : HostRules V) where
     abbrev pub HasPainted : List (Station V) → Type 0
     HasPainted earlier = IsStopped result → length earlier + length g.terminal.events < length f.terminal.events
 
-    -- What a screen shows of a call whose run begins at f, and which left g with this answer: for each station that the run reaches plainly the fresh painting, from the row on in which the screen was entered, and from row 0 on once it was cleared. Where nothing stopped the call, and nothing is rendered after a station, the call ends below it.
+    -- What a screen shows of a call whose run begins at f, and which left g with this answer: the fresh painting of each station that the run reaches plainly. Where nothing stopped the call, and nothing is rendered after a station, the call ends below it.
     pub record Shows : Type 0 where
-      pub first : (w : ℕ) (station : Station V) (later : List (Station V)) (before : Picture)
-          → ReachesPlainly f w [] station later before → HasPainted []
-          → ShowsFresh f g w before.row [] station before
-      pub later : (w : ℕ) (earlier : List (Station V)) (station : Station V) (later : List (Station V)) (before : Picture)
-          → ReachesPlainly f w earlier station later before → HasPainted earlier → is_cleared (earlier ++ station ∷ []) ≡ false
-          → ShowsFresh f g w before.row earlier station before
-      pub cleared : (w : ℕ) (earlier : List (Station V)) (station : Station V) (later : List (Station V)) (before : Picture)
-          → ReachesPlainly f w earlier station later before → HasPainted earlier → is_cleared (earlier ++ station ∷ []) ≡ true
-          → ShowsFresh f g w 0 earlier station before
+      pub painting : (w : ℕ) (earlier : List (Station V)) (station : Station V) (later : List (Station V)) (before : Picture)
+          → ReachesPlainly f w earlier station later before → HasPainted earlier
+          → ShowsFresh f g w (first_row before.row (earlier ++ station ∷ [])) earlier station before
       pub closing : (w : ℕ) (earlier : List (Station V)) (station : Station V) (later : List (Station V)) (before : Picture)
           → ReachesPlainly f w earlier station later before → All RendersNothing later → (IsStopped result → ⊥)
           → ClosesBelow f g w earlier station before

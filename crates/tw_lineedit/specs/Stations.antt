@@ -5,12 +5,12 @@ use Rattle.tw_surface.specs.Paintings.{Painting, Mark}
 use Rattle.tw_surface.specs.PaintingBatches.{Shot, clearing, batches_after}
 use Rattle.tw_input.specs.EventView.{EventView}
 use Rattle.tw_terminal.specs.declared.terminal.ScreenSize.{ScreenSize}
-use Rattle.tw_painter.specs.EditState.{EditState}
+use Rattle.tw_session.specs.EditState.{EditState}
 use Rattle.tw_host.specs.HostRules.{HostRules}
 use Rattle.tw_session.specs.Outcomes.{is_over}
 use Rattle.tw_session.specs.Steps.{is_repaint}
-use Rattle.tw_painter.specs.Painting.{Rendering, painted_on, scene_of}
-use Rattle.tw_painter.specs.Refusal.{Refusal}
+use Rattle.tw_session.specs.Painting.{Rendering, painted_on, scene_of}
+use Rattle.tw_session.specs.Refusal.{Refusal}
 use Rattle.tw_lineedit.specs.Frame.{Frame}
 use Rattle.tw_lineedit.specs.Run.{Progress, run_of, progress_of, painting_at, after_painting, chosen_action, state_after, after_action}
 

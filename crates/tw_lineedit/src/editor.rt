@@ -9,10 +9,10 @@ ghost use Rattle.tw_terminal.specs.Uses.{IsUsed};
 ghost use Rattle.tw_host.specs.ActionView.{action_view, Repaint};
 ghost use Rattle.tw_line.specs.Cut.{cut_at};
 ghost use Rattle.tw_host.specs.KeyTable.{action_of};
-ghost use Rattle.tw_painter.specs.EditState.{Inactive};
+ghost use Rattle.tw_session.specs.EditState.{Inactive};
 ghost use Rattle.tw_session.specs.Outcomes.{outcome_of};
 ghost use Rattle.tw_session.specs.SessionView.{new_session, on_state};
-ghost use Rattle.tw_painter.specs.Refusal.{IsMemory};
+ghost use Rattle.tw_session.specs.Refusal.{IsMemory};
 ghost use Rattle.tw_lineedit.specs.Frame.{across, frame, own_frame, IsSame};
 ghost use Rattle.tw_lineedit.specs.Lines.{BeginsWith, IsAnsweredWith, ReadsWith, ShowsWith};
 ghost use Rattle.tw_lineedit.specs.Lent.{EndsAs, editor_row};
@@ -27,8 +27,7 @@ pub use feeding::LineStatus;
 use std::alloc::{AllocError, Global};
 use tw_host::{Action, LineEditorHost, default_action};
 use tw_input::InputEvent;
-use tw_painter::{Error, Mark};
-use tw_session::Session;
+use tw_session::{Error, Mark, Session};
 use tw_surface::{Change, ColorAttribute};
 use tw_terminal::Terminal;
 
@@ -58,7 +57,8 @@ impl<'term, T: Terminal> LineEditor<'term, T> {
     /// it always succeeds.
     pub fn new(alloc: Global, terminal: &'term mut T) -> Result<Self, Error>
         ensures succeeds { IsOk result }
-        ensures same_reference { IfOk result (λ editor. editor.terminal.ghost_name ≡ terminal.entry.ghost_name) }
+        ensures same_reference { IfOk result (λ editor. editor.terminal.ghost_name
+            ≡ terminal.entry.ghost_name) }
         ensures terminal { IfOk result (λ editor. editor.terminal.now ≡ terminal.old) }
         ensures state { IfOk result (λ editor. editor.session ≡ new_session) }
     {
@@ -70,7 +70,8 @@ impl<'term, T: Terminal> LineEditor<'term, T> {
     pub fn set_prompt(&mut self, prompt: &str) -> Result<(), Error>
         ensures same_reference { self.new.terminal.ghost_name ≡ self.old.terminal.ghost_name }
         ensures terminal { self.new.terminal.now ≡ self.old.terminal.now }
-        ensures ok { OnOk result (self.new.session ≡ on_state (λ state. record state { prompt = prompt.now }) self.old.session) }
+        ensures ok { OnOk result (self.new.session
+            ≡ on_state (λ state. record state { prompt = prompt.now }) self.old.session) }
         ensures err { OnErr result (self.new.session ≡ self.old.session) }
         ensures memory { IfErr result IsMemory }
     {
@@ -95,7 +96,8 @@ impl<'term, T: Terminal> LineEditor<'term, T> {
         requires { IsCharBoundary line.now cursor }
         ensures same_reference { self.new.terminal.ghost_name ≡ self.old.terminal.ghost_name }
         ensures terminal { self.new.terminal.now ≡ self.old.terminal.now }
-        ensures ok { OnOk result (self.new.session ≡ on_state (λ state. record state { cut = cut_at line.now cursor }) self.old.session) }
+        ensures ok { OnOk result (self.new.session
+            ≡ on_state (λ state. record state { cut = cut_at line.now cursor }) self.old.session) }
         ensures err { OnErr result (self.new.session ≡ self.old.session) }
         ensures empty { line.now ≡ [] → IsOk result }
         ensures memory { IfErr result IsMemory }
@@ -108,8 +110,10 @@ impl<'term, T: Terminal> LineEditor<'term, T> {
     fn paint<H: LineEditorHost>(&mut self, host: &H) -> Result<(), Error>
         ensures same_reference { self.new.terminal.ghost_name ≡ self.old.terminal.ghost_name }
         ensures used { IsUsed T.follows self.old.terminal.now self.new.terminal.now }
-        ensures ok { OnOk result (across T.state H.value (Paints H.rules) self.old host.now self.new host.now) }
-        ensures err { IfErr result (across T.state H.value (FailsToPaint H.rules) self.old host.now self.new host.now) }
+        ensures ok { OnOk result (across T.state H.value (Paints H.rules)
+            self.old host.now self.new host.now) }
+        ensures err { IfErr result (across T.state H.value (FailsToPaint H.rules)
+            self.old host.now self.new host.now) }
     {
         let size = self.terminal.get_screen_size()?;
         let (changes, mark) = self.session.painting(host, size)?;
@@ -130,10 +134,15 @@ impl<'term, T: Terminal> LineEditor<'term, T> {
         ensures same_reference { self.new.terminal.ghost_name ≡ self.old.terminal.ghost_name }
         ensures used { IsUsed T.follows self.old.terminal.now self.new.terminal.now }
         ensures host { host.new ≡ host.old }
-        ensures uncalled { action_view action ≢ Repaint → self.new.terminal.now ≡ self.old.terminal.now }
-        ensures ok { OnOk result (across T.state H.value (Applies H.rules (Some (action_view action))) self.old host.old self.new host.new) }
-        ensures err { IfErr result (across T.state H.value (FailsToApply H.rules H.OVERRIDES (Some (action_view action))) self.old host.old self.new host.new) }
-        ensures failures { FailuresTell result (T.state self.old.terminal.now).failures (T.state self.new.terminal.now).failures }
+        ensures uncalled { action_view action ≢ Repaint → self.new.terminal.now
+            ≡ self.old.terminal.now }
+        ensures ok { OnOk result (across T.state H.value
+            (Applies H.rules (Some (action_view action))) self.old host.old self.new host.new) }
+        ensures err { IfErr result (across T.state H.value
+            (FailsToApply H.rules H.OVERRIDES (Some (action_view action)))
+            self.old host.old self.new host.new) }
+        ensures failures { FailuresTell result (T.state self.old.terminal.now).failures
+            (T.state self.new.terminal.now).failures }
     {
         match action {
             Action::Repaint => {
@@ -148,8 +157,11 @@ impl<'term, T: Terminal> LineEditor<'term, T> {
     fn handle<H: LineEditorHost>(&mut self, host: &mut H, event: &InputEvent) -> Result<(), Error>
         ensures same_reference { self.new.terminal.ghost_name ≡ self.old.terminal.ghost_name }
         ensures used { IsUsed T.follows self.old.terminal.now self.new.terminal.now }
-        ensures ok { OnOk result (across T.state H.value (Handles H.rules (event_view event.now)) self.old host.old self.new host.new) }
-        ensures err { IfErr result (across T.state H.value (FailsToHandle H.rules H.OVERRIDES (event_view event.now)) self.old host.old self.new host.new) }
+        ensures ok { OnOk result (across T.state H.value (Handles H.rules (event_view event.now))
+            self.old host.old self.new host.new) }
+        ensures err { IfErr result (across T.state H.value
+            (FailsToHandle H.rules H.OVERRIDES (event_view event.now))
+            self.old host.old self.new host.new) }
     {
         match self.session.resolve(host, event)? {
             Some(action) => self.apply_action(host, action),
@@ -166,8 +178,12 @@ impl<'term, T: Terminal> LineEditor<'term, T> {
         ensures same_reference { self.new.terminal.ghost_name ≡ self.old.terminal.ghost_name }
         ensures used { IsUsed T.follows self.old.terminal.now self.new.terminal.now }
         ensures host { host.new ≡ host.old }
-        ensures ok { OnOk result (across T.state H.value (Applies H.rules (action_of (event_view event.now))) self.old host.old self.new host.new) }
-        ensures err { IfErr result (across T.state H.value (FailsToApply H.rules H.OVERRIDES (action_of (event_view event.now))) self.old host.old self.new host.new) }
+        ensures ok { OnOk result (across T.state H.value
+            (Applies H.rules (action_of (event_view event.now)))
+            self.old host.old self.new host.new) }
+        ensures err { IfErr result (across T.state H.value
+            (FailsToApply H.rules H.OVERRIDES (action_of (event_view event.now)))
+            self.old host.old self.new host.new) }
     {
         match default_action(self.session.alloc(), event)? {
             Some(action) => self.apply_action(host, action),
@@ -180,8 +196,11 @@ impl<'term, T: Terminal> LineEditor<'term, T> {
     fn advance<H: LineEditorHost>(&mut self, host: &mut H, event: &InputEvent) -> Result<(), Error>
         ensures same_reference { self.new.terminal.ghost_name ≡ self.old.terminal.ghost_name }
         ensures used { IsUsed T.follows self.old.terminal.now self.new.terminal.now }
-        ensures ok { OnOk result (across T.state H.value (HandlesAndPaints H.rules (event_view event.now)) self.old host.old self.new host.new) }
-        ensures err { IfErr result (across T.state H.value (FailsToHandleOrPaint H.rules H.OVERRIDES (event_view event.now)) self.old host.old self.new host.new) }
+        ensures ok { OnOk result (across T.state H.value
+            (HandlesAndPaints H.rules (event_view event.now)) self.old host.old self.new host.new) }
+        ensures err { IfErr result (across T.state H.value
+            (FailsToHandleOrPaint H.rules H.OVERRIDES (event_view event.now))
+            self.old host.old self.new host.new) }
     {
         self.handle(host, event)?;
         self.paint(host)
@@ -192,9 +211,13 @@ impl<'term, T: Terminal> LineEditor<'term, T> {
         ensures same_reference { self.new.terminal.ghost_name ≡ self.old.terminal.ghost_name }
         ensures used { IsUsed T.follows self.old.terminal.now self.new.terminal.now }
         ensures ok { IfOk result (λ more. MatchBool more
-            (Continues H.rules H.OVERRIDES (frame T.state H.value self.old host.old) (frame T.state H.value self.new host.new))
-            (IsEnded H.rules H.OVERRIDES (frame T.state H.value self.old host.old) (frame T.state H.value self.new host.new))) }
-        ensures err { IfErr result (across T.state H.value (IsRefusedOn H.rules H.OVERRIDES (T.state self.old.terminal.now).events) self.old host.old self.new host.new) }
+            (Continues H.rules H.OVERRIDES (frame T.state H.value self.old host.old)
+            (frame T.state H.value self.new host.new))
+            (IsEnded H.rules H.OVERRIDES (frame T.state H.value self.old host.old)
+            (frame T.state H.value self.new host.new))) }
+        ensures err { IfErr result (across T.state H.value
+            (IsRefusedOn H.rules H.OVERRIDES (T.state self.old.terminal.now).events)
+            self.old host.old self.new host.new) }
     {
         if self.session.is_over() {
             return Ok(false);
@@ -213,8 +236,11 @@ impl<'term, T: Terminal> LineEditor<'term, T> {
     fn run_to_end<H: LineEditorHost>(&mut self, host: &mut H) -> Result<Option<String>, Error>
         ensures same_reference { self.new.terminal.ghost_name ≡ self.old.terminal.ghost_name }
         ensures used { IsUsed T.follows self.old.terminal.now self.new.terminal.now }
-        ensures ok { IfOk result (λ it. across T.state H.value (IsAnsweredOn H.rules) self.old host.old self.new host.new (outcome_of (Ok it))) }
-        ensures err { IfErr result (across T.state H.value (IsRefusedOn H.rules H.OVERRIDES (T.state self.old.terminal.now).events) self.old host.old self.new host.new) }
+        ensures ok { IfOk result (λ it. across T.state H.value (IsAnsweredOn H.rules)
+            self.old host.old self.new host.new (outcome_of (Ok it))) }
+        ensures err { IfErr result (across T.state H.value
+            (IsRefusedOn H.rules H.OVERRIDES (T.state self.old.terminal.now).events)
+            self.old host.old self.new host.new) }
     {
         while self.turn(host)? {}
         Ok(self.session.answer()?)
@@ -224,8 +250,10 @@ impl<'term, T: Terminal> LineEditor<'term, T> {
     fn close(&mut self) -> Result<(), Error>
         ensures same_reference { self.new.terminal.ghost_name ≡ self.old.terminal.ghost_name }
         ensures used { IsUsed T.follows self.old.terminal.now self.new.terminal.now }
-        ensures ok { OnOk result (Closes (own_frame T.state self.old) (own_frame T.state self.new)) }
-        ensures err { IfErr result (FailsToClose (own_frame T.state self.old) (own_frame T.state self.new)) }
+        ensures ok { OnOk result (Closes (own_frame T.state self.old)
+            (own_frame T.state self.new)) }
+        ensures err { IfErr result (FailsToClose (own_frame T.state self.old)
+            (own_frame T.state self.new)) }
     {
         match self.session.end() {
             None => {}
@@ -238,8 +266,10 @@ impl<'term, T: Terminal> LineEditor<'term, T> {
     fn begin(&mut self, initial: Option<&str>) -> Result<(), AllocError>
         ensures same_reference { self.new.terminal.ghost_name ≡ self.old.terminal.ghost_name }
         ensures terminal { self.new.terminal.now ≡ self.old.terminal.now }
-        ensures ok { OnOk result (own_frame T.state self.new ≡ start (initial_text initial.entry) (own_frame T.state self.old)) }
-        ensures err { OnErr result (own_frame T.state self.new ≡ start None (own_frame T.state self.old)) }
+        ensures ok { OnOk result (own_frame T.state self.new
+            ≡ start (initial_text initial.entry) (own_frame T.state self.old)) }
+        ensures err { OnErr result (own_frame T.state self.new
+            ≡ start None (own_frame T.state self.old)) }
         ensures initial { OnErr result (IsSome (initial_text initial.entry)) }
     {
         self.session.begin();
@@ -258,8 +288,11 @@ impl<'term, T: Terminal> LineEditor<'term, T> {
     ) -> Result<(), Error>
         ensures same_reference { self.new.terminal.ghost_name ≡ self.old.terminal.ghost_name }
         ensures used { IsUsed T.follows self.old.terminal.now self.new.terminal.now }
-        ensures ok { OnOk result (across T.state H.value (BeginsWith H.rules H.OVERRIDES (initial_text initial.entry)) self.old host.now self.new host.now) }
-        ensures err { IfErr result (across T.state H.value (IsNotBegun H.rules (initial_text initial.entry)) self.old host.now self.new host.now) }
+        ensures ok { OnOk result (across T.state H.value
+            (BeginsWith H.rules H.OVERRIDES (initial_text initial.entry))
+            self.old host.now self.new host.now) }
+        ensures err { IfErr result (across T.state H.value
+            (IsNotBegun H.rules (initial_text initial.entry)) self.old host.now self.new host.now) }
     {
         match self.begin(initial) {
             Ok(()) => self.paint(host),
@@ -276,8 +309,12 @@ impl<'term, T: Terminal> LineEditor<'term, T> {
     ) -> Result<Option<String>, Error>
         ensures same_reference { self.new.terminal.ghost_name ≡ self.old.terminal.ghost_name }
         ensures used { IsUsed T.follows self.old.terminal.now self.new.terminal.now }
-        ensures ok { IfOk result (λ it. across T.state H.value (IsAnsweredWith H.rules (initial_text initial.entry)) self.old host.old self.new host.new (outcome_of (Ok it))) }
-        ensures err { IfErr result (across T.state H.value (IsTurnedDown H.rules H.OVERRIDES (initial_text initial.entry)) self.old host.old self.new host.new) }
+        ensures ok { IfOk result (λ it. across T.state H.value
+            (IsAnsweredWith H.rules (initial_text initial.entry))
+            self.old host.old self.new host.new (outcome_of (Ok it))) }
+        ensures err { IfErr result (across T.state H.value
+            (IsTurnedDown H.rules H.OVERRIDES (initial_text initial.entry))
+            self.old host.old self.new host.new) }
     {
         self.start_line(host, initial)?;
         self.run_to_end(host)
@@ -287,7 +324,8 @@ impl<'term, T: Terminal> LineEditor<'term, T> {
     fn give_up(&mut self, refusal: Error) -> Error
         ensures same_reference { self.new.terminal.ghost_name ≡ self.old.terminal.ghost_name }
         ensures used { IsUsed T.follows self.old.terminal.now self.new.terminal.now }
-        ensures gives_up { GivesUp refusal (own_frame T.state self.old) (own_frame T.state self.new) result }
+        ensures gives_up { GivesUp refusal (own_frame T.state self.old)
+            (own_frame T.state self.new) result }
     {
         match self.close() {
             Ok(()) => refusal,
@@ -304,8 +342,12 @@ impl<'term, T: Terminal> LineEditor<'term, T> {
     ) -> Result<Option<String>, Error>
         ensures same_reference { self.new.terminal.ghost_name ≡ self.old.terminal.ghost_name }
         ensures used { IsUsed T.follows self.old.terminal.now self.new.terminal.now }
-        ensures ok { IfOk result (λ it. across T.state H.value (ReadsWith H.rules (initial_text initial.entry)) self.old host.old self.new host.new (outcome_of (Ok it))) }
-        ensures err { IfErr result (across T.state H.value (FailsToRead H.rules H.OVERRIDES (initial_text initial.entry)) self.old host.old self.new host.new) }
+        ensures ok { IfOk result (λ it. across T.state H.value
+            (ReadsWith H.rules (initial_text initial.entry)) self.old host.old self.new host.new
+            (outcome_of (Ok it))) }
+        ensures err { IfErr result (across T.state H.value
+            (FailsToRead H.rules H.OVERRIDES (initial_text initial.entry))
+            self.old host.old self.new host.new) }
     {
         match self.read_open(host, initial) {
             Ok(line) => {
@@ -330,13 +372,23 @@ impl<'term, T: Terminal> LineEditor<'term, T> {
     ) -> Result<Option<String>, Error>
         ensures same_reference { self.new.terminal.ghost_name ≡ self.old.terminal.ghost_name }
         ensures used { IsUsed T.follows self.old.terminal.now self.new.terminal.now }
-        ensures recursive { self.old.session.state.mode ≢ Inactive → (result ≡ Err Error.Recursive) × across T.state H.value IsSame self.old host.old self.new host.new }
+        ensures recursive { self.old.session.state.mode ≢ Inactive → (result ≡ Err Error.Recursive)
+            × across T.state H.value IsSame self.old host.old self.new host.new }
         ensures untouched { self.old.session.state.mode ≢ Inactive
             → (self.new.terminal.now ≡ self.old.terminal.now) × (host.new ≡ host.old) }
-        ensures ok { self.old.session.state.mode ≡ Inactive → IfOk result (λ it. across T.state H.value (ReadsWith H.rules (initial_text initial_value.entry)) self.old host.old self.new host.new (outcome_of (Ok it))) }
-        ensures err { self.old.session.state.mode ≡ Inactive → IfErr result (across T.state H.value (FailsToRead H.rules H.OVERRIDES (initial_text initial_value.entry)) self.old host.old self.new host.new) }
-        ensures shows { self.old.session.state.mode ≡ Inactive → across T.state H.value (ShowsWith H.rules (initial_text initial_value.entry)) self.old host.old self.new host.new result }
-        ensures failures { FailuresTell result (T.state self.old.terminal.now).failures (T.state self.new.terminal.now).failures }
+        ensures ok { self.old.session.state.mode ≡ Inactive
+            → IfOk result (λ it. across T.state H.value
+            (ReadsWith H.rules (initial_text initial_value.entry))
+            self.old host.old self.new host.new (outcome_of (Ok it))) }
+        ensures err { self.old.session.state.mode ≡ Inactive
+            → IfErr result (across T.state H.value
+            (FailsToRead H.rules H.OVERRIDES (initial_text initial_value.entry))
+            self.old host.old self.new host.new) }
+        ensures shows { self.old.session.state.mode ≡ Inactive
+            → across T.state H.value (ShowsWith H.rules (initial_text initial_value.entry))
+            self.old host.old self.new host.new result }
+        ensures failures { FailuresTell result (T.state self.old.terminal.now).failures
+            (T.state self.new.terminal.now).failures }
     {
         if !self.session.is_inactive() {
             return Err(Error::Recursive);
@@ -348,13 +400,21 @@ impl<'term, T: Terminal> LineEditor<'term, T> {
     pub fn read_line<H: LineEditorHost>(&mut self, host: &mut H) -> Result<Option<String>, Error>
         ensures same_reference { self.new.terminal.ghost_name ≡ self.old.terminal.ghost_name }
         ensures used { IsUsed T.follows self.old.terminal.now self.new.terminal.now }
-        ensures recursive { self.old.session.state.mode ≢ Inactive → (result ≡ Err Error.Recursive) × across T.state H.value IsSame self.old host.old self.new host.new }
+        ensures recursive { self.old.session.state.mode ≢ Inactive → (result ≡ Err Error.Recursive)
+            × across T.state H.value IsSame self.old host.old self.new host.new }
         ensures untouched { self.old.session.state.mode ≢ Inactive
             → (self.new.terminal.now ≡ self.old.terminal.now) × (host.new ≡ host.old) }
-        ensures ok { self.old.session.state.mode ≡ Inactive → IfOk result (λ it. across T.state H.value (ReadsWith H.rules None) self.old host.old self.new host.new (outcome_of (Ok it))) }
-        ensures err { self.old.session.state.mode ≡ Inactive → IfErr result (across T.state H.value (FailsToRead H.rules H.OVERRIDES None) self.old host.old self.new host.new) }
-        ensures shows { self.old.session.state.mode ≡ Inactive → across T.state H.value (ShowsWith H.rules None) self.old host.old self.new host.new result }
-        ensures failures { FailuresTell result (T.state self.old.terminal.now).failures (T.state self.new.terminal.now).failures }
+        ensures ok { self.old.session.state.mode ≡ Inactive
+            → IfOk result (λ it. across T.state H.value (ReadsWith H.rules None)
+            self.old host.old self.new host.new (outcome_of (Ok it))) }
+        ensures err { self.old.session.state.mode ≡ Inactive
+            → IfErr result (across T.state H.value (FailsToRead H.rules H.OVERRIDES None)
+            self.old host.old self.new host.new) }
+        ensures shows { self.old.session.state.mode ≡ Inactive
+            → across T.state H.value (ShowsWith H.rules None)
+            self.old host.old self.new host.new result }
+        ensures failures { FailuresTell result (T.state self.old.terminal.now).failures
+            (T.state self.new.terminal.now).failures }
     {
         self.read_line_with_optional_initial_value(host, None)
     }

@@ -6,12 +6,10 @@ ghost use Rattle.tw_lineedit.specs.ScreenRuns.{RunsTellScenes};
 ghost use Rattle.tw_lineedit.specs.Stations.{BatchesByStations};
 
 use crate::editor::LineStatus;
-pub use tw_history::laws::{equality, searches};
 use tw_host::LineEditorHost;
 pub use tw_host::laws::{key_table, overrides};
-pub use tw_line::laws::{counts, steps};
-pub use tw_painter::laws::faithful;
-pub use tw_session::laws::{cycle, enumeration, walk};
+pub use tw_line::laws::{counts, equality, searches, steps};
+pub use tw_session::laws::{cycle, enumeration, faithful, walk};
 
 /// The batches that a run takes are a function of its stations alone: the states, the host's values and the
 /// sizes at which it paints, and whether the screen was cleared just before.

@@ -2,7 +2,7 @@
 
 ghost use Rattle.std.specs.Prelude.{◌≡◌, ◌≢◌, Err, IfErr, IfOk, None, option_map, string_bytes};
 ghost use Rattle.tw_terminal.specs.Uses.{IsUsed};
-ghost use Rattle.tw_painter.specs.EditState.{Inactive};
+ghost use Rattle.tw_session.specs.EditState.{Inactive};
 ghost use Rattle.tw_lineedit.specs.Frame.{across, frame, IsSame};
 ghost use Rattle.tw_lineedit.specs.Lines.{ShowsWith};
 ghost use Rattle.tw_lineedit.specs.Reading.{FailuresTell};
@@ -10,7 +10,7 @@ ghost use Rattle.tw_lineedit.specs.Remembering.{FailsToReadAndRemember, ReadsAnd
 
 use crate::editor::LineEditor;
 use tw_host::LineEditorHost;
-use tw_painter::Error;
+use tw_session::Error;
 use tw_terminal::Terminal;
 
 impl<'term, T: Terminal> LineEditor<'term, T> {
@@ -25,17 +25,22 @@ impl<'term, T: Terminal> LineEditor<'term, T> {
     ) -> Result<Option<String>, Error>
         ensures same_reference { self.new.terminal.ghost_name ≡ self.old.terminal.ghost_name }
         ensures used { IsUsed T.follows self.old.terminal.now self.new.terminal.now }
-        ensures recursive { self.old.session.state.mode ≢ Inactive → (result ≡ Err Error.Recursive) × across T.state H.value IsSame self.old host.old self.new host.new }
+        ensures recursive { self.old.session.state.mode ≢ Inactive → (result ≡ Err Error.Recursive)
+            × across T.state H.value IsSame self.old host.old self.new host.new }
         ensures untouched { self.old.session.state.mode ≢ Inactive
             → (self.new.terminal.now ≡ self.old.terminal.now) × (host.new ≡ host.old) }
         ensures ok { self.old.session.state.mode ≡ Inactive → IfOk result (λ line.
             ReadsAndRemembers H.rules H.value H.history_of H.with_history H.Hist.add_gives
-            (frame T.state H.value self.old host.old) (frame T.state H.value self.new) host.new (option_map string_bytes line)) }
+            (frame T.state H.value self.old host.old) (frame T.state H.value self.new) host.new
+            (option_map string_bytes line)) }
         ensures err { self.old.session.state.mode ≡ Inactive → IfErr result (
             FailsToReadAndRemember H.rules H.OVERRIDES H.value H.history_of H.with_history H.Hist.add_gives
             (frame T.state H.value self.old host.old) (frame T.state H.value self.new) host.new) }
-        ensures shows { self.old.session.state.mode ≡ Inactive → across T.state H.value (ShowsWith H.rules None) self.old host.old self.new host.new result }
-        ensures failures { FailuresTell result (T.state self.old.terminal.now).failures (T.state self.new.terminal.now).failures }
+        ensures shows { self.old.session.state.mode ≡ Inactive
+            → across T.state H.value (ShowsWith H.rules None)
+            self.old host.old self.new host.new result }
+        ensures failures { FailuresTell result (T.state self.old.terminal.now).failures
+            (T.state self.new.terminal.now).failures }
     {
         let line = self.read_line(host)?;
         if let Some(line) = &line {

@@ -7,9 +7,9 @@ ghost use Rattle.tw_terminal.specs.TerminalState.{size_after};
 use crate::line_ends::with_line_ends;
 use std::alloc::{AllocError, Global};
 use tw_device::{Answer, DeviceTerminal, EventSource};
-use tw_history::{History, LentLines};
 use tw_input::{InputEvent, KeyCode, KeyEvent};
 use tw_key_parts::KeyPart;
+use tw_line::{History, LentLines};
 use tw_lineedit::{CompletionCandidate, Error, LineEditBuffer, LineEditor, LineStatus};
 use tw_prompt_host::{PreparedHost, PreparedLines, PromptHost, StyledRange};
 use tw_terminal::{ScreenSize, TerminalFault};
@@ -53,7 +53,8 @@ pub trait Application {
 /// Sets the terminal's size if an event tells a new one.
 fn resize<T: DeviceTerminal>(terminal: &mut T, event: &InputEvent)
     ensures { let before = T.state terminal.old in
-        T.state terminal.new ≡ record before { size = size_after (event_view event.now) before.size } }
+        let size = size_after (event_view event.now) before.size in
+        T.state terminal.new ≡ record before { size = size } }
 {
     if let InputEvent::Resized { cols, rows } = event {
         terminal.set_screen_size(ScreenSize {

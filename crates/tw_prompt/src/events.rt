@@ -131,7 +131,8 @@ impl<S: EventSource> PromptEvents<S> {
     fn next_character(&mut self) -> Option<char>
         ensures moves { Moves S.told S.follows self.old.source (pending_events self.old.pending)
             self.new.source (pending_events self.new.pending) (keys_of result) }
-        ensures printable { IfSome result (λ c. (is_printable c ≡ true) × (pending_events self.new.pending ≡ [])) }
+        ensures printable { IfSome result (λ c. (is_printable c ≡ true)
+            × (pending_events self.new.pending ≡ [])) }
         ensures joins { self.new.joins ≡ self.old.joins }
         ensures wakes { self.new.wakes ≡ self.old.wakes }
         ensures told { self.new.told ≡ self.old.told }
@@ -183,7 +184,8 @@ impl<S: EventSource> PromptEvents<S> {
     /// Returns a character, with those that are at hand behind it as one pasted text.
     fn joined(&mut self, first: char) -> InputEvent
         requires { is_printable first ≡ true }
-        ensures moves { (more : List ℕ) × (list_all is_printable more ≡ true) × (event_view result ≡ run_event first more)
+        ensures moves { (more : List ℕ) × (list_all is_printable more ≡ true)
+            × (event_view result ≡ run_event first more)
             × Moves S.told S.follows self.old.source (pending_events self.old.pending)
             self.new.source (pending_events self.new.pending) (map typed_key more) }
         ensures joins { self.new.joins ≡ self.old.joins }
@@ -205,7 +207,8 @@ impl<S: EventSource> PromptEvents<S> {
     /// Returns the next event that is one for the prompt.
     fn find(&mut self) -> Result<Option<InputEvent>, TerminalFault>
         ensures pieces { (pieces : List Piece) × (answer_events result ≡ told_in_all pieces)
-            × Pieced S.told S.follows self.old.joins self.old.source (pending_events self.old.pending)
+            × Pieced S.told S.follows self.old.joins self.old.source
+            (pending_events self.old.pending)
             self.new.source (pending_events self.new.pending) pieces }
         ensures joins { self.new.joins ≡ self.old.joins }
         ensures wakes { self.new.wakes ≡ self.old.wakes }
@@ -237,7 +240,8 @@ impl<S: EventSource> EventSource for PromptEvents<S> {
 
     ghost follows = { λ old new events. (pieces : List Piece)
         × (wake_if old.wakes ++ woken_all (told_in_all pieces) ≡ events ++ wake_if new.wakes)
-        × Pieced S.told S.follows old.joins old.source (pending_events old.pending) new.source (pending_events new.pending) pieces
+        × Pieced S.told S.follows old.joins old.source (pending_events old.pending) new.source
+        (pending_events new.pending) pieces
         × (new.joins ≡ old.joins) };
 
     fn next_event(&mut self) -> Result<Option<InputEvent>, TerminalFault> {

@@ -2,9 +2,9 @@
 use Rattle.std.proofs.Common.{◌≡◌, ◌∙◌, ℕ, ◌+◌, ◌-◌, List, [], ◌∷◌, length, true, Option, Some, None, option_map, refl, ap, arith}
 use Rattle.std.specs.Option.{is_none}
 use Rattle.std.proofs.lemmas.Bool.{lt-ltb}
-use Rattle.tw_extremes.specs.Extremes.{greatest_below}
-use Rattle.tw_history.specs.declared.history.SearchDirection.TheVariants.{Backwards}
-use Rattle.tw_history.specs.NearestMatch.{last_index, match_at, matches, nearest_match}
+use Rattle.tw_line.specs.Extremes.{greatest_below}
+use Rattle.tw_line.specs.declared.history.SearchDirection.TheVariants.{Backwards}
+use Rattle.tw_line.specs.NearestMatch.{last_index, match_at, matches, nearest_match}
 use Rattle.tw_prompt_host.specs.FailingSearch.{is_failing}
 
 -- where there are no lines it fails

@@ -11,8 +11,8 @@ use Rattle.std.proofs.lemmas.List.{drop-drop, length-drop}
 use Rattle.std.proofs.lemmas.Slice.Eq.{starts_is}
 use Rattle.std.proofs.lemmas.Str.{IsCharBoundary-end, IsCharBoundary-from_drop}
 use Rattle.std.proofs.lemmas.Str.Pattern.{starts_text}
-use Rattle.tw_extremes.specs.Extremes.{greatest_below}
-use Rattle.tw_history.specs.NearestMatch.{line_at}
+use Rattle.tw_line.specs.Extremes.{greatest_below}
+use Rattle.tw_line.specs.NearestMatch.{line_at}
 use Rattle.tw_prompt_host.specs.Hint.{is_longer, newest_rest, rest_behind, continuation_of}
 use Rattle.tw_key_parts.proofs.UndoLemmas.{one_more}
 

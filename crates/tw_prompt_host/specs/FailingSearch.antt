@@ -1,8 +1,8 @@
 -- A search that finds nothing.
 use Rattle.std.specs.Prelude.{ℕ, ◌&&◌, Bool, List, length, codes, Option, Some}
 use Rattle.std.specs.Option.{is_none}
-use Rattle.tw_extremes.specs.Extremes.{greatest_below, iterate}
-use Rattle.tw_history.specs.NearestMatch.{matches}
+use Rattle.tw_line.specs.Extremes.{greatest_below, iterate}
+use Rattle.tw_line.specs.NearestMatch.{matches}
 use Rattle.tw_line.specs.Cut.{Cut}
 use Rattle.tw_line.specs.Edits.{after_kill, with_char, with_text}
 use Rattle.tw_host.specs.ActionView.{ActionView, InsertChar, InsertText, Kill, KillAndMove}

@@ -2,8 +2,8 @@
 use Rattle.std.specs.Prelude.{ℕ, ◌-◌, ◌==◌, ◌&&◌, ◌||◌, nat_lt, Bool, true, false, not, List, [], ◌∷◌, length, take, drop, eqb, Option, Some, None, option_map, if◌then◌else◌}
 use Rattle.std.specs.List.{starts_with}
 use Rattle.std.specs.Str.{trim_start}
-use Rattle.tw_extremes.specs.Extremes.{greatest_below}
-use Rattle.tw_history.specs.NearestMatch.{line_at}
+use Rattle.tw_line.specs.Extremes.{greatest_below}
+use Rattle.tw_line.specs.NearestMatch.{line_at}
 use Rattle.tw_line.specs.Cut.{Cut}
 use Rattle.tw_line.specs.declared.movements.Movement.TheVariants.{ForwardChar, ForwardWord, EndOfLine}
 use Rattle.tw_host.specs.ActionView.{ActionView, Move}

@@ -1,8 +1,18 @@
 -- The marks of a language.
-use Rattle.std.specs.Prelude.{ℕ, ◌==◌, Bool, true, false, List, [], ◌∷◌, Option, Some, None, if◌then◌else◌}
+use Rattle.std.specs.Prelude.{ℕ, ◌==◌, ◌&&◌, leb, Bool, true, false, List, [], ◌∷◌, Option, Some, None, if◌then◌else◌}
 use Rattle.tw_prompt_host.specs.declared.marks.MarkKind.{MarkKind}
 use Rattle.tw_prompt_host.specs.declared.marks.MarkKind.TheVariants.{Brackets, Quotation, Escape}
 use Rattle.tw_prompt_host.specs.declared.marks.MarkPair.{MarkPair}
+
+-- whether a character is a small letter of ASCII or a space
+abbrev pub is_letter : ℕ → Bool
+is_letter c = if c == 32 then true else leb 97 c && leb c 122
+
+-- whether no letter is a mark of the pairs
+abbrev pub mark_no_letter : List MarkPair → Bool
+mark_no_letter [] = true
+mark_no_letter (pair ∷ pairs) =
+    if is_letter pair.opening then false else if is_letter pair.closing then false else mark_no_letter pairs
 
 -- the first pair that a character opens
 abbrev pub opened_pair : List MarkPair → ℕ → Option MarkPair

@@ -112,9 +112,10 @@ pub fn judged(
     requires { lent_action default ≡ action_of (event_view event.now) }
     ensures back { let answer = or_default (option_map action_view action) (event_view event.now) in
         result.0 ≡ ((keeps && is_accepting answer) && not opens) }
-    ensures action { let answer = or_default (option_map action_view action) (event_view event.now) in
+    ensures action { let own = option_map action_view action in
+        let answer = or_default own (event_view event.now) in
         option_map action_view result.1
-        ≡ said (keeps && is_accepting answer) opens (option_map action_view action) }
+        ≡ said (keeps && is_accepting answer) opens own }
 {
     let accepts = is_accepting(done(event, action.as_ref(), default));
     match (keeps && accepts, opens) {

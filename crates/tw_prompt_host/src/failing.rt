@@ -5,10 +5,9 @@ ghost use Rattle.tw_key_parts.specs.EditView.{lent_action};
 ghost use Rattle.tw_prompt_host.specs.FailingSearch.{fails_after, is_failing, pattern_after};
 
 use std::alloc::{AllocError, Global};
-use tw_history::{History, SearchDirection, SearchStyle};
 use tw_host::Action;
 use tw_key_parts::{is_filled, searches_after};
-use tw_line::LineEditBuffer;
+use tw_line::{History, LineEditBuffer, SearchDirection, SearchStyle};
 
 /// What is said after the line of a search that fails.
 pub const FAILING: &str = "  failing: no line has it";

@@ -4,10 +4,9 @@ ghost use Rattle.std.specs.Prelude.{◌≡◌, option_map};
 ghost use Rattle.tw_key_parts.specs.EditView.{lent_action};
 ghost use Rattle.tw_prompt_host.specs.Hint.{are_on, continuation_of, dim_hints, hint_of, is_taking, newest_rest, part_taken, rest_behind, word_of};
 
-use tw_history::LentLines;
 use tw_host::Action;
 use tw_hosts::split_first_word;
-use tw_line::{LineEditBuffer, Movement};
+use tw_line::{LentLines, LineEditBuffer, Movement};
 use tw_surface::{CellAttributes, Intensity};
 
 /// How the rest of the newest line that begins with the line is shown. Right or End at the end of the line takes it,

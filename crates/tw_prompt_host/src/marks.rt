@@ -1,7 +1,7 @@
 //! The marks of a language.
 
 ghost use Rattle.std.specs.Prelude.{◌≡◌, IfOk};
-ghost use Rattle.tw_prompt_host.specs.Marks.{brackets, closes, common_pairs, escape_pair, escapes, is_closing, opened_pair, quotation};
+ghost use Rattle.tw_prompt_host.specs.Marks.{brackets, closes, common_pairs, escape_pair, escapes, is_closing, is_letter, mark_no_letter, opened_pair, quotation};
 
 use std::alloc::{AllocError, Global};
 
@@ -107,6 +107,25 @@ pub fn escapes(escape: Option<char>, c: char) -> bool
         Some(escape) => escape == c,
         None => false,
     }
+}
+
+/// Returns true if a character is a small letter of ASCII or a space.
+pub fn is_letter(c: char) -> bool
+    ensures { result ≡ is_letter c }
+{
+    c == ' ' || ('a' <= c && c <= 'z')
+}
+
+/// Returns true if no letter is a mark of the pairs. It need not be looked for among them then.
+pub fn mark_no_letter(pairs: &[MarkPair]) -> bool
+    ensures { result ≡ mark_no_letter pairs.now }
+{
+    for pair in pairs {
+        if is_letter(pair.opening) || is_letter(pair.closing) {
+            return false;
+        }
+    }
+    true
 }
 
 /// Returns the first pair that a character opens.

@@ -1,9 +1,13 @@
 //! The marks that a text leaves open.
 
 ghost use Rattle.std.specs.Prelude.{◌≡◌, ◌+◌, ◌^◌, ◌<◌, IfOk, length, encode_utf8};
+ghost use Rattle.tw_prompt_host.specs.Marks.{mark_no_letter};
 ghost use Rattle.tw_prompt_host.specs.Nesting.{after_character, after_text, closed_mark, innermost, nesting_of, nesting_view, opens_behind, where_right};
 
-use crate::marks::{MarkKind, MarkPair, OpenMark, escape_pair, escapes, is_closing, opened_pair};
+use crate::marks::{
+    MarkKind, MarkPair, OpenMark, escape_pair, escapes, is_closing, is_letter, mark_no_letter,
+    opened_pair,
+};
 use std::alloc::{AllocError, Global};
 
 /// The marks that a text leaves open, or its first wrong one.
@@ -24,15 +28,21 @@ fn innermost(opens: &[OpenMark]) -> Option<OpenMark>
 }
 
 /// Takes in a character outside of quotations that does not close the innermost open mark. Returns false if it is wrong.
+/// `letters` is true if no letter is a mark.
 fn take_opening(
     pairs: &[MarkPair],
+    letters: bool,
     opens: &mut Vec<OpenMark>,
     at: usize,
     c: char,
 ) -> Result<bool, AllocError>
+    requires { letters ≡ mark_no_letter pairs.now }
     ensures { IfOk result (λ right. opens_behind pairs.now opens.old.items at c
         ≡ where_right right opens.new.items) }
 {
+    if letters && is_letter(c) {
+        return Ok(true);
+    }
     match opened_pair(pairs, c) {
         Some(pair) => {
             opens.push(OpenMark { pair, at })?;
@@ -45,16 +55,18 @@ fn take_opening(
 /// Takes in a character that does not close the innermost open mark. Returns false if it is wrong.
 fn take_text(
     pairs: &[MarkPair],
+    letters: bool,
     opens: &mut Vec<OpenMark>,
     kind: MarkKind,
     at: usize,
     c: char,
 ) -> Result<bool, AllocError>
+    requires { letters ≡ mark_no_letter pairs.now }
     ensures { IfOk result (λ right. after_text pairs.now kind opens.old.items at c
         ≡ where_right right opens.new.items) }
 {
     match kind {
-        MarkKind::Brackets => take_opening(pairs, opens, at, c),
+        MarkKind::Brackets => take_opening(pairs, letters, opens, at, c),
         MarkKind::Quotation { escape } => {
             if escapes(escape, c) {
                 opens.push(OpenMark {
@@ -71,21 +83,23 @@ fn take_text(
 /// Takes in one more character. Returns false if it is wrong.
 fn take_in(
     pairs: &[MarkPair],
+    letters: bool,
     opens: &mut Vec<OpenMark>,
     at: usize,
     c: char,
 ) -> Result<bool, AllocError>
+    requires { letters ≡ mark_no_letter pairs.now }
     ensures { IfOk result (λ right. after_character pairs.now opens.old.items at c
         ≡ where_right right opens.new.items) }
 {
     let Some(last) = innermost(opens.as_slice()) else {
-        return take_opening(pairs, opens, at, c);
+        return take_opening(pairs, letters, opens, at, c);
     };
     if last.pair.closes(c) {
         opens.pop();
         return Ok(true);
     }
-    take_text(pairs, opens, last.pair.kind, at, c)
+    take_text(pairs, letters, opens, last.pair.kind, at, c)
 }
 
 /// Returns the marks that a text leaves open, or its first wrong mark. If two pairs have one opening mark the first of
@@ -93,10 +107,11 @@ fn take_in(
 pub fn nesting_in(alloc: Global, pairs: &[MarkPair], text: &str) -> Result<Nesting, AllocError>
     ensures { IfOk result (λ nesting. nesting_view nesting ≡ nesting_of pairs.now text.now) }
 {
+    let letters = mark_no_letter(pairs);
     let mut opens = Vec::new(alloc);
     let mut at = 0;
     for c in text.chars() {
-        if !take_in(pairs, &mut opens, at, c)? {
+        if !take_in(pairs, letters, &mut opens, at, c)? {
             return Ok(Nesting::Wrong(c, at));
         }
         at += c.len_utf8();

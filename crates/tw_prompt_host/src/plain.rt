@@ -14,10 +14,10 @@ use crate::prompt::PromptHost;
 use crate::rows::Rows;
 use crate::validator::AllLines;
 use std::alloc::{AllocError, Global};
-use tw_history::BasicHistory;
 use tw_host::NopLineEditorHost;
 use tw_hosts::PromptScreen;
 use tw_key_parts::{Keys, ReadlineKeys};
+use tw_line::BasicHistory;
 
 /// The rows of the menu, if an application completes.
 const MENU_ROWS: usize = 4;

@@ -12,13 +12,12 @@ ghost use Rattle.tw_prompt_host.specs.Prepared.{behind_range, bytes_before, show
 
 use crate::menu::copied;
 use std::alloc::{AllocError, Global};
-use tw_history::BasicHistory;
 use tw_host::{
     Action, CompletionCandidate, LineEditorHost, OutputElement, Overrides, plain_element,
 };
 use tw_hosts::styled;
 use tw_input::InputEvent;
-use tw_line::LineEditBuffer;
+use tw_line::{BasicHistory, LineEditBuffer};
 use tw_surface::{CellAttributes, unicode_column_width};
 
 /// A part of a line in attributes of its own.

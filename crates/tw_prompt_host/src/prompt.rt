@@ -33,7 +33,6 @@ use crate::rows::Rows;
 use crate::validator::Validator;
 use std::alloc::{AllocError, Global};
 use tw_completion_parts::{ContextCompleter, Listing, beginning_first, completed_by};
-use tw_history::{History, LentLines};
 use tw_host::{
     Action, CompletionCandidate, LineEditorHost, OutputElement, Overrides, default_action,
     plain_element,
@@ -41,7 +40,7 @@ use tw_host::{
 use tw_hosts::PromptScreen;
 use tw_input::InputEvent;
 use tw_key_parts::{Edit, KeyPart, is_filled};
-use tw_line::{LineEditBuffer, Movement};
+use tw_line::{History, LentLines, LineEditBuffer, Movement};
 
 /// A prompt with the comforts of readline. Each event goes to the application's host first, then a hint may be taken,
 /// then the parts with keys are asked, and at last the key table. Accepting a line that is not whole does nothing, and

@@ -14,9 +14,9 @@ use crate::hint::{Hints, history_hint};
 use crate::prompt::PromptHost;
 use crate::validator::Validator;
 use std::alloc::{AllocError, Global};
-use tw_history::{History, LentLines};
 use tw_host::{LineEditorHost, OutputElement};
 use tw_key_parts::KeyPart;
+use tw_line::{History, LentLines};
 use tw_surface::CellAttributes;
 
 impl<H: LineEditorHost, L: History + LentLines, K: KeyPart, V: Validator> PromptHost<H, L, K, V> {

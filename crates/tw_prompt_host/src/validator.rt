@@ -51,7 +51,8 @@ impl PreparedLines {
 impl Validator for PreparedLines {
     ghost use Rattle.tw_prompt_host.specs.Validation.{prepared_lack};
 
-    ghost lacks = { λ it line. prepared_lack (string_bytes it.line) (option_map string_bytes it.lack) line };
+    ghost lacks = { λ it line. prepared_lack (string_bytes it.line)
+        (option_map string_bytes it.lack) line };
 
     fn lack(&self, alloc: Global, line: &str) -> Result<Option<String>, AllocError> {
         match &self.lack {

@@ -6,8 +6,8 @@ use Rattle.std.proofs.lemmas.Option.{slice_get-map, slice_get_read}
 use Rattle.tw_line.specs.Cut.{Cut}
 use Rattle.tw_host.specs.CandidateView.{candidate_view, completed_by}
 use Rattle.tw_session.specs.Completion.{next_in, Advances, FailsToAdvance, IsMisfit}
-use Rattle.tw_painter.specs.EditState.{CycleView}
-use Rattle.tw_painter.specs.declared.error.Error.{Error}
+use Rattle.tw_session.specs.EditState.{CycleView}
+use Rattle.tw_session.specs.declared.error.Error.{Error}
 use Rattle.tw_host.specs.declared.host.CompletionCandidate.{CompletionCandidate}
 
 module _ (items : List CompletionCandidate) (index at : ℕ) (original : Cut) (c : CompletionCandidate) (low : index < length items) (on : at ≡ (index + 1) % length items) (there : c ≡ get_or items at c) where

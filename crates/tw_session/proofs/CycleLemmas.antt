@@ -9,7 +9,7 @@ use Rattle.tw_line.specs.Cut.{Cut, cut_at}
 use Rattle.tw_host.specs.CandidateView.{CandidateView, fits, line_with, landing, completed_by}
 use Rattle.tw_host.specs.ActionView.{Complete}
 use Rattle.tw_host.specs.HostRules.{HostRules}
-use Rattle.tw_painter.specs.EditState.{EditState, ModeView, Inactive, Editing, Cancelled, Accepted, Searching}
+use Rattle.tw_session.specs.EditState.{EditState, ModeView, Inactive, Editing, Cancelled, Accepted, Searching}
 use Rattle.tw_session.specs.Search.{IsSearching, search_left_in}
 use Rattle.tw_session.specs.Completion.{completion_step}
 use Rattle.tw_session.specs.Steps.{apply}

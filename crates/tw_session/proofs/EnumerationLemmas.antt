@@ -3,19 +3,19 @@ use Rattle.std.proofs.Common.{◌≡◌, ℕ, zero, suc, ◌+◌, ◌-◌, ◌<�
 use Rattle.std.proofs.lemmas.Bool.{cases_Bool, lt-ltb, ne_eqb}
 use Rattle.std.proofs.lemmas.List.{take_more, take_all, reverse-append}
 use Rattle.tw_line.specs.Cut.{Cut, cut_at}
-use Rattle.tw_extremes.specs.Extremes.{greatest_below, iterate}
-use Rattle.tw_history.specs.Patterns.{contains}
-use Rattle.tw_history.specs.NearestMatch.{MatchView, line_at, last_index, matches, match_at, nearest_match}
+use Rattle.tw_line.specs.Extremes.{greatest_below, iterate}
+use Rattle.tw_line.specs.Patterns.{contains}
+use Rattle.tw_line.specs.NearestMatch.{MatchView, line_at, last_index, matches, match_at, nearest_match}
 use Rattle.tw_host.specs.ActionView.{InsertChar, InsertText, HistoryIncSearchBackwards}
 use Rattle.tw_host.specs.HostRules.{HostRules}
-use Rattle.tw_painter.specs.Refusal.{Refusal}
-use Rattle.tw_painter.specs.EditState.{EditState, Searching}
+use Rattle.tw_session.specs.Refusal.{Refusal}
+use Rattle.tw_session.specs.EditState.{EditState, Searching}
 use Rattle.tw_line.specs.Edits.{with_char, with_text}
 use Rattle.tw_session.specs.Search.{nearest_match_from, shown_match, searched_again, search_step}
 use Rattle.tw_session.specs.Steps.{apply, edit_step, without_cycle}
 use Rattle.tw_session.specs.HistoryLaws.{newest_matches, match_in, apply_all, Enumerates}
-use Rattle.tw_history.specs.declared.history.SearchStyle.{SearchStyle}
-use Rattle.tw_history.specs.declared.history.SearchDirection.TheVariants.{Backwards}
+use Rattle.tw_line.specs.declared.history.SearchStyle.{SearchStyle}
+use Rattle.tw_line.specs.declared.history.SearchDirection.TheVariants.{Backwards}
 use Rattle.tw_session.proofs.WalkLemmas.{IsOkAnd-step}
 
 -- the greatest number below a bound is below it

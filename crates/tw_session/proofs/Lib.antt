@@ -1,3 +1,8 @@
+pub mod DrawLemmas
+pub mod DrawingLimits
+pub mod PaintingSteps
+pub mod PaintedSizes
+pub mod FaithfulLemmas
 pub mod ModeLemmas
 pub mod WalkLemmas
 pub mod EnumerationLemmas

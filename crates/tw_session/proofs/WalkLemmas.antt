@@ -2,16 +2,16 @@
 use Rattle.std.proofs.Common.{◌≡◌, ℕ, zero, suc, ◌+◌, ◌-◌, ◌<◌, ◌≤◌, List, [], ◌∷◌, ◌++◌, length, replicate, Some, None, Ok, IsOkAnd, refl, sym, ap, ◌∙◌, arith}
 use Rattle.std.proofs.lemmas.Option.{slice_get-get_or, slice_get_past}
 use Rattle.tw_line.specs.Cut.{Cut, at_end}
-use Rattle.tw_history.specs.NearestMatch.{line_at, last_index, last_line}
+use Rattle.tw_line.specs.NearestMatch.{line_at, last_index, last_line}
 use Rattle.tw_host.specs.ActionView.{ActionView, HistoryPrevious, HistoryNext}
 use Rattle.tw_host.specs.HostRules.{HostRules}
-use Rattle.tw_painter.specs.EditState.{EditState, ModeView, Inactive, Editing, Cancelled, Accepted, Searching}
+use Rattle.tw_session.specs.EditState.{EditState, ModeView, Inactive, Editing, Cancelled, Accepted, Searching}
 use Rattle.tw_session.specs.Walk.{previous_step, next_step}
 use Rattle.tw_session.specs.Search.{IsSearching}
 use Rattle.tw_session.specs.Steps.{apply, history_step, without_cycle}
 use Rattle.tw_session.specs.HistoryLaws.{apply_all, LeavesHistory, WalksBack}
-use Rattle.tw_history.specs.declared.history.SearchDirection.{SearchDirection}
-use Rattle.tw_history.specs.declared.history.SearchDirection.TheVariants.{Backwards, Forwards}
+use Rattle.tw_line.specs.declared.history.SearchDirection.{SearchDirection}
+use Rattle.tw_line.specs.declared.history.SearchDirection.TheVariants.{Backwards, Forwards}
 
 -- a step through the history in a mode without a search
 history_step-plain : (lines : List (List ℕ)) (direction : SearchDirection) (step : EditState → EditState) (s : EditState) (mode : ModeView) → ¬ (IsSearching mode) → history_step lines direction step s mode ≡ step s

@@ -2,10 +2,10 @@
 use Rattle.std.specs.Prelude.{◌≡◌, true, ℕ, ◌+◌, ◌%◌, nat_lt, List, length, Option, Some, None, Result, Ok, Err, if◌then◌else◌, slice_get}
 use Rattle.tw_line.specs.Cut.{Cut}
 use Rattle.tw_host.specs.CandidateView.{CandidateView, fits, completed_by}
-use Rattle.tw_painter.specs.EditState.{EditState, CycleView}
-use Rattle.tw_painter.specs.Refusal.{Refusal, CandidateDoesNotFit}
-use Rattle.tw_painter.specs.declared.error.Error.{Error}
-use Rattle.tw_painter.specs.declared.error.Error.TheVariants as error
+use Rattle.tw_session.specs.EditState.{EditState, CycleView}
+use Rattle.tw_session.specs.Refusal.{Refusal, CandidateDoesNotFit}
+use Rattle.tw_session.specs.declared.error.Error.{Error}
+use Rattle.tw_session.specs.declared.error.Error.TheVariants as error
 
 -- a cut text comes in, with a cycle; where there is none the candidate did not fit
 abbrev pub with_completion : EditState → Option CycleView → Option Cut → Result EditState Refusal

@@ -4,7 +4,7 @@ use Rattle.std.specs.List.{list_all}
 use Rattle.tw_host.specs.CandidateView.{CandidateView, fits, completed_by}
 use Rattle.tw_host.specs.ActionView.{Complete}
 use Rattle.tw_host.specs.HostRules.{HostRules}
-use Rattle.tw_painter.specs.EditState.{EditState}
+use Rattle.tw_session.specs.EditState.{EditState}
 use Rattle.tw_session.specs.Search.{IsSearching}
 use Rattle.tw_session.specs.HistoryLaws.{apply_all}
 

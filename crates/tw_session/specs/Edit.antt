@@ -1,7 +1,7 @@
 -- The edits of a session.
 use Rattle.std.specs.Prelude.{◌≢◌, []}
 use Rattle.tw_line.specs.Cut.{Cut}
-use Rattle.tw_extremes.specs.Extremes.{iterate}
+use Rattle.tw_line.specs.Extremes.{iterate}
 use Rattle.tw_line.specs.Edits.{with_char, with_text, after_kill}
 use Rattle.tw_session.specs.declared.session.edit.Edit.{Edit}
 use Rattle.tw_session.specs.declared.session.edit.Edit.TheVariants.{InsertChar, InsertText, Kill}

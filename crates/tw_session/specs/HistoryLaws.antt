@@ -1,16 +1,16 @@
 -- Laws of walks and of searches in turn, over the definitions alone.
 use Rattle.std.specs.Prelude.{⊤, ◌≡◌, ℕ, ◌-◌, ◌≤◌, ◌++◌, min, List, [], ◌∷◌, length, replicate, reverse, filter, slice_get, Option, Some, None, Result, Ok, Err, IsOkAnd}
 use Rattle.tw_line.specs.Cut.{Cut, at_end}
-use Rattle.tw_history.specs.Patterns.{contains}
-use Rattle.tw_history.specs.NearestMatch.{last_line}
+use Rattle.tw_line.specs.Patterns.{contains}
+use Rattle.tw_line.specs.NearestMatch.{last_line}
 use Rattle.tw_host.specs.ActionView.{ActionView, InsertChar, InsertText, HistoryPrevious, HistoryNext, HistoryIncSearchBackwards}
 use Rattle.tw_host.specs.HostRules.{HostRules}
-use Rattle.tw_painter.specs.Refusal.{Refusal}
-use Rattle.tw_painter.specs.EditState.{EditState, ModeView, Searching}
+use Rattle.tw_session.specs.Refusal.{Refusal}
+use Rattle.tw_session.specs.EditState.{EditState, ModeView, Searching}
 use Rattle.tw_session.specs.Search.{IsSearching}
 use Rattle.tw_session.specs.Steps.{apply}
-use Rattle.tw_history.specs.declared.history.SearchStyle.{SearchStyle}
-use Rattle.tw_history.specs.declared.history.SearchDirection.TheVariants.{Backwards}
+use Rattle.tw_line.specs.declared.history.SearchStyle.{SearchStyle}
+use Rattle.tw_line.specs.declared.history.SearchDirection.TheVariants.{Backwards}
 
 -- the rest of a list of actions, where the first one leads to a state
 abbrev pub and_then : (EditState → Result EditState Refusal) → Result EditState Refusal → Result EditState Refusal

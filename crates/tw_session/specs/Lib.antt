@@ -1,3 +1,8 @@
+pub mod Refusal
+pub mod EditState
+pub mod Painting
+pub mod FaithfulLaws
+pub mod DrawSteps
 pub mod Walk
 pub mod Search
 pub mod Completion

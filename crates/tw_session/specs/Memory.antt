@@ -1,14 +1,14 @@
 -- What each action takes of memory.
 use Rattle.std.specs.Prelude.{◌≡◌, ◌≢◌, ℕ, ◌+◌, ◌-◌, ◌<◌, ◌⊎◌, true, List, [], length, slice_get, Option, Some, None}
 use Rattle.tw_line.specs.Cut.{Cut}
-use Rattle.tw_history.specs.NearestMatch.{last_index}
-use Rattle.tw_history.specs.declared.history.SearchDirection.{SearchDirection}
-use Rattle.tw_history.specs.declared.history.SearchDirection.TheVariants.{Backwards, Forwards}
+use Rattle.tw_line.specs.NearestMatch.{last_index}
+use Rattle.tw_line.specs.declared.history.SearchDirection.{SearchDirection}
+use Rattle.tw_line.specs.declared.history.SearchDirection.TheVariants.{Backwards, Forwards}
 use Rattle.tw_host.specs.ActionView.{ActionView, InsertChar, InsertText, Kill, KillAndMove, HistoryPrevious, HistoryNext, Complete, HistoryIncSearchBackwards, HistoryIncSearchForwards}
 use Rattle.tw_host.specs.CandidateView.{CandidateView, fits}
 use Rattle.tw_host.specs.HostRules.{HostRules}
 use Rattle.tw_host.specs.declared.host.Overrides.{Overrides}
-use Rattle.tw_painter.specs.EditState.{EditState, ModeView, CycleView, Searching}
+use Rattle.tw_session.specs.EditState.{EditState, ModeView, CycleView, Searching}
 use Rattle.tw_session.specs.Completion.{next_in}
 use Rattle.tw_session.specs.Search.{search_start}
 

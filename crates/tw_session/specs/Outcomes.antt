@@ -1,10 +1,10 @@
 -- How a run ends.
 use Rattle.std.specs.Prelude.{ℕ, Bool, true, false, List, Option, Some, None, Result, Ok, Err, String, string_bytes, option_map}
 use Rattle.std.specs.declared.alloc.Global.{Global}
-use Rattle.tw_painter.specs.Refusal.{Refusal, refusal_of}
-use Rattle.tw_painter.specs.EditState.{EditState, ModeView, Editing, Cancelled, Accepted, Searching}
+use Rattle.tw_session.specs.Refusal.{Refusal, refusal_of}
+use Rattle.tw_session.specs.EditState.{EditState, ModeView, Editing, Cancelled, Accepted, Searching}
 use Rattle.tw_line.specs.Cut.{Cut}
-use Rattle.tw_painter.specs.declared.error.Error.{Error}
+use Rattle.tw_session.specs.declared.error.Error.{Error}
 
 -- a line, none where the run was cancelled, or a refusal
 abbrev pub Outcome : Type 0

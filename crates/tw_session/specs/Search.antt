@@ -1,11 +1,11 @@
 -- The steps of an incremental search.
 use Rattle.std.specs.Prelude.{⊤, ℕ, List, Option, Some, None}
 use Rattle.tw_line.specs.Cut.{Cut, cut_at, empty_cut}
-use Rattle.tw_history.specs.NearestMatch.{MatchView, nearest_match, last_index, next_index}
-use Rattle.tw_painter.specs.EditState.{EditState, ModeView, Editing, Searching}
-use Rattle.tw_history.specs.declared.history.SearchStyle.{SearchStyle}
-use Rattle.tw_history.specs.declared.history.SearchStyle.TheVariants.{Substring}
-use Rattle.tw_history.specs.declared.history.SearchDirection.{SearchDirection}
+use Rattle.tw_line.specs.NearestMatch.{MatchView, nearest_match, last_index, next_index}
+use Rattle.tw_session.specs.EditState.{EditState, ModeView, Editing, Searching}
+use Rattle.tw_line.specs.declared.history.SearchStyle.{SearchStyle}
+use Rattle.tw_line.specs.declared.history.SearchStyle.TheVariants.{Substring}
+use Rattle.tw_line.specs.declared.history.SearchDirection.{SearchDirection}
 
 -- the mode is that of a search
 abbrev pub IsSearching : ModeView → Type 0

@@ -2,21 +2,21 @@
 use Rattle.std.specs.Prelude.{ℕ, List, ◌≡◌, codes, String, string_bytes, Option, Some, None, Ok, Err}
 use Rattle.std.specs.declared.alloc.Global.{Global}
 use Rattle.tw_line.specs.Cut.{Cut, at_end, empty_cut}
-use Rattle.tw_painter.specs.EditState.{EditState, ModeView, Inactive, Editing, Cancelled, Accepted, Searching}
-use Rattle.tw_painter.specs.EditState as view
+use Rattle.tw_session.specs.EditState.{EditState, ModeView, Inactive, Editing, Cancelled, Accepted, Searching}
+use Rattle.tw_session.specs.EditState as view
 use Rattle.tw_host.specs.ActionView.{ActionView}
 use Rattle.tw_host.specs.HostRules.{HostRules}
 use Rattle.tw_host.specs.declared.host.Overrides.{Overrides}
 use Rattle.tw_session.specs.Memory.{TakesMemory}
 use Rattle.tw_session.specs.Steps.{apply}
-use Rattle.tw_history.specs.NearestMatch.{MatchView}
+use Rattle.tw_line.specs.NearestMatch.{MatchView}
 use Rattle.tw_surface.specs.Paintings.{Mark}
 use Rattle.tw_session.specs.declared.session.search.Found.{Found}
-use Rattle.tw_painter.specs.Refusal.{refusal_of}
+use Rattle.tw_session.specs.Refusal.{refusal_of}
 use Rattle.tw_session.specs.declared.session.Mode.{Mode}
 use Rattle.tw_session.specs.declared.session.Mode.TheVariants as mode
-use Rattle.tw_painter.specs.declared.error.Error.{Error}
-use Rattle.tw_painter.specs.declared.error.Error.TheVariants.{Memory, Terminal}
+use Rattle.tw_session.specs.declared.error.Error.{Error}
+use Rattle.tw_session.specs.declared.error.Error.TheVariants.{Memory, Terminal}
 
 -- the state, and the mark of the last painting, if there was one
 pub record SessionView : Type 0 where

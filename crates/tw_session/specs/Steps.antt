@@ -3,7 +3,7 @@ use Rattle.std.specs.Prelude.{ℕ, Bool, true, false, List, Option, Some, None, 
 use Rattle.tw_surface.specs.ChangeView.{Batch}
 use Rattle.tw_surface.specs.PaintingBatches.{clearing}
 use Rattle.tw_line.specs.Cut.{Cut}
-use Rattle.tw_extremes.specs.Extremes.{iterate}
+use Rattle.tw_line.specs.Extremes.{iterate}
 use Rattle.tw_line.specs.Movements.{after_move}
 use Rattle.tw_line.specs.Edits.{with_char, with_text, after_kill}
 use Rattle.tw_host.specs.ActionView.{ActionView, AcceptLine, Cancel, EndOfFile, InsertChar, InsertText, Repaint, Move, Kill, KillAndMove, HistoryPrevious, HistoryNext, Complete, NoAction, HistoryIncSearchBackwards, HistoryIncSearchForwards}
@@ -11,11 +11,11 @@ use Rattle.tw_host.specs.HostRules.{HostRules}
 use Rattle.tw_session.specs.Completion.{completion_step}
 use Rattle.tw_session.specs.Walk.{previous_step, next_step}
 use Rattle.tw_session.specs.Search.{search_left, searched_again, search_step}
-use Rattle.tw_painter.specs.Refusal.{Refusal}
-use Rattle.tw_painter.specs.Refusal as refusal
-use Rattle.tw_painter.specs.EditState.{EditState, ModeView, Cancelled, Accepted, Searching}
-use Rattle.tw_history.specs.declared.history.SearchDirection.{SearchDirection}
-use Rattle.tw_history.specs.declared.history.SearchDirection.TheVariants.{Backwards, Forwards}
+use Rattle.tw_session.specs.Refusal.{Refusal}
+use Rattle.tw_session.specs.Refusal as refusal
+use Rattle.tw_session.specs.EditState.{EditState, ModeView, Cancelled, Accepted, Searching}
+use Rattle.tw_line.specs.declared.history.SearchDirection.{SearchDirection}
+use Rattle.tw_line.specs.declared.history.SearchDirection.TheVariants.{Backwards, Forwards}
 
 -- an edit of the cut text; a search applies its pattern again
 abbrev pub edit_step : List (List ℕ) → (Cut → Cut) → EditState → EditState

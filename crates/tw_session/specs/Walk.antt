@@ -1,8 +1,8 @@
 -- Steps through the history, while not searching.
 use Rattle.std.specs.Prelude.{ℕ, ◌+◌, ◌-◌, List, Option, Some, None, slice_get}
 use Rattle.tw_line.specs.Cut.{Cut, at_end, empty_cut}
-use Rattle.tw_history.specs.NearestMatch.{last_index}
-use Rattle.tw_painter.specs.EditState.{EditState}
+use Rattle.tw_line.specs.NearestMatch.{last_index}
+use Rattle.tw_session.specs.EditState.{EditState}
 
 -- the line of an index comes in
 abbrev pub with_line_of : EditState → ℕ → List ℕ → EditState

@@ -1,6 +1,7 @@
-//! Laws of the steps, over the definitions alone: each is the contract of a function that does nothing.
+//! Laws over the definitions alone, for every host: each is the contract of a function that does nothing.
 
 ghost use Rattle.tw_session.specs.CompletionLaws.{GoesRound};
+ghost use Rattle.tw_session.specs.FaithfulLaws.{ShowsTheLine};
 ghost use Rattle.tw_session.specs.HistoryLaws.{Enumerates, LeavesHistory, WalksBack};
 
 use tw_host::LineEditorHost;
@@ -21,4 +22,10 @@ pub fn enumeration<H: LineEditorHost>()
 /// Completions put in the candidates, which all fit, in turn, each on the original line.
 pub fn cycle<H: LineEditorHost>()
     ensures { (v : H.Value) → GoesRound H.rules v }
+{}
+
+/// A host whose texts are the prompt and the line is seen so: if a painting of it is fresh, each character of the prompt
+/// and of the line stands in its cell, and the cursor after the columns before it.
+pub fn faithful<H: LineEditorHost>()
+    ensures { ShowsTheLine H.rules }
 {}

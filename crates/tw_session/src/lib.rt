@@ -1,12 +1,17 @@
-//! What a line editor holds beside its terminal, and the steps of the abstract editor on it.
+//! What a line editor holds beside its terminal, the steps of the abstract editor on it, and how it is painted.
 //!
 //! `session` has what the editor holds, and the step of each action. The parts are in modules of their own:
 //! `session::prompt` the prompt, `session::edit` the edits of the line, `session::walk` the steps through the
 //! history, `session::search` the incremental search of it, and `session::completion` the candidates that come in
-//! in turn. `laws` has what follows from the steps' definitions.
+//! in turn. `painter` has the painting of a line, its mark and the batch that closes it; `error` what a line editor
+//! answers in place of a line, with its numbers and texts. `laws` has what follows from the definitions.
 #![tactic(auto)]
 
+mod error;
 pub mod laws;
+mod painter;
 mod session;
 
+pub use error::Error;
+pub use painter::{Below, Mark, painting};
 pub use session::Session;

@@ -6,18 +6,18 @@ ghost use Rattle.tw_surface.specs.ChangeView.{batch_view};
 ghost use Rattle.tw_input.specs.EventView.{event_view};
 ghost use Rattle.tw_host.specs.ActionView.{action_view};
 ghost use Rattle.tw_line.specs.Cut.{cut_at, empty_cut};
-ghost use Rattle.tw_painter.specs.EditState.{Inactive as InactiveView};
+ghost use Rattle.tw_session.specs.EditState.{Inactive as InactiveView};
 ghost use Rattle.tw_session.specs.Outcomes.{outcome_of, answer_at, IsLine, is_over, is_open};
-ghost use Rattle.tw_painter.specs.Painting.{painted_on, scene_of, shown_in, rendering_of};
-ghost use Rattle.tw_painter.specs.DrawSteps.{IsUnpainted};
+ghost use Rattle.tw_session.specs.Painting.{painted_on, scene_of, shown_in, rendering_of};
+ghost use Rattle.tw_session.specs.DrawSteps.{IsUnpainted};
 
+use crate::error::Error;
+use crate::painter::{Below, Mark, painting};
 use std::alloc::{AllocError, Global};
 use std::marker::Model;
-use tw_history::{HistoryIndex, SearchDirection, SearchStyle};
 use tw_host::{Action, LineEditorHost};
 use tw_input::InputEvent;
-use tw_line::LineEditBuffer;
-use tw_painter::{Below, Error, Mark, painting};
+use tw_line::{HistoryIndex, LineEditBuffer, SearchDirection, SearchStyle};
 use tw_surface::Change;
 use tw_terminal::ScreenSize;
 
@@ -104,7 +104,8 @@ impl Session {
 
     /// Sets the prompt. Where it is refused nothing is changed.
     pub fn set_prompt(&mut self, prompt: &str) -> Result<(), AllocError>
-        ensures ok { OnOk result (self.new ≡ on_state (λ state. record state { prompt = prompt.now }) self.old) }
+        ensures ok { OnOk result (self.new
+            ≡ on_state (λ state. record state { prompt = prompt.now }) self.old) }
         ensures err { OnErr result (self.new ≡ self.old) }
     {
         self.prompt = Prompt::from_str(self.alloc, prompt)?;
@@ -123,7 +124,8 @@ impl Session {
     /// Sets the line and its cursor. Where it is refused nothing is changed. The empty line takes no memory.
     pub fn set_line_and_cursor(&mut self, line: &str, cursor: usize) -> Result<(), AllocError>
         requires { IsCharBoundary line.now cursor }
-        ensures ok { OnOk result (self.new ≡ on_state (λ state. record state { cut = cut_at line.now cursor }) self.old) }
+        ensures ok { OnOk result (self.new
+            ≡ on_state (λ state. record state { cut = cut_at line.now cursor }) self.old) }
         ensures err { OnErr result (self.new ≡ self.old) }
         ensures empty { line.now ≡ [] → IsOk result }
     {
@@ -179,7 +181,8 @@ impl Session {
 
     /// Ends a run, and forgets its last painting, which it returns.
     pub fn end(&mut self) -> Option<Mark>
-        ensures session { self.new ≡ record { state = record self.old.state { mode = InactiveView }; mark = None } }
+        ensures session { self.new
+            ≡ record { state = record self.old.state { mode = InactiveView }; mark = None } }
         ensures painted { result ≡ self.old.mark }
     {
         self.mode = Mode::Inactive;
@@ -191,8 +194,10 @@ impl Session {
     #[tactic(auto, unfolding(crate::specs::Steps::apply))]
     pub fn act<H: LineEditorHost>(&mut self, host: &mut H, action: Action) -> Result<(), Error>
         ensures host { host.new ≡ host.old }
-        ensures ok { OnOk result (ActsOn H.rules (H.value host.old) (action_view action) self.old self.new) }
-        ensures err { IfErr result (FailsToActOn H.rules H.OVERRIDES (H.value host.old) (action_view action) self.old self.new) }
+        ensures ok { OnOk result (ActsOn H.rules (H.value host.old) (action_view action)
+            self.old self.new) }
+        ensures err { IfErr result (FailsToActOn H.rules H.OVERRIDES (H.value host.old)
+            (action_view action) self.old self.new) }
     {
         match action {
             Action::AcceptLine => {
@@ -247,11 +252,15 @@ impl Session {
         host: &mut H,
         event: &InputEvent,
     ) -> Result<Option<Action>, AllocError>
-        ensures state { let answer = H.rules.resolve (H.value host.old) (event_view event.now) self.old.state.cut in
-            OnOk result (self.new ≡ on_state (λ state. record state { cut = answer.cut }) self.old) }
-        ensures value { let answer = H.rules.resolve (H.value host.old) (event_view event.now) self.old.state.cut in
+        ensures state { let answer = H.rules.resolve (H.value host.old) (event_view event.now)
+            self.old.state.cut in
+            OnOk result (self.new ≡ on_state
+            (λ state. record state { cut = answer.cut }) self.old) }
+        ensures value { let answer = H.rules.resolve (H.value host.old) (event_view event.now)
+            self.old.state.cut in
             OnOk result (H.value host.new ≡ answer.value) }
-        ensures action { let answer = H.rules.resolve (H.value host.old) (event_view event.now) self.old.state.cut in
+        ensures action { let answer = H.rules.resolve (H.value host.old) (event_view event.now)
+            self.old.state.cut in
             IfOk result (λ action. option_map action_view action ≡ answer.action) }
         ensures err { OnErr result ((self.new ≡ self.old) × (H.value host.new ≡ H.value host.old)) }
         ensures own { OnErr result (H.OVERRIDES.resolve_action ≡ true) }
@@ -271,7 +280,8 @@ impl Session {
         ensures ok { let scene = scene_of H.rules (H.value host.now) self.now.state false in
             IfOk result (λ shown. rendering_of self.now.mark (painted_on size scene)
             ≡ Ok (record { changes = batch_view shown.0.items; mark = shown.1 })) }
-        ensures err { IfErr result (IsUnpainted size (scene_of H.rules (H.value host.now) self.now.state false)) }
+        ensures err { IfErr result (IsUnpainted size
+            (scene_of H.rules (H.value host.now) self.now.state false)) }
     {
         self.painting_over(host, size, self.mark)
     }
@@ -286,7 +296,8 @@ impl Session {
         ensures ok { let scene = scene_of H.rules (H.value host.now) self.now.state false in
             IfOk result (λ shown. rendering_of before (painted_on size scene)
             ≡ Ok (record { changes = batch_view shown.0.items; mark = shown.1 })) }
-        ensures err { IfErr result (IsUnpainted size (scene_of H.rules (H.value host.now) self.now.state false)) }
+        ensures err { IfErr result (IsUnpainted size
+            (scene_of H.rules (H.value host.now) self.now.state false)) }
     {
         let below = match &self.mode {
             Mode::Searching { direction, .. } => Below::Search {

@@ -6,11 +6,11 @@ use Rattle.tw_surface.specs.declared.change.Position.TheVariants.{Absolute, Rela
 use Rattle.tw_surface.specs.ChangeView.{ChangeView, Batch}
 use Rattle.tw_surface.specs.ChangeView.{Attribute, AllAttributes, Text, ClearScreen, ClearToEndOfScreen, CursorPosition}
 use Rattle.tw_surface.specs.Defaults.{default_color}
-use Rattle.tw_strokes.specs.Strokes.{PictureOf, step, steps_on, scrolled, cleared_in}
-use Rattle.tw_strokes.specs.Strokes.Stroke.{Move}
-use Rattle.tw_strokes.proofs.SeenRows.{Sees, sees-same, sees-still}
-use Rattle.tw_screens.specs.Pens.{led, strokes_of}
-use Rattle.tw_screens.specs.StyledCells.{StyledCell, styled}
+use Rattle.laws_screens.specs.Strokes.{PictureOf, step, steps_on, scrolled, cleared_in}
+use Rattle.laws_screens.specs.Strokes.Stroke.{Move}
+use Rattle.laws_screens.proofs.SeenRows.{Sees, sees-same, sees-still}
+use Rattle.laws_screens.specs.Pens.{led, strokes_of}
+use Rattle.laws_screens.specs.StyledCells.{StyledCell, styled}
 use Rattle.tw_ansi.specs.declared.encode.Encoder.{Encoder}
 use Rattle.tw_ansi.specs.Sequences.{most_rows}
 use Rattle.tw_ansi.specs.Encoding.{sent_change, sent_batch}

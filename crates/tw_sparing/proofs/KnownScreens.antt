@@ -6,15 +6,15 @@ use Rattle.tw_surface.specs.declared.cell.CellAttributes.{CellAttributes}
 use Rattle.tw_surface.specs.declared.change.Position.{Position}
 use Rattle.tw_surface.specs.declared.change.Position.TheVariants.{Absolute, Relative}
 use Rattle.tw_surface.specs.ChangeView.{Batch, CursorPosition}
-use Rattle.tw_strokes.specs.Strokes.{PictureOf, step, steps_on, scrolled}
-use Rattle.tw_strokes.specs.Strokes.Stroke.{Move}
-use Rattle.tw_screens.specs.Pens.{led, strokes_of}
-use Rattle.tw_screens.specs.StyledCells.{StyledCell, styled}
+use Rattle.laws_screens.specs.Strokes.{PictureOf, step, steps_on, scrolled}
+use Rattle.laws_screens.specs.Strokes.Stroke.{Move}
+use Rattle.laws_screens.specs.Pens.{led, strokes_of}
+use Rattle.laws_screens.specs.StyledCells.{StyledCell, styled}
 use Rattle.tw_ansi.specs.declared.encode.Encoder.{Encoder}
 use Rattle.tw_ansi.specs.Encoding.{sent_change, terse_batch}
 use Rattle.tw_ansi.specs.EcmaScreen.{EcmaScreen, receive_all}
 use Rattle.tw_ansi.specs.EcmaLaws.{IsColor}
-use Rattle.styled_screen.specs.StyledScreens.{without_rows}
+use Rattle.tw_changed.specs.StyledScreens.{without_rows}
 use Rattle.tw_changed.specs.ChangedScreens.{IsBlankFrom, IsSeenFrom}
 use Rattle.tw_changed.specs.Sending.{screen_cells, hand_of}
 use Rattle.tw_sparing.specs.declared.shown.Shown.{Shown}

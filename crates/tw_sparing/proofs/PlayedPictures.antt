@@ -6,13 +6,13 @@ use Rattle.tw_surface.specs.declared.change.Position.{Position}
 use Rattle.tw_surface.specs.declared.change.Position.TheVariants.{Absolute, Relative}
 use Rattle.tw_surface.specs.ChangeView.{ChangeView, Batch}
 use Rattle.tw_surface.specs.ChangeView.{Attribute, AllAttributes, Text, ClearScreen, ClearToEndOfScreen, CursorPosition}
-use Rattle.tw_strokes.specs.Strokes.{PictureOf, Stroke, step, steps, steps_on, scrolled}
-use Rattle.tw_strokes.specs.Strokes.Stroke.{Move, ClearBehind}
-use Rattle.tw_strokes.proofs.SeenRows.{steps_on-append}
-use Rattle.tw_screens.specs.Pens.{led, char_stroke, change_strokes, strokes_of, kept_after}
-use Rattle.tw_screens.specs.StyledCells.{StyledCell, styled}
-use Rattle.tw_screens.proofs.PlainScenes.{plain_chars}
-use Rattle.styled_screen.specs.StyledScreens.{ShowsStyled}
+use Rattle.laws_screens.specs.Strokes.{PictureOf, Stroke, step, steps, steps_on, scrolled}
+use Rattle.laws_screens.specs.Strokes.Stroke.{Move, ClearBehind}
+use Rattle.laws_screens.proofs.SeenRows.{steps_on-append}
+use Rattle.laws_screens.specs.Pens.{led, char_stroke, change_strokes, strokes_of, kept_after}
+use Rattle.laws_screens.specs.StyledCells.{StyledCell, styled}
+use Rattle.laws_screens.proofs.PlainScenes.{plain_chars}
+use Rattle.tw_changed.specs.StyledScreens.{ShowsStyled}
 use Rattle.tw_sparing.specs.declared.shown.Shown.{Shown}
 use Rattle.tw_sparing.specs.Shown.{left_behind, IsInSight, IsPlayedOnce, IsPlayed}
 use Rattle.tw_sparing.proofs.SpannedPictures.{IsSpanned, seen_row, text_spans, still_spans, clear_spans, move_spans, led_up}

@@ -2,15 +2,15 @@
 use Rattle.std.proofs.Common.{◌≡◌, ◌<◌, ◌≤◌, ◌+◌, ◌-◌, ◌^◌, ◌&&◌, not, ℕ, cond, eqb, min, inl, inr, ap, subst, ◌∙◌, sym, arith}
 use Rattle.std.proofs.lemmas.Bool.{cases_lt, lt-ltb, le-ltb}
 use Rattle.tw_surface.specs.declared.cell.CellAttributes.{CellAttributes}
-use Rattle.tw_strokes.specs.Strokes.{PictureOf}
-use Rattle.tw_screens.specs.Screens.{blank_of}
-use Rattle.tw_screens.specs.StyledCells.{StyledCell, styled}
+use Rattle.laws_screens.specs.Strokes.{PictureOf}
+use Rattle.laws_screens.specs.Screens.{blank_of}
+use Rattle.laws_screens.specs.StyledCells.{StyledCell, styled}
 use Rattle.tw_ansi.specs.declared.encode.Encoder.{Encoder}
 use Rattle.tw_ansi.specs.Encoding.{Sent, terse_batch}
 use Rattle.tw_ansi.specs.EcmaScreen.{EcmaScreen, receive_all}
 use Rattle.tw_ansi.specs.EcmaLaws.{IsColor}
 use Rattle.tw_ansi.specs.EcmaTexts.{IsOfRows, ShowsPicture}
-use Rattle.styled_screen.specs.StyledScreens.{without_rows}
+use Rattle.tw_changed.specs.StyledScreens.{without_rows}
 use Rattle.tw_changed.specs.declared.hand.Hand.{Hand}
 use Rattle.tw_changed.specs.Redrawings.{redrawn}
 use Rattle.tw_changed.specs.ChangedScreens.{IsBlankFrom, IsInk, IsInked, IsHandWithin, IsSeenFrom, turned_to}

@@ -1,16 +1,16 @@
 -- A terminal that is sent what is sent for batches shows the picture on which they were drawn.
 use Rattle.std.proofs.Common.{◌≡◌, ◌<◌, ◌^◌, ℕ, Bool, true, false, Option, Some, None, List, [], ◌∷◌, inl, inr, ◌⊎◌, ap, subst, ◌∙◌, sym, refl}
-use Rattle.tw_strokes.specs.Strokes.{PictureOf, steps_on}
+use Rattle.laws_screens.specs.Strokes.{PictureOf, steps_on}
 use Rattle.tw_surface.specs.declared.cell.CellAttributes.{CellAttributes}
 use Rattle.tw_surface.specs.declared.change.Position.{Position}
 use Rattle.tw_surface.specs.declared.change.Position.TheVariants.{Absolute}
 use Rattle.tw_surface.specs.ChangeView.{ChangeView, Batch}
 use Rattle.tw_surface.specs.ChangeView.{Attribute, AllAttributes, Text, ClearScreen, ClearToEndOfScreen, CursorPosition}
 use Rattle.tw_surface.specs.Defaults.{default_color, default_attributes}
-use Rattle.tw_screens.specs.Pens.{change_strokes, strokes_of, kept_after_all}
-use Rattle.tw_screens.specs.Screens.{play_sized}
-use Rattle.tw_screens.specs.SizedBatches.{sized_at}
-use Rattle.tw_screens.specs.StyledCells.{StyledCell, styled}
+use Rattle.laws_screens.specs.Pens.{change_strokes, strokes_of, kept_after_all}
+use Rattle.laws_screens.specs.Screens.{play_sized}
+use Rattle.laws_screens.specs.SizedBatches.{sized_at}
+use Rattle.laws_screens.specs.StyledCells.{StyledCell, styled}
 use Rattle.tw_ansi.specs.declared.encode.Encoder.{Encoder}
 use Rattle.tw_ansi.specs.Encoding.{Sent, sent_change, sent_batch}
 use Rattle.tw_ansi.specs.EcmaBatches.{AreSendable}

@@ -5,12 +5,12 @@ use Rattle.std.proofs.lemmas.Bool.{ne_eqb, le-ltb}
 use Rattle.std.proofs.lemmas.Int.{ints}
 use Rattle.tw_surface.specs.declared.cell.CellAttributes.{CellAttributes}
 use Rattle.tw_surface.specs.declared.change.Position.TheVariants.{Relative}
-use Rattle.tw_strokes.specs.Strokes.{PictureOf, Stroke, cleared_in, step, steps, steps_on, scrolled}
-use Rattle.tw_strokes.specs.Strokes.Stroke.{Move}
-use Rattle.tw_strokes.proofs.SeenRows.{Sees, sees-typing, sees-clear, sees-still, sees-scrolled}
-use Rattle.tw_screens.specs.Pens.{led, char_stroke}
-use Rattle.tw_screens.specs.StyledCells.{StyledCell, styled}
-use Rattle.styled_screen.specs.StyledScreens.{ShowsStyled}
+use Rattle.laws_screens.specs.Strokes.{PictureOf, Stroke, cleared_in, step, steps, steps_on, scrolled}
+use Rattle.laws_screens.specs.Strokes.Stroke.{Move}
+use Rattle.laws_screens.proofs.SeenRows.{Sees, sees-typing, sees-clear, sees-still, sees-scrolled}
+use Rattle.laws_screens.specs.Pens.{led, char_stroke}
+use Rattle.laws_screens.specs.StyledCells.{StyledCell, styled}
+use Rattle.tw_changed.specs.StyledScreens.{ShowsStyled}
 use Rattle.tw_changed.specs.Differences.{blank_cell}
 use Rattle.tw_sparing.specs.declared.shown.Shown.{Shown}
 use Rattle.tw_sparing.proofs.TypedPictures.{typing_keeps, steps_on-none, text_types}

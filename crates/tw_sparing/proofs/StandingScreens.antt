@@ -2,13 +2,13 @@
 use Rattle.std.proofs.Common.{◌≡◌, ◌<◌, ◌≤◌, ◌+◌, ◌-◌, ◌*◌, ◌/◌, ◌%◌, ℕ, cond, ltb, inl, inr, ap, subst, ◌∙◌, sym, refl, arith}
 use Rattle.std.proofs.Math.Nat.{mod-lt, add-mul}
 use Rattle.std.proofs.lemmas.Bool.{cases_lt, lt-ltb, le-ltb}
-use Rattle.tw_strokes.specs.Strokes.{PictureOf}
-use Rattle.tw_screens.specs.Screens.{blank_of}
-use Rattle.tw_screens.specs.StyledCells.{StyledCell, styled}
+use Rattle.laws_screens.specs.Strokes.{PictureOf}
+use Rattle.laws_screens.specs.Screens.{blank_of}
+use Rattle.laws_screens.specs.StyledCells.{StyledCell, styled}
 use Rattle.tw_ansi.specs.declared.encode.Encoder.{Encoder}
 use Rattle.tw_ansi.specs.EcmaScreen.{EcmaScreen}
 use Rattle.tw_ansi.specs.EcmaTexts.{IsOfRows}
-use Rattle.styled_screen.specs.StyledScreens.{styled_at, without_rows}
+use Rattle.tw_changed.specs.StyledScreens.{styled_at, without_rows}
 use Rattle.tw_changed.specs.ChangedScreens.{IsBlankFrom, IsSeenFrom}
 use Rattle.tw_changed.specs.Sending.{screen_cells, hand_of}
 use Rattle.tw_sparing.specs.declared.shown.Shown.{Shown}

@@ -2,11 +2,11 @@
 use Rattle.std.proofs.Common.{◌≡◌, ℕ, ◌+◌, ◌<◌, ◌≤◌, Bool, true, false, ◌&&◌, cond, ◌⊎◌, inl, inr, eqb, None, List, [], ◌∷◌, map, refl, ap, subst, sym, ◌∙◌, arith}
 use Rattle.std.specs.List.{list_all}
 use Rattle.std.proofs.lemmas.Bool.{ne_eqb, false≢true}
-use Rattle.tw_strokes.specs.Strokes.{PictureOf, Stroke, put_in, put, step, steps, steps_on}
-use Rattle.tw_strokes.specs.Strokes.Stroke.{Put, Return, Feed, Clear, ClearBehind, Move}
-use Rattle.tw_strokes.proofs.SeenRows.{is_typing}
+use Rattle.laws_screens.specs.Strokes.{PictureOf, Stroke, put_in, put, step, steps, steps_on}
+use Rattle.laws_screens.specs.Strokes.Stroke.{Put, Return, Feed, Clear, ClearBehind, Move}
+use Rattle.laws_screens.proofs.SeenRows.{is_typing}
 use Rattle.tw_surface.specs.Characters.{cr, lf}
-use Rattle.tw_screens.specs.Pens.{Pen, char_stroke}
+use Rattle.laws_screens.specs.Pens.{Pen, char_stroke}
 
 both_typing : (x y : Bool) → (x && y) ≡ true → (x ≡ true) × (y ≡ true)
 both_typing true y e = (refl, e)

@@ -1,11 +1,11 @@
 -- What a terminal shows that is sent several batches, each as what differs or as it is.
 use Rattle.std.specs.Prelude.{◌≡◌, ◌<◌, ◌^◌, ℕ, false, Option, Some, None, List, [], ◌∷◌, map, ⊤}
-use Rattle.tw_strokes.specs.Strokes.{PictureOf, steps_on}
+use Rattle.laws_screens.specs.Strokes.{PictureOf, steps_on}
 use Rattle.tw_surface.specs.ChangeView.{Batch}
-use Rattle.tw_screens.specs.Pens.{strokes_of}
-use Rattle.tw_screens.specs.Screens.{play_sized}
-use Rattle.tw_screens.specs.SizedBatches.{sized_at}
-use Rattle.tw_screens.specs.StyledCells.{StyledCell, styled}
+use Rattle.laws_screens.specs.Pens.{strokes_of}
+use Rattle.laws_screens.specs.Screens.{play_sized}
+use Rattle.laws_screens.specs.SizedBatches.{sized_at}
+use Rattle.laws_screens.specs.StyledCells.{StyledCell, styled}
 use Rattle.tw_ansi.specs.declared.encode.Encoder.{Encoder}
 use Rattle.tw_ansi.specs.Encoding.{Sent, sends, sent_then}
 use Rattle.tw_ansi.specs.EcmaBatches.{AreSendable}

@@ -1,9 +1,9 @@
 -- How little is sent for a batch.
 use Rattle.std.specs.Prelude.{◌≡◌, ◌<◌, ◌-◌, ℕ, Some, []}
-use Rattle.tw_screens.specs.StyledCells.{StyledCell}
+use Rattle.laws_screens.specs.StyledCells.{StyledCell}
 use Rattle.tw_ansi.specs.declared.encode.Encoder.{Encoder}
 use Rattle.tw_surface.specs.ChangeView.{Batch}
-use Rattle.styled_screen.specs.StyledScreens.{without_rows}
+use Rattle.tw_changed.specs.StyledScreens.{without_rows}
 use Rattle.tw_changed.specs.Sending.{screen_cells, hand_of}
 use Rattle.tw_changed.specs.Shortness.{IsTypedAt, characters_from}
 use Rattle.tw_changed.specs.declared.hand.Hand.{Hand}

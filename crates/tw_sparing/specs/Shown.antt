@@ -8,13 +8,13 @@ use Rattle.tw_surface.specs.Defaults.{default_color}
 use Rattle.tw_surface.specs.ChangeView.{ChangeView, Batch}
 use Rattle.tw_surface.specs.ChangeView.{Attribute, AllAttributes, Text, ClearScreen, ClearToEndOfScreen, CursorPosition}
 use Rattle.tw_surface.specs.Simple.{spelled_all}
-use Rattle.tw_screens.specs.Pens.{strokes_of, kept_after_all}
-use Rattle.tw_screens.specs.StyledCells.{styled}
+use Rattle.laws_screens.specs.Pens.{strokes_of, kept_after_all}
+use Rattle.laws_screens.specs.StyledCells.{styled}
 use Rattle.tw_ansi.specs.declared.encode.Encoder.{Encoder}
 use Rattle.tw_ansi.specs.EcmaLaws.{IsAttribute}
 use Rattle.tw_ansi.specs.Encoding.{Sent, sent_batch, terse_batch}
 use Rattle.tw_ansi.specs.Sequences.{most_rows}
-use Rattle.styled_screen.specs.StyledScreens.{StyledView, AreDrawn, blank_styled, without_rows}
+use Rattle.tw_changed.specs.StyledScreens.{StyledView, AreDrawn, blank_styled, without_rows}
 use Rattle.tw_changed.specs.ChangedScreens.{AreByBytes, AreAllByBytes}
 use Rattle.tw_changed.specs.Sending.{IsPrintable, screen_cells, changes_between}
 use Rattle.tw_sparing.specs.declared.shown.Shown.{Shown}

@@ -1,14 +1,14 @@
 -- A terminal after ECMA-48 that shows what is known of it.
 use Rattle.std.specs.Prelude.{◌≡◌, ◌≤◌, ◌<◌, ◌+◌, ◌-◌, ◌^◌, ℕ, Some, None}
-use Rattle.tw_strokes.specs.Strokes.{PictureOf, steps_on}
+use Rattle.laws_screens.specs.Strokes.{PictureOf, steps_on}
 use Rattle.tw_surface.specs.ChangeView.{Batch}
-use Rattle.tw_screens.specs.Pens.{strokes_of}
-use Rattle.tw_screens.specs.StyledCells.{StyledCell, styled}
+use Rattle.laws_screens.specs.Pens.{strokes_of}
+use Rattle.laws_screens.specs.StyledCells.{StyledCell, styled}
 use Rattle.tw_ansi.specs.declared.encode.Encoder.{Encoder}
 use Rattle.tw_ansi.specs.EcmaScreen.{EcmaScreen, receive_all}
 use Rattle.tw_ansi.specs.EcmaLaws.{IsColor}
 use Rattle.tw_ansi.specs.EcmaTexts.{ShowsPicture}
-use Rattle.styled_screen.specs.StyledScreens.{without_rows}
+use Rattle.tw_changed.specs.StyledScreens.{without_rows}
 use Rattle.tw_changed.specs.ChangedScreens.{IsBlankFrom, IsSeenFrom}
 use Rattle.tw_changed.specs.Sending.{screen_cells, hand_of}
 use Rattle.tw_sparing.specs.declared.shown.Shown.{Shown}

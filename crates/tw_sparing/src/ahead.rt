@@ -82,10 +82,13 @@ impl Ahead {
         at_start: bool,
         changes: &[Change],
     ) -> (Option<Shown>, bool)
-        ensures known { IsKnownAfter self.now.size.cols self.now.size.rows (batch_view changes.now) (latest_known self.now) result.0 }
+        ensures known { IsKnownAfter self.now.size.cols self.now.size.rows (batch_view changes.now)
+            (latest_known self.now) result.0 }
         ensures joined { result.1 ≡ true → IsJoined (batch_view changes.now) self.now result.0 }
         ensures found { IsJoined (batch_view changes.now) self.now result.0 → result.1 ≡ true }
-        ensures groups { (e : Encoder) → (at_start ≡ true → e.x ≡ 0) → AreKnownSince self.now.size self.now.shown e (groups_with result.1 (batch_view changes.now) self.now result.0) }
+        ensures groups { (e : Encoder) → (at_start ≡ true → e.x ≡ 0)
+            → AreKnownSince self.now.size self.now.shown e
+            (groups_with result.1 (batch_view changes.now) self.now result.0) }
     {
         let next = shown_after(alloc, self.size, self.latest(), at_start, changes);
         let is_joined = self.is_joined(changes, &next);
@@ -104,7 +107,8 @@ impl Ahead {
 
     /// Whether all that is kept back and a batch can be sent as one difference, by what is known after the batch.
     fn is_joined(&self, changes: &[Change], next: &Option<Shown>) -> bool
-        requires { IsKnownAfter self.now.size.cols self.now.size.rows (batch_view changes.now) (latest_known self.now) next.now }
+        requires { IsKnownAfter self.now.size.cols self.now.size.rows (batch_view changes.now)
+            (latest_known self.now) next.now }
         ensures joined { result ≡ true → IsJoined (batch_view changes.now) self.now next.now }
         ensures found { IsJoined (batch_view changes.now) self.now next.now → result ≡ true }
     {
@@ -122,7 +126,9 @@ impl Ahead {
     /// Keeps a batch back, by what is known after it.
     pub fn keep(&mut self, changes: &[Change], next: Option<Shown>)
         requires { IsJoined (batch_view changes.now) self.old next }
-        ensures { self.new ≡ record self.old { kept = joined_group (batch_view changes.now) self.old next ∷ [] } }
+        ensures { self.new ≡ record self.old {
+          kept = joined_group (batch_view changes.now) self.old next ∷ [];
+        } }
     {
         self.kept = self.kept.with_batch(changes);
         self.drawn = next;
@@ -135,7 +141,8 @@ impl Ahead {
         encoder: Encoder,
         out: &mut String,
     ) -> Result<Encoder, AllocError>
-        ensures bytes { OnOk result (string_bytes out.new ≡ string_bytes out.old ++ (sent_ahead self.now encoder).bytes) }
+        ensures bytes { OnOk result (string_bytes out.new
+            ≡ string_bytes out.old ++ (sent_ahead self.now encoder).bytes) }
         ensures next { IfOk result (λ next. next ≡ (sent_ahead self.now encoder).next) }
     {
         match (&self.shown, &self.drawn) {
@@ -157,11 +164,17 @@ impl Ahead {
         encoder: Encoder,
         out: &mut String,
     ) -> Result<Encoder, AllocError>
-        requires known { IsKnownAfter self.now.size.cols self.now.size.rows (batch_view changes.now) (latest_known self.now) next.now }
+        requires known { IsKnownAfter self.now.size.cols self.now.size.rows
+            (batch_view changes.now) (latest_known self.now) next.now }
         requires joined { is_joined ≡ true → IsJoined (batch_view changes.now) self.now next.now }
-        ensures bytes { let groups = groups_with is_joined (batch_view changes.now) self.now next.now in
-            OnOk result (string_bytes out.new ≡ string_bytes out.old ++ (sent_for_all self.now.size.rows self.now.shown groups encoder).bytes) }
-        ensures next { IfOk result (λ known. known ≡ (sent_for_all self.now.size.rows self.now.shown (groups_with is_joined (batch_view changes.now) self.now next.now) encoder).next) }
+        ensures bytes { let groups = groups_with is_joined (batch_view changes.now)
+            self.now next.now in
+            OnOk result (string_bytes out.new
+            ≡ string_bytes out.old
+            ++ (sent_for_all self.now.size.rows self.now.shown groups encoder).bytes) }
+        ensures next { IfOk result (λ known. known
+            ≡ (sent_for_all self.now.size.rows self.now.shown
+            (groups_with is_joined (batch_view changes.now) self.now next.now) encoder).next) }
     {
         match (&self.shown, next) {
             (Some(shown), Some(next)) if is_joined => {
@@ -180,10 +193,15 @@ impl Ahead {
         encoder: Encoder,
         out: &mut String,
     ) -> Result<Encoder, AllocError>
-        requires { IsKnownAfter self.now.size.cols self.now.size.rows (batch_view changes.now) (latest_known self.now) next.now }
+        requires { IsKnownAfter self.now.size.cols self.now.size.rows (batch_view changes.now)
+            (latest_known self.now) next.now }
         ensures bytes { let groups = groups_with false (batch_view changes.now) self.now next.now in
-            OnOk result (string_bytes out.new ≡ string_bytes out.old ++ (sent_for_all self.now.size.rows self.now.shown groups encoder).bytes) }
-        ensures next { IfOk result (λ known. known ≡ (sent_for_all self.now.size.rows self.now.shown (groups_with false (batch_view changes.now) self.now next.now) encoder).next) }
+            OnOk result (string_bytes out.new
+            ≡ string_bytes out.old
+            ++ (sent_for_all self.now.size.rows self.now.shown groups encoder).bytes) }
+        ensures next { IfOk result (λ known. known
+            ≡ (sent_for_all self.now.size.rows self.now.shown
+            (groups_with false (batch_view changes.now) self.now next.now) encoder).next) }
     {
         match &self.drawn {
             Some(_) => {

@@ -102,9 +102,13 @@ impl<W: Write> PatientTerminal<W> {
     /// is not known. A refusal may have sent a beginning, and what was kept back is lost with it.
     pub fn send(&mut self, text: &str) -> Result<(), TerminalFault>
         ensures kept { patient_state self.new ≡ patient_state self.old }
-        ensures sent { let sent = sent_then (sent_ahead self.old.ahead self.old.encoder) (sent_deed (Said text.now)) in
-            OnOk result (Appends (W.contents self.old.writer) (W.contents self.new.writer) sent.bytes) }
-        ensures next { OnOk result (self.new.encoder ≡ (sent_then (sent_ahead self.old.ahead self.old.encoder) (sent_deed (Said text.now))).next) }
+        ensures sent { let sent = sent_then (sent_ahead self.old.ahead self.old.encoder)
+            (sent_deed (Said text.now)) in
+            OnOk result (Appends (W.contents self.old.writer)
+            (W.contents self.new.writer) sent.bytes) }
+        ensures next { OnOk result (self.new.encoder
+            ≡ (sent_then (sent_ahead self.old.ahead self.old.encoder)
+            (sent_deed (Said text.now))).next) }
         ensures known { OnErr result (self.new.encoder ≡ self.old.encoder) }
         ensures ahead { self.new.ahead ≡ settled_at self.old.ahead.size None }
         ensures more { self.new.is_more ≡ self.old.is_more }
@@ -128,8 +132,10 @@ impl<W: Write> PatientTerminal<W> {
         ensures encoder { self.new.encoder ≡ self.old.encoder }
         ensures ahead { self.new.ahead ≡ settled_at self.old.ahead.size None }
         ensures more { self.new.is_more ≡ self.old.is_more }
-        ensures sent { OnOk result (Appends (W.contents self.old.writer) (W.contents self.new.writer) (sent_ahead self.old.ahead self.old.encoder).bytes) }
-        ensures next { IfOk result (λ next. next ≡ (sent_ahead self.old.ahead self.old.encoder).next) }
+        ensures sent { OnOk result (Appends (W.contents self.old.writer)
+            (W.contents self.new.writer) (sent_ahead self.old.ahead self.old.encoder).bytes) }
+        ensures next { IfOk result (λ next. next
+            ≡ (sent_ahead self.old.ahead self.old.encoder).next) }
         ensures start { OnErr result (self.new.at_start ≡ false) }
         ensures settled { self.old.ahead.kept ≡ [] → result ≡ Ok self.old.encoder }
         ensures writer { self.old.ahead.kept ≡ [] → self.new.writer ≡ self.old.writer }
@@ -157,7 +163,8 @@ impl<W: Write> PatientTerminal<W> {
         ensures ahead { self.new.ahead ≡ self.old.ahead }
         ensures more { self.new.is_more ≡ self.old.is_more }
         ensures start { self.new.at_start ≡ self.old.at_start }
-        ensures sent { OnOk result (Appends (W.contents self.old.writer) (W.contents self.new.writer) text.now) }
+        ensures sent { OnOk result (Appends (W.contents self.old.writer)
+            (W.contents self.new.writer) text.now) }
         ensures refused { IfErr result (λ fault. fault ≡ Device) }
     {
         match self.writer.write_all(text.as_bytes()) {
@@ -174,18 +181,25 @@ impl<W: Write> PatientTerminal<W> {
         next: Option<Shown>,
         is_joined: bool,
     ) -> Result<(), TerminalFault>
-        requires known { IsKnownAfter self.old.ahead.size.cols self.old.ahead.size.rows (batch_view changes.now) (latest_known self.old.ahead) next }
+        requires known { IsKnownAfter self.old.ahead.size.cols self.old.ahead.size.rows
+            (batch_view changes.now) (latest_known self.old.ahead) next }
         requires joined { is_joined ≡ true → IsJoined (batch_view changes.now) self.old.ahead next }
-        requires groups { AreKnownSince self.old.ahead.size self.old.ahead.shown self.old.encoder (groups_with is_joined (batch_view changes.now) self.old.ahead next) }
-        ensures ok { OnOk result (Renders (batch_view changes.now) (patient_state self.old) (patient_state self.new)) }
+        requires groups { AreKnownSince self.old.ahead.size self.old.ahead.shown self.old.encoder
+            (groups_with is_joined (batch_view changes.now) self.old.ahead next) }
+        ensures ok { OnOk result (Renders (batch_view changes.now) (patient_state self.old)
+            (patient_state self.new)) }
         ensures err { OnErr result (patient_state self.new ≡ patient_state self.old) }
-        ensures sent { OnOk result (SendsGroups W.contents (groups_with is_joined (batch_view changes.now) self.old.ahead next) self.old self.new) }
+        ensures sent { OnOk result (SendsGroups W.contents
+            (groups_with is_joined (batch_view changes.now) self.old.ahead next)
+            self.old self.new) }
         ensures shown { OnOk result (self.new.ahead.shown ≡ next) }
         ensures more { OnOk result (self.new.is_more ≡ self.old.is_more) }
         ensures known { OnErr result (self.new.encoder ≡ self.old.encoder) }
-        ensures lost { OnErr result ((self.new.ahead ≡ settled_at self.old.ahead.size None) × (self.new.at_start ≡ false)) }
+        ensures lost { OnErr result ((self.new.ahead ≡ settled_at self.old.ahead.size None)
+            × (self.new.at_start ≡ false)) }
         ensures last { OnErr result (self.new.is_more ≡ false) }
-        ensures unsent { IfErr result (λ fault. fault ≡ Memory → self.new.writer ≡ self.old.writer) }
+        ensures unsent { IfErr result (λ fault. fault ≡ Memory → self.new.writer
+            ≡ self.old.writer) }
     {
         let mut text = String::new(self.alloc);
         let encoded = self.ahead.send_with(
@@ -215,14 +229,18 @@ impl<W: Write> PatientTerminal<W> {
 
     /// Keeps a batch back if more is at hand and one difference takes it, and else sends it.
     fn take(&mut self, changes: &[Change]) -> Result<(), TerminalFault>
-        ensures ok { OnOk result (Renders (batch_view changes.now) (patient_state self.old) (patient_state self.new)) }
+        ensures ok { OnOk result (Renders (batch_view changes.now) (patient_state self.old)
+            (patient_state self.new)) }
         ensures err { OnErr result (patient_state self.new ≡ patient_state self.old) }
-        ensures sent { OnOk result (IsTakenPatiently W.contents (batch_view changes.now) self.old self.new) }
+        ensures sent { OnOk result (IsTakenPatiently W.contents (batch_view changes.now)
+            self.old self.new) }
         ensures more { OnOk result (self.new.is_more ≡ self.old.is_more) }
         ensures known { OnErr result (self.new.encoder ≡ self.old.encoder) }
-        ensures lost { OnErr result ((self.new.ahead ≡ settled_at self.old.ahead.size None) × (self.new.at_start ≡ false)) }
+        ensures lost { OnErr result ((self.new.ahead ≡ settled_at self.old.ahead.size None)
+            × (self.new.at_start ≡ false)) }
         ensures last { OnErr result (self.new.is_more ≡ false) }
-        ensures unsent { IfErr result (λ fault. fault ≡ Memory → self.new.writer ≡ self.old.writer) }
+        ensures unsent { IfErr result (λ fault. fault ≡ Memory → self.new.writer
+            ≡ self.old.writer) }
     {
         let at_start = self.at_start && self.encoder == Encoder::new(self.ahead.size().cols);
         let (next, is_joined) = self.ahead.known_after(self.alloc, at_start, changes);
@@ -264,11 +282,15 @@ impl<W: Write> Terminal for PatientTerminal<W> {
     /// back are lost then, and it is not known what the terminal shows. The next batch is sent, unless it is said once
     /// more that more is at hand.
     fn render(&mut self, changes: &[Change]) -> Result<(), TerminalFault>
-        ensures ok { OnOk result (Renders (batch_view changes.now) (patient_state self.old) (patient_state self.new)) }
-        ensures err { OnErr result (RenderFails (batch_view changes.now) (patient_state self.old) (patient_state self.new)) }
-        ensures took { OnOk result (FollowsPatiently W.contents self.old self.new (Took (batch_view changes.now))) }
+        ensures ok { OnOk result (Renders (batch_view changes.now) (patient_state self.old)
+            (patient_state self.new)) }
+        ensures err { OnErr result (RenderFails (batch_view changes.now) (patient_state self.old)
+            (patient_state self.new)) }
+        ensures took { OnOk result (FollowsPatiently W.contents self.old self.new
+            (Took (batch_view changes.now))) }
         ensures refused { OnErr result (FollowsPatiently W.contents self.old self.new Refused) }
-        ensures unsent { IfErr result (λ fault. fault ≡ Memory → self.new.writer ≡ self.old.writer) }
+        ensures unsent { IfErr result (λ fault. fault ≡ Memory → self.new.writer
+            ≡ self.old.writer) }
     {
         match self.take(changes) {
             Ok(()) => Ok(()),
@@ -288,7 +310,8 @@ impl<W: Write> Terminal for PatientTerminal<W> {
         ensures ahead { self.new.ahead ≡ self.old.ahead }
         ensures more { self.new.is_more ≡ self.old.is_more }
         ensures writer { Keeps (W.contents self.old.writer) (W.contents self.new.writer) }
-        ensures waits { (self.old.ahead.kept ≡ [] → ⊥) → (result ≡ Ok tt) × (self.new.writer ≡ self.old.writer) }
+        ensures waits { (self.old.ahead.kept ≡ [] → ⊥) → (result ≡ Ok tt)
+            × (self.new.writer ≡ self.old.writer) }
         ensures follows { FollowsPatiently W.contents self.old self.new Other }
     {
         if self.ahead.is_settled() && self.writer.flush().is_err() {

@@ -13,7 +13,8 @@ use tw_terminal::ScreenSize;
 
 /// Adds what a batch is sent as by its changes, and returns what is then known.
 fn encode(changes: &[Change], mut encoder: Encoder, out: &mut String) -> Result<Encoder, AllocError>
-    ensures bytes { OnOk result (string_bytes out.new ≡ string_bytes out.old ++ (sent_batch (batch_view changes.now) encoder).bytes) }
+    ensures bytes { OnOk result (string_bytes out.new
+        ≡ string_bytes out.old ++ (sent_batch (batch_view changes.now) encoder).bytes) }
     ensures next { IfOk result (λ next. next ≡ (sent_batch (batch_view changes.now) encoder).next) }
 {
     for change in changes {
@@ -49,9 +50,12 @@ pub fn send_known(
     requires width { old.now.screen.width ≡ new.now.screen.width }
     requires fits { FitsTerminal rows new.now }
     requires row { gone_rows rows old.now new.now ≤ old.now.screen.row }
-    ensures bytes { let changes = changes_below (gone_rows rows old.now new.now) (left_behind rows new.now) old.now new.now in
-        OnOk result (string_bytes out.new ≡ string_bytes out.old ++ (terse_batch changes encoder).bytes) }
-    ensures next { let changes = changes_below (gone_rows rows old.now new.now) (left_behind rows new.now) old.now new.now in
+    ensures bytes { let changes = changes_below (gone_rows rows old.now new.now)
+        (left_behind rows new.now) old.now new.now in
+        OnOk result (string_bytes out.new
+        ≡ string_bytes out.old ++ (terse_batch changes encoder).bytes) }
+    ensures next { let changes = changes_below (gone_rows rows old.now new.now)
+        (left_behind rows new.now) old.now new.now in
         IfOk result (λ next. next ≡ (terse_batch changes encoder).next) }
 {
     let old_top = gone_rows(rows, old, new);
@@ -71,9 +75,11 @@ pub fn send_for(
     out: &mut String,
 ) -> Result<Encoder, AllocError>
     requires { IsKnownAfter size.cols size.rows (batch_view changes.now) old.now new.now }
-    ensures bytes { let sent = sent_for size.rows (batch_view changes.now) old.now new.now encoder in
+    ensures bytes { let sent = sent_for size.rows (batch_view changes.now)
+        old.now new.now encoder in
         OnOk result (string_bytes out.new ≡ string_bytes out.old ++ sent.bytes) }
-    ensures next { IfOk result (λ next. next ≡ (sent_for size.rows (batch_view changes.now) old.now new.now encoder).next) }
+    ensures next { IfOk result (λ next. next
+        ≡ (sent_for size.rows (batch_view changes.now) old.now new.now encoder).next) }
 {
     match (old, new) {
         (Some(old), Some(new)) => send_known(alloc, size.rows, old, new, encoder, out),

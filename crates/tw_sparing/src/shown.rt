@@ -8,10 +8,9 @@ ghost use Rattle.tw_changed.specs.Sending.{IsPrintable, screen_cells};
 ghost use Rattle.tw_sparing.specs.Shown.{changes_below, first_shown, goes_out_of_sight, left_behind, rows_above, Empties, IsBegunBy, FitsTerminal, IsDrawnAfter, IsFromStart, IsInSight, IsKnownAfter, IsKnownBy, IsMovedBy, IsRefilled, IsShortMove, IsPlayable, IsPlayed, IsPlayedOnce, KeepsAbove, LeadsToStart, SetsAttributes};
 
 use std::alloc::{AllocError, Global};
-use styled_screen::StyledScreen;
 use tw_ansi::Encoder;
 use tw_changed::laws::{attribute, colors};
-use tw_changed::{is_printable, is_same_in_row, send_changed};
+use tw_changed::{StyledScreen, is_printable, is_same_in_row, send_changed};
 use tw_surface::{Change, ColorAttribute, Position, is_plain_text};
 use tw_terminal::ScreenSize;
 
@@ -118,7 +117,8 @@ impl Shown {
     /// What is shown once changes are drawn on an empty screen, on a terminal of so many rows.
     fn fresh(alloc: Global, cols: usize, changes: &[Change], rows: usize) -> Option<Self>
         ensures fits { IfSome result (λ new. FitsTerminal rows new) }
-        ensures played { IfSome result (λ new. IsPlayed rows (batch_view changes.now) (first_shown cols) new) }
+        ensures played { IfSome result (λ new. IsPlayed rows (batch_view changes.now)
+            (first_shown cols) new) }
     {
         let mut next = Shown::empty(alloc, cols)?;
         if next.play_all(changes, rows) && next.is_fit(rows) {
@@ -173,7 +173,9 @@ impl Shown {
 
     /// What is shown once a batch was sent, on a terminal of so many rows.
     fn known_after(&self, alloc: Global, changes: &[Change], rows: usize) -> Option<Self>
-        ensures { IfSome result (λ new. IsKnownBy (goes_out_of_sight (rows_above rows self.now) (batch_view changes.now)) rows (batch_view changes.now) self.now new) }
+        ensures { IfSome result (λ new. IsKnownBy
+            (goes_out_of_sight (rows_above rows self.now) (batch_view changes.now)) rows
+            (batch_view changes.now) self.now new) }
     {
         if self.is_left_by(changes, rows) {
             return self.refilled(alloc, changes, rows);
@@ -284,8 +286,10 @@ fn behind_move(changes: &[Change]) -> Option<&[Change]>
 
 /// What is left of a batch that empties the terminal from column 0 on: where it begins there, or after its move.
 fn begun(changes: &[Change], at_start: bool) -> Option<&[Change]>
-    ensures begun { IfSome result (λ rest. IsBegunBy (batch_view changes.now) (batch_view rest.now)) }
-    ensures start { IfSome result (λ rest. (at_start ≡ true) ⊎ LeadsToStart (batch_view changes.now)) }
+    ensures begun { IfSome result (λ rest. IsBegunBy (batch_view changes.now)
+        (batch_view rest.now)) }
+    ensures start { IfSome result (λ rest. (at_start ≡ true)
+        ⊎ LeadsToStart (batch_view changes.now)) }
 {
     match behind_move(changes) {
         Some(rest) if empties(rest) => Some(rest),
@@ -303,7 +307,8 @@ pub fn shown_after(
     changes: &[Change],
 ) -> Option<Shown>
     ensures known { IsKnownAfter size.cols size.rows (batch_view changes.now) shown.now result }
-    ensures start { (x : ℕ) → (at_start ≡ true → x ≡ 0) → IsFromStart x (batch_view changes.now) shown.now result }
+    ensures start { (x : ℕ) → (at_start ≡ true → x ≡ 0)
+        → IsFromStart x (batch_view changes.now) shown.now result }
 {
     match shown {
         Some(shown) => shown.known_after(alloc, changes, size.rows),
@@ -342,8 +347,11 @@ pub fn send_below(
     requires most { new.now.reached ≤ 65535 }
     requires old_row { old_top ≤ old.now.screen.row }
     requires new_row { top ≤ new.now.screen.row }
-    ensures bytes { OnOk result (string_bytes out.new ≡ string_bytes out.old ++ (terse_batch (changes_below old_top top old.now new.now) encoder).bytes) }
-    ensures next { IfOk result (λ next. next ≡ (terse_batch (changes_below old_top top old.now new.now) encoder).next) }
+    ensures bytes { OnOk result (string_bytes out.new
+        ≡ string_bytes out.old ++ (terse_batch (changes_below old_top top old.now new.now)
+        encoder).bytes) }
+    ensures next { IfOk result (λ next. next
+        ≡ (terse_batch (changes_below old_top top old.now new.now) encoder).next) }
 {
     if old_top == 0 && top == 0 {
         return send_changed(

@@ -105,7 +105,8 @@ impl<W: Write> SparingTerminal<W> {
         ensures known { self.new.encoder ≡ self.old.encoder }
         ensures shown { self.new.shown ≡ self.old.shown }
         ensures start { self.new.at_start ≡ self.old.at_start }
-        ensures sent { OnOk result (Appends (W.contents self.old.writer) (W.contents self.new.writer) text.now) }
+        ensures sent { OnOk result (Appends (W.contents self.old.writer)
+            (W.contents self.new.writer) text.now) }
     {
         match self.writer.write_all(text.as_bytes()) {
             Ok(()) => Ok(()),
@@ -115,16 +116,24 @@ impl<W: Write> SparingTerminal<W> {
 
     /// Sends a batch. After a refusal it is not known what the terminal shows.
     fn put(&mut self, changes: &[Change]) -> Result<(), TerminalFault>
-        ensures sent { let sent = sent_for self.old.size.rows (batch_view changes.now) self.old.shown self.new.shown self.old.encoder in
-            OnOk result (Appends (W.contents self.old.writer) (W.contents self.new.writer) sent.bytes) }
-        ensures next { OnOk result (self.new.encoder ≡ (sent_for self.old.size.rows (batch_view changes.now) self.old.shown self.new.shown self.old.encoder).next) }
-        ensures shown { OnOk result (IsKnownAfter self.old.size.cols self.old.size.rows (batch_view changes.now) self.old.shown self.new.shown) }
-        ensures start { OnOk result (IsFromStart self.old.encoder.x (batch_view changes.now) self.old.shown self.new.shown) }
-        ensures ok { OnOk result (Renders (batch_view changes.now) (sparing_state self.old) (sparing_state self.new)) }
+        ensures sent { let sent = sent_for self.old.size.rows (batch_view changes.now)
+            self.old.shown self.new.shown self.old.encoder in
+            OnOk result (Appends (W.contents self.old.writer)
+            (W.contents self.new.writer) sent.bytes) }
+        ensures next { OnOk result (self.new.encoder
+            ≡ (sent_for self.old.size.rows (batch_view changes.now)
+            self.old.shown self.new.shown self.old.encoder).next) }
+        ensures shown { OnOk result (IsKnownAfter self.old.size.cols self.old.size.rows
+            (batch_view changes.now) self.old.shown self.new.shown) }
+        ensures start { OnOk result (IsFromStart self.old.encoder.x (batch_view changes.now)
+            self.old.shown self.new.shown) }
+        ensures ok { OnOk result (Renders (batch_view changes.now) (sparing_state self.old)
+            (sparing_state self.new)) }
         ensures err { OnErr result (sparing_state self.new ≡ sparing_state self.old) }
         ensures known { OnErr result (self.new.encoder ≡ self.old.encoder) }
         ensures lost { OnErr result ((self.new.shown ≡ None) × (self.new.at_start ≡ false)) }
-        ensures unsent { IfErr result (λ fault. fault ≡ Memory → self.new.writer ≡ self.old.writer) }
+        ensures unsent { IfErr result (λ fault. fault ≡ Memory → self.new.writer
+            ≡ self.old.writer) }
     {
         let at_start = self.at_start && self.encoder == Encoder::new(self.size.cols);
         let next = shown_after(self.alloc, self.size, &self.shown, at_start, changes);
@@ -181,18 +190,29 @@ impl<W: Write> Terminal for SparingTerminal<W> {
     /// refuses, a beginning of them may have been sent, and if memory is refused none. What the terminal shows is not
     /// known then.
     fn render(&mut self, changes: &[Change]) -> Result<(), TerminalFault>
-        ensures ok { OnOk result (Renders (batch_view changes.now) (sparing_state self.old) (sparing_state self.new)) }
-        ensures err { OnErr result (RenderFails (batch_view changes.now) (sparing_state self.old) (sparing_state self.new)) }
-        ensures sent { let sent = sent_for self.old.size.rows (batch_view changes.now) self.old.shown self.new.shown self.old.encoder in
-            OnOk result (Appends (W.contents self.old.writer) (W.contents self.new.writer) sent.bytes) }
-        ensures next { OnOk result (self.new.encoder ≡ (sent_for self.old.size.rows (batch_view changes.now) self.old.shown self.new.shown self.old.encoder).next) }
-        ensures shown { OnOk result (IsKnownAfter self.old.size.cols self.old.size.rows (batch_view changes.now) self.old.shown self.new.shown) }
-        ensures start { OnOk result (IsFromStart self.old.encoder.x (batch_view changes.now) self.old.shown self.new.shown) }
+        ensures ok { OnOk result (Renders (batch_view changes.now) (sparing_state self.old)
+            (sparing_state self.new)) }
+        ensures err { OnErr result (RenderFails (batch_view changes.now) (sparing_state self.old)
+            (sparing_state self.new)) }
+        ensures sent { let sent = sent_for self.old.size.rows (batch_view changes.now)
+            self.old.shown self.new.shown self.old.encoder in
+            OnOk result (Appends (W.contents self.old.writer)
+            (W.contents self.new.writer) sent.bytes) }
+        ensures next { OnOk result (self.new.encoder
+            ≡ (sent_for self.old.size.rows (batch_view changes.now)
+            self.old.shown self.new.shown self.old.encoder).next) }
+        ensures shown { OnOk result (IsKnownAfter self.old.size.cols self.old.size.rows
+            (batch_view changes.now) self.old.shown self.new.shown) }
+        ensures start { OnOk result (IsFromStart self.old.encoder.x (batch_view changes.now)
+            self.old.shown self.new.shown) }
         ensures known { OnErr result (self.new.encoder ≡ self.old.encoder) }
         ensures lost { OnErr result (self.new.shown ≡ None) }
-        ensures unsent { IfErr result (λ fault. fault ≡ Memory → self.new.writer ≡ self.old.writer) }
-        ensures took { OnOk result (DoesSparingly W.contents self.old self.new (Called (Took (batch_view changes.now)))) }
-        ensures refused { OnErr result (DoesSparingly W.contents self.old self.new (Called Refused)) }
+        ensures unsent { IfErr result (λ fault. fault ≡ Memory → self.new.writer
+            ≡ self.old.writer) }
+        ensures took { OnOk result (DoesSparingly W.contents self.old self.new
+            (Called (Took (batch_view changes.now)))) }
+        ensures refused { OnErr result (DoesSparingly W.contents self.old self.new
+            (Called Refused)) }
     {
         match self.put(changes) {
             Ok(()) => Ok(()),

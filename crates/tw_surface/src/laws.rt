@@ -25,17 +25,22 @@ use crate::size::SizeFault;
 
 /// `==` is equality of values; texts are compared by their characters.
 pub fn equality()
-    ensures changes { (a b : Change) → IsTrue (⟦<Change as PartialEq>⟧.eq a b) ↔ (change_view a ≡ change_view b) }
+    ensures changes { (a b : Change) → IsTrue (⟦<Change as PartialEq>⟧.eq a b)
+        ↔ (change_view a ≡ change_view b) }
     ensures positions { (a b : Position) → IsTrue (⟦<Position as PartialEq>⟧.eq a b) ↔ (a ≡ b) }
-    ensures colors { (a b : ColorAttribute) → IsTrue (⟦<ColorAttribute as PartialEq>⟧.eq a b) ↔ (a ≡ b) }
-    ensures attributes { (a b : CellAttributes) → IsTrue (⟦<CellAttributes as PartialEq>⟧.eq a b) ↔ (a ≡ b) }
-    ensures attribute_changes { (a b : AttributeChange) → IsTrue (⟦<AttributeChange as PartialEq>⟧.eq a b) ↔ (a ≡ b) }
+    ensures colors { (a b : ColorAttribute)
+        → IsTrue (⟦<ColorAttribute as PartialEq>⟧.eq a b) ↔ (a ≡ b) }
+    ensures attributes { (a b : CellAttributes)
+        → IsTrue (⟦<CellAttributes as PartialEq>⟧.eq a b) ↔ (a ≡ b) }
+    ensures attribute_changes { (a b : AttributeChange)
+        → IsTrue (⟦<AttributeChange as PartialEq>⟧.eq a b) ↔ (a ≡ b) }
     ensures intensities { (a b : Intensity) → IsTrue (⟦<Intensity as PartialEq>⟧.eq a b) ↔ (a ≡ b) }
     ensures underlines { (a b : Underline) → IsTrue (⟦<Underline as PartialEq>⟧.eq a b) ↔ (a ≡ b) }
     ensures blinks { (a b : Blink) → IsTrue (⟦<Blink as PartialEq>⟧.eq a b) ↔ (a ≡ b) }
     ensures size_faults { (a b : SizeFault) → IsTrue (⟦<SizeFault as PartialEq>⟧.eq a b) ↔ (a ≡ b) }
     ensures add_faults { (a b : AddFault) → IsTrue (⟦<AddFault as PartialEq>⟧.eq a b) ↔ (a ≡ b) }
-    ensures screen_faults { (a b : ScreenFault) → IsTrue (⟦<ScreenFault as PartialEq>⟧.eq a b) ↔ (a ≡ b) }
+    ensures screen_faults { (a b : ScreenFault)
+        → IsTrue (⟦<ScreenFault as PartialEq>⟧.eq a b) ↔ (a ≡ b) }
 {}
 
 /// The places of a text: each piece leads from its place to the next one by one of five rules.

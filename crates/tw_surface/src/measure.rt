@@ -116,7 +116,8 @@ impl Piece {
 fn measure_printable(cols: usize, start: Extent, count: usize) -> Option<Extent>
     requires cols { cols ≤ 65535 }
     requires range { is_in_range (place_of start) ≡ true }
-    ensures { Measures start (places_after cols (replicate count (Wide 1)) (place_of start)) result }
+    ensures { Measures start (places_after cols (replicate count (Wide 1))
+        (place_of start)) result }
 {
     let mut extent = start;
     let mut left = count;
@@ -132,7 +133,8 @@ fn measure_printable(cols: usize, start: Extent, count: usize) -> Option<Extent>
 fn measure_plain(cols: usize, start: Extent, text: &[u8]) -> Option<Extent>
     requires cols { cols ≤ 65535 }
     requires range { is_in_range (place_of start) ≡ true }
-    ensures { Measures start (places_after cols (map plain_piece text.now) (place_of start)) result }
+    ensures { Measures start (places_after cols (map plain_piece text.now)
+        (place_of start)) result }
 {
     let mut extent = start;
     for byte in text {
@@ -144,7 +146,8 @@ fn measure_plain(cols: usize, start: Extent, text: &[u8]) -> Option<Extent>
 fn measure_clusters(cols: usize, start: Extent, text: &str) -> Option<Extent>
     requires cols { cols ≤ 65535 }
     requires range { is_in_range (place_of start) ≡ true }
-    ensures { Measures start (places_after cols (map cluster_piece (graphemes true text.now)) (place_of start)) result }
+    ensures { Measures start (places_after cols (map cluster_piece (graphemes true text.now))
+        (place_of start)) result }
 {
     let mut extent = start;
     let mut rest = text;

@@ -131,7 +131,8 @@ impl Screen {
 
     /// Adds the characters in the first columns of a row to a text, or nothing where there is no memory.
     pub fn push_row(&self, row: usize, cols: usize, shown: &mut String) -> Result<(), AllocError>
-        ensures added { OnOk result (string_bytes shown.new ≡ string_bytes shown.old ++ row_of (picture self.now).cell row cols) }
+        ensures added { OnOk result (string_bytes shown.new
+            ≡ string_bytes shown.old ++ row_of (picture self.now).cell row cols) }
         ensures refused { OnErr result (string_bytes shown.new ≡ string_bytes shown.old) }
     {
         let first = near_row(&self.near, self.width, row, cols);
@@ -170,13 +171,16 @@ impl Screen {
     /// it is tested before it does.
     pub fn apply(&mut self, change: &Change) -> Result<(), ScreenFault>
         ensures width { self.new.width ≡ self.old.width }
-        ensures played { OnOk result (picture self.new ≡ play self.old.width (change_view change.now) (picture self.old)) }
+        ensures played { OnOk result (picture self.new
+            ≡ play self.old.width (change_view change.now) (picture self.old)) }
         ensures refused { OnErr result (self.new ≡ self.old) }
 
         // A text that can't be played is NotPlain, also where a row would pass the limit.
-        ensures plain { (result ≡ Err ScreenFault.NotPlain) ↔ (can_play (change_view change.now) ≡ false) }
+        ensures plain { (result ≡ Err ScreenFault.NotPlain)
+            ↔ (can_play (change_view change.now) ≡ false) }
         ensures range { RefusesPastLimit (change_view change.now) self.old result }
-        ensures memory { result ≡ Err ScreenFault.Memory → (text : List ℕ) × (change_view change.now ≡ TextView text) }
+        ensures memory { result ≡ Err ScreenFault.Memory → (text : List ℕ)
+            × (change_view change.now ≡ TextView text) }
     {
         // The row is in range, also where no field is used.
         let _ = &self.row;
@@ -198,7 +202,8 @@ impl Screen {
     #[tactic(auto, using(crate::proofs::TextCursor::row_of_text))]
     fn write_text(&mut self, text: &[u8]) -> Result<(), ScreenFault>
         ensures width { self.new.width ≡ self.old.width }
-        ensures played { OnOk result (picture self.new ≡ play_text self.old.width text.now (picture self.old)) }
+        ensures played { OnOk result (picture self.new
+            ≡ play_text self.old.width text.now (picture self.old)) }
         ensures refused { OnErr result (self.new ≡ self.old) }
         ensures plain { (result ≡ Err ScreenFault.NotPlain) ↔ (list_all is_plain text.now ≡ false) }
         ensures range { list_all is_plain text.now ≡ true →
@@ -241,7 +246,8 @@ impl Screen {
     fn clear_to_end(&mut self)
         ensures width { self.new.width ≡ self.old.width }
         ensures cleared { let before = picture self.old in
-            picture self.new ≡ record before { cell = cells_cleared_from before.cell self.old.row self.old.col } }
+            picture self.new
+            ≡ record before { cell = cells_cleared_from before.cell self.old.row self.old.col } }
     {
         self.near.truncate(place_of(self.width, self.row, self.col));
         trim(&mut self.near);
@@ -251,7 +257,8 @@ impl Screen {
     fn move_cursor(&mut self, x: Position, y: Position) -> Result<(), ScreenFault>
         ensures moved { OnOk result (self.new ≡ with_cursor_moved x y self.old) }
         ensures refused { OnErr result (self.new ≡ self.old) }
-        ensures range { (result ≡ Err ScreenFault.OutOfRange) ↔ (4294967295 < moved_from y self.old.row) }
+        ensures range { (result ≡ Err ScreenFault.OutOfRange)
+            ↔ (4294967295 < moved_from y self.old.row) }
         ensures only_range { OnErr result (result ≡ Err ScreenFault.OutOfRange) }
     {
         let row = y.moved_from(self.row);

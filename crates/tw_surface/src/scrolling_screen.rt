@@ -34,9 +34,11 @@ impl Model for ScrollingScreen {
 impl ScrollingScreen {
     /// A blank screen of 1 to 65,535 rows and columns, with the cursor at (0, 0). It takes no memory.
     pub fn new(alloc: Global, rows: usize, width: usize) -> Result<Self, SizeFault>
-        ensures ok { 0 < rows → rows ≤ 65535 → 0 < width → width ≤ 65535 → result ≡ Ok (blank_rows rows width) }
+        ensures ok { 0 < rows → rows ≤ 65535 → 0 < width → width ≤ 65535 → result
+            ≡ Ok (blank_rows rows width) }
         ensures zero { (result ≡ Err SizeFault.ZeroSize) ↔ ((rows ≡ 0) ⊎ (width ≡ 0)) }
-        ensures large { 0 < rows → 0 < width → ((result ≡ Err SizeFault.OutOfRange) ↔ ((65535 < rows) ⊎ (65535 < width))) }
+        ensures large { 0 < rows → 0 < width
+            → ((result ≡ Err SizeFault.OutOfRange) ↔ ((65535 < rows) ⊎ (65535 < width))) }
     {
         if rows == 0 {
             return Err(SizeFault::ZeroSize);
@@ -75,15 +77,18 @@ impl ScrollingScreen {
     pub fn apply(&mut self, change: &Change) -> Result<(), ScreenFault>
         ensures rows { self.new.rows ≡ self.old.rows }
         ensures width { self.new.screen.width ≡ self.old.screen.width }
-        ensures played { OnOk result (picture self.new.screen ≡ play_in (change_view change.now) self.old) }
+        ensures played { OnOk result (picture self.new.screen
+            ≡ play_in (change_view change.now) self.old) }
         ensures refused { OnErr result (self.new ≡ self.old) }
 
         // A text that can't be played is NotPlain, also where a row would pass the limit.
-        ensures plain { (result ≡ Err ScreenFault.NotPlain) ↔ (can_play (change_view change.now) ≡ false) }
+        ensures plain { (result ≡ Err ScreenFault.NotPlain)
+            ↔ (can_play (change_view change.now) ≡ false) }
 
         // The limit is one of the change alone, as it is played without a bottom from the cursor's row on.
         ensures range { RefusesPastLimit (change_view change.now) self.old.screen result }
-        ensures memory { result ≡ Err ScreenFault.Memory → (text : List ℕ) × (change_view change.now ≡ TextView text) }
+        ensures memory { result ≡ Err ScreenFault.Memory → (text : List ℕ)
+            × (change_view change.now ≡ TextView text) }
     {
         self.screen.apply(change)?;
         let (row, _) = self.screen.cursor();

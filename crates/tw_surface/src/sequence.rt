@@ -40,7 +40,8 @@ impl Error for AddFault {}
 /// The row to which a position leads, or `None` where it is far out of range.
 fn moved_row(position: Position, at: isize) -> Option<isize>
     requires { nat_abs at ≤ 2147483647 }
-    ensures { MatchOption result (2147483647 < nat_abs (position_after position at)) (λ row. row ≡ position_after position at) }
+    ensures { MatchOption result (2147483647 < nat_abs (position_after position at))
+        (λ row. row ≡ position_after position at) }
 {
     match position {
         Position::Absolute(row) => {
@@ -63,7 +64,8 @@ fn measure_change(cols: usize, extent: Extent, change: &Change) -> Option<Extent
     requires above { 0 < cols }
     requires cols { cols ≤ 65535 }
     requires range { is_in_range (place_of extent) ≡ true }
-    ensures { Measures extent (places_of_change cols (change_view change.now) (place_of extent)) result }
+    ensures { Measures extent (places_of_change cols (change_view change.now)
+        (place_of extent)) result }
 {
     match change {
         Change::Text(text) => measure_text(cols, extent, text.as_str()),
@@ -104,8 +106,10 @@ impl ChangeSequence {
     /// A sequence without changes. Takes no memory.
     pub fn new(alloc: Global, rows: usize, cols: usize) -> Result<Self, SizeFault>
         ensures zero { (rows ≡ 0) ⊎ (cols ≡ 0) → result ≡ Err SizeFault.ZeroSize }
-        ensures large { 0 < rows → 0 < cols → (65535 < rows) ⊎ (65535 < cols) → result ≡ Err SizeFault.OutOfRange }
-        ensures ok { 0 < rows → 0 < cols → rows ≤ 65535 → cols ≤ 65535 → result ≡ Ok (record { cols = cols; changes = [] }) }
+        ensures large { 0 < rows → 0 < cols → (65535 < rows) ⊎ (65535 < cols) → result
+            ≡ Err SizeFault.OutOfRange }
+        ensures ok { 0 < rows → 0 < cols → rows ≤ 65535 → cols ≤ 65535 → result
+            ≡ Ok (record { cols = cols; changes = [] }) }
     {
         if rows == 0 || cols == 0 {
             return Err(SizeFault::ZeroSize);
@@ -139,7 +143,8 @@ impl ChangeSequence {
     /// Adds a change at the end. A refusal leaves the sequence as it was and drops the change;
     /// whether a place is out of range is tested before any growth.
     pub fn add<C: Into<Change>>(&mut self, change: C) -> Result<(), AddFault>
-        ensures { (made : Change) × C.converts change made × Adds (change_view made) self.old self.new result }
+        ensures { (made : Change) × C.converts change made
+            × Adds (change_view made) self.old self.new result }
     {
         self.add_change(change.into())
     }
@@ -161,10 +166,12 @@ impl ChangeSequence {
     /// Adds the relative move to a column and a row. A column that the screen doesn't have, or a row
     /// past the limit, is `OutOfRange`; a refusal leaves the sequence as it was.
     pub fn move_to(&mut self, to: (usize, isize)) -> Result<(), AddFault>
-        ensures moved { OnOk result (self.new ≡ with_move_to (record { x = to.0; y = to.1 }) self.old) }
+        ensures moved { OnOk result (self.new
+            ≡ with_move_to (record { x = to.0; y = to.1 }) self.old) }
         ensures place { OnOk result (place self.new ≡ record { x = to.0; y = to.1 }) }
         ensures refused { OnErr result (self.new ≡ self.old) }
-        ensures range { (result ≡ Err AddFault.OutOfRange) ↔ ((self.old.cols ≤ to.0) ⊎ (2147483647 < nat_abs to.1)) }
+        ensures range { (result ≡ Err AddFault.OutOfRange)
+            ↔ ((self.old.cols ≤ to.0) ⊎ (2147483647 < nat_abs to.1)) }
     {
         let (x, y) = to;
         if x >= self.cols || y > MAX_REACH || y < -MAX_REACH {
@@ -184,7 +191,8 @@ impl ChangeSequence {
 
 /// Adds a change at the end. The first one makes room for a whole painting.
 fn push_change(changes: &mut Vec<Change>, change: Change) -> Result<(), AllocError>
-    ensures items { changes.new.items ≡ (if is_ok result then changes.old.items ++ change ∷ [] else changes.old.items) }
+    ensures items { changes.new.items ≡
+        (if is_ok result then changes.old.items ++ change ∷ [] else changes.old.items) }
 {
     if changes.capacity() == 0 {
         changes.reserve(8)?;

@@ -81,7 +81,10 @@ impl ScriptTerminal {
     /// any; where memory for them is refused nothing is recorded, and the answer is `TerminalFault::Memory`.
     /// The calls after it go on.
     pub fn fail_at(&mut self, call: usize, taken: usize)
-        ensures { self.new ≡ record self.old { fault = Some (record { call = call; taken = taken }) } }
+        ensures { self.new ≡ record self.old {
+          fault = Some
+              (record { call = call; taken = taken });
+        } }
     {
         self.fault = Some(Fault { call, taken });
     }
@@ -162,7 +165,8 @@ impl ScriptTerminal {
     #[tactic(auto, using(crate::proofs::Parts::parts))]
     fn record_part(&mut self, changes: &[Change], taken: usize) -> Result<(), AllocError>
         ensures ok { OnOk result
-            (self.new ≡ on_terminal (with_batches (as_batch (take taken (batch_view changes.now)))) self.old) }
+            (self.new ≡ on_terminal (with_batches (as_batch (take taken (batch_view changes.now))))
+            self.old) }
         ensures err { OnErr result (self.new ≡ self.old) }
         ensures some { OnErr result (as_batch (take taken (batch_view changes.now)) ≢ []) }
     {

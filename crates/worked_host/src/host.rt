@@ -28,7 +28,8 @@ pub struct CommandHost {
 impl CommandHost {
     /// The host that knows these commands, with an empty history. It takes no memory.
     pub fn new(alloc: Global, known: Vec<String>) -> Self
-        ensures { ⟦<CommandHost as LineEditorHost>⟧.value result ≡ record { known = map string_bytes known.items; lines = [] } }
+        ensures { ⟦<CommandHost as LineEditorHost>⟧.value result
+            ≡ record { known = map string_bytes known.items; lines = [] } }
     {
         CommandHost {
             known,
@@ -38,7 +39,8 @@ impl CommandHost {
 
     /// The line with its first word in bold, if it is a command.
     fn show(&self, alloc: Global, line: &str) -> Result<Vec<OutputElement>, AllocError>
-        ensures { IfOk result (λ elements. map element_view elements.items ≡ shown_line (map string_bytes self.now.known.items) line.now) }
+        ensures { IfOk result (λ elements. map element_view elements.items
+            ≡ shown_line (map string_bytes self.now.known.items) line.now) }
     {
         let (word, rest) = split_first_word(line);
         if !is_known(self.known.as_slice(), word) {

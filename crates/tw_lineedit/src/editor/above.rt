@@ -13,7 +13,7 @@ use crate::editor::LineEditor;
 use crate::editor::feeding::LineStatus;
 use std::alloc::{AllocError, Global};
 use tw_host::LineEditorHost;
-use tw_painter::{Error, Mark};
+use tw_session::{Error, Mark};
 use tw_surface::{CellAttributes, Change, ColorAttribute};
 use tw_terminal::Terminal;
 
@@ -24,7 +24,8 @@ fn below_text(
     text: &str,
     mut painting: Vec<Change>,
 ) -> Result<Vec<Change>, AllocError>
-    ensures { IfOk result (λ all. batch_view all.items ≡ text_above before text.now ++ batch_view painting.items) }
+    ensures { IfOk result (λ all. batch_view all.items ≡ text_above before text.now
+        ++ batch_view painting.items) }
 {
     let mut all = Vec::new(alloc);
     if let Some(mark) = before {
@@ -55,12 +56,17 @@ impl<'term, T: Terminal> LineEditor<'term, T> {
             → (result ≡ Ok LineStatus.Ended) × (self.new.terminal.now ≡ self.old.terminal.now)
             × across T.state H.value IsSame self.old host.now self.new host.now }
         ensures ok { is_open self.old.session.state.mode ≡ true
-            → OnOk result (across T.state H.value (PrintsAbove H.rules text.now) self.old host.now self.new host.now) }
-        ensures status { IfOk result (λ status. status ≡ status_if (is_open self.new.session.state.mode)) }
+            → OnOk result (across T.state H.value (PrintsAbove H.rules text.now)
+            self.old host.now self.new host.now) }
+        ensures status { IfOk result (λ status. status
+            ≡ status_if (is_open self.new.session.state.mode)) }
         ensures shows { is_open self.old.session.state.mode ≡ true
-            → OnOk result (across T.state H.value (ShowsAbove H.rules text.now) self.old host.now self.new host.now) }
-        ensures err { IfErr result (across T.state H.value (FailsToPrint H.rules text.now) self.old host.now self.new host.now) }
-        ensures failures { FailuresTell result (T.state self.old.terminal.now).failures (T.state self.new.terminal.now).failures }
+            → OnOk result (across T.state H.value (ShowsAbove H.rules text.now)
+            self.old host.now self.new host.now) }
+        ensures err { IfErr result (across T.state H.value (FailsToPrint H.rules text.now)
+            self.old host.now self.new host.now) }
+        ensures failures { FailuresTell result (T.state self.old.terminal.now).failures
+            (T.state self.new.terminal.now).failures }
     {
         if self.session.is_open() {
             self.paint_below(host, text)?;
@@ -72,10 +78,14 @@ impl<'term, T: Terminal> LineEditor<'term, T> {
     fn paint_below<H: LineEditorHost>(&mut self, host: &H, text: &str) -> Result<(), Error>
         ensures same_reference { self.new.terminal.ghost_name ≡ self.old.terminal.ghost_name }
         ensures used { IsUsed T.follows self.old.terminal.now self.new.terminal.now }
-        ensures ok { OnOk result (across T.state H.value (PrintsAbove H.rules text.now) self.old host.now self.new host.now) }
-        ensures shows { OnOk result (across T.state H.value (ShowsAbove H.rules text.now) self.old host.now self.new host.now) }
-        ensures err { IfErr result (across T.state H.value (FailsToPrint H.rules text.now) self.old host.now self.new host.now) }
-        ensures failures { FailuresTell result (T.state self.old.terminal.now).failures (T.state self.new.terminal.now).failures }
+        ensures ok { OnOk result (across T.state H.value (PrintsAbove H.rules text.now)
+            self.old host.now self.new host.now) }
+        ensures shows { OnOk result (across T.state H.value (ShowsAbove H.rules text.now)
+            self.old host.now self.new host.now) }
+        ensures err { IfErr result (across T.state H.value (FailsToPrint H.rules text.now)
+            self.old host.now self.new host.now) }
+        ensures failures { FailuresTell result (T.state self.old.terminal.now).failures
+            (T.state self.new.terminal.now).failures }
     {
         let size = self.terminal.get_screen_size()?;
         let (painting, mark) = self.session.painting_over(host, size, None)?;

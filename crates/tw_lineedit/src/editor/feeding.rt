@@ -8,7 +8,7 @@ ghost use Rattle.tw_lineedit.specs.Lent.{LendsTerminal};
 ghost use Rattle.tw_input.specs.EventView.{event_view};
 ghost use Rattle.tw_terminal.specs.TerminalState.{size_after};
 ghost use Rattle.tw_terminal.specs.Uses.{IsUsed};
-ghost use Rattle.tw_painter.specs.EditState.{Inactive};
+ghost use Rattle.tw_session.specs.EditState.{Inactive};
 ghost use Rattle.tw_session.specs.Outcomes.{outcome_of, is_open};
 ghost use Rattle.tw_lineedit.specs.Feeding.{status_if, Begins, FailsToBegin, IsFed, FailsToFeed, FailsToFinish};
 ghost use Rattle.tw_lineedit.specs.Reading.{initial_text, FailuresTell};
@@ -16,7 +16,7 @@ ghost use Rattle.tw_lineedit.specs.Reading.{initial_text, FailuresTell};
 use crate::editor::LineEditor;
 use tw_host::LineEditorHost;
 use tw_input::InputEvent;
-use tw_painter::Error;
+use tw_session::Error;
 use tw_terminal::Terminal;
 
 /// Whether a line that is fed its events takes more of them.
@@ -43,13 +43,26 @@ impl<'term, T: Terminal> LineEditor<'term, T> {
     ) -> Result<(), Error>
         ensures same_reference { self.new.terminal.ghost_name ≡ self.old.terminal.ghost_name }
         ensures used { IsUsed T.follows self.old.terminal.now self.new.terminal.now }
-        ensures recursive { self.old.session.state.mode ≢ Inactive → (result ≡ Err Error.Recursive) × across T.state H.value IsSame self.old host.now self.new host.now }
-        ensures untouched { self.old.session.state.mode ≢ Inactive → self.new.terminal.now ≡ self.old.terminal.now }
-        ensures ok { self.old.session.state.mode ≡ Inactive → OnOk result (across T.state H.value (BeginsWith H.rules H.OVERRIDES (initial_text initial_value.entry)) self.old host.now self.new host.now) }
-        ensures open { self.old.session.state.mode ≡ Inactive → OnOk result (is_open self.new.session.state.mode ≡ true) }
-        ensures err { self.old.session.state.mode ≡ Inactive → IfErr result (across T.state H.value (FailsToBegin H.rules (initial_text initial_value.entry)) self.old host.now self.new host.now) }
-        ensures shows { self.old.session.state.mode ≡ Inactive → OnOk result (across T.state H.value (ShowsFirstWith H.rules (initial_text initial_value.entry)) self.old host.now self.new host.now) }
-        ensures failures { FailuresTell result (T.state self.old.terminal.now).failures (T.state self.new.terminal.now).failures }
+        ensures recursive { self.old.session.state.mode ≢ Inactive → (result ≡ Err Error.Recursive)
+            × across T.state H.value IsSame self.old host.now self.new host.now }
+        ensures untouched { self.old.session.state.mode ≢ Inactive → self.new.terminal.now
+            ≡ self.old.terminal.now }
+        ensures ok { self.old.session.state.mode ≡ Inactive
+            → OnOk result (across T.state H.value
+            (BeginsWith H.rules H.OVERRIDES (initial_text initial_value.entry))
+            self.old host.now self.new host.now) }
+        ensures open { self.old.session.state.mode ≡ Inactive
+            → OnOk result (is_open self.new.session.state.mode ≡ true) }
+        ensures err { self.old.session.state.mode ≡ Inactive
+            → IfErr result (across T.state H.value
+            (FailsToBegin H.rules (initial_text initial_value.entry))
+            self.old host.now self.new host.now) }
+        ensures shows { self.old.session.state.mode ≡ Inactive
+            → OnOk result (across T.state H.value
+            (ShowsFirstWith H.rules (initial_text initial_value.entry))
+            self.old host.now self.new host.now) }
+        ensures failures { FailuresTell result (T.state self.old.terminal.now).failures
+            (T.state self.new.terminal.now).failures }
     {
         if self.session.is_inactive() {
             self.open(host, initial_value)
@@ -69,16 +82,26 @@ impl<'term, T: Terminal> LineEditor<'term, T> {
         host: &mut H,
         event: &InputEvent,
     ) -> Result<LineStatus, Error>
-        requires { size_after (event_view event.now) (T.state self.old.terminal.now).size ≡ (T.state self.old.terminal.now).size }
+        requires { size_after (event_view event.now) (T.state self.old.terminal.now).size
+            ≡ (T.state self.old.terminal.now).size }
         ensures same_reference { self.new.terminal.ghost_name ≡ self.old.terminal.ghost_name }
         ensures used { IsUsed T.follows self.old.terminal.now self.new.terminal.now }
-        ensures ended { is_open self.old.session.state.mode ≡ false → (result ≡ Ok LineStatus.Ended) × across T.state H.value IsSame self.old host.old self.new host.new }
+        ensures ended { is_open self.old.session.state.mode ≡ false
+            → (result ≡ Ok LineStatus.Ended)
+            × across T.state H.value IsSame self.old host.old self.new host.new }
         ensures untouched { is_open self.old.session.state.mode ≡ false
             → (self.new.terminal.now ≡ self.old.terminal.now) × (host.new ≡ host.old) }
-        ensures ok { is_open self.old.session.state.mode ≡ true → OnOk result (across T.state H.value (IsFed H.rules H.OVERRIDES (event_view event.now)) self.old host.old self.new host.new) }
-        ensures status { IfOk result (λ status. status ≡ status_if (is_open self.new.session.state.mode)) }
-        ensures err { IfErr result (across T.state H.value (FailsToFeed H.rules H.OVERRIDES (event_view event.now)) self.old host.old self.new host.new) }
-        ensures failures { FailuresTell result (T.state self.old.terminal.now).failures (T.state self.new.terminal.now).failures }
+        ensures ok { is_open self.old.session.state.mode ≡ true
+            → OnOk result (across T.state H.value
+            (IsFed H.rules H.OVERRIDES (event_view event.now))
+            self.old host.old self.new host.new) }
+        ensures status { IfOk result (λ status. status
+            ≡ status_if (is_open self.new.session.state.mode)) }
+        ensures err { IfErr result (across T.state H.value
+            (FailsToFeed H.rules H.OVERRIDES (event_view event.now))
+            self.old host.old self.new host.new) }
+        ensures failures { FailuresTell result (T.state self.old.terminal.now).failures
+            (T.state self.new.terminal.now).failures }
     {
         if self.session.is_open() {
             self.take(host, event)?;
@@ -92,12 +115,17 @@ impl<'term, T: Terminal> LineEditor<'term, T> {
     pub fn finish_line(&mut self) -> Result<Option<String>, Error>
         ensures same_reference { self.new.terminal.ghost_name ≡ self.old.terminal.ghost_name }
         ensures used { IsUsed T.follows self.old.terminal.now self.new.terminal.now }
-        ensures inactive { self.old.session.state.mode ≡ Inactive → (result ≡ Ok None) × (own_frame T.state self.new ≡ own_frame T.state self.old) }
-        ensures untouched { self.old.session.state.mode ≡ Inactive → self.new.terminal.now ≡ self.old.terminal.now }
+        ensures inactive { self.old.session.state.mode ≡ Inactive → (result ≡ Ok None)
+            × (own_frame T.state self.new ≡ own_frame T.state self.old) }
+        ensures untouched { self.old.session.state.mode ≡ Inactive → self.new.terminal.now
+            ≡ self.old.terminal.now }
         ensures ok { self.old.session.state.mode ≢ Inactive
-            → IfOk result (λ it. FinishesLine (own_frame T.state self.old) (own_frame T.state self.new) (outcome_of (Ok it))) }
-        ensures err { IfErr result (FailsToFinish (own_frame T.state self.old) (own_frame T.state self.new)) }
-        ensures failures { FailuresTell result (T.state self.old.terminal.now).failures (T.state self.new.terminal.now).failures }
+            → IfOk result (λ it. FinishesLine (own_frame T.state self.old)
+            (own_frame T.state self.new) (outcome_of (Ok it))) }
+        ensures err { IfErr result (FailsToFinish (own_frame T.state self.old)
+            (own_frame T.state self.new)) }
+        ensures failures { FailuresTell result (T.state self.old.terminal.now).failures
+            (T.state self.new.terminal.now).failures }
     {
         if self.session.is_inactive() {
             return Ok(None);
@@ -110,8 +138,10 @@ impl<'term, T: Terminal> LineEditor<'term, T> {
     fn end_line(&mut self) -> Result<Option<String>, Error>
         ensures same_reference { self.new.terminal.ghost_name ≡ self.old.terminal.ghost_name }
         ensures used { IsUsed T.follows self.old.terminal.now self.new.terminal.now }
-        ensures ok { IfOk result (λ it. FinishesLine (own_frame T.state self.old) (own_frame T.state self.new) (outcome_of (Ok it))) }
-        ensures err { IfErr result (FailsToFinish (own_frame T.state self.old) (own_frame T.state self.new)) }
+        ensures ok { IfOk result (λ it. FinishesLine (own_frame T.state self.old)
+            (own_frame T.state self.new) (outcome_of (Ok it))) }
+        ensures err { IfErr result (FailsToFinish (own_frame T.state self.old)
+            (own_frame T.state self.new)) }
     {
         match self.session.answer() {
             Ok(line) => {
@@ -147,8 +177,12 @@ impl<'term, T: Terminal> LineEditor<'term, T> {
     fn open<H: LineEditorHost>(&mut self, host: &H, initial: Option<&str>) -> Result<(), Error>
         ensures same_reference { self.new.terminal.ghost_name ≡ self.old.terminal.ghost_name }
         ensures used { IsUsed T.follows self.old.terminal.now self.new.terminal.now }
-        ensures ok { OnOk result (across T.state H.value (BeginsWith H.rules H.OVERRIDES (initial_text initial.entry)) self.old host.now self.new host.now) }
-        ensures err { IfErr result (across T.state H.value (FailsToBegin H.rules (initial_text initial.entry)) self.old host.now self.new host.now) }
+        ensures ok { OnOk result (across T.state H.value
+            (BeginsWith H.rules H.OVERRIDES (initial_text initial.entry))
+            self.old host.now self.new host.now) }
+        ensures err { IfErr result (across T.state H.value
+            (FailsToBegin H.rules (initial_text initial.entry))
+            self.old host.now self.new host.now) }
     {
         match self.start_line(host, initial) {
             Ok(()) => Ok(()),
@@ -159,12 +193,17 @@ impl<'term, T: Terminal> LineEditor<'term, T> {
     /// Handles an event and paints, and closes where that is refused.
     #[tactic(auto, using(crate::proofs::FeedingLemmas::fed, crate::proofs::FeedingLemmas::fed_given_up))]
     fn take<H: LineEditorHost>(&mut self, host: &mut H, event: &InputEvent) -> Result<(), Error>
-        requires told { size_after (event_view event.now) (T.state self.old.terminal.now).size ≡ (T.state self.old.terminal.now).size }
+        requires told { size_after (event_view event.now) (T.state self.old.terminal.now).size
+            ≡ (T.state self.old.terminal.now).size }
         requires open { is_open self.old.session.state.mode ≡ true }
         ensures same_reference { self.new.terminal.ghost_name ≡ self.old.terminal.ghost_name }
         ensures used { IsUsed T.follows self.old.terminal.now self.new.terminal.now }
-        ensures ok { OnOk result (across T.state H.value (IsFed H.rules H.OVERRIDES (event_view event.now)) self.old host.old self.new host.new) }
-        ensures err { IfErr result (across T.state H.value (FailsToFeed H.rules H.OVERRIDES (event_view event.now)) self.old host.old self.new host.new) }
+        ensures ok { OnOk result (across T.state H.value
+            (IsFed H.rules H.OVERRIDES (event_view event.now))
+            self.old host.old self.new host.new) }
+        ensures err { IfErr result (across T.state H.value
+            (FailsToFeed H.rules H.OVERRIDES (event_view event.now))
+            self.old host.old self.new host.new) }
     {
         match self.advance(host, event) {
             Ok(()) => Ok(()),

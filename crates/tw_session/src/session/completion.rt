@@ -9,12 +9,12 @@ ghost use Rattle.tw_session.specs.Completion.{Advances, FailsToAdvance, IsMisfit
 ghost use Rattle.tw_session.specs.SessionView.{ActsOn, FailsToActOn, on_state};
 
 use super::Session;
+use crate::error::Error;
 use std::alloc::{AllocError, Global};
 use std::marker::Model;
 use std::mem;
 use tw_host::{CompletionCandidate, LineEditorHost};
 use tw_line::LineEditBuffer;
-use tw_painter::Error;
 
 /// Candidates for a line, of which one has come in.
 #[derive(Debug, Drop)]
@@ -27,7 +27,7 @@ pub struct Cycle {
 impl Model for Cycle {
     ghost use Rattle.std.specs.Prelude.{◌<◌, map, length};
     ghost use Rattle.tw_host.specs.CandidateView.{candidate_view};
-    ghost use Rattle.tw_painter.specs.EditState.{CycleView};
+    ghost use Rattle.tw_session.specs.EditState.{CycleView};
 
     ghost Value = { CycleView };
 
@@ -40,7 +40,11 @@ impl Cycle {
     /// The first candidate has come in for this line.
     fn new(candidates: Vec<CompletionCandidate>, original: LineEditBuffer) -> Self
         requires { 0 < vec_len candidates }
-        ensures { result ≡ record { candidates = map candidate_view candidates.items; index = 0; original = original } }
+        ensures { result ≡ record {
+          candidates = map candidate_view candidates.items;
+          index = 0;
+          original = original;
+        } }
     {
         Cycle {
             candidates,
@@ -66,9 +70,12 @@ impl Cycle {
 fn landing_of(start: usize, end: usize, text: &str, line: &str, cursor: usize) -> Option<usize>
     requires { IsCharBoundary line.now cursor }
     ensures { MatchOption result
-        (fits (cut_at line.now cursor) (record { start = start; end = end; text = text.now }) ≡ false)
-        (λ at. (fits (cut_at line.now cursor) (record { start = start; end = end; text = text.now }) ≡ true)
-        × (at ≡ landing (cut_at line.now cursor) (record { start = start; end = end; text = text.now }))) }
+        (fits (cut_at line.now cursor) (record { start = start; end = end; text = text.now })
+        ≡ false)
+        (λ at. (fits (cut_at line.now cursor)
+        (record { start = start; end = end; text = text.now }) ≡ true)
+        × (at ≡ landing (cut_at line.now cursor)
+        (record { start = start; end = end; text = text.now }))) }
 {
     if start > end || !line.is_char_boundary(start) || !line.is_char_boundary(end) {
         return None;
@@ -91,7 +98,8 @@ fn completed_by(
     candidate: &CompletionCandidate,
     line: &LineEditBuffer,
 ) -> Result<LineEditBuffer, Error>
-    ensures ok { IfOk result (λ completed. completed_by (candidate_view candidate.now) line.now ≡ Some completed) }
+    ensures ok { IfOk result (λ completed. completed_by (candidate_view candidate.now) line.now
+        ≡ Some completed) }
     ensures err { IfErr result (IsMisfit (candidate_view candidate.now) line.now) }
 {
     let text = candidate.text.as_str();
@@ -113,7 +121,8 @@ impl Session {
     #[tactic(auto, unfolding(crate::specs::Steps::apply, crate::specs::Completion::completion_step))]
     pub(super) fn complete<H: LineEditorHost>(&mut self, host: &H) -> Result<(), Error>
         ensures ok { OnOk result (ActsOn H.rules (H.value host.now) Complete self.old self.new) }
-        ensures err { IfErr result (FailsToActOn H.rules H.OVERRIDES (H.value host.now) Complete self.old self.new) }
+        ensures err { IfErr result (FailsToActOn H.rules H.OVERRIDES (H.value host.now)
+            Complete self.old self.new) }
     {
         match &mut self.cycle {
             Some(cycle) => {
@@ -132,7 +141,8 @@ impl Session {
     fn begin_completion<H: LineEditorHost>(&mut self, host: &H) -> Result<(), Error>
         requires { self.old.state.cycle ≡ None }
         ensures ok { OnOk result (ActsOn H.rules (H.value host.now) Complete self.old self.new) }
-        ensures err { IfErr result (FailsToActOn H.rules H.OVERRIDES (H.value host.now) Complete self.old self.new) }
+        ensures err { IfErr result (FailsToActOn H.rules H.OVERRIDES (H.value host.now)
+            Complete self.old self.new) }
     {
         if !H::OVERRIDES.complete {
             self.leave_search();
@@ -153,7 +163,11 @@ impl Session {
     /// The first of the candidates has come in, and makes this line; two or more are kept.
     fn take_first(&mut self, completed: LineEditBuffer, candidates: Vec<CompletionCandidate>)
         requires { self.old.state.cycle ≡ None }
-        ensures { self.new ≡ on_state (λ s. record s { cut = completed; cycle = cycle_of (map candidate_view candidates.items) s.cut }) self.old }
+        ensures { self.new
+            ≡ on_state (λ s. record s {
+              cut = completed;
+              cycle = cycle_of (map candidate_view candidates.items) s.cut;
+            }) self.old }
     {
         let original = mem::replace(&mut self.line, completed);
         if candidates.len() > 1 {

@@ -8,9 +8,8 @@ ghost use Rattle.tw_session.specs.SessionView.{on_state};
 
 use super::{Mode, Session};
 use std::alloc::AllocError;
-use tw_history::History;
 use tw_host::LineEditorHost;
-use tw_line::{LineEditBuffer, Movement, RepeatCount};
+use tw_line::{History, LineEditBuffer, Movement, RepeatCount};
 
 /// An edit of the line.
 #[derive(Clone, Copy, Debug)]
@@ -48,7 +47,9 @@ impl Session {
         edit: Edit<'_>,
     ) -> Result<(), AllocError>
         ensures host { host.new ≡ host.old }
-        ensures ok { OnOk result (self.new ≡ on_state (edit_step (H.rules.lines (H.value host.old)) (edit_of edit.entry)) self.old) }
+        ensures ok { OnOk result (self.new
+            ≡ on_state (edit_step (H.rules.lines (H.value host.old))
+            (edit_of edit.entry)) self.old) }
         ensures err { OnErr result (self.new ≡ self.old) }
         ensures memory { let lines = H.rules.lines (H.value host.old) in
             OnErr result (TakesMemoryToEdit edit.entry ⊎ SeeksAgain lines self.old.state.mode) }

@@ -2,16 +2,15 @@
 
 ghost use Rattle.std.specs.Prelude.{◌≡◌, ◌<◌, length, IfOk, OnOk, OnErr, option_map};
 ghost use Rattle.tw_session.specs.Memory.{HasLine, SearchesOr, SeeksAgain};
-ghost use Rattle.tw_history.specs.NearestMatch.{nearest_match, last_index};
+ghost use Rattle.tw_line.specs.NearestMatch.{nearest_match, last_index};
 ghost use Rattle.tw_session.specs.Search.{search_left, searched_again, search_step, nearest_match_from, begun_search};
 ghost use Rattle.tw_session.specs.SessionView.{on_state, found_view};
 
 use super::{Mode, Session};
 use std::alloc::{AllocError, Global};
 use std::mem;
-use tw_history::{History, HistoryIndex, SearchDirection, SearchStyle};
 use tw_host::LineEditorHost;
-use tw_line::LineEditBuffer;
+use tw_line::{History, HistoryIndex, LineEditBuffer, SearchDirection, SearchStyle};
 
 /// A line that was found, copied, with its cursor where the pattern stands.
 #[derive(Debug, Drop)]
@@ -30,7 +29,8 @@ fn find<H: LineEditorHost>(
     pattern: &str,
 ) -> Result<Option<Found>, AllocError>
     ensures found { let lines = H.rules.lines (H.value host.old) in
-        IfOk result (λ found. option_map found_view found ≡ nearest_match lines start direction pattern.now) }
+        IfOk result (λ found. option_map found_view found
+        ≡ nearest_match lines start direction pattern.now) }
     ensures memory { OnErr result (start < length (H.rules.lines (H.value host.old))) }
     ensures host { host.new ≡ host.old }
 {
@@ -62,7 +62,8 @@ fn find_from_last<H: LineEditorHost>(
     ensures found { let lines = H.rules.lines (H.value host.old) in
         IfOk result (λ found. option_map found_view found
         ≡ nearest_match_from lines (last_index lines) direction pattern.now) }
-    ensures memory { let lines = H.rules.lines (H.value host.old) in OnErr result (HasLine lines (last_index lines)) }
+    ensures memory { let lines = H.rules.lines (H.value host.old) in
+        OnErr result (HasLine lines (last_index lines)) }
     ensures host { host.new ≡ host.old }
 {
     match host.history().last() {
@@ -92,9 +93,11 @@ impl Session {
     ) -> Result<(), AllocError>
         ensures host { host.new ≡ host.old }
         ensures ok { let lines = H.rules.lines (H.value host.old) in
-            OnOk result (self.new ≡ on_state (λ s. searched_again lines (record s { cut = line })) self.old) }
+            OnOk result (self.new ≡ on_state
+            (λ s. searched_again lines (record s { cut = line })) self.old) }
         ensures err { OnErr result (self.new ≡ self.old) }
-        ensures memory { let lines = H.rules.lines (H.value host.old) in OnErr result (SeeksAgain lines self.old.state.mode) }
+        ensures memory { let lines = H.rules.lines (H.value host.old) in
+            OnErr result (SeeksAgain lines self.old.state.mode) }
     {
         if let Mode::Searching {
             style,
@@ -122,10 +125,12 @@ impl Session {
         direction: SearchDirection,
     ) -> Result<(), AllocError>
         ensures host { host.new ≡ host.old }
-        ensures ok { OnOk result (self.new ≡ on_state (search_step (H.rules.lines (H.value host.old)) direction) self.old) }
+        ensures ok { OnOk result (self.new
+            ≡ on_state (search_step (H.rules.lines (H.value host.old)) direction) self.old) }
         ensures err { OnErr result (self.new ≡ self.old) }
         ensures memory { let lines = H.rules.lines (H.value host.old) in let old = self.old.state in
-            OnErr result (SearchesOr (HasLine lines (last_index lines)) lines direction old.history_index old.mode) }
+            OnErr result (SearchesOr (HasLine lines (last_index lines))
+            lines direction old.history_index old.mode) }
     {
         match &mut self.mode {
             Mode::Searching {
@@ -159,9 +164,11 @@ impl Session {
         direction: SearchDirection,
     ) -> Result<(), AllocError>
         ensures host { host.new ≡ host.old }
-        ensures ok { OnOk result (self.new ≡ on_state (begun_search (H.rules.lines (H.value host.old)) direction) self.old) }
+        ensures ok { OnOk result (self.new
+            ≡ on_state (begun_search (H.rules.lines (H.value host.old)) direction) self.old) }
         ensures err { OnErr result (self.new ≡ self.old) }
-        ensures memory { let lines = H.rules.lines (H.value host.old) in OnErr result (HasLine lines (last_index lines)) }
+        ensures memory { let lines = H.rules.lines (H.value host.old) in
+            OnErr result (HasLine lines (last_index lines)) }
     {
         let style = SearchStyle::Substring;
         let last = host.history().last();

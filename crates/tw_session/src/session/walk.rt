@@ -2,7 +2,7 @@
 
 ghost use Rattle.std.specs.Prelude.{◌≡◌, ◌+◌, ◌<◌, ◌^◌, length, IfOk, IfSome, OnOk, OnErr, slice_get, option_map};
 ghost use Rattle.std.specs.Cow.{cow_str_bytes};
-ghost use Rattle.tw_history.specs.NearestMatch.{last_index};
+ghost use Rattle.tw_line.specs.NearestMatch.{last_index};
 ghost use Rattle.tw_session.specs.Memory.{HasLine, KeepsText, SearchesOr, TakesMemoryForth, index_before};
 ghost use Rattle.tw_session.specs.Steps.{history_step};
 ghost use Rattle.tw_session.specs.Walk.{previous_step, previous_of_typed, next_step, with_line_of, with_line_if, with_typed_line};
@@ -11,8 +11,8 @@ ghost use Rattle.tw_session.specs.SessionView.{on_state};
 use super::{Mode, Session};
 use std::alloc::{AllocError, Global};
 use std::borrow::CowStr;
-use tw_history::{History, HistoryIndex, SearchDirection};
 use tw_host::LineEditorHost;
+use tw_line::{History, HistoryIndex, SearchDirection};
 
 /// The line at an index, if there is one. Where there is none the history is not asked.
 fn line_at<L: History>(
@@ -20,7 +20,8 @@ fn line_at<L: History>(
     alloc: Global,
     idx: HistoryIndex,
 ) -> Result<Option<CowStr<'_>>, AllocError>
-    ensures line { IfOk result (λ line. option_map cow_str_bytes line ≡ slice_get (L.lines history.now) idx) }
+    ensures line { IfOk result (λ line. option_map cow_str_bytes line
+        ≡ slice_get (L.lines history.now) idx) }
     ensures memory { OnErr result (idx < length (L.lines history.now)) }
 {
     match history.last() {
@@ -35,7 +36,8 @@ fn line_after<L: History>(
     alloc: Global,
     idx: HistoryIndex,
 ) -> Result<Option<CowStr<'_>>, AllocError>
-    ensures line { IfOk result (λ line. option_map cow_str_bytes line ≡ slice_get (L.lines history.now) (idx + 1)) }
+    ensures line { IfOk result (λ line. option_map cow_str_bytes line
+        ≡ slice_get (L.lines history.now) (idx + 1)) }
     ensures fits { IfOk result (λ line. IfSome line (λ it. idx + 1 < 2 ^ 64)) }
     ensures memory { OnErr result (idx + 1 < length (L.lines history.now)) }
 {
@@ -51,7 +53,8 @@ impl Session {
         ensures host { host.new ≡ host.old }
         ensures ok { let lines = H.rules.lines (H.value host.old) in
             OnOk result (self.new
-            ≡ on_state (λ s. history_step lines SearchDirection.Backwards (previous_step lines) s s.mode) self.old) }
+            ≡ on_state (λ s. history_step lines SearchDirection.Backwards (previous_step lines)
+            s s.mode) self.old) }
         ensures err { OnErr result (self.new ≡ self.old) }
         ensures memory { let lines = H.rules.lines (H.value host.old) in let old = self.old.state in
             OnErr result (SearchesOr (HasLine lines (index_before lines old.history_index))
@@ -68,7 +71,8 @@ impl Session {
         ensures host { host.new ≡ host.old }
         ensures ok { let lines = H.rules.lines (H.value host.old) in
             OnOk result (self.new
-            ≡ on_state (λ s. history_step lines SearchDirection.Forwards (next_step lines) s s.mode) self.old) }
+            ≡ on_state (λ s. history_step lines SearchDirection.Forwards (next_step lines)
+            s s.mode) self.old) }
         ensures err { OnErr result (self.new ≡ self.old) }
         ensures memory { let lines = H.rules.lines (H.value host.old) in let old = self.old.state in
             OnErr result (SearchesOr (TakesMemoryForth lines old.typed_line old.history_index)
@@ -84,7 +88,8 @@ impl Session {
     #[tactic(auto, unfolding(crate::specs::Walk::previous_step))]
     fn history_previous<H: LineEditorHost>(&mut self, host: &mut H) -> Result<(), AllocError>
         ensures host { host.new ≡ host.old }
-        ensures ok { OnOk result (self.new ≡ on_state (previous_step (H.rules.lines (H.value host.old))) self.old) }
+        ensures ok { OnOk result (self.new
+            ≡ on_state (previous_step (H.rules.lines (H.value host.old))) self.old) }
         ensures err { OnErr result (self.new ≡ self.old) }
         ensures memory { let lines = H.rules.lines (H.value host.old) in
             OnErr result (HasLine lines (index_before lines self.old.state.history_index)) }
@@ -117,9 +122,11 @@ impl Session {
     fn take_last<H: LineEditorHost>(&mut self, host: &mut H) -> Result<(), AllocError>
         ensures host { host.new ≡ host.old }
         ensures ok { let lines = H.rules.lines (H.value host.old) in
-            OnOk result (self.new ≡ on_state (λ s. previous_of_typed lines s (last_index lines)) self.old) }
+            OnOk result (self.new ≡ on_state
+            (λ s. previous_of_typed lines s (last_index lines)) self.old) }
         ensures err { OnErr result (self.new ≡ self.old) }
-        ensures memory { let lines = H.rules.lines (H.value host.old) in OnErr result (HasLine lines (last_index lines)) }
+        ensures memory { let lines = H.rules.lines (H.value host.old) in
+            OnErr result (HasLine lines (last_index lines)) }
     {
         let Some(last) = host.history().last() else {
             return Ok(());
@@ -135,10 +142,12 @@ impl Session {
     #[tactic(auto, unfolding(crate::specs::Walk::next_step))]
     fn history_next<H: LineEditorHost>(&mut self, host: &mut H) -> Result<(), AllocError>
         ensures host { host.new ≡ host.old }
-        ensures ok { OnOk result (self.new ≡ on_state (next_step (H.rules.lines (H.value host.old))) self.old) }
+        ensures ok { OnOk result (self.new
+            ≡ on_state (next_step (H.rules.lines (H.value host.old))) self.old) }
         ensures err { OnErr result (self.new ≡ self.old) }
         ensures memory { let old = self.old.state in
-            OnErr result (TakesMemoryForth (H.rules.lines (H.value host.old)) old.typed_line old.history_index) }
+            OnErr result (TakesMemoryForth (H.rules.lines (H.value host.old))
+            old.typed_line old.history_index) }
     {
         let Some(index) = self.history_index else {
             return Ok(());

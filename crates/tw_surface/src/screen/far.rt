@@ -56,7 +56,8 @@ pub fn write_cell(cells: &mut Vec<Cell>, row: usize, col: usize, ch: char)
 // Drops the blanks at the end.
 pub fn trim_cells(cells: &mut Vec<Cell>)
     ensures shown { cell_in cells.new.items ≡ cell_in cells.old.items }
-    ensures sparse { (width first : ℕ) → IsSparse width first cells.old.items → IsSparse width first cells.new.items }
+    ensures sparse { (width first : ℕ) → IsSparse width first cells.old.items
+        → IsSparse width first cells.new.items }
     ensures ended { AreEnded cells.new.items }
 {
     let mut end = cells.len();
@@ -80,8 +81,10 @@ fn count_before(cells: &[Cell], row: usize, col: usize) -> usize
 // Removes the cells at a row and a column and after it, and the blanks at the end of the others.
 pub fn clear_from(cells: &mut Vec<Cell>, row: usize, col: usize)
     requires { IsInOrder cells.old.items }
-    ensures cleared { cell_in cells.new.items ≡ cells_cleared_from (cell_in cells.old.items) row col }
-    ensures sparse { (width first : ℕ) → IsSparse width first cells.old.items → IsSparse width first cells.new.items }
+    ensures cleared { cell_in cells.new.items
+        ≡ cells_cleared_from (cell_in cells.old.items) row col }
+    ensures sparse { (width first : ℕ) → IsSparse width first cells.old.items
+        → IsSparse width first cells.new.items }
     ensures ended { AreEnded cells.new.items }
 {
     cells.truncate(count_before(cells, row, col));

@@ -98,7 +98,8 @@ pub fn near_row(near: &[u8], width: usize, row: usize, cols: usize) -> &[u8]
     ensures len { length result.now ≤ cols }
     ensures width { length result.now ≤ width }
     ensures near { AreNearFrom (row * width) near.now result.now }
-    ensures all { (k : ℕ) → length result.now ≤ k → k < cols → k < width → length near.now ≤ row * width + k }
+    ensures all { (k : ℕ) → length result.now ≤ k → k < cols → k < width → length near.now
+        ≤ row * width + k }
 {
     let start = place_of(width, row, 0).min(near.len());
     let count = cols.min(width).min(near.len() - start);

@@ -47,7 +47,8 @@ pub fn ends_in_range(width: usize, start_row: usize, start_col: usize, text: &[u
     requires width_most { width ≤ 65535 }
     requires row { start_row ≤ 4294967295 }
     requires col { start_col ≤ width }
-    ensures { IsTrue result ↔ ((play_text width text.now (cursor_at start_row start_col)).row ≤ 4294967295) }
+    ensures { IsTrue result ↔ ((play_text width text.now (cursor_at start_row start_col)).row
+        ≤ 4294967295) }
 {
     if text.len() <= LAST_ROW - start_row {
         return true;
@@ -112,7 +113,8 @@ fn play_front(
     ensures len { vec_len far.new ≤ vec_len far.old + result.0 }
     ensures capacity { vec_capacity far.old ≤ vec_capacity far.new }
     ensures place { let rest = drop result.0 text.now in
-        result.1 * width + result.2 + reach_of width rest ≤ row * width + col + reach_of width text.now }
+        result.1 * width + result.2 + reach_of width rest
+        ≤ row * width + col + reach_of width text.now }
 {
     let room = near.len().saturating_sub(place_of(width, row, col));
     let run = printable_run(&text[..room.min(text.len())]);
@@ -134,7 +136,8 @@ pub fn play_bytes(
     text: &[u8],
 ) -> (usize, usize)
     requires sound { AreSoundCells width start_row start_col near.old far.old.items }
-    requires row { (played_at width text.now near.old far.old.items start_row start_col).row ≤ 4294967295 }
+    requires row { (played_at width text.now near.old far.old.items start_row start_col).row
+        ≤ 4294967295 }
     requires plain { list_all is_plain text.now ≡ true }
     requires room { HasRoomFor width text.now (start_row * width + start_col) near.old far.old }
     ensures played { let after = picture_of width near.new far.new.items result.0 result.1 in

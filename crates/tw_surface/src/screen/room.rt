@@ -24,12 +24,14 @@ pub fn make_room(
 ) -> Result<(), AllocError>
     requires ascii { All (λ b. b < 128) near.old.items }
     requires sparse { IsSparse width (length near.old.items) far.old.items }
-    ensures shown { shown_at width near.new.items far.new.items ≡ shown_at width near.old.items far.old.items }
+    ensures shown { shown_at width near.new.items far.new.items
+        ≡ shown_at width near.old.items far.old.items }
     ensures ascii { All (λ b. b < 128) near.new.items }
     ensures sparse { IsSparse width (length near.new.items) far.new.items }
     ensures near { OnErr result (near.new.items ≡ near.old.items) }
     ensures far { OnErr result (far.new.items ≡ far.old.items) }
-    ensures room { OnOk result (vec_len near.new < end → vec_len far.new + count ≤ vec_capacity far.new) }
+    ensures room { OnOk result (vec_len near.new < end → vec_len far.new + count
+        ≤ vec_capacity far.new) }
 {
     if end <= near.len() {
         return Ok(());
@@ -75,7 +77,8 @@ fn settle(near: &mut Vec<u8>, far: &mut Vec<Cell>, width: usize)
     requires sparse { IsSparse width (length near.old.items) far.old.items }
     requires room { AreCellsBefore width (vec_capacity near.old) far.old.items }
     ensures far { far.new.items ≡ [] }
-    ensures shown { shown_at width near.new.items far.new.items ≡ shown_at width near.old.items far.old.items }
+    ensures shown { shown_at width near.new.items far.new.items
+        ≡ shown_at width near.old.items far.old.items }
     ensures ascii { All (λ b. b < 128) near.new.items }
     ensures capacity { vec_capacity near.old ≤ vec_capacity near.new }
 {

@@ -12,10 +12,15 @@ const BLANKS: [u8; 64] = [b' '; 64];
 // Adds characters of ASCII to a text.
 pub fn push_ascii(shown: &mut String, characters: &[u8]) -> Result<(), AllocError>
     requires { All (λ b. b < 128) characters.now }
-    ensures bytes { string_bytes shown.new ≡ (if is_ok result then string_bytes shown.old ++ characters.now else string_bytes shown.old) }
-    ensures len { string_len shown.new ≡ (if is_ok result then string_len shown.old + length characters.now else string_len shown.old) }
+    ensures bytes { let before = string_bytes shown.old in
+        string_bytes shown.new
+        ≡ (if is_ok result then before ++ characters.now else before) }
+    ensures len { string_len shown.new ≡
+        (if is_ok result then string_len shown.old
+        + length characters.now else string_len shown.old) }
     ensures capacity { string_capacity shown.old ≤ string_capacity shown.new }
-    ensures succeeds { string_len shown.old + length characters.now ≤ string_capacity shown.old → IsOk result }
+    ensures succeeds { string_len shown.old + length characters.now ≤ string_capacity shown.old
+        → IsOk result }
 {
     // SAFETY: bytes below 128 are UTF-8, which is proved here.
     shown.push_str(unsafe { str::from_utf8_unchecked(characters) })

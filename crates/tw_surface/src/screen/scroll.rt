@@ -41,7 +41,8 @@ fn drop_first(cells: &mut Vec<Cell>, count: usize)
 fn drop_rows(cells: &mut Vec<Cell>, rows: usize)
     requires { IsInOrder cells.old.items }
     ensures raised { cell_in cells.new.items ≡ (λ r c. cell_in cells.old.items (r + rows) c) }
-    ensures sparse { (width first : ℕ) → IsSparse width first cells.old.items → IsSparse width (first - rows * width) cells.new.items }
+    ensures sparse { (width first : ℕ) → IsSparse width first cells.old.items
+        → IsSparse width (first - rows * width) cells.new.items }
     ensures ended { AreEnded cells.old.items → AreEnded cells.new.items }
 {
     let count = count_above(cells, rows);
@@ -55,7 +56,8 @@ impl Screen {
         requires { rows ≤ self.old.row }
         ensures width { self.new.width ≡ self.old.width }
         ensures raised { picture self.new ≡ from_row rows (picture self.old) }
-        ensures near { (h : ℕ) → ((r c : ℕ) → h ≤ r → (picture self.new).cell r c ≡ blank) → length self.new.near ≤ h * self.new.width }
+        ensures near { (h : ℕ) → ((r c : ℕ) → h ≤ r → (picture self.new).cell r c ≡ blank)
+            → length self.new.near ≤ h * self.new.width }
     {
         let count = place_of(self.width, rows, 0).min(self.near.len());
         self.near.drain(..count);

@@ -1,5 +1,5 @@
 -- None of the rows before this one ends in a blank.
-use Rattle.tw_extremes.specs.Extremes.{NonePasses}
+use Rattle.tw_line.specs.Extremes.{NonePasses}
 use Rattle.tw_changed.specs.Redrawings.{ends_blank}
 use Rattle.tw_changed.specs.Sending.{screen_cells}
 use Rattle.tw_changed.proofs.difference.are_full.Given as goal

@@ -1,6 +1,6 @@
 -- Nothing stands from this index on.
 use Rattle.std.proofs.Common.{◌≤◌, ◌*◌}
-use Rattle.tw_extremes.specs.Extremes.{NonePasses}
+use Rattle.tw_line.specs.Extremes.{NonePasses}
 use Rattle.tw_changed.specs.Differences.{is_used}
 use Rattle.tw_changed.specs.Sending.{screen_cells}
 use Rattle.tw_changed.proofs.difference.end_of.Given as goal

@@ -1,5 +1,5 @@
 -- No column before this one differs.
-use Rattle.tw_extremes.specs.Extremes.{NonePasses}
+use Rattle.tw_line.specs.Extremes.{NonePasses}
 use Rattle.tw_changed.specs.Differences.{differ_in}
 use Rattle.tw_changed.specs.Redrawings.{left_of}
 use Rattle.tw_changed.specs.Sending.{screen_cells}

@@ -1,6 +1,6 @@
 use Rattle.std.proofs.Common.{◌≡◌, ◌≤◌, ◌+◌, ◌*◌, ◌/◌, ◌%◌, suc, is_none, div-add-mod', subst, arith}
 use Rattle.std.proofs.lemmas.Nat.{mul-le}
-use Rattle.tw_extremes.specs.Extremes.{least_from}
+use Rattle.tw_line.specs.Extremes.{least_from}
 use Rattle.tw_changed.specs.Differences.{differ_in}
 use Rattle.tw_changed.specs.Sending.{screen_cells}
 use Rattle.tw_changed.proofs.FoundColumns.{other_before, same_before, same_to}

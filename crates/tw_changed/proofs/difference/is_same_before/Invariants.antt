@@ -1,6 +1,6 @@
 -- No index before this row differs.
 use Rattle.std.proofs.Common.{◌*◌}
-use Rattle.tw_extremes.specs.Extremes.{NonePasses}
+use Rattle.tw_line.specs.Extremes.{NonePasses}
 use Rattle.tw_changed.specs.Differences.{differ_in}
 use Rattle.tw_changed.specs.Redrawings.{indexed}
 use Rattle.tw_changed.specs.Sending.{screen_cells}

@@ -1,5 +1,5 @@
 use Rattle.std.proofs.Common.{is_none, ap, sym, ◌∙◌, arith}
-use Rattle.tw_extremes.proofs.ExtremesLemmas.{least_from-is, least_from-none}
+use Rattle.tw_line.proofs.ExtremesLemmas.{least_from-is, least_from-none}
 use Rattle.tw_changed.specs.Differences.{differ_in}
 use Rattle.tw_changed.specs.Sending.{screen_cells}
 use Rattle.tw_changed.proofs.FoundColumns.{none_above}

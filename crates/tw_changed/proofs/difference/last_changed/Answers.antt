@@ -1,5 +1,5 @@
 use Rattle.std.proofs.Common.{◌-◌, sym, ◌∙◌, arith}
-use Rattle.tw_extremes.proofs.ExtremesLemmas.{greatest_below-is, greatest_below-none}
+use Rattle.tw_line.proofs.ExtremesLemmas.{greatest_below-is, greatest_below-none}
 use Rattle.tw_changed.specs.Differences.{differ_in}
 use Rattle.tw_changed.specs.Redrawings.{left_of}
 use Rattle.tw_changed.specs.Sending.{screen_cells}

@@ -1,6 +1,6 @@
 -- No column from this one on differs.
 use Rattle.std.proofs.Common.{◌≤◌}
-use Rattle.tw_extremes.specs.Extremes.{NonePasses}
+use Rattle.tw_line.specs.Extremes.{NonePasses}
 use Rattle.tw_changed.specs.Differences.{differ_in}
 use Rattle.tw_changed.specs.Redrawings.{left_of}
 use Rattle.tw_changed.specs.Sending.{screen_cells}

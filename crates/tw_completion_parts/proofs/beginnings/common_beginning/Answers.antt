@@ -1,6 +1,6 @@
 use Rattle.std.proofs.Common.{◌≡◌, ◌+◌, ◌-◌, ◌∷◌, ◌++◌, [], length, map, take, string_bytes, sym, ap, subst, ◌∙◌, arith}
 use Rattle.std.proofs.lemmas.List.{take_all, take_more, map-append}
-use Rattle.tw_extremes.specs.Extremes.{IsGreatest}
+use Rattle.tw_line.specs.Extremes.{IsGreatest}
 use Rattle.tw_line.proofs.BoundaryLemmas.{IsCharBoundary-from}
 use Rattle.tw_completion_parts.specs.Beginnings.{common_beginning, is_shared, shared_len}
 use Rattle.tw_completion_parts.proofs.BeginningLemmas.{front_passes, shared-alone, shared-more, shared_len-is}

@@ -1,6 +1,6 @@
 -- The end is the greatest one that is shared with the texts so far.
 use Rattle.std.proofs.Common.{◌+◌, length, map, string_bytes, take}
-use Rattle.tw_extremes.specs.Extremes.{IsGreatest}
+use Rattle.tw_line.specs.Extremes.{IsGreatest}
 use Rattle.tw_completion_parts.specs.Beginnings.{is_shared}
 use Rattle.tw_completion_parts.proofs.beginnings.common_beginning.Given as goal
 

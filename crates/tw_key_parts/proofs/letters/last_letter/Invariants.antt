@@ -1,6 +1,6 @@
 -- So many steps have been made, whether a letter stands there is known, and letters ended nowhere before.
 use Rattle.std.proofs.Common.{◌≡◌}
-use Rattle.tw_extremes.specs.Extremes.{NonePasses}
+use Rattle.tw_line.specs.Extremes.{NonePasses}
 use Rattle.tw_line.specs.Movements.{after_move}
 use Rattle.tw_key_parts.specs.LetterWords.{is_last_letter, is_letter_after, cluster_steps}
 use Rattle.tw_key_parts.proofs.letters.last_letter.Given as goal

@@ -1,6 +1,6 @@
 -- No line above the index, up to the first one, begins as the line does.
 use Rattle.std.proofs.Common.{◌+◌}
-use Rattle.tw_extremes.specs.Extremes.{NonePasses}
+use Rattle.tw_line.specs.Extremes.{NonePasses}
 use Rattle.tw_key_parts.specs.PrefixSearch.{is_prefix_match}
 use Rattle.tw_key_parts.proofs.prefix_search.older_match_from.Given as goal
 

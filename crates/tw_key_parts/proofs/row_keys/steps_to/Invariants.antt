@@ -1,6 +1,6 @@
 -- `count` steps have been made, and none of them reached the offset.
 use Rattle.std.proofs.Common.{◌≡◌}
-use Rattle.tw_extremes.specs.Extremes.{NonePasses}
+use Rattle.tw_line.specs.Extremes.{NonePasses}
 use Rattle.tw_line.specs.Movements.{after_move}
 use Rattle.tw_key_parts.specs.RowKeys.{is_reached_by, row_steps}
 use Rattle.tw_key_parts.proofs.row_keys.steps_to.Given as goal

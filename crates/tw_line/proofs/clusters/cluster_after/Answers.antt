@@ -1,4 +1,4 @@
-use Rattle.tw_extremes.specs.Extremes.{iterate}
+use Rattle.tw_line.specs.Extremes.{iterate}
 use Rattle.tw_line.proofs.clusters.cluster_after.Goals as goal
 
 pub returns-clause-value : goal.returns-clause-value

@@ -1,9 +1,9 @@
 use Rattle.std.proofs.Common.{◌≡◌, ◌-◌, refl, sym, ap, ◌∙◌, arith, rules}
 use Rattle.unicode_segmentation.proofs.CursorLemmas.{IsChunkOf-whole}
 use Rattle.tw_line.specs.Clusters.{cluster_before}
-use Rattle.tw_extremes.specs.Extremes.{iterate}
+use Rattle.tw_line.specs.Extremes.{iterate}
 use Rattle.tw_line.proofs.ClusterLemmas.{StandsAt-previous, cluster_before-start}
-use Rattle.tw_extremes.proofs.ExtremesLemmas.{repeated_none, repeated_once, repeated_stays}
+use Rattle.tw_line.proofs.ExtremesLemmas.{repeated_none, repeated_once, repeated_stays}
 use Rattle.tw_line.proofs.clusters.clusters_before.Goals as goal
 
 pub loop-round-init : goal.loop-round-init

@@ -1,7 +1,7 @@
 use Rattle.std.proofs.Common.{◌≡◌, ◌-◌}
 use Rattle.std.specs.Str.{IsCharBoundary}
 use Rattle.tw_line.specs.Clusters.{cluster_before}
-use Rattle.tw_extremes.specs.Extremes.{iterate}
+use Rattle.tw_line.specs.Extremes.{iterate}
 use Rattle.tw_line.proofs.ClusterLemmas.{StandsAt}
 use Rattle.tw_line.proofs.clusters.clusters_before.Given as goal
 

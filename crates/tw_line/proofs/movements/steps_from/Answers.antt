@@ -1,5 +1,5 @@
 use Rattle.std.proofs.Common.{sym, ◌∙◌, arith}
-use Rattle.tw_extremes.proofs.ExtremesLemmas.{repeated_stays, repeated_once, repeated_none}
+use Rattle.tw_line.proofs.ExtremesLemmas.{repeated_stays, repeated_once, repeated_none}
 use Rattle.tw_line.proofs.movements.steps_from.Goals as goal
 
 pub returns-then-next-at-clause-value : goal.returns-then-next-at-clause-value

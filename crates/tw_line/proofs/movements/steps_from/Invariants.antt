@@ -1,6 +1,6 @@
 use Rattle.std.proofs.Common.{◌≡◌, ◌-◌}
 use Rattle.std.specs.Str.{IsCharBoundary}
-use Rattle.tw_extremes.specs.Extremes.{iterate}
+use Rattle.tw_line.specs.Extremes.{iterate}
 use Rattle.tw_line.specs.OffsetSteps.{step_from}
 use Rattle.tw_line.specs.Text.{bytes_of}
 use Rattle.tw_line.proofs.movements.steps_from.Given as goal

@@ -1,7 +1,7 @@
 use Rattle.std.proofs.Common.{◌≡◌, ◌∙◌, Some, None, ap, sym, rules}
 use Rattle.std.specs.Option.{is_none}
-use Rattle.tw_history.specs.HistoryAdditions.{match_view}
-use Rattle.tw_history.specs.NearestMatch.{last_index}
+use Rattle.tw_line.specs.HistoryAdditions.{match_view}
+use Rattle.tw_line.specs.NearestMatch.{last_index}
 use Rattle.tw_prompt_host.proofs.FailingLemmas.{failing_is, none_fails, none_of_map}
 use Rattle.tw_prompt_host.proofs.failing.is_failing.Goals as goal
 

@@ -1,5 +1,5 @@
 use Rattle.std.proofs.Common.{◌≡◌, ◌<◌, ◌-◌, arith, rules, Some, None}
-use Rattle.tw_history.specs.NearestMatch.{line_at}
+use Rattle.tw_line.specs.NearestMatch.{line_at}
 use Rattle.tw_prompt_host.specs.Hint.{continuation_of}
 use Rattle.tw_prompt_host.proofs.HintLemmas.{is_below, is_newest, is_none}
 use Rattle.tw_prompt_host.proofs.hint.newest_rest.Goals as goal

@@ -1,6 +1,6 @@
 use Rattle.std.proofs.Common.{◌≡◌, ◌≤◌, length}
-use Rattle.tw_extremes.specs.Extremes.{greatest_below}
-use Rattle.tw_history.specs.NearestMatch.{line_at}
+use Rattle.tw_line.specs.Extremes.{greatest_below}
+use Rattle.tw_line.specs.NearestMatch.{line_at}
 use Rattle.tw_prompt_host.specs.Hint.{is_longer}
 use Rattle.tw_prompt_host.proofs.hint.newest_rest.Given as goal
 

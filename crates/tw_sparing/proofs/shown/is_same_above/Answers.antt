@@ -1,6 +1,6 @@
 use Rattle.std.proofs.Common.{◌≡◌, ap, sym, subst, is_none, ◌∙◌, inl, inr, arith, rules}
 use Rattle.std.proofs.lemmas.Bool.{cases_eq}
-use Rattle.tw_extremes.specs.Extremes.{least_from}
+use Rattle.tw_line.specs.Extremes.{least_from}
 use Rattle.tw_changed.specs.Differences.{differ_in}
 use Rattle.tw_changed.specs.Sending.{screen_cells}
 use Rattle.tw_changed.proofs.FoundColumns.{none_differs, no_change}

@@ -1,5 +1,5 @@
 use Rattle.std.proofs.Common.{◌∙◌, sym, ap, arith, subst}
-use Rattle.tw_screens.specs.StyledCells.{styled}
+use Rattle.laws_screens.specs.StyledCells.{styled}
 use Rattle.tw_ansi.specs.EcmaScreen.{act_by}
 use Rattle.ecma_terminal.specs.Terminals.{Becomes}
 use Rattle.ecma_terminal.proofs.TerminalSteps.{same_rule, acts_by}

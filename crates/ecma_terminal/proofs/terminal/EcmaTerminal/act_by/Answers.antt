@@ -1,6 +1,6 @@
 use Rattle.std.proofs.Common.{◌≡◌, ◌∙◌, refl, sym, ap, arith, rules}
-use Rattle.tw_screens.specs.StyledCells.{styled}
-use Rattle.styled_screen.specs.StyledScreens.{styled_cell}
+use Rattle.laws_screens.specs.StyledCells.{styled}
+use Rattle.tw_changed.specs.StyledScreens.{styled_cell}
 use Rattle.ecma_terminal.proofs.TerminalSteps.{same_rule, becomes_redrawn, led_there}
 use Rattle.ecma_terminal.proofs.terminal.EcmaTerminal.act_by.Goals as goal
 

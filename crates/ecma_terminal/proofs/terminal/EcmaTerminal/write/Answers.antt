@@ -1,5 +1,5 @@
 use Rattle.std.proofs.Common.{◌≡◌, ap, subst}
-use Rattle.tw_screens.specs.StyledCells.{styled}
+use Rattle.laws_screens.specs.StyledCells.{styled}
 use Rattle.tw_ansi.specs.EcmaScreen.{write_here}
 use Rattle.ecma_terminal.specs.Terminals.{Becomes}
 use Rattle.ecma_terminal.proofs.TerminalSteps.{same_rule, becomes_then, write_wrapped}

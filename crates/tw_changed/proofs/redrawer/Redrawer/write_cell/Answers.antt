@@ -1,7 +1,7 @@
 use Rattle.std.proofs.Common.{◌≡◌, ◌/◌, ◌%◌, true, ap, ◌∙◌, string_bytes}
 use Rattle.tw_surface.specs.Characters.{is_printable}
-use Rattle.tw_screens.specs.StyledCells.{StyledCell}
-use Rattle.styled_screen.specs.StyledScreens.{styled_cell}
+use Rattle.laws_screens.specs.StyledCells.{StyledCell}
+use Rattle.tw_changed.specs.StyledScreens.{styled_cell}
 use Rattle.tw_changed.specs.Redrawings.{indexed}
 use Rattle.tw_changed.specs.Sending.{screen_cells}
 use Rattle.tw_changed.proofs.AddedChanges.{cell_added}

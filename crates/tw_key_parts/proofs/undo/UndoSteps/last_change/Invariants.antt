@@ -1,5 +1,5 @@
 use Rattle.std.proofs.Common.{◌≡◌, ◌≤◌, length}
-use Rattle.tw_extremes.specs.Extremes.{greatest_below}
+use Rattle.tw_line.specs.Extremes.{greatest_below}
 use Rattle.tw_key_parts.specs.Undo.{is_other, last_change}
 use Rattle.tw_key_parts.proofs.undo.UndoSteps.last_change.Given as goal
 

@@ -11,7 +11,7 @@ use Rattle.tw_line.specs.Edits.{with_char}
 use Rattle.tw_line.specs.Text.{bytes_of, room_of}
 use Rattle.tw_line.proofs.BoundaryLemmas.{IsCharBoundary-insert}
 use Rattle.tw_line.proofs.EditLemmas.{length-insert_slice, room_step}
-use Rattle.tw_extremes.proofs.ExtremesLemmas.{repeated_once, repeated_none}
+use Rattle.tw_line.proofs.ExtremesLemmas.{repeated_once, repeated_none}
 use Rattle.tw_line.proofs.SeamLemmas.{KnownBoundary-start, begins-insert}
 use Rattle.unicode_segmentation.proofs.TextLemmas.{encode_utf8_nonempty}
 use Rattle.tw_line.proofs.buffer.LineEditBuffer.insert_char_times.Goals.{then-begins, else-begins}

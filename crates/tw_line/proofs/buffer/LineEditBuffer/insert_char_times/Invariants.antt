@@ -3,7 +3,7 @@ use Rattle.std.specs.Prelude.{encode_utf8}
 use Rattle.std.specs.Str.{chars, IsCharBoundary}
 use Rattle.tw_line.specs.Cut.{cut_at}
 use Rattle.tw_line.specs.Edits.{with_char}
-use Rattle.tw_extremes.specs.Extremes.{iterate}
+use Rattle.tw_line.specs.Extremes.{iterate}
 use Rattle.tw_line.specs.Text.{bytes_of, room_of, places_of}
 use Rattle.tw_line.proofs.SeamLemmas.{KnownBoundary}
 use Rattle.tw_line.proofs.buffer.LineEditBuffer.insert_char_times.Given as goal

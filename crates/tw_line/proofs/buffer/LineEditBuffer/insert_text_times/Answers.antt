@@ -4,10 +4,10 @@ use Rattle.std.proofs.Math.Nat.{mul-zero, zero-mul}
 use Rattle.std.specs.List.{insert_slice, repeat}
 use Rattle.tw_line.specs.Cut.{cut_at}
 use Rattle.tw_line.specs.Edits.{with_text}
-use Rattle.tw_extremes.specs.Extremes.{iterate}
+use Rattle.tw_line.specs.Extremes.{iterate}
 use Rattle.tw_line.specs.Text.{bytes_of}
 use Rattle.tw_line.proofs.EditLemmas.{length-insert_slice, with_text-nothing}
-use Rattle.tw_extremes.proofs.ExtremesLemmas.{repeated_none}
+use Rattle.tw_line.proofs.ExtremesLemmas.{repeated_none}
 use Rattle.tw_line.proofs.RepeatLemmas.{with_text-iterate}
 use Rattle.tw_line.proofs.TextLemmas.{length-bytes}
 use Rattle.tw_line.proofs.buffer.LineEditBuffer.insert_text_times.Goals.{then-count-eq0-via-then-count-eq0, then-count-eq0-via-else-count-eq0+then-is_empty}

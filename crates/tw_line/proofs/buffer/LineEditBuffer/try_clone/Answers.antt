@@ -3,6 +3,3 @@ use Rattle.tw_line.proofs.buffer.LineEditBuffer.try_clone.Goals as goal
 
 pub returns-clause-equal : goal.returns-clause-equal
 returns-clause-equal c = search rules
-
-pub new-requires : goal.new-requires
-new-requires c = search rules

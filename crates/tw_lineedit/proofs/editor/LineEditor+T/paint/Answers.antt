@@ -1,7 +1,7 @@
 use Rattle.std.proofs.Common.{refl, ap, map}
 use Rattle.std.proofs.lemmas.Result.{err_from_is_err_and}
 use Rattle.tw_surface.specs.ChangeView.{change_view}
-use Rattle.tw_painter.specs.declared.error.Error.TheVariants.{Terminal}
+use Rattle.tw_session.specs.declared.error.Error.TheVariants.{Terminal}
 use Rattle.tw_terminal.specs.Uses.Call.{Other, Refused}
 use Rattle.tw_lineedit.proofs.PaintLemmas.{paints, fails_to_show, same_frame}
 use Rattle.tw_lineedit.proofs.UseLemmas.{used_once, used_then}

@@ -1,7 +1,7 @@
 use Rattle.std.proofs.Common.{refl, sym}
 use Rattle.std.proofs.lemmas.Result.{err_from_is_err_and}
 use Rattle.tw_terminal.specs.Uses.Call.{Other}
-use Rattle.tw_painter.specs.declared.error.Error.TheVariants.{Terminal}
+use Rattle.tw_session.specs.declared.error.Error.TheVariants.{Terminal}
 use Rattle.tw_lineedit.proofs.PaintLemmas.{same_frame}
 use Rattle.tw_lineedit.proofs.TurnLemmas.{over, done, poll_refused, event_refused, continues}
 use Rattle.tw_lineedit.proofs.UseLemmas.{used_once, used_then}

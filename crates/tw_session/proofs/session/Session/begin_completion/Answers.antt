@@ -5,17 +5,17 @@ use Rattle.std.specs.List.{slice_get}
 use Rattle.tw_line.specs.Cut.{Cut}
 use Rattle.tw_host.specs.declared.host.CompletionCandidate.{CompletionCandidate}
 use Rattle.tw_host.specs.CandidateView.{CandidateView, candidate_view, completed_by}
-use Rattle.tw_painter.specs.EditState.{EditState, ModeView, Inactive, Editing, Cancelled, Accepted, Searching}
-use Rattle.tw_painter.specs.Painting.{shown_in}
+use Rattle.tw_session.specs.EditState.{EditState, ModeView, Inactive, Editing, Cancelled, Accepted, Searching}
+use Rattle.tw_session.specs.Painting.{shown_in}
 use Rattle.tw_session.specs.Search.{search_left, search_left_in}
 use Rattle.tw_session.specs.SessionView.{SessionView, FailsToActOn, on_state}
 use Rattle.tw_session.specs.Memory.{TakesMemoryToComplete}
 use Rattle.tw_host.specs.HostRules.{HostRules}
 use Rattle.tw_host.specs.ActionView.{Complete}
 use Rattle.tw_host.specs.declared.host.Overrides.{Overrides}
-use Rattle.tw_painter.specs.Refusal.{CandidateDoesNotFit}
-use Rattle.tw_painter.specs.declared.error.Error.{Error}
-use Rattle.tw_painter.specs.declared.error.Error.TheVariants as error
+use Rattle.tw_session.specs.Refusal.{CandidateDoesNotFit}
+use Rattle.tw_session.specs.declared.error.Error.{Error}
+use Rattle.tw_session.specs.declared.error.Error.TheVariants as error
 use Rattle.tw_session.specs.Steps.{apply}
 use Rattle.tw_session.specs.Completion.{completion_step, cycle_of, IsMisfit}
 use Rattle.tw_session.proofs.session.Session.begin_completion.Goals as goal

@@ -1,6 +1,6 @@
 use Rattle.std.proofs.Common.{◌≡◌, ◌≤◌, length, sym, Some, None, arith, rules}
-use Rattle.tw_history.specs.NearestMatch.{last_index}
-use Rattle.tw_history.proofs.SearchLemmas.{nearest_match-past}
+use Rattle.tw_line.specs.NearestMatch.{last_index}
+use Rattle.tw_line.proofs.SearchLemmas.{nearest_match-past}
 use Rattle.tw_session.proofs.WalkLemmas.{length-last, length-none}
 use Rattle.tw_session.proofs.session.search.find.Goals.{in_default-via-in-Some+else-start-last, in_default-via-in-None-1}
 use Rattle.tw_session.proofs.session.search.find.Goals as goal

@@ -1,5 +1,5 @@
 use Rattle.std.proofs.Common.{ap, sym, ◌∙◌, refl, rules}
-use Rattle.styled_screen.specs.StyledScreens.{StyledView}
+use Rattle.tw_changed.specs.StyledScreens.{StyledView}
 use Rattle.tw_sparing.proofs.PlayedBatches.{played_width}
 use Rattle.tw_sparing.proofs.shown.Shown.drawn.Goals as goal
 

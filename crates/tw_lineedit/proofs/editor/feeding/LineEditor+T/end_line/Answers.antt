@@ -1,6 +1,6 @@
 use Rattle.std.proofs.Common.{refl}
 use Rattle.std.proofs.lemmas.Result.{err_from_is_err_and}
-use Rattle.tw_painter.specs.declared.error.Error.TheVariants.{Memory}
+use Rattle.tw_session.specs.declared.error.Error.TheVariants.{Memory}
 use Rattle.tw_lineedit.proofs.ClosingLemmas.{finish_unclosed, finish_given_up}
 use Rattle.tw_lineedit.proofs.editor.feeding.LineEditor+T.end_line.Goals as goal
 use Rattle.tw_lineedit.specs.Frame.{own_frame}

@@ -1,0 +1,89 @@
+//! The terminal that receives what is written, beside the table of what it is to hold.
+
+ghost use Rattle.std.specs.Prelude.{◌<◌};
+
+use crate::device::trial::Trial;
+use crate::stage::ScrollingTable;
+use crate::table::{Entry, FILLING, Table};
+use ecma_terminal::EcmaTerminal;
+use std::alloc::Global;
+use tw_changed::ScreenCell;
+use tw_surface::{CellAttributes, Change, ColorAttribute};
+
+/// A terminal after ECMA-48, and beside it what it is to hold.
+#[derive(Drop)]
+pub struct Shown {
+    terminal: EcmaTerminal,
+    table: ScrollingTable,
+}
+
+/// What was found after a batch.
+#[derive(Debug, Clone, Copy)]
+pub enum Found {
+    /// So many cells were compared, and so many hold something else.
+    Compared { cells: usize, differences: usize },
+    /// A painting has more rows than the screen, so nothing is known.
+    TooHigh,
+    /// The batch is of no known form.
+    Unknown,
+}
+
+/// What each cell of a screen holds at first.
+fn first_cell(entry: Entry) -> ScreenCell {
+    match entry {
+        Entry::Blank => ScreenCell::blank(ColorAttribute::Default),
+        Entry::Full => ScreenCell {
+            character: FILLING,
+            attributes: CellAttributes::default(),
+        },
+    }
+}
+
+impl Shown {
+    /// The screen of a trial, with the cursor in the row where it is entered.
+    pub fn new(alloc: Global, trial: &Trial) -> Result<Self, anyhow::Error> {
+        let rows = trial.size.rows;
+        let cols = trial.size.cols;
+        let mut terminal = EcmaTerminal::new(alloc, rows, cols, first_cell(trial.entry))?;
+        for _ in 0..trial.entry.row(rows) {
+            terminal.receive(b'\n')?;
+        }
+        let table = ScrollingTable::new(alloc, rows, cols, trial.entry)?;
+        Ok(Shown { terminal, table })
+    }
+
+    /// The terminal receives the bytes of a batch, and is compared with what it is to hold then.
+    pub fn take(
+        &mut self,
+        batch: &[Change],
+        column: Option<usize>,
+        bytes: &[u8],
+    ) -> Result<Found, anyhow::Error> {
+        self.terminal.receive_all(bytes)?;
+        if !self.table.take(batch, column) {
+            return Ok(Found::Unknown);
+        }
+        Ok(match self.table.known() {
+            Some(table) => self.compared(table),
+            None => Found::TooHigh,
+        })
+    }
+
+    /// Compares each cell and the cursor. A cursor that stands elsewhere, or waits, counts as one cell.
+    fn compared(&self, table: &Table) -> Found {
+        let mut cells: usize = 0;
+        let mut differences: usize = 0;
+        for row in 0..self.terminal.rows() {
+            for col in 0..self.terminal.cols() {
+                cells = cells.saturating_add(1);
+                if self.terminal.cell(row, col) != table.cell(row, col) {
+                    differences = differences.saturating_add(1);
+                }
+            }
+        }
+        if self.terminal.cursor() != table.cursor() || self.terminal.waits() {
+            differences = differences.saturating_add(1);
+        }
+        Found::Compared { cells, differences }
+    }
+}

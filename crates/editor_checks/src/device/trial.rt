@@ -1,0 +1,84 @@
+//! What is played.
+
+use crate::device::keystrokes::keystrokes;
+use crate::host::MarkedHost;
+use crate::picks::{COLUMNS, PREVIEWS, PROMPTS};
+use crate::random_numbers::RandomNumbers;
+use crate::table::Entry;
+use std::alloc::{AllocError, Global};
+use tw_lineedit::{BasicHistory, History};
+use tw_terminal::ScreenSize;
+
+const LINES: [&str; 6] = [
+    "git log",
+    "ls",
+    "go",
+    "cat a b",
+    "sed abc dog",
+    "tail log -n 5 of a longer line",
+];
+
+/// The fewest rows and columns of a screen.
+const LEAST: u64 = 2;
+
+const MOST_ROWS: u64 = 30;
+
+const MOST_COLS: u64 = 40;
+
+/// A screen, the host of its editors, and the bytes that come.
+#[derive(Debug, Drop)]
+pub struct Trial {
+    /// The rows and the columns of the screen.
+    pub size: ScreenSize,
+    /// How the screen is at first.
+    pub entry: Entry,
+    /// The prompt.
+    pub prompt: &'static str,
+    /// The column that the host gives in place of the cursor's own.
+    pub column: Option<usize>,
+    /// The bytes of the keys.
+    pub bytes: Vec<u8>,
+    /// How the bytes are cut.
+    pub cuts: RandomNumbers,
+    preview: &'static str,
+    history: Vec<&'static str>,
+}
+
+/// A number from one up to another.
+fn between(numbers: &mut RandomNumbers, from: u64, to: u64) -> usize {
+    let more = numbers.below(to.saturating_sub(from).saturating_add(1));
+    from.saturating_add(more) as usize
+}
+
+impl Trial {
+    /// The next trial.
+    pub fn generate(alloc: Global, numbers: &mut RandomNumbers) -> Result<Self, AllocError> {
+        let size = ScreenSize {
+            rows: between(numbers, LEAST, MOST_ROWS),
+            cols: between(numbers, LEAST, MOST_COLS),
+        };
+        let count = numbers.below(36).saturating_add(5);
+        Ok(Trial {
+            size,
+            entry: Entry::pick(numbers),
+            prompt: numbers.pick(&PROMPTS, ""),
+            column: numbers.pick(&COLUMNS, None),
+            bytes: keystrokes(alloc, numbers, count)?,
+            cuts: RandomNumbers::new(numbers.number() | 1),
+            preview: numbers.pick(&PREVIEWS, ""),
+            history: numbers.pick_below(alloc, 6, &LINES)?,
+        })
+    }
+
+    /// The host of an editor, with two candidates.
+    pub fn host(&self, alloc: Global) -> Result<MarkedHost<BasicHistory>, AllocError> {
+        let mut history = BasicHistory::new(alloc);
+        for line in &self.history {
+            history.add(line)?;
+        }
+        let mut host = MarkedHost::new(alloc, history, self.preview, self.column)?;
+        host.offer(alloc, 0..0, "let ")?;
+        host.offer(alloc, 0..0, "a longer candidate ")?;
+        Ok(host)
+    }
+}

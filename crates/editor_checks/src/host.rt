@@ -1,0 +1,132 @@
+//! The host of the editor: it shows the line in two parts, so that each painting tells where the cursor is.
+
+ghost use Rattle.std.specs.Prelude.{map, refl, string_bytes};
+ghost use Rattle.tw_lineedit.specs.CandidateView.{candidate_view};
+ghost use Rattle.editor_checks.specs.MarkedHost.{Marked, marked_is_plain, marked_overrides, marked_rules};
+
+use std::alloc::{AllocError, Global};
+use std::ops::Range;
+use tw_lineedit::{CompletionCandidate, History, LineEditorHost, OutputElement, Overrides};
+use tw_surface::AttributeChange;
+
+/// A host with a history, a preview of one text and candidates that it answers to every request. The preview may
+/// hold several lines.
+#[derive(Drop)]
+pub struct MarkedHost<L> {
+    history: L,
+    preview: String,
+    candidates: Vec<CompletionCandidate>,
+    column: Option<usize>,
+}
+
+impl<L: History + Drop> MarkedHost<L> {
+    /// A host with this history, a preview, and no candidates. The empty text is no preview. The column of the
+    /// cursor is the one given, or else the number of bytes before the cursor.
+    pub fn new(
+        alloc: Global,
+        history: L,
+        preview: &str,
+        column: Option<usize>,
+    ) -> Result<Self, AllocError> {
+        let preview = String::from_str(alloc, preview)?;
+        Ok(MarkedHost {
+            history,
+            preview,
+            candidates: Vec::new(alloc),
+            column,
+        })
+    }
+
+    /// Adds a candidate after the others.
+    pub fn offer(
+        &mut self,
+        alloc: Global,
+        range: Range<usize>,
+        text: &str,
+    ) -> Result<(), AllocError> {
+        let text = String::from_str(alloc, text)?;
+        self.candidates.push(CompletionCandidate { range, text })?;
+        Ok(())
+    }
+}
+
+impl<L: History> LineEditorHost for MarkedHost<L> {
+    type Hist = L;
+
+    ghost Value = { Marked };
+
+    ghost value = { λ host. record {
+      lines = L.lines host.history;
+      preview = string_bytes host.preview;
+      candidates = map candidate_view host.candidates.items;
+      column = host.column;
+    } };
+
+    ghost rules = { marked_rules };
+
+    ghost history_of = { λ host. host.history };
+
+    ghost with_history = { λ host history. record host { history = history } };
+
+    ghost OVERRIDES = { marked_overrides };
+
+    const OVERRIDES: Overrides = Overrides {
+        render_preview: true,
+        highlight_line: true,
+        complete: true,
+        ..Overrides::NONE
+    };
+
+    fn history(&mut self) -> &mut L {
+        &mut self.history
+    }
+
+    fn render_preview(&self, alloc: Global, _line: &str) -> Result<Vec<OutputElement>, AllocError> {
+        if self.preview.is_empty() {
+            return Ok(Vec::new(alloc));
+        }
+        let text = String::from_str(alloc, self.preview.as_str())?;
+        let elements = vec![in alloc; OutputElement::Text(text)]?;
+        Ok(elements)
+    }
+
+    fn highlight_line(
+        &self,
+        alloc: Global,
+        line: &str,
+        cursor_position: usize,
+    ) -> Result<(Vec<OutputElement>, usize), AllocError> {
+        let front = String::from_str(alloc, &line[..cursor_position])?;
+        let back = String::from_str(alloc, &line[cursor_position..])?;
+        let elements = vec![in alloc;
+            OutputElement::Text(front),
+            OutputElement::Attribute(AttributeChange::Reverse(true)),
+            OutputElement::Text(back),
+        ]?;
+        Ok((elements, self.column.unwrap_or(cursor_position)))
+    }
+
+    fn complete(
+        &self,
+        alloc: Global,
+        _line: &str,
+        _cursor_position: usize,
+    ) -> Result<Vec<CompletionCandidate>, AllocError> {
+        let mut copies = Vec::new(alloc);
+        for candidate in &self.candidates {
+            copies.push(CompletionCandidate {
+                range: candidate.range.start..candidate.range.end,
+                text: String::from_str(alloc, candidate.text.as_str())?,
+            })?;
+        }
+        Ok(copies)
+    }
+
+    ghost plain_answers = { marked_is_plain };
+
+    ghost history_put_back = { λ host. refl };
+
+    ghost held_put = { λ host history. refl };
+
+    ghost held_lines = { λ host. refl };
+}

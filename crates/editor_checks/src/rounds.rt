@@ -1,0 +1,49 @@
+//! Random rounds with the line editor, and laws that each is held against. A round has a terminal, a host, a
+//! history, events, perhaps a fault, and a list of readings and other calls of one editor. It is played three
+//! times, each time over another kind of history. What breaks a law is printed with the round's seed.
+
+mod actions;
+mod count;
+mod events;
+mod generator;
+mod judge;
+mod play;
+mod round;
+mod texts;
+
+use crate::rounds::count::Count;
+use crate::rounds::generator::round_of;
+use crate::rounds::judge::judge;
+use std::alloc::Global;
+
+/// The most findings that are shown in full.
+const SHOWN: u64 = 10;
+
+/// Plays so many rounds, of which the first has this seed, and prints what was counted.
+pub fn check(
+    rt: &(impl Print + Alloc<A = Global>),
+    seed: u64,
+    rounds: u64,
+) -> Result<(), anyhow::Error> {
+    let mut all = Count::default();
+    for number in 0..rounds {
+        let count = play_one(rt, seed.wrapping_add(number), all.findings < SHOWN)?;
+        all.add(&count);
+    }
+    println!(rt; "{all}")?;
+    Ok(())
+}
+
+/// Plays the round of a seed, and shows it where it breaks a law.
+fn play_one(
+    rt: &(impl Print + Alloc<A = Global>),
+    seed: u64,
+    shows: bool,
+) -> Result<Count, anyhow::Error> {
+    let (count, findings) = judge(rt.alloc(), seed)?;
+    if shows && count.findings > 0 {
+        let round = round_of(rt.alloc(), seed)?;
+        println!(rt; "seed {seed}: {findings}: {round:?}")?;
+    }
+    Ok(count)
+}

@@ -1,0 +1,243 @@
+//! Plays a round on an editor, and holds each answer against the laws of readings and actions.
+
+use crate::host::MarkedHost;
+use crate::rounds::count::Count;
+use crate::rounds::round::{Round, Step};
+use std::alloc::{AllocError, Global};
+use tw_lineedit::{Action, Error, History, LineEditor, LineEditorHost};
+use tw_terminal::ScriptTerminal;
+
+/// The editor of a round.
+type Editor<'term> = LineEditor<'term, ScriptTerminal>;
+
+/// What came of a round.
+#[derive(Drop)]
+pub struct Notes {
+    /// What was answered, and the line after each step.
+    pub told: String,
+    /// The laws broken.
+    pub findings: String,
+    /// What was counted.
+    pub count: Count,
+    /// All batches are to be flushed.
+    pub settled: bool,
+    /// An action was applied since the last reading, so that the mode may be any.
+    acted: bool,
+    /// The line was accepted or cancelled by an action, so that no reading can begin.
+    ended: bool,
+}
+
+impl Notes {
+    /// Nothing was played.
+    fn new(alloc: Global) -> Self {
+        Notes {
+            told: String::new(alloc),
+            findings: String::new(alloc),
+            count: Count {
+                rounds: 1,
+                ..Count::default()
+            },
+            settled: true,
+            acted: false,
+            ended: false,
+        }
+    }
+
+    /// Notes a law that does not hold, by these words.
+    pub fn find(&mut self, broken: &str) -> Result<(), AllocError> {
+        self.count.findings = self.count.findings.saturating_add(1);
+        write!(self.findings, "{broken}; ")
+    }
+
+    /// Notes where a law does not hold.
+    pub fn expect(&mut self, holds: bool, broken: &str) -> Result<(), AllocError> {
+        if holds { Ok(()) } else { self.find(broken) }
+    }
+
+    /// Notes what a reading answered.
+    fn read(&mut self, answer: &Result<Option<String>, Error>) -> Result<(), AllocError> {
+        self.count.readings = self.count.readings.saturating_add(1);
+        match answer {
+            Ok(line) => {
+                write!(self.told, "{line:?}\n")?;
+                self.count_line(line.is_some());
+                self.began()
+            }
+            Err(error) => {
+                let number = error.number();
+                write!(self.told, "refusal {number}\n")?;
+                self.count.refused.count(number);
+                self.refused(number)
+            }
+        }
+    }
+
+    fn count_line(&mut self, is_line: bool) {
+        if is_line {
+            self.count.lines = self.count.lines.saturating_add(1);
+        } else {
+            self.count.cancelled = self.count.cancelled.saturating_add(1);
+        }
+        self.settled = true;
+    }
+
+    /// A reading was refused by this number.
+    fn refused(&mut self, number: u8) -> Result<(), AllocError> {
+        if number == 2 {
+            return self.expect(self.acted, "a reading left a mode");
+        }
+        self.settled = number != 7;
+        if number == 7 {
+            self.count.faults = self.count.faults.saturating_add(1);
+        }
+        self.began()
+    }
+
+    /// A reading began, whatever it answered, and so it has left no mode.
+    fn began(&mut self) -> Result<(), AllocError> {
+        self.acted = false;
+        self.expect(!self.ended, "a reading began in a mode that was left")
+    }
+
+    /// Notes that an action was applied.
+    fn acted(&mut self, ends: bool, repaints: bool) -> Result<(), AllocError> {
+        self.count.actions.0 = self.count.actions.0.saturating_add(1);
+        self.acted = true;
+        self.ended |= ends;
+        self.settled &= !repaints;
+        self.told.push_str("done\n")
+    }
+
+    /// Notes that an action was refused by this number.
+    fn not_acted(&mut self, number: u8, repaints: bool) -> Result<(), AllocError> {
+        self.count.actions.0 = self.count.actions.0.saturating_add(1);
+        self.count.actions.1 = self.count.actions.1.saturating_add(1);
+        self.settled &= !repaints;
+        if number == 7 {
+            self.count.faults = self.count.faults.saturating_add(1);
+            self.expect(repaints, "an action called the terminal")?;
+        }
+        write!(self.told, "refused {number}\n")
+    }
+
+    /// Notes the line and its cursor.
+    fn line(&mut self, line: &str, cursor: usize) -> Result<(), AllocError> {
+        self.expect(
+            line.is_char_boundary(cursor),
+            "the cursor is at no boundary",
+        )?;
+        write!(self.told, "{line:?} at {cursor}\n")
+    }
+}
+
+/// Plays a round over a history, which is empty at first, and returns the terminal too.
+pub fn play<L: History + Drop>(
+    alloc: Global,
+    round: Round,
+    history: L,
+) -> Result<(Notes, ScriptTerminal), anyhow::Error> {
+    let mut host = host_of(alloc, &round, history)?;
+    let Round {
+        size,
+        prompt,
+        events,
+        fault,
+        steps,
+        ..
+    } = round;
+    let mut terminal = ScriptTerminal::new(alloc, size, events);
+    if let Some((call, taken)) = fault {
+        terminal.fail_at(call, taken);
+    }
+    let notes = play_steps(alloc, &mut terminal, &mut host, prompt, steps)?;
+    Ok((notes, terminal))
+}
+
+/// The host of a round.
+fn host_of<L: History + Drop>(
+    alloc: Global,
+    round: &Round,
+    history: L,
+) -> Result<MarkedHost<L>, AllocError> {
+    let mut host = MarkedHost::new(alloc, history, round.preview, round.column)?;
+    for line in &round.history {
+        host.remember(line)?;
+    }
+    for (start, end, text) in &round.candidates {
+        host.offer(alloc, *start..*end, text)?;
+    }
+    Ok(host)
+}
+
+/// Takes the steps one after the other with one editor.
+fn play_steps<L: History>(
+    alloc: Global,
+    terminal: &mut ScriptTerminal,
+    host: &mut MarkedHost<L>,
+    prompt: &str,
+    steps: Vec<Step>,
+) -> Result<Notes, anyhow::Error> {
+    let mut notes = Notes::new(alloc);
+    let mut editor = LineEditor::new(alloc, terminal)?;
+    editor.set_prompt(prompt)?;
+    for step in steps {
+        match step {
+            Step::Read(initial) => read(&mut editor, host, initial, false, &mut notes)?,
+            Step::ReadAndRemember(initial) => read(&mut editor, host, initial, true, &mut notes)?,
+            Step::Act(action) => act(alloc, &mut editor, host, action, &mut notes)?,
+            Step::SetLine(line) => editor.set_line_and_cursor(line, line.len())?,
+        }
+        let (line, cursor) = editor.get_line_and_cursor();
+        notes.line(line, cursor)?;
+    }
+    Ok(notes)
+}
+
+/// Reads a line. Where one is answered, it is the editor's line; the host may remember it.
+fn read<L: History>(
+    editor: &mut Editor<'_>,
+    host: &mut MarkedHost<L>,
+    initial: &str,
+    remembers: bool,
+    notes: &mut Notes,
+) -> Result<(), AllocError> {
+    let answer = editor.read_line_with_optional_initial_value(host, Some(initial));
+    notes.read(&answer)?;
+    let Ok(Some(answered)) = answer else {
+        return Ok(());
+    };
+    let (line, _) = editor.get_line_and_cursor();
+    notes.expect(
+        line == answered.as_str(),
+        "the answer is not the editor's line",
+    )?;
+    if remembers {
+        host.remember(answered.as_str())?;
+    }
+    Ok(())
+}
+
+/// Applies an action. Where it is refused, the line is as it was.
+fn act<L: History>(
+    alloc: Global,
+    editor: &mut Editor<'_>,
+    host: &mut MarkedHost<L>,
+    action: Action,
+    notes: &mut Notes,
+) -> Result<(), AllocError> {
+    let ends = matches!(&action, Action::AcceptLine | Action::Cancel);
+    let repaints = matches!(&action, Action::Repaint);
+    let (line, cursor) = editor.get_line_and_cursor();
+    let line = String::from_str(alloc, line)?;
+    match editor.apply_action(host, action) {
+        Ok(()) => notes.acted(ends, repaints),
+        Err(error) => {
+            let now = editor.get_line_and_cursor();
+            notes.expect(
+                now == (line.as_str(), cursor),
+                "a refused action changed the line",
+            )?;
+            notes.not_acted(error.number(), repaints)
+        }
+    }
+}

@@ -1,0 +1,287 @@
+//! What a screen is to hold. Each place is found by a division, and no cursor is moved.
+
+ghost use Rattle.std.specs.Prelude.{◌<◌};
+
+use crate::painted::PaintedTexts;
+use crate::random_numbers::RandomNumbers;
+use crate::shows::Shows;
+use std::alloc::{AllocError, Global};
+use tw_changed::{ScreenCell, StyledScreen};
+use tw_surface::CellAttributes;
+
+/// The rows that are compared on a screen without a bottom.
+pub const ROWS: usize = 41;
+
+/// The row at which a full screen is entered, where it has that row.
+const FULL_ENTRY: usize = 5;
+
+/// What fills a full screen.
+pub const FILLING: char = '#';
+
+/// How a screen is at first.
+#[derive(Debug, Clone, Copy)]
+pub enum Entry {
+    /// It is blank, and entered at its first row.
+    Blank,
+    /// Its first rows are full, and it is entered at one of them.
+    Full,
+}
+
+impl Entry {
+    /// One of the two.
+    pub fn pick(numbers: &mut RandomNumbers) -> Self {
+        if numbers.below(2) == 0 {
+            Entry::Blank
+        } else {
+            Entry::Full
+        }
+    }
+
+    /// The row at which a screen is entered, of which so many rows are compared.
+    pub fn row(self, rows: usize) -> usize {
+        match self {
+            Entry::Blank => 0,
+            Entry::Full => FULL_ENTRY.min(rows.saturating_sub(1)),
+        }
+    }
+}
+
+/// What a cell is to hold: a character, in the mark of the line from its cursor on or in default attributes.
+#[derive(Debug, Clone, Copy)]
+struct TableCell {
+    character: char,
+    is_marked: bool,
+}
+
+impl TableCell {
+    /// A character in default attributes.
+    fn plain(character: char) -> Self {
+        TableCell {
+            character,
+            is_marked: false,
+        }
+    }
+
+    /// The character under its attributes. The mark is that of the host of this crate.
+    fn shown(self) -> ScreenCell {
+        ScreenCell {
+            character: self.character,
+            attributes: CellAttributes {
+                reverse: self.is_marked,
+                ..CellAttributes::default()
+            },
+        }
+    }
+}
+
+/// The cells of the first rows, and the cursor.
+#[derive(Drop)]
+pub struct Table {
+    width: usize,
+    cells: Vec<TableCell>,
+    first_row: usize,
+    last_row: usize,
+    cursor: (usize, usize),
+    ghost some_columns: { 0 < width },
+}
+
+impl Table {
+    /// A screen as it is at first, of which so many rows are compared.
+    pub fn new(alloc: Global, rows: usize, width: usize, entry: Entry) -> Result<Self, AllocError>
+        requires { 0 < width }
+    {
+        let filling = match entry {
+            Entry::Blank => ' ',
+            Entry::Full => FILLING,
+        };
+        let first_row = entry.row(rows);
+        let cells = vec![in alloc; TableCell::plain(filling); width.saturating_mul(rows)]?;
+        Ok(Table {
+            width,
+            cells,
+            first_row,
+            last_row: first_row,
+            cursor: (first_row, 0),
+        })
+    }
+
+    /// The whole screen is cleared, and entered at its first row.
+    pub fn clear(&mut self) {
+        self.first_row = 0;
+        self.last_row = 0;
+        self.cursor = (0, 0);
+        self.clear_from(0);
+    }
+
+    /// How many rows a painting takes, down to its last one or to the cursor's. The column of the cursor is the one
+    /// given, or else the number of characters before the cursor.
+    pub fn rows_of(&self, texts: &PaintedTexts<'_>, column: Option<usize>) -> usize {
+        let line = texts.prompt.len();
+        let end = line
+            .saturating_add(texts.front.len())
+            .saturating_add(texts.back.len());
+        let cursor = line.saturating_add(column.unwrap_or(texts.front.len()));
+        let lower = match texts.lower {
+            Some(lower) => self.lower_rows(lower),
+            None => 0,
+        };
+        let last = (end / self.width).saturating_add(lower);
+        last.max(cursor / self.width).saturating_add(1)
+    }
+
+    /// The row from which the next painting goes.
+    pub fn first_row(&self) -> usize {
+        self.first_row
+    }
+
+    /// The row under the last one that was painted.
+    pub fn next_row(&self) -> usize {
+        self.last_row.saturating_add(1)
+    }
+
+    /// All goes up by so many rows, and blank ones come in below.
+    pub fn raise(&mut self, count: usize) {
+        let gone = self.index_of(count, 0).min(self.cells.len());
+        self.cells.rotate_left(gone);
+        let kept = self.cells.len().saturating_sub(gone);
+        for cell in self.cells.iter_mut().skip(kept) {
+            *cell = TableCell::plain(' ');
+        }
+        self.first_row = self.first_row.saturating_sub(count);
+        self.last_row = self.last_row.saturating_sub(count);
+        self.cursor.0 = self.cursor.0.saturating_sub(count);
+    }
+
+    /// The texts are painted from the row on where the screen was entered, and a blank after the line where it fills
+    /// its last row. The column of the cursor is the one given, or else the number of characters before the cursor.
+    pub fn paint(&mut self, texts: &PaintedTexts<'_>, column: Option<usize>) {
+        let row = self.first_row;
+        self.clear_from(row);
+        let line = texts.prompt.len();
+        let cursor = line.saturating_add(texts.front.len());
+        let end = cursor.saturating_add(texts.back.len());
+        self.put_text(row, 0, texts.prompt, false);
+        self.put_text(row, line, texts.front, false);
+        self.put_text(row, cursor, texts.back, true);
+        if end > 0 && end % self.width == 0 {
+            self.put_text(row, end, " ", true);
+        }
+        self.cursor = self.place(
+            row,
+            line.saturating_add(column.unwrap_or(texts.front.len())),
+        );
+        self.last_row = row.saturating_add(end / self.width);
+        if let Some(lower) = texts.lower {
+            self.put_lower(lower);
+        }
+    }
+
+    /// The reading has ended. The next one enters the screen in this row, under the last one.
+    pub fn close(&mut self, row: usize) {
+        self.clear_from(row);
+        self.first_row = row;
+        self.last_row = row;
+        self.cursor = (row, 0);
+    }
+
+    /// How many cells there are.
+    pub fn len(&self) -> usize {
+        self.cells.len()
+    }
+
+    /// Where the cursor is to stand.
+    pub fn cursor(&self) -> (usize, usize) {
+        self.cursor
+    }
+
+    /// What the cell at a row and a column is to hold, under its attributes, or none where it is not compared.
+    pub fn cell(&self, row: usize, col: usize) -> Option<ScreenCell> {
+        if col >= self.width {
+            return None;
+        }
+        match self.cells.get(self.index_of(row, col)) {
+            Some(cell) => Some(cell.shown()),
+            None => None,
+        }
+    }
+
+    /// How many cells of the screen hold something else. A cursor that stands elsewhere counts as one more.
+    pub fn differences(&self, screen: &impl Shows) -> usize {
+        let width = self.width;
+        let cells = self
+            .cells
+            .iter()
+            .enumerate()
+            .filter(|(at, cell)| screen.char_at(*at / width, *at % width) != cell.character)
+            .count();
+        cells.saturating_add(usize::from(screen.cursor() != self.cursor))
+    }
+
+    /// The same of a screen that shows attributes: a character in other attributes is another cell.
+    pub fn styled_differences(&self, screen: &StyledScreen) -> usize {
+        let width = self.width;
+        let cells = self
+            .cells
+            .iter()
+            .enumerate()
+            .filter(|(at, cell)| screen.cell(*at / width, *at % width) != Some(cell.shown()))
+            .count();
+        cells.saturating_add(usize::from(screen.cursor() != self.cursor))
+    }
+
+    /// The place so many characters after the start of a row.
+    fn place(&self, row: usize, characters: usize) -> (usize, usize) {
+        (
+            row.saturating_add(characters / self.width),
+            characters % self.width,
+        )
+    }
+
+    fn index_of(&self, row: usize, column: usize) -> usize {
+        row.saturating_mul(self.width).saturating_add(column)
+    }
+
+    fn clear_from(&mut self, row: usize) {
+        let start = self.index_of(row, 0);
+        for cell in self.cells.iter_mut().skip(start) {
+            *cell = TableCell::plain(' ');
+        }
+    }
+
+    /// Puts a text, marked or not, so many characters after the start of a row.
+    fn put_text(&mut self, row: usize, before: usize, text: &str, is_marked: bool) {
+        for (index, byte) in text.bytes().enumerate() {
+            let (row, column) = self.place(row, before.saturating_add(index));
+            let at = self.index_of(row, column);
+            if let Some(cell) = self.cells.get_mut(at) {
+                *cell = TableCell {
+                    character: char::from(byte),
+                    is_marked,
+                };
+            }
+        }
+    }
+
+    /// Puts each of the lower lines in the row under what stands above it.
+    fn put_lower(&mut self, lower: &str) {
+        for line in lower.split("\r\n") {
+            let row = self.next_row();
+            self.put_text(row, 0, line, false);
+            self.last_row = self.last_row.saturating_add(self.line_rows(line));
+        }
+    }
+
+    /// How many rows the lower lines take.
+    fn lower_rows(&self, lower: &str) -> usize {
+        let mut rows: usize = 0;
+        for line in lower.split("\r\n") {
+            rows = rows.saturating_add(self.line_rows(line));
+        }
+        rows
+    }
+
+    /// How many rows a line under the line takes.
+    fn line_rows(&self, line: &str) -> usize {
+        line.len().div_ceil(self.width).max(1)
+    }
+}

@@ -1,0 +1,258 @@
+-- A reading whose events tell other numbers of columns: what it has written, and what is shown of it after a clearing.
+use Rattle.std.proofs.Common.{◌≡◌, ℕ, Some, None, Option, Bool, true, false, List, [], ◌∷◌, ◌++◌, map, ap, subst, ◌∙◌, sym, refl, append_assoc, append-nil}
+use Rattle.std.specs.List.{AllByRecursion}
+use Rattle.std.proofs.lemmas.List.Elements.{All-nil}
+use Rattle.std.proofs.lemmas.List.{append_cancel_left, map-append}
+use Rattle.tw_surface.specs.ChangeView.{Batch}
+use Rattle.tw_surface.specs.Paintings.{Mark, Painting, painting, mark_of}
+use Rattle.tw_surface.specs.PaintingBatches.{SizedScene, shot_of, clear_batch, clearing, start_of, closing_if, mark_after}
+use Rattle.laws_screens.specs.Pens.{Pen}
+use Rattle.laws_screens.specs.SizedBatches.{SizedBatch, sized_at, sized_after}
+use Rattle.tw_input.specs.EventView.{EventView}
+use Rattle.tw_host.specs.HostRules.{HostRules}
+use Rattle.tw_lineedit.specs.Frame.{Frame}
+use Rattle.tw_lineedit.specs.Reading.{Reads}
+use Rattle.tw_lineedit.specs.Run.{run_of, progress_of}
+use Rattle.tw_lineedit.specs.ScreenRuns.{sized_scene, batches_of, RendersNothing}
+use Rattle.tw_lineedit.specs.Stations.{Station, stations_of}
+use Rattle.laws_runs.specs.DrawnRuns.{since_batches}
+use Rattle.tw_ansi.specs.declared.encode.Encoder.{Encoder}
+use Rattle.tw_ansi.specs.Encoding.{Sent, sent_then}
+use Rattle.tw_ansi.specs.EcmaPaintings.{sent_batches}
+use Rattle.tw_ansi.specs.EcmaLaws.{IsColor}
+use Rattle.tw_ansi.specs.EcmaScreen.{receive_all}
+use Rattle.tw_ansi.specs.EcmaTexts.{ShowsPicture}
+use Rattle.tw_device.specs.Deeds.{Does}
+use Rattle.tw_device.specs.Led.{taken_over, IsLedAlong}
+use Rattle.tw_device.specs.Live.{outcome_in, frame_of, fresh_frame, run_over}
+use Rattle.tw_device.specs.Terminal.{terminal_state}
+use Rattle.tw_device.specs.declared.reading.Answer.{Answer}
+use Rattle.tw_device.specs.declared.reading.Answer.TheVariants.{Line, Cancelled, End}
+use Rattle.tw_device.specs.declared.terminal.AnsiTerminal.{AnsiTerminal}
+use Rattle.laws_runs.specs.SentReadings.{reading_frame}
+use Rattle.laws_runs.specs.SentRuns.{IsSentAt, sent_paintings}
+use Rattle.laws_runs.specs.SizedReadings.{sent_sized, stations_sized, run_sized, IsSizedReading, ReadingsAreSized, SizedPaintingsAreShown, ReadingHealingsAreShown, HealedClosingsAreShown}
+use Rattle.laws_runs.proofs.ClosingLemmas.{last_of_all}
+use Rattle.laws_runs.proofs.HealedClosingLemmas.{heals_closed}
+use Rattle.laws_runs.proofs.HealingLemmas.{healings_are_shown}
+use Rattle.laws_runs.proofs.ReadingLemmas.{appended}
+use Rattle.laws_runs.proofs.SentLemmas.{paintings_are_shown}
+use Rattle.laws_runs.proofs.SizedReadingLemmas.{IsAnswer, sized_both, sized_known, sized_at-both, sized_from, station_sets, last_size, last_size-is, ends_at, sends_from}
+
+-- an answer is no refusal
+answered : (answer : Answer) → IsAnswer (outcome_in answer)
+answered (Line line) = tt
+answered Cancelled = tt
+answered (End line) = tt
+
+module _ {V W : Type 0} (rules : HostRules V) (contents : W → Option (List ℕ)) where
+  -- the run of a reading was answered
+  pub reads_of : (prompt : List ℕ) (value : V) (old new : AnsiTerminal W) (events : List EventView) (held : List ℕ) (k : IsSizedReading rules contents prompt value old new events held)
+      → let begun = fresh_frame prompt value (terminal_state old) in
+      Reads (run_over rules events begun) begun (frame_of k.read.0.0 k.left (terminal_state new)) (outcome_in k.answer)
+  reads_of prompt value old new events held k =
+      let told = k.read.0.1 in
+      let begun : Frame V = fresh_frame prompt value (terminal_state old) in
+      let same : told.0 ≡ events = append_cancel_left k.before told.0 events (sym told.1 ∙ k.told) in
+      subst (λ all. Reads (run_over rules all begun) begun (frame_of k.read.0.0 k.left (terminal_state new)) (outcome_in k.answer)) same told.3
+
+  pub readings_are_sized : ReadingsAreSized rules contents
+  readings_are_sized prompt value old new events held k =
+      let begun : Frame V = fresh_frame prompt value (terminal_state old) in
+      let reads = reads_of prompt value old new events held k in
+      let along-same : k.along.0 ≡ events = append_cancel_left k.before k.along.0 events (sym k.along.1 ∙ k.told) in
+      let along : IsLedAlong terminal_state (Does contents) (taken_over rules begun) events old new = subst (λ all. IsLedAlong terminal_state (Does contents) (taken_over rules begun) all old new) along-same k.along.2 in
+      let f : Frame V = reading_frame prompt value old events in
+      let sent = sends_from rules contents events false (progress_of begun) old new (closing_if (run_of rules f).mark) (sym (append-nil (terminal_state old).batches)) k.cols along reads.failures k.countable
+      (reads.batches, sym reads.left, subst IsAnswer reads.answer_is (answered k.answer)) in (
+        appended (contents old.writer) (contents new.writer) held (sent_sized (run_sized rules f) old.encoder).bytes k.holds sent.0,
+        sent.1,
+        sent.2 ∙ ap (λ size. size.cols) (sym reads.size),
+      )
+
+-- ---- stations after others
+
+-- the sized batches of stations, and then of others
+sized_after-both : (mark : Option Mark) (xs ys : List SizedScene) → sized_after mark (xs ++ ys) ≡ sized_after mark xs ++ sized_after (mark_after mark (map shot_of xs)) ys
+sized_after-both mark [] ys = refl
+sized_after-both mark (x ∷ xs) ys =
+    let next : Option Mark = Some (mark_of (painting x.cols x.scene)) in
+    let first : List SizedBatch = sized_at x.cols (clearing x.scene.cleared ++ (start_of mark ++ (painting x.cols x.scene).changes) ∷ []) in
+    ap (λ l. first ++ l) (sized_after-both next xs ys) ∙ sym (append_assoc first (sized_after next xs) (sized_after (mark_after next (map shot_of xs)) ys))
+
+-- those that are sent at w columns
+uniform : (h w : ℕ) (mark : Option Mark) (xs : List SizedScene) → AllByRecursion (IsSentAt h w) xs → sized_after mark xs ≡ sized_at w (map (λ sized. sized.batch) (sized_after mark xs))
+uniform h w mark [] a = refl
+uniform h w mark (x ∷ xs) a = by_cleared (uniform h w (Some (mark_of shot)) xs a.1) x.scene.cleared
+  where
+    shot : Painting
+    shot = painting x.cols x.scene
+
+    batch : Batch
+    batch = start_of mark ++ shot.changes
+
+    rest : List SizedBatch
+    rest = sized_after (Some (mark_of shot)) xs
+
+    by_cleared : rest ≡ sized_at w (map (λ sized. sized.batch) rest) → (b : Bool)
+        → sized_at x.cols (clearing b ++ batch ∷ []) ++ rest ≡ sized_at w (map (λ sized. sized.batch) (sized_at x.cols (clearing b ++ batch ∷ []) ++ rest))
+    by_cleared later true = ap (λ cols. sized_at cols (clear_batch ∷ batch ∷ []) ++ rest) a.0.cols ∙ ap (λ l. sized_at w (clear_batch ∷ batch ∷ []) ++ l) later
+    by_cleared later false = ap (λ cols. sized_at cols (batch ∷ []) ++ rest) a.0.cols ∙ ap (λ l. sized_at w (batch ∷ []) ++ l) later
+
+module _ {V : Type 0} (rules : HostRules V) where
+  -- the stations since some, and whatever comes after them, set their columns
+  since_set : (mark : Option Mark) (since : List (Station V)) (station : Station V) (end : List SizedBatch) (e : Encoder) (w : ℕ)
+      → sent_sized (sized_from rules mark (since ++ station ∷ []) ++ end) (record e { cols = w }) ≡ sent_sized (sized_from rules mark (since ++ station ∷ []) ++ end) e
+  since_set mark [] station end e w = station_sets rules mark station [] end e w
+  since_set mark (first ∷ more) station end e w = station_sets rules mark first (more ++ station ∷ []) end e w
+
+  module _ {W A C : Type 0} (contents : W → Option (List ℕ)) (pen : Pen A C) where
+    -- what is written begins with the bytes of the stations so far, if they are sent at the width that was known
+    pub sized_bytes : (prompt : List ℕ) (value : V) (old new : AnsiTerminal W) (events : List EventView) (held : List ℕ) (h w : ℕ)
+        (earlier : List (Station V)) (station : Station V) (later : List (Station V)) → IsSizedReading rules contents prompt value old new events held
+        → let stations = earlier ++ station ∷ [] in
+        stations_of rules (reading_frame prompt value old events) ≡ earlier ++ station ∷ later
+        → AllByRecursion (IsSentAt h w) (map (sized_scene rules) stations) → old.encoder.cols ≡ w
+        → map (λ sized. sized.batch) (stations_sized rules stations) ≡ batches_of rules stations
+        → (rest : List ℕ) × (contents new.writer ≡ Some (held ++ ((sent_paintings rules pen stations old.encoder).bytes ++ rest)))
+    sized_bytes prompt value old new events held h w earlier station later k stations-are sent-at cols batches-are =
+        let f : Frame V = reading_frame prompt value old events in
+        let e : Encoder = old.encoder in
+        let stations : List (Station V) = earlier ++ station ∷ [] in
+        let written = readings_are_sized rules contents prompt value old new events held k in
+        let scenes : List (Station V) → List SizedScene = map (sized_scene rules) in
+        let a : List SizedBatch = stations_sized rules stations in
+        let c : List SizedBatch = sized_after (mark_after None (map shot_of (scenes stations))) (scenes later) in
+        let closing : List SizedBatch = sized_at (run_of rules f).size.cols (closing_if (run_of rules f).mark) in
+        let sent : Sent = sent_paintings rules pen stations e in
+        let rest : Sent = sent_sized (c ++ closing) sent.next in
+        let all : run_sized rules f ≡ a ++ (c ++ closing) =
+        ap (λ l. sized_after None l ++ closing)
+        (ap scenes (stations-are ∙ sym (append_assoc earlier (station ∷ []) later)) ∙ map-append (sized_scene rules) stations later)
+        ∙ ap (λ l. l ++ closing) (sized_after-both None (scenes stations) (scenes later))
+        ∙ append_assoc a c closing in
+        let first : sent_sized a e ≡ sent =
+        ap (λ l. sent_sized l e) (uniform h w None (scenes stations) sent-at) ∙ sized_known w (map (λ sized. sized.batch) a) e cols
+        ∙ ap (λ l. sent_batches l e) batches-are in
+        let bytes : (sent_sized (run_sized rules f) e).bytes ≡ sent.bytes ++ rest.bytes =
+        ap (λ l. (sent_sized l e).bytes) all ∙ ap (λ (s : Sent). s.bytes) (sized_both a (c ++ closing) e)
+        ∙ ap (λ (s : Sent). (sent_then s (sent_sized (c ++ closing))).bytes) first in
+        (rest.bytes, written.0 ∙ ap (λ l. Some (held ++ l)) bytes)
+
+    pub sized_paintings_are_shown : SizedPaintingsAreShown rules contents pen
+    sized_paintings_are_shown prompt value old new events held h w earlier station later t before k carries comes =
+        let painted = paintings_are_shown pen rules (reading_frame prompt value old events) h w earlier station later old.encoder t before carries comes in
+        let written = sized_bytes prompt value old new events held h w earlier station later k comes.comes.stations comes.sent comes.shows.cols painted.1.batches in
+        (written.0, written.1, painted.0, painted.1)
+
+    -- and those of the stations since a clearing come after the ones before it, whatever sizes are told
+    pub healed_bytes : (prompt : List ℕ) (value : V) (old new : AnsiTerminal W) (events : List EventView) (held : List ℕ) (h w : ℕ)
+        (earlier since : List (Station V)) (station : Station V) (later : List (Station V)) → IsSizedReading rules contents prompt value old new events held
+        → stations_of rules (reading_frame prompt value old events) ≡ earlier ++ (since ++ station ∷ later)
+        → AllByRecursion (IsSentAt h w) (map (sized_scene rules) (since ++ station ∷ []))
+        → let before = sent_sized (stations_sized rules earlier) old.encoder in
+        let sent = sent_batches (map (λ sized. sized.batch) (since_batches rules pen earlier (since ++ station ∷ []))) (record before.next { cols = w }) in
+        (rest : List ℕ) × (contents new.writer ≡ Some (held ++ (before.bytes ++ (sent.bytes ++ rest))))
+    healed_bytes prompt value old new events held h w earlier since station later k stations-are sent-at =
+        let f : Frame V = reading_frame prompt value old events in
+        let written = readings_are_sized rules contents prompt value old new events held k in
+        let scenes : List (Station V) → List SizedScene = map (sized_scene rules) in
+        let mark : Option Mark = mark_after None (map shot_of (scenes earlier)) in
+        let last : Option Mark = mark_after mark (map shot_of (scenes (since ++ station ∷ []))) in
+        let a : List SizedBatch = stations_sized rules earlier in
+        let b : List SizedBatch = since_batches rules pen earlier (since ++ station ∷ []) in
+        let c : List SizedBatch = sized_after last (scenes later) in
+        let closing : List SizedBatch = sized_at (run_of rules f).size.cols (closing_if (run_of rules f).mark) in
+        let before : Sent = sent_sized a old.encoder in
+        let e : Encoder = record before.next { cols = w } in
+        let sent : Sent = sent_batches (map (λ sized. sized.batch) b) e in
+        let rest : Sent = sent_sized (c ++ closing) sent.next in
+        let parts : scenes (stations_of rules f) ≡ scenes earlier ++ (scenes (since ++ station ∷ []) ++ scenes later) =
+        ap scenes (stations-are ∙ ap (λ l. earlier ++ l) (sym (append_assoc since (station ∷ []) later)))
+        ∙ map-append (sized_scene rules) earlier ((since ++ station ∷ []) ++ later)
+        ∙ ap (λ l. scenes earlier ++ l) (map-append (sized_scene rules) (since ++ station ∷ []) later) in
+        let lists : stations_sized rules (stations_of rules f) ≡ a ++ (b ++ c) =
+        ap (sized_after None) parts
+        ∙ sized_after-both None (scenes earlier) (scenes (since ++ station ∷ []) ++ scenes later)
+        ∙ ap (λ l. a ++ l) (sized_after-both mark (scenes (since ++ station ∷ [])) (scenes later)) in
+        let all : run_sized rules f ≡ a ++ (b ++ (c ++ closing)) =
+        ap (λ l. l ++ closing) lists ∙ append_assoc a (b ++ c) closing ∙ ap (λ l. a ++ l) (append_assoc b c closing) in
+        let since_sent : sent_sized b e ≡ sent =
+        ap (λ l. sent_sized l e) (uniform h w mark (scenes (since ++ station ∷ [])) sent-at) ∙ sized_known w (map (λ sized. sized.batch) b) e refl in
+        let behind : sent_sized (b ++ (c ++ closing)) before.next ≡ sent_then sent (sent_sized (c ++ closing)) =
+        sym (since_set mark since station (c ++ closing) before.next w) ∙ sized_both b (c ++ closing) e ∙ ap (λ (s : Sent). sent_then s (sent_sized (c ++ closing))) since_sent in
+        let bytes : (sent_sized (run_sized rules f) old.encoder).bytes ≡ before.bytes ++ (sent.bytes ++ rest.bytes) =
+        ap (λ l. (sent_sized l old.encoder).bytes) all ∙ ap (λ (s : Sent). s.bytes) (sized_both a (b ++ (c ++ closing)) old.encoder)
+        ∙ ap (λ (s : Sent). before.bytes ++ s.bytes) behind in
+        (rest.bytes, written.0 ∙ ap (λ l. Some (held ++ l)) bytes)
+
+    pub reading_healings_are_shown : ReadingHealingsAreShown rules contents pen
+    reading_healings_are_shown prompt value old new events held h w earlier since station later t k carries heals =
+        let e : Encoder = record (sent_sized (stations_sized rules earlier) old.encoder).next { cols = w } in
+        let written = healed_bytes prompt value old new events held h w earlier since station later k heals.comes.stations heals.sent in
+        (written.0, written.1, healings_are_shown pen rules (reading_frame prompt value old events) h w earlier since station later e t carries heals)
+
+    -- where that station is the last one, they and those of the closing batch are all that comes after
+    pub healed_run_bytes : (prompt : List ℕ) (value : V) (old new : AnsiTerminal W) (events : List EventView) (held : List ℕ) (h w : ℕ)
+        (earlier since : List (Station V)) (station : Station V) → IsSizedReading rules contents prompt value old new events held
+        → let f = reading_frame prompt value old events in
+        stations_of rules f ≡ earlier ++ (since ++ station ∷ [])
+        → AllByRecursion (IsSentAt h w) (map (sized_scene rules) (since ++ station ∷ []))
+        → let before = sent_sized (stations_sized rules earlier) old.encoder in
+        let taken = map (λ sized. sized.batch) (since_batches rules pen earlier (since ++ station ∷ [])) in
+        let sent = sent_batches (taken ++ closing_if (run_of rules f).mark) (record before.next { cols = w }) in
+        (contents new.writer ≡ Some (held ++ (before.bytes ++ sent.bytes))) × (new.encoder ≡ sent.next)
+    healed_run_bytes prompt value old new events held h w earlier since station k stations-are sent-at =
+        let f : Frame V = reading_frame prompt value old events in
+        let written = readings_are_sized rules contents prompt value old new events held k in
+        let reads = reads_of rules contents prompt value old new events held k in
+        let scenes : List (Station V) → List SizedScene = map (sized_scene rules) in
+        let mark : Option Mark = mark_after None (map shot_of (scenes earlier)) in
+        let a : List SizedBatch = stations_sized rules earlier in
+        let b : List SizedBatch = since_batches rules pen earlier (since ++ station ∷ []) in
+        let end : List Batch = closing_if (run_of rules f).mark in
+        let u : ℕ = (run_of rules f).size.cols in
+        let before : Sent = sent_sized a old.encoder in
+        let e : Encoder = record before.next { cols = w } in
+        let taken : List Batch = map (λ sized. sized.batch) b in
+        let sent : Sent = sent_batches (taken ++ end) e in
+        let parts : scenes (stations_of rules f) ≡ scenes earlier ++ scenes (since ++ station ∷ []) =
+        ap scenes stations-are ∙ map-append (sized_scene rules) earlier (since ++ station ∷ []) in
+        let all : run_sized rules f ≡ a ++ (b ++ sized_at u end) =
+        ap (λ l. sized_after None l ++ sized_at u end) parts
+        ∙ ap (λ l. l ++ sized_at u end) (sized_after-both None (scenes earlier) (scenes (since ++ station ∷ [])))
+        ∙ append_assoc a b (sized_at u end) in
+        let size = ends_at rules events false (progress_of f) f.terminal.size (sym reads.left) (subst IsAnswer reads.answer_is (answered k.answer)) in
+        let last = ap (last_size rules f.terminal.size) (stations-are ∙ sym (append_assoc earlier since (station ∷ [])))
+        ∙ last_size-is rules f.terminal.size (earlier ++ since) station in
+        let here : IsSentAt h w (sized_scene rules station) = last_of_all (IsSentAt h w) (sized_scene rules) since station sent-at in
+        let cols : u ≡ w = ap (λ size. size.cols) (sym size ∙ last) ∙ here.cols in
+        let lists : b ++ sized_at u end ≡ sized_at w (taken ++ end) =
+        ap (λ l. l ++ sized_at u end) (uniform h w mark (scenes (since ++ station ∷ [])) sent-at)
+        ∙ ap (λ n. sized_at w taken ++ sized_at n end) cols ∙ sym (sized_at-both w taken end) in
+        let behind : sent_sized (b ++ sized_at u end) before.next ≡ sent =
+        sym (since_set mark since station (sized_at u end) before.next w) ∙ ap (λ l. sent_sized l e) lists ∙ sized_known w (taken ++ end) e refl in
+        let is : sent_sized (run_sized rules f) old.encoder ≡ record { bytes = before.bytes ++ sent.bytes; next = sent.next } =
+        ap (λ l. sent_sized l old.encoder) all ∙ sized_both a (b ++ sized_at u end) old.encoder
+        ∙ ap (λ (s : Sent). record { bytes = before.bytes ++ s.bytes; next = s.next }) behind in
+        (written.0 ∙ ap (λ (s : Sent). Some (held ++ s.bytes)) is, written.1 ∙ ap (λ (s : Sent). s.next) is)
+
+    pub healed_closings_are_shown : HealedClosingsAreShown rules contents pen
+    healed_closings_are_shown prompt value old new events held h w earlier since station t k carries heals =
+        let f : Frame V = reading_frame prompt value old events in
+        let e : Encoder = record (sent_sized (stations_sized rules earlier) old.encoder).next { cols = w } in
+        let taken : List Batch = map (λ sized. sized.batch) (since_batches rules pen earlier (since ++ station ∷ [])) in
+        let sent : Sent = sent_batches (taken ++ closing_if (run_of rules f).mark) e in
+        let written = healed_run_bytes prompt value old new events held h w earlier since station k heals.comes.stations heals.sent in
+        let closed = heals_closed pen rules f h w earlier since station [] e t carries heals (All-nil (RendersNothing rules)) in (
+          sent.bytes,
+          written.0,
+          (
+            closed.0,
+            closed.1,
+            closed.2,
+            subst (λ next. ShowsPicture pen h w next (receive_all pen h w sent.bytes t) closed.1) (sym written.1) closed.3,
+            closed.4,
+            subst (λ next. IsColor next.attributes.background) (sym written.1) closed.5,
+          ),
+        )

@@ -1,0 +1,13 @@
+use Rattle.laws_runs.proofs.ClosingLemmas.{closings_are_shown}
+use Rattle.laws_runs.proofs.HealingLemmas.{healings_are_shown}
+use Rattle.laws_runs.proofs.SentLemmas.{paintings_are_shown}
+use Rattle.laws_runs.proofs.sent_runs.Goals as goal
+
+pub returns-clause-paintings : goal.returns-clause-paintings
+returns-clause-paintings g c = λ pen. paintings_are_shown pen g.H.LineEditorHost.rules
+
+pub returns-clause-closings : goal.returns-clause-closings
+returns-clause-closings g c = λ pen. closings_are_shown pen g.H.LineEditorHost.rules
+
+pub returns-clause-healings : goal.returns-clause-healings
+returns-clause-healings g c = λ pen. healings_are_shown pen g.H.LineEditorHost.rules

@@ -1,0 +1,99 @@
+-- What a terminal shows that is sent the bytes of a run's batches.
+use Rattle.std.specs.Prelude.{◌≡◌, ◌<◌, ◌+◌, ◌^◌, neg_ℤ, ℕ, Some, None, false, List, [], ◌∷◌, ◌++◌, map}
+use Rattle.std.specs.List.{All, AllByRecursion}
+use Rattle.laws_screens.specs.Strokes.{PictureOf}
+use Rattle.laws_screens.specs.Sheets.{IsFreshSheet, sheet_last_row}
+use Rattle.laws_screens.specs.Paintings.{IsClosedSheet, top_row}
+use Rattle.tw_surface.specs.declared.change.Position.TheVariants.{Relative}
+use Rattle.tw_surface.specs.Paintings.{Mark}
+use Rattle.tw_surface.specs.PaintingBatches.{SizedScene, shot_of, mark_after, closing_if}
+use Rattle.laws_screens.specs.Pens.{Pen}
+use Rattle.laws_screens.specs.Screens.{blank_of}
+use Rattle.tw_host.specs.HostRules.{HostRules}
+use Rattle.tw_lineedit.specs.Frame.{Frame}
+use Rattle.tw_lineedit.specs.Run.{run_of}
+use Rattle.tw_lineedit.specs.ScreenRuns.{sized_scene, batches_of, RendersNothing}
+use Rattle.tw_lineedit.specs.Stations.{Station}
+use Rattle.laws_runs.specs.DrawnRuns.{paintings_at, painted_at, play_stations, closed_by, since_batches, ComesSimply, ComesHealed, ShowsDrawn}
+use Rattle.tw_ansi.specs.declared.encode.Encoder.{Encoder}
+use Rattle.tw_ansi.specs.Encoding.{Sent}
+use Rattle.tw_ansi.specs.EcmaLaws.{IsColor}
+use Rattle.tw_ansi.specs.EcmaBatches.{CarriesAttributes, IsReached}
+use Rattle.tw_ansi.specs.EcmaPaintings.{IsShowable, sent_batches}
+use Rattle.tw_ansi.specs.EcmaScreen.{EcmaScreen, receive_all}
+use Rattle.tw_ansi.specs.EcmaScreen as terminal
+use Rattle.tw_ansi.specs.EcmaTexts.{ShowsPicture}
+
+-- a station that is painted for w columns, and whose bytes do what its changes do on a terminal of h rows
+pub record IsSentAt (h w : ℕ) (station : SizedScene) : Type 0 where
+  pub cols : station.cols ≡ w
+  pub showable : IsShowable h w station.scene
+
+module _ {V A C : Type 0} (rules : HostRules V) (pen : Pen A C) where
+  -- The run from a frame comes to a station and paints it, and so far every station was such a one. A terminal of h rows
+  -- and w columns shows a picture, and the colour that is known after its text is by bytes.
+  pub record ComesSent (h w : ℕ) (f : Frame V) (earlier : List (Station V)) (station : Station V) (later : List (Station V)) (e : Encoder) (t : EcmaScreen C) (before : PictureOf C) : Type 0 where
+    pub comes : ComesSimply rules pen (Some h) f earlier station later before
+    pub sent : AllByRecursion (IsSentAt h w) (map (sized_scene rules) (earlier ++ station ∷ []))
+    pub narrow : w < 2 ^ 64
+    pub color : IsColor e.attributes.background
+    pub shows : ShowsPicture pen h w e t before
+
+  -- the bytes of the batches of stations, by what is known of the terminal, and what is known then
+  abbrev pub sent_paintings : List (Station V) → Encoder → Sent
+  sent_paintings stations e = sent_batches (batches_of rules stations) e
+
+  -- and those of the closing batch of a run too
+  abbrev pub sent_run : Frame V → List (Station V) → Encoder → Sent
+  sent_run f stations e = sent_batches (batches_of rules stations ++ closing_if (run_of rules f).mark) e
+
+  -- a picture on which the batches of stations were played, at w columns
+  abbrev pub shown_by : ℕ → ℕ → Encoder → List (Station V) → PictureOf C → PictureOf C
+  shown_by h w e stations before = play_stations rules pen (Some h) false w (pen.attributes e.attributes) stations before
+
+  -- The terminal that is sent these bytes shows the picture on which the batches were played, and there the last station's painting is fresh.
+  abbrev pub PaintingsAreShown : Type 0
+  PaintingsAreShown = (f : Frame V) (h w : ℕ) (earlier : List (Station V)) (station : Station V) (later : List (Station V)) (e : Encoder) (t : EcmaScreen C) (before : PictureOf C)
+      → CarriesAttributes pen → ComesSent h w f earlier station later e t before
+      → let stations = earlier ++ station ∷ [] in
+      let sent = sent_paintings stations e in
+      ShowsPicture pen h w sent.next (receive_all pen h w sent.bytes t) (shown_by h w e stations before)
+      × ShowsDrawn rules pen (Some h) false w (pen.attributes e.attributes) f earlier station before
+
+  -- After the last painting of a run it shows what the closing batch left: the cursor in the row below, and blanks from there on. The colour that is
+  -- known is by bytes, so that another run can follow.
+  abbrev pub ClosingsAreShown : Type 0
+  ClosingsAreShown = (f : Frame V) (h w : ℕ) (earlier : List (Station V)) (station : Station V) (later : List (Station V)) (e : Encoder) (t : EcmaScreen C) (before : PictureOf C)
+      → CarriesAttributes pen → ComesSent h w f earlier station later e t before → All (RendersNothing rules) later
+      → let stations = earlier ++ station ∷ [] in
+      let sent = sent_run f stations e in
+      let last = top_row (Some h) before.row (paintings_at rules pen stations) + sheet_last_row w (painted_at rules pen station).sheet in
+      let shown = shown_by h w e stations before in
+      let closed = closed_by rules pen (Some h) false w w (pen.attributes (sent_paintings stations e).next.attributes) f shown in
+      ((run_of rules f).taken ≡ f.terminal.batches ++ batches_of rules stations)
+      × ShowsPicture pen h w sent.next (receive_all pen h w sent.bytes t) closed
+      × IsClosedSheet (Some h) w (blank_of pen) last shown closed
+      × IsColor sent.next.attributes.background
+
+  -- ---- after a clearing
+
+  -- The run from a frame comes to a station and paints it. The screen was cleared before the first of the stations since then, and these are sent at w columns; a
+  -- move back from the painting before them leads no further than a move can. Of the terminal it is known that it has read no part of a sequence, and
+  -- which attributes are selected; it may show anything, its cursor anywhere.
+  pub record HealsSent (h w : ℕ) (f : Frame V) (earlier since : List (Station V)) (station : Station V) (later : List (Station V)) (e : Encoder) (t : EcmaScreen C) : Type 0 where
+    pub comes : ComesHealed rules pen (Some h) f earlier since station later
+    pub sent : AllByRecursion (IsSentAt h w) (map (sized_scene rules) (since ++ station ∷ []))
+    pub back : (m : Mark) → mark_after None (map shot_of (map (sized_scene rules) earlier)) ≡ Some m → IsReached h (Relative (neg_ℤ m.row))
+    pub narrow : w < 2 ^ 64
+    pub color : IsColor e.attributes.background
+    pub reading : t.reading ≡ terminal.Text
+    pub rendition : t.rendition ≡ e.attributes
+    pub cols : e.cols ≡ w
+
+  -- The terminal that is sent the bytes from the clearing on shows the last station's painting, fresh from row 0 on.
+  abbrev pub HealingsAreShown : Type 0
+  HealingsAreShown = (f : Frame V) (h w : ℕ) (earlier since : List (Station V)) (station : Station V) (later : List (Station V)) (e : Encoder) (t : EcmaScreen C)
+      → CarriesAttributes pen → HealsSent h w f earlier since station later e t
+      → let sent = sent_batches (map (λ sized. sized.batch) (since_batches rules pen earlier (since ++ station ∷ []))) e in
+      (picture : PictureOf C) × ShowsPicture pen h w sent.next (receive_all pen h w sent.bytes t) picture
+      × IsFreshSheet w 0 (blank_of pen) (painted_at rules pen station).sheet picture

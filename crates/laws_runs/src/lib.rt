@@ -1,0 +1,89 @@
+//! What screens show while the batches of a run of the editor are played on them: characters alone or under their
+//! attributes, on a screen without a bottom, one of some rows, which scrolls, one that was cleared, and one that cuts its
+//! rows to its columns. And what a terminal shows that is sent the bytes of a run, or of a reading: that of `tw_ansi`, of
+//! some rows and columns.
+//!
+//! Each law is the contract of a function that does nothing. It holds for the run from every frame; that a call took
+//! the batches of its run is what `read_line` of `tw_lineedit` says.
+#![tactic(auto)]
+
+ghost use Rattle.std.specs.Prelude.{List, Option, ℕ};
+ghost use Rattle.laws_runs.specs.DrawnRuns.{DrawnCallsStack, DrawnClosings, DrawnHealings, DrawnPaintings, HealedClosings};
+ghost use Rattle.laws_runs.specs.PlainRuns.{CallsStack, Closings, Paintings, PaintsNothing, ShownRuns};
+ghost use Rattle.laws_screens.specs.Pens.{Pen};
+ghost use Rattle.laws_runs.specs.Rests.{ResizedHeals, RestIsKept};
+ghost use Rattle.laws_runs.specs.SentReadings.{ReadingClosingsAreShown, ReadingPaintingsAreShown};
+ghost use Rattle.laws_runs.specs.SentRuns.{ClosingsAreShown, HealingsAreShown, PaintingsAreShown};
+ghost use Rattle.laws_runs.specs.SizedReadings.{HealedClosingsAreShown, ReadingHealingsAreShown, ReadingsAreSized, SizedPaintingsAreShown};
+
+use std::io::Write;
+use tw_host::LineEditorHost;
+
+/// After each painting of a run of printable ASCII a screen without a bottom shows the fresh painting of its station,
+/// and the closing batch ends below it.
+pub fn plain_runs<H: LineEditorHost>()
+    ensures painting { Paintings H.rules }
+    ensures closing_batch { Closings H.rules }
+{}
+
+/// What `shows` of `read_line` says of a call that was answered, with the batches of its run, gives these two for its
+/// run. And a call that took no batch breaks it, where its run begins plainly: if it was answered, and also if memory or
+/// the terminal stopped it after its first event.
+pub fn shown_calls<H: LineEditorHost>()
+    ensures runs { ShownRuns H.rules (Option (List ℕ)) }
+    ensures nothing { PaintsNothing H.rules (Option (List ℕ)) }
+{}
+
+/// Calls stack: what a second call paints, while it clears nothing, is fresh under what the first one left,
+/// and changes nothing of that.
+pub fn stacking<H: LineEditorHost>()
+    ensures { CallsStack H.rules }
+{}
+
+/// After each painting of a run of simple texts, whose clusters are one character of one column each, a screen of any
+/// kind of cells shows the fresh painting of its station: characters alone, or with their attributes, on some rows or
+/// without a bottom, cut to its columns or not. The closing batch ends below it, calls stack, and a clearing heals
+/// whatever was shown and painted before.
+pub fn drawn_runs<H: LineEditorHost, A, C>()
+    ensures painting { (pen : Pen A C) → DrawnPaintings H.rules pen }
+    ensures closing { (pen : Pen A C) → DrawnClosings H.rules pen }
+    ensures stacking { (pen : Pen A C) → DrawnCallsStack pen }
+    ensures healing { (pen : Pen A C) → DrawnHealings H.rules pen }
+    ensures healed_closing { (pen : Pen A C) → HealedClosings H.rules pen }
+{}
+
+/// A terminal that shows a picture, its cursor in column 0, and is sent the bytes of a run's batches up to a painting,
+/// shows that station's fresh painting, and what stood above it, moved up; and after those of the closing batch its
+/// cursor is in column 0 of the row below, with blanks from there on. One that may show anything shows a fresh painting
+/// after a clearing.
+pub fn sent_runs<H: LineEditorHost, A, C>()
+    ensures paintings { (pen : Pen A C) → PaintingsAreShown H.rules pen }
+    ensures closings { (pen : Pen A C) → ClosingsAreShown H.rules pen }
+    ensures healings { (pen : Pen A C) → HealingsAreShown H.rules pen }
+{}
+
+/// The bytes that `read_line_from` has written, where it was answered and no event told another number of columns, are
+/// those of its run: so a terminal shows what `sent_runs` says.
+pub fn sent_readings<H: LineEditorHost, W: Write, A, C>()
+    ensures paintings { (pen : Pen A C) → ReadingPaintingsAreShown H.rules W.contents pen }
+    ensures closings { (pen : Pen A C) → ReadingClosingsAreShown H.rules W.contents pen }
+{}
+
+/// Whatever sizes the events tell, the bytes that `read_line_from` has written, where it was answered, are those of its
+/// run's batches, each sent for the columns of its station. A changed size is followed from the next clearing on: the
+/// bytes from there on show a fresh painting at the new size, whatever the terminal showed, and those of the closing
+/// batch leave the cursor in the row below, so that the next reading can begin there.
+pub fn sized_readings<H: LineEditorHost, W: Write, A, C>()
+    ensures sized { ReadingsAreSized H.rules W.contents }
+    ensures paintings { (pen : Pen A C) → SizedPaintingsAreShown H.rules W.contents pen }
+    ensures healings { (pen : Pen A C) → ReadingHealingsAreShown H.rules W.contents pen }
+    ensures closings { (pen : Pen A C) → HealedClosingsAreShown H.rules W.contents pen }
+{}
+
+/// What is sent of stations of plain texts and of colours by bytes leaves a terminal at rest under the attributes that are
+/// known then, whatever becomes of its size, its cells and its cursor between the batches. So a terminal that was at rest
+/// where a reading began, and has changed its size since, is one that the next clearing heals.
+pub fn rested<H: LineEditorHost, A, C>()
+    ensures kept { (pen : Pen A C) → RestIsKept H.rules pen }
+    ensures heals { (pen : Pen A C) → ResizedHeals H.rules pen }
+{}

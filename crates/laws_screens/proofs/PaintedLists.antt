@@ -1,0 +1,160 @@
+-- Lists of paintings, one over the other.
+use Rattle.std.proofs.Common.{◌≡◌, ℕ, ◌+◌, ◌-◌, ◌≤◌, ◌<◌, min, Bool, true, false, Option, Some, None, List, [], ◌∷◌, if◌then◌else◌, inl, inr, refl, ap, ◌∙◌, arith}
+use Rattle.std.proofs.lemmas.Bool.{cases_lt, lt-ltb, le-ltb}
+use Rattle.std.proofs.Math.Nat.{min-eq_right}
+use Rattle.laws_screens.specs.Strokes.{PictureOf, filled, step, scrolled, steps_on, InSight, resized, narrowest}
+use Rattle.laws_screens.specs.Strokes.Stroke.{Move}
+use Rattle.laws_screens.specs.Sheets.{Sheet, sheet_cursor_row, IsFreshSheet, raised_row}
+use Rattle.laws_screens.specs.Paintings.{SheetPainting, IsLed, IsFit, painting_strokes, begun, paint_all, top_row, cols_of, last_painting, AreShownOver}
+use Rattle.laws_screens.proofs.PaintedSheets.{Painted, painted}
+
+in-sight : (rows : Option ℕ) (s : ℕ) → InSight rows s → InSight rows 0
+in-sight None s h = tt
+in-sight (Some h) s low = omega (arith, low)
+
+narrowest-le : (w : ℕ) (more : List ℕ) → narrowest w more ≤ w
+narrowest-le w [] = omega arith
+narrowest-le w (x ∷ more) = omega arith
+
+in-sight-below : (rows : Option ℕ) (s s' : ℕ) → s' ≤ s → InSight rows s → InSight rows s'
+in-sight-below None s s' le h = tt
+in-sight-below (Some h) s s' le low = omega (arith, le, low)
+
+module _ {C : Type 0} where
+  -- each painting of a list is fit
+  abbrev pub AreFit : Option ℕ → List (SheetPainting C) → Type 0
+  AreFit rows [] = Unit {0}
+  AreFit rows (p ∷ more) = IsFit rows p × AreFit rows more
+
+  -- ---- where a painting begins
+
+  -- the cursor is at column 0 of row s, or where the move of the painting before leads it back to row s; after a clearing that move leads to row 0
+  abbrev pub IsBefore : Bool → ℕ → Option (ℕ → ℕ) → PictureOf C → Type 0
+  IsBefore true s None t = Unit {0}
+  IsBefore true s (Some back) t = back 0 ≡ 0
+  IsBefore false s None t = (t.row ≡ s) × (t.col ≡ 0)
+  IsBefore false s (Some back) t = back t.row ≡ s
+
+  -- from a screen whose cursor is where the painting before left it, or at column 0
+  painted_from : (rows : Option ℕ) (b : C) (p : SheetPainting C) (s : ℕ) (before : Option (ℕ → ℕ)) (t : PictureOf C) → IsFit rows p → InSight rows s → IsBefore false s before t
+      → Painted p.cols b s (raised_row rows p.cols s p.sheet) p.sheet t (steps_on rows p.cols (painting_strokes b before p) t)
+  painted_from rows b p s None t fit inside k = painted rows b p s t fit inside k.0 k.1
+  painted_from rows b p s (Some back) t fit inside k =
+      let m : PictureOf C = step p.cols (Move back (λ c. 0)) t in
+      let q = painted rows b p s (scrolled rows m) fit inside (still-row rows s m inside k) (still-col rows m ∙ min-eq_right (omega arith)) in
+      record {
+        fresh = q.fresh;
+        above = λ r c h i. q.above r c h i ∙ still-cell rows s m inside k (r + (s - raised_row rows p.cols s p.sheet)) c;
+      }
+    where
+      still-row : (rows : Option ℕ) (s : ℕ) (m : PictureOf C) → InSight rows s → m.row ≡ s → (scrolled rows m).row ≡ s
+      still-row None s m low e = e
+      still-row (Some h) s m low e = omega (arith, low, e)
+
+      still-col : (rows : Option ℕ) (m : PictureOf C) → (scrolled rows m).col ≡ m.col
+      still-col None m = refl
+      still-col (Some h) m = refl
+
+      still-cell : (rows : Option ℕ) (s : ℕ) (m : PictureOf C) → InSight rows s → m.row ≡ s → (r c : ℕ) → (scrolled rows m).cell r c ≡ m.cell r c
+      still-cell None s m low e r c = refl
+      still-cell (Some h) s m low e r c = ap (λ y. m.cell y c) (omega (arith, low, e))
+
+  -- a screen that is made wider or narrower leaves the cursor there
+  resized-before : (cuts : Bool) (b : C) (v w s : ℕ) (before : Option (ℕ → ℕ)) (t : PictureOf C) → IsBefore false s before t → IsBefore false s before (resized cuts b v w t)
+  resized-before false b v w s before t k = k
+  resized-before true b v w s None t k = (k.0, ap (min (w - 1)) k.1 ∙ min-eq_right (omega arith))
+  resized-before true b v w s (Some back) t k = k
+
+  filled-before : (cuts : Bool) (b : C) (w : ℕ) (before : Option (ℕ → ℕ)) (s : ℕ) (t : PictureOf C) → IsBefore true s before t → IsBefore false 0 before (resized cuts b w w (filled b))
+  filled-before false b w None s t k = (refl, refl)
+  filled-before false b w (Some back) s t k = k
+  filled-before true b w None s t k = (refl, min-eq_right (omega arith))
+  filled-before true b w (Some back) s t k = k
+
+  raised-le : (rows : Option ℕ) (w s : ℕ) (sheet : Sheet C) → raised_row rows w s sheet ≤ s
+  raised-le None w s sheet = omega arith
+  raised-le (Some h) w s sheet = omega arith
+
+  -- one painting, its screen cleared or not
+  painted_begun : (rows : Option ℕ) (cuts : Bool) (b : C) (v : ℕ) (p : SheetPainting C) (s : ℕ) (before : Option (ℕ → ℕ)) (t : PictureOf C) → IsFit rows p → InSight rows s → IsBefore p.cleared s before t
+      → Painted p.cols b s (raised_row rows p.cols (if p.cleared then 0 else s) p.sheet) p.sheet (resized cuts b v p.cols t)
+      (steps_on rows p.cols (painting_strokes b before p) (begun cuts b v p t))
+  painted_begun rows cuts b v p s before t fit inside k = by_cleared p.cleared k
+    where
+      by_cleared : (cleared : Bool) → IsBefore cleared s before t
+          → Painted p.cols b s (raised_row rows p.cols (if cleared then 0 else s) p.sheet) p.sheet (resized cuts b v p.cols t)
+          (steps_on rows p.cols (painting_strokes b before p) (if cleared then resized cuts b p.cols p.cols (filled b) else resized cuts b v p.cols t))
+      by_cleared true k =
+          let q = painted_from rows b p 0 before (resized cuts b p.cols p.cols (filled b)) fit (in-sight rows s inside) (filled-before cuts b p.cols before s t k) in
+          record { fresh = q.fresh; above = λ r c h i. absurd (omega (arith, raised-le rows p.cols 0 p.sheet)) }
+      by_cleared false k = painted_from rows b p s before (resized cuts b v p.cols t) fit inside (resized-before cuts b v p.cols s before t k)
+
+  -- ---- a painting, and those over it
+
+  pub top-le : (rows : Option ℕ) (s : ℕ) (paintings : List (SheetPainting C)) → top_row rows s paintings ≤ s
+  top-le rows s [] = omega arith
+  top-le rows s (p ∷ more) = omega (arith, first p.cleared, top-le rows (raised_row rows p.cols (if p.cleared then 0 else s) p.sheet) more)
+    where
+      first : (cleared : Bool) → raised_row rows p.cols (if cleared then 0 else s) p.sheet ≤ s
+      first true = omega (arith, raised-le rows p.cols 0 p.sheet)
+      first false = raised-le rows p.cols s p.sheet
+
+  resized-kept : (cuts : Bool) (b : C) (v w : ℕ) (t : PictureOf C) (r c : ℕ) → c < v → c < w → (resized cuts b v w t).cell r c ≡ t.cell r c
+  resized-kept false b v w t r c h k = refl
+  resized-kept true b v w t r c h k = rw (lt-ltb c (min v w) (omega arith)) refl
+
+  resized-cut : (b : C) (v w : ℕ) (t : PictureOf C) (r c : ℕ) → v ≤ c → (resized true b v w t).cell r c ≡ b
+  resized-cut b v w t r c h = rw (le-ltb c (min v w) (omega arith)) refl
+
+  -- from row e to row s by the first one, and to row s' by the others
+  joined : (cuts : Bool) (b : C) (v e s s' : ℕ) (p last : SheetPainting C) (cols : List ℕ) (t u after : PictureOf C) → s ≤ e → s' ≤ s
+      → Painted p.cols b e s p.sheet (resized cuts b v p.cols t) u
+      → AreShownOver cuts b (narrowest p.cols cols) s s' last u after → AreShownOver cuts b (narrowest v (p.cols ∷ cols)) e s' last t after
+  joined cuts b v e s s' p last cols t u after le le' one rest = record {
+    fresh = rest.fresh;
+    above = λ r c h i k.
+        let inside : c < p.cols = omega (arith, narrowest-le p.cols cols) in
+        rest.above r c h i (omega arith) ∙ one.above (r + (s - s')) c (omega arith) inside
+        ∙ resized-kept cuts b v p.cols t (r + (s - s') + (e - s)) c (omega arith) inside ∙ ap (λ y. t.cell y c) (omega arith);
+    cut = λ is r c h i k. elim (cases_lt c (narrowest p.cols cols)) [
+      | inl near ↦
+          let inside : c < p.cols = omega (arith, narrowest-le p.cols cols) in
+          rest.above r c h i near ∙ one.above (r + (s - s')) c (omega arith) inside
+          ∙ ap (λ x. (resized x b v p.cols t).cell (r + (s - s') + (e - s)) c) is
+          ∙ resized-cut b v p.cols t (r + (s - s') + (e - s)) c (omega arith)
+      | inr far ↦ rest.cut is r c h i far
+    ];
+  }
+
+  -- where the painting before left the cursor, the next one begins
+  left-before : (s : ℕ) (p : SheetPainting C) (cleared : Bool) (t : PictureOf C) → IsLed p → t.row ≡ s + sheet_cursor_row p.cols p.sheet → IsBefore cleared s (Some p.back) t
+  left-before s p true t led row = led.back 0 ∙ omega arith
+  left-before s p false t led row = led.back t.row ∙ omega (arith, row)
+
+  -- the paintings over a fresh one
+  painted_over : (rows : Option ℕ) (cuts : Bool) (b : C) (s : ℕ) (p : SheetPainting C) (more : List (SheetPainting C)) (t : PictureOf C) → IsLed p → AreFit rows more → InSight rows s → IsFreshSheet p.cols s b p.sheet t
+      → AreShownOver cuts b (narrowest p.cols (cols_of more)) s (top_row rows s more) (last_painting p more) t (paint_all rows cuts b p.cols (Some p.back) more t)
+  painted_over rows cuts b s p [] t led fit inside fresh = record {
+    fresh = fresh;
+    above = λ r c h i k. ap (λ y. t.cell y c) (omega arith);
+    cut = λ is r c h i k. absurd (omega arith);
+  }
+  painted_over rows cuts b s p (next ∷ more) t led fit inside fresh =
+      let s1 : ℕ = raised_row rows next.cols (if next.cleared then 0 else s) next.sheet in
+      let le : s1 ≤ s = top-le rows s (next ∷ []) in
+      let u : PictureOf C = steps_on rows next.cols (painting_strokes b (Some p.back) next) (begun cuts b p.cols next t) in
+      let one = painted_begun rows cuts b p.cols next s (Some p.back) t fit.0 inside (left-before s p next.cleared t led fresh.row) in
+      let rest = painted_over rows cuts b s1 next more u fit.0.led fit.1 (in-sight-below rows s s1 le inside) one.fresh in
+      joined cuts b p.cols s s1 (top_row rows s1 more) next (last_painting next more) (cols_of more) t u _ le (top-le rows s1 more) one rest
+
+  -- After a list of paintings the screen shows the last one fresh.
+  pub painted_all : (rows : Option ℕ) (cuts : Bool) (b : C) (v s : ℕ) (before : Option (ℕ → ℕ)) (first : SheetPainting C) (more : List (SheetPainting C)) (t : PictureOf C)
+      → AreFit rows (first ∷ more) → InSight rows s → IsBefore first.cleared s before t
+      → AreShownOver cuts b (narrowest v (cols_of (first ∷ more))) s (top_row rows s (first ∷ more)) (last_painting first more) t (paint_all rows cuts b v before (first ∷ more) t)
+  painted_all rows cuts b v s before first more t fit inside k =
+      let s1 : ℕ = raised_row rows first.cols (if first.cleared then 0 else s) first.sheet in
+      let le : s1 ≤ s = top-le rows s (first ∷ []) in
+      let u : PictureOf C = steps_on rows first.cols (painting_strokes b before first) (begun cuts b v first t) in
+      let one = painted_begun rows cuts b v first s before t fit.0 inside k in
+      let rest = painted_over rows cuts b s1 first more u fit.0.led fit.1 (in-sight-below rows s s1 le inside) one.fresh in
+      joined cuts b v s s1 (top_row rows s1 more) first (last_painting first more) (cols_of more) t u _ le (top-le rows s1 more) one rest

@@ -1,0 +1,15 @@
+use Rattle.laws_screens.proofs.SizedBatchLemmas.{sized_batches_are}
+use Rattle.laws_screens.proofs.DrawnStations.{shows_stations, heals_stations, closes_stations}
+use Rattle.laws_screens.proofs.laws.stations.Goals as goal
+
+pub returns-clause-shown : goal.returns-clause-shown
+returns-clause-shown g c = shows_stations
+
+pub returns-clause-healed : goal.returns-clause-healed
+returns-clause-healed g c = heals_stations
+
+pub returns-clause-closed : goal.returns-clause-closed
+returns-clause-closed g c = closes_stations
+
+pub returns-clause-batches : goal.returns-clause-batches
+returns-clause-batches g c = sized_batches_are

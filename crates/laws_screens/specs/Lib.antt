@@ -1,0 +1,10 @@
+pub mod Strokes
+pub mod Sheets
+pub mod Paintings
+pub mod Pens
+pub mod SceneSheets
+pub mod SizedBatches
+pub mod Screens
+pub mod StyledCells
+pub mod CharacterScreens
+pub mod PlainScreens

@@ -1,3 +1,0 @@
-pub mod SearchLemmas
-pub mod JoinedLemmas
-pub mod BoundedLemmas

@@ -1,5 +1,0 @@
-pub mod DrawLemmas
-pub mod DrawingLimits
-pub mod PaintingSteps
-pub mod PaintedSizes
-pub mod FaithfulLemmas

@@ -1,5 +1,0 @@
-use Rattle.tw_screen_runs.proofs.PlainRunLemmas.{calls_stack}
-use Rattle.tw_screen_runs.proofs.stacking.Goals as goal
-
-pub returns : goal.returns
-returns g c = calls_stack g.H.LineEditorHost.rules

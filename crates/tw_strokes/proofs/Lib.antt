@@ -1,5 +1,0 @@
-pub mod LineOfCells
-pub mod DrawnSheets
-pub mod SeenRows
-pub mod PaintedSheets
-pub mod PaintedLists

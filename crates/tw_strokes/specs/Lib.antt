@@ -1,3 +1,0 @@
-pub mod Strokes
-pub mod Sheets
-pub mod Paintings
