@@ -182,7 +182,7 @@ token été x => été| x
 shown 0\u{20} =>  0
 shown 6 select => Bselect| 6
 shown 7 selects => .selects| 7
-shown 22 select * from 'from x' => Bselect|. |.*|. |Bfrom|. |G'from x'| 22
+shown 22 select * from 'from x' => Bselect|. * |Bfrom|. |G'from x'| 22
 column 6 日本x => 4
 
 // the word before the cursor is completed
