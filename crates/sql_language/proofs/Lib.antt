@@ -1,5 +1,4 @@
 pub mod LexerLemmas
 pub mod LexemeLemmas
 pub mod StatementLemmas
-pub mod WordLemmas
 pub mod TokenLemmas

@@ -1,9 +1,5 @@
 //! The names of a database, and which of them a statement may mean.
 
-ghost use Rattle.std.specs.Prelude.{◌≡◌, IfOk, length, map, string_bytes};
-ghost use Rattle.sql_language.specs.Catalog.{catalog_view, completes, completing_names, has_column, has_table, is_in_scope, named_tables, table_view};
-ghost use Rattle.sql_language.specs.Lexemes.{token_view};
-
 use crate::names::{is_named, written_name};
 use crate::tokens::Token;
 use crate::words::{has_word, is_start_of};
@@ -28,32 +24,22 @@ pub struct Catalog {
 }
 
 /// Returns true if a name is that of one of these tables.
-fn has_table(tables: &[SqlTable], name: &str) -> bool
-    ensures { result ≡ has_table (map table_view tables.now) name.now }
-{
+fn has_table(tables: &[SqlTable], name: &str) -> bool {
     tables.iter().any(|table| table.name.as_str() == name)
 }
 
 /// Returns true if a name is that of a column of one of these tables, whatever its case.
-fn has_column(tables: &[&SqlTable], name: &str) -> bool
-    ensures { result ≡ has_column (map (λ table. table_view table.now) tables.now) name.now }
-{
+fn has_column(tables: &[&SqlTable], name: &str) -> bool {
     tables.iter().any(|table| has_word(&table.columns, name))
 }
 
 /// Returns true if a statement that names some of the tables may mean a name.
-fn is_in_scope(tables: &[SqlTable], named: &[&SqlTable], name: &str) -> bool
-    ensures { result ≡ is_in_scope (map table_view tables.now)
-        (map (λ table. table_view table.now) named.now) name.now }
-{
+fn is_in_scope(tables: &[SqlTable], named: &[&SqlTable], name: &str) -> bool {
     named.is_empty() || has_table(tables, name) || has_column(named, name)
 }
 
 /// Returns true if a name completes a word in a statement that names some of the tables.
-fn completes(tables: &[SqlTable], named: &[&SqlTable], word: &str, name: &str) -> bool
-    ensures { result ≡ completes (map table_view tables.now)
-        (map (λ table. table_view table.now) named.now) word.now name.now }
-{
+fn completes(tables: &[SqlTable], named: &[&SqlTable], word: &str, name: &str) -> bool {
     is_start_of(word, name) && is_in_scope(tables, named, name)
 }
 
@@ -62,10 +48,7 @@ pub fn named_tables<'a>(
     alloc: Global,
     tables: &'a [SqlTable],
     tokens: &[Token<'_>],
-) -> Result<Vec<&'a SqlTable>, AllocError>
-    ensures { IfOk result (λ named. map (λ table. table_view table.now) named.items
-        ≡ named_tables (map token_view tokens.now) (map table_view tables.now)) }
-{
+) -> Result<Vec<&'a SqlTable>, AllocError> {
     let mut named = Vec::new(alloc);
     for table in tables {
         if is_named(tokens, table.name.as_str()) {
@@ -83,11 +66,7 @@ pub fn completing_names(
     catalog: &Catalog,
     named: &[&SqlTable],
     word: &str,
-) -> Result<Vec<String>, AllocError>
-    ensures { IfOk result (λ texts. map string_bytes texts.items
-        ≡ completing_names (map string_bytes keywords.now) (catalog_view catalog.now)
-        (map (λ table. table_view table.now) named.now) word.now) }
-{
+) -> Result<Vec<String>, AllocError> {
     let mut texts = Vec::new(alloc);
     for name in &catalog.names {
         if completes(&catalog.tables, named, word, name.as_str()) {

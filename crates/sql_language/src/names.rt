@@ -1,17 +1,14 @@
 //! Names of tables and columns: those in a text, and how one is written.
 
-ghost use Rattle.std.specs.Prelude.{◌≡◌, ◌++◌, IfOk, OnOk, map, string_bytes};
-ghost use Rattle.sql_language.specs.Lexemes.{token_view};
-ghost use Rattle.sql_language.specs.Names.{bare, doubled, is_named, is_one_word, quoted_name, written_name};
+ghost use Rattle.std.specs.Prelude.{◌≡◌, ◌++◌, IfOk, OnOk, string_bytes};
+ghost use Rattle.sql_language.specs.Names.{doubled, quoted_name};
 
 use crate::tokens::{Token, TokenKind, first_token};
 use crate::words::{eq_ignore_case, has_word};
 use std::alloc::{AllocError, Global};
 
 /// Returns a token without the quotes in which it stands as a name.
-fn bare<'a>(token: Token<'a>) -> &'a [u8]
-    ensures { result.now ≡ bare token.entry.kind token.entry.text.now }
-{
+fn bare<'a>(token: Token<'a>) -> &'a [u8] {
     let bytes = token.text.as_bytes();
     match token.kind {
         TokenKind::Name if bytes.len() >= 2 => &bytes[1..bytes.len() - 1],
@@ -21,18 +18,14 @@ fn bare<'a>(token: Token<'a>) -> &'a [u8]
 }
 
 /// Returns true if one of these tokens is a name, whatever the case of its ASCII letters.
-pub(crate) fn is_named(tokens: &[Token<'_>], name: &str) -> bool
-    ensures { result ≡ is_named (map token_view tokens.now) name.now }
-{
+pub(crate) fn is_named(tokens: &[Token<'_>], name: &str) -> bool {
     tokens
         .iter()
         .any(|token| eq_ignore_case(bare(*token), name.as_bytes()))
 }
 
 /// Returns true if a text is one word.
-fn is_one_word(text: &str) -> bool
-    ensures { result ≡ is_one_word text.now }
-{
+fn is_one_word(text: &str) -> bool {
     let (token, rest) = first_token(text);
     token.kind == TokenKind::Word && rest.is_empty()
 }
@@ -64,10 +57,7 @@ pub(crate) fn written_name(
     alloc: Global,
     keywords: &[String],
     name: &str,
-) -> Result<String, AllocError>
-    ensures { IfOk result (λ written. string_bytes written
-        ≡ written_name (map string_bytes keywords.now) name.now) }
-{
+) -> Result<String, AllocError> {
     if is_one_word(name) && !has_word(keywords, name) {
         String::from_str(alloc, name)
     } else {
