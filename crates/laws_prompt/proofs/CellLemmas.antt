@@ -28,7 +28,7 @@ use Rattle.laws_prompt.specs.Rows.{is_row_character, rows_of_text, rows_down, co
 use Rattle.laws_prompt.specs.RowScenes.{place_behind, folded}
 use Rattle.laws_prompt.specs.RowStations.{IsRowStation, simple_at}
 use Rattle.laws_prompt.specs.RowStations.IsRowStation.{Simple, WithRows}
-use Rattle.laws_prompt.specs.PlainRows.{is_row_typing, has_pair, first_row, other_rows, HasPlainRows, plain_folded}
+use Rattle.laws_prompt.specs.PlainRows.{is_row_typing, has_pair, first_row_changes, other_rows, HasPlainRows, plain_folded}
 use Rattle.laws_prompt.specs.RowCells.{ShowsLine, AnswersShowLines, ShownLinesAreRowStations, StandInRows, CellsByDivision}
 use Rattle.laws_prompt.proofs.RowTexts.{some_lines, ends_there, are_rows}
 use Rattle.laws_prompt.proofs.ColumnLemmas.{cursor_stands_in_its_row, row_column_is_settled}
@@ -110,11 +110,11 @@ module _ (cols : ℕ) (scene : Scene) (h : HasPlainRows cols scene) where
   end = edge_space cols (place_behind cols scene scene.line) ++ lower_changes scene.lower
 
   abbrev pub other : Scene
-  other = folded cols scene (first_row scene.line) (other_rows scene.line)
+  other = folded cols scene (first_row_changes scene.line) (other_rows scene.line)
 
   -- the prompt and the first row
   abbrev pub head : List ℕ
-  head = typed_text scene.prompt ++ typed_text (first_row scene.line)
+  head = typed_text scene.prompt ++ typed_text (first_row_changes scene.line)
 
   abbrev pub below : List (List ℕ)
   below = lines_of (typed_text (other_rows scene.line) ++ typed_text end)
@@ -122,7 +122,7 @@ module _ (cols : ℕ) (scene : Scene) (h : HasPlainRows cols scene) where
   pub folded_text : (sheet_of characters cols other).text ≡ head
   folded_text =
       let prompt : List ℕ = typed_text scene.prompt in
-      let first : List ℕ = typed_text (first_row scene.line) in
+      let first : List ℕ = typed_text (first_row_changes scene.line) in
       text-is cols other ∙ ap (λ (l : List ℕ). prompt ++ (first ++ l)) (no-edge cols other h.off_edge) ∙ ap (λ (l : List ℕ). prompt ++ l) (append-nil first)
 
   pub folded_lower : (sheet_of characters cols other).lower ≡ below
@@ -132,13 +132,13 @@ module _ (cols : ℕ) (scene : Scene) (h : HasPlainRows cols scene) where
   pub folded_lines : lines_of (typed_text scene.prompt ++ (typed_text scene.line ++ typed_text end)) ≡ head ∷ below
   folded_lines =
       let prompt : List ℕ = typed_text scene.prompt in
-      let first : List ℕ = typed_text (first_row scene.line) in
+      let first : List ℕ = typed_text (first_row_changes scene.line) in
       let others : List ℕ = typed_text (other_rows scene.line) in
       let all : prompt ++ (typed_text scene.line ++ typed_text end) ≡ head ++ (cr ∷ lf ∷ (others ++ typed_text end)) =
       ap (λ (l : List ℕ). prompt ++ (l ++ typed_text end)) (line_text scene.line h.pair)
       ∙ ap (λ (l : List ℕ). prompt ++ l) (append_assoc first (cr ∷ lf ∷ others) (typed_text end))
       ∙ sym (append_assoc prompt first (cr ∷ lf ∷ (others ++ typed_text end))) in
-      let plain = both-printable prompt first (printable_typed scene.prompt h.prompt) (printable_typed (first_row scene.line) (first_typed scene.line h.line)) in
+      let plain = both-printable prompt first (printable_typed scene.prompt h.prompt) (printable_typed (first_row_changes scene.line) (first_typed scene.line h.line)) in
       ap lines_of all ∙ ends_there head (others ++ typed_text end) plain
 
   pub head_rows : rows_of_line cols head ≡ 1 + length head / cols
@@ -183,11 +183,11 @@ module _ (cols : ℕ) (prompt continuation before rest : List ℕ) (scene : Scen
   -- with a pair of CR and LF it has rows
   pub has_rows : has_pair scene.line ≡ true → HasPlainRows cols scene
   has_rows pair =
-      let first : List ℕ = typed_text (first_row scene.line) in
+      let first : List ℕ = typed_text (first_row_changes scene.line) in
       let others : List ℕ = typed_text (other_rows scene.line) in
       let lines = spread-lines cols continuation (length prompt) (before ++ rest) h.wide h.printable.printable_continuation rows-typed in
       let same : lines.first ∷ lines.more ≡ first ∷ lines_of others =
-      sym lines.are ∙ ap lines_of (sym line-is ∙ line_text scene.line pair) ∙ ends_there first others (printable_typed (first_row scene.line) (first_typed scene.line h.line_typing)) in
+      sym lines.are ∙ ap lines_of (sym line-is ∙ line_text scene.line pair) ∙ ends_there first others (printable_typed (first_row_changes scene.line) (first_typed scene.line h.line_typing)) in
       let head : lines.first ≡ first = cc (same) in
       let tail : lines.more ≡ lines_of others = cc (same) in
       let it = some_lines others in
@@ -255,7 +255,7 @@ shown_lines_are_row_stations pen cols prompt continuation before rest scene h = 
   where
     by : (k : Bool) → has_pair scene.line ≡ k
         → (it : IsRowStation pen (record { scene = scene; cols = cols })) × (simple_at pen (record { scene = scene; cols = cols }) it ≡ record { scene = plain_folded cols scene; cols = cols })
-    by true e = rw e (WithRows (first_row scene.line) (other_rows scene.line) (plain_rows_are_rows pen cols scene (has_rows cols prompt continuation before rest scene h e)), refl)
+    by true e = rw e (WithRows (first_row_changes scene.line) (other_rows scene.line) (plain_rows_are_rows pen cols scene (has_rows cols prompt continuation before rest scene h e)), refl)
     by false e = rw e (Simple (h.wide, (plain_is_simple scene (is_plain_scene cols prompt continuation before rest scene h e)).0), refl)
 
 pub cells_by_division : CellsByDivision
@@ -264,8 +264,8 @@ cells_by_division cols s prompt continuation before rest scene shown h fresh = b
     by : (k : Bool) → has_pair scene.line ≡ k → StandInRows cols s prompt continuation before rest shown
     by true e =
         let rows = has_rows cols prompt continuation before rest scene h e in
-        let same = (plain_is_simple (folded cols scene (first_row scene.line) (other_rows scene.line)) (folded_is_plain cols scene rows)).1 in
-        let f : IsFreshSheet cols s blank (sheet_of characters cols (folded cols scene (first_row scene.line) (other_rows scene.line))) shown =
+        let same = (plain_is_simple (folded cols scene (first_row_changes scene.line) (other_rows scene.line)) (folded_is_plain cols scene rows)).1 in
+        let f : IsFreshSheet cols s blank (sheet_of characters cols (folded cols scene (first_row_changes scene.line) (other_rows scene.line))) shown =
         subst (λ (x : Scene). IsFreshSheet cols s blank (sheet_of characters cols x) shown) same (rw e at fresh) in
         stands cols prompt continuation before rest scene h s shown _ (lines_below cols s scene shown rows f) f.row f.col
     by false e =

@@ -23,7 +23,7 @@ use Rattle.laws_screens.proofs.PlainScenes.{plain_is_simple}
 use Rattle.laws_screens.proofs.PlainTexts.{one_line}
 use Rattle.laws_prompt.specs.Rows.{is_row_character, rows_of_text, rows_taken, rows_down, row_edge, spread, columns_behind}
 use Rattle.laws_prompt.specs.RowScenes.{place_behind, folded}
-use Rattle.laws_prompt.specs.PlainRows.{is_row_typing, has_pair, first_row, other_rows, HasPlainRows}
+use Rattle.laws_prompt.specs.PlainRows.{is_row_typing, has_pair, first_row_changes, other_rows, HasPlainRows}
 use Rattle.laws_prompt.specs.RowCells.{ShowsLine, LastRowByDivision}
 use Rattle.laws_prompt.proofs.RowSpreads.{printable-row, edge-printable, some-rows, before-row}
 use Rattle.laws_prompt.proofs.RowTexts.{ends_there, are_rows, rows_plain}
@@ -215,7 +215,7 @@ pub last_row_by_division : LastRowByDivision
 last_row_by_division cols prompt continuation before rest scene h bare = by (has_pair scene.line) refl
   where
     by : (k : Bool) → has_pair scene.line ≡ k
-        → sheet_last_row cols (sheet_of characters cols (spelled_scene (if k then folded cols scene (first_row scene.line) (other_rows scene.line) else scene)))
+        → sheet_last_row cols (sheet_of characters cols (spelled_scene (if k then folded cols scene (first_row_changes scene.line) (other_rows scene.line) else scene)))
         ≡ rows_down cols (length prompt) (length continuation) (rows_of_text (before ++ rest))
     by true e =
         let rows = has_rows cols prompt continuation before rest scene h e in

@@ -18,7 +18,6 @@ pub mod LastRowLemmas
 pub mod RowRunLemmas
 pub mod LineRunLemmas
 pub mod SentRowLemmas
-pub mod RowReadingLemmas
 mod WorkedRows
 mod WorkedRowRuns
 mod WorkedRowScenes

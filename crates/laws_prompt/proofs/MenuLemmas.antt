@@ -1,7 +1,6 @@
 -- Each action leads to a state that the menu tells.
 use Rattle.std.proofs.Common.{◌≡◌, ◌∙◌, ℕ, zero, suc, ◌+◌, ◌-◌, ◌<◌, ◌==◌, List, [], ◌∷◌, Bool, true, false, nat_lt, length, take, drop, slice_get, refl, ap, sym, subst, arith, Option, None, Some, Result, Ok, Err, if◌then◌else◌}
 use Rattle.std.proofs.Math.Nat.{mod-lt}
-use Rattle.std.proofs.lemmas.Bool.{ltb-true, eqb-true}
 use Rattle.std.proofs.lemmas.Option.{slice_get-get_or}
 use Rattle.tw_line.specs.Cut.{Cut}
 use Rattle.tw_host.specs.ActionView.{ActionView, AcceptLine, Cancel, EndOfFile, InsertChar, InsertText, Repaint, Move, Kill, KillAndMove, HistoryPrevious, HistoryNext, Complete, NoAction, HistoryIncSearchBackwards, HistoryIncSearchForwards}
@@ -9,12 +8,12 @@ use Rattle.tw_host.specs.CandidateView.{CandidateView, completed_by}
 use Rattle.tw_host.specs.HostRules.{HostRules}
 use Rattle.tw_session.specs.EditState.{EditState, ModeView, CycleView, Inactive, Editing, Cancelled, Accepted, Searching}
 use Rattle.tw_session.specs.Refusal.{Refusal}
-use Rattle.tw_session.specs.Completion.{with_completion, with_candidate, cycle_of, next_in, completed_from, completion_step}
+use Rattle.tw_session.specs.Completion.{with_completion, with_candidate, cycle_of, completed_from, completion_step}
 use Rattle.tw_session.specs.Outcomes.{is_over}
 use Rattle.tw_session.specs.Search.{search_left_in, search_left}
 use Rattle.tw_session.specs.Steps.{apply, apply_if}
 use Rattle.tw_key_parts.specs.KeyRules.{KeyRules}
-use Rattle.tw_prompt_host.specs.MenuState.{MenuView, Closed, Unseen, Few, Open, Shown, menu_after, open_if, previous_in, stepped}
+use Rattle.tw_prompt_host.specs.MenuState.{MenuView, Closed, Unseen, Few, Open, Shown, menu_after, open_if, stepped}
 use Rattle.tw_prompt_host.specs.MenuView.{offered}
 use Rattle.tw_prompt_host.specs.PromptRules.{Prompted, found, prompt_rules}
 use Rattle.laws_prompt.specs.MenuRuns.{IsMarked, TellsLine}

@@ -25,16 +25,16 @@ use Rattle.tw_key_parts.specs.KeyRules.{Edited, KeyRules}
 use Rattle.tw_key_parts.specs.Keys.{is_key}
 use Rattle.tw_key_parts.specs.Ring.{is_same_cut}
 use Rattle.tw_key_parts.specs.SearchWatch.{has_lines, searches_after}
-use Rattle.tw_prompt_host.specs.Going.{GoingView, at_rest, before_search_after, comes_back_after, give_up_key, line_at}
-use Rattle.tw_prompt_host.specs.MenuState.{MenuView, Closed, Unseen, Few, Open, Shown, back_key, is_completing, menu_after, menu_begun, open_if, step_of_menu, stepped, turned}
+use Rattle.tw_prompt_host.specs.Going.{GoingView, going_at_rest, before_search_after, comes_back_after, give_up_key, event_line}
+use Rattle.tw_prompt_host.specs.MenuState.{MenuView, Closed, Unseen, Few, Open, Shown, is_completing, menu_after, menu_begun, open_if, step_of_menu, stepped, turned}
 use Rattle.tw_prompt_host.specs.MenuView.{asks, is_still, turn_line, turn_unless}
-use Rattle.tw_prompt_host.specs.PromptRules.{Answer, Prompted, answered, completing, edit_at, fails_by_key, found, is_kept, judged, known_at, opens_row, prompt_rules, turn_at}
+use Rattle.tw_prompt_host.specs.PromptRules.{Answer, Prompted, answered, completing, edit_at, fails_by_key, found, is_kept, judged, opens_row, prompt_rules, turn_at}
 use Rattle.tw_prompt_host.specs.Validation.{is_accepting}
 use Rattle.tw_prompt_host.proofs.SearchLemmas.{said_all}
-use Rattle.laws_prompt.specs.MenuRuns.{ClosesAfterLines, IsMarked, IsMenuTold, TellsLine, TellsLines}
+use Rattle.laws_prompt.specs.MenuRuns.{ClosesAfterLines, IsMenuTold, TellsLine, TellsLines}
 use Rattle.laws_prompt.specs.SearchRuns.{is_searching}
 use Rattle.laws_prompt.proofs.ActionLemmas as action
-use Rattle.laws_prompt.proofs.MenuLemmas.{Agrees, AgreesIf, IsTurned, Leads, applied_if, completes, step_stays}
+use Rattle.laws_prompt.proofs.MenuLemmas.{Agrees, AgreesIf, Leads, applied_if, completes, step_stays}
 
 -- what agrees tells while the line is not over, and is closed where it is
 told : (over : Bool) (m : MenuView) (s : EditState) → AgreesIf over m s → over ≡ false → TellsLine m s
@@ -168,7 +168,7 @@ module _ {V S K : Type 0} (keys : KeyRules S K) (rules : HostRules V) where
   -- so they do after an event
   module _ (v : Prompted V S) (e : EventView) (s : EditState) (going : is_over s.mode ≡ false) (fits : Fits v s) where
     abbrev cut : Cut
-    cut = line_at v.going s.cut
+    cut = event_line v.going s.cut
 
     abbrev told_line : TellsLine v.going.menu s
     told_line = told (is_over s.mode) v.going.menu s fits.menu going
@@ -182,7 +182,7 @@ module _ {V S K : Type 0} (keys : KeyRules S K) (rules : HostRules V) where
     stays : (x : Shown) (after : Cut) → v.going.menu ≡ Open x → is_same_cut cut after ≡ true → after ≡ s.cut
     stays x after shown same =
         let quiet = subst (λ m. IsQuiet m v.going.searching v.going.comes_back) shown fits.quiet in
-        same_is cut after same ∙ ap (λ back. line_at (record v.going { comes_back = back }) s.cut) quiet.1
+        same_is cut after same ∙ ap (λ back. event_line (record v.going { comes_back = back }) s.cut) quiet.1
 
     unturned : (answer : Answer K) (value : V) (back fails : Bool) → Led (judged keys rules v e cut value answer None back fails)
     unturned answer value back fails =
@@ -298,7 +298,7 @@ module _ {V S K : Type 0} (keys : KeyRules S K) (rules : HostRules V) where
         menu = subst (Leads v.going.menu) leads came.0;
         watch = ap (λ before. searches_after (has_lines (Host.lines v)) (chosen_action Host s e) before) right.watch
             ∙ sym (action.leads_as_told Host v (chosen_action Host s e) (after_resolution Host s e).state state leads);
-        still = none_before s.value.going.searching v.going.searching (line_at s.value.going s.state.cut) s.value.going.before_search;
+        still = none_before s.value.going.searching v.going.searching (event_line s.value.going s.state.cut) s.value.going.before_search;
         quiet = came.1;
       }
 
@@ -362,7 +362,7 @@ module _ {V S K : Type 0} (keys : KeyRules S K) (rules : HostRules V) where
   closed_run (e ∷ es) s right = closed_event e es s (run Host es) (painting_at Host s) (closed_run es) right
 
   -- a reading begins with no completion
-  at_first : (initial : Option (List ℕ)) (f : Frame (Prompted V S)) → f.value.going ≡ at_rest → IsRight (progress_of (start initial f))
+  at_first : (initial : Option (List ℕ)) (f : Frame (Prompted V S)) → f.value.going ≡ going_at_rest → IsRight (progress_of (start initial f))
   at_first initial f rest = record {
     menu = subst (λ g. TellsLine g.menu (start initial f).state) (sym rest) refl;
     watch = subst (λ (g : GoingView). g.searching ≡ false) (sym rest) refl;

@@ -21,7 +21,7 @@ use Rattle.laws_screens.specs.Pens.{Pen, kept_after_all, char_stroke, strokes_of
 use Rattle.laws_screens.proofs.PlainScenes.{plain_chars, plain_is_simple}
 use Rattle.laws_screens.proofs.PlainTexts.{text_of_lines-lines}
 use Rattle.laws_prompt.specs.RowScenes.{place_behind, folded}
-use Rattle.laws_prompt.specs.PlainRows.{is_row_typing, has_pair, first_in, first_row, others_in, other_rows, HasPlainRows, PlainRowsAreRows}
+use Rattle.laws_prompt.specs.PlainRows.{is_row_typing, has_pair, first_in, first_row_changes, others_in, other_rows, HasPlainRows, PlainRowsAreRows}
 use Rattle.laws_prompt.proofs.RowTexts.{some_lines, are_rows, rows_plain, printable_rows, joined_rows, broken_rows, rows_after}
 use Rattle.laws_prompt.proofs.TypedColumns.{IsTip, tip-start, tip-full, tip-changes}
 
@@ -72,16 +72,16 @@ lines_printable text line more h e = sym (ap (list_all (list_all is_printable)) 
 
 -- ---- the rows of a line
 
-pub first_typed : (line : Batch) → list_all is_row_typing line ≡ true → list_all is_typing (first_row line) ≡ true
+pub first_typed : (line : Batch) → list_all is_row_typing line ≡ true → list_all is_typing (first_row_changes line) ≡ true
 first_typed [] h = refl
 first_typed (Text text ∷ more) h =
     let both = and_parts (are_rows text) (list_all is_row_typing more) h in
     let it = parts_of text in
     rw it.are (by it.line it.more (lines_printable text it.line it.more both.0 it.are) (first_typed more both.1))
   where
-    by : (line : List ℕ) (lines : List (List ℕ)) → list_all (list_all is_printable) (line ∷ lines) ≡ true → list_all is_typing (first_row more) ≡ true
-        → list_all is_typing (first_in (line ∷ lines) (first_row more)) ≡ true
-    by line [] k rest = and_from (list_all is_printable line) (list_all is_typing (first_row more)) (and_parts (list_all is_printable line) true k).0 rest
+    by : (line : List ℕ) (lines : List (List ℕ)) → list_all (list_all is_printable) (line ∷ lines) ≡ true → list_all is_typing (first_row_changes more) ≡ true
+        → list_all is_typing (first_in (line ∷ lines) (first_row_changes more)) ≡ true
+    by line [] k rest = and_from (list_all is_printable line) (list_all is_typing (first_row_changes more)) (and_parts (list_all is_printable line) true k).0 rest
     by line (next ∷ lines) k rest = and_from (list_all is_printable line) true (and_parts (list_all is_printable line) (list_all (list_all is_printable) (next ∷ lines)) k).0 refl
 first_typed (Attribute a ∷ more) h = first_typed more h
 first_typed (AllAttributes a ∷ more) h = first_typed more h
@@ -109,16 +109,16 @@ others_typed (ClearToEndOfScreen c ∷ more) h = absurd (false≢true h)
 others_typed (CursorPosition p q ∷ more) h = absurd (false≢true h)
 
 -- the line types its first row, CR LF, and the others
-pub line_text : (line : Batch) → has_pair line ≡ true → typed_text line ≡ typed_text (first_row line) ++ (cr ∷ lf ∷ typed_text (other_rows line))
+pub line_text : (line : Batch) → has_pair line ≡ true → typed_text line ≡ typed_text (first_row_changes line) ++ (cr ∷ lf ∷ typed_text (other_rows line))
 line_text [] p = absurd (false≢true p)
 line_text (Text text ∷ more) p =
     let it = parts_of text in
     rw it.are (by it.line it.more it.text_is (rw it.are at p) (line_text more))
   where
     by : (line : List ℕ) (lines : List (List ℕ)) → text_of_lines (line ∷ lines) ≡ text → (ltb 1 (length (line ∷ lines)) || has_pair more) ≡ true
-        → (has_pair more ≡ true → typed_text more ≡ typed_text (first_row more) ++ (cr ∷ lf ∷ typed_text (other_rows more)))
-        → text ++ typed_text more ≡ typed_text (first_in (line ∷ lines) (first_row more)) ++ (cr ∷ lf ∷ typed_text (others_in (line ∷ lines) more (other_rows more)))
-    by line [] is p rest = ap (λ (t : List ℕ). t ++ typed_text more) (sym is) ∙ ap (λ (l : List ℕ). line ++ l) (rest p) ∙ sym (append_assoc line (typed_text (first_row more)) (cr ∷ lf ∷ typed_text (other_rows more)))
+        → (has_pair more ≡ true → typed_text more ≡ typed_text (first_row_changes more) ++ (cr ∷ lf ∷ typed_text (other_rows more)))
+        → text ++ typed_text more ≡ typed_text (first_in (line ∷ lines) (first_row_changes more)) ++ (cr ∷ lf ∷ typed_text (others_in (line ∷ lines) more (other_rows more)))
+    by line [] is p rest = ap (λ (t : List ℕ). t ++ typed_text more) (sym is) ∙ ap (λ (l : List ℕ). line ++ l) (rest p) ∙ sym (append_assoc line (typed_text (first_row_changes more)) (cr ∷ lf ∷ typed_text (other_rows more)))
     by line (next ∷ lines) is p rest =
         let below : List ℕ = text_of_lines (next ∷ lines) in
         ap (λ (t : List ℕ). t ++ typed_text more) (sym is) ∙ append_assoc line (cr ∷ lf ∷ below) (typed_text more)
@@ -138,7 +138,7 @@ module _ {A C : Type 0} (pen : Pen A C) where
   text_strokes a text more h = ap (λ (t : List ℕ). map (char_stroke pen a) t ++ strokes_of pen a (spelled_all more)) (plain_chars text h)
 
   drawn : (a : A) (line : Batch) → list_all is_row_typing line ≡ true → has_pair line ≡ true
-      → strokes_of pen a (spelled_all line) ≡ strokes_of pen a (spelled_all (first_row line)) ++ Return ∷ Feed ∷ strokes_of pen a (spelled_all (other_rows line))
+      → strokes_of pen a (spelled_all line) ≡ strokes_of pen a (spelled_all (first_row_changes line)) ++ Return ∷ Feed ∷ strokes_of pen a (spelled_all (other_rows line))
   drawn a [] h p = absurd (false≢true p)
   drawn a (Text text ∷ more) h p =
       let both = and_parts (are_rows text) (list_all is_row_typing more) h in
@@ -146,16 +146,16 @@ module _ {A C : Type 0} (pen : Pen A C) where
       rw it.are (text_strokes a text more (rows_plain text both.0) ∙ by it.line it.more it.text_is (lines_printable text it.line it.more both.0 it.are) (rw it.are at p) (drawn a more both.1))
     where
       by : (line : List ℕ) (lines : List (List ℕ)) → text_of_lines (line ∷ lines) ≡ text → list_all (list_all is_printable) (line ∷ lines) ≡ true → (ltb 1 (length (line ∷ lines)) || has_pair more) ≡ true
-          → (has_pair more ≡ true → strokes_of pen a (spelled_all more) ≡ strokes_of pen a (spelled_all (first_row more)) ++ Return ∷ Feed ∷ strokes_of pen a (spelled_all (other_rows more)))
+          → (has_pair more ≡ true → strokes_of pen a (spelled_all more) ≡ strokes_of pen a (spelled_all (first_row_changes more)) ++ Return ∷ Feed ∷ strokes_of pen a (spelled_all (other_rows more)))
           → map (char_stroke pen a) text ++ strokes_of pen a (spelled_all more)
-          ≡ strokes_of pen a (spelled_all (first_in (line ∷ lines) (first_row more))) ++ Return ∷ Feed ∷ strokes_of pen a (spelled_all (others_in (line ∷ lines) more (other_rows more)))
+          ≡ strokes_of pen a (spelled_all (first_in (line ∷ lines) (first_row_changes more))) ++ Return ∷ Feed ∷ strokes_of pen a (spelled_all (others_in (line ∷ lines) more (other_rows more)))
       by line [] is k p rest =
           let plain = rows_plain line (joined_rows line [] k) in
           let one : List (Stroke C) = map (char_stroke pen a) line in
           ap (λ (t : List ℕ). map (char_stroke pen a) t ++ strokes_of pen a (spelled_all more)) (sym is)
           ∙ ap (λ l. one ++ l) (rest p)
-          ∙ sym (append_assoc one (strokes_of pen a (spelled_all (first_row more))) (Return ∷ Feed ∷ strokes_of pen a (spelled_all (other_rows more))))
-          ∙ ap (λ l. l ++ Return ∷ Feed ∷ strokes_of pen a (spelled_all (other_rows more))) (sym (text_strokes a line (first_row more) plain))
+          ∙ sym (append_assoc one (strokes_of pen a (spelled_all (first_row_changes more))) (Return ∷ Feed ∷ strokes_of pen a (spelled_all (other_rows more))))
+          ∙ ap (λ l. l ++ Return ∷ Feed ∷ strokes_of pen a (spelled_all (other_rows more))) (sym (text_strokes a line (first_row_changes more) plain))
       by line (next ∷ lines) is k p rest =
           let q = and_parts (list_all is_printable line) (list_all (list_all is_printable) (next ∷ lines)) k in
           let below : List ℕ = text_of_lines (next ∷ lines) in
@@ -224,7 +224,7 @@ module _ (cols : ℕ) (scene : Scene) (h : HasPlainRows cols scene) where
   abbrev end : Batch
   end = edge_space cols (place_behind cols scene scene.line) ++ lower_changes scene.lower
 
-  pub folded_is_plain : IsPlain (folded cols scene (first_row scene.line) (other_rows scene.line))
+  pub folded_is_plain : IsPlain (folded cols scene (first_row_changes scene.line) (other_rows scene.line))
   folded_is_plain =
       let others = others_typed scene.line h.line in
       let edge : Batch = edge_space cols (place_behind cols scene scene.line) in
@@ -248,20 +248,20 @@ module _ (cols : ℕ) (scene : Scene) (h : HasPlainRows cols scene) where
       record { prompt = h.prompt; line = refl; lower = (text_typed scene.line h.line, rows_typed scene.line h.line) } in
       (plain_is_simple (record scene { line = []; lower = Preview scene.line }) as_preview).0.lower.0
 
-  off_edge : (place_behind cols scene (first_row scene.line)).x ≡ cols → ⊥
+  off_edge : (place_behind cols scene (first_row_changes scene.line)).x ≡ cols → ⊥
   off_edge full =
       let some : 0 < cols = omega (arith, h.wide) in
-      let text : Batch = (scene.prompt ++ AllAttributes default_attributes ∷ []) ++ first_row scene.line in
+      let text : Batch = (scene.prompt ++ AllAttributes default_attributes ∷ []) ++ first_row_changes scene.line in
       let typing : list_all is_typing text ≡ true =
-      list_all-append is_typing (scene.prompt ++ AllAttributes default_attributes ∷ []) (first_row scene.line)
-      ∙ and_from (list_all is_typing (scene.prompt ++ AllAttributes default_attributes ∷ [])) (list_all is_typing (first_row scene.line))
+      list_all-append is_typing (scene.prompt ++ AllAttributes default_attributes ∷ []) (first_row_changes scene.line)
+      ∙ and_from (list_all is_typing (scene.prompt ++ AllAttributes default_attributes ∷ [])) (list_all is_typing (first_row_changes scene.line))
       (list_all-append is_typing scene.prompt (AllAttributes default_attributes ∷ []) ∙ and_from (list_all is_typing scene.prompt) true h.prompt refl) (first_typed scene.line h.line) in
-      let typed : typed_text text ≡ typed_text scene.prompt ++ typed_text (first_row scene.line) =
-      typed-both (scene.prompt ++ AllAttributes default_attributes ∷ []) (first_row scene.line)
-      ∙ ap (λ (l : List ℕ). l ++ typed_text (first_row scene.line)) (typed-both scene.prompt (AllAttributes default_attributes ∷ []) ∙ append-nil (typed_text scene.prompt)) in
-      let tip : IsTip cols 0 (0 + length (typed_text text)) (place_behind cols scene (first_row scene.line)) = tip-changes cols 0 0 text origin some typing (tip-start cols 0) in
-      let n : 0 + length (typed_text text) ≡ length (typed_text scene.prompt ++ typed_text (first_row scene.line)) = (let e = ap (λ (t : List ℕ). length t) typed in omega (arith, e)) in
-      let none = h.off_edge (ap (λ (i : ℕ). i % cols) (sym n) ∙ (tip-full cols 0 (0 + length (typed_text text)) (place_behind cols scene (first_row scene.line)) some tip full).col) in
+      let typed : typed_text text ≡ typed_text scene.prompt ++ typed_text (first_row_changes scene.line) =
+      typed-both (scene.prompt ++ AllAttributes default_attributes ∷ []) (first_row_changes scene.line)
+      ∙ ap (λ (l : List ℕ). l ++ typed_text (first_row_changes scene.line)) (typed-both scene.prompt (AllAttributes default_attributes ∷ []) ∙ append-nil (typed_text scene.prompt)) in
+      let tip : IsTip cols 0 (0 + length (typed_text text)) (place_behind cols scene (first_row_changes scene.line)) = tip-changes cols 0 0 text origin some typing (tip-start cols 0) in
+      let n : 0 + length (typed_text text) ≡ length (typed_text scene.prompt ++ typed_text (first_row_changes scene.line)) = (let e = ap (λ (t : List ℕ). length t) typed in omega (arith, e)) in
+      let none = h.off_edge (ap (λ (i : ℕ). i % cols) (sym n) ∙ (tip-full cols 0 (0 + length (typed_text text)) (place_behind cols scene (first_row_changes scene.line)) some tip full).col) in
       omega (arith, tip.columns, n, none, full, h.wide)
 
 pub plain_rows_are_rows : {A C : Type 0} (pen : Pen A C) → PlainRowsAreRows pen
@@ -271,5 +271,5 @@ plain_rows_are_rows pen cols scene h = record {
   drawn = drawn pen (pen.attributes default_attributes) scene.line h.line h.pair;
   kept = kept pen (pen.attributes default_attributes) scene.line;
   off_edge = off_edge cols scene h;
-  simple = (plain_is_simple (folded cols scene (first_row scene.line) (other_rows scene.line)) (folded_is_plain cols scene h)).0;
+  simple = (plain_is_simple (folded cols scene (first_row_changes scene.line) (other_rows scene.line)) (folded_is_plain cols scene h)).0;
 }

@@ -1,6 +1,5 @@
 -- A terminal that is sent the bytes of a run with rows shows the picture on which its batches were played.
 use Rattle.std.proofs.Common.{◌≡◌, ◌≤◌, ◌<◌, ◌+◌, ◌-ℤ◌, ℕ, pos, false, Option, Some, None, List, [], ◌∷◌, ◌++◌, map, ap, subst, ◌∙◌, sym, arith}
-use Rattle.std.specs.List.{All}
 use Rattle.std.proofs.lemmas.List.{map-append}
 use Rattle.laws_screens.specs.Strokes.{PictureOf, filled}
 use Rattle.laws_screens.specs.Sheets.{IsFreshSheet, sheet_last_row}
@@ -16,7 +15,7 @@ use Rattle.laws_screens.proofs.StationMarks.{closing_is}
 use Rattle.tw_host.specs.HostRules.{HostRules}
 use Rattle.tw_lineedit.specs.Frame.{Frame}
 use Rattle.tw_lineedit.specs.Run.{run_of}
-use Rattle.tw_lineedit.specs.ScreenRuns.{sized_scene, batches_of, RendersNothing}
+use Rattle.tw_lineedit.specs.ScreenRuns.{sized_scene, batches_of}
 use Rattle.tw_lineedit.specs.Stations.{Station}
 use Rattle.tw_lineedit.proofs.StationLemmas.{closing-is}
 use Rattle.laws_runs.specs.DrawnRuns.{closed_by, play_since, play_stations, since_batches}
@@ -35,7 +34,7 @@ use Rattle.laws_runs.proofs.HealingLemmas.{healed_by}
 use Rattle.laws_prompt.specs.RowStations.{IsRowStation}
 use Rattle.laws_prompt.specs.RowStations.IsRowStation.{Simple, WithRows}
 use Rattle.laws_prompt.specs.RowRuns.{AreRowStations, paintings_with_rows, painted_with_rows}
-use Rattle.laws_prompt.specs.SentRows.{HealsSentWithRows, RowPaintingsAreShown, RowClosingsAreShown, RowHealingsAreShown}
+use Rattle.laws_prompt.specs.SentRows.{HealedRowClosingsAreShown, HealsSentWithRows, RowPaintingsAreShown, RowClosingsAreShown, RowHealingsAreShown}
 use Rattle.laws_prompt.proofs.RowRunLemmas.{healed_row_closings, row_paintings, row_closings, row_healings}
 
 module _ {V A C : Type 0} (rules : HostRules V) (pen : Pen A C) where
@@ -69,7 +68,7 @@ module _ {V A C : Type 0} (rules : HostRules V) (pen : Pen A C) where
       let xs : List SizedScene = map (sized_scene rules) stations in
       let painted = row_paintings_are_shown f h w earlier station later are e t before carries k in
       let shown : PictureOf C = shown_by rules pen h w e stations before in
-      let known : Encoder = (sent_paintings rules pen stations e).next in
+      let known : Encoder = (sent_paintings rules stations e).next in
       let kept = pen.attributes known.attributes in
       let here : IsSentAt h w (sized_scene rules station) = last_of_all (IsSentAt h w) (sized_scene rules) earlier station k.sent in
       let two : 2 ≤ w = subst (λ n. 2 ≤ n) here.cols (two-columns (sized_scene rules station) are.it) in
@@ -95,7 +94,7 @@ module _ {V A C : Type 0} (rules : HostRules V) (pen : Pen A C) where
   -- it is fresh, and the terminal shows it
   healed : (f : Frame V) (h w : ℕ) (earlier since : List (Station V)) (station : Station V) (later : List (Station V)) (are : AreRowStations rules pen since station) (e : Encoder) (t : EcmaScreen C)
       → CarriesAttributes pen → HealsSentWithRows rules pen h w f earlier since station later are e t
-      → let sent = sent_batches (map (λ sized. sized.batch) (since_batches rules pen earlier (since ++ station ∷ []))) e in
+      → let sent = sent_batches (map (λ sized. sized.batch) (since_batches rules earlier (since ++ station ∷ []))) e in
       (2 ≤ w) × ShowsPicture pen h w sent.next (receive_all pen h w sent.bytes t) (healed_picture h w earlier since station e)
       × IsFreshSheet w 0 (blank_of pen) (painted_with_rows rules pen station are.it).sheet (healed_picture h w earlier since station e)
   healed f h w earlier since station later are e t carries k =
@@ -105,7 +104,7 @@ module _ {V A C : Type 0} (rules : HostRules V) (pen : Pen A C) where
       let two : 2 ≤ w = subst (λ n. 2 ≤ n) here.cols (two-columns (sized_scene rules station) are.it) in
       let empty : PictureOf C = filled (blank_of pen) in
       let kept = pen.attributes e.attributes in
-      let sent : Sent = sent_batches (map (λ sized. sized.batch) (since_batches rules pen earlier (since ++ station ∷ []))) e in
+      let sent : Sent = sent_batches (map (λ sized. sized.batch) (since_batches rules earlier (since ++ station ∷ []))) e in
       let fresh = (row_healings rules pen f (Some h) earlier since station later are k.comes).fresh false w kept empty in (
         two,
         subst (λ l. ShowsPicture pen h w sent.next (receive_all pen h w sent.bytes t) (play_sized (Some h) false pen w kept l empty)) (sym (sized_is h w mark xs k.sent))
@@ -119,21 +118,13 @@ module _ {V A C : Type 0} (rules : HostRules V) (pen : Pen A C) where
       (healed_picture h w earlier since station e, it.1, it.2)
 
   -- and after the closing batch what it leaves of that picture
-  pub row_heals_closed : (f : Frame V) (h w : ℕ) (earlier since : List (Station V)) (station : Station V) (later : List (Station V)) (are : AreRowStations rules pen since station) (e : Encoder) (t : EcmaScreen C)
-      → CarriesAttributes pen → HealsSentWithRows rules pen h w f earlier since station later are e t → All (RendersNothing rules) later
-      → let taken = map (λ sized. sized.batch) (since_batches rules pen earlier (since ++ station ∷ [])) in
-      let sent = sent_batches (taken ++ closing_if (run_of rules f).mark) e in
-      let sheet = (painted_with_rows rules pen station are.it).sheet in
-      (shown : PictureOf C) × (closed : PictureOf C) × IsFreshSheet w 0 (blank_of pen) sheet shown
-      × ShowsPicture pen h w sent.next (receive_all pen h w sent.bytes t) closed
-      × IsClosedSheet (Some h) w (blank_of pen) (sheet_last_row w sheet) shown closed
-      × IsColor sent.next.attributes.background
-  row_heals_closed f h w earlier since station later are e t carries k none =
+  pub healed_row_closings_are_shown : HealedRowClosingsAreShown rules pen
+  healed_row_closings_are_shown f h w earlier since station later are e t carries k none =
       let it = healed f h w earlier since station later are e t carries k in
       let shown : PictureOf C = healed_picture h w earlier since station e in
       let xs : List SizedScene = map (sized_scene rules) (since ++ station ∷ []) in
       let mark : Option Mark = mark_after None (map shot_of (map (sized_scene rules) earlier)) in
-      let taken : List Batch = map (λ sized. sized.batch) (since_batches rules pen earlier (since ++ station ∷ [])) in
+      let taken : List Batch = map (λ sized. sized.batch) (since_batches rules earlier (since ++ station ∷ [])) in
       let kept = pen.attributes (sent_batches taken e).next.attributes in
       let here : IsSentAt h w (sized_scene rules station) = last_of_all (IsSentAt h w) (sized_scene rules) since station k.sent in
       let m : Mark = mark_of (painting station.size.cols (sized_scene rules station).scene) in

@@ -36,9 +36,9 @@ use Rattle.laws_runs.specs.DrawnRuns.{play_stations, play_since, closed_by}
 use Rattle.laws_prompt.specs.Rows.{shown_cut}
 use Rattle.laws_prompt.specs.RowStations.{IsRowStation, simple_at}
 use Rattle.laws_prompt.specs.RowStations.IsRowStation.{Simple, WithRows}
-use Rattle.laws_prompt.specs.PlainRows.{HasPlainRows, first_row, other_rows}
+use Rattle.laws_prompt.specs.PlainRows.{HasPlainRows, first_row_changes, other_rows}
 use Rattle.laws_prompt.specs.RowRuns.{AreRowStations, painted_with_rows, paintings_with_rows, simple_stations, ComesWithRows, HealsWithRows}
-use Rattle.laws_prompt.specs.RowCells.{ShowsLine, AnswersLine}
+use Rattle.laws_prompt.specs.RowCells.{ShowsLine, AnswersShownLine}
 use Rattle.laws_prompt.specs.LineRuns.{ComesToLine}
 use Rattle.laws_prompt.proofs.PlainRowLemmas.{plain_rows_are_rows, folded_is_plain}
 use Rattle.laws_runs.proofs.DrawnRunLemmas.{drawn_calls_stack}
@@ -82,7 +82,7 @@ abbrev pub simple : (station : SizedScene) → 2 ≤ station.cols → IsPlain st
 simple station two plain = Simple (two, (plain_is_simple station.scene plain).0)
 
 abbrev pub with_rows : (station : SizedScene) → HasPlainRows station.cols station.scene → IsRowStation characters station
-with_rows station h = WithRows (first_row station.scene.line) (other_rows station.scene.line) (plain_rows_are_rows characters station.cols station.scene h)
+with_rows station h = WithRows (first_row_changes station.scene.line) (other_rows station.scene.line) (plain_rows_are_rows characters station.cols station.scene h)
 
 pub room : (rows : Option ℕ) (station : SizedScene) → IsPlain station.scene → IsLow rows station.cols (sheet_of characters station.cols station.scene) → HasRoom rows characters station
 room rows station plain low = subst (λ scene. IsLow rows station.cols (sheet_of characters station.cols scene)) (sym (plain_is_simple station.scene plain).1) low
@@ -158,7 +158,7 @@ unfolding pieces column_width painted_on apply destination searched_again search
 low_closed_by_computing = (refl, refl, refl, refl, refl)
 
 -- the host answers the line, so the scene shows it, and each of its characters stands in its cell: "f" at the edge, "g" after the continuation prompt, "." before "ij", and the cursor after it
-low_answers : AnswersLine 8 (62 ∷ 32 ∷ []) (46 ∷ 32 ∷ []) low_text [] (low_at 1).scene
+low_answers : AnswersShownLine 8 (62 ∷ 32 ∷ []) (46 ∷ 32 ∷ []) low_text [] (low_at 1).scene
 unfolding pieces column_width painted_on apply destination searched_again search_step boundary_below is_boundary iterate greatest_below least_from settled_pieces needed_by_text unicode_segmentation
 low_answers = record {
   wide = omega arith;

@@ -13,7 +13,7 @@ use Rattle.tw_surface.specs.Simple.{spelled_all}
 use Rattle.laws_screens.specs.Pens.{strokes_of}
 use Rattle.laws_screens.specs.StyledCells.{characters, styled}
 use Rattle.laws_prompt.specs.RowScenes.{folded, HasRows}
-use Rattle.laws_prompt.specs.PlainRows.{first_row, other_rows}
+use Rattle.laws_prompt.specs.PlainRows.{first_row_changes, other_rows}
 
 -- "> " and a line of these changes, its cursor at a column
 abbrev scene_of : Batch → ℕ → Scene
@@ -46,5 +46,5 @@ missing_differs h = cc (h)
 
 -- the rows after the first are under the attributes that are set before it
 colored : (a : AttributeChange) → let line = Attribute a ∷ Text (97 ∷ 13 ∷ 10 ∷ 98 ∷ []) ∷ [] in
-    (first_row line ≡ Attribute a ∷ Text (97 ∷ []) ∷ []) × (other_rows line ≡ Attribute a ∷ Text (98 ∷ []) ∷ [])
+    (first_row_changes line ≡ Attribute a ∷ Text (97 ∷ []) ∷ []) × (other_rows line ≡ Attribute a ∷ Text (98 ∷ []) ∷ [])
 colored a = (refl, refl)

@@ -95,7 +95,7 @@ sent : ComesSentWithRows rules characters 4 4 run (station 0 ∷ []) (station 1)
 sent = record { comes = comes; sent = sendable; narrow = omega arith; color = tt; shows = first_is_shown characters 4 4 full (omega arith) (omega arith) refl refl refl refl }
 
 abbrev bytes : Sent
-bytes = sent_paintings rules characters (station 0 ∷ station 1 ∷ []) (first_known 4)
+bytes = sent_paintings rules (station 0 ∷ station 1 ∷ []) (first_known 4)
 
 abbrev after : EcmaScreen ℕ
 after = receive_all characters 4 4 bytes.bytes full
@@ -126,7 +126,7 @@ is_down higher = let off : 32 ≡ 99 = higher in omega (arith, off)
 -- ---- and its closing batch
 
 abbrev closed : EcmaScreen ℕ
-closed = receive_all characters 4 4 (sent_run rules characters run (station 0 ∷ station 1 ∷ []) (first_known 4)).bytes full
+closed = receive_all characters 4 4 (sent_run rules run (station 0 ∷ station 1 ∷ []) (first_known 4)).bytes full
 
 closed_by_law : (closed.row ≡ 3) × (closed.col ≡ 0) × (closed.cell 3 0 ≡ 32)
 unfolding pieces column_width painted_on apply destination searched_again search_step boundary_below is_boundary iterate greatest_below least_from settled_pieces needed_by_text unicode_segmentation

@@ -10,7 +10,7 @@ use Rattle.tw_hosts.specs.SettledRules.{PromptScreenView}
 use Rattle.tw_prompt_host.specs.RowLaws.{ArePrintablePrompts}
 use Rattle.tw_prompt_host.specs.Rows.{highlight_in_rows}
 use Rattle.laws_prompt.specs.Rows.{is_row_character, shown_cut}
-use Rattle.laws_prompt.specs.RowCells.{AnswersLine}
+use Rattle.laws_prompt.specs.RowCells.{AnswersShownLine}
 
 -- A host shows a printable line itself, after printable prompts, and the scene has the prompt and what shows the line in rows.
 pub record ShowsInRows (screen : PromptScreenView) (continuation : List ℕ) (cut : Cut) (shown : Highlight) (scene : Scene) : Type 0 where
@@ -29,4 +29,4 @@ pub record ShowsInRows (screen : PromptScreenView) (continuation : List ℕ) (cu
 abbrev pub RowsAnswerLine : Type 0
 RowsAnswerLine = (screen : PromptScreenView) (continuation : List ℕ) (cut : Cut) (shown : Highlight) (scene : Scene)
     → ShowsInRows screen continuation cut shown scene
-    → AnswersLine screen.cols screen.prompt continuation (take cut.cursor cut.line) (drop cut.cursor cut.line) scene
+    → AnswersShownLine screen.cols screen.prompt continuation (take cut.cursor cut.line) (drop cut.cursor cut.line) scene

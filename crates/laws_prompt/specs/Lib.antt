@@ -11,4 +11,3 @@ pub mod AnsweredRows
 pub mod RowRuns
 pub mod SentRows
 pub mod LineRuns
-pub mod RowReadings

@@ -10,7 +10,7 @@ use Rattle.tw_lineedit.specs.Reading.{start}
 use Rattle.tw_lineedit.specs.Run.{run_of}
 use Rattle.tw_lineedit.specs.Stations.{Station, stations_of}
 use Rattle.tw_key_parts.specs.KeyRules.{KeyRules}
-use Rattle.tw_prompt_host.specs.Going.{at_rest}
+use Rattle.tw_prompt_host.specs.Going.{going_at_rest}
 use Rattle.tw_prompt_host.specs.MenuState.{MenuView, Closed, Unseen, Few, Open, Shown}
 use Rattle.tw_prompt_host.specs.PromptRules.{Prompted, prompt_rules}
 
@@ -36,11 +36,11 @@ module _ {V S K : Type 0} (keys : KeyRules S K) (rules : HostRules V) where
 
   -- so at each event of a reading that begins at rest
   abbrev pub TellsLines : Type 0
-  TellsLines = (initial : Option (List ℕ)) (f : Frame (Prompted V S)) → f.value.going ≡ at_rest
+  TellsLines = (initial : Option (List ℕ)) (f : Frame (Prompted V S)) → f.value.going ≡ going_at_rest
       → All IsMenuTold (stations_of (prompt_rules keys rules) (start initial f))
 
   -- and after a line that was accepted or cancelled there is no menu
   abbrev pub ClosesAfterLines : Type 0
-  ClosesAfterLines = (initial : Option (List ℕ)) (f : Frame (Prompted V S)) → f.value.going ≡ at_rest
+  ClosesAfterLines = (initial : Option (List ℕ)) (f : Frame (Prompted V S)) → f.value.going ≡ going_at_rest
       → is_over (run_of (prompt_rules keys rules) (start initial f)).state.mode ≡ true
       → (run_of (prompt_rules keys rules) (start initial f)).value.going.menu ≡ Closed

@@ -34,14 +34,14 @@ first_in [] more = more
 first_in (line ∷ []) more = Text line ∷ more
 first_in (line ∷ next ∷ lines) more = Text line ∷ []
 
-abbrev pub first_row : Batch → Batch
-first_row [] = []
-first_row (Text text ∷ more) = first_in (lines_of text) (first_row more)
-first_row (Attribute a ∷ more) = Attribute a ∷ first_row more
-first_row (AllAttributes a ∷ more) = AllAttributes a ∷ first_row more
-first_row (ClearScreen color ∷ more) = first_row more
-first_row (ClearToEndOfScreen color ∷ more) = first_row more
-first_row (CursorPosition x y ∷ more) = first_row more
+abbrev pub first_row_changes : Batch → Batch
+first_row_changes [] = []
+first_row_changes (Text text ∷ more) = first_in (lines_of text) (first_row_changes more)
+first_row_changes (Attribute a ∷ more) = Attribute a ∷ first_row_changes more
+first_row_changes (AllAttributes a ∷ more) = AllAttributes a ∷ first_row_changes more
+first_row_changes (ClearScreen color ∷ more) = first_row_changes more
+first_row_changes (ClearToEndOfScreen color ∷ more) = first_row_changes more
+first_row_changes (CursorPosition x y ∷ more) = first_row_changes more
 
 -- and from there on, after the attributes that are set before it
 abbrev pub others_in : List (List ℕ) → Batch → Batch → Batch
@@ -65,12 +65,12 @@ pub record HasPlainRows (cols : ℕ) (scene : Scene) : Type 0 where
   pub line : list_all is_row_typing scene.line ≡ true
   pub lower : IsPlainLower scene.lower
   pub pair : has_pair scene.line ≡ true
-  pub off_edge : let n = length (typed_text scene.prompt ++ typed_text (first_row scene.line)) in n % cols ≡ 0 → n ≡ 0
+  pub off_edge : let n = length (typed_text scene.prompt ++ typed_text (first_row_changes scene.line)) in n % cols ≡ 0 → n ≡ 0
 
 -- It has rows, for every pen.
 abbrev pub PlainRowsAreRows : {A C : Type 0} → Pen A C → Type 0
-PlainRowsAreRows pen = (cols : ℕ) (scene : Scene) → HasPlainRows cols scene → HasRows pen cols scene (first_row scene.line) (other_rows scene.line)
+PlainRowsAreRows pen = (cols : ℕ) (scene : Scene) → HasPlainRows cols scene → HasRows pen cols scene (first_row_changes scene.line) (other_rows scene.line)
 
 -- the simple scene that it is painted as, if it has rows
 abbrev pub plain_folded : ℕ → Scene → Scene
-plain_folded cols scene = if has_pair scene.line then folded cols scene (first_row scene.line) (other_rows scene.line) else scene
+plain_folded cols scene = if has_pair scene.line then folded cols scene (first_row_changes scene.line) (other_rows scene.line) else scene

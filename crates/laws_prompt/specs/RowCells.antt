@@ -32,7 +32,7 @@ pub record ShowsLine (cols : ℕ) (prompt continuation before rest : List ℕ) (
   pub cursor : cursor_place cols scene ≡ row_cell cols (length prompt) (length continuation) before
 
 -- What a host is to answer for it: the prompt itself, the text that shows the line, and the settled column in it.
-pub record AnswersLine (cols : ℕ) (prompt continuation before rest : List ℕ) (scene : Scene) : Type 0 where
+pub record AnswersShownLine (cols : ℕ) (prompt continuation before rest : List ℕ) (scene : Scene) : Type 0 where
   pub wide : 2 ≤ cols
   pub narrow : cols ≤ 65535
   pub printable : ArePrintableRows prompt continuation before rest
@@ -46,7 +46,7 @@ pub record AnswersLine (cols : ℕ) (prompt continuation before rest : List ℕ)
 -- Then the scene shows the line.
 abbrev pub AnswersShowLines : Type 0
 AnswersShowLines = (cols : ℕ) (prompt continuation before rest : List ℕ) (scene : Scene)
-    → AnswersLine cols prompt continuation before rest scene → ShowsLine cols prompt continuation before rest scene
+    → AnswersShownLine cols prompt continuation before rest scene → ShowsLine cols prompt continuation before rest scene
 
 -- The station of such a scene is simple or has rows, for every pen.
 abbrev pub ShownLinesAreRowStations : {A C : Type 0} → Pen A C → Type 0

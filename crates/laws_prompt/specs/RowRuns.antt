@@ -73,7 +73,7 @@ module _ {V A C : Type 0} (rules : HostRules V) (pen : Pen A C) where
 
   -- The batches from the clearing to the station's painting, played on any screen, leave its fresh painting from row 0 on.
   pub record ShowsHealedRows (rows : Option ℕ) (f : Frame V) (earlier since : List (Station V)) (station : Station V) (it : IsRowStation pen (sized_scene rules station)) : Type 0 where
-    pub batches : batches_of rules (earlier ++ (since ++ station ∷ [])) ≡ batches_of rules earlier ++ map (λ sized. sized.batch) (since_batches rules pen earlier (since ++ station ∷ []))
+    pub batches : batches_of rules (earlier ++ (since ++ station ∷ [])) ≡ batches_of rules earlier ++ map (λ sized. sized.batch) (since_batches rules earlier (since ++ station ∷ []))
     pub beginning : (rest : List Batch) × ((run_of rules f).taken ≡ f.terminal.batches ++ (batches_of rules (earlier ++ (since ++ station ∷ [])) ++ rest))
     pub fresh : (cuts : Bool) (v : ℕ) (a : A) (before : PictureOf C)
         → IsFreshSheet station.size.cols 0 (blank_of pen) (painted_with_rows station it).sheet (play_since rules pen rows cuts v a earlier (since ++ station ∷ []) before)

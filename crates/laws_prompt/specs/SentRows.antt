@@ -6,7 +6,7 @@ use Rattle.laws_screens.specs.Sheets.{IsFreshSheet, sheet_last_row}
 use Rattle.laws_screens.specs.Paintings.{IsClosedSheet, top_row}
 use Rattle.tw_surface.specs.declared.change.Position.TheVariants.{Relative}
 use Rattle.tw_surface.specs.Paintings.{Mark}
-use Rattle.tw_surface.specs.PaintingBatches.{shot_of, mark_after}
+use Rattle.tw_surface.specs.PaintingBatches.{shot_of, mark_after, closing_if}
 use Rattle.laws_screens.specs.Pens.{Pen}
 use Rattle.laws_screens.specs.Screens.{blank_of}
 use Rattle.tw_host.specs.HostRules.{HostRules}
@@ -41,7 +41,7 @@ module _ {V A C : Type 0} (rules : HostRules V) (pen : Pen A C) where
       (are : AreRowStations rules pen earlier station) (e : Encoder) (t : EcmaScreen C) (before : PictureOf C)
       → CarriesAttributes pen → ComesSentWithRows h w f earlier station later are e t before
       → let stations = earlier ++ station ∷ [] in
-      let sent = sent_paintings rules pen stations e in
+      let sent = sent_paintings rules stations e in
       ShowsPicture pen h w sent.next (receive_all pen h w sent.bytes t) (shown_by rules pen h w e stations before)
       × ShowsWithRows rules pen (Some h) false w (pen.attributes e.attributes) f earlier station are before
 
@@ -51,10 +51,10 @@ module _ {V A C : Type 0} (rules : HostRules V) (pen : Pen A C) where
       (are : AreRowStations rules pen earlier station) (e : Encoder) (t : EcmaScreen C) (before : PictureOf C)
       → CarriesAttributes pen → ComesSentWithRows h w f earlier station later are e t before → All (RendersNothing rules) later
       → let stations = earlier ++ station ∷ [] in
-      let sent = sent_run rules pen f stations e in
+      let sent = sent_run rules f stations e in
       let last = top_row (Some h) before.row (paintings_with_rows rules pen earlier station are) + sheet_last_row w (painted_with_rows rules pen station are.it).sheet in
       let shown = shown_by rules pen h w e stations before in
-      let closed = closed_by rules pen (Some h) false w w (pen.attributes (sent_paintings rules pen stations e).next.attributes) f shown in
+      let closed = closed_by rules pen (Some h) false w w (pen.attributes (sent_paintings rules stations e).next.attributes) f shown in
       ((run_of rules f).taken ≡ f.terminal.batches ++ batches_of rules stations)
       × ShowsPicture pen h w sent.next (receive_all pen h w sent.bytes t) closed
       × IsClosedSheet (Some h) w (blank_of pen) last shown closed
@@ -81,6 +81,20 @@ module _ {V A C : Type 0} (rules : HostRules V) (pen : Pen A C) where
   RowHealingsAreShown = (f : Frame V) (h w : ℕ) (earlier since : List (Station V)) (station : Station V) (later : List (Station V))
       (are : AreRowStations rules pen since station) (e : Encoder) (t : EcmaScreen C)
       → CarriesAttributes pen → HealsSentWithRows h w f earlier since station later are e t
-      → let sent = sent_batches (map (λ sized. sized.batch) (since_batches rules pen earlier (since ++ station ∷ []))) e in
+      → let sent = sent_batches (map (λ sized. sized.batch) (since_batches rules earlier (since ++ station ∷ []))) e in
       (picture : PictureOf C) × ShowsPicture pen h w sent.next (receive_all pen h w sent.bytes t) picture
       × IsFreshSheet w 0 (blank_of pen) (painted_with_rows rules pen station are.it).sheet picture
+
+  -- Where nothing is rendered after that station, the bytes of the closing batch too leave the cursor in column 0 of the row below its last row, and blanks from
+  -- there on.
+  abbrev pub HealedRowClosingsAreShown : Type 0
+  HealedRowClosingsAreShown = (f : Frame V) (h w : ℕ) (earlier since : List (Station V)) (station : Station V) (later : List (Station V))
+      (are : AreRowStations rules pen since station) (e : Encoder) (t : EcmaScreen C)
+      → CarriesAttributes pen → HealsSentWithRows h w f earlier since station later are e t → All (RendersNothing rules) later
+      → let taken = map (λ sized. sized.batch) (since_batches rules earlier (since ++ station ∷ [])) in
+      let sent = sent_batches (taken ++ closing_if (run_of rules f).mark) e in
+      let sheet = (painted_with_rows rules pen station are.it).sheet in
+      (shown : PictureOf C) × (closed : PictureOf C) × IsFreshSheet w 0 (blank_of pen) sheet shown
+      × ShowsPicture pen h w sent.next (receive_all pen h w sent.bytes t) closed
+      × IsClosedSheet (Some h) w (blank_of pen) (sheet_last_row w sheet) shown closed
+      × IsColor sent.next.attributes.background

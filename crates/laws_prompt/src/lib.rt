@@ -14,14 +14,12 @@ ghost use Rattle.laws_prompt.specs.PlainRows.{PlainRowsAreRows};
 ghost use Rattle.laws_prompt.specs.AnsweredRows.{RowsAnswerLine};
 ghost use Rattle.laws_prompt.specs.RowCells.{AnswersShowLines, CellsByDivision, LastRowByDivision, ShownLinesAreRowStations};
 ghost use Rattle.laws_prompt.specs.RowColumns.{CursorStandsInItsRow, RowColumnIsSettled, RowColumnLeadsThere};
-ghost use Rattle.laws_prompt.specs.RowReadings.{HealedRowReadingClosings, RowReadingClosings, RowReadingHealings, RowReadingPaintings, SizedRowPaintings};
 ghost use Rattle.laws_prompt.specs.RowRuns.{HealedRowClosings, RowClosings, RowHealings, RowPaintings};
 ghost use Rattle.laws_prompt.specs.RowScenes.{RowsAreAPreview};
 ghost use Rattle.laws_prompt.specs.RowStations.{ClosesRowStations, HealsRowStations, RowStationsPlayAsSimple, ShowsRowStations};
-ghost use Rattle.laws_prompt.specs.SentRows.{RowClosingsAreShown, RowHealingsAreShown, RowPaintingsAreShown};
+ghost use Rattle.laws_prompt.specs.SentRows.{HealedRowClosingsAreShown, RowClosingsAreShown, RowHealingsAreShown, RowPaintingsAreShown};
 ghost use Rattle.laws_screens.specs.Pens.{Pen};
 
-use std::io::Write;
 use tw_host::LineEditorHost;
 use tw_key_parts::KeyPart;
 
@@ -78,22 +76,13 @@ pub fn line_runs<H: LineEditorHost>()
 
 /// A terminal that is sent the bytes of a run whose stations are simple or have rows shows the picture on which its
 /// batches were played: after each painting the fresh one, and after the closing batch the row below its last row. One
-/// that may show anything shows a fresh painting after a clearing.
+/// that may show anything shows a fresh painting after a clearing, and then the row below it. That a reading writes the
+/// bytes of its run is said by `sent_readings` and `sized_readings` of `laws_runs`.
 pub fn sent_rows<H: LineEditorHost, A, C>()
     ensures paintings { (pen : Pen A C) → RowPaintingsAreShown H.rules pen }
     ensures closings { (pen : Pen A C) → RowClosingsAreShown H.rules pen }
     ensures healings { (pen : Pen A C) → RowHealingsAreShown H.rules pen }
-{}
-
-/// The bytes that `read_line_from` has written, where it was answered and no event told another number of columns, are
-/// those of its run: so a terminal shows what `sent_rows` says. If one tells another number, so it does up to there, and
-/// from the next clearing on.
-pub fn row_readings<H: LineEditorHost, W: Write, A, C>()
-    ensures paintings { (pen : Pen A C) → RowReadingPaintings H.rules W.contents pen }
-    ensures closings { (pen : Pen A C) → RowReadingClosings H.rules W.contents pen }
-    ensures sized { (pen : Pen A C) → SizedRowPaintings H.rules W.contents pen }
-    ensures healings { (pen : Pen A C) → RowReadingHealings H.rules W.contents pen }
-    ensures healed_closings { (pen : Pen A C) → HealedRowReadingClosings H.rules W.contents pen }
+    ensures healed_closings { (pen : Pen A C) → HealedRowClosingsAreShown H.rules pen }
 {}
 
 /// A watch that follows the actions of a host says at each event of a run whether the editor searches, if it does at the

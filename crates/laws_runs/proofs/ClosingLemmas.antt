@@ -115,7 +115,7 @@ module _ {A C : Type 0} (pen : Pen A C) where
         let xs : List SizedScene = map (sized_scene rules) stations in
         let painted = paintings_are_shown pen rules f h w earlier station later e t before carries k in
         let shown : PictureOf C = shown_by rules pen h w e stations before in
-        let known : Encoder = (sent_paintings rules pen stations e).next in
+        let known : Encoder = (sent_paintings rules stations e).next in
         let kept = pen.attributes known.attributes in
         let two : 2 ≤ w = wide pen rules h f earlier station later w before k.comes k.sent in
         let m : Mark = mark_of (painting station.size.cols (sized_scene rules station).scene) in

@@ -12,7 +12,7 @@ use Rattle.laws_screens.proofs.SizedBatchLemmas.{sized_are, sized_batches_are}
 use Rattle.laws_screens.proofs.StationMarks.{closing_is}
 use Rattle.tw_surface.specs.ChangeView.{Batch}
 use Rattle.laws_screens.specs.Sheets.{IsFreshSheet, sheet_last_row, sheet_cursor_row}
-use Rattle.laws_screens.specs.Paintings.{SheetPainting, IsClosedSheet, cols_of, top_row, seen_row}
+use Rattle.laws_screens.specs.Paintings.{IsClosedSheet, cols_of, top_row, seen_row}
 use Rattle.laws_screens.proofs.PaintedLists.{top-le}
 use Rattle.laws_runs.proofs.ClearedRunLemmas.{text_prompts, up_to-is, played_since, first_since}
 use Rattle.laws_screens.specs.SceneSheets.{painting_of}

@@ -1,5 +1,5 @@
 -- A terminal that showed a fresh painting after a clearing shows what the closing batch left.
-use Rattle.std.proofs.Common.{◌≡◌, ◌≤◌, ◌+◌, ◌-ℤ◌, ℕ, suc, pos, false, Option, Some, None, List, [], ◌∷◌, ◌++◌, map, ap, subst, ◌∙◌, sym, append_assoc, arith}
+use Rattle.std.proofs.Common.{◌≡◌, ◌≤◌, ◌+◌, ◌-ℤ◌, suc, pos, false, Option, Some, None, List, [], ◌∷◌, ◌++◌, map, ap, subst, ◌∙◌, sym, append_assoc, arith}
 use Rattle.std.specs.List.{All}
 use Rattle.std.proofs.lemmas.List.{map-append}
 use Rattle.laws_screens.specs.Strokes.{PictureOf}
@@ -17,19 +17,14 @@ use Rattle.laws_screens.proofs.DrawnStations.{closes_stations}
 use Rattle.laws_screens.proofs.SizedBatchLemmas.{sized_are}
 use Rattle.laws_screens.proofs.StationMarks.{closing_is}
 use Rattle.tw_host.specs.HostRules.{HostRules}
-use Rattle.tw_lineedit.specs.Frame.{Frame}
 use Rattle.tw_lineedit.specs.Run.{run_of}
-use Rattle.tw_lineedit.specs.ScreenRuns.{sized_scene, RendersNothing, Comes}
-use Rattle.tw_lineedit.specs.Stations.{Station}
+use Rattle.tw_lineedit.specs.ScreenRuns.{sized_scene, Comes}
 use Rattle.tw_lineedit.proofs.StationLemmas.{closing-is}
 use Rattle.laws_runs.specs.DrawnRuns.{painted_at, since_batches}
-use Rattle.tw_ansi.specs.declared.encode.Encoder.{Encoder}
 use Rattle.tw_ansi.specs.EcmaLaws.{IsColor}
-use Rattle.tw_ansi.specs.EcmaBatches.{CarriesAttributes, IsReached}
+use Rattle.tw_ansi.specs.EcmaBatches.{IsReached}
 use Rattle.tw_ansi.specs.EcmaPaintings.{sent_batches}
-use Rattle.tw_ansi.specs.EcmaScreen.{EcmaScreen, receive_all}
-use Rattle.tw_ansi.specs.EcmaTexts.{ShowsPicture}
-use Rattle.laws_runs.specs.SentRuns.{IsSentAt, HealsSent}
+use Rattle.laws_runs.specs.SentRuns.{IsSentAt, HealedClosingsAreShown}
 use Rattle.laws_runs.proofs.ClosingLemmas.{known_color, closing_color, closing_shown, last_of_all}
 use Rattle.laws_runs.proofs.HealingLemmas.{healings_are_shown}
 
@@ -39,19 +34,12 @@ last-simple [] station a = a 0 station (omega arith)
 last-simple (first ∷ more) station a = last-simple more station (λ k d h. a (suc k) d (omega arith))
 
 module _ {A C V : Type 0} (pen : Pen A C) (rules : HostRules V) where
-  pub heals_closed : (f : Frame V) (h w : ℕ) (earlier since : List (Station V)) (station : Station V) (later : List (Station V)) (e : Encoder) (t : EcmaScreen C)
-      → CarriesAttributes pen → HealsSent rules pen h w f earlier since station later e t → All (RendersNothing rules) later
-      → let taken = map (λ sized. sized.batch) (since_batches rules pen earlier (since ++ station ∷ [])) in
-      let sent = sent_batches (taken ++ closing_if (run_of rules f).mark) e in
-      (shown : PictureOf C) × (closed : PictureOf C) × IsFreshSheet w 0 (blank_of pen) (painted_at rules pen station).sheet shown
-      × ShowsPicture pen h w sent.next (receive_all pen h w sent.bytes t) closed
-      × IsClosedSheet (Some h) w (blank_of pen) (sheet_last_row w (painted_at rules pen station).sheet) shown closed
-      × IsColor sent.next.attributes.background
-  heals_closed f h w earlier since station later e t carries k none =
+  pub healed_closings_are_shown : HealedClosingsAreShown rules pen
+  healed_closings_are_shown f h w earlier since station later e t carries k none =
       let scenes = map-append (sized_scene rules) since (station ∷ []) in
       let xs : List SizedScene = map (sized_scene rules) (since ++ station ∷ []) in
       let mark : Option Mark = mark_after None (map shot_of (map (sized_scene rules) earlier)) in
-      let taken : List Batch = map (λ sized. sized.batch) (since_batches rules pen earlier (since ++ station ∷ [])) in
+      let taken : List Batch = map (λ sized. sized.batch) (since_batches rules earlier (since ++ station ∷ [])) in
       let healed = healings_are_shown pen rules f h w earlier since station later e t carries k in
       let shown : PictureOf C = healed.0 in
       let fresh : IsFreshSheet w 0 (blank_of pen) (painted_at rules pen station).sheet shown = healed.2 in

@@ -1,27 +1,22 @@
--- A reading whose events tell other numbers of columns: what it has written, and what is shown of it after a clearing.
+-- What a reading has written whose events tell other numbers of columns.
 use Rattle.std.proofs.Common.{◌≡◌, ℕ, Some, None, Option, Bool, true, false, List, [], ◌∷◌, ◌++◌, map, ap, subst, ◌∙◌, sym, refl, append_assoc, append-nil}
 use Rattle.std.specs.List.{AllByRecursion}
-use Rattle.std.proofs.lemmas.List.Elements.{All-nil}
 use Rattle.std.proofs.lemmas.List.{append_cancel_left, map-append}
 use Rattle.tw_surface.specs.ChangeView.{Batch}
 use Rattle.tw_surface.specs.Paintings.{Mark, Painting, painting, mark_of}
 use Rattle.tw_surface.specs.PaintingBatches.{SizedScene, shot_of, clear_batch, clearing, start_of, closing_if, mark_after}
-use Rattle.laws_screens.specs.Pens.{Pen}
 use Rattle.laws_screens.specs.SizedBatches.{SizedBatch, sized_at, sized_after}
 use Rattle.tw_input.specs.EventView.{EventView}
 use Rattle.tw_host.specs.HostRules.{HostRules}
 use Rattle.tw_lineedit.specs.Frame.{Frame}
 use Rattle.tw_lineedit.specs.Reading.{Reads}
 use Rattle.tw_lineedit.specs.Run.{run_of, progress_of}
-use Rattle.tw_lineedit.specs.ScreenRuns.{sized_scene, batches_of, RendersNothing}
+use Rattle.tw_lineedit.specs.ScreenRuns.{sized_scene}
 use Rattle.tw_lineedit.specs.Stations.{Station, stations_of}
 use Rattle.laws_runs.specs.DrawnRuns.{since_batches}
 use Rattle.tw_ansi.specs.declared.encode.Encoder.{Encoder}
 use Rattle.tw_ansi.specs.Encoding.{Sent, sent_then}
 use Rattle.tw_ansi.specs.EcmaPaintings.{sent_batches}
-use Rattle.tw_ansi.specs.EcmaLaws.{IsColor}
-use Rattle.tw_ansi.specs.EcmaScreen.{receive_all}
-use Rattle.tw_ansi.specs.EcmaTexts.{ShowsPicture}
 use Rattle.tw_device.specs.Deeds.{Does}
 use Rattle.tw_device.specs.Led.{taken_over, IsLedAlong}
 use Rattle.tw_device.specs.Live.{outcome_in, frame_of, fresh_frame, run_over}
@@ -30,13 +25,10 @@ use Rattle.tw_device.specs.declared.reading.Answer.{Answer}
 use Rattle.tw_device.specs.declared.reading.Answer.TheVariants.{Line, Cancelled, End}
 use Rattle.tw_device.specs.declared.terminal.AnsiTerminal.{AnsiTerminal}
 use Rattle.laws_runs.specs.SentReadings.{reading_frame}
-use Rattle.laws_runs.specs.SentRuns.{IsSentAt, sent_paintings}
-use Rattle.laws_runs.specs.SizedReadings.{sent_sized, stations_sized, run_sized, IsSizedReading, ReadingsAreSized, SizedPaintingsAreShown, ReadingHealingsAreShown, HealedClosingsAreShown}
+use Rattle.laws_runs.specs.SentRuns.{IsSentAt}
+use Rattle.laws_runs.specs.SizedReadings.{sent_sized, stations_sized, run_sized, IsSizedReading, ReadingsAreSized, SinceIsSent, SinceIsSentWhole}
 use Rattle.laws_runs.proofs.ClosingLemmas.{last_of_all}
-use Rattle.laws_runs.proofs.HealedClosingLemmas.{heals_closed}
-use Rattle.laws_runs.proofs.HealingLemmas.{healings_are_shown}
 use Rattle.laws_runs.proofs.ReadingLemmas.{appended}
-use Rattle.laws_runs.proofs.SentLemmas.{paintings_are_shown}
 use Rattle.laws_runs.proofs.SizedReadingLemmas.{IsAnswer, sized_both, sized_known, sized_at-both, sized_from, station_sets, last_size, last_size-is, ends_at, sends_from}
 
 -- an answer is no refusal
@@ -106,61 +98,17 @@ module _ {V : Type 0} (rules : HostRules V) where
   since_set mark [] station end e w = station_sets rules mark station [] end e w
   since_set mark (first ∷ more) station end e w = station_sets rules mark first (more ++ station ∷ []) end e w
 
-  module _ {W A C : Type 0} (contents : W → Option (List ℕ)) (pen : Pen A C) where
-    -- what is written begins with the bytes of the stations so far, if they are sent at the width that was known
-    pub sized_bytes : (prompt : List ℕ) (value : V) (old new : AnsiTerminal W) (events : List EventView) (held : List ℕ) (h w : ℕ)
-        (earlier : List (Station V)) (station : Station V) (later : List (Station V)) → IsSizedReading rules contents prompt value old new events held
-        → let stations = earlier ++ station ∷ [] in
-        stations_of rules (reading_frame prompt value old events) ≡ earlier ++ station ∷ later
-        → AllByRecursion (IsSentAt h w) (map (sized_scene rules) stations) → old.encoder.cols ≡ w
-        → map (λ sized. sized.batch) (stations_sized rules stations) ≡ batches_of rules stations
-        → (rest : List ℕ) × (contents new.writer ≡ Some (held ++ ((sent_paintings rules pen stations old.encoder).bytes ++ rest)))
-    sized_bytes prompt value old new events held h w earlier station later k stations-are sent-at cols batches-are =
-        let f : Frame V = reading_frame prompt value old events in
-        let e : Encoder = old.encoder in
-        let stations : List (Station V) = earlier ++ station ∷ [] in
-        let written = readings_are_sized rules contents prompt value old new events held k in
-        let scenes : List (Station V) → List SizedScene = map (sized_scene rules) in
-        let a : List SizedBatch = stations_sized rules stations in
-        let c : List SizedBatch = sized_after (mark_after None (map shot_of (scenes stations))) (scenes later) in
-        let closing : List SizedBatch = sized_at (run_of rules f).size.cols (closing_if (run_of rules f).mark) in
-        let sent : Sent = sent_paintings rules pen stations e in
-        let rest : Sent = sent_sized (c ++ closing) sent.next in
-        let all : run_sized rules f ≡ a ++ (c ++ closing) =
-        ap (λ l. sized_after None l ++ closing)
-        (ap scenes (stations-are ∙ sym (append_assoc earlier (station ∷ []) later)) ∙ map-append (sized_scene rules) stations later)
-        ∙ ap (λ l. l ++ closing) (sized_after-both None (scenes stations) (scenes later))
-        ∙ append_assoc a c closing in
-        let first : sent_sized a e ≡ sent =
-        ap (λ l. sent_sized l e) (uniform h w None (scenes stations) sent-at) ∙ sized_known w (map (λ sized. sized.batch) a) e cols
-        ∙ ap (λ l. sent_batches l e) batches-are in
-        let bytes : (sent_sized (run_sized rules f) e).bytes ≡ sent.bytes ++ rest.bytes =
-        ap (λ l. (sent_sized l e).bytes) all ∙ ap (λ (s : Sent). s.bytes) (sized_both a (c ++ closing) e)
-        ∙ ap (λ (s : Sent). (sent_then s (sent_sized (c ++ closing))).bytes) first in
-        (rest.bytes, written.0 ∙ ap (λ l. Some (held ++ l)) bytes)
-
-    pub sized_paintings_are_shown : SizedPaintingsAreShown rules contents pen
-    sized_paintings_are_shown prompt value old new events held h w earlier station later t before k carries comes =
-        let painted = paintings_are_shown pen rules (reading_frame prompt value old events) h w earlier station later old.encoder t before carries comes in
-        let written = sized_bytes prompt value old new events held h w earlier station later k comes.comes.stations comes.sent comes.shows.cols painted.1.batches in
-        (written.0, written.1, painted.0, painted.1)
-
-    -- and those of the stations since a clearing come after the ones before it, whatever sizes are told
-    pub healed_bytes : (prompt : List ℕ) (value : V) (old new : AnsiTerminal W) (events : List EventView) (held : List ℕ) (h w : ℕ)
-        (earlier since : List (Station V)) (station : Station V) (later : List (Station V)) → IsSizedReading rules contents prompt value old new events held
-        → stations_of rules (reading_frame prompt value old events) ≡ earlier ++ (since ++ station ∷ later)
-        → AllByRecursion (IsSentAt h w) (map (sized_scene rules) (since ++ station ∷ []))
-        → let before = sent_sized (stations_sized rules earlier) old.encoder in
-        let sent = sent_batches (map (λ sized. sized.batch) (since_batches rules pen earlier (since ++ station ∷ []))) (record before.next { cols = w }) in
-        (rest : List ℕ) × (contents new.writer ≡ Some (held ++ (before.bytes ++ (sent.bytes ++ rest))))
-    healed_bytes prompt value old new events held h w earlier since station later k stations-are sent-at =
+  module _ {W : Type 0} (contents : W → Option (List ℕ)) where
+    -- the bytes of the stations since a clearing come after the ones before it, whatever sizes are told
+    pub since_is_sent : SinceIsSent rules contents
+    since_is_sent prompt value old new events held h w earlier since station later k stations-are sent-at =
         let f : Frame V = reading_frame prompt value old events in
         let written = readings_are_sized rules contents prompt value old new events held k in
         let scenes : List (Station V) → List SizedScene = map (sized_scene rules) in
         let mark : Option Mark = mark_after None (map shot_of (scenes earlier)) in
         let last : Option Mark = mark_after mark (map shot_of (scenes (since ++ station ∷ []))) in
         let a : List SizedBatch = stations_sized rules earlier in
-        let b : List SizedBatch = since_batches rules pen earlier (since ++ station ∷ []) in
+        let b : List SizedBatch = since_batches rules earlier (since ++ station ∷ []) in
         let c : List SizedBatch = sized_after last (scenes later) in
         let closing : List SizedBatch = sized_at (run_of rules f).size.cols (closing_if (run_of rules f).mark) in
         let before : Sent = sent_sized a old.encoder in
@@ -186,30 +134,16 @@ module _ {V : Type 0} (rules : HostRules V) where
         ∙ ap (λ (s : Sent). before.bytes ++ s.bytes) behind in
         (rest.bytes, written.0 ∙ ap (λ l. Some (held ++ l)) bytes)
 
-    pub reading_healings_are_shown : ReadingHealingsAreShown rules contents pen
-    reading_healings_are_shown prompt value old new events held h w earlier since station later t k carries heals =
-        let e : Encoder = record (sent_sized (stations_sized rules earlier) old.encoder).next { cols = w } in
-        let written = healed_bytes prompt value old new events held h w earlier since station later k heals.comes.stations heals.sent in
-        (written.0, written.1, healings_are_shown pen rules (reading_frame prompt value old events) h w earlier since station later e t carries heals)
-
     -- where that station is the last one, they and those of the closing batch are all that comes after
-    pub healed_run_bytes : (prompt : List ℕ) (value : V) (old new : AnsiTerminal W) (events : List EventView) (held : List ℕ) (h w : ℕ)
-        (earlier since : List (Station V)) (station : Station V) → IsSizedReading rules contents prompt value old new events held
-        → let f = reading_frame prompt value old events in
-        stations_of rules f ≡ earlier ++ (since ++ station ∷ [])
-        → AllByRecursion (IsSentAt h w) (map (sized_scene rules) (since ++ station ∷ []))
-        → let before = sent_sized (stations_sized rules earlier) old.encoder in
-        let taken = map (λ sized. sized.batch) (since_batches rules pen earlier (since ++ station ∷ [])) in
-        let sent = sent_batches (taken ++ closing_if (run_of rules f).mark) (record before.next { cols = w }) in
-        (contents new.writer ≡ Some (held ++ (before.bytes ++ sent.bytes))) × (new.encoder ≡ sent.next)
-    healed_run_bytes prompt value old new events held h w earlier since station k stations-are sent-at =
+    pub since_is_sent_whole : SinceIsSentWhole rules contents
+    since_is_sent_whole prompt value old new events held h w earlier since station k stations-are sent-at =
         let f : Frame V = reading_frame prompt value old events in
         let written = readings_are_sized rules contents prompt value old new events held k in
         let reads = reads_of rules contents prompt value old new events held k in
         let scenes : List (Station V) → List SizedScene = map (sized_scene rules) in
         let mark : Option Mark = mark_after None (map shot_of (scenes earlier)) in
         let a : List SizedBatch = stations_sized rules earlier in
-        let b : List SizedBatch = since_batches rules pen earlier (since ++ station ∷ []) in
+        let b : List SizedBatch = since_batches rules earlier (since ++ station ∷ []) in
         let end : List Batch = closing_if (run_of rules f).mark in
         let u : ℕ = (run_of rules f).size.cols in
         let before : Sent = sent_sized a old.encoder in
@@ -236,23 +170,3 @@ module _ {V : Type 0} (rules : HostRules V) where
         ap (λ l. sent_sized l old.encoder) all ∙ sized_both a (b ++ sized_at u end) old.encoder
         ∙ ap (λ (s : Sent). record { bytes = before.bytes ++ s.bytes; next = s.next }) behind in
         (written.0 ∙ ap (λ (s : Sent). Some (held ++ s.bytes)) is, written.1 ∙ ap (λ (s : Sent). s.next) is)
-
-    pub healed_closings_are_shown : HealedClosingsAreShown rules contents pen
-    healed_closings_are_shown prompt value old new events held h w earlier since station t k carries heals =
-        let f : Frame V = reading_frame prompt value old events in
-        let e : Encoder = record (sent_sized (stations_sized rules earlier) old.encoder).next { cols = w } in
-        let taken : List Batch = map (λ sized. sized.batch) (since_batches rules pen earlier (since ++ station ∷ [])) in
-        let sent : Sent = sent_batches (taken ++ closing_if (run_of rules f).mark) e in
-        let written = healed_run_bytes prompt value old new events held h w earlier since station k heals.comes.stations heals.sent in
-        let closed = heals_closed pen rules f h w earlier since station [] e t carries heals (All-nil (RendersNothing rules)) in (
-          sent.bytes,
-          written.0,
-          (
-            closed.0,
-            closed.1,
-            closed.2,
-            subst (λ next. ShowsPicture pen h w next (receive_all pen h w sent.bytes t) closed.1) (sym written.1) closed.3,
-            closed.4,
-            subst (λ next. IsColor next.attributes.background) (sym written.1) closed.5,
-          ),
-        )

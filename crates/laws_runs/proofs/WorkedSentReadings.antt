@@ -28,7 +28,7 @@ use Rattle.tw_lineedit.specs.EditState.{Inactive}
 use Rattle.tw_lineedit.specs.Frame.{Frame}
 use Rattle.tw_lineedit.specs.Reading.{Reads}
 use Rattle.tw_lineedit.specs.Run.{Ending}
-use Rattle.tw_lineedit.specs.ScreenRuns.{sized_scene, RendersNothing}
+use Rattle.tw_lineedit.specs.ScreenRuns.{sized_scene, batches_of, RendersNothing}
 use Rattle.tw_lineedit.specs.Stations.{Station, station_painting, stations_of}
 use Rattle.tw_ansi.specs.Encoding.{first_known}
 use Rattle.tw_ansi.specs.EcmaBatches.{first_picture}
@@ -42,8 +42,9 @@ use Rattle.tw_device.specs.declared.keys.SourceState.TheVariants.{AtEnd}
 use Rattle.tw_device.specs.declared.reading.Answer.TheVariants.{Cancelled}
 use Rattle.tw_device.specs.declared.terminal.AnsiTerminal.{AnsiTerminal}
 use Rattle.laws_runs.specs.SentReadings.{reading_frame, IsSentReading}
-use Rattle.laws_runs.specs.SentRuns.{ComesSent}
-use Rattle.laws_runs.proofs.ReadingLemmas.{reading_closings_are_shown}
+use Rattle.laws_runs.specs.SentRuns.{ComesSent, sent_run}
+use Rattle.laws_runs.proofs.ClosingLemmas.{closings_are_shown}
+use Rattle.laws_runs.proofs.ReadingLemmas.{readings_are_sent}
 use Rattle.laws_runs.proofs.WorkedParts.{Lines, rules, nth, nth_batch, painting_in, bytes_in, simple, room, carries, prompted, to_right, closing_bytes, Wrote, with_batch, flushed_now, takes, flushes}
 
 abbrev prompt : List ℕ
@@ -170,11 +171,12 @@ module _ (it : AnsiTerminal Wrote) where
   ended_by_law : (bytes : List ℕ) × (new.writer ≡ bytes) × ((ended bytes).row ≡ 2) × ((ended bytes).col ≡ 0) × ((ended bytes).cell 2 0 ≡ 32)
   unfolding pieces column_width painted_on apply destination searched_again search_step boundary_below is_boundary iterate greatest_below least_from unicode_segmentation
   ended_by_law =
-      let s = reading_closings_are_shown rules Some characters prompt [] old new events [] 4 5 (at 0 ∷ at 1 ∷ []) (at 2) [] full before reading carries comes (All-nil (RendersNothing rules)) in
-      let shown = s.2 in
-      let below = s.3 in (
-        s.0,
-        ap bytes_in s.1,
+      let closes = closings_are_shown characters rules frame 4 5 (at 0 ∷ at 1 ∷ []) (at 2) [] (first_known 5) full before carries comes (All-nil (RendersNothing rules)) in
+      let stations = at 0 ∷ at 1 ∷ at 2 ∷ [] in
+      let shown = closes.1 in
+      let below = closes.2 in (
+        (sent_run rules frame stations (first_known 5)).bytes,
+        ap bytes_in (readings_are_sent rules Some prompt [] old new events [] (batches_of rules stations) reading closes.0).0,
         shown.row ∙ below.row,
         shown.col ∙ ap (λ c. min c 4) below.col,
         shown.cells 2 0 (omega arith) (omega arith) ∙ below.blank_below 2 0 (omega (arith, below.row)) (omega arith),

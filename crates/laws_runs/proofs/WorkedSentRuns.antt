@@ -92,7 +92,7 @@ low_sent = record {
 }
 
 abbrev low_bytes : Sent
-low_bytes = sent_paintings rules characters (low_first ∷ low_last ∷ []) (first_known 5)
+low_bytes = sent_paintings rules (low_first ∷ low_last ∷ []) (first_known 5)
 
 abbrev low_terminal : EcmaScreen ℕ
 low_terminal = receive_all characters 4 5 low_bytes.bytes (full 3)
@@ -140,7 +140,7 @@ low_is_fresh stale = let off : 32 ≡ 68 = stale in omega (arith, off)
 -- ---- and its closing batch
 
 abbrev end_bytes : Sent
-end_bytes = sent_run rules characters low_run (low_first ∷ low_last ∷ []) (first_known 5)
+end_bytes = sent_run rules low_run (low_first ∷ low_last ∷ []) (first_known 5)
 
 abbrev end_terminal : EcmaScreen ℕ
 end_terminal = receive_all characters 4 5 end_bytes.bytes (full 3)

@@ -29,8 +29,8 @@ use Rattle.tw_session.specs.Steps.{apply}
 use Rattle.tw_lineedit.specs.Frame.{Frame}
 use Rattle.tw_lineedit.specs.EditState.{Inactive}
 use Rattle.tw_lineedit.specs.Reading.{Reads}
-use Rattle.tw_lineedit.specs.Run.{Ending}
-use Rattle.tw_lineedit.specs.ScreenRuns.{sized_scene}
+use Rattle.tw_lineedit.specs.Run.{Ending, run_of}
+use Rattle.tw_lineedit.specs.ScreenRuns.{sized_scene, RendersNothing}
 use Rattle.tw_lineedit.specs.Stations.{Station, station_painting, stations_of}
 use Rattle.tw_ansi.specs.declared.encode.Encoder.{Encoder}
 use Rattle.tw_ansi.specs.Encoding.{first_known, sent_batch}
@@ -48,9 +48,12 @@ use Rattle.tw_device.specs.declared.terminal.AnsiTerminal.{AnsiTerminal}
 use Rattle.laws_runs.specs.SentReadings.{reading_frame}
 use Rattle.laws_runs.specs.Rests.{Rests, Receives, IsTypedStation, HealsResized}
 use Rattle.laws_runs.specs.SentRuns.{HealsSent}
+use Rattle.laws_runs.specs.DrawnRuns.{since_batches}
 use Rattle.laws_runs.specs.SizedReadings.{sent_sized, stations_sized, run_sized, IsSizedReading}
 use Rattle.laws_runs.proofs.RestedRunLemmas.{resized_heals}
-use Rattle.laws_runs.proofs.SizedRunLemmas.{readings_are_sized, reading_healings_are_shown, healed_closings_are_shown}
+use Rattle.laws_runs.proofs.HealedClosingLemmas.{healed_closings_are_shown}
+use Rattle.laws_runs.proofs.HealingLemmas.{healings_are_shown}
+use Rattle.laws_runs.proofs.SizedRunLemmas.{readings_are_sized, since_is_sent_whole}
 use Rattle.laws_runs.proofs.WorkedParts.{Lines, rules, nth, nth_batch, painting_in, bytes_in, simple, room, carries, csi, prompted, to_right, closing_bytes, Wrote, with_batch, with_size, flushed_now, takes, is_sized, flushes}
 
 -- a move back from a painting, if there is one, that leads no further than a move can
@@ -260,7 +263,7 @@ module _ (it : AnsiTerminal Wrote) where
     healed_by_law : (healed.row ≡ 0) × (healed.col ≡ 6) × (healed.cell 0 5 ≡ 100) × (healed.cell 1 0 ≡ 32)
     unfolding pieces column_width painted_on apply destination searched_again search_step boundary_below is_boundary iterate greatest_below least_from unicode_segmentation digits
     healed_by_law =
-        let s = (reading_healings_are_shown rules Some characters prompt [] old new events (63 ∷ []) 4 10 earlier [] (at 3) (at 4 ∷ []) anything reading carries heals).2 in
+        let s = healings_are_shown characters rules frame 4 10 earlier [] (at 3) (at 4 ∷ []) known anything carries heals in
         let fresh = s.2 in (
           s.1.row ∙ fresh.row,
           s.1.col ∙ ap (λ c. min c 9) fresh.col,
@@ -315,11 +318,13 @@ module _ (it : AnsiTerminal Wrote) where
     ended_by_law : (bytes : List ℕ) × (new.writer ≡ 63 ∷ before_clearing ++ bytes) × ((ended bytes).row ≡ 1) × ((ended bytes).col ≡ 0) × ((ended bytes).cell 1 0 ≡ 32)
     unfolding pieces column_width painted_on apply destination searched_again search_step boundary_below is_boundary iterate greatest_below least_from unicode_segmentation digits
     ended_by_law =
-        let s = healed_closings_are_shown rules Some characters prompt [] old new events (63 ∷ []) 4 10 earlier (at 3 ∷ []) (at 4) anything reading carries heals_to_end in
-        let shown = s.2.3 in
-        let below = s.2.4 in (
-          s.0,
-          ap bytes_in s.1,
+        let closes = healed_closings_are_shown characters rules frame 4 10 earlier (at 3 ∷ []) (at 4) [] known anything carries heals_to_end (All-nil (RendersNothing rules)) in
+        let sent = since_is_sent_whole rules Some prompt [] old new events (63 ∷ []) 4 10 earlier (at 3 ∷ []) (at 4) reading heals_to_end.comes.stations heals_to_end.sent in
+        let taken = map (λ sized. sized.batch) (since_batches rules earlier (at 3 ∷ at 4 ∷ [])) in
+        let shown = closes.3 in
+        let below = closes.4 in (
+          (sent_batches (taken ++ closing_if (run_of rules frame).mark) known).bytes,
+          ap bytes_in sent.0,
           shown.row ∙ below.row,
           shown.col ∙ ap (λ c. min c 9) below.col,
           shown.cells 1 0 (omega arith) (omega arith) ∙ below.blank_below 1 0 (omega (arith, below.row)) (omega arith),

@@ -35,6 +35,10 @@ module _ {A C : Type 0} (pen : Pen A C) where
       AreShownOver cuts (blank_of pen) least entered.row top painting entered after
       → (r c : ℕ) → r < top → c < painting.cols → c < least → after.cell r c ≡ shown.cell (r + (last + 1 - top)) c
 
+-- the batches of stations that come after some others, each with the columns of its station
+abbrev pub since_batches : {V : Type 0} → HostRules V → List (Station V) → List (Station V) → List SizedBatch
+since_batches rules earlier since = sized_after (mark_after None (map shot_of (map (sized_scene rules) earlier))) (map (sized_scene rules) since)
+
 module _ {V A C : Type 0} (rules : HostRules V) (pen : Pen A C) where
   -- what is painted at a station, and at each of some stations
   abbrev pub painted_at : Station V → drawn.SheetPainting C
@@ -96,17 +100,13 @@ module _ {V A C : Type 0} (rules : HostRules V) (pen : Pen A C) where
     pub low : All (HasRoom rows pen) (map (sized_scene rules) (since ++ station ∷ []))
     pub in_sight : InSight rows 0
 
-  -- the batches of the stations since the clearing, each with the columns of its station
-  abbrev pub since_batches : List (Station V) → List (Station V) → List SizedBatch
-  since_batches earlier since = sized_after (mark_after None (map shot_of (map (sized_scene rules) earlier))) (map (sized_scene rules) since)
-
   -- they are played on a screen of v columns
   abbrev pub play_since : Option ℕ → Bool → ℕ → A → List (Station V) → List (Station V) → PictureOf C → PictureOf C
-  play_since rows cuts v a earlier since t = play_sized rows cuts pen v a (spelled_sized (since_batches earlier since)) t
+  play_since rows cuts v a earlier since t = play_sized rows cuts pen v a (spelled_sized (since_batches rules earlier since)) t
 
   -- The batches from the clearing to the station's painting, played on any screen, leave its fresh painting from row 0 on.
   pub record ShowsHealed (rows : Option ℕ) (f : Frame V) (earlier since : List (Station V)) (station : Station V) : Type 0 where
-    pub batches : batches_of rules (earlier ++ (since ++ station ∷ [])) ≡ batches_of rules earlier ++ map (λ sized. sized.batch) (since_batches earlier (since ++ station ∷ []))
+    pub batches : batches_of rules (earlier ++ (since ++ station ∷ [])) ≡ batches_of rules earlier ++ map (λ sized. sized.batch) (since_batches rules earlier (since ++ station ∷ []))
     pub beginning : (rest : List Batch) × ((run_of rules f).taken ≡ f.terminal.batches ++ (batches_of rules (earlier ++ (since ++ station ∷ [])) ++ rest))
     pub fresh : (cuts : Bool) (v : ℕ) (a : A) (before : PictureOf C)
         → IsFreshSheet station.size.cols 0 (blank_of pen) (painted_at station).sheet (play_since rows cuts v a earlier (since ++ station ∷ []) before)

@@ -1,29 +1,20 @@
--- From bytes to cells: what a terminal shows after the bytes that a reading has written.
-use Rattle.std.specs.Prelude.{◌≡◌, ◌≢◌, ◌+◌, ℕ, Some, false, Option, List, [], ◌∷◌, ◌++◌}
-use Rattle.std.specs.List.{All, AllByRecursion}
-use Rattle.laws_screens.specs.Strokes.{PictureOf}
-use Rattle.laws_screens.specs.Sheets.{sheet_last_row}
-use Rattle.laws_screens.specs.Paintings.{IsClosedSheet, top_row}
-use Rattle.laws_screens.specs.Pens.{Pen}
-use Rattle.laws_screens.specs.Screens.{blank_of}
+-- From bytes to cells: what a reading has written.
+use Rattle.std.specs.Prelude.{◌≡◌, ◌≢◌, ℕ, Some, Option, List, ◌++◌}
+use Rattle.std.specs.List.{AllByRecursion}
+use Rattle.tw_surface.specs.ChangeView.{Batch}
+use Rattle.tw_surface.specs.PaintingBatches.{closing_if}
 use Rattle.tw_input.specs.EventView.{EventView}
 use Rattle.tw_terminal.specs.TerminalState.{usize_max}
 use Rattle.tw_host.specs.HostRules.{HostRules}
 use Rattle.tw_lineedit.specs.Frame.{Frame}
-use Rattle.tw_lineedit.specs.ScreenRuns.{RendersNothing}
-use Rattle.tw_lineedit.specs.Stations.{Station}
-use Rattle.laws_runs.specs.DrawnRuns.{paintings_at, painted_at, closed_by, ShowsDrawn}
-use Rattle.tw_ansi.specs.EcmaLaws.{IsColor}
-use Rattle.tw_ansi.specs.EcmaBatches.{CarriesAttributes}
-use Rattle.tw_ansi.specs.EcmaScreen.{EcmaScreen, receive_all}
-use Rattle.tw_ansi.specs.EcmaTexts.{ShowsPicture}
+use Rattle.tw_lineedit.specs.Run.{run_of}
+use Rattle.tw_ansi.specs.EcmaPaintings.{sent_batches}
 use Rattle.tw_device.specs.Deeds.{Does, IsLedAsTold, sizes_in}
 use Rattle.tw_device.specs.Live.{IsRead, fresh_frame}
 use Rattle.tw_device.specs.Terminal.{terminal_state}
 use Rattle.tw_device.specs.declared.keys.SourceState.{SourceState}
 use Rattle.tw_device.specs.declared.reading.Answer.{Answer}
 use Rattle.tw_device.specs.declared.terminal.AnsiTerminal.{AnsiTerminal}
-use Rattle.laws_runs.specs.SentRuns.{ComesSent, sent_paintings, shown_by}
 
 -- the frame with these events left
 abbrev pub with_events : {V : Type 0} → List EventView → Frame V → Frame V
@@ -49,33 +40,12 @@ module _ {V W : Type 0} (rules : HostRules V) (contents : W → Option (List ℕ
     pub cols : AllByRecursion (λ size. size.cols ≡ old.encoder.cols) (sizes_in events)
     pub holds : contents old.writer ≡ Some held
 
-module _ {V W A C : Type 0} (rules : HostRules V) (contents : W → Option (List ℕ)) (pen : Pen A C) where
-  -- After the bytes up to each of its paintings a terminal that showed a picture before shows the fresh painting, and what stood above, moved up.
-  abbrev pub ReadingPaintingsAreShown : Type 0
-  ReadingPaintingsAreShown = (prompt : List ℕ) (value : V) (old new : AnsiTerminal W) (events : List EventView) (held : List ℕ)
-      (h w : ℕ) (earlier : List (Station V)) (station : Station V) (later : List (Station V)) (t : EcmaScreen C) (before : PictureOf C)
-      → IsSentReading rules contents prompt value old new events held → CarriesAttributes pen
+  -- Where its run takes these batches, all that it has written are their bytes and those of the closing batch, and what is known of the terminal is known after
+  -- them: so it shows what a terminal shows of the run.
+  abbrev pub ReadingsAreSent : Type 0
+  ReadingsAreSent = (prompt : List ℕ) (value : V) (old new : AnsiTerminal W) (events : List EventView) (held : List ℕ) (batches : List Batch)
+      → IsSentReading prompt value old new events held
       → let f = reading_frame prompt value old events in
-      let stations = earlier ++ station ∷ [] in
-      let sent = sent_paintings rules pen stations old.encoder in
-      ComesSent rules pen h w f earlier station later old.encoder t before
-      → (rest : List ℕ) × (contents new.writer ≡ Some (held ++ (sent.bytes ++ rest)))
-      × ShowsPicture pen h w sent.next (receive_all pen h w sent.bytes t) (shown_by rules pen h w old.encoder stations before)
-      × ShowsDrawn rules pen (Some h) false w (pen.attributes old.encoder.attributes) f earlier station before
-
-  -- After all bytes that it has written it shows what the closing batch left: the cursor in column 0 of the row below the last painting, and blanks from
-  -- there on; the colour that is known is by bytes. So the next reading begins at such a terminal, and lines stack.
-  abbrev pub ReadingClosingsAreShown : Type 0
-  ReadingClosingsAreShown = (prompt : List ℕ) (value : V) (old new : AnsiTerminal W) (events : List EventView) (held : List ℕ)
-      (h w : ℕ) (earlier : List (Station V)) (station : Station V) (later : List (Station V)) (t : EcmaScreen C) (before : PictureOf C)
-      → IsSentReading rules contents prompt value old new events held → CarriesAttributes pen
-      → let f = reading_frame prompt value old events in
-      let stations = earlier ++ station ∷ [] in
-      let shown = shown_by rules pen h w old.encoder stations before in
-      let closed = closed_by rules pen (Some h) false w w (pen.attributes (sent_paintings rules pen stations old.encoder).next.attributes) f shown in
-      let last = top_row (Some h) before.row (paintings_at rules pen stations) + sheet_last_row w (painted_at rules pen station).sheet in
-      ComesSent rules pen h w f earlier station later old.encoder t before → All (RendersNothing rules) later
-      → (bytes : List ℕ) × (contents new.writer ≡ Some (held ++ bytes))
-      × ShowsPicture pen h w new.encoder (receive_all pen h w bytes t) closed
-      × IsClosedSheet (Some h) w (blank_of pen) last shown closed
-      × IsColor new.encoder.attributes.background
+      let sent = sent_batches (batches ++ closing_if (run_of rules f).mark) old.encoder in
+      (run_of rules f).taken ≡ f.terminal.batches ++ batches
+      → (contents new.writer ≡ Some (held ++ sent.bytes)) × (new.encoder ≡ sent.next)

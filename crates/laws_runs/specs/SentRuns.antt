@@ -29,6 +29,15 @@ pub record IsSentAt (h w : ℕ) (station : SizedScene) : Type 0 where
   pub cols : station.cols ≡ w
   pub showable : IsShowable h w station.scene
 
+module _ {V : Type 0} (rules : HostRules V) where
+  -- the bytes of the batches of stations, by what is known of the terminal, and what is known then
+  abbrev pub sent_paintings : List (Station V) → Encoder → Sent
+  sent_paintings stations e = sent_batches (batches_of rules stations) e
+
+  -- and those of the closing batch of a run too
+  abbrev pub sent_run : Frame V → List (Station V) → Encoder → Sent
+  sent_run f stations e = sent_batches (batches_of rules stations ++ closing_if (run_of rules f).mark) e
+
 module _ {V A C : Type 0} (rules : HostRules V) (pen : Pen A C) where
   -- The run from a frame comes to a station and paints it, and so far every station was such a one. A terminal of h rows
   -- and w columns shows a picture, and the colour that is known after its text is by bytes.
@@ -39,14 +48,6 @@ module _ {V A C : Type 0} (rules : HostRules V) (pen : Pen A C) where
     pub color : IsColor e.attributes.background
     pub shows : ShowsPicture pen h w e t before
 
-  -- the bytes of the batches of stations, by what is known of the terminal, and what is known then
-  abbrev pub sent_paintings : List (Station V) → Encoder → Sent
-  sent_paintings stations e = sent_batches (batches_of rules stations) e
-
-  -- and those of the closing batch of a run too
-  abbrev pub sent_run : Frame V → List (Station V) → Encoder → Sent
-  sent_run f stations e = sent_batches (batches_of rules stations ++ closing_if (run_of rules f).mark) e
-
   -- a picture on which the batches of stations were played, at w columns
   abbrev pub shown_by : ℕ → ℕ → Encoder → List (Station V) → PictureOf C → PictureOf C
   shown_by h w e stations before = play_stations rules pen (Some h) false w (pen.attributes e.attributes) stations before
@@ -56,7 +57,7 @@ module _ {V A C : Type 0} (rules : HostRules V) (pen : Pen A C) where
   PaintingsAreShown = (f : Frame V) (h w : ℕ) (earlier : List (Station V)) (station : Station V) (later : List (Station V)) (e : Encoder) (t : EcmaScreen C) (before : PictureOf C)
       → CarriesAttributes pen → ComesSent h w f earlier station later e t before
       → let stations = earlier ++ station ∷ [] in
-      let sent = sent_paintings stations e in
+      let sent = sent_paintings rules stations e in
       ShowsPicture pen h w sent.next (receive_all pen h w sent.bytes t) (shown_by h w e stations before)
       × ShowsDrawn rules pen (Some h) false w (pen.attributes e.attributes) f earlier station before
 
@@ -66,10 +67,10 @@ module _ {V A C : Type 0} (rules : HostRules V) (pen : Pen A C) where
   ClosingsAreShown = (f : Frame V) (h w : ℕ) (earlier : List (Station V)) (station : Station V) (later : List (Station V)) (e : Encoder) (t : EcmaScreen C) (before : PictureOf C)
       → CarriesAttributes pen → ComesSent h w f earlier station later e t before → All (RendersNothing rules) later
       → let stations = earlier ++ station ∷ [] in
-      let sent = sent_run f stations e in
+      let sent = sent_run rules f stations e in
       let last = top_row (Some h) before.row (paintings_at rules pen stations) + sheet_last_row w (painted_at rules pen station).sheet in
       let shown = shown_by h w e stations before in
-      let closed = closed_by rules pen (Some h) false w w (pen.attributes (sent_paintings stations e).next.attributes) f shown in
+      let closed = closed_by rules pen (Some h) false w w (pen.attributes (sent_paintings rules stations e).next.attributes) f shown in
       ((run_of rules f).taken ≡ f.terminal.batches ++ batches_of rules stations)
       × ShowsPicture pen h w sent.next (receive_all pen h w sent.bytes t) closed
       × IsClosedSheet (Some h) w (blank_of pen) last shown closed
@@ -94,6 +95,19 @@ module _ {V A C : Type 0} (rules : HostRules V) (pen : Pen A C) where
   abbrev pub HealingsAreShown : Type 0
   HealingsAreShown = (f : Frame V) (h w : ℕ) (earlier since : List (Station V)) (station : Station V) (later : List (Station V)) (e : Encoder) (t : EcmaScreen C)
       → CarriesAttributes pen → HealsSent h w f earlier since station later e t
-      → let sent = sent_batches (map (λ sized. sized.batch) (since_batches rules pen earlier (since ++ station ∷ []))) e in
+      → let sent = sent_batches (map (λ sized. sized.batch) (since_batches rules earlier (since ++ station ∷ []))) e in
       (picture : PictureOf C) × ShowsPicture pen h w sent.next (receive_all pen h w sent.bytes t) picture
       × IsFreshSheet w 0 (blank_of pen) (painted_at rules pen station).sheet picture
+
+  -- Where nothing is rendered after that station, the bytes of the closing batch too leave the cursor in column 0 of the row below it, and blanks from there
+  -- on. The colour that is known is by bytes, so that another run can follow.
+  abbrev pub HealedClosingsAreShown : Type 0
+  HealedClosingsAreShown = (f : Frame V) (h w : ℕ) (earlier since : List (Station V)) (station : Station V) (later : List (Station V)) (e : Encoder) (t : EcmaScreen C)
+      → CarriesAttributes pen → HealsSent h w f earlier since station later e t → All (RendersNothing rules) later
+      → let taken = map (λ sized. sized.batch) (since_batches rules earlier (since ++ station ∷ [])) in
+      let sent = sent_batches (taken ++ closing_if (run_of rules f).mark) e in
+      let sheet = (painted_at rules pen station).sheet in
+      (shown : PictureOf C) × (closed : PictureOf C) × IsFreshSheet w 0 (blank_of pen) sheet shown
+      × ShowsPicture pen h w sent.next (receive_all pen h w sent.bytes t) closed
+      × IsClosedSheet (Some h) w (blank_of pen) (sheet_last_row w sheet) shown closed
+      × IsColor sent.next.attributes.background

@@ -1,11 +1,7 @@
--- What a reading has written whose events tell other numbers of columns, and what a terminal shows of it after a clearing.
-use Rattle.std.specs.Prelude.{◌≡◌, ◌≢◌, ℕ, Some, false, Option, List, [], ◌∷◌, ◌++◌, map}
-use Rattle.laws_screens.specs.Strokes.{PictureOf}
-use Rattle.laws_screens.specs.Sheets.{IsFreshSheet, sheet_last_row}
-use Rattle.laws_screens.specs.Paintings.{IsClosedSheet}
+-- What a reading has written whose events tell other numbers of columns.
+use Rattle.std.specs.Prelude.{◌≡◌, ◌≢◌, ℕ, Some, Option, List, [], ◌∷◌, ◌++◌, map}
+use Rattle.std.specs.List.{AllByRecursion}
 use Rattle.tw_surface.specs.PaintingBatches.{closing_if}
-use Rattle.laws_screens.specs.Pens.{Pen}
-use Rattle.laws_screens.specs.Screens.{blank_of}
 use Rattle.laws_screens.specs.SizedBatches.{SizedBatch, sized_at, sized_batches}
 use Rattle.tw_input.specs.EventView.{EventView}
 use Rattle.tw_terminal.specs.TerminalState.{usize_max}
@@ -14,14 +10,10 @@ use Rattle.tw_lineedit.specs.Frame.{Frame}
 use Rattle.tw_lineedit.specs.Run.{run_of}
 use Rattle.tw_lineedit.specs.ScreenRuns.{sized_scene}
 use Rattle.tw_lineedit.specs.Stations.{Station, stations_of}
-use Rattle.laws_runs.specs.DrawnRuns.{painted_at, since_batches, ShowsDrawn}
+use Rattle.laws_runs.specs.DrawnRuns.{since_batches}
 use Rattle.tw_ansi.specs.declared.encode.Encoder.{Encoder}
 use Rattle.tw_ansi.specs.Encoding.{Sent, sends, sent_then, sent_batch}
-use Rattle.tw_ansi.specs.EcmaLaws.{IsColor}
-use Rattle.tw_ansi.specs.EcmaBatches.{CarriesAttributes}
 use Rattle.tw_ansi.specs.EcmaPaintings.{sent_batches}
-use Rattle.tw_ansi.specs.EcmaScreen.{EcmaScreen, receive_all}
-use Rattle.tw_ansi.specs.EcmaTexts.{ShowsPicture}
 use Rattle.tw_device.specs.Deeds.{Does}
 use Rattle.tw_device.specs.Led.{taken_over, IsToldAlong}
 use Rattle.tw_device.specs.Live.{IsRead, fresh_frame}
@@ -30,7 +22,7 @@ use Rattle.tw_device.specs.declared.keys.SourceState.{SourceState}
 use Rattle.tw_device.specs.declared.reading.Answer.{Answer}
 use Rattle.tw_device.specs.declared.terminal.AnsiTerminal.{AnsiTerminal}
 use Rattle.laws_runs.specs.SentReadings.{reading_frame}
-use Rattle.laws_runs.specs.SentRuns.{ComesSent, HealsSent, sent_paintings, shown_by}
+use Rattle.laws_runs.specs.SentRuns.{IsSentAt}
 
 -- what a batch is sent as, for the columns that the screen has when it comes
 abbrev pub sent_at : SizedBatch → Encoder → Sent
@@ -74,46 +66,27 @@ module _ {V W : Type 0} (rules : HostRules V) (contents : W → Option (List ℕ
       → let sent = sent_sized (run_sized rules (reading_frame prompt value old events)) old.encoder in
       (contents new.writer ≡ Some (held ++ sent.bytes)) × (new.encoder ≡ sent.next) × (new.encoder.cols ≡ new.size.cols)
 
-module _ {V W A C : Type 0} (rules : HostRules V) (contents : W → Option (List ℕ)) (pen : Pen A C) where
-  -- Up to each station before which no event told another number of columns the terminal shows its paintings, whatever sizes are told later.
-  abbrev pub SizedPaintingsAreShown : Type 0
-  SizedPaintingsAreShown = (prompt : List ℕ) (value : V) (old new : AnsiTerminal W) (events : List EventView) (held : List ℕ)
-      (h w : ℕ) (earlier : List (Station V)) (station : Station V) (later : List (Station V)) (t : EcmaScreen C) (before : PictureOf C)
-      → IsSizedReading rules contents prompt value old new events held → CarriesAttributes pen
-      → let f = reading_frame prompt value old events in
-      let stations = earlier ++ station ∷ [] in
-      let sent = sent_paintings rules pen stations old.encoder in
-      ComesSent rules pen h w f earlier station later old.encoder t before
-      → (rest : List ℕ) × (contents new.writer ≡ Some (held ++ (sent.bytes ++ rest)))
-      × ShowsPicture pen h w sent.next (receive_all pen h w sent.bytes t) (shown_by rules pen h w old.encoder stations before)
-      × ShowsDrawn rules pen (Some h) false w (pen.attributes old.encoder.attributes) f earlier station before
-
-  -- A changed size is followed from the next clearing on: whatever was sent before it, and whatever the terminal shows then at its new size, its cursor
-  -- anywhere, the bytes from the clearing on show the station's fresh painting from row 0 on.
-  abbrev pub ReadingHealingsAreShown : Type 0
-  ReadingHealingsAreShown = (prompt : List ℕ) (value : V) (old new : AnsiTerminal W) (events : List EventView) (held : List ℕ)
-      (h w : ℕ) (earlier since : List (Station V)) (station : Station V) (later : List (Station V)) (t : EcmaScreen C)
-      → IsSizedReading rules contents prompt value old new events held → CarriesAttributes pen
-      → let f = reading_frame prompt value old events in
-      let before = sent_sized (stations_sized rules earlier) old.encoder in
-      let e = record before.next { cols = w } in
-      HealsSent rules pen h w f earlier since station later e t
-      → let sent = sent_batches (map (λ sized. sized.batch) (since_batches rules pen earlier (since ++ station ∷ []))) e in
+  -- A changed size is followed from the next clearing on: the bytes of the stations since then, which are sent at w columns, come after those of the earlier
+  -- ones, whatever columns these were sent at. Without earlier ones they are the first bytes.
+  abbrev pub SinceIsSent : Type 0
+  SinceIsSent = (prompt : List ℕ) (value : V) (old new : AnsiTerminal W) (events : List EventView) (held : List ℕ)
+      (h w : ℕ) (earlier since : List (Station V)) (station : Station V) (later : List (Station V))
+      → IsSizedReading prompt value old new events held
+      → stations_of rules (reading_frame prompt value old events) ≡ earlier ++ (since ++ station ∷ later)
+      → AllByRecursion (IsSentAt h w) (map (sized_scene rules) (since ++ station ∷ []))
+      → let before = sent_sized (stations_sized rules earlier) old.encoder in
+      let sent = sent_batches (map (λ sized. sized.batch) (since_batches rules earlier (since ++ station ∷ []))) (record before.next { cols = w }) in
       (rest : List ℕ) × (contents new.writer ≡ Some (held ++ (before.bytes ++ (sent.bytes ++ rest))))
-      × ((picture : PictureOf C) × ShowsPicture pen h w sent.next (receive_all pen h w sent.bytes t) picture
-      × IsFreshSheet w 0 (blank_of pen) (painted_at rules pen station).sheet picture)
 
-  -- Where that station is the last one, all bytes from the clearing on leave the cursor in column 0 of the row below it, and blanks from there on, and the
-  -- colour that is known is by bytes. So the next reading begins at such a terminal, at the new size, and lines stack.
-  abbrev pub HealedClosingsAreShown : Type 0
-  HealedClosingsAreShown = (prompt : List ℕ) (value : V) (old new : AnsiTerminal W) (events : List EventView) (held : List ℕ)
-      (h w : ℕ) (earlier since : List (Station V)) (station : Station V) (t : EcmaScreen C)
-      → IsSizedReading rules contents prompt value old new events held → CarriesAttributes pen
+  -- Where that station is the last one, only those of the closing batch come after them, and what is known of the terminal is known after those.
+  abbrev pub SinceIsSentWhole : Type 0
+  SinceIsSentWhole = (prompt : List ℕ) (value : V) (old new : AnsiTerminal W) (events : List EventView) (held : List ℕ)
+      (h w : ℕ) (earlier since : List (Station V)) (station : Station V)
+      → IsSizedReading prompt value old new events held
       → let f = reading_frame prompt value old events in
-      let before = sent_sized (stations_sized rules earlier) old.encoder in
-      HealsSent rules pen h w f earlier since station [] (record before.next { cols = w }) t
-      → (bytes : List ℕ) × (contents new.writer ≡ Some (held ++ (before.bytes ++ bytes)))
-      × ((shown : PictureOf C) × (closed : PictureOf C) × IsFreshSheet w 0 (blank_of pen) (painted_at rules pen station).sheet shown
-      × ShowsPicture pen h w new.encoder (receive_all pen h w bytes t) closed
-      × IsClosedSheet (Some h) w (blank_of pen) (sheet_last_row w (painted_at rules pen station).sheet) shown closed
-      × IsColor new.encoder.attributes.background)
+      stations_of rules f ≡ earlier ++ (since ++ station ∷ [])
+      → AllByRecursion (IsSentAt h w) (map (sized_scene rules) (since ++ station ∷ []))
+      → let before = sent_sized (stations_sized rules earlier) old.encoder in
+      let taken = map (λ sized. sized.batch) (since_batches rules earlier (since ++ station ∷ [])) in
+      let sent = sent_batches (taken ++ closing_if (run_of rules f).mark) (record before.next { cols = w }) in
+      (contents new.writer ≡ Some (held ++ (before.bytes ++ sent.bytes))) × (new.encoder ≡ sent.next)

@@ -12,9 +12,9 @@ ghost use Rattle.laws_runs.specs.DrawnRuns.{DrawnCallsStack, DrawnClosings, Draw
 ghost use Rattle.laws_runs.specs.PlainRuns.{CallsStack, Closings, Paintings, PaintsNothing, ShownRuns};
 ghost use Rattle.laws_screens.specs.Pens.{Pen};
 ghost use Rattle.laws_runs.specs.Rests.{ResizedHeals, RestIsKept};
-ghost use Rattle.laws_runs.specs.SentReadings.{ReadingClosingsAreShown, ReadingPaintingsAreShown};
-ghost use Rattle.laws_runs.specs.SentRuns.{ClosingsAreShown, HealingsAreShown, PaintingsAreShown};
-ghost use Rattle.laws_runs.specs.SizedReadings.{HealedClosingsAreShown, ReadingHealingsAreShown, ReadingsAreSized, SizedPaintingsAreShown};
+ghost use Rattle.laws_runs.specs.SentReadings.{ReadingsAreSent};
+ghost use Rattle.laws_runs.specs.SentRuns.{ClosingsAreShown, HealedClosingsAreShown, HealingsAreShown, PaintingsAreShown};
+ghost use Rattle.laws_runs.specs.SizedReadings.{ReadingsAreSized, SinceIsSent, SinceIsSentWhole};
 
 use std::io::Write;
 use tw_host::LineEditorHost;
@@ -55,29 +55,28 @@ pub fn drawn_runs<H: LineEditorHost, A, C>()
 /// A terminal that shows a picture, its cursor in column 0, and is sent the bytes of a run's batches up to a painting,
 /// shows that station's fresh painting, and what stood above it, moved up; and after those of the closing batch its
 /// cursor is in column 0 of the row below, with blanks from there on. One that may show anything shows a fresh painting
-/// after a clearing.
+/// after a clearing, and the row below it after the closing batch.
 pub fn sent_runs<H: LineEditorHost, A, C>()
     ensures paintings { (pen : Pen A C) → PaintingsAreShown H.rules pen }
     ensures closings { (pen : Pen A C) → ClosingsAreShown H.rules pen }
     ensures healings { (pen : Pen A C) → HealingsAreShown H.rules pen }
+    ensures healed_closings { (pen : Pen A C) → HealedClosingsAreShown H.rules pen }
 {}
 
-/// The bytes that `read_line_from` has written, where it was answered and no event told another number of columns, are
-/// those of its run: so a terminal shows what `sent_runs` says.
-pub fn sent_readings<H: LineEditorHost, W: Write, A, C>()
-    ensures paintings { (pen : Pen A C) → ReadingPaintingsAreShown H.rules W.contents pen }
-    ensures closings { (pen : Pen A C) → ReadingClosingsAreShown H.rules W.contents pen }
+/// The bytes that `read_line_from` has written, if it was answered and no event told another number of columns, are those
+/// of its run's batches: so a terminal shows what `sent_runs` says of the run, or `sent_rows` of `laws_prompt`.
+pub fn sent_readings<H: LineEditorHost, W: Write>()
+    ensures { ReadingsAreSent H.rules W.contents }
 {}
 
-/// Whatever sizes the events tell, the bytes that `read_line_from` has written, where it was answered, are those of its
+/// Whatever sizes the events tell, the bytes that `read_line_from` has written, if it was answered, are those of its
 /// run's batches, each sent for the columns of its station. A changed size is followed from the next clearing on: the
-/// bytes from there on show a fresh painting at the new size, whatever the terminal showed, and those of the closing
-/// batch leave the cursor in the row below, so that the next reading can begin there.
-pub fn sized_readings<H: LineEditorHost, W: Write, A, C>()
+/// bytes from there on are those of which `sent_runs` says that they show a fresh painting at the new size, whatever
+/// the terminal showed, and leave the cursor in the row below, so that the next reading can begin there.
+pub fn sized_readings<H: LineEditorHost, W: Write>()
     ensures sized { ReadingsAreSized H.rules W.contents }
-    ensures paintings { (pen : Pen A C) → SizedPaintingsAreShown H.rules W.contents pen }
-    ensures healings { (pen : Pen A C) → ReadingHealingsAreShown H.rules W.contents pen }
-    ensures closings { (pen : Pen A C) → HealedClosingsAreShown H.rules W.contents pen }
+    ensures since { SinceIsSent H.rules W.contents }
+    ensures whole { SinceIsSentWhole H.rules W.contents }
 {}
 
 /// What is sent of stations of plain texts and of colours by bytes leaves a terminal at rest under the attributes that are

@@ -41,5 +41,5 @@ candidates_by listings FileNames cut = file_candidates listings cut
 candidates_by listings Nothing cut = []
 
 -- what completers offer, if one of them is asked there
-abbrev pub completed_by : List ContextCompleterView → List ListingView → Cut → Option (List CandidateView)
-completed_by rows listings cut = option_map (λ completer. candidates_by listings completer cut) (completer_for rows (row_before cut))
+abbrev pub context_candidates : List ContextCompleterView → List ListingView → Cut → Option (List CandidateView)
+context_candidates rows listings cut = option_map (λ completer. candidates_by listings completer cut) (completer_for rows (row_before cut))

@@ -4,7 +4,7 @@ use Rattle.tw_host.specs.CandidateView.{CandidateView}
 use Rattle.tw_hosts.specs.WordCompletion.{word_candidate}
 use Rattle.tw_hosts.specs.Words.{begins_with, is_same, last_word}
 use Rattle.tw_line.specs.Cut.{Cut}
-use Rattle.tw_completion_parts.specs.WordLists.{before_word, begun_word, row_before}
+use Rattle.tw_completion_parts.specs.WordLists.{before_word, begun_part, row_before}
 use Rattle.tw_completion_parts.specs.declared.file_names.DirectoryEntry.{DirectoryEntry}
 use Rattle.tw_completion_parts.specs.declared.file_names.Listing.{Listing}
 
@@ -41,7 +41,7 @@ names_from entries cursor text =
 
 -- what completes a path before a cursor: names in the directory that stands before its last slash
 abbrev pub path_candidates : List ListingView → ℕ → List ℕ → List CandidateView
-path_candidates listings cursor path = names_from (entries_in listings (before_word (codes "/") path)) cursor (begun_word (codes "/") path)
+path_candidates listings cursor path = names_from (entries_in listings (before_word (codes "/") path)) cursor (begun_part (codes "/") path)
 
 -- what completes the path before the cursor, which goes back to a space or to the start of its row
 abbrev pub file_candidates : List ListingView → Cut → List CandidateView

@@ -4,7 +4,7 @@ use Rattle.std.specs.List.{list_any, suffix_len}
 use Rattle.std.specs.Str.{str_eq_ignore_ascii_case}
 use Rattle.tw_host.specs.CandidateView.{CandidateView}
 use Rattle.tw_hosts.specs.WordCompletion.{word_candidate}
-use Rattle.tw_hosts.specs.Words.{begins_with, last_row}
+use Rattle.tw_hosts.specs.Words.{begins_with, end_row}
 use Rattle.tw_line.specs.Cut.{Cut}
 use Rattle.tw_completion_parts.specs.declared.word_lists.WordList.{WordList}
 
@@ -27,15 +27,15 @@ abbrev pub word_start : List ℕ → List ℕ → ℕ
 word_start delimiters text = length text - suffix_len (λ byte. not (is_delimiter delimiters byte)) text
 
 -- that word, and what stands before it
-abbrev pub begun_word : List ℕ → List ℕ → List ℕ
-begun_word delimiters text = drop (word_start delimiters text) text
+abbrev pub begun_part : List ℕ → List ℕ → List ℕ
+begun_part delimiters text = drop (word_start delimiters text) text
 
 abbrev pub before_word : List ℕ → List ℕ → List ℕ
 before_word delimiters text = take (word_start delimiters text) text
 
 -- what stands before the cursor in its row, which begins after a line feed
 abbrev pub row_before : Cut → List ℕ
-row_before cut = last_row (take cut.cursor cut.line)
+row_before cut = end_row (take cut.cursor cut.line)
 
 -- whether a word begins with a text, where the case of ASCII letters does not count, or does
 abbrev pub begins_in : Bool → List ℕ → List ℕ → Bool
@@ -48,4 +48,4 @@ words_from list cursor text = map (word_candidate (cursor - length text) cursor)
 
 -- what completes the word before the cursor
 abbrev pub listed_candidates : WordListView → Cut → List CandidateView
-listed_candidates list cut = words_from list cut.cursor (begun_word list.delimiters (row_before cut))
+listed_candidates list cut = words_from list cut.cursor (begun_part list.delimiters (row_before cut))

@@ -5,7 +5,7 @@ ghost use Rattle.std.specs.List.{starts_with};
 ghost use Rattle.std.specs.Str.{IsCharBoundary};
 ghost use Rattle.tw_completion_parts.specs.Beginnings.{common_beginning};
 
-/// The greatest boundary of a text, not above one of them, up to which another text is the same.
+/// Returns the greatest boundary of `text`, at most `limit`, up to which `other` is the same.
 fn shared_len(text: &str, limit: usize, other: &str) -> usize
     requires { IsCharBoundary text.now limit }
     ensures within { result ≤ limit }
@@ -21,8 +21,7 @@ fn shared_len(text: &str, limit: usize, other: &str) -> usize
     end
 }
 
-/// The longest text in whole characters with which each of the words begins; the empty one where there is no word. It
-/// takes no memory.
+/// Returns the longest text in whole characters with which each of the words begins. It is empty if there is no word.
 pub fn common_beginning<'words>(words: &'words [String]) -> &'words str
     ensures { result.now ≡ common_beginning (map string_bytes words.now) }
 {

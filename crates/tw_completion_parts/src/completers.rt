@@ -3,7 +3,7 @@
 ghost use Rattle.std.specs.Prelude.{◌≡◌, IfOk, IsCharBoundary, map, option_map};
 ghost use Rattle.tw_host.specs.CandidateView.{candidate_view};
 ghost use Rattle.tw_line.specs.Cut.{cut_at};
-ghost use Rattle.tw_completion_parts.specs.Completers.{candidates_by, completed_by, completer_for, completer_view, context_completer_view};
+ghost use Rattle.tw_completion_parts.specs.Completers.{candidates_by, context_candidates, completer_for, completer_view, context_completer_view};
 ghost use Rattle.tw_completion_parts.specs.FileNames.{listing_view};
 
 use crate::contexts::Context;
@@ -11,7 +11,7 @@ use crate::file_names::{Listing, complete_file_name};
 use crate::word_lists::{WordList, complete_listed};
 use std::alloc::{AllocError, Global};
 use tw_host::CompletionCandidate;
-use tw_hosts::last_row;
+use tw_hosts::end_row;
 
 /// What completes a word.
 #[derive(Debug, Drop)]
@@ -33,7 +33,7 @@ pub struct ContextCompleter {
     pub completer: Completer,
 }
 
-/// The completer of the first context in which stands what is before a cursor.
+/// Returns the completer of the first context that has the text before a cursor.
 fn completer_for<'rows>(rows: &'rows [ContextCompleter], before: &str) -> Option<&'rows Completer>
     ensures { option_map (λ completer. completer_view completer.now) result
         ≡ completer_for (map context_completer_view rows.now) before.now }
@@ -46,7 +46,7 @@ fn completer_for<'rows>(rows: &'rows [ContextCompleter], before: &str) -> Option
     None
 }
 
-/// What a completer offers.
+/// Returns the candidates of a completer.
 fn candidates_by(
     alloc: Global,
     listings: &[Listing],
@@ -68,7 +68,7 @@ fn candidates_by(
 
 /// Returns the candidates of the first completer whose context has what stands before the cursor in its row, if there is
 /// one.
-pub fn completed_by(
+pub fn complete_in_context(
     alloc: Global,
     rows: &[ContextCompleter],
     listings: &[Listing],
@@ -77,10 +77,10 @@ pub fn completed_by(
 ) -> Result<Option<Vec<CompletionCandidate>>, AllocError>
     requires { IsCharBoundary line.now cursor }
     ensures { IfOk result (λ found. option_map (λ it. map candidate_view it.items) found
-        ≡ completed_by (map context_completer_view rows.now) (map listing_view listings.now)
+        ≡ context_candidates (map context_completer_view rows.now) (map listing_view listings.now)
         (cut_at line.now cursor)) }
 {
-    match completer_for(rows, last_row(&line[..cursor])) {
+    match completer_for(rows, end_row(&line[..cursor])) {
         Some(completer) => Ok(Some(candidates_by(alloc, listings, completer, line, cursor)?)),
         None => Ok(None),
     }

@@ -18,7 +18,7 @@ pub enum Context {
 }
 
 impl Context {
-    /// Whether what stands before a cursor is in the context. It takes no memory.
+    /// Returns true if the text before a cursor is in the context.
     pub fn has(&self, before: &str) -> bool
         ensures { result ≡ is_in (context_view self.now) before.now }
     {

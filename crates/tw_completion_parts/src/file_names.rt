@@ -9,7 +9,7 @@ ghost use Rattle.tw_completion_parts.specs.FileNames.{entries_in, entry_text, en
 use crate::word_lists::split_begun;
 use std::alloc::{AllocError, Global};
 use tw_host::CompletionCandidate;
-use tw_hosts::{last_row, last_word};
+use tw_hosts::{end_row, last_word};
 
 /// A name in a directory.
 #[derive(Debug, Drop)]
@@ -31,7 +31,7 @@ pub struct Listing {
 }
 
 impl Listing {
-    /// Whether it is that of a directory.
+    /// Returns true if the listing is that of a directory.
     fn is_of(&self, directory: &str) -> bool
         ensures { result ≡ is_same (listing_view self.now).directory directory.now }
     {
@@ -39,7 +39,7 @@ impl Listing {
     }
 }
 
-/// The entries of the first listing of a directory, and none where it has no listing.
+/// Returns the entries of the first listing of a directory. There are none without a listing.
 fn entries_in<'listings>(
     listings: &'listings [Listing],
     directory: &str,
@@ -54,7 +54,7 @@ fn entries_in<'listings>(
     &[]
 }
 
-/// The name of an entry, with a slash after that of a directory.
+/// Returns the name of an entry, with a slash after that of a directory.
 fn entry_text(alloc: Global, entry: &DirectoryEntry) -> Result<String, AllocError>
     ensures { IfOk result (λ text. string_bytes text ≡ entry_text (entry_view entry.now)) }
 {
@@ -65,7 +65,7 @@ fn entry_text(alloc: Global, entry: &DirectoryEntry) -> Result<String, AllocErro
     Ok(text)
 }
 
-/// The entries whose names begin with a text, for the bytes that it has before a cursor.
+/// Returns the entries whose names begin with `text`, as candidates for the bytes that it has before the cursor.
 fn names_from(
     alloc: Global,
     entries: &[DirectoryEntry],
@@ -101,6 +101,6 @@ pub fn complete_file_name(
     ensures { IfOk result (λ candidates. map candidate_view candidates.items
         ≡ file_candidates (map listing_view listings.now) (cut_at line.now cursor)) }
 {
-    let (directory, text) = split_begun("/", last_word(last_row(&line[..cursor])));
+    let (directory, text) = split_begun("/", last_word(end_row(&line[..cursor])));
     names_from(alloc, entries_in(listings, directory), cursor, text)
 }

@@ -13,7 +13,7 @@ mod shared;
 mod word_lists;
 
 pub use beginnings::common_beginning;
-pub use completers::{Completer, ContextCompleter, completed_by};
+pub use completers::{Completer, ContextCompleter, complete_in_context};
 pub use contexts::Context;
 pub use file_names::{DirectoryEntry, Listing, complete_file_name};
 pub use shared::beginning_first;

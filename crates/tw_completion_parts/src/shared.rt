@@ -8,7 +8,7 @@ use crate::beginnings::common_beginning;
 use std::alloc::{AllocError, Global};
 use tw_host::CompletionCandidate;
 
-/// The texts of candidates.
+/// Returns the texts of candidates.
 fn candidate_texts(
     alloc: Global,
     candidates: &[CompletionCandidate],
@@ -23,14 +23,14 @@ fn candidate_texts(
     Ok(texts)
 }
 
-/// Whether a candidate is for the bytes of the line from `start` to `end`.
+/// Returns true if a candidate is for the bytes of the line from `start` to `end`.
 fn is_for_part(start: usize, end: usize, candidate: &CompletionCandidate) -> bool
     ensures { result ≡ is_for_part start end (candidate_view candidate.now) }
 {
     candidate.range.start == start && candidate.range.end == end
 }
 
-/// Whether all candidates are for the bytes of the line from `start` to `end`.
+/// Returns true if all candidates are for the bytes of the line from `start` to `end`.
 fn is_one_part(start: usize, end: usize, candidates: &[CompletionCandidate]) -> bool
     ensures { result ≡ is_one_part start end (map candidate_view candidates.now) }
 {
@@ -39,8 +39,8 @@ fn is_one_part(start: usize, end: usize, candidates: &[CompletionCandidate]) -> 
         .all(|candidate| is_for_part(start, end, candidate))
 }
 
-/// The candidate for what several candidates share, where all are for one part of the line, and it is longer than that
-/// part.
+/// Returns the text that several candidates share as a candidate, if all are for one part of the line and it is longer
+/// than that part.
 fn shared_candidate(
     alloc: Global,
     candidates: &[CompletionCandidate],

@@ -3,11 +3,11 @@
 ghost use Rattle.std.specs.Prelude.{◌≡◌, IfOk, IsCharBoundary, map};
 ghost use Rattle.tw_host.specs.CandidateView.{candidate_view};
 ghost use Rattle.tw_line.specs.Cut.{cut_at};
-ghost use Rattle.tw_completion_parts.specs.WordLists.{before_word, begins_in, begun_word, is_delimiter, listed_candidates, word_list_view, word_start, words_from};
+ghost use Rattle.tw_completion_parts.specs.WordLists.{before_word, begins_in, begun_part, is_delimiter, listed_candidates, word_list_view, word_start, words_from};
 
 use std::alloc::{AllocError, Global};
 use tw_host::CompletionCandidate;
-use tw_hosts::last_row;
+use tw_hosts::end_row;
 
 /// Words, and how what is begun of one is found in a line.
 #[derive(Debug, Drop)]
@@ -47,7 +47,7 @@ fn word_start(delimiters: &str, text: &str) -> usize
 /// Splits a text before its last word, which begins after the last of these delimiters.
 pub fn split_begun<'text>(delimiters: &str, text: &'text str) -> (&'text str, &'text str)
     ensures before { result.0.now ≡ before_word delimiters.now text.now }
-    ensures word { result.1.now ≡ begun_word delimiters.now text.now }
+    ensures word { result.1.now ≡ begun_part delimiters.now text.now }
 {
     text.split_at(word_start(delimiters, text))
 }
@@ -99,6 +99,6 @@ pub fn complete_listed(
     ensures { IfOk result (λ candidates. map candidate_view candidates.items
         ≡ listed_candidates (word_list_view list.now) (cut_at line.now cursor)) }
 {
-    let (_, text) = split_begun(list.delimiters.as_str(), last_row(&line[..cursor]));
+    let (_, text) = split_begun(list.delimiters.as_str(), end_row(&line[..cursor]));
     words_from(alloc, list, cursor, text)
 }

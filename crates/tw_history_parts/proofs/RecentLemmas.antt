@@ -15,7 +15,7 @@ use Rattle.tw_line.specs.HistoryAdditions.{is_line}
 use Rattle.tw_line.specs.NearestMatch.{last_line, line_at}
 use Rattle.tw_line.proofs.BoundedLemmas.{last_line_newest}
 use Rattle.tw_history_parts.specs.Reading.{AddsAll}
-use Rattle.tw_history_parts.specs.Recent.{AreUnique, RecentLines, StaysUnique, is_other, older_lines, with_recent, without}
+use Rattle.tw_history_parts.specs.Recent.{AreUnique, RecentLines, StaysUnique, is_another, older_lines, with_recent, lines_without}
 
 -- a line that is put after others is the last of the newest
 pub last_is_added : (limit : ℕ) (older : List (List ℕ)) (line : List ℕ) → 0 < limit → last_line (newest limit (older ++ line ∷ [])) ≡ Some line
@@ -41,23 +41,23 @@ module _ {X : Type 0} (R : X → X → Type 0) where
   AllPairs-drop (suc k) (x ∷ xs) pairs = AllPairs-drop k xs (AllPairs-tail x xs pairs)
 
 -- a line that is another one, and one that is not
-other_differs : (line older : List ℕ) → is_other line older ≡ true → older ≢ line
+other_differs : (line older : List ℕ) → is_another line older ≡ true → older ≢ line
 other_differs line older other same = true≢false (sym other ∙ ap not ((bytes_decides older line).1 same))
 
-differs_other : (line older : List ℕ) → older ≢ line → is_other line older ≡ true
+differs_other : (line older : List ℕ) → older ≢ line → is_another line older ≡ true
 differs_other line older differs = ap not (false_from_ne_true _ (λ same. differs ((bytes_decides older line).0 same)))
 
-same_other : (line older : List ℕ) → older ≡ line → is_other line older ≡ false
+same_other : (line older : List ℕ) → older ≡ line → is_another line older ≡ false
 same_other line older same = ap not ((bytes_decides older line).1 same)
 
 -- lines none of which is this one
-others_all : (line : List ℕ) (lines : List (List ℕ)) → All (λ older. older ≢ line) lines → filter (is_other line) lines ≡ lines
+others_all : (line : List ℕ) (lines : List (List ℕ)) → All (λ older. older ≢ line) lines → filter (is_another line) lines ≡ lines
 others_all line [] all = refl
 others_all line (x ∷ lines) all =
     rw (differs_other line x (all 0 [] (omega arith))) (ap (λ l. x ∷ l) (others_all line lines (λ k d lt. all (suc k) d (omega (arith, lt)))))
 
 -- and lines one of which is
-others_found : (line : List ℕ) (lines : List (List ℕ)) (at : ℕ) → AreUnique lines → at < length lines → line_at lines at ≡ line → remove lines at ≡ filter (is_other line) lines
+others_found : (line : List ℕ) (lines : List (List ℕ)) (at : ℕ) → AreUnique lines → at < length lines → line_at lines at ≡ line → remove lines at ≡ filter (is_another line) lines
 others_found line [] at unique low is = absurd (omega (arith, low))
 others_found line (x ∷ lines) zero unique low is =
     rw (same_other line x is) (sym (others_all line lines (λ k d lt same. unique 0 (suc k) d (omega arith) (omega (arith, lt)) (is ∙ sym same))))
@@ -66,12 +66,12 @@ others_found line (x ∷ lines) (suc at) unique low is =
     (ap (λ l. x ∷ l) (others_found line lines at (AllPairs-tail (λ older newer. older ≢ newer) x lines unique) (omega (arith, low)) is))
 
 others_are : (line : List ℕ) (lines : List (List ℕ)) (double : Option ℕ) → AreUnique lines → IfSome double (λ at. at < length lines)
-    → IfSome double (λ at. line_at lines at ≡ line) → (double ≡ None → All (λ older. older ≢ line) lines) → without double lines ≡ filter (is_other line) lines
+    → IfSome double (λ at. line_at lines at ≡ line) → (double ≡ None → All (λ older. older ≢ line) lines) → lines_without double lines ≡ filter (is_another line) lines
 others_are line lines None unique low is none = sym (others_all line lines (none refl))
 others_are line lines (Some at) unique low is none = others_found line lines at unique low is
 
 pub others_in : (h : RecentLines) (line : List ℕ) (double : Option ℕ) → h.is_unique ≡ true → AreUnique h.lines → IfSome double (λ at. at < length h.lines)
-    → IfSome double (λ at. line_at h.lines at ≡ line) → (double ≡ None → All (λ older. older ≢ line) h.lines) → without double h.lines ≡ older_lines h line
+    → IfSome double (λ at. line_at h.lines at ≡ line) → (double ≡ None → All (λ older. older ≢ line) h.lines) → lines_without double h.lines ≡ older_lines h line
 others_in h line double is_unique unique low is none = rw is_unique (others_are line h.lines double unique low is none)
 
 -- one more line that is another one
@@ -82,11 +82,11 @@ none_more lines line found at low is other none =
     (λ d same. true≢false (sym ((bytes_decides found line).1 (is ∙ get_or_default lines at [] d low ∙ same)) ∙ other))
 
 -- the newest of lines that stand once, and of one that is added
-added_unique : (limit : ℕ) (lines : List (List ℕ)) (line : List ℕ) → AreUnique lines → AreUnique (newest limit (filter (is_other line) lines ++ line ∷ []))
+added_unique : (limit : ℕ) (lines : List (List ℕ)) (line : List ℕ) → AreUnique lines → AreUnique (newest limit (filter (is_another line) lines ++ line ∷ []))
 added_unique limit lines line unique =
     AllPairs-drop (λ older newer. older ≢ newer) _ _
-    (AllPairs-push (λ older newer. older ≢ newer) _ line (AllPairs-filter (λ older newer. older ≢ newer) (is_other line) lines unique)
-    (λ k d lt. other_differs line _ (filter_passes (is_other line) lines k d lt)))
+    (AllPairs-push (λ older newer. older ≢ newer) _ line (AllPairs-filter (λ older newer. older ≢ newer) (is_another line) lines unique)
+    (λ k d lt. other_differs line _ (filter_passes (is_another line) lines k d lt)))
 
 unique_with : (h : RecentLines) (line : List ℕ) (x : Bool) → is_line line (last_line h.lines) ≡ x → h.is_unique ≡ true → AreUnique h.lines → AreUnique (with_recent h line).lines
 unique_with h line true e is_unique unique = rw e unique
@@ -99,8 +99,8 @@ stays_unique h line is_unique unique = unique_with h line _ refl is_unique uniqu
 pub unique_after : {R E : Type 0} (r : Result R E) (h : RecentLines) (others new : List (List ℕ)) (line text : List ℕ) → text ≡ line → (h.is_unique ≡ true → AreUnique h.lines)
     → others ≡ older_lines h line → OnOk r (new ≡ newest h.limit (others ++ text ∷ [])) → OnErr r (new ≡ h.lines) → h.is_unique ≡ true → AreUnique new
 unique_after (Ok value) h others new line text is unique are added refused is_unique =
-    let kept : others ≡ filter (is_other line) h.lines = rw is_unique at are in
-    subst AreUnique (sym (added ∙ ap (λ l. newest h.limit (l ++ text ∷ [])) kept ∙ ap (λ t. newest h.limit (filter (is_other line) h.lines ++ t ∷ [])) is))
+    let kept : others ≡ filter (is_another line) h.lines = rw is_unique at are in
+    subst AreUnique (sym (added ∙ ap (λ l. newest h.limit (l ++ text ∷ [])) kept ∙ ap (λ t. newest h.limit (filter (is_another line) h.lines ++ t ∷ [])) is))
     (added_unique h.limit h.lines line (unique is_unique))
 unique_after (Err fault) h others new line text is unique are added refused is_unique = subst AreUnique (sym refused) (unique is_unique)
 

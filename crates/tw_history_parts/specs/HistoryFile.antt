@@ -89,8 +89,8 @@ abbrev pub lost_in : List ℕ → ℕ
 lost_in bytes = length (whole_lines (ended bytes)) - length (lines_in bytes)
 
 -- what of a file is not read
-abbrev pub unread_in : List ℕ → Option Unread
-unread_in bytes = if lost_in bytes == 0 then None else Some (Lines (lost_in bytes))
+abbrev pub unread_lines : List ℕ → Option Unread
+unread_lines bytes = if lost_in bytes == 0 then None else Some (Lines (lost_in bytes))
 
 -- bytes that are cut at their first line feed
 abbrev pub IsCutAtFeed : List ℕ → List ℕ → List ℕ → Type 0

@@ -20,21 +20,21 @@ abbrev pub no_recent_lines : ℕ → Bool → RecentLines
 no_recent_lines limit is_unique = record { lines = []; limit = at_least_one limit; is_unique = is_unique }
 
 -- whether an older line is another one
-abbrev pub is_other : List ℕ → List ℕ → Bool
-is_other line older = not (pointwise eqb older line)
+abbrev pub is_another : List ℕ → List ℕ → Bool
+is_another line older = not (pointwise eqb older line)
 
 -- the lines that stay where one is added: the others, if none is to stand twice
 abbrev pub older_lines : RecentLines → List ℕ → List (List ℕ)
-older_lines h line = if h.is_unique then filter (is_other line) h.lines else h.lines
+older_lines h line = if h.is_unique then filter (is_another line) h.lines else h.lines
 
 -- the newest of these and the line; one that is the last line already changes nothing
 abbrev pub with_recent : RecentLines → List ℕ → RecentLines
 with_recent h line = if is_line line (last_line h.lines) then h else record h { lines = newest h.limit (older_lines h line ++ line ∷ []) }
 
 -- the lines without the one at an index, if there is one
-abbrev pub without : Option ℕ → List (List ℕ) → List (List ℕ)
-without None lines = lines
-without (Some at) lines = remove lines at
+abbrev pub lines_without : Option ℕ → List (List ℕ) → List (List ℕ)
+lines_without None lines = lines
+lines_without (Some at) lines = remove lines at
 
 -- no line stands twice
 abbrev pub AreUnique : List (List ℕ) → Type 0

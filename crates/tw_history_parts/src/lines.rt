@@ -16,7 +16,8 @@ fn push_escaped(written: &mut Vec<u8>, byte: u8) -> Result<(), AllocError>
     }
 }
 
-/// What a line is written as: a backslash is two of them, and a line feed a backslash and an `n`. A line feed ends it.
+/// Returns a line as it is written: a backslash as two, a line feed as a backslash and an `n`, and a line feed at its
+/// end.
 pub fn written_line(alloc: Global, line: &str) -> Result<Vec<u8>, AllocError>
     ensures { IfOk result (λ written. written.items ≡ written_line line.now) }
 {
@@ -29,7 +30,7 @@ pub fn written_line(alloc: Global, line: &str) -> Result<Vec<u8>, AllocError>
     Ok(written)
 }
 
-/// What stands before the first line feed, and what follows it, if there is one.
+/// Splits bytes at the first line feed, if there is one.
 pub fn split_line(bytes: &[u8]) -> Option<(&[u8], &[u8])>
     ensures cut { IfSome result (λ parts. IsCutAtFeed bytes.now parts.0.now parts.1.now) }
     ensures shorter { IfSome result (λ parts. length parts.1.now < length bytes.now) }
@@ -65,7 +66,8 @@ fn push_meant(bytes: &mut Vec<u8>, escapes: bool, byte: u8) -> Result<Option<boo
     }
 }
 
-/// What a text of a file stands for, or none where a backslash stands before another byte, or at the end.
+/// Returns the bytes that a text of a file stands for, or `None` if a backslash stands before another byte or at the
+/// end.
 fn unescape(alloc: Global, text: &[u8]) -> Result<Option<Vec<u8>>, AllocError>
     ensures { IfOk result (λ bytes. option_map (λ bytes. bytes.items) bytes ≡ unescaped text.now) }
 {
@@ -80,7 +82,7 @@ fn unescape(alloc: Global, text: &[u8]) -> Result<Option<Vec<u8>>, AllocError>
     Ok(if escapes { None } else { Some(bytes) })
 }
 
-/// The text that some bytes are, if they are one.
+/// Returns bytes as a text, if they are UTF-8.
 #[tactic(auto, using(crate::proofs::EscapeLemmas::text_is, crate::proofs::EscapeLemmas::no_text))]
 fn text_of(bytes: Vec<u8>) -> Option<String>
     ensures { option_map string_bytes result ≡ if_text bytes.items }
@@ -91,7 +93,7 @@ fn text_of(bytes: Vec<u8>) -> Option<String>
     }
 }
 
-/// The line that a text of a file is, if it is one.
+/// Returns the line that a text of a file stands for, if it stands for one.
 pub fn line_of(alloc: Global, text: &[u8]) -> Result<Option<String>, AllocError>
     ensures { IfOk result (λ line. option_map string_bytes line ≡ line_of text.now) }
 {

@@ -6,7 +6,7 @@ ghost use Rattle.std.specs.Prelude.{◌≡◌, ◌≢◌, ◌≤◌, ◌<◌, �
 ghost use Rattle.tw_line.specs.Bounded.{lines_of_entries, newest};
 ghost use Rattle.tw_line.specs.HistoryAdditions.{is_line, match_view};
 ghost use Rattle.tw_line.specs.NearestMatch.{last_line, line_at, nearest_match};
-ghost use Rattle.tw_history_parts.specs.Recent.{at_least_one, no_recent_lines, older_lines, with_recent, without};
+ghost use Rattle.tw_history_parts.specs.Recent.{at_least_one, no_recent_lines, older_lines, with_recent, lines_without};
 
 use std::alloc::{AllocError, Global};
 use std::borrow::CowStr;
@@ -68,7 +68,7 @@ fn push_recent(
     requires fits { length entries.old.items ≤ limit }
     requires inside { IfSome double (λ at. at < length entries.old.items) }
     ensures ok { OnOk result (lines_of_entries entries.new.items
-        ≡ newest limit (without double (lines_of_entries entries.old.items)
+        ≡ newest limit (lines_without double (lines_of_entries entries.old.items)
         ++ string_bytes entry ∷ [])) }
     ensures fits { length entries.new.items ≤ limit }
     ensures err { OnErr result (lines_of_entries entries.new.items
@@ -138,7 +138,7 @@ impl RecentHistory {
     #[tactic(auto, using(crate::proofs::RecentLemmas::others_in))]
     fn double_of(&self, line: &str) -> Option<HistoryIndex>
         ensures inside { IfSome result (λ at. at < length self.now.lines) }
-        ensures others { without result self.now.lines ≡ older_lines self.now line.now }
+        ensures others { lines_without result self.now.lines ≡ older_lines self.now line.now }
     {
         if self.is_unique {
             self.index_of(line)
@@ -165,7 +165,7 @@ impl History for RecentHistory {
 
     ghost add_gives = { λ history line grown. grown ≡ with_recent history line };
 
-    /// The line at `idx`, which is lent and not copied. Takes no memory.
+    /// Lends the line at `idx`. Takes no memory.
     fn get(&self, _alloc: Global, idx: HistoryIndex) -> Result<Option<CowStr<'_>>, AllocError>
         ensures line { IsOkAnd result (λ line. option_map cow_str_bytes line
             ≡ slice_get self.now.lines idx) }
@@ -197,7 +197,7 @@ impl History for RecentHistory {
         push_recent(&mut self.entries, entry, double, self.limit)
     }
 
-    /// The nearest match. Each line on the side is read once at most, and none is copied. Takes no memory.
+    /// Lends the nearest match, and reads each line on the side at most once. Takes no memory.
     fn search(
         &self,
         _alloc: Global,

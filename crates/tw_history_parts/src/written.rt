@@ -3,7 +3,7 @@
 ghost use Rattle.std.specs.Cow.{cow_str_bytes};
 ghost use Rattle.std.specs.Prelude.{◌≡◌, ◌∷◌, [], IfOk, IfSome, IsCharBoundary, None, OnErr, OnOk, Some, false, is_none, option_map, slice_get, true};
 ghost use Rattle.tw_line.specs.NearestMatch.{last_line};
-ghost use Rattle.tw_history_parts.specs.HistoryFile.{is_cut_off, lines_in, unread_in};
+ghost use Rattle.tw_history_parts.specs.HistoryFile.{is_cut_off, lines_in, unread_lines};
 ghost use Rattle.tw_history_parts.specs.Reading.{AddsAll};
 ghost use Rattle.tw_history_parts.specs.Recent.{at_least_one};
 ghost use Rattle.tw_history_parts.specs.Written.{IsPut, Writes};
@@ -64,7 +64,7 @@ impl<L: History, W: Write + Drop> WrittenHistory<L, W> {
         L: Drop,
         ensures added { IfOk result (λ it. AddsAll L.add_gives (lines_in bytes.now)
             history it.history) }
-        ensures unread { IfOk result (λ it. it.unread ≡ unread_in bytes.now) }
+        ensures unread { IfOk result (λ it. it.unread ≡ unread_lines bytes.now) }
         ensures failed { IfOk result (λ it. it.has_failed ≡ is_none it.writer) }
         ensures ended { is_cut_off bytes.now ≡ true → IfOk result (λ it.
             IsPut W.contents (10 ∷ []) (is_none writer) writer it.has_failed it.writer) }

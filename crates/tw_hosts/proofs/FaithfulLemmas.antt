@@ -6,7 +6,7 @@ use Rattle.tw_host.specs.ElementView.{ElementView, Attribute, AllAttributes, Tex
 use Rattle.tw_host.specs.Faithful.{text_of_elements, IsFaithful}
 use Rattle.tw_hosts.specs.FaithfulParts.{StyledIsText, TokensAreLine}
 use Rattle.tw_hosts.specs.TableRules.{table_rules}
-use Rattle.tw_hosts.specs.Tokens.{before, is_quote, joined, quote_len, shown_in, style_of, styled_tokens, token_len, up_to, word_len}
+use Rattle.tw_hosts.specs.Tokens.{text_before, is_quote, joined_elements, quote_len, styled_or_plain, style_of, styled_tokens, token_len, up_to, word_len}
 use Rattle.tw_surface.specs.declared.cell.CellAttributes.{CellAttributes}
 use Rattle.tw_hosts.specs.declared.tokens.Styles.{Styles}
 
@@ -21,21 +21,21 @@ pub styled_is_text : StyledIsText
 styled_is_text attributes text = append-nil text
 
 -- a token's elements are the token
-token-text : (style : Option CellAttributes) (token : List ℕ) → text_of_elements (shown_in style token) ≡ token
+token-text : (style : Option CellAttributes) (token : List ℕ) → text_of_elements (styled_or_plain style token) ≡ token
 token-text (Some attributes) token = append-nil token
 token-text None token = append-nil token
 
 -- joined elements have their texts
-before-text : (text : List ℕ) (elements : List ElementView) → text_of_elements (before text elements) ≡ text ++ text_of_elements elements
+before-text : (text : List ℕ) (elements : List ElementView) → text_of_elements (text_before text elements) ≡ text ++ text_of_elements elements
 before-text [] elements = refl
 before-text (byte ∷ rest) [] = refl
 before-text (byte ∷ rest) (Text text ∷ elements) = append_assoc (byte ∷ rest) text (text_of_elements elements)
 before-text (byte ∷ rest) (Attribute change ∷ elements) = refl
 before-text (byte ∷ rest) (AllAttributes attributes ∷ elements) = refl
 
-joined-text : (elements : List ElementView) → text_of_elements (joined elements) ≡ text_of_elements elements
+joined-text : (elements : List ElementView) → text_of_elements (joined_elements elements) ≡ text_of_elements elements
 joined-text [] = refl
-joined-text (Text text ∷ elements) = before-text text (joined elements) ∙ ap (λ rest. text ++ rest) (joined-text elements)
+joined-text (Text text ∷ elements) = before-text text (joined_elements elements) ∙ ap (λ rest. text ++ rest) (joined-text elements)
 joined-text (Attribute change ∷ elements) = joined-text elements
 joined-text (AllAttributes attributes ∷ elements) = joined-text elements
 
@@ -75,7 +75,7 @@ tokens-text (suc count) styles keywords (byte ∷ rest) low =
     let some : 0 < len = some-token byte rest in
     let left : length (drop len text) ≤ count = omega (arith, length-drop len text, some, low) in
     let style = style_of styles keywords (take len text) in
-    text-append (shown_in style (take len text)) (styled_tokens count styles keywords (drop len text))
+    text-append (styled_or_plain style (take len text)) (styled_tokens count styles keywords (drop len text))
     ∙ ap (λ t. t ++ text_of_elements (styled_tokens count styles keywords (drop len text))) (token-text style (take len text))
     ∙ ap (λ t. take len text ++ t) (tokens-text count styles keywords (drop len text) left)
     ∙ take-append-drop len text

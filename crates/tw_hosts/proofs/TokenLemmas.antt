@@ -6,7 +6,7 @@ use Rattle.std.proofs.lemmas.Bool.Decides.{eqb_tells}
 use Rattle.std.proofs.lemmas.List.{get_or-drop, get_or-take, length-drop, length-take}
 use Rattle.std.proofs.lemmas.List.Sums.{position_or_len_is, fails_before_first, passes_at_first}
 use Rattle.std.proofs.lemmas.Str.{IsCharBoundary-after_ascii}
-use Rattle.tw_hosts.specs.Tokens.{up_to, is_quote, shown_in, style_of, styled_tokens, token_len}
+use Rattle.tw_hosts.specs.Tokens.{up_to, is_quote, styled_or_plain, style_of, styled_tokens, token_len}
 use Rattle.tw_hosts.specs.declared.tokens.Styles.{Styles}
 
 -- the first mark stands at k, or there is none and k is the length
@@ -74,13 +74,13 @@ tokens-none (suc count) styles keywords [] e = refl
 tokens-none (suc count) styles keywords (byte ∷ rest) e = absurd (omega (arith, e))
 
 pub tokens-step : (left next : ℕ) (styles : Styles) (keywords : List (List ℕ)) (text : List ℕ) → left ≡ next + 1 → 0 < length text
-    → styled_tokens left styles keywords text ≡ shown_in (style_of styles keywords (take (token_len text) text)) (take (token_len text) text) ++ styled_tokens next styles keywords (drop (token_len text) text)
+    → styled_tokens left styles keywords text ≡ styled_or_plain (style_of styles keywords (take (token_len text) text)) (take (token_len text) text) ++ styled_tokens next styles keywords (drop (token_len text) text)
 unfolding styled_tokens
 tokens-step zero next styles keywords text e some = absurd (omega (arith, e))
 tokens-step (suc left) next styles keywords [] e some = absurd (omega (arith, some))
 tokens-step (suc left) next styles keywords (byte ∷ rest) e some =
     let same : left ≡ next = omega (arith, e) in
-    ap (λ n. shown_in (style_of styles keywords (take (token_len (byte ∷ rest)) (byte ∷ rest))) (take (token_len (byte ∷ rest)) (byte ∷ rest)) ++ styled_tokens n styles keywords (drop (token_len (byte ∷ rest)) (byte ∷ rest))) same
+    ap (λ n. styled_or_plain (style_of styles keywords (take (token_len (byte ∷ rest)) (byte ∷ rest))) (take (token_len (byte ∷ rest)) (byte ∷ rest)) ++ styled_tokens n styles keywords (drop (token_len (byte ∷ rest)) (byte ∷ rest))) same
 
 -- where nothing is left to show, all was shown
 pub tokens-zero : (count : ℕ) (styles : Styles) (keywords : List (List ℕ)) (text : List ℕ) → count ≡ 0 → styled_tokens count styles keywords text ≡ []

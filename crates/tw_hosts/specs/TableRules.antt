@@ -6,7 +6,7 @@ use Rattle.tw_host.specs.HostRules.{HostRules, Highlight, plain_rules}
 use Rattle.tw_hosts.specs.Bindings.{resolved_event}
 use Rattle.tw_hosts.specs.Hints.{HintView, hint_view, hint_elements}
 use Rattle.tw_hosts.specs.Tokens.{styled_line}
-use Rattle.tw_hosts.specs.WordCompletion.{completions}
+use Rattle.tw_hosts.specs.WordCompletion.{word_completions}
 use Rattle.tw_hosts.specs.declared.bindings.KeyBinding.{KeyBinding}
 use Rattle.tw_hosts.specs.declared.table_host.Tables.{Tables}
 use Rattle.tw_hosts.specs.declared.tokens.Styles.{Styles}
@@ -40,6 +40,6 @@ abbrev pub table_rules : HostRules TablesView
 table_rules = record (plain_rules (λ (v : TablesView). v.lines)) {
   preview = λ v line. hint_elements v.hints line;
   highlight = styled_highlight;
-  candidates = λ v cut. completions v.words cut;
+  candidates = λ v cut. word_completions v.words cut;
   resolve = λ v event cut. resolved_event v v.keys event cut;
 }

@@ -40,9 +40,9 @@ style_of styles keywords token =
     else None
 
 -- a text in a style, or as it is
-abbrev pub shown_in : Option CellAttributes → List ℕ → List ElementView
-shown_in (Some attributes) text = styled_text attributes text
-shown_in None text = Text text ∷ []
+abbrev pub styled_or_plain : Option CellAttributes → List ℕ → List ElementView
+styled_or_plain (Some attributes) text = styled_text attributes text
+styled_or_plain None text = Text text ∷ []
 
 -- the first so many tokens of a text
 unfoldable pub styled_tokens : ℕ → Styles → List (List ℕ) → List ℕ → List ElementView
@@ -51,21 +51,21 @@ styled_tokens (suc count) styles keywords [] = []
 styled_tokens (suc count) styles keywords (byte ∷ rest) =
     let text = byte ∷ rest in
     let token = take (token_len text) text in
-    shown_in (style_of styles keywords token) token ++ styled_tokens count styles keywords (drop (token_len text) text)
+    styled_or_plain (style_of styles keywords token) token ++ styled_tokens count styles keywords (drop (token_len text) text)
 
 -- a text before elements: it joins a text with which they begin, and the empty one is no element
-abbrev pub before : List ℕ → List ElementView → List ElementView
-before [] elements = elements
-before (byte ∷ rest) (Text text ∷ elements) = Text (byte ∷ rest ++ text) ∷ elements
-before (byte ∷ rest) elements = Text (byte ∷ rest) ∷ elements
+abbrev pub text_before : List ℕ → List ElementView → List ElementView
+text_before [] elements = elements
+text_before (byte ∷ rest) (Text text ∷ elements) = Text (byte ∷ rest ++ text) ∷ elements
+text_before (byte ∷ rest) elements = Text (byte ∷ rest) ∷ elements
 
 -- elements whose texts are joined, where no attributes stand between them
-abbrev pub joined : List ElementView → List ElementView
-joined [] = []
-joined (Text text ∷ elements) = before text (joined elements)
-joined (Attribute change ∷ elements) = Attribute change ∷ joined elements
-joined (AllAttributes attributes ∷ elements) = AllAttributes attributes ∷ joined elements
+abbrev pub joined_elements : List ElementView → List ElementView
+joined_elements [] = []
+joined_elements (Text text ∷ elements) = text_before text (joined_elements elements)
+joined_elements (Attribute change ∷ elements) = Attribute change ∷ joined_elements elements
+joined_elements (AllAttributes attributes ∷ elements) = AllAttributes attributes ∷ joined_elements elements
 
 -- all tokens of a line: it has no more than bytes
 abbrev pub styled_line : Styles → List (List ℕ) → List ℕ → List ElementView
-styled_line styles keywords line = joined (styled_tokens (length line) styles keywords line)
+styled_line styles keywords line = joined_elements (styled_tokens (length line) styles keywords line)

@@ -13,5 +13,5 @@ abbrev pub word_candidates : ℕ → List ℕ → List (List ℕ) → List Candi
 word_candidates cursor word words = map (word_candidate (cursor - length word) cursor) (filter (begins_with word) words)
 
 -- what completes the word before the cursor
-abbrev pub completions : List (List ℕ) → Cut → List CandidateView
-completions words cut = word_candidates cut.cursor (last_word (take cut.cursor cut.line)) words
+abbrev pub word_completions : List (List ℕ) → Cut → List CandidateView
+word_completions words cut = word_candidates cut.cursor (last_word (take cut.cursor cut.line)) words

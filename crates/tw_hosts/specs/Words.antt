@@ -33,5 +33,5 @@ abbrev pub last_word : List ℕ → List ℕ
 last_word text = after_last (λ byte. byte == 32) text
 
 -- what stands after its last line feed, or all of it where it has none
-abbrev pub last_row : List ℕ → List ℕ
-last_row text = after_last (λ byte. byte == 10) text
+abbrev pub end_row : List ℕ → List ℕ
+end_row text = after_last (λ byte. byte == 10) text

@@ -60,7 +60,7 @@ fn is_same(key: KeyEvent, other: KeyEvent) -> bool
     key == other
 }
 
-/// What the first row with this key says. It takes no memory.
+/// Returns the binding of the first row with this key.
 pub fn bound(rows: &[KeyBinding], key: KeyEvent) -> Option<Binding>
     ensures { result ≡ bound rows.now key }
 {
@@ -72,7 +72,7 @@ pub fn bound(rows: &[KeyBinding], key: KeyEvent) -> Option<Binding>
     None
 }
 
-/// The action of a binding. A line that is to be cleared is killed up to its end, which ends a completion.
+/// Returns the action of a binding. That of `Clear`, whose line is emptied before, is a kill, which ends a completion.
 pub fn binding_action(binding: Binding) -> Action
     ensures { action_view result ≡ binding_action binding }
 {
@@ -95,7 +95,7 @@ pub fn binding_action(binding: Binding) -> Action
     }
 }
 
-/// Empties the line where a binding clears it.
+/// Empties the line if the binding clears it.
 fn clear_if(binding: Binding, editor: &mut LineEditBuffer)
     ensures { editor.new ≡ binding_cut binding editor.old }
 {
@@ -104,8 +104,7 @@ fn clear_if(binding: Binding, editor: &mut LineEditBuffer)
     }
 }
 
-/// What the table makes of an event, for a host's `resolve_action`: the action of a key that has a row, and none for
-/// every other event. It takes no memory.
+/// Returns the action of a key that has a row, and `None` for every other event: a body for a host's `resolve_action`.
 pub fn resolve_key(
     rows: &[KeyBinding],
     event: &InputEvent,

@@ -19,7 +19,7 @@ pub struct Hint {
 }
 
 impl Hint {
-    /// Whether the hint is for a word.
+    /// Returns true if the hint is for a word.
     fn is_for(&self, word: &str) -> bool
         ensures { result ≡ is_same (hint_view self.now).word word.now }
     {
@@ -27,7 +27,7 @@ impl Hint {
     }
 }
 
-/// The text of the first hint for a word.
+/// Returns the text of the first hint for a word.
 fn hint_for<'hints>(hints: &'hints [Hint], word: &str) -> Option<&'hints str>
     ensures { option_map (λ text. text.now) result ≡ hint_for (map hint_view hints.now) word.now }
 {
@@ -39,7 +39,7 @@ fn hint_for<'hints>(hints: &'hints [Hint], word: &str) -> Option<&'hints str>
     None
 }
 
-/// What is shown under a line: the text of the first hint for its first word, and else nothing.
+/// Returns what is shown under a line: the text of the first hint for its first word, or nothing.
 pub fn show_hint(
     alloc: Global,
     hints: &[Hint],

@@ -31,7 +31,7 @@ pub struct PromptScreen {
 }
 
 impl PromptScreen {
-    /// The column to answer for the cursor, which is a boundary of the line: see `settled_column`. It takes no memory.
+    /// Returns the column of a cursor at the byte offset `cursor`, as `settled_column` does.
     pub fn column(&self, line: &str, cursor: usize) -> usize
         requires { IsCharBoundary line.now cursor }
         ensures { result ≡ column_on (screen_view self.now) (cut_at line.now cursor) }
@@ -50,14 +50,14 @@ impl PromptScreen {
     }
 }
 
-/// The columns of a character by itself: none for a control character.
+/// Returns the columns of a character by itself: 0 for a control character.
 fn char_columns(c: char) -> usize
     ensures value { result ≡ char_columns c }
 {
     c.width().unwrap_or(0)
 }
 
-/// Whether several characters of a cluster take columns, and together as many as it.
+/// Returns true if several characters of a cluster take columns, and together as many as the cluster.
 fn is_parted(cluster: &str) -> bool
     ensures { result ≡ is_parted cluster.now }
 {
@@ -73,7 +73,7 @@ fn is_parted(cluster: &str) -> bool
     left == 0
 }
 
-/// The extent after the characters of a text that take columns, each by itself.
+/// Returns the extent after the characters of a text that take columns, each by itself.
 fn after_characters(cols: usize, start: Extent, text: &str) -> Option<Extent>
     requires cols { cols ≤ 65535 }
     requires range { is_in_range (place_of start) ≡ true }
@@ -90,7 +90,7 @@ fn after_characters(cols: usize, start: Extent, text: &str) -> Option<Extent>
     Some(extent)
 }
 
-/// The extent after a cluster.
+/// Returns the extent after a grapheme cluster.
 fn after_cluster(cols: usize, start: Extent, cluster: &str) -> Option<Extent>
     requires cols { cols ≤ 65535 }
     requires range { is_in_range (place_of start) ≡ true }
@@ -103,7 +103,7 @@ fn after_cluster(cols: usize, start: Extent, cluster: &str) -> Option<Extent>
     }
 }
 
-/// The extent after a text, or `None` where a place on the way is out of range.
+/// Returns the extent after a text, or `None` if a place on the way is out of range.
 #[tactic(auto, unfolding(crate::specs::Settling::settled_pieces, tw_surface::specs::Places::pieces))]
 fn after_pieces(cols: usize, start: Extent, text: &str) -> Option<Extent>
     requires cols { cols ≤ 65535 }
@@ -122,7 +122,7 @@ fn after_pieces(cols: usize, start: Extent, text: &str) -> Option<Extent>
     Some(extent)
 }
 
-/// The columns that the first character needs which takes some, and 1 where none does.
+/// Returns the width of the first character that is not zero-width, or 1.
 fn needed_by_characters(text: &str) -> usize
     ensures { result ≡ needed (character_pieces (chars text.now)) }
 {
@@ -135,7 +135,8 @@ fn needed_by_characters(text: &str) -> usize
     1
 }
 
-/// The columns that the first piece of a cluster needs: one at least, for the cursor itself.
+/// Returns the columns that the first piece of a cluster needs, and 1 for a cluster without width: the cursor itself
+/// takes one.
 fn needed_by_cluster(cluster: &str) -> usize
     ensures { result ≡ needed (cell_pieces cluster.now) }
 {
@@ -148,7 +149,7 @@ fn needed_by_cluster(cluster: &str) -> usize
     }
 }
 
-/// The columns that the beginning of a text needs.
+/// Returns the columns that the beginning of a text needs.
 #[tactic(auto, unfolding(crate::specs::Settling::needed_by_text))]
 fn needed_by_text(text: &str) -> usize
     ensures { result ≡ needed_by_text text.now }
@@ -162,7 +163,7 @@ fn needed_by_text(text: &str) -> usize
     }
 }
 
-/// The cell in which something of so many columns begins after a place.
+/// Returns the cell in which something of `width` columns begins after a place.
 fn begins_at(cols: usize, width: usize, end: Extent) -> (usize, isize)
     requires cols { cols ≤ 65535 }
     requires range { is_in_range (place_of end) ≡ true }
@@ -175,7 +176,7 @@ fn begins_at(cols: usize, width: usize, end: Extent) -> (usize, isize)
     }
 }
 
-/// How many rows a row is below another one.
+/// Returns how many rows the row `to` is below the row `from`.
 #[tactic(auto, using(crate::proofs::SettlingLemmas::no_row, crate::proofs::SettlingLemmas::some_rows))]
 fn rows_down(from: isize, to: isize) -> usize
     requires from { nat_abs from ≤ 2147483647 }
@@ -186,7 +187,7 @@ fn rows_down(from: isize, to: isize) -> usize
     if to < from { 0 } else { (to - from) as usize }
 }
 
-/// The columns from a place to a cell by division, or `None` where the cell is before it.
+/// Returns the columns from a place to a cell by division, or `None` if the cell is before it.
 fn columns_between(cols: usize, start: Extent, cell: (usize, isize)) -> Option<usize>
     requires cols { cols ≤ 65535 }
     requires range { is_in_range (place_of start) ≡ true }
@@ -205,7 +206,7 @@ fn columns_between(cols: usize, start: Extent, cell: (usize, isize)) -> Option<u
     }
 }
 
-/// Where the prompt ends, or `None` where a place on the way is out of range.
+/// Returns where the prompt ends, or `None` if a place on the way is out of range.
 #[tactic(auto, using(crate::proofs::SettlingLemmas::prompt_end))]
 fn after_prompt(cols: usize, prompt: &str) -> Option<Extent>
     requires cols { cols ≤ 65535 }
@@ -218,7 +219,7 @@ fn after_prompt(cols: usize, prompt: &str) -> Option<Extent>
     measure_text(cols, Extent::start(), prompt)
 }
 
-/// Where the text before the cursor ends, or `None` where a place on the way is out of range.
+/// Returns where the text before the cursor ends, or `None` if a place on the way is out of range.
 #[tactic(auto, using(crate::proofs::SettlingLemmas::text_end))]
 fn after_text(cols: usize, start: Extent, text: &str) -> Option<Extent>
     requires cols { cols ≤ 65535 }
@@ -232,8 +233,8 @@ fn after_text(cols: usize, start: Extent, text: &str) -> Option<Extent>
     after_pieces(cols, start, text)
 }
 
-/// Where the line begins and where the text before its cursor ends, or `None` where a place on the way is out of range
-/// or no screen has such columns.
+/// Returns where the line begins and where the text before its cursor ends, or `None` if a place on the way is out of
+/// range or no screen has `cols` columns.
 fn measured(cols: usize, prompt: &str, before: &str) -> Option<(Extent, Extent)>
     ensures { MatchOption result
         (is_measured cols prompt.now before.now ≡ false)
@@ -250,7 +251,7 @@ fn measured(cols: usize, prompt: &str, before: &str) -> Option<(Extent, Extent)>
     Some((start, end))
 }
 
-/// The column that leads to the cell of the cursor, or `None` where none does.
+/// Returns the column that leads to the cell of the cursor, or `None` if no column does.
 fn settled(cols: usize, prompt: &str, line: &str, cursor: usize) -> Option<usize>
     requires { IsCharBoundary line.now cursor }
     ensures { MatchOption result
@@ -267,9 +268,9 @@ fn settled(cols: usize, prompt: &str, line: &str, cursor: usize) -> Option<usize
     columns_between(cols, start, begins_at(cols, needed_by_text(rest), end))
 }
 
-/// The column to answer for the cursor, which is a boundary of the line, after this prompt on a screen of so many
-/// columns: the one by which the editor finds the cell in which the text after the cursor begins. Where no column
-/// leads there, as after a carriage return, it is the plain one. It takes no memory.
+/// Returns the column to answer for a cursor at the byte offset `cursor`, after this prompt on a screen of `cols`
+/// columns: the one from which the editor finds the cell in which the text after the cursor begins. If no column leads
+/// there, as after a carriage return, it is the width of the text before the cursor.
 pub fn settled_column(cols: usize, prompt: &str, line: &str, cursor: usize) -> usize
     requires { IsCharBoundary line.now cursor }
     ensures { result ≡ settled_column cols prompt.now (cut_at line.now cursor) }

@@ -39,7 +39,7 @@ pub struct TableHost<H> {
 }
 
 impl<H: History> TableHost<H> {
-    /// The host of these tables and this history. It takes no memory.
+    /// Creates a host of these tables and this history.
     pub fn new(tables: Tables, history: H) -> Self
         ensures rules { ⟦<TableHost<H> as LineEditorHost>⟧.rules ≡ table_rules }
         ensures value { ⟦<TableHost<H> as LineEditorHost>⟧.value result
@@ -48,7 +48,7 @@ impl<H: History> TableHost<H> {
         TableHost { tables, history }
     }
 
-    /// Puts other tables in the place of those that the host has. The history stays. It takes no memory.
+    /// Sets the tables. The history stays.
     pub fn set_tables(&mut self, tables: Tables)
         ensures value { ⟦<TableHost<H> as LineEditorHost>⟧.value self.new
             ≡ tables_view tables (H.lines self.old.history) }
@@ -57,14 +57,14 @@ impl<H: History> TableHost<H> {
         self.tables = tables;
     }
 
-    /// The history, which is lent to be read. `history` of `LineEditorHost` lends it to be changed.
+    /// Lends the history to be read. `history` of `LineEditorHost` lends it to be changed.
     pub fn history_kept(&self) -> &H
         ensures { result.now ≡ self.now.history }
     {
         &self.history
     }
 
-    /// The history, for another host. The tables are given up.
+    /// Returns the history, for another host. The tables are dropped.
     pub fn into_history(self) -> H
         ensures { result ≡ self.history }
     {

@@ -2,7 +2,7 @@
 
 ghost use Rattle.std.specs.Prelude.{◌≡◌, ◌<◌, ◌++◌, true, IfOk, IsCharBoundary, List, [], OnOk, drop, length, map, string_bytes, take};
 ghost use Rattle.tw_host.specs.ElementView.{ElementView, element_view};
-ghost use Rattle.tw_hosts.specs.Tokens.{before, is_quote, joined, quote_len, shown_in, style_of, styled_text, styled_line, token_len, up_to, word_len};
+ghost use Rattle.tw_hosts.specs.Tokens.{text_before, is_quote, joined_elements, quote_len, styled_or_plain, style_of, styled_text, styled_line, token_len, up_to, word_len};
 
 use crate::words::is_known;
 use std::alloc::{AllocError, Global};
@@ -18,7 +18,7 @@ pub struct Styles {
     pub quote: CellAttributes,
 }
 
-/// How many bytes stand before the first mark, or all where there is none.
+/// Returns the number of bytes before the first mark, or of the text if it has none.
 fn up_to(text: &str, mark: char) -> usize
     requires { mark < 128 }
     ensures value { result ≡ up_to mark text.now }
@@ -30,7 +30,7 @@ fn up_to(text: &str, mark: char) -> usize
     }
 }
 
-/// Whether a text begins with a quotation mark.
+/// Returns true if a text begins with a quotation mark.
 fn is_quote(text: &str) -> bool
     ensures { result ≡ is_quote text.now }
 {
@@ -77,8 +77,8 @@ fn token_len(text: &str) -> usize
     }
 }
 
-/// The first token of a text that is not empty, and what follows it. A token is a text in single quotation marks, or
-/// up to the end where the second mark is missing; a space; or what stands up to one of them.
+/// Splits a text that is not empty after its first token: a text in single quotation marks, or up to the end if the
+/// second mark is missing; a space; or the text before one of them.
 pub fn split_token(text: &str) -> (&str, &str)
     requires { 0 < length text.now }
     ensures token { result.0.now ≡ take (token_len text.now) text.now }
@@ -87,7 +87,7 @@ pub fn split_token(text: &str) -> (&str, &str)
     text.split_at(token_len(text))
 }
 
-/// A text with these attributes: they are set before it, and the default ones after it.
+/// Returns a text with these attributes before it, and the default ones after it.
 pub fn styled(
     alloc: Global,
     attributes: CellAttributes,
@@ -120,7 +120,7 @@ fn style_of(styles: Styles, keywords: &[String], token: &str) -> Option<CellAttr
 /// Appends a text as it is. The empty one is no element.
 fn push_plain(elements: &mut Vec<OutputElement>, text: String) -> Result<(), AllocError>
     ensures { OnOk result (map element_view elements.new.items
-        ≡ map element_view elements.old.items ++ before (string_bytes text) []) }
+        ≡ map element_view elements.old.items ++ text_before (string_bytes text) []) }
 {
     if text.is_empty() {
         return Ok(());
@@ -139,9 +139,9 @@ fn push_token(
 ) -> Result<(), AllocError>
     requires { 0 < length token.now }
     ensures { OnOk result ((more : List ElementView) →
-        map element_view elements.new.items ++ before (string_bytes plain.new) (joined more)
-        ≡ map element_view elements.old.items ++ before (string_bytes plain.old)
-        (joined (shown_in style token.now ++ more))) }
+        map element_view elements.new.items ++ text_before (string_bytes plain.new) (joined_elements more)
+        ≡ map element_view elements.old.items ++ text_before (string_bytes plain.old)
+        (joined_elements (styled_or_plain style token.now ++ more))) }
 {
     let Some(attributes) = style else {
         plain.push_str(token)?;
@@ -152,7 +152,7 @@ fn push_token(
     Ok(())
 }
 
-/// The tokens of a line, one after the other: a quoted text and a keyword in their styles, and what stands between them as
+/// Returns the tokens of a line in their order: quoted texts and keywords in their styles, and the text between them as
 /// it is, in one element.
 pub fn highlight_tokens(
     alloc: Global,

@@ -3,8 +3,8 @@
 ghost use Rattle.std.specs.Prelude.{◌≡◌, ◌≤◌, IfOk, IsCharBoundary, length, map};
 ghost use Rattle.tw_host.specs.CandidateView.{candidate_view};
 ghost use Rattle.tw_line.specs.Cut.{cut_at};
-ghost use Rattle.tw_hosts.specs.WordCompletion.{completions};
-ghost use Rattle.tw_hosts.specs.Words.{after_word, leading_word, is_known, last_row, last_word, texts_of};
+ghost use Rattle.tw_hosts.specs.WordCompletion.{word_completions};
+ghost use Rattle.tw_hosts.specs.Words.{after_word, leading_word, is_known, end_row, last_word, texts_of};
 
 use std::alloc::{AllocError, Global};
 use tw_host::CompletionCandidate;
@@ -46,8 +46,8 @@ pub fn last_word(text: &str) -> &str
 }
 
 /// Returns what stands after the last line feed of a text, or all of it if it has none.
-pub fn last_row(text: &str) -> &str
-    ensures { result.now ≡ last_row text.now }
+pub fn end_row(text: &str) -> &str
+    ensures { result.now ≡ end_row text.now }
 {
     match text.rsplit_once('\n') {
         Some((_, row)) => row,
@@ -65,7 +65,7 @@ pub fn complete_word(
 ) -> Result<Vec<CompletionCandidate>, AllocError>
     requires { IsCharBoundary line.now cursor }
     ensures { IfOk result (λ candidates. map candidate_view candidates.items
-        ≡ completions (texts_of words.now) (cut_at line.now cursor)) }
+        ≡ word_completions (texts_of words.now) (cut_at line.now cursor)) }
 {
     let begun = last_word(&line[..cursor]);
     let start = cursor - begun.len();

@@ -12,7 +12,7 @@ use Rattle.tw_line.specs.Edits.{with_text}
 use Rattle.tw_line.specs.Movements.{destination}
 use Rattle.tw_line.specs.declared.movements.Movement.{Movement}
 use Rattle.tw_host.specs.ActionView.{ActionView}
-use Rattle.tw_key_parts.specs.Ring.{Ring, is_same_cut, kill_of, killing, killed_by, leads_onward, joined, newest_kill, kills_with, after_nothing, with_killed, with_killing, with_room, yank_of}
+use Rattle.tw_key_parts.specs.Ring.{Ring, is_same_cut, kill_of, killing, killed_by, leads_onward, joined_kill, newest_kill, kills_with, after_nothing, with_killed, with_killing, with_room, yank_of}
 use Rattle.tw_key_parts.specs.RingLaws.{given_back, line_before, ring_behind, KillsKeepLine, KillIsLatest, YankGivesBack}
 use Rattle.tw_key_parts.specs.declared.ring.Latest.{Latest}
 use Rattle.tw_key_parts.specs.declared.ring.Latest.TheVariants as latest
@@ -41,12 +41,12 @@ no_elements [] e = refl
 no_elements (x ∷ xs) e = absurd (omega (arith, eqb-true (length (x ∷ xs)) 0 e))
 
 -- a text with nothing more
-joined_to_nothing : (ahead : Bool) (text none : List ℕ) → none ≡ [] → joined ahead text none ≡ text
+joined_to_nothing : (ahead : Bool) (text none : List ℕ) → none ≡ [] → joined_kill ahead text none ≡ text
 joined_to_nothing true text none e = ap (λ more. text ++ more) e ∙ append-nil text
 joined_to_nothing false text none e = ap (λ more. more ++ text) e
 
 -- nothing, with a text more
-nothing_joined : (ahead : Bool) (text : List ℕ) → joined ahead [] text ≡ text
+nothing_joined : (ahead : Bool) (text : List ℕ) → joined_kill ahead [] text ≡ text
 nothing_joined true text = refl
 nothing_joined false text = append-nil text
 
@@ -62,7 +62,7 @@ module _ (m : Movement) (old new : Cut) (inside : old.cursor ≤ length old.line
     (line : new.line ≡ remove_range old.line (min old.cursor (destination m old)) (max old.cursor (destination m old)))
     (cursor : new.cursor ≡ min old.cursor (destination m old)) where
   -- a text with what was killed, put in at the new cursor
-  joined_back : (text : List ℕ) → (with_text (joined (leads_onward m old) text (killed_by m old)) new).line ≡ (with_text text old).line
+  joined_back : (text : List ℕ) → (with_text (joined_kill (leads_onward m old) text (killed_by m old)) new).line ≡ (with_text text old).line
   joined_back text = rw (line, cursor) (put_joined old.line text old.cursor (destination m old) inside)
 
   -- what was killed, put in at the new cursor

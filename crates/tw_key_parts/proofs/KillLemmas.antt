@@ -2,7 +2,7 @@
 use Rattle.std.proofs.Common.{◌≡◌, ◌≤◌, ℕ, List, ◌++◌, length, take, drop, min, max, nat_lt, Bool, true, false, refl, ap, sym, ◌∙◌, arith, rules, append_assoc, slice_range, length-append, length-drop}
 use Rattle.std.proofs.lemmas.List.{take-append-drop, take_at, drop_at}
 use Rattle.std.proofs.lemmas.List.Folds.{drop_split}
-use Rattle.tw_key_parts.specs.Ring.{joined}
+use Rattle.tw_key_parts.specs.Ring.{joined_kill}
 
 -- a list, parted at two places
 pub parted : (l : List ℕ) (a b : ℕ) → a ≤ b → take a l ++ (slice_range l a b ++ drop b l) ≡ l
@@ -44,12 +44,12 @@ put_before l text p d inside order =
 
 -- a text with more, put in where more was killed, is the text put in before
 pub put_joined : (l text : List ℕ) (p d : ℕ) → p ≤ length l
-    → (take (min p d) (take (min p d) l ++ drop (max p d) l) ++ joined (nat_lt p d) text (slice_range l (min p d) (max p d))) ++ drop (min p d) (take (min p d) l ++ drop (max p d) l)
+    → (take (min p d) (take (min p d) l ++ drop (max p d) l) ++ joined_kill (nat_lt p d) text (slice_range l (min p d) (max p d))) ++ drop (min p d) (take (min p d) l ++ drop (max p d) l)
     ≡ (take p l ++ text) ++ drop p l
 put_joined l text p d inside = by (nat_lt p d) refl
   where
     by : (b : Bool) → nat_lt p d ≡ b
-        → (take (min p d) (take (min p d) l ++ drop (max p d) l) ++ joined b text (slice_range l (min p d) (max p d))) ++ drop (min p d) (take (min p d) l ++ drop (max p d) l)
+        → (take (min p d) (take (min p d) l ++ drop (max p d) l) ++ joined_kill b text (slice_range l (min p d) (max p d))) ++ drop (min p d) (take (min p d) l ++ drop (max p d) l)
         ≡ (take p l ++ text) ++ drop p l
     by true e =
         let low : min p d ≡ p = search (rules, e) in

@@ -5,7 +5,7 @@ use Rattle.std.specs.Prelude.{option_map}
 use Rattle.std.specs.Cmp.Lexicographic.{pointwise}
 use Rattle.tw_line.specs.Extremes.{greatest_below, iterate}
 use Rattle.tw_line.specs.Cut.{Cut}
-use Rattle.tw_key_parts.specs.Undo.{Undo, is_other, last_change, left_behind, step_at, undo_behind, undone}
+use Rattle.tw_key_parts.specs.Undo.{Undo, differs_at, last_change, steps_left, step_at, undo_behind, undone}
 use Rattle.tw_key_parts.specs.UndoLaws.{oldest_line, undo_once, UndosGiveOldest, UndoKeepsOldest}
 
 some_is : (m n : ℕ) → Some m ≡ Some n → m ≡ n
@@ -39,9 +39,9 @@ none_at_zero p (suc to) e = by (p (suc to)) e (none_at_zero p to)
 oldest_kept : (before : List Cut) (cut : Cut) (i : Option ℕ) → last_change cut.line before ≡ i
     → oldest_line (take (unwrap_or i 0) before) (unwrap_or (option_map (step_at before) i) cut) ≡ oldest_line before cut
 oldest_kept [] cut None e = refl
-oldest_kept [] cut (Some i) e = let low : i < 0 = found_below (is_other cut.line []) 0 i e in absurd (omega (arith, low))
+oldest_kept [] cut (Some i) e = let low : i < 0 = found_below (differs_at cut.line []) 0 i e in absurd (omega (arith, low))
 oldest_kept (first ∷ later) cut None e =
-    let same : not (pointwise eqb first.line cut.line) ≡ false = none_at_zero (is_other cut.line (first ∷ later)) (length later) e in
+    let same : not (pointwise eqb first.line cut.line) ≡ false = none_at_zero (differs_at cut.line (first ∷ later)) (length later) e in
     sym ((bytes_eq-Decides first.line cut.line).0 (search (rules, same)))
 oldest_kept (first ∷ later) cut (Some zero) e = refl
 oldest_kept (first ∷ later) cut (Some (suc i)) e = refl
@@ -52,7 +52,7 @@ undo_keeps_oldest u cut = oldest_kept u.before cut (last_change cut.line u.befor
 -- an undo leaves fewer steps
 fewer : (before : List Cut) (line : List ℕ) (n : ℕ) (i : Option ℕ) → last_change line before ≡ i → length before ≤ suc n → length (take (unwrap_or i 0) before) ≤ n
 fewer before line n None e few = search (rules)
-fewer before line n (Some i) e few = let low = found_below (is_other line before) (length before) i e in search (rules, low)
+fewer before line n (Some i) e few = let low = found_below (differs_at line before) (length before) i e in search (rules, low)
 
 -- `n` undos give the oldest line, if there are at most `n` steps
 undone_all : (n : ℕ) (u : Undo) (cut : Cut) → length u.before ≤ n → (iterate undo_once n (u, cut)).1.line ≡ oldest_line u.before cut
@@ -63,7 +63,7 @@ undone_all zero u cut few = none_yet u.before few
     none_yet [] few = refl
     none_yet (first ∷ later) few = absurd (omega (arith, few))
 undone_all (suc n) u cut few =
-    undone_all n (undo_behind (left_behind u cut) u) (undone u cut) (fewer u.before cut.line n (last_change cut.line u.before) refl few) ∙ undo_keeps_oldest u cut
+    undone_all n (undo_behind (steps_left u cut) u) (undone u cut) (fewer u.before cut.line n (last_change cut.line u.before) refl few) ∙ undo_keeps_oldest u cut
 
 pub undos_give_oldest : UndosGiveOldest
 undos_give_oldest u cut = undone_all (length u.before) u cut (omega arith)

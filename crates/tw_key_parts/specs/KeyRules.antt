@@ -18,7 +18,7 @@ pub record Edited (K : Type 0) : Type 0 where
   pub kept : K
 
 -- what came of an event, whoever answered it: the line before and after, and the action that follows, if one does
-pub record Step : Type 0 where
+pub record KeyStep : Type 0 where
   pub event : EventView
   pub searching : Bool
   pub before : Cut
@@ -26,11 +26,11 @@ pub record Step : Type 0 where
   pub action : Option ActionView
 
 -- a step of these
-abbrev pub step_of : EventView → Bool → Cut → Cut → Option ActionView → Step
+abbrev pub step_of : EventView → Bool → Cut → Cut → Option ActionView → KeyStep
 step_of event searching before after action = record { event = event; searching = searching; before = before; after = after; action = action }
 
 -- a part's edits, what it holds after a step, which may be its own edit, and after a line that is left
 pub record KeyRules (S K : Type 0) : Type 0 where
   pub edits : S → Asked → Option (Edited K)
-  pub follows : S → Option K → Step → S
+  pub follows : S → Option K → KeyStep → S
   pub leaves : S → S

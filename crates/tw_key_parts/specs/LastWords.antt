@@ -6,8 +6,8 @@ use Rattle.tw_line.specs.Cut.{Cut}
 use Rattle.tw_host.specs.ActionView.{ActionView, InsertText}
 use Rattle.tw_line.specs.NearestMatch.{last_index, next_index}
 use Rattle.tw_line.specs.declared.history.SearchDirection.TheVariants.{Backwards}
-use Rattle.tw_hosts.specs.Words.{last_row, last_word}
-use Rattle.tw_key_parts.specs.KeyRules.{Asked, Edited, KeyRules, Step}
+use Rattle.tw_hosts.specs.Words.{end_row, last_word}
+use Rattle.tw_key_parts.specs.KeyRules.{Asked, Edited, KeyRules, KeyStep}
 use Rattle.tw_key_parts.specs.Keys.{is_key, last_word_key}
 use Rattle.tw_key_parts.specs.declared.last_words.PlacedWord.{PlacedWord}
 use Rattle.tw_key_parts.specs.declared.last_words.WordPlace.{WordPlace}
@@ -32,7 +32,7 @@ word_view word = record { place = place_view word.place; text = string_bytes wor
 
 -- the last word of a line in its row, whatever whitespace follows it
 abbrev pub last_argument : List ℕ → List ℕ
-last_argument line = last_word (last_row (trim_end line))
+last_argument line = last_word (end_row (trim_end line))
 
 -- a word that was put in right before gives way to the next one
 abbrev pub cut_for : Option PlaceView → Cut → Cut
@@ -57,17 +57,17 @@ word_by place asked =
     else None
 
 -- a word, as an edit
-abbrev pub word_edit : WordView → Edited PlaceView
-word_edit word = record { cut = Some word.place.cut; action = InsertText 1 word.text; kept = word.place }
+abbrev pub placing_edit : WordView → Edited PlaceView
+placing_edit word = record { cut = Some word.place.cut; action = InsertText 1 word.text; kept = word.place }
 
 -- the key keeps a place where nothing comes of it; all else ends it
 abbrev pub place_kept : Option ActionView → EventView → Option PlaceView → Option PlaceView
 place_kept (Some _) event place = None
 place_kept None event place = if is_key last_word_key event then place else None
 
-abbrev pub place_after : Option PlaceView → Option PlaceView → Step → Option PlaceView
-place_after place (Some new) step = Some new
-place_after place None step = place_kept step.action step.event place
+abbrev pub word_place_after : Option PlaceView → Option PlaceView → KeyStep → Option PlaceView
+word_place_after place (Some new) step = Some new
+word_place_after place None step = place_kept step.action step.event place
 
 abbrev pub last_word_rules : KeyRules (Option PlaceView) PlaceView
-last_word_rules = record { edits = λ place asked. option_map word_edit (word_by place asked); follows = place_after; leaves = λ place. None }
+last_word_rules = record { edits = λ place asked. option_map placing_edit (word_by place asked); follows = word_place_after; leaves = λ place. None }

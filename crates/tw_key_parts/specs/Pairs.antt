@@ -2,7 +2,7 @@
 use Rattle.std.specs.Prelude.{◌≡◌, ◌⊎◌, Option, Some, None, option_map}
 use Rattle.tw_line.specs.Cut.{Cut}
 use Rattle.tw_host.specs.ActionView.{ActionView}
-use Rattle.tw_key_parts.specs.KeyRules.{Asked, Edited, KeyRules, Step}
+use Rattle.tw_key_parts.specs.KeyRules.{Asked, Edited, KeyRules, KeyStep}
 
 module _ {K L : Type 0} where
   -- the first part's edit, or else the second's
@@ -47,6 +47,6 @@ module _ {S K T L : Type 0} (a : KeyRules S K) (b : KeyRules T L) where
   abbrev pub OrderIsFree : Type 0
   OrderIsFree = AreApart → (s : S) (t : T)
       → ((asked : Asked) → done_by ((pair_rules a b).edits (s, t) asked) ≡ done_by ((pair_rules b a).edits (t, s) asked))
-      × ((kept : Option (Option K × Option L)) (step : Step) → let there = (pair_rules a b).follows (s, t) kept step in
+      × ((kept : Option (Option K × Option L)) (step : KeyStep) → let there = (pair_rules a b).follows (s, t) kept step in
       (pair_rules b a).follows (t, s) (turned_round kept) step ≡ (there.1, there.0))
       × (let there = (pair_rules a b).leaves (s, t) in (pair_rules b a).leaves (t, s) ≡ (there.1, there.0))

@@ -11,7 +11,7 @@ use Rattle.tw_line.specs.Cut.{Cut, at_end, cut_at}
 use Rattle.tw_host.specs.ActionView.{ActionView, InsertChar}
 use Rattle.tw_host.specs.KeyTable.{key_press, letter}
 use Rattle.tw_hosts.specs.Words.{begins_with, is_same}
-use Rattle.tw_key_parts.specs.KeyRules.{Edited, KeyRules, Step}
+use Rattle.tw_key_parts.specs.KeyRules.{Edited, KeyRules, KeyStep}
 use Rattle.tw_key_parts.specs.Keys.{is_key}
 use Rattle.tw_key_parts.specs.declared.prefix_search.PrefixMatch.{PrefixMatch}
 use Rattle.tw_key_parts.specs.declared.prefix_search.PrefixStep.{PrefixStep}
@@ -28,8 +28,8 @@ newer_key = key_press none PageDown
 abbrev pub oldest_key : KeyEvent
 oldest_key = key_press alt (letter (codes "<"))
 
-abbrev pub typed_key : KeyEvent
-typed_key = key_press alt (letter (codes ">"))
+abbrev pub typed_line_key : KeyEvent
+typed_line_key = key_press alt (letter (codes ">"))
 
 -- a line that was found, cut at the cursor, and its index
 pub record PrefixMatchView : Type 0 where
@@ -80,9 +80,9 @@ module _ (lines : List (List ℕ)) (cut : Cut) where
   newer_match (Some i) = option_map prefix_match_at (least_from is_prefix_match i (length lines - i))
 
 -- the line before the search that goes on, or else the one where it begins
-abbrev pub typed_in : Option RecalledView → Cut → Cut
-typed_in None cut = cut
-typed_in (Some recalled) cut = recalled.typed
+abbrev pub typed_line : Option RecalledView → Cut → Cut
+typed_line None cut = cut
+typed_line (Some recalled) cut = recalled.typed
 
 -- older lines begin with the last one, or before the one that was found
 abbrev pub older_start : Option RecalledView → List (List ℕ) → Option ℕ
@@ -95,11 +95,11 @@ recalled_step typed found = record { cut = found.cut; recalled = Some (record { 
 
 -- to an older line, if there is one
 abbrev pub older_step : List (List ℕ) → Option RecalledView → Cut → Option PrefixStepView
-older_step lines recalled cut = option_map (recalled_step (typed_in recalled cut)) (older_match lines cut (older_start recalled lines))
+older_step lines recalled cut = option_map (recalled_step (typed_line recalled cut)) (older_match lines cut (older_start recalled lines))
 
 -- to the oldest line, if there is one, with the cursor at its end
 abbrev pub oldest_step : List (List ℕ) → Option RecalledView → Cut → Option PrefixStepView
-oldest_step lines recalled cut = option_map (λ line. recalled_step (typed_in recalled cut) (record { cut = at_end line; index = 0 })) (slice_get lines 0)
+oldest_step lines recalled cut = option_map (λ line. recalled_step (typed_line recalled cut) (record { cut = at_end line; index = 0 })) (slice_get lines 0)
 
 -- back to the line before the search, which is over with that
 abbrev pub back_to : Cut → PrefixStepView
@@ -119,7 +119,7 @@ newer_step lines (Some recalled) cut = Some (newer_or_typed recalled.typed (newe
 
 -- whether an event is one of the keys
 abbrev pub is_prefix_key : EventView → Bool
-is_prefix_key event = is_key older_key event || (is_key newer_key event || (is_key oldest_key event || is_key typed_key event))
+is_prefix_key event = is_key older_key event || (is_key newer_key event || (is_key oldest_key event || is_key typed_line_key event))
 
 -- what an event brings, but during a search of the editor's
 abbrev pub prefix_step : Bool → EventView → Option RecalledView → List (List ℕ) → Cut → Option PrefixStepView
@@ -128,7 +128,7 @@ prefix_step false event recalled lines cut =
     if is_key older_key event then older_step lines recalled cut
     else if is_key newer_key event then newer_step lines recalled cut
     else if is_key oldest_key event then oldest_step lines recalled cut
-    else if is_key typed_key event then typed_step recalled
+    else if is_key typed_line_key event then typed_step recalled
     else None
 
 -- what is brought, as an edit; nothing is typed, which ends a completion
@@ -140,7 +140,7 @@ abbrev pub recalled_kept : Option ActionView → EventView → Option RecalledVi
 recalled_kept (Some _) event recalled = None
 recalled_kept None event recalled = if is_prefix_key event then recalled else None
 
-abbrev pub recalled_after : Option RecalledView → Option (Option RecalledView) → Step → Option RecalledView
+abbrev pub recalled_after : Option RecalledView → Option (Option RecalledView) → KeyStep → Option RecalledView
 recalled_after recalled (Some new) step = new
 recalled_after recalled None step = recalled_kept step.action step.event recalled
 

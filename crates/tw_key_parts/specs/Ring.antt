@@ -7,7 +7,7 @@ use Rattle.tw_line.specs.Movements.{destination}
 use Rattle.tw_line.specs.declared.movements.Movement.{Movement}
 use Rattle.tw_host.specs.ActionView.{ActionView, InsertText, Kill, KillAndMove}
 use Rattle.std.specs.Cmp.Lexicographic.{pointwise}
-use Rattle.tw_key_parts.specs.KeyRules.{Edited, KeyRules, Step}
+use Rattle.tw_key_parts.specs.KeyRules.{Edited, KeyRules, KeyStep}
 use Rattle.tw_key_parts.specs.Keys.{deletes_character, is_key, yank_key, rotate_key}
 use Rattle.tw_key_parts.specs.declared.ring.KillRing.{KillRing}
 use Rattle.tw_key_parts.specs.declared.ring.Yank.{Yank}
@@ -68,12 +68,12 @@ abbrev pub newest_kill : List (List ℕ) → List ℕ
 newest_kill kills = slice_index_or kills (length kills - 1) []
 
 -- the newest kill with more: what lay after the cursor comes after it, and else before it
-abbrev pub joined : Bool → List ℕ → List ℕ → List ℕ
-joined ahead newest text = if ahead then newest ++ text else text ++ newest
+abbrev pub joined_kill : Bool → List ℕ → List ℕ → List ℕ
+joined_kill ahead newest text = if ahead then newest ++ text else text ++ newest
 
 -- the kills with one more, which joins the newest one where a kill was the last thing done
 abbrev pub kills_with : Latest → Bool → List ℕ → List (List ℕ) → List (List ℕ)
-kills_with latest.Kill ahead text kills = take (length kills - 1) kills ++ joined ahead (newest_kill kills) text ∷ []
+kills_with latest.Kill ahead text kills = take (length kills - 1) kills ++ joined_kill ahead (newest_kill kills) text ∷ []
 kills_with (latest.Yank i) ahead text kills = with_room kills ++ text ∷ []
 kills_with latest.Other ahead text kills = with_room kills ++ text ∷ []
 
@@ -103,7 +103,7 @@ abbrev pub kill_of : Bool → EventView → Option ActionView → Cut → Cut �
 kill_of searching event action cut new = if searching || not (is_same_cut cut new) then None else killing event action
 
 -- the ring after an action, if there is one
-abbrev pub ring_after : Step → Ring → Ring
+abbrev pub ring_after : KeyStep → Ring → Ring
 ring_after step r = with_killing (kill_of step.searching step.event step.action step.before step.after) step.before r
 
 -- ---- what comes back
@@ -149,7 +149,7 @@ abbrev pub yank_edit : Yanked → Edited ℕ
 yank_edit y = record { cut = Some y.cut; action = InsertText 1 y.text; kept = y.index }
 
 -- where a kill came back, another one can take its place; all else may be a kill
-abbrev pub ring_follows : Ring → Option ℕ → Step → Ring
+abbrev pub ring_follows : Ring → Option ℕ → KeyStep → Ring
 ring_follows r (Some index) step = record r { latest = latest.Yank index }
 ring_follows r None step = ring_after step r
 

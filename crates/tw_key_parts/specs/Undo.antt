@@ -6,7 +6,7 @@ use Rattle.tw_line.specs.Extremes.{greatest_below}
 use Rattle.tw_input.specs.EventView.{EventView}
 use Rattle.tw_line.specs.Cut.{Cut, empty_cut}
 use Rattle.tw_host.specs.ActionView.{ActionView, AcceptLine, Cancel, EndOfFile, InsertChar, InsertText, Repaint, Kill, KillAndMove, HistoryPrevious, HistoryNext, Complete, NoAction, HistoryIncSearchBackwards, HistoryIncSearchForwards}
-use Rattle.tw_key_parts.specs.KeyRules.{Asked, Edited, KeyRules, Step}
+use Rattle.tw_key_parts.specs.KeyRules.{Asked, Edited, KeyRules, KeyStep}
 use Rattle.tw_key_parts.specs.Keys.{is_key, prefixed_undo_key, undo_key, undo_prefix}
 use Rattle.tw_key_parts.specs.declared.undo.UndoSteps.{UndoSteps}
 
@@ -92,7 +92,7 @@ is_prefix None event = is_key undo_prefix event
 is_prefix (Some _) event = false
 
 -- all of it after an action, if there is one
-abbrev pub undo_after : Step → Undo → Undo
+abbrev pub undo_after : KeyStep → Undo → Undo
 undo_after step u = record {
   before = steps_after step.searching step.action step.before step.after u;
   typing = not step.searching && (typing_after step.action u.typing && is_same_line step.before step.after);
@@ -106,12 +106,12 @@ abbrev pub step_at : List Cut → ℕ → Cut
 step_at before i = slice_index_or before i empty_cut
 
 -- whether the line at an index is another one
-abbrev pub is_other : List ℕ → List Cut → ℕ → Bool
-is_other line before i = not (pointwise eqb (step_at before i).line line)
+abbrev pub differs_at : List ℕ → List Cut → ℕ → Bool
+differs_at line before i = not (pointwise eqb (step_at before i).line line)
 
 -- the index of the last step that changed the line
 abbrev pub last_change : List ℕ → List Cut → Option ℕ
-last_change line before = greatest_below (is_other line before) (length before)
+last_change line before = greatest_below (differs_at line before) (length before)
 
 -- the cut text before the last step that changed the line, if one did
 abbrev pub before_change : Undo → Cut → Option Cut
@@ -122,8 +122,8 @@ abbrev pub undone : Undo → Cut → Cut
 undone u cut = unwrap_or (before_change u cut) cut
 
 -- the number of steps that an undo leaves
-abbrev pub left_behind : Undo → Cut → ℕ
-left_behind u cut = unwrap_or (last_change cut.line u.before) 0
+abbrev pub steps_left : Undo → Cut → ℕ
+steps_left u cut = unwrap_or (last_change cut.line u.before) 0
 
 -- the steps after an undo
 abbrev pub undo_behind : ℕ → Undo → Undo
@@ -141,11 +141,11 @@ is_undo u event = is_key undo_key event || (u.prefixed && is_key prefixed_undo_k
 abbrev pub undo_edit : Undo → Asked → Option (Edited ℕ)
 undo_edit u asked =
     if is_undo u asked.event && not asked.searching
-    then Some (record { cut = Some (undone u asked.cut); action = type_nothing; kept = left_behind u asked.cut })
+    then Some (record { cut = Some (undone u asked.cut); action = type_nothing; kept = steps_left u asked.cut })
     else None
 
 -- an undo leaves its steps, and all else may be one more
-abbrev pub undo_follows : Undo → Option ℕ → Step → Undo
+abbrev pub undo_follows : Undo → Option ℕ → KeyStep → Undo
 undo_follows u (Some left) step = undo_behind left u
 undo_follows u None step = undo_after step u
 

@@ -19,7 +19,7 @@ pub enum WordCase {
     Capitalized,
 }
 
-/// The length of the first grapheme cluster of a text, in bytes.
+/// Returns the length of the first grapheme cluster of a text in bytes.
 fn first_cluster_len(alloc: Global, text: &str) -> Result<usize, AllocError>
     ensures value { IfOk result (λ len. len ≡ first_cluster_len text.now) }
     ensures boundary { IfOk result (λ len. IsCharBoundary text.now len) }
@@ -29,7 +29,7 @@ fn first_cluster_len(alloc: Global, text: &str) -> Result<usize, AllocError>
     Ok(editor.get_cursor())
 }
 
-/// A text that is capitalized.
+/// Returns a text with its first grapheme cluster in upper case and the rest in lower case.
 fn capitalized(alloc: Global, text: &str) -> Result<String, AllocError>
     ensures { IfOk result (λ written. string_bytes written ≡ in_case Capitalized text.now) }
 {
@@ -39,7 +39,7 @@ fn capitalized(alloc: Global, text: &str) -> Result<String, AllocError>
     Ok(written)
 }
 
-/// A text in a case, as Unicode maps its characters.
+/// Returns a text in a case, as Unicode maps its characters.
 pub fn in_case(alloc: Global, case: WordCase, text: &str) -> Result<String, AllocError>
     ensures { IfOk result (λ written. string_bytes written ≡ in_case case text.now) }
 {
@@ -50,8 +50,8 @@ pub fn in_case(alloc: Global, case: WordCase, text: &str) -> Result<String, Allo
     }
 }
 
-/// The line with what stands from the cursor to the end of the word ahead in a case, and the cursor after that. Words are
-/// the editor's: they end at whitespace, which belongs to the word before it.
+/// Returns the line with the text from the cursor to the end of the next word in a case, and the cursor after it. Words
+/// are the editor's: they end at whitespace, which belongs to the word before it.
 pub fn with_word_in(
     alloc: Global,
     case: WordCase,

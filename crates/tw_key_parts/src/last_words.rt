@@ -5,14 +5,14 @@ ghost use Rattle.tw_input.specs.EventView.{event_view};
 ghost use Rattle.tw_key_parts.specs.EditView.{lent_action};
 ghost use Rattle.tw_key_parts.specs.LastWords.{cut_for, index_for, last_argument, place_view, word_by, word_view};
 ghost use Rattle.tw_key_parts.specs.KeyRules.{step_of};
-ghost use Rattle.tw_key_parts.specs.LastWords.{place_after};
+ghost use Rattle.tw_key_parts.specs.LastWords.{word_place_after};
 
 use crate::edit::Edit;
 use crate::keys::{LAST_WORD, is_key};
 use crate::part::KeyPart;
 use std::alloc::{AllocError, Global};
 use tw_host::Action;
-use tw_hosts::{last_row, last_word};
+use tw_hosts::{end_row, last_word};
 use tw_input::InputEvent;
 use tw_line::{History, LineEditBuffer, SearchDirection};
 
@@ -40,7 +40,7 @@ pub struct PlacedWord {
 fn last_argument(line: &str) -> &str
     ensures { result.now ≡ last_argument line.now }
 {
-    last_word(last_row(line.trim_end()))
+    last_word(end_row(line.trim_end()))
 }
 
 /// Returns the line without the last insertion, if there is one right before.
@@ -190,7 +190,7 @@ impl KeyPart for LastWords {
     )
         requires ready { Unit {0} }
         ensures { option_map place_view self.new.place
-            ≡ place_after (option_map place_view self.old.place) (option_map place_view note)
+            ≡ word_place_after (option_map place_view self.old.place) (option_map place_view note)
             (step_of (event_view event.now) _searching _before.now _after.now
             (lent_action action.entry)) }
     {

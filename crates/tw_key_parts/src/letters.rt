@@ -15,7 +15,7 @@ enum Side {
     Back,
 }
 
-/// Whether a text begins with a letter or a digit.
+/// Returns true if a text begins with a letter or a digit.
 fn begins_with_letter(text: &str) -> bool
     ensures { result ≡ begins_with_letter text.now }
 {
@@ -25,7 +25,7 @@ fn begins_with_letter(text: &str) -> bool
     }
 }
 
-/// So many steps by grapheme clusters.
+/// Returns a movement by `count` grapheme clusters.
 fn cluster_steps(side: Side, count: usize) -> Movement
     ensures { result ≡ cluster_steps side count }
 {
@@ -35,14 +35,14 @@ fn cluster_steps(side: Side, count: usize) -> Movement
     }
 }
 
-/// Whether a letter or a digit stands at the cursor.
+/// Returns true if a letter or a digit stands at the cursor.
 fn is_at_letter(editor: &LineEditBuffer) -> bool
     ensures { result ≡ begins_with_letter (drop editor.now.cursor editor.now.line) }
 {
     begins_with_letter(&editor.get_line()[editor.get_cursor()..])
 }
 
-/// The least number of steps, from one on, that lead to the last letter of a word.
+/// Returns the least number of steps, from `from` on, that lead to the last letter of a word.
 fn last_letter(
     alloc: Global,
     side: Side,
@@ -69,8 +69,8 @@ fn last_letter(
     Ok(None)
 }
 
-/// How many grapheme clusters lead past the last letter or digit of the word ahead, or to the end of the line and
-/// further where there is none.
+/// Returns the number of grapheme clusters to the end of the next word of letters and digits. If there is none, it is
+/// the number of bytes of the line, which leads to its end.
 pub fn steps_to_word_end(alloc: Global, editor: &LineEditBuffer) -> Result<usize, AllocError>
     ensures { IfOk result (λ count. count ≡ steps_to_word_end editor.now) }
 {
@@ -81,8 +81,8 @@ pub fn steps_to_word_end(alloc: Global, editor: &LineEditBuffer) -> Result<usize
     }
 }
 
-/// How many grapheme clusters lead back to the first letter or digit of the word before the cursor, or to the start of
-/// the line and further where there is none.
+/// Returns the number of grapheme clusters back to the start of the word of letters and digits before the cursor. If
+/// there is none, it is the number of bytes of the line, which leads to its start.
 pub fn steps_to_word_start(alloc: Global, editor: &LineEditBuffer) -> Result<usize, AllocError>
     ensures { IfOk result (λ count. count ≡ steps_to_word_start editor.now) }
 {

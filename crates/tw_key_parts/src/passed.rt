@@ -6,7 +6,7 @@ ghost use Rattle.tw_key_parts.specs.WordEdits.{passed_text, text_between};
 use std::alloc::{AllocError, Global};
 use tw_line::{LineEditBuffer, Movement};
 
-/// The text between two offsets that are boundaries of it, whichever is the lower one.
+/// Returns the text between two offsets at boundaries, in either order.
 fn text_between(line: &str, a: usize, b: usize) -> &str
     requires first { IsCharBoundary line.now a }
     requires second { IsCharBoundary line.now b }
@@ -15,7 +15,7 @@ fn text_between(line: &str, a: usize, b: usize) -> &str
     if a <= b { &line[a..b] } else { &line[b..a] }
 }
 
-/// The text between the cursor and the place where a movement leads.
+/// Returns the text between the cursor and the place where a movement leads.
 pub fn passed_text(
     alloc: Global,
     editor: &LineEditBuffer,

@@ -6,7 +6,7 @@ ghost use Rattle.tw_input.specs.EventView.{event_view};
 ghost use Rattle.tw_key_parts.specs.EditView.{lent_action};
 ghost use Rattle.tw_line.specs.Cut.{cut_at};
 ghost use Rattle.tw_key_parts.specs.KeyRules.{step_of};
-ghost use Rattle.tw_key_parts.specs.PrefixSearch.{back_to, is_prefix_key, is_prefix_match, newer_match, newer_step, older_match, older_start, older_step, oldest_step, prefix_match_at, prefix_match_view, prefix_step, prefix_step_view, recalled_after, recalled_step, recalled_view, typed_in, typed_step};
+ghost use Rattle.tw_key_parts.specs.PrefixSearch.{back_to, is_prefix_key, is_prefix_match, newer_match, newer_step, older_match, older_start, older_step, oldest_step, prefix_match_at, prefix_match_view, prefix_step, prefix_step_view, recalled_after, recalled_step, recalled_view, typed_line, typed_step};
 
 use crate::edit::Edit;
 use crate::keys::is_key;
@@ -161,13 +161,13 @@ fn older_start<L: History>(recalled: Option<&Recalled>, lines: &L) -> Option<usi
 }
 
 /// Returns the line before the search.
-fn typed_in(
+fn typed_line(
     alloc: Global,
     recalled: Option<&Recalled>,
     editor: &LineEditBuffer,
 ) -> Result<LineEditBuffer, AllocError>
     ensures { IfOk result (λ typed. typed
-        ≡ typed_in (option_map (λ recalled. recalled_view recalled.now) recalled.entry)
+        ≡ typed_line (option_map (λ recalled. recalled_view recalled.now) recalled.entry)
         editor.now) }
 {
     match recalled {
@@ -205,7 +205,7 @@ fn older_step<L: History>(
     };
     match older_match_from(alloc, lines, editor, from)? {
         Some(found) => {
-            let typed = typed_in(alloc, recalled, editor)?;
+            let typed = typed_line(alloc, recalled, editor)?;
             Ok(Some(recalled_step(typed, found)))
         }
         None => Ok(None),
@@ -227,7 +227,7 @@ fn oldest_step<L: History>(
         return Ok(None);
     };
     let line = LineEditBuffer::new(alloc, oldest.as_str(), oldest.as_str().len())?;
-    let typed = typed_in(alloc, recalled, editor)?;
+    let typed = typed_line(alloc, recalled, editor)?;
     Ok(Some(recalled_step(typed, PrefixMatch { line, index: 0 })))
 }
 

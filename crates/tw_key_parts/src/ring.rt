@@ -6,7 +6,7 @@ ghost use Rattle.std.specs.Vec.{vec_capacity, vec_len};
 ghost use Rattle.tw_input.specs.EventView.{event_view};
 ghost use Rattle.tw_key_parts.specs.EditView.{lent_action};
 ghost use Rattle.tw_key_parts.specs.declared.ring.Latest.TheVariants as Latest;
-ghost use Rattle.tw_key_parts.specs.Ring.{index_below, is_same_cut, joined, kill_movement, killing, newest_kill, ring_view, rotated, taken_out, with_killed, with_killing, with_room, yank_by, yank_of, yank_view};
+ghost use Rattle.tw_key_parts.specs.Ring.{index_below, is_same_cut, joined_kill, kill_movement, killing, newest_kill, ring_view, rotated, taken_out, with_killed, with_killing, with_room, yank_by, yank_of, yank_view};
 ghost use Rattle.tw_key_parts.specs.KeyRules.{step_of};
 ghost use Rattle.tw_key_parts.specs.Ring.{ring_follows};
 
@@ -123,7 +123,7 @@ impl KillRing {
         requires kills { vec_len self.old.kills < vec_capacity self.old.kills }
         ensures kills { map string_bytes self.new.kills.items
             ≡ take (length self.old.kills.items - 1) (map string_bytes self.old.kills.items)
-            ++ joined ahead (newest_kill (map string_bytes self.old.kills.items)) killed.now ∷ [] }
+            ++ joined_kill ahead (newest_kill (map string_bytes self.old.kills.items)) killed.now ∷ [] }
         ensures latest { self.new.latest ≡ self.old.latest }
     {
         let newest = self.kills.pop();

@@ -7,7 +7,8 @@ use crate::passed::passed_text;
 use std::alloc::{AllocError, Global};
 use tw_line::{LineEditBuffer, Movement};
 
-/// The line with the cursor where clusters change places: at the end of the line that is before the last cluster.
+/// Returns the line with the cursor where clusters are swapped: before the last cluster at the end of the line, else
+/// where it is.
 fn swapping_place(alloc: Global, editor: &LineEditBuffer) -> Result<LineEditBuffer, AllocError>
     ensures { IfOk result (λ place. place ≡ swapping_place editor.now) }
 {
@@ -18,8 +19,8 @@ fn swapping_place(alloc: Global, editor: &LineEditBuffer) -> Result<LineEditBuff
     Ok(place)
 }
 
-/// The line in which the grapheme cluster before the cursor has gone to after the one at the cursor, and the cursor after
-/// both. At the end of the line the last two change places; where no cluster stands before the cursor nothing changes.
+/// Returns the line with the grapheme clusters around the cursor swapped, at its end the last two, and the cursor after
+/// both. Without a cluster before the cursor it is as it was.
 pub fn with_swapped_clusters(
     alloc: Global,
     editor: &LineEditBuffer,

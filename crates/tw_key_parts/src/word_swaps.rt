@@ -7,7 +7,7 @@ use crate::passed::passed_text;
 use std::alloc::{AllocError, Global};
 use tw_line::{LineEditBuffer, Movement};
 
-/// A text without the whitespace at its end, and that whitespace.
+/// Splits a text before the whitespace at its end.
 fn split_blanks(text: &str) -> (&str, &str)
     ensures words { result.0.now ≡ before_blanks text.now }
     ensures blanks { result.1.now ≡ after_blanks text.now }
@@ -16,7 +16,7 @@ fn split_blanks(text: &str) -> (&str, &str)
     text.split_at(words.len())
 }
 
-/// What stands before the last word of a text that does not end in whitespace, and that word.
+/// Splits a text that does not end in whitespace before its last word.
 fn split_last_word(alloc: Global, text: &str) -> Result<(String, String), AllocError>
     ensures before { IfOk result (λ parts. string_bytes parts.0 ≡ before_last_word text.now) }
     ensures word { IfOk result (λ parts. string_bytes parts.1 ≡ final_word text.now) }
@@ -48,7 +48,7 @@ fn joined(
     Ok(text)
 }
 
-/// A text that does not end in whitespace, with its last two words in each other's place; none where it has no two.
+/// Returns a text that does not end in whitespace with its last two words swapped, or `None` if it has fewer.
 fn swapped_words(alloc: Global, text: &str) -> Result<Option<String>, AllocError>
     ensures { IfOk result (λ swapped. option_map string_bytes swapped ≡ swapped_words text.now) }
 {
@@ -68,7 +68,7 @@ fn swapped_words(alloc: Global, text: &str) -> Result<Option<String>, AllocError
     Ok(Some(swapped))
 }
 
-/// The line with the cursor past the word at it, or past the next word where whitespace stands at it.
+/// Returns the line with the cursor past the word at it, or past the next word if whitespace stands at it.
 fn past_word(alloc: Global, editor: &LineEditBuffer) -> Result<LineEditBuffer, AllocError>
     ensures { IfOk result (λ past. past ≡ past_word editor.now) }
 {
@@ -81,9 +81,9 @@ fn past_word(alloc: Global, editor: &LineEditBuffer) -> Result<LineEditBuffer, A
     Ok(past)
 }
 
-/// The line in which the word at the cursor, or the next one, and the word before it have changed places, with the
-/// cursor after both. At the end of the line these are the last two words; where there are no two nothing changes.
-/// Words end at whitespace, which stays where it is.
+/// Returns the line with the word at the cursor, or the next one, swapped with the word before it, and the cursor after
+/// both. At the end of the line these are the last two words; a line with fewer is as it was. Words end at whitespace,
+/// which stays where it is.
 pub fn with_swapped_words(
     alloc: Global,
     editor: &LineEditBuffer,

@@ -11,7 +11,7 @@ use Rattle.tw_input.specs.declared.key.KeyCode.TheVariants.{Char, Backspace, Tab
 use Rattle.tw_surface.specs.Characters.{is_printable}
 use Rattle.tw_lineedit.proofs.UseLemmas.{both_uses}
 use Rattle.tw_device.specs.Calls.{all_events}
-use Rattle.tw_prompt.specs.Joined.{AreRight, IsRight, Moves, Piece, Pieced, Run, Single, printable_code, printable_in, run_event, told_in, told_in_all, typed_in, typed_in_all, typed_key}
+use Rattle.tw_prompt.specs.Joined.{AreRight, IsRight, Moves, Piece, Pieced, Run, Single, printable_code, printable_in, run_event, told_in, told_in_all, piece_events, typed_in_all, key_of_character}
 
 some-same : {X : Type 0} {x y : X} → Some x ≡ Some y → x ≡ y
 some-same e = cc
@@ -66,15 +66,15 @@ module _ {S : Type 0} (told : S → List EventView) (Follows : S → S → List 
 
 -- the event that types a printable character is its key
 code_is : (key : KeyCode) (bits c : ℕ) (plain : Bool) → (bits == 0) ≡ plain → (if plain then printable_code key else None) ≡ Some c
-    → (Key (record { key = key; modifiers = record { 0 = bits } }) ≡ typed_key c) × (is_printable c ≡ true)
+    → (Key (record { key = key; modifiers = record { 0 = bits } }) ≡ key_of_character c) × (is_printable c ≡ true)
 code_is key bits c false other e = cc
 code_is (Char d) bits c true same e = by (is_printable d) refl e
   where
-    by : (b : Bool) → is_printable d ≡ b → (if b then Some d else None) ≡ Some c → (Key (record { key = Char d; modifiers = record { 0 = bits } }) ≡ typed_key c) × (is_printable c ≡ true)
+    by : (b : Bool) → is_printable d ≡ b → (if b then Some d else None) ≡ Some c → (Key (record { key = Char d; modifiers = record { 0 = bits } }) ≡ key_of_character c) × (is_printable c ≡ true)
     by true printable e =
         let none : bits ≡ 0 = eqb-true bits 0 same in
         let this : d ≡ c = some-same e in
-        (ap (λ n. Key (record { key = Char d; modifiers = record { 0 = n } })) none ∙ ap typed_key this, ap is_printable (sym this) ∙ printable)
+        (ap (λ n. Key (record { key = Char d; modifiers = record { 0 = n } })) none ∙ ap key_of_character this, ap is_printable (sym this) ∙ printable)
     by false other e = cc
 code_is Backspace bits c true same e = cc
 code_is Tab bits c true same e = cc
@@ -96,7 +96,7 @@ code_is ApplicationUpArrow bits c true same e = cc
 code_is ApplicationDownArrow bits c true same e = cc
 code_is (Function n) bits c true same e = cc
 
-pub printable_is : (event : EventView) (c : ℕ) → printable_in event ≡ Some c → (event ≡ typed_key c) × (is_printable c ≡ true)
+pub printable_is : (event : EventView) (c : ℕ) → printable_in event ≡ Some c → (event ≡ key_of_character c) × (is_printable c ≡ true)
 printable_is (Key key) c e = code_is key.key key.modifiers.0 c (key.modifiers.0 == 0) refl e
 printable_is (Resized cols rows) c e = cc
 printable_is (Paste text) c e = cc
@@ -111,8 +111,8 @@ printable_byte c e = let low = leb-true c 126 (second (leb 32 c) (leb c 126) e) 
     second false b e = cc
 
 -- one character more of a run
-pub keys_more : (text : List ℕ) (c : ℕ) → map typed_key (text ++ c ∷ []) ≡ map typed_key text ++ typed_key c ∷ []
-keys_more text c = map-append typed_key text (c ∷ [])
+pub keys_more : (text : List ℕ) (c : ℕ) → map key_of_character (text ++ c ∷ []) ≡ map key_of_character text ++ key_of_character c ∷ []
+keys_more text c = map-append key_of_character text (c ∷ [])
 
 pub printable_more : (text : List ℕ) (c : ℕ) → list_all is_printable text ≡ true → is_printable c ≡ true → list_all is_printable (text ++ c ∷ []) ≡ true
 printable_more [] c all one = ap (λ b. b && true) one
@@ -129,13 +129,13 @@ pub run_is : (first : ℕ) (more : List ℕ) → 1 < length (first ∷ more) →
 run_is first [] long = absurd (omega (arith, long))
 run_is first (c ∷ more) long = refl
 
-pub one_is : (first : ℕ) (more : List ℕ) → length (first ∷ more) ≤ 1 → typed_key first ≡ run_event first more
+pub one_is : (first : ℕ) (more : List ℕ) → length (first ∷ more) ≤ 1 → key_of_character first ≡ run_event first more
 one_is first [] short = refl
 one_is first (c ∷ more) short = absurd (omega (arith, short))
 
 -- a run as a piece
 pub run_piece : ℕ → List ℕ → Piece
-run_piece first [] = Single (typed_key first)
+run_piece first [] = Single (key_of_character first)
 run_piece first (c ∷ more) = Run (first ∷ c ∷ more)
 
 pub run_right : (first : ℕ) (more : List ℕ) → is_printable first ≡ true → list_all is_printable more ≡ true → IsRight true (run_piece first more)
@@ -143,7 +143,7 @@ unfolding run_piece
 run_right first [] one all = tt
 run_right first (c ∷ more) one all = (refl, omega arith, ap (λ b. b && list_all is_printable (c ∷ more)) one ∙ all)
 
-pub run_typed : (first : ℕ) (more : List ℕ) → typed_in (run_piece first more) ≡ map typed_key (first ∷ more)
+pub run_typed : (first : ℕ) (more : List ℕ) → piece_events (run_piece first more) ≡ map key_of_character (first ∷ more)
 unfolding run_piece
 run_typed first [] = refl
 run_typed first (c ∷ more) = refl
@@ -158,9 +158,9 @@ pub right_more : (joins : Bool) (pieces : List Piece) (piece : Piece) → AreRig
 right_more joins [] piece rights right = (right, tt)
 right_more joins (first ∷ pieces) piece rights right = (rights.0, right_more joins pieces piece rights.1 right)
 
-pub typed_more : (pieces : List Piece) (piece : Piece) → typed_in_all (pieces ++ piece ∷ []) ≡ typed_in_all pieces ++ typed_in piece
-typed_more [] piece = append-nil (typed_in piece)
-typed_more (first ∷ pieces) piece = ap (λ es. typed_in first ++ es) (typed_more pieces piece) ∙ sym (append_assoc (typed_in first) (typed_in_all pieces) (typed_in piece))
+pub typed_more : (pieces : List Piece) (piece : Piece) → typed_in_all (pieces ++ piece ∷ []) ≡ typed_in_all pieces ++ piece_events piece
+typed_more [] piece = append-nil (piece_events piece)
+typed_more (first ∷ pieces) piece = ap (λ es. piece_events first ++ es) (typed_more pieces piece) ∙ sym (append_assoc (piece_events first) (typed_in_all pieces) (piece_events piece))
 
 pub told_more : (pieces : List Piece) (piece : Piece) → told_in_all pieces ≡ [] → told_in_all (pieces ++ piece ∷ []) ≡ told_in piece
 told_more [] piece none = append-nil (told_in piece)
@@ -178,8 +178,8 @@ module _ {S : Type 0} (told : S → List EventView) (Follows : S → S → List 
   pieced_nothing moves = (so-far.0, moves_of told Follows s u h l (typed_in_all pieces ++ []) (typed_in_all pieces) (append-nil (typed_in_all pieces)) (moves_then told Follows s t u h k l (typed_in_all pieces) [] so-far.1 moves))
 
   -- a piece more was taken
-  pub pieced_more : (piece : Piece) → IsRight joins piece → Moves told Follows t k u l (typed_in piece) → Pieced told Follows joins s h u l (pieces ++ piece ∷ [])
+  pub pieced_more : (piece : Piece) → IsRight joins piece → Moves told Follows t k u l (piece_events piece) → Pieced told Follows joins s h u l (pieces ++ piece ∷ [])
   pieced_more piece right moves = (
     right_more joins pieces piece so-far.0 right,
-    moves_of told Follows s u h l (typed_in_all pieces ++ typed_in piece) (typed_in_all (pieces ++ piece ∷ [])) (sym (typed_more pieces piece)) (moves_then told Follows s t u h k l (typed_in_all pieces) (typed_in piece) so-far.1 moves),
+    moves_of told Follows s u h l (typed_in_all pieces ++ piece_events piece) (typed_in_all (pieces ++ piece ∷ [])) (sym (typed_more pieces piece)) (moves_then told Follows s t u h k l (typed_in_all pieces) (piece_events piece) so-far.1 moves),
   )

@@ -15,8 +15,8 @@ use Rattle.tw_prompt.specs.declared.events.Pending.{Pending}
 use Rattle.tw_prompt.specs.declared.events.Pending.TheVariants.{Nothing, Event, Fault}
 
 -- the key that types a character
-abbrev pub typed_key : ℕ → EventView
-typed_key c = Key (record { key = Char c; modifiers = modifiers_of none })
+abbrev pub key_of_character : ℕ → EventView
+key_of_character c = Key (record { key = Char c; modifiers = modifiers_of none })
 
 -- the printable character of a key
 abbrev pub printable_code : KeyCode → Option ℕ
@@ -36,9 +36,9 @@ pub data Piece : Type 0 where
   Single : EventView → Piece
 
 -- the events of the source that a piece is
-abbrev pub typed_in : Piece → List EventView
-typed_in (Run text) = map typed_key text
-typed_in (Single event) = event ∷ []
+abbrev pub piece_events : Piece → List EventView
+piece_events (Run text) = map key_of_character text
+piece_events (Single event) = event ∷ []
 
 -- an event for the prompt: a size that no screen has is none
 abbrev pub sized : Option ScreenSize → List EventView
@@ -67,7 +67,7 @@ AreRight joins (piece ∷ pieces) = IsRight joins piece × AreRight joins pieces
 
 -- the events of the source in pieces, and those of the prompt
 abbrev pub typed_in_all : List Piece → List EventView
-typed_in_all pieces = flat_map typed_in pieces
+typed_in_all pieces = flat_map piece_events pieces
 
 abbrev pub told_in_all : List Piece → List EventView
 told_in_all pieces = flat_map told_in pieces
@@ -86,13 +86,13 @@ woken_all events = flat_map woken events
 
 -- a character and more of them: the key, or a pasted text
 abbrev pub run_event : ℕ → List ℕ → EventView
-run_event first [] = typed_key first
+run_event first [] = key_of_character first
 run_event first (c ∷ more) = Paste (first ∷ c ∷ more)
 
 -- the key of a character that was taken, if one was
 abbrev pub keys_of : Option ℕ → List EventView
 keys_of None = []
-keys_of (Some c) = typed_key c ∷ []
+keys_of (Some c) = key_of_character c ∷ []
 
 -- what is held back
 abbrev pub pending_events : Pending → List EventView

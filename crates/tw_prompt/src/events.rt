@@ -6,9 +6,9 @@ ghost use Rattle.tw_input.specs.EventView.{event_view};
 ghost use Rattle.tw_device.specs.Told.{answer_events};
 ghost use Rattle.tw_device.specs.declared.keys.SourceState.TheVariants.{Going};
 ghost use Rattle.tw_surface.specs.Characters.{is_printable};
-ghost use Rattle.tw_prompt.specs.Joined.{Moves, Piece, Pieced, is_pending, keys_of, pending_events, run_event, told_in_all, typed_key, wake_if, woken_all};
+ghost use Rattle.tw_prompt.specs.Joined.{Moves, Piece, Pieced, is_pending, keys_of, pending_events, run_event, told_in_all, key_of_character, wake_if, woken_all};
 
-use crate::joined::{fitted, printable_in, typed_key};
+use crate::joined::{fitted, key_of_character, printable_in};
 use crate::typed::{PIECE, Typed};
 use std::alloc::Global;
 use std::io::Read;
@@ -48,15 +48,15 @@ pub struct PromptEvents<S> {
 pub type TypedEvents<R, C> = PromptEvents<KeyReader<Typed<R, C>>>;
 
 impl<R: Read, C: Clock> PromptEvents<KeyReader<Typed<R, C>>> {
-    /// The events of a reader that is asked for one byte at a time, so that what is typed behind the last line is left to
-    /// others. Characters join.
+    /// Creates the events of a reader that is asked for one byte at a time, so that what is typed after the last line
+    /// is left to others. Characters join.
     pub fn new(alloc: Global, reader: R, clock: C) -> Self {
         let typed = Typed::new(alloc, reader, clock, 1);
         PromptEvents::over(alloc, KeyReader::new(alloc, typed), true)
     }
 
-    /// The events of a reader of which all is read that was typed, so that the source knows what is at hand. What was
-    /// read behind the last line is lost. Characters join.
+    /// Creates the events of a reader that is read up to all that was typed, so that the source knows what is at hand.
+    /// What was read after the last line is lost. Characters join.
     pub fn reading_ahead(alloc: Global, reader: R, clock: C) -> Self {
         let typed = Typed::new(alloc, reader, clock, PIECE);
         PromptEvents::over(alloc, KeyReader::new(alloc, typed), true)
@@ -90,8 +90,8 @@ impl<R: Read> PromptEvents<KeyReader<R>> {
 }
 
 impl<S: EventSource> PromptEvents<S> {
-    /// The events of a source, of which no event was told. `joins`: characters at hand at once come as one pasted text,
-    /// which is wrong for a host that binds characters.
+    /// Creates the events of a source that has told none. If `joins` is true, characters at hand at once come as one
+    /// pasted text, which is wrong for a host that binds characters.
     pub fn over(alloc: Global, source: S, joins: bool) -> Self
         ensures told { ⟦<PromptEvents<S> as EventSource>⟧.told result ≡ [] }
         ensures going { ⟦<PromptEvents<S> as EventSource>⟧.state result ≡ Going }
@@ -161,7 +161,7 @@ impl<S: EventSource> PromptEvents<S> {
         ensures moves { (more : List ℕ) × (list_all is_printable more ≡ true)
             × (string_bytes run.new ≡ string_bytes run.old ++ more)
             × Moves S.told S.follows self.old.source (pending_events self.old.pending)
-            self.new.source (pending_events self.new.pending) (map typed_key more) }
+            self.new.source (pending_events self.new.pending) (map key_of_character more) }
         ensures joins { self.new.joins ≡ self.old.joins }
         ensures wakes { self.new.wakes ≡ self.old.wakes }
         ensures told { self.new.told ≡ self.old.told }
@@ -174,7 +174,7 @@ impl<S: EventSource> PromptEvents<S> {
             match run.push(c) {
                 Ok(()) => {}
                 Err(_) => {
-                    self.pending = Pending::Event(typed_key(c));
+                    self.pending = Pending::Event(key_of_character(c));
                     break;
                 }
             }
@@ -187,20 +187,20 @@ impl<S: EventSource> PromptEvents<S> {
         ensures moves { (more : List ℕ) × (list_all is_printable more ≡ true)
             × (event_view result ≡ run_event first more)
             × Moves S.told S.follows self.old.source (pending_events self.old.pending)
-            self.new.source (pending_events self.new.pending) (map typed_key more) }
+            self.new.source (pending_events self.new.pending) (map key_of_character more) }
         ensures joins { self.new.joins ≡ self.old.joins }
         ensures wakes { self.new.wakes ≡ self.old.wakes }
         ensures told { self.new.told ≡ self.old.told }
     {
         let mut run = String::new(self.alloc);
         if run.push(first).is_err() {
-            return typed_key(first);
+            return key_of_character(first);
         }
         self.gather(&mut run);
         if run.len() > 1 {
             InputEvent::Paste(run)
         } else {
-            typed_key(first)
+            key_of_character(first)
         }
     }
 

@@ -4,7 +4,7 @@ ghost use Rattle.std.specs.Prelude.{◌≡◌};
 ghost use Rattle.tw_input.specs.EventView.{event_view};
 ghost use Rattle.tw_device.specs.Told.{events_in_option};
 ghost use Rattle.tw_surface.specs.Characters.{is_printable};
-ghost use Rattle.tw_prompt.specs.Joined.{fitted, printable_in, typed_key};
+ghost use Rattle.tw_prompt.specs.Joined.{fitted, printable_in, key_of_character};
 
 use crate::sizes::fitting;
 use tw_input::{InputEvent, KeyCode, KeyEvent, Modifiers};
@@ -46,8 +46,8 @@ pub fn fitted(event: InputEvent) -> Option<InputEvent>
 }
 
 /// Returns the event of a key that types a character.
-pub fn typed_key(c: char) -> InputEvent
-    ensures { event_view result ≡ typed_key c }
+pub fn key_of_character(c: char) -> InputEvent
+    ensures { event_view result ≡ key_of_character c }
 {
     InputEvent::Key(KeyEvent {
         key: KeyCode::Char(c),

@@ -6,7 +6,8 @@ use std::alloc::{AllocError, Global};
 use std::fs::{self, DirEntry};
 use tw_completion_parts::{DirectoryEntry, Listing};
 
-/// Whether a name can be typed as part of a path: it has no space, which would end the path, and no control character.
+/// Returns true if a name can be typed as part of a path: it has no space, which would end the path, and no control
+/// character.
 fn is_typed(name: &str) -> bool {
     for byte in name.as_bytes() {
         if *byte <= b' ' || *byte == 0x7f {
@@ -16,7 +17,7 @@ fn is_typed(name: &str) -> bool {
     true
 }
 
-/// The name of an entry, with a slash after that of a directory.
+/// Returns the name of an entry, with a slash after that of a directory.
 fn name_of(rt: HostRuntime, entry: &DirEntry) -> Result<String, AllocError> {
     let mut name = String::from_str(rt.alloc(), entry.file_name())?;
     if fs::metadata(&rt, entry.path()).is_ok_and(|it| it.is_dir()) {
@@ -25,7 +26,7 @@ fn name_of(rt: HostRuntime, entry: &DirEntry) -> Result<String, AllocError> {
     Ok(name)
 }
 
-/// The names in a directory, in their order, and none where it can't be read.
+/// Returns the names in a directory, sorted. There are none if it cannot be read.
 fn names_in(rt: HostRuntime, path: &str) -> Result<Vec<String>, AllocError> {
     let mut names = Vec::new(rt.alloc());
     let Ok(entries) = fs::read_dir(&rt, path) else {
@@ -43,7 +44,7 @@ fn names_in(rt: HostRuntime, path: &str) -> Result<Vec<String>, AllocError> {
     Ok(names)
 }
 
-/// The entry of a name, which has a slash after it where it is a directory's.
+/// Returns the entry of a name, which ends with a slash if it is a directory's.
 fn entry_of(alloc: Global, name: &str) -> Result<DirectoryEntry, AllocError> {
     let (name, is_directory) = match name.strip_suffix('/') {
         Some(name) => (name, true),
@@ -55,8 +56,8 @@ fn entry_of(alloc: Global, name: &str) -> Result<DirectoryEntry, AllocError> {
     })
 }
 
-/// What the directory at a path has, for paths that begin with `directory`, in the order of the names. Names with a
-/// space or a control character are left out, and a directory that can't be read has none.
+/// Reads the directory at `path` as a listing for paths that begin with `directory`, sorted by name. Names with a space
+/// or a control character are left out, and a directory that cannot be read has none.
 pub fn read_listing(rt: HostRuntime, path: &str, directory: &str) -> Result<Listing, AllocError>
     ensures { IfOk result (λ listing. string_bytes listing.directory ≡ directory.now) }
 {

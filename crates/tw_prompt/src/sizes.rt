@@ -8,7 +8,8 @@ use tw_terminal::ScreenSize;
 /// The most columns or rows that a screen can have here.
 const MOST: usize = 65_535;
 
-/// The size to take where a terminal tells this one: one that knows none tells zeros, and has 80 columns and 24 rows.
+/// Returns the size to use if a terminal reports this one: 80 columns or 24 rows in place of 0, which a terminal
+/// reports that does not know.
 pub fn usable(size: ScreenSize) -> ScreenSize
     ensures { result ≡ usable size }
 {
@@ -18,7 +19,7 @@ pub fn usable(size: ScreenSize) -> ScreenSize
     }
 }
 
-/// The usable size, or none where no screen is so large.
+/// Returns the usable size, or `None` if it is too large for a screen.
 pub fn fitting(size: ScreenSize) -> Option<ScreenSize>
     ensures { result ≡ fitting size }
 {

@@ -101,7 +101,7 @@ fn are_numbers(bytes: &[u8]) -> bool {
     true
 }
 
-/// Whether these bytes may be the beginning of a control sequence with numbers.
+/// Returns true if these bytes may begin a control sequence with numbers.
 fn is_beginning(bytes: &[u8]) -> bool {
     if bytes.len() < 2 {
         return true;
@@ -109,7 +109,7 @@ fn is_beginning(bytes: &[u8]) -> bool {
     bytes.len() < LONGEST && bytes[1] == b'[' && are_numbers(&bytes[2..])
 }
 
-/// Whether the beginning of a control sequence with this last byte tells a place.
+/// Returns true if the beginning of a control sequence with this last byte reports a place.
 fn is_report(bytes: &[u8]) -> bool {
     bytes.len() >= SHORTEST_REPORT
         && bytes[bytes.len() - 1] == b'R'
@@ -117,7 +117,7 @@ fn is_report(bytes: &[u8]) -> bool {
 }
 
 impl<R: Read, C: Clock> Typed<R, C> {
-    /// A reader over another one, which is asked for up to `most` bytes at once, and for no more than `PIECE`.
+    /// Creates a reader over another one, which is asked for at most `most` bytes at once, and at most `PIECE`.
     pub fn new(alloc: Global, reader: R, clock: C, most: usize) -> Self {
         Typed {
             reader,

@@ -8,11 +8,11 @@ use Rattle.tw_host.specs.ActionView.{ActionView}
 use Rattle.tw_host.specs.HostRules.{HostRules, or_default}
 use Rattle.tw_host.specs.KeyTable.{action_of}
 use Rattle.tw_key_parts.specs.KeyRules.{Edited, KeyRules}
-use Rattle.tw_prompt_host.specs.Going.{line_at}
+use Rattle.tw_prompt_host.specs.Going.{event_line}
 use Rattle.tw_prompt_host.specs.MenuState.{MenuView}
 use Rattle.tw_prompt_host.specs.MenuView.{turn_unless}
 use Rattle.tw_prompt_host.specs.FailingSearch.{fails_after}
-use Rattle.tw_prompt_host.specs.PromptRules.{Answer, Prompted, answer_at, answered, completing, is_kept, judged, prompt_rules, turn_taken_at}
+use Rattle.tw_prompt_host.specs.PromptRules.{Answer, Prompted, event_answer, answered, completing, is_kept, judged, prompt_rules, turn_taken_at}
 use Rattle.tw_prompt_host.specs.Validation.{is_accepting}
 
 -- what is lent is seen as it is
@@ -32,8 +32,8 @@ module _ {K : Type 0} where
 
 -- what is done of an answer, where all parts of it are as told
 pub resolved_as : {V S K : Type 0} (keys : KeyRules S K) (rules : HostRules V) (v w : Prompted V S) (event : EventView) (cut line : Cut) (answer : Answer K) (turn : Option MenuView) (keeps fails : Bool) (text : List ℕ) (default : Option ActionView)
-    → line ≡ line_at v.going cut → w ≡ record v { host = (rules.resolve v.host event line).value }
-    → answer ≡ answer_at keys rules v event line → turn ≡ turn_taken_at keys rules v event line → keeps ≡ is_kept keys rules v text → text ≡ line.line
+    → line ≡ event_line v.going cut → w ≡ record v { host = (rules.resolve v.host event line).value }
+    → answer ≡ event_answer keys rules v event line → turn ≡ turn_taken_at keys rules v event line → keeps ≡ is_kept keys rules v text → text ≡ line.line
     → fails ≡ (v.stops_failing_searches && fails_after v.lines v.going.searching default line) → default ≡ action_of event
     → (prompt_rules keys rules).resolve v event cut ≡ judged keys rules w event line w.host answer turn (keeps && is_accepting (or_default answer.action event)) fails
 resolved_as keys rules v w event cut line answer turn keeps fails text default at p q r s is t by = rw (p, q, r, s, is, t, by, at) refl

@@ -3,7 +3,7 @@ use Rattle.std.proofs.Common.{◌≡◌, ◌≢◌, ◌+◌, ◌==◌, ◌⊎◌
 use Rattle.std.specs.Prelude.{encode_utf8}
 use Rattle.std.proofs.lemmas.Bool.{true≢false}
 use Rattle.std.proofs.lemmas.Bool.Decides.{eqb_tells}
-use Rattle.tw_prompt_host.specs.Marks.{is_closing, is_letter, mark_no_letter, opened_pair}
+use Rattle.tw_prompt_host.specs.Marks.{is_closing, is_letter_or_space, mark_no_letter, opened_pair}
 use Rattle.tw_prompt_host.specs.Nesting.{Wrong, after_character, behind_opening, nesting_from, opens_behind}
 use Rattle.tw_prompt_host.specs.declared.marks.MarkPair.{MarkPair}
 use Rattle.tw_prompt_host.specs.declared.marks.OpenMark.{OpenMark}
@@ -16,17 +16,17 @@ module _ (pairs : List MarkPair) (c : ℕ) (rest : List ℕ) (opens : List OpenM
   nesting-wrong e = rw (nesting_from, e) refl
 
 -- a letter is no mark that is none
-module _ (c : ℕ) (letter : is_letter c ≡ true) where
-  differs : (mark : ℕ) → is_letter mark ≡ false → (mark == c) ≡ false
+module _ (c : ℕ) (letter : is_letter_or_space c ≡ true) where
+  differs : (mark : ℕ) → is_letter_or_space mark ≡ false → (mark == c) ≡ false
   differs mark other = cases (eqb_tells mark c) where
     cases : ((mark == c) ≡ true) × (mark ≡ c) ⊎ ((mark == c) ≡ false) × (mark ≢ c) → (mark == c) ≡ false
-    cases (inl (e, same)) = absurd (true≢false (sym letter ∙ ap is_letter (sym same) ∙ other))
+    cases (inl (e, same)) = absurd (true≢false (sym letter ∙ ap is_letter_or_space (sym same) ∙ other))
     cases (inr (e, differ)) = e
 
   not-opened : (pairs : List MarkPair) → mark_no_letter pairs ≡ true → opened_pair pairs c ≡ None
   not-opened [] none = refl
-  not-opened (pair ∷ pairs) none = by (is_letter pair.opening) (is_letter pair.closing) refl none (not-opened pairs) where
-    by : (a b : Bool) → is_letter pair.opening ≡ a → (if a then false else if b then false else mark_no_letter pairs) ≡ true
+  not-opened (pair ∷ pairs) none = by (is_letter_or_space pair.opening) (is_letter_or_space pair.closing) refl none (not-opened pairs) where
+    by : (a b : Bool) → is_letter_or_space pair.opening ≡ a → (if a then false else if b then false else mark_no_letter pairs) ≡ true
         → (mark_no_letter pairs ≡ true → opened_pair pairs c ≡ None) → opened_pair (pair ∷ pairs) c ≡ None
     by true b opening e rest = absurd (true≢false (sym e))
     by false true opening e rest = absurd (true≢false (sym e))
@@ -34,8 +34,8 @@ module _ (c : ℕ) (letter : is_letter c ≡ true) where
 
   not-closing : (pairs : List MarkPair) → mark_no_letter pairs ≡ true → is_closing pairs c ≡ false
   not-closing [] none = refl
-  not-closing (pair ∷ pairs) none = by (is_letter pair.opening) (is_letter pair.closing) refl none (not-closing pairs) where
-    by : (a b : Bool) → is_letter pair.closing ≡ b → (if a then false else if b then false else mark_no_letter pairs) ≡ true
+  not-closing (pair ∷ pairs) none = by (is_letter_or_space pair.opening) (is_letter_or_space pair.closing) refl none (not-closing pairs) where
+    by : (a b : Bool) → is_letter_or_space pair.closing ≡ b → (if a then false else if b then false else mark_no_letter pairs) ≡ true
         → (mark_no_letter pairs ≡ true → is_closing pairs c ≡ false) → is_closing (pair ∷ pairs) c ≡ false
     by true b closing e rest = absurd (true≢false (sym e))
     by false true closing e rest = absurd (true≢false (sym e))

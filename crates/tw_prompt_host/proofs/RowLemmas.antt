@@ -16,7 +16,7 @@ use Rattle.tw_host.specs.Faithful.{text_of_elements}
 use Rattle.tw_hosts.specs.Settling.{settled_column}
 use Rattle.tw_hosts.specs.SettledRules.{PromptScreenView, column_on}
 use Rattle.tw_hosts.proofs.SettlingLemmas.{printable_is_plain}
-use Rattle.tw_prompt_host.specs.Rows.{RowView, before_row, before_rows, break_elements, columns_behind, elements_from, elements_of_rows, first_row, is_row_character, last_shown, next_row, row_behind, row_break, row_columns, row_edge, row_with, rows_of_text, shown_cut, spread, spread_cut, spread_from}
+use Rattle.tw_prompt_host.specs.Rows.{RowView, before_row, before_rows, break_elements, columns_behind, elements_from, elements_of_rows, empty_first_row, is_row_character, last_shown, next_row, row_behind, row_break, row_columns, row_edge, row_with, rows_of_text, shown_cut, spread, spread_cut, spread_from}
 use Rattle.tw_prompt_host.specs.RowLaws.{ArePrintablePrompts, ElementsAreSpread, OneRowIsSettled, PrintableCutIsShown, PrintableIsShown, PrintableIsSpread, is_one_row}
 
 -- ---- pieces of a text between line feeds
@@ -70,13 +70,13 @@ module _ (screen : PromptScreenView) (continuation line : List ℕ) where
   last-behind row i j at none back =
       let whole : line ≡ take i line ++ (lf ∷ row) =
       sym (take-append-drop i line) ∙ ap (λ text. take i line ++ text) (at ∙ ap (λ text. lf ∷ text) (sym back)) in
-      let last : row_behind first_row line ≡ row_with next_row row =
-      ap (row_behind first_row) whole ∙ behind-feed first_row (take i line) row
+      let last : row_behind empty_first_row line ≡ row_with next_row row =
+      ap (row_behind empty_first_row) whole ∙ behind-feed empty_first_row (take i line) row
       ∙ behind-piece next_row row (no-feed-in row (subst (NoCharPasses (λ d. eqb d lf)) (sym back) none)) in
       ap (λ (shown : RowView). (before_row screen continuation shown.is_first, shown.text)) last
 
   pub last-whole : NoCharPasses (λ d. eqb d lf) line → last_shown screen (Some continuation) line ≡ (screen.prompt, line)
-  last-whole none = ap (λ (shown : RowView). (before_row screen continuation shown.is_first, shown.text)) (behind-piece first_row line (no-feed-in line none))
+  last-whole none = ap (λ (shown : RowView). (before_row screen continuation shown.is_first, shown.text)) (behind-piece empty_first_row line (no-feed-in line none))
 
 -- the rows of a piece, and of a piece before a line feed
 pub rows-piece : (piece : List ℕ) → HasNoFeed piece → rows_of_text piece ≡ piece ∷ []
@@ -243,17 +243,17 @@ module _ (screen : PromptScreenView) (continuation : List ℕ) where
       let back = drop cut.cursor cut.line in
       let whole = take-append-drop cut.cursor cut.line in
       let both = and_parts (is_one_row front) (is_one_row back) (sym (list_all-append (λ b. not (eqb b lf)) front back) ∙ ap is_one_row whole ∙ h) in
-      let first : spread_from screen continuation first_row front ≡ front = spread-piece first_row front (no-feed front both.0) in
-      let second : spread_from screen continuation (row_behind first_row front) back ≡ back = spread-piece (row_behind first_row front) back (no-feed back both.1) in
+      let first : spread_from screen continuation empty_first_row front ≡ front = spread-piece empty_first_row front (no-feed front both.0) in
+      let second : spread_from screen continuation (row_behind empty_first_row front) back ≡ back = spread-piece (row_behind empty_first_row front) back (no-feed back both.1) in
       let cursor : length front ≡ cut.cursor = length-take-le cut.cursor cut.line inside in
-      ap (λ shown. record { line = shown ++ spread_from screen continuation (row_behind first_row front) back; cursor = length shown }) first
+      ap (λ shown. record { line = shown ++ spread_from screen continuation (row_behind empty_first_row front) back; cursor = length shown }) first
       ∙ ap (λ shown. record { line = front ++ shown; cursor = length front }) second
       ∙ ap (λ line. record { line = line; cursor = length front }) whole
       ∙ ap (λ at. record { line = cut.line; cursor = at }) cursor
 
 pub one_row_is_settled : OneRowIsSettled
 one_row_is_settled screen continuation cut shown inside line elements =
-    ap (λ es. record { elements = es; column = column_on screen (spread_cut screen continuation (take cut.cursor cut.line) (drop cut.cursor cut.line)) }) (one-row-elements screen continuation None first_row shown.elements elements)
+    ap (λ es. record { elements = es; column = column_on screen (spread_cut screen continuation (take cut.cursor cut.line) (drop cut.cursor cut.line)) }) (one-row-elements screen continuation None empty_first_row shown.elements elements)
     ∙ ap (λ c. record { elements = shown.elements; column = column_on screen c }) (one-row-cut screen continuation cut inside line)
 
 pub elements_are_spread : ElementsAreSpread
@@ -337,17 +337,17 @@ module _ (screen : PromptScreenView) (continuation : List ℕ) (prompts : ArePri
   first-count : length (before_row screen continuation true) + 0 ≡ length screen.prompt
   first-count = omega arith
 
-  printable-first : (text : List ℕ) → list_all is_row_character text ≡ true → spread_from screen continuation first_row text ≡ spread screen.cols continuation (length screen.prompt) text
-  printable-first text t = printable-spread first_row (length screen.prompt) text refl t first-count
+  printable-first : (text : List ℕ) → list_all is_row_character text ≡ true → spread_from screen continuation empty_first_row text ≡ spread screen.cols continuation (length screen.prompt) text
+  printable-first text t = printable-spread empty_first_row (length screen.prompt) text refl t first-count
 
   printable-cut : (before rest : List ℕ) → list_all is_row_character before ≡ true → list_all is_row_character rest ≡ true
       → spread_cut screen continuation before rest ≡ shown_cut screen.cols continuation (length screen.prompt) before rest
   printable-cut before rest b r =
-      let behind = printable-behind first_row (length screen.prompt) before refl b first-count in
+      let behind = printable-behind empty_first_row (length screen.prompt) before refl b first-count in
       let at = columns_behind (length continuation) (length screen.prompt) before in
-      ap (λ shown. record { line = shown ++ spread_from screen continuation (row_behind first_row before) rest; cursor = length shown }) (printable-first before b)
+      ap (λ shown. record { line = shown ++ spread_from screen continuation (row_behind empty_first_row before) rest; cursor = length shown }) (printable-first before b)
       ∙ ap (λ shown. record { line = spread screen.cols continuation (length screen.prompt) before ++ shown; cursor = length (spread screen.cols continuation (length screen.prompt) before) })
-      (printable-spread (row_behind first_row before) at rest behind.0 r behind.1)
+      (printable-spread (row_behind empty_first_row before) at rest behind.0 r behind.1)
 
 pub printable_is_spread : PrintableIsSpread
 printable_is_spread screen continuation text prompts t = printable-first screen continuation prompts text t
@@ -360,7 +360,7 @@ printable_is_shown screen continuation cut shown prompts line faithful =
     let parts = list_all-append is_row_character (take cut.cursor cut.line) (drop cut.cursor cut.line) in
     let both = and_parts (list_all is_row_character (take cut.cursor cut.line)) (list_all is_row_character (drop cut.cursor cut.line))
     (sym parts ∙ ap (list_all is_row_character) (take-append-drop cut.cursor cut.line) ∙ line) in (
-      all-text screen continuation None first_row shown.elements ∙ ap (spread_from screen continuation first_row) faithful ∙ printable-first screen continuation prompts cut.line line,
+      all-text screen continuation None empty_first_row shown.elements ∙ ap (spread_from screen continuation empty_first_row) faithful ∙ printable-first screen continuation prompts cut.line line,
       ap (column_on screen) (printable-cut screen continuation prompts (take cut.cursor cut.line) (drop cut.cursor cut.line) both.0 both.1),
     )
 

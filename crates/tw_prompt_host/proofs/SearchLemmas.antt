@@ -1,15 +1,14 @@
 -- The line before a search, and a search that is given up.
-use Rattle.std.proofs.Common.{◌≡◌, ◌∙◌, ◌&&◌, not, Bool, true, false, refl, ap, sym, Option, Some, None}
-use Rattle.tw_input.specs.EventView.{EventView, Key}
+use Rattle.std.proofs.Common.{◌≡◌, ◌&&◌, not, Bool, true, false, refl, ap, Option, Some, None}
+use Rattle.tw_input.specs.EventView.{Key}
 use Rattle.tw_line.specs.Cut.{Cut}
 use Rattle.tw_line.specs.declared.movements.Movement.TheVariants as movement
 use Rattle.tw_host.specs.ActionView.{ActionView, Move}
-use Rattle.tw_host.specs.HostRules.{HostRules, Resolution, or_default}
-use Rattle.tw_key_parts.specs.KeyRules.{Edited, KeyRules}
+use Rattle.tw_host.specs.HostRules.{HostRules, or_default}
+use Rattle.tw_key_parts.specs.KeyRules.{KeyRules}
 use Rattle.tw_key_parts.specs.SearchWatch.{has_lines, searches_after}
 use Rattle.tw_prompt_host.specs.FailingSearch.{is_failing}
-use Rattle.tw_prompt_host.specs.Going.{before_search_after, comes_back_after, give_up_key, line_at}
-use Rattle.tw_prompt_host.specs.MenuState.{MenuView}
+use Rattle.tw_prompt_host.specs.Going.{before_search_after, comes_back_after, give_up_key, event_line}
 use Rattle.tw_prompt_host.specs.PromptLaws.{GivesLineBack, KeepsLineOfSearch}
 use Rattle.tw_prompt_host.specs.PromptRules.{Prompted, prompt_rules, said}
 use Rattle.tw_prompt_host.specs.Rows.{are_shown}
@@ -36,16 +35,16 @@ module _ {V S K : Type 0} (keys : KeyRules S K) (rules : HostRules V) where
 
   pub keeps_line_of_search : KeepsLineOfSearch keys rules
   keeps_line_of_search = record {
-    begun = λ v event cut still searches. begun_line v.going.searching _ (line_at v.going cut) v.going.before_search still searches;
-    kept = λ v event cut searching searches. kept_line v.going.searching _ (line_at v.going cut) v.going.before_search searching searches;
+    begun = λ v event cut still searches. begun_line v.going.searching _ (event_line v.going cut) v.going.before_search still searches;
+    kept = λ v event cut searching searches. kept_line v.going.searching _ (event_line v.going cut) v.going.before_search searching searches;
   }
 
   -- a search that is given up is left, and its line comes back
-  gave : (v : Prompted V S) (cut : Cut) → v.going.searching ≡ true → (rules.resolve v.host (Key give_up_key) (line_at v.going cut)).action ≡ None
+  gave : (v : Prompted V S) (cut : Cut) → v.going.searching ≡ true → (rules.resolve v.host (Key give_up_key) (event_line v.going cut)).action ≡ None
       → let after = Host.resolve v (Key give_up_key) cut in
       (after.action ≡ Some (Move movement.None)) × (after.value.going.comes_back ≡ v.going.before_search)
   gave v cut searching none =
-      let fails = v.stops_failing_searches && is_failing v.lines (line_at v.going cut).line in
+      let fails = v.stops_failing_searches && is_failing v.lines (event_line v.going cut).line in
       let after = Host.resolve v (Key give_up_key) cut in
       let answer : after.action ≡ Some (Move movement.None) = rw (searching, none) (said_all fails (are_shown v.rows && not true) (Some (Move movement.None)) (Some (Move movement.None)) refl) in
       (answer, ap (λ a. comes_back_after true (searches_after (has_lines v.lines) (or_default a (Key give_up_key)) v.going.searching) v.going.before_search) answer)

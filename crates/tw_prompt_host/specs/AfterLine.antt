@@ -37,17 +37,17 @@ abbrev pub room_on : PromptScreenView → Option (List ℕ) → List ℕ → ℕ
 room_on screen rows line = let shown = last_shown screen rows line in room_after screen.cols shown.0 shown.1
 
 -- as many clusters, from the first one on, as fit into the columns, up to a control character
-abbrev pub fitting : ℕ → List (List ℕ) → List ℕ
-fitting columns [] = []
-fitting columns (cluster ∷ more) =
-    if leb (cluster_width cluster) columns && not (has_control cluster) then cluster ++ fitting (columns - cluster_width cluster) more else []
+abbrev pub fitting_clusters : ℕ → List (List ℕ) → List ℕ
+fitting_clusters columns [] = []
+fitting_clusters columns (cluster ∷ more) =
+    if leb (cluster_width cluster) columns && not (has_control cluster) then cluster ++ fitting_clusters (columns - cluster_width cluster) more else []
 
 -- a text where all of it fits, and else what fits of it before …, if that does
-abbrev pub cut_to : ℕ → List ℕ → List ℕ
-cut_to columns text =
+abbrev pub shortened_to : ℕ → List ℕ → List ℕ
+shortened_to columns text =
     let clusters = graphemes true text in
-    if length (fitting columns clusters) == length text then fitting columns clusters
-    else if columns == 0 then [] else fitting (columns - 1) clusters ++ encode_utf8 8230
+    if length (fitting_clusters columns clusters) == length text then fitting_clusters columns clusters
+    else if columns == 0 then [] else fitting_clusters (columns - 1) clusters ++ encode_utf8 8230
 
 -- a text in a style, and no element for the empty one
 abbrev pub styled_if_some : CellAttributes → List ℕ → List ElementView
@@ -56,4 +56,4 @@ styled_if_some style (byte ∷ bytes) = styled_text style (byte ∷ bytes)
 
 -- a text after a line on a screen
 abbrev pub after_line_on : PromptScreenView → Option (List ℕ) → List ℕ → CellAttributes → List ℕ → List ElementView
-after_line_on screen rows line style text = styled_if_some style (cut_to (room_on screen rows line) text)
+after_line_on screen rows line style text = styled_if_some style (shortened_to (room_on screen rows line) text)

@@ -1,5 +1,5 @@
 -- The state of the line that is read.
-use Rattle.std.specs.Prelude.{◌&&◌, Bool, true, false, List, codes, Option, Some, None, unwrap_or}
+use Rattle.std.specs.Prelude.{◌&&◌, Bool, true, false, codes, Option, Some, None, unwrap_or}
 use Rattle.tw_input.specs.declared.key.KeyEvent.{KeyEvent}
 use Rattle.tw_input.specs.EventView.{EventView}
 use Rattle.tw_input.specs.Modifiers.{ctrl}
@@ -41,12 +41,12 @@ going_view going = record {
 }
 
 -- before a line
-abbrev pub at_rest : GoingView
-at_rest = record { searching = false; fails = false; before_search = None; comes_back = None; kept = false; over = false; menu = Closed }
+abbrev pub going_at_rest : GoingView
+going_at_rest = record { searching = false; fails = false; before_search = None; comes_back = None; kept = false; over = false; menu = Closed }
 
 -- the line at an event: the one that comes back, or else the editor's
-abbrev pub line_at : GoingView → Cut → Cut
-line_at going cut = unwrap_or going.comes_back cut
+abbrev pub event_line : GoingView → Cut → Cut
+event_line going cut = unwrap_or going.comes_back cut
 
 -- the line before a search, by whether the editor searched before an event and does after it
 abbrev pub before_search_after : Bool → Bool → Cut → Option Cut → Option Cut
@@ -60,9 +60,9 @@ comes_back_after true false before = before
 comes_back_after given_up searches before = None
 
 -- whether a line stays kept: an action that was kept back keeps it, and another one ends that
-abbrev pub kept_after : Bool → Option ActionView → Bool → Bool
-kept_after true action kept = true
-kept_after false action kept = kept && is_idle action
+abbrev pub stays_kept : Bool → Option ActionView → Bool → Bool
+stays_kept true action kept = true
+stays_kept false action kept = kept && is_idle action
 
 -- whether an action ends the line
 abbrev pub is_last : Option ActionView → Bool
@@ -90,7 +90,7 @@ going_after lines came going =
       fails = came.fails;
       before_search = before_search_after going.searching searches came.before going.before_search;
       comes_back = comes_back_after (is_key give_up_key came.event) searches going.before_search;
-      kept = kept_after came.back came.action going.kept;
+      kept = stays_kept came.back came.action going.kept;
       over = is_last came.action;
       menu = menu_behind came.turn (is_same_cut came.before came.after) came.action going.menu;
     }

@@ -15,3 +15,4 @@ pub mod PromptLaws
 pub mod NestedLines
 pub mod Rows
 pub mod RowLaws
+pub mod Plain

@@ -5,14 +5,14 @@ use Rattle.tw_prompt_host.specs.declared.marks.MarkKind.TheVariants.{Brackets, Q
 use Rattle.tw_prompt_host.specs.declared.marks.MarkPair.{MarkPair}
 
 -- whether a character is a small letter of ASCII or a space
-abbrev pub is_letter : ℕ → Bool
-is_letter c = if c == 32 then true else leb 97 c && leb c 122
+abbrev pub is_letter_or_space : ℕ → Bool
+is_letter_or_space c = if c == 32 then true else leb 97 c && leb c 122
 
 -- whether no letter is a mark of the pairs
 abbrev pub mark_no_letter : List MarkPair → Bool
 mark_no_letter [] = true
 mark_no_letter (pair ∷ pairs) =
-    if is_letter pair.opening then false else if is_letter pair.closing then false else mark_no_letter pairs
+    if is_letter_or_space pair.opening then false else if is_letter_or_space pair.closing then false else mark_no_letter pairs
 
 -- the first pair that a character opens
 abbrev pub opened_pair : List MarkPair → ℕ → Option MarkPair

@@ -28,16 +28,16 @@ abbrev pub back_key : KeyEvent
 back_key = key_press shift Tab
 
 -- the candidate after the chosen one, and after the last one the first
-abbrev pub next_in : Shown → ℕ
-next_in m = (m.chosen + 1) % length m.candidates
+abbrev pub chosen_next : Shown → ℕ
+chosen_next m = (m.chosen + 1) % length m.candidates
 
 -- the candidate before it, and before the first one the last
-abbrev pub previous_in : Shown → ℕ
-previous_in m = if m.chosen == 0 then length m.candidates - 1 else m.chosen - 1
+abbrev pub chosen_previous : Shown → ℕ
+chosen_previous m = if m.chosen == 0 then length m.candidates - 1 else m.chosen - 1
 
 -- one step on or back
 abbrev pub stepped : Bool → Shown → Shown
-stepped back m = record m { chosen = if back then previous_in m else next_in m }
+stepped back m = record m { chosen = if back then chosen_previous m else chosen_next m }
 
 -- so a menu, if it is open
 abbrev pub menu_stepped : Bool → MenuView → MenuView

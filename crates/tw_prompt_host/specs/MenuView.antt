@@ -20,9 +20,9 @@ menu_view (menu.Few candidates) = Few (map candidate_view candidates.items)
 menu_view (menu.Open m) = Open m
 
 -- whether a menu is open
-abbrev pub is_open : MenuView → Bool
-is_open (Open m) = true
-is_open _ = false
+abbrev pub is_menu_open : MenuView → Bool
+is_menu_open (Open m) = true
+is_menu_open _ = false
 
 -- the page of an open menu, or else the other host's elements
 abbrev pub page_or : MenuStyle → MenuView → List ElementView → List ElementView

@@ -68,13 +68,13 @@ module _ (pairs : List MarkPair) where
   nesting_of text = nesting_from (chars text) [] 0
 
   -- the last open mark, if a character closes it
-  abbrev pub closed_by : ℕ → Option OpenMark → Option OpenMark
-  closed_by c None = None
-  closed_by c (Some last) = if closes last.pair c then Some last else None
+  abbrev pub last_closed_by : ℕ → Option OpenMark → Option OpenMark
+  last_closed_by c None = None
+  last_closed_by c (Some last) = if closes last.pair c then Some last else None
 
   -- the mark that a character closes behind what a text leaves
   abbrev pub closed_in : ℕ → NestingView → Option OpenMark
-  closed_in c (Open opens) = closed_by c (innermost opens)
+  closed_in c (Open opens) = last_closed_by c (innermost opens)
   closed_in c (Wrong mark at) = None
 
   abbrev pub closed_mark : List ℕ → ℕ → Option OpenMark

@@ -12,19 +12,19 @@ use Rattle.tw_host.specs.ElementView.{ElementView}
 use Rattle.tw_host.specs.HostRules.{Highlight, HostRules, Resolution, or_default}
 use Rattle.tw_host.specs.KeyTable.{action_of}
 use Rattle.tw_hosts.specs.SettledRules.{PromptScreenView, screen_after}
-use Rattle.tw_completion_parts.specs.Completers.{ContextCompleterView, completed_by}
+use Rattle.tw_completion_parts.specs.Completers.{ContextCompleterView, context_candidates}
 use Rattle.tw_completion_parts.specs.FileNames.{ListingView}
 use Rattle.tw_completion_parts.specs.SharedCandidate.{beginning_first}
 use Rattle.tw_key_parts.specs.Keys.{is_key}
 use Rattle.tw_key_parts.specs.KeyRules.{Edited, KeyRules, step_of}
 use Rattle.tw_key_parts.specs.SearchWatch.{has_lines}
-use Rattle.tw_prompt_host.specs.Going.{Came, GoingView, give_up_key, going_after, line_at}
+use Rattle.tw_prompt_host.specs.Going.{Came, GoingView, give_up_key, going_after, event_line}
 use Rattle.tw_prompt_host.specs.Hint.{are_on, hint_if_under, hint_of, hint_taken_by, shown_under}
 use Rattle.tw_prompt_host.specs.AfterLine.{after_line_on}
 use Rattle.tw_prompt_host.specs.FailingSearch.{failing_text, fails_after, is_failing}
 use Rattle.tw_prompt_host.specs.MenuLayout.{style_after}
 use Rattle.tw_prompt_host.specs.MenuState.{MenuView, menu_begun, turned}
-use Rattle.tw_prompt_host.specs.MenuView.{is_open, known, offered, page_or, turn_line, turn_unless}
+use Rattle.tw_prompt_host.specs.MenuView.{is_menu_open, known, offered, page_or, turn_line, turn_unless}
 use Rattle.tw_prompt_host.specs.Rows.{are_shown, highlight_on}
 use Rattle.tw_prompt_host.specs.Validation.{is_accepting, keeps_line, shown_lack}
 use Rattle.tw_prompt_host.specs.declared.hint.Hints.{Hints}
@@ -119,7 +119,7 @@ module _ {V S K : Type 0} (keys : KeyRules S K) (rules : HostRules V) where
 
   -- a hint may stand after the line: at its end, if it is not over and was not kept, while no menu is open
   abbrev pub is_hinted : Prompted V S → Cut → Bool
-  is_hinted v cut = (not v.going.over && not v.going.kept) && (not (is_open v.going.menu) && (cut.cursor == length cut.line))
+  is_hinted v cut = (not v.going.over && not v.going.kept) && (not (is_menu_open v.going.menu) && (cut.cursor == length cut.line))
 
   -- what stands after the line: in a search that it fails, and else the hint
   abbrev pub after_line : Prompted V S → Cut → List ElementView
@@ -133,7 +133,7 @@ module _ {V S K : Type 0} (keys : KeyRules S K) (rules : HostRules V) where
 
   -- the candidates, but for the menu
   abbrev pub found : Prompted V S → Cut → List CandidateView
-  found v cut = beginning_first (completed_or (completed_by v.completers v.listings cut) (rules.candidates v.host cut))
+  found v cut = beginning_first (completed_or (context_candidates v.completers v.listings cut) (rules.candidates v.host cut))
 
   -- those with which a completion would begin at an event
   abbrev pub known_at : Prompted V S → EventView → Cut → Option (List CandidateView)
@@ -189,8 +189,8 @@ module _ {V S K : Type 0} (keys : KeyRules S K) (rules : HostRules V) where
       (record { event = event; before = cut; after = answer.cut; action = or_default action event; back = held; fails = says_failing held action fails; turn = turn }) action
 
   -- what is answered to an event at a line: the host goes first, and then the edit, which a completion is too
-  abbrev pub answer_at : Prompted V S → EventView → Cut → Answer K
-  answer_at v event cut =
+  abbrev pub event_answer : Prompted V S → EventView → Cut → Answer K
+  event_answer v event cut =
       let own = rules.resolve v.host event cut in answered own.action (completing (edit_at v event cut) (turn_line (turn_at v event cut))) own.cut
 
   -- where the event turns the menu, if nothing else is answered
@@ -200,7 +200,7 @@ module _ {V S K : Type 0} (keys : KeyRules S K) (rules : HostRules V) where
   -- an event at a line
   abbrev pub resolved_at : Prompted V S → EventView → Cut → Resolution (Prompted V S)
   resolved_at v event cut =
-      let answer = answer_at v event cut in
+      let answer = event_answer v event cut in
       judged v event cut (rules.resolve v.host event cut).value answer (turn_taken_at v event cut) (is_back v event cut answer.action) (fails_by_key v event cut)
 
   abbrev pub prompt_rules : HostRules (Prompted V S)
@@ -210,5 +210,5 @@ module _ {V S K : Type 0} (keys : KeyRules S K) (rules : HostRules V) where
     preview = λ v line. page_or v.style v.going.menu (shown_lack v.going.kept (v.lacks line) (shown_under (rules.preview v.host line) (hint_under v line)));
     highlight = λ v cut. with_more (highlight_on v.screen v.rows cut (rules.highlight v.host cut)) (after_line v cut);
     candidates = λ v cut. offered v.going.menu (found v cut);
-    resolve = λ v event cut. resolved_at v event (line_at v.going cut);
+    resolve = λ v event cut. resolved_at v event (event_line v.going cut);
   }

@@ -9,7 +9,7 @@ use Rattle.tw_host.specs.Faithful.{text_of_elements}
 use Rattle.tw_host.specs.HostRules.{Highlight}
 use Rattle.tw_hosts.specs.Settling.{settled_column}
 use Rattle.tw_hosts.specs.SettledRules.{PromptScreenView, settled_highlight}
-use Rattle.tw_prompt_host.specs.Rows.{RowView, elements_from, first_row, highlight_in_rows, is_row_character, shown_cut, spread, spread_cut, spread_from}
+use Rattle.tw_prompt_host.specs.Rows.{RowView, elements_from, empty_first_row, highlight_in_rows, is_row_character, shown_cut, spread, spread_cut, spread_from}
 
 -- a text without a line feed
 abbrev pub is_one_row : List ℕ → Bool
@@ -34,7 +34,7 @@ pub record ArePrintablePrompts (first other : List ℕ) : Type 0 where
 -- printable rows after such prompts are shown by counting their characters
 abbrev pub PrintableIsSpread : Type 0
 PrintableIsSpread = (screen : PromptScreenView) (continuation text : List ℕ) → ArePrintablePrompts screen.prompt continuation → list_all is_row_character text ≡ true
-    → spread_from screen continuation first_row text ≡ spread screen.cols continuation (length screen.prompt) text
+    → spread_from screen continuation empty_first_row text ≡ spread screen.cols continuation (length screen.prompt) text
 
 -- and so is the cursor in them
 abbrev pub PrintableCutIsShown : Type 0

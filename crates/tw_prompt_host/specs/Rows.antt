@@ -68,8 +68,8 @@ abbrev pub row_view : OpenRow → RowView
 row_view row = record { is_first = row.is_first; text = string_bytes row.text }
 
 -- the first row and another one, with no text yet
-abbrev pub first_row : RowView
-first_row = record { is_first = true; text = [] }
+abbrev pub empty_first_row : RowView
+empty_first_row = record { is_first = true; text = [] }
 
 abbrev pub next_row : RowView
 next_row = record { is_first = false; text = [] }
@@ -108,8 +108,8 @@ module _ (screen : PromptScreenView) (continuation : List ℕ) where
   -- the text that shows a line, and its cursor in it
   abbrev pub spread_cut : List ℕ → List ℕ → Cut
   spread_cut before rest = record {
-    line = spread_from first_row before ++ spread_from (row_behind first_row before) rest;
-    cursor = length (spread_from first_row before);
+    line = spread_from empty_first_row before ++ spread_from (row_behind empty_first_row before) rest;
+    cursor = length (spread_from empty_first_row before);
   }
 
   -- the column of the cursor: the settled one in that text
@@ -145,7 +145,7 @@ module _ (screen : PromptScreenView) (continuation : List ℕ) where
 
   -- the elements of a line
   abbrev pub elements_in_rows : List ElementView → List ElementView
-  elements_in_rows elements = elements_from None first_row elements
+  elements_in_rows elements = elements_from None empty_first_row elements
 
   -- what a host shows, in rows
   abbrev pub highlight_in_rows : Cut → Highlight → Highlight
@@ -164,7 +164,7 @@ are_shown (Some continuation) = true
 -- what stands before the last row of a line, and that row
 abbrev pub last_shown : PromptScreenView → Option (List ℕ) → List ℕ → List ℕ × List ℕ
 last_shown screen None line = (screen.prompt, line)
-last_shown screen (Some continuation) line = let row = row_behind first_row line in (before_row screen continuation row.is_first, row.text)
+last_shown screen (Some continuation) line = let row = row_behind empty_first_row line in (before_row screen continuation row.is_first, row.text)
 
 -- the elements of a line, in rows if it is shown so
 abbrev pub elements_on : PromptScreenView → Option (List ℕ) → List ElementView → List ElementView

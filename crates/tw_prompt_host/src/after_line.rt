@@ -4,7 +4,7 @@ ghost use Rattle.std.specs.Prelude.{◌≡◌, IfOk, map, string_bytes, true};
 ghost use Rattle.unicode_segmentation.specs.Grapheme.{graphemes};
 ghost use Rattle.tw_host.specs.ElementView.{element_view};
 ghost use Rattle.tw_hosts.specs.SettledRules.{screen_view};
-ghost use Rattle.tw_prompt_host.specs.AfterLine.{after_line_on, cut_to, fitting, has_control, prompt_column, room_after};
+ghost use Rattle.tw_prompt_host.specs.AfterLine.{after_line_on, shortened_to, fitting_clusters, has_control, prompt_column, room_after};
 ghost use Rattle.tw_prompt_host.specs.Rows.{rows_view};
 
 use crate::rows::Rows;
@@ -48,9 +48,9 @@ fn room_after(cols: usize, before: &str, row: &str) -> usize
 }
 
 /// Returns as many grapheme clusters of a text as fit into `columns` columns, up to a control character.
-fn fitting(alloc: Global, columns: usize, text: &str) -> Result<String, AllocError>
+fn fitting_clusters(alloc: Global, columns: usize, text: &str) -> Result<String, AllocError>
     ensures { IfOk result (λ shown. string_bytes shown
-        ≡ fitting columns (graphemes true text.now)) }
+        ≡ fitting_clusters columns (graphemes true text.now)) }
 {
     let mut shown = String::new(alloc);
     let mut left = columns;
@@ -68,17 +68,17 @@ fn fitting(alloc: Global, columns: usize, text: &str) -> Result<String, AllocErr
 }
 
 /// Returns a text if all of it fits, or else what fits of it before `…`, or nothing if not even that does.
-fn cut_to(alloc: Global, columns: usize, text: &str) -> Result<String, AllocError>
-    ensures { IfOk result (λ shown. string_bytes shown ≡ cut_to columns text.now) }
+fn shortened_to(alloc: Global, columns: usize, text: &str) -> Result<String, AllocError>
+    ensures { IfOk result (λ shown. string_bytes shown ≡ shortened_to columns text.now) }
 {
-    let all = fitting(alloc, columns, text)?;
+    let all = fitting_clusters(alloc, columns, text)?;
     if all.len() == text.len() {
         return Ok(all);
     }
     if columns == 0 {
         return Ok(String::new(alloc));
     }
-    let mut shown = fitting(alloc, columns - 1, text)?;
+    let mut shown = fitting_clusters(alloc, columns - 1, text)?;
     shown.push(CUT)?;
     Ok(shown)
 }
@@ -96,7 +96,7 @@ pub fn after_line_on(
         ≡ after_line_on (screen_view screen.now) (rows_view rows.now) line.now style text.now) }
 {
     let (before, row) = rows.last_shown(screen, line);
-    let shown = cut_to(alloc, room_after(screen.cols, before, row), text)?;
+    let shown = shortened_to(alloc, room_after(screen.cols, before, row), text)?;
     if shown.is_empty() {
         return Ok(Vec::new(alloc));
     }

@@ -5,7 +5,7 @@ ghost use Rattle.tw_input.specs.EventView.{event_view};
 ghost use Rattle.tw_key_parts.specs.EditView.{lent_action};
 ghost use Rattle.tw_key_parts.specs.Keys.{is_key};
 ghost use Rattle.tw_key_parts.specs.SearchWatch.{searches_after};
-ghost use Rattle.tw_prompt_host.specs.Going.{at_rest, before_search_after, comes_back_after, give_up_key, going_after, going_view, is_last, kept_after};
+ghost use Rattle.tw_prompt_host.specs.Going.{going_at_rest, before_search_after, comes_back_after, give_up_key, going_after, going_view, is_last, stays_kept};
 ghost use Rattle.tw_prompt_host.specs.MenuView.{asks, menu_view, turn_view};
 
 use crate::menu::{Menu, Turn};
@@ -47,8 +47,8 @@ pub fn gives_up(event: &InputEvent) -> bool
 }
 
 /// Returns true if the line was not accepted, now or before.
-fn kept_after(back: bool, action: Option<&Action>, kept: bool) -> bool
-    ensures { result ≡ kept_after back (lent_action action.entry) kept }
+fn stays_kept(back: bool, action: Option<&Action>, kept: bool) -> bool
+    ensures { result ≡ stays_kept back (lent_action action.entry) kept }
 {
     back || (kept && action.is_none())
 }
@@ -66,7 +66,7 @@ fn is_last(action: Option<&Action>) -> bool
 impl Going {
     /// Creates the state before a line.
     pub fn new() -> Self
-        ensures { going_view result ≡ at_rest }
+        ensures { going_view result ≡ going_at_rest }
     {
         Going {
             searching: false,
@@ -140,7 +140,7 @@ impl Going {
         }) (going_view self.old) }
     {
         self.menu.follow(turn, &before, after, action);
-        self.kept = kept_after(back, action, self.kept);
+        self.kept = stays_kept(back, action, self.kept);
         self.over = is_last(action);
         self.fails = fails;
         let searches = searches_after(lines, action, self.searching);

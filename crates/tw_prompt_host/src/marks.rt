@@ -1,7 +1,7 @@
 //! The marks of a language.
 
 ghost use Rattle.std.specs.Prelude.{◌≡◌, IfOk};
-ghost use Rattle.tw_prompt_host.specs.Marks.{brackets, closes, common_pairs, escape_pair, escapes, is_closing, is_letter, mark_no_letter, opened_pair, quotation};
+ghost use Rattle.tw_prompt_host.specs.Marks.{brackets, closes, common_pairs, escape_pair, escapes, is_closing, is_letter_or_space, mark_no_letter, opened_pair, quotation};
 
 use std::alloc::{AllocError, Global};
 
@@ -110,8 +110,8 @@ pub fn escapes(escape: Option<char>, c: char) -> bool
 }
 
 /// Returns true if a character is a small letter of ASCII or a space.
-pub fn is_letter(c: char) -> bool
-    ensures { result ≡ is_letter c }
+pub fn is_letter_or_space(c: char) -> bool
+    ensures { result ≡ is_letter_or_space c }
 {
     c == ' ' || ('a' <= c && c <= 'z')
 }
@@ -121,7 +121,7 @@ pub fn mark_no_letter(pairs: &[MarkPair]) -> bool
     ensures { result ≡ mark_no_letter pairs.now }
 {
     for pair in pairs {
-        if is_letter(pair.opening) || is_letter(pair.closing) {
+        if is_letter_or_space(pair.opening) || is_letter_or_space(pair.closing) {
             return false;
         }
     }

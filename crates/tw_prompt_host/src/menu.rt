@@ -5,8 +5,8 @@ ghost use Rattle.tw_host.specs.CandidateView.{candidate_view};
 ghost use Rattle.tw_input.specs.EventView.{event_view};
 ghost use Rattle.tw_key_parts.specs.EditView.{lent_action};
 ghost use Rattle.tw_key_parts.specs.Ring.{is_same_cut};
-ghost use Rattle.tw_prompt_host.specs.MenuView.{chosen_of, is_open, menu_view, turn_line, turn_view};
-ghost use Rattle.tw_prompt_host.specs.MenuState.{menu_after, menu_begun, menu_behind, menu_stepped, next_in, previous_in, stepped, turned};
+ghost use Rattle.tw_prompt_host.specs.MenuView.{chosen_of, is_menu_open, menu_view, turn_line, turn_view};
+ghost use Rattle.tw_prompt_host.specs.MenuState.{menu_after, menu_begun, menu_behind, menu_stepped, chosen_next, chosen_previous, stepped, turned};
 
 use std::alloc::{AllocError, Global};
 use std::marker::Model;
@@ -45,14 +45,14 @@ impl Model for OpenMenu {
 impl OpenMenu {
     /// Returns the candidate after the chosen one, and after the last one the first.
     fn next(&self) -> usize
-        ensures { result ≡ next_in self.now }
+        ensures { result ≡ chosen_next self.now }
     {
         (self.chosen + 1) % self.candidates.len()
     }
 
     /// Returns the candidate before the chosen one, and before the first one the last.
     fn previous(&self) -> usize
-        ensures { result ≡ previous_in self.now }
+        ensures { result ≡ chosen_previous self.now }
     {
         if self.chosen == 0 {
             self.candidates.len() - 1
@@ -103,7 +103,7 @@ pub enum Turn {
 impl Menu {
     /// Returns true if it is open.
     pub fn is_open(&self) -> bool
-        ensures { result ≡ is_open (menu_view self.now) }
+        ensures { result ≡ is_menu_open (menu_view self.now) }
     {
         matches!(self, Menu::Open(_))
     }

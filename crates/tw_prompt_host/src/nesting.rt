@@ -5,8 +5,8 @@ ghost use Rattle.tw_prompt_host.specs.Marks.{mark_no_letter};
 ghost use Rattle.tw_prompt_host.specs.Nesting.{after_character, after_text, closed_mark, innermost, nesting_of, nesting_view, opens_behind, where_right};
 
 use crate::marks::{
-    MarkKind, MarkPair, OpenMark, escape_pair, escapes, is_closing, is_letter, mark_no_letter,
-    opened_pair,
+    MarkKind, MarkPair, OpenMark, escape_pair, escapes, is_closing, is_letter_or_space,
+    mark_no_letter, opened_pair,
 };
 use std::alloc::{AllocError, Global};
 
@@ -40,7 +40,7 @@ fn take_opening(
     ensures { IfOk result (λ right. opens_behind pairs.now opens.old.items at c
         ≡ where_right right opens.new.items) }
 {
-    if letters && is_letter(c) {
+    if letters && is_letter_or_space(c) {
         return Ok(true);
     }
     match opened_pair(pairs, c) {

@@ -2,7 +2,8 @@
 
 ghost use Rattle.std.specs.Prelude.{◌≡◌, [], true, None, IfOk};
 ghost use Rattle.tw_hosts.specs.SettledRules.{screen_view};
-ghost use Rattle.tw_prompt_host.specs.Going.{at_rest, going_view};
+ghost use Rattle.tw_prompt_host.specs.Going.{going_at_rest, going_view};
+ghost use Rattle.tw_prompt_host.specs.Plain.{with_parts};
 ghost use Rattle.tw_prompt_host.specs.Rows.{rows_view};
 ghost use Rattle.tw_prompt_host.specs.MenuLayout.{reverse_style};
 ghost use Rattle.tw_prompt_host.specs.declared.hint.Hints.TheVariants.{Off};
@@ -34,7 +35,7 @@ impl PromptHost<NopLineEditorHost, BasicHistory, Keys<ReadlineKeys>, AllLines> {
         ensures screen { IfOk result (λ it. screen_view it.screen
             ≡ record { cols = cols; prompt = prompt.now }) }
         ensures rows { IfOk result (λ it. rows_view it.rows ≡ None) }
-        ensures going { IfOk result (λ it. going_view it.going ≡ at_rest) }
+        ensures going { IfOk result (λ it. going_view it.going ≡ going_at_rest) }
     {
         let screen = PromptScreen {
             cols,
@@ -60,20 +61,7 @@ impl PromptHost<NopLineEditorHost, BasicHistory, Keys<ReadlineKeys>, AllLines> {
 impl<H: Drop, L: Drop, K: Drop, V: Drop> PromptHost<H, L, K, V> {
     /// Replaces the application's host.
     pub fn with_host<N>(self, host: N) -> PromptHost<N, L, K, V>
-        ensures { result ≡ record {
-          host = host;
-          history = self.history;
-          completers = self.completers;
-          listings = self.listings;
-          keys = self.keys;
-          hints = self.hints;
-          stops_failing_searches = self.stops_failing_searches;
-          validator = self.validator;
-          menu = self.menu;
-          screen = self.screen;
-          rows = self.rows;
-          going = self.going;
-        } }
+        ensures { result ≡ with_parts host self.history self.keys self.validator self }
     {
         PromptHost {
             host,
@@ -93,20 +81,7 @@ impl<H: Drop, L: Drop, K: Drop, V: Drop> PromptHost<H, L, K, V> {
 
     /// Replaces the history.
     pub fn with_history<N>(self, history: N) -> PromptHost<H, N, K, V>
-        ensures { result ≡ record {
-          host = self.host;
-          history = history;
-          completers = self.completers;
-          listings = self.listings;
-          keys = self.keys;
-          hints = self.hints;
-          stops_failing_searches = self.stops_failing_searches;
-          validator = self.validator;
-          menu = self.menu;
-          screen = self.screen;
-          rows = self.rows;
-          going = self.going;
-        } }
+        ensures { result ≡ with_parts self.host history self.keys self.validator self }
     {
         PromptHost {
             host: self.host,
@@ -126,20 +101,7 @@ impl<H: Drop, L: Drop, K: Drop, V: Drop> PromptHost<H, L, K, V> {
 
     /// Replaces the parts with keys.
     pub fn with_keys<N>(self, keys: N) -> PromptHost<H, L, N, V>
-        ensures { result ≡ record {
-          host = self.host;
-          history = self.history;
-          completers = self.completers;
-          listings = self.listings;
-          keys = keys;
-          hints = self.hints;
-          stops_failing_searches = self.stops_failing_searches;
-          validator = self.validator;
-          menu = self.menu;
-          screen = self.screen;
-          rows = self.rows;
-          going = self.going;
-        } }
+        ensures { result ≡ with_parts self.host self.history keys self.validator self }
     {
         PromptHost {
             host: self.host,
@@ -159,20 +121,7 @@ impl<H: Drop, L: Drop, K: Drop, V: Drop> PromptHost<H, L, K, V> {
 
     /// Replaces the validator.
     pub fn with_validator<N>(self, validator: N) -> PromptHost<H, L, K, N>
-        ensures { result ≡ record {
-          host = self.host;
-          history = self.history;
-          completers = self.completers;
-          listings = self.listings;
-          keys = self.keys;
-          hints = self.hints;
-          stops_failing_searches = self.stops_failing_searches;
-          validator = validator;
-          menu = self.menu;
-          screen = self.screen;
-          rows = self.rows;
-          going = self.going;
-        } }
+        ensures { result ≡ with_parts self.host self.history self.keys validator self }
     {
         PromptHost {
             host: self.host,

@@ -14,12 +14,12 @@ ghost use Rattle.tw_completion_parts.specs.FileNames.{listing_view};
 ghost use Rattle.tw_key_parts.specs.EditView.{edit_view, lent_action};
 ghost use Rattle.tw_key_parts.specs.KeyRules.{step_of};
 ghost use Rattle.tw_key_parts.specs.SearchWatch.{has_lines};
-ghost use Rattle.tw_prompt_host.specs.Going.{at_rest, give_up_key, going_after, going_view, line_at};
+ghost use Rattle.tw_prompt_host.specs.Going.{going_at_rest, give_up_key, going_after, going_view, event_line};
 ghost use Rattle.tw_prompt_host.specs.Hint.{are_on, hint_taken_by};
 ghost use Rattle.tw_prompt_host.specs.FailingSearch.{fails_after, is_failing};
 ghost use Rattle.tw_prompt_host.specs.MenuLayout.{style_after};
 ghost use Rattle.tw_prompt_host.specs.MenuView.{known, menu_view, turn_line, turn_unless, turn_view};
-ghost use Rattle.tw_prompt_host.specs.PromptRules.{Prompted, after_line, answer_at, answered, completing, edit_at, followed, found, hint_under, is_kept, says_failing, judged, leaving, opens_row, prompt_rules, said, turn_at, turn_taken_at};
+ghost use Rattle.tw_prompt_host.specs.PromptRules.{Prompted, after_line, event_answer, answered, completing, edit_at, followed, found, hint_under, is_kept, says_failing, judged, leaving, opens_row, prompt_rules, said, turn_at, turn_taken_at};
 ghost use Rattle.tw_prompt_host.specs.Rows.{rows_view};
 ghost use Rattle.tw_prompt_host.specs.Validation.{is_accepting};
 
@@ -32,7 +32,7 @@ use crate::menu::{Menu, Turn, copied};
 use crate::rows::Rows;
 use crate::validator::Validator;
 use std::alloc::{AllocError, Global};
-use tw_completion_parts::{ContextCompleter, Listing, beginning_first, completed_by};
+use tw_completion_parts::{ContextCompleter, Listing, beginning_first, complete_in_context};
 use tw_host::{
     Action, CompletionCandidate, LineEditorHost, OutputElement, Overrides, default_action,
     plain_element,
@@ -83,7 +83,7 @@ impl<H: LineEditorHost, L: History + LentLines, K: KeyPart, V: Validator> Prompt
         ensures { ⟦<PromptHost<H, L, K, V> as LineEditorHost>⟧.value self.new
             ≡ record (⟦<PromptHost<H, L, K, V> as LineEditorHost>⟧.value self.old) {
               keys = K.keys.leaves (K.state self.old.keys);
-              going = at_rest;
+              going = going_at_rest;
             } }
     {
         self.keys.leave_line();
@@ -158,8 +158,12 @@ impl<H: LineEditorHost, L: History + LentLines, K: KeyPart, V: Validator> Prompt
     }
 
     /// Returns the line at an event: the one that comes back, or else the editor's.
-    fn line_at(&self, alloc: Global, editor: &LineEditBuffer) -> Result<LineEditBuffer, AllocError>
-        ensures { IfOk result (λ line. line ≡ line_at (going_view self.now.going) editor.now) }
+    fn event_line(
+        &self,
+        alloc: Global,
+        editor: &LineEditBuffer,
+    ) -> Result<LineEditBuffer, AllocError>
+        ensures { IfOk result (λ line. line ≡ event_line (going_view self.now.going) editor.now) }
     {
         match &self.going.comes_back {
             Some(line) => line.try_clone(alloc),
@@ -218,7 +222,7 @@ impl<H: LineEditorHost, L: History + LentLines, K: KeyPart, V: Validator> Prompt
             IfOk result (λ candidates. map candidate_view candidates.items
             ≡ found K.keys H.rules v (cut_at line.now cursor)) }
     {
-        let completed = completed_by(
+        let completed = complete_in_context(
             alloc,
             self.completers.as_slice(),
             self.listings.as_slice(),
@@ -297,7 +301,7 @@ impl<H: LineEditorHost, L: History + LentLines, K: KeyPart, V: Validator> Prompt
         line: &LineEditBuffer,
         editor: &mut LineEditBuffer,
     ) -> Result<Option<Action>, AllocError>
-        requires { line.now ≡ line_at (going_view self.old.going) editor.old }
+        requires { line.now ≡ event_line (going_view self.old.going) editor.old }
         ensures value { let r = H.rules.resolve (H.value self.old.host)
             (event_view event.now) line.now in
             OnOk result (⟦<PromptHost<H, L, K, V> as LineEditorHost>⟧.value self.new
@@ -336,7 +340,7 @@ impl<H: LineEditorHost, L: History + LentLines, K: KeyPart, V: Validator> Prompt
         editor: &mut LineEditBuffer,
     ) -> Result<(Option<Action>, Option<K::Note>, Option<Turn>), AllocError>
         requires default { lent_action default ≡ action_of (event_view event.now) }
-        requires line { line.now ≡ line_at (going_view self.old.going) editor.old }
+        requires line { line.now ≡ event_line (going_view self.old.going) editor.old }
         ensures value { let v = ⟦<PromptHost<H, L, K, V> as LineEditorHost>⟧.value self.old in
             OnOk result (⟦<PromptHost<H, L, K, V> as LineEditorHost>⟧.value self.new
             ≡ record v { host = (H.rules.resolve v.host (event_view event.now) line.now).value }) }
@@ -345,7 +349,7 @@ impl<H: LineEditorHost, L: History + LentLines, K: KeyPart, V: Validator> Prompt
               cut = editor.new;
               action = option_map action_view it.0;
               kept = option_map K.kept it.1;
-            } ≡ answer_at K.keys H.rules v (event_view event.now) line.now) }
+            } ≡ event_answer K.keys H.rules v (event_view event.now) line.now) }
         ensures turn { let v = ⟦<PromptHost<H, L, K, V> as LineEditorHost>⟧.value self.old in
             IfOk result (λ it. option_map (turn_view (menu_view self.new.going.menu)) it.2
             ≡ turn_taken_at K.keys H.rules v (event_view event.now) line.now) }
@@ -540,7 +544,7 @@ impl<H: LineEditorHost, L: History + LentLines, K: KeyPart, V: Validator> LineEd
         editor: &mut LineEditBuffer,
     ) -> Result<Option<Action>, AllocError> {
         let default = default_action(alloc, event)?;
-        let before = self.line_at(alloc, editor)?;
+        let before = self.event_line(alloc, editor)?;
         let keeps = self.keeps(alloc, before.get_line())?;
         let fails = self.fails_after(alloc, default.as_ref(), &before)?;
         let answer = self.answer(alloc, event, default.as_ref(), &before, editor)?;

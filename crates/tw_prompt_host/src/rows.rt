@@ -6,7 +6,7 @@ ghost use Rattle.tw_surface.specs.Defaults.{default_attributes};
 ghost use Rattle.tw_host.specs.ElementView.{element_view, Text};
 ghost use Rattle.tw_hosts.specs.SettledRules.{screen_view};
 ghost use Rattle.tw_line.specs.Cut.{cut_at};
-ghost use Rattle.tw_prompt_host.specs.Rows.{are_shown, before_row, break_elements, column_in_rows, cursor_on, elements_in_rows, elements_of_text, elements_on, first_row, is_full, last_shown, next_row, row_behind, row_break, row_view, row_with, rows_view, spread_from};
+ghost use Rattle.tw_prompt_host.specs.Rows.{are_shown, before_row, break_elements, column_in_rows, cursor_on, elements_in_rows, elements_of_text, elements_on, empty_first_row, is_full, last_shown, next_row, row_behind, row_break, row_view, row_with, rows_view, spread_from};
 
 use std::alloc::{AllocError, Global};
 use tw_host::OutputElement;
@@ -34,7 +34,7 @@ struct OpenRow {
 impl OpenRow {
     /// Returns the first row of a line.
     fn first(alloc: Global) -> Self
-        ensures { row_view result ≡ first_row }
+        ensures { row_view result ≡ empty_first_row }
     {
         OpenRow {
             is_first: true,

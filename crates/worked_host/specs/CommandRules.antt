@@ -13,7 +13,7 @@ use Rattle.tw_lineedit.specs.HostRules.{HostRules, Highlight, plain_text, plain_
 use Rattle.tw_lineedit.specs.KeyTable.{key_press}
 use Rattle.tw_hosts.specs.Bindings.{resolved_event}
 use Rattle.tw_hosts.specs.Tokens.{styled_text}
-use Rattle.tw_hosts.specs.WordCompletion.{completions}
+use Rattle.tw_hosts.specs.WordCompletion.{word_completions}
 use Rattle.tw_hosts.specs.Words.{is_known, leading_word, after_word}
 use Rattle.tw_hosts.specs.declared.bindings.Binding.TheVariants.{Cancel, Kill}
 use Rattle.tw_hosts.specs.declared.bindings.KeyBinding.{KeyBinding}
@@ -43,6 +43,6 @@ own_keys =
 abbrev pub command_rules : HostRules Commands
 command_rules = record (plain_rules (λ (v : Commands). v.lines)) {
   highlight = highlight_of;
-  candidates = λ v cut. completions v.known cut;
+  candidates = λ v cut. word_completions v.known cut;
   resolve = λ v event cut. resolved_event v own_keys event cut;
 }

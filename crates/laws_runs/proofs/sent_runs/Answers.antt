@@ -1,4 +1,5 @@
 use Rattle.laws_runs.proofs.ClosingLemmas.{closings_are_shown}
+use Rattle.laws_runs.proofs.HealedClosingLemmas.{healed_closings_are_shown}
 use Rattle.laws_runs.proofs.HealingLemmas.{healings_are_shown}
 use Rattle.laws_runs.proofs.SentLemmas.{paintings_are_shown}
 use Rattle.laws_runs.proofs.sent_runs.Goals as goal
@@ -11,3 +12,6 @@ returns-clause-closings g c = λ pen. closings_are_shown pen g.H.LineEditorHost.
 
 pub returns-clause-healings : goal.returns-clause-healings
 returns-clause-healings g c = λ pen. healings_are_shown pen g.H.LineEditorHost.rules
+
+pub returns-clause-healed_closings : goal.returns-clause-healed_closings
+returns-clause-healed_closings g c = λ pen. healed_closings_are_shown pen g.H.LineEditorHost.rules

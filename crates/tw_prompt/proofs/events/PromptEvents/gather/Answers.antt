@@ -1,6 +1,6 @@
 use Rattle.std.proofs.Common.{◌++◌, ◌∷◌, ◌∙◌, [], map, string_bytes, refl, ap, sym, append-nil, append_assoc}
 use Rattle.tw_input.specs.EventView.{event_view}
-use Rattle.tw_prompt.specs.Joined.{keys_of, pending_events, typed_key}
+use Rattle.tw_prompt.specs.Joined.{keys_of, pending_events, key_of_character}
 use Rattle.tw_prompt.proofs.JoinedLemmas.{keys_more, moves_as, moves_back, moves_nothing, moves_of, moves_then, printable_byte, printable_more}
 use Rattle.tw_prompt.proofs.events.PromptEvents.gather.Goals as goal
 
@@ -19,14 +19,14 @@ loop-turn-preserved g c =
     let inv = c.loop-turn.invariant in
     let more = inv.moves.0 in
     let one = c.in-Some.c in
-    let moves = moves_then told follows _ _ _ _ _ _ (map typed_key more) (typed_key one ∷ []) inv.moves.3 c.in-Some.ensures.moves in
+    let moves = moves_then told follows _ _ _ _ _ _ (map key_of_character more) (key_of_character one ∷ []) inv.moves.3 c.in-Some.ensures.moves in
     record {
       moves = (
         more ++ one ∷ [],
         printable_more more one inv.moves.1 c.in-Some.ensures.printable.0,
         c.in-Ok.ensures.bytes ∙ ap (λ bytes. string_bytes c.loop-turn.run ++ bytes) (printable_byte one c.in-Some.ensures.printable.0)
             ∙ ap (λ bytes. bytes ++ one ∷ []) inv.moves.2 ∙ append_assoc (string_bytes c.args.run.now) more (one ∷ []),
-        moves_of told follows _ _ _ _ _ (map typed_key (more ++ one ∷ [])) (sym (keys_more more one)) moves,
+        moves_of told follows _ _ _ _ _ (map key_of_character (more ++ one ∷ [])) (sym (keys_more more one)) moves,
       );
       joins = c.next_character.ensures.joins ∙ inv.joins;
       wakes = c.next_character.ensures.wakes ∙ inv.wakes;
@@ -39,12 +39,12 @@ returns-in_default-clause-moves g c =
     let follows = g.S.EventSource.follows in
     let inv = c.loop-turn.invariant in
     let more = inv.moves.0 in
-    let moves = moves_then told follows _ _ _ _ _ _ (map typed_key more) (keys_of c.next_character.result) inv.moves.3 c.next_character.ensures.moves in (
+    let moves = moves_then told follows _ _ _ _ _ _ (map key_of_character more) (keys_of c.next_character.result) inv.moves.3 c.next_character.ensures.moves in (
       more,
       inv.moves.1,
       inv.moves.2,
-      moves_of told follows _ _ _ _ _ (map typed_key more)
-          (ap (λ o. map typed_key more ++ keys_of o) c.in_default.is ∙ append-nil (map typed_key more)) moves,
+      moves_of told follows _ _ _ _ _ (map key_of_character more)
+          (ap (λ o. map key_of_character more ++ keys_of o) c.in_default.is ∙ append-nil (map key_of_character more)) moves,
     )
 
 pub returns-in-Err-clause-moves : goal.returns-in-Err-clause-moves
@@ -54,8 +54,8 @@ returns-in-Err-clause-moves g c =
     let inv = c.loop-turn.invariant in
     let more = inv.moves.0 in
     let one = c.in-Some.c in
-    let moves = moves_then told follows _ _ _ _ _ _ (map typed_key more) (typed_key one ∷ []) inv.moves.3 c.in-Some.ensures.moves in
-    let back = event_view c.typed_key.result ∷ [] in
-    let same = moves_of told follows _ _ _ _ _ (map typed_key more ++ back) (ap (λ e. map typed_key more ++ e ∷ []) (sym c.typed_key.ensures)) moves in
-    let empty = moves_as told follows _ _ _ _ _ [] (map typed_key more ++ back) refl c.in-Some.ensures.printable.1 same in
-    (more, inv.moves.1, c.in-Err.ensures.bytes ∙ inv.moves.2, moves_back told follows _ _ _ (map typed_key more) back empty)
+    let moves = moves_then told follows _ _ _ _ _ _ (map key_of_character more) (key_of_character one ∷ []) inv.moves.3 c.in-Some.ensures.moves in
+    let back = event_view c.key_of_character.result ∷ [] in
+    let same = moves_of told follows _ _ _ _ _ (map key_of_character more ++ back) (ap (λ e. map key_of_character more ++ e ∷ []) (sym c.key_of_character.ensures)) moves in
+    let empty = moves_as told follows _ _ _ _ _ [] (map key_of_character more ++ back) refl c.in-Some.ensures.printable.1 same in
+    (more, inv.moves.1, c.in-Err.ensures.bytes ∙ inv.moves.2, moves_back told follows _ _ _ (map key_of_character more) back empty)

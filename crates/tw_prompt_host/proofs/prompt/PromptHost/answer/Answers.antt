@@ -1,4 +1,4 @@
-use Rattle.std.proofs.Common.{◌≡◌, ◌∙◌, ap, option_map}
+use Rattle.std.proofs.Common.{◌∙◌, ap, option_map}
 use Rattle.tw_host.specs.ActionView.{action_view}
 use Rattle.tw_key_parts.specs.EditView.{edit_view}
 use Rattle.tw_prompt_host.specs.MenuView.{menu_view, turn_line, turn_view}

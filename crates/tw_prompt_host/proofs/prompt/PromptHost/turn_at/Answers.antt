@@ -1,7 +1,6 @@
 use Rattle.std.proofs.Common.{◌≡◌, ◌∙◌, false, map, option_map, ap, sym, rules}
 use Rattle.tw_host.specs.CandidateView.{candidate_view}
 use Rattle.tw_input.specs.EventView.{event_view}
-use Rattle.tw_prompt_host.specs.MenuView.{is_open, menu_view}
 use Rattle.tw_prompt_host.proofs.MenuLemmas.{begins_at}
 use Rattle.tw_prompt_host.proofs.prompt.PromptHost.turn_at.Goals as goal
 

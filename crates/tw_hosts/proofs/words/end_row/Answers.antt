@@ -1,6 +1,6 @@
 use Rattle.std.proofs.Common.{sym, ◌∙◌, arith}
 use Rattle.tw_hosts.proofs.WordLemmas.{last-behind, last-all}
-use Rattle.tw_hosts.proofs.words.last_row.Goals as goal
+use Rattle.tw_hosts.proofs.words.end_row.Goals as goal
 
 pub returns-in-Some : goal.returns-in-Some
 returns-in-Some c =
