@@ -40,7 +40,7 @@ fn fill(cells: &mut [ScreenCell], from: usize, to: usize, cell: ScreenCell)
     }
 }
 
-/// Moves the cells so many places to the front. The last ones stay.
+/// Moves the cells `by` places to the front. The last ones stay.
 fn shift(cells: &mut [ScreenCell], by: usize)
     requires { by ≤ length cells.old }
     ensures { AreShifted by cells.old cells.new }
@@ -51,7 +51,7 @@ fn shift(cells: &mut [ScreenCell], by: usize)
 }
 
 impl Grid {
-    /// Rows and columns that all hold one cell.
+    /// Creates a grid whose cells are all `cell`.
     pub(crate) fn new(
         alloc: Global,
         rows: usize,
@@ -71,7 +71,7 @@ impl Grid {
         })
     }
 
-    /// The number of rows.
+    /// Returns the number of rows.
     pub(crate) fn rows(&self) -> usize
         ensures value { result ≡ self.now.rows }
         ensures above { 0 < result }
@@ -80,7 +80,7 @@ impl Grid {
         self.rows
     }
 
-    /// The number of columns.
+    /// Returns the number of columns.
     pub(crate) fn cols(&self) -> usize
         ensures value { result ≡ self.now.cols }
         ensures above { 0 < result }
@@ -89,7 +89,7 @@ impl Grid {
         self.cols
     }
 
-    /// The cell at a row and a column, or none after the last ones.
+    /// Returns the cell at a row and a column, or none after the last ones.
     pub(crate) fn cell(&self, row: usize, col: usize) -> Option<ScreenCell>
         ensures inside { row < self.now.rows → col < self.now.cols → result
             ≡ Some (grid_cell self.now row col) }
@@ -111,7 +111,7 @@ impl Grid {
         self.cells[row * self.cols + col] = cell;
     }
 
-    /// All rows go up by one, and one of the blank comes.
+    /// Moves all rows up by one, and adds a row of `blank`.
     pub(crate) fn raise(&mut self, blank: ScreenCell)
         ensures { Redraws self.old (raised_rows self.old.rows (styled_cell blank)) self.new }
     {

@@ -4,7 +4,7 @@ ghost use Rattle.std.specs.Prelude.{◌≡◌, None, Some, ltb, if◌then◌else
 ghost use Rattle.std.specs.List.{list_all};
 ghost use Rattle.tw_ansi.specs.KeyBytes.{is_digit, number_of, value_after};
 
-/// The number that digits write, or 4,294,967,295 in place of one above it.
+/// Returns the number that digits write, or 4,294,967,295 in place of one above it.
 pub(crate) fn number_of(digits: &[u8]) -> u32
     ensures { result ≡ number_of digits.now }
 {
@@ -16,7 +16,7 @@ pub(crate) fn number_of(digits: &[u8]) -> u32
     number
 }
 
-/// The number that digits write, or none where it is above 255.
+/// Returns the number that digits write, or none where it is above 255.
 pub(crate) fn byte_of(digits: &[u8]) -> Option<u8>
     ensures { let value = value_after 0 digits.now in
         result ≡ (if ltb value 256 then Some value else None) }
@@ -28,7 +28,7 @@ pub(crate) fn byte_of(digits: &[u8]) -> Option<u8>
     None
 }
 
-/// Whether all bytes are digits.
+/// Returns true if all bytes are digits.
 pub(crate) fn are_digits(bytes: &[u8]) -> bool
     ensures { result ≡ list_all is_digit bytes.now }
 {

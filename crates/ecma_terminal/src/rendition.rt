@@ -21,7 +21,7 @@ pub(crate) enum Ground {
 }
 
 impl Ground {
-    /// The change that sets a colour.
+    /// Returns the change that sets a colour.
     fn change(self, color: ColorAttribute) -> AttributeChange
         ensures { result ≡ kind_of self color }
     {
@@ -56,7 +56,7 @@ pub(crate) struct Selection {
 }
 
 impl Selection {
-    /// These attributes, and no colour is awaited.
+    /// Selects these attributes, and awaits no colour.
     fn of(attributes: CellAttributes) -> Self
         ensures { selection_of result ≡ selects attributes }
     {
@@ -66,7 +66,7 @@ impl Selection {
         }
     }
 
-    /// These attributes, and a colour is awaited of which these numbers were read.
+    /// Selects these attributes, and awaits a colour of which these numbers were read.
     fn awaiting(attributes: CellAttributes, ground: Ground, numbers: Numbers) -> Self
         ensures { selection_of result ≡ record {
           attributes = attributes;
@@ -80,7 +80,7 @@ impl Selection {
     }
 }
 
-/// The attributes once one of them is set.
+/// Returns the attributes once one of them is set.
 fn with_change(attributes: CellAttributes, change: AttributeChange) -> CellAttributes
     ensures { result ≡ with_attribute change attributes }
 {
@@ -89,7 +89,7 @@ fn with_change(attributes: CellAttributes, change: AttributeChange) -> CellAttri
     changed
 }
 
-/// The bytes before the first semicolon.
+/// Returns the bytes before the first semicolon.
 fn semicolon_at(bytes: &[u8]) -> usize
     ensures value { result ≡ position_or_len is_semicolon bytes.now }
     ensures bound { result ≤ length bytes.now }
@@ -102,7 +102,7 @@ fn semicolon_at(bytes: &[u8]) -> usize
     bytes.len()
 }
 
-/// The first of some parameters, and those after its semicolon, if there is one.
+/// Returns the first of some parameters, and those after its semicolon, if there is one.
 fn first_field(parameters: &[u8]) -> (&[u8], Option<&[u8]>)
     ensures { MatchOption result.1 (fields parameters.now ≡ result.0.now ∷ [])
         (λ more. (fields parameters.now ≡ result.0.now ∷ fields more.now)
@@ -115,7 +115,7 @@ fn first_field(parameters: &[u8]) -> (&[u8], Option<&[u8]>)
     }
 }
 
-/// The change that a digit alone selects.
+/// Returns the change that a single digit selects.
 fn digit_change(digit: u8) -> Option<AttributeChange>
     ensures { (a : CellAttributes) → changed_by result a ≡ underlined (digit ∷ []) a }
 {
@@ -133,7 +133,7 @@ fn digit_change(digit: u8) -> Option<AttributeChange>
     })
 }
 
-/// The change that a 2 and a digit after it select.
+/// Returns the change that a 2 and a digit after it select.
 fn change_in_twenties(digit: u8) -> Option<AttributeChange>
     ensures { (a : CellAttributes) → changed_by result a ≡ underlined (50 ∷ digit ∷ []) a }
 {
@@ -150,7 +150,7 @@ fn change_in_twenties(digit: u8) -> Option<AttributeChange>
     })
 }
 
-/// The change that two bytes select.
+/// Returns the change that two bytes select.
 fn two_digit_change(first: u8, second: u8) -> Option<AttributeChange>
     ensures { (a : CellAttributes) → changed_by result a ≡ underlined (first ∷ second ∷ []) a }
 {
@@ -162,7 +162,7 @@ fn two_digit_change(first: u8, second: u8) -> Option<AttributeChange>
     }
 }
 
-/// The underline that a byte selects after 4 and a colon.
+/// Returns the underline that a byte selects after 4 and a colon.
 fn underline_change(kind: u8) -> Option<AttributeChange>
     ensures { (a : CellAttributes) → changed_by result a ≡ underlined (52 ∷ 58 ∷ kind ∷ []) a }
 {
@@ -174,7 +174,7 @@ fn underline_change(kind: u8) -> Option<AttributeChange>
     }))
 }
 
-/// The change that a parameter selects that begins no colour and is not 0.
+/// Returns the change that a parameter selects that begins no colour and is not 0.
 fn change_of(field: &[u8]) -> Option<AttributeChange>
     ensures { (a : CellAttributes) → changed_by result a ≡ underlined field.now a }
 {
@@ -186,7 +186,7 @@ fn change_of(field: &[u8]) -> Option<AttributeChange>
     }
 }
 
-/// The attributes after such a parameter.
+/// Returns the attributes after such a parameter.
 fn changed(field: &[u8], attributes: CellAttributes) -> CellAttributes
     ensures { result ≡ underlined field.now attributes }
 {
@@ -196,7 +196,7 @@ fn changed(field: &[u8], attributes: CellAttributes) -> CellAttributes
     }
 }
 
-/// One more parameter, where no colour is awaited.
+/// Takes one more parameter, if no colour is awaited.
 fn begun(field: &[u8], attributes: CellAttributes) -> Selection
     ensures { selection_of result ≡ select NoColor field.now attributes }
 {
@@ -212,7 +212,7 @@ fn begun(field: &[u8], attributes: CellAttributes) -> Selection
     Selection::of(changed(field, attributes))
 }
 
-/// One more number of a colour.
+/// Takes one more number of a colour.
 fn colored(ground: Ground, numbers: Numbers, next: u8, attributes: CellAttributes) -> Selection
     ensures { selection_of result ≡ colored (kind_of ground)
         (numbers_in numbers ++ next ∷ []) attributes }
@@ -234,7 +234,7 @@ fn colored(ground: Ground, numbers: Numbers, next: u8, attributes: CellAttribute
     }
 }
 
-/// One more parameter, or none where it is a number of a colour above 255.
+/// Takes one more parameter. Returns `None` if it is a number of a colour above 255.
 fn select(selection: Selection, field: &[u8]) -> Option<Selection>
     ensures { let s = selection_of selection in
         MatchOption result (fits_awaited s.awaited field.now ≡ false)
@@ -250,7 +250,7 @@ fn select(selection: Selection, field: &[u8]) -> Option<Selection>
     }
 }
 
-/// The attributes after SGR with these parameters, or none where a number of a colour is above 255.
+/// Returns the attributes after SGR with these parameters, or none where a number of a colour is above 255.
 pub(crate) fn selected(parameters: &[u8], attributes: CellAttributes) -> Option<CellAttributes>
     ensures { result ≡ selected_if_fit parameters.now attributes }
 {

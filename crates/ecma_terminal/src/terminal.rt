@@ -65,7 +65,7 @@ impl Model for EcmaTerminal {
         (record { grid = s.grid; row = s.row; col = s.col; waits = s.waits; attributes = s.attributes; reading = reading_of s.reading }) };
 }
 
-/// A number of steps: none written means one.
+/// Returns a number of steps: none written means one.
 fn told_steps(number: usize) -> usize
     ensures { result ≡ told_steps number }
 {
@@ -73,8 +73,8 @@ fn told_steps(number: usize) -> usize
 }
 
 impl EcmaTerminal {
-    /// A terminal of 1 to 65,535 rows and columns, each cell of which holds the one given. The cursor stands at (0, 0),
-    /// and the default attributes are selected.
+    /// Creates a terminal of 1 to 65,535 rows and columns, each cell of which holds the one given. The cursor stands at
+    /// (0, 0), and the default attributes are selected.
     pub fn new(alloc: Global, rows: usize, cols: usize, cell: ScreenCell) -> Result<Self, EcmaFault>
         ensures ok { IfOk result (λ terminal. IsNew rows cols (styled_cell cell) terminal) }
         ensures err { IfErr result (λ fault. fault ≡ EcmaFault.Size ⊎ fault ≡ EcmaFault.Memory) }
@@ -94,21 +94,21 @@ impl EcmaTerminal {
         })
     }
 
-    /// The number of rows.
+    /// Returns the number of rows.
     pub fn rows(&self) -> usize
         ensures { result ≡ self.now.grid.rows }
     {
         self.grid.rows()
     }
 
-    /// The number of columns.
+    /// Returns the number of columns.
     pub fn cols(&self) -> usize
         ensures { result ≡ self.now.grid.cols }
     {
         self.grid.cols()
     }
 
-    /// What stands at a row and a column, or none after the last ones.
+    /// Returns what stands at a row and a column, or none after the last ones.
     pub fn cell(&self, row: usize, col: usize) -> Option<ScreenCell>
         ensures inside { row < self.now.grid.rows → col < self.now.grid.cols → result
             ≡ Some (grid_cell self.now.grid row col) }
@@ -118,7 +118,7 @@ impl EcmaTerminal {
         self.grid.cell(row, col)
     }
 
-    /// The cursor's row and column. Where it waits after the last column, the column is the last one.
+    /// Returns the cursor's row and column. Where it waits after the last column, the column is the last one.
     pub fn cursor(&self) -> (usize, usize)
         ensures row { result.0 ≡ self.now.row }
         ensures col { result.1 ≡ self.now.col }
@@ -128,21 +128,21 @@ impl EcmaTerminal {
         (self.row, self.col)
     }
 
-    /// Whether the cursor waits after the last column.
+    /// Returns true if the cursor waits after the last column.
     pub fn waits(&self) -> bool
         ensures { result ≡ self.now.waits }
     {
         self.waits
     }
 
-    /// The attributes that are selected.
+    /// Returns the attributes that are selected.
     pub fn attributes(&self) -> CellAttributes
         ensures { result ≡ self.now.attributes }
     {
         self.attributes
     }
 
-    /// To column 0.
+    /// Leads the cursor to column 0.
     fn return_to_start(&mut self)
         ensures { Becomes self.old return_to_start self.new }
     {
@@ -150,7 +150,7 @@ impl EcmaTerminal {
         self.waits = false;
     }
 
-    /// To the next row. In the last row all rows go up by one, and a blank one comes.
+    /// Leads the cursor to the next row. In the last row it moves all rows up by one, and adds a blank one.
     fn feed_line(&mut self)
         ensures { Becomes self.old (feed_line (blank_of styled) self.old.grid.rows) self.new }
     {
@@ -162,7 +162,7 @@ impl EcmaTerminal {
         self.waits = false;
     }
 
-    /// One column to the left.
+    /// Leads the cursor one column to the left.
     fn step_back(&mut self)
         ensures { Becomes self.old step_back self.new }
     {
@@ -182,7 +182,7 @@ impl EcmaTerminal {
         }
     }
 
-    /// To the start of the next row, where the cursor waits.
+    /// Leads the cursor to the start of the next row, if it waits.
     fn wrap(&mut self)
         ensures { Becomes self.old (wrapped (blank_of styled) self.old.grid.rows) self.new }
     {

@@ -28,7 +28,7 @@ const SEED: u64 = 20_251_125;
 /// The trials of a part.
 const TRIALS: usize = 400;
 
-/// Plays so many parts, and prints a line for each and one for all.
+/// Plays `parts` parts, and prints a line for each and one for all.
 pub fn check(rt: &(impl Print + Alloc<A = Global>), parts: usize) -> Result<(), anyhow::Error> {
     let mut numbers = RandomNumbers::new(SEED);
     let mut all = Count::default();

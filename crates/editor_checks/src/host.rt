@@ -6,7 +6,9 @@ ghost use Rattle.editor_checks.specs.MarkedHost.{Marked, marked_is_plain, marked
 
 use std::alloc::{AllocError, Global};
 use std::ops::Range;
-use tw_lineedit::{CompletionCandidate, History, LineEditorHost, OutputElement, Overrides};
+use tw_lineedit::{
+    CompletionCandidate, History, LineEditorHost, OutputElement, Overrides, copy_candidates,
+};
 use tw_surface::AttributeChange;
 
 /// A host with a history, a preview of one text and candidates that it answers to every request. The preview may
@@ -20,7 +22,7 @@ pub struct MarkedHost<L> {
 }
 
 impl<L: History + Drop> MarkedHost<L> {
-    /// A host with this history, a preview, and no candidates. The empty text is no preview. The column of the
+    /// Creates a host with this history, a preview, and no candidates. The empty text is no preview. The column of the
     /// cursor is the one given, or else the number of bytes before the cursor.
     pub fn new(
         alloc: Global,
@@ -112,14 +114,7 @@ impl<L: History> LineEditorHost for MarkedHost<L> {
         _line: &str,
         _cursor_position: usize,
     ) -> Result<Vec<CompletionCandidate>, AllocError> {
-        let mut copies = Vec::new(alloc);
-        for candidate in &self.candidates {
-            copies.push(CompletionCandidate {
-                range: candidate.range.start..candidate.range.end,
-                text: String::from_str(alloc, candidate.text.as_str())?,
-            })?;
-        }
-        Ok(copies)
+        copy_candidates(alloc, &self.candidates)
     }
 
     ghost plain_answers = { marked_is_plain };

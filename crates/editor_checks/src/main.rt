@@ -1,10 +1,11 @@
-//! What the line editor paints, sends and answers, held against a table whose places are found by division alone, and
-//! against laws. Without an argument it plays what the gate compares; `few` plays a part of each, and `rounds SEED
-//! COUNT` rounds of other seeds. What was found goes to standard output.
+//! Compares what the line editor paints, sends and answers with a table whose cells are found by division, and with
+//! laws.
+//! Without an argument it plays what the gate compares; `few` plays a part of each, and `rounds SEED COUNT` plays
+//! `COUNT` rounds, the first with `SEED`. It prints what it found.
 //!
-//! `table` is what a screen is to hold, and `painted` what a batch shows, as its texts tell; `shows` is what a model
-//! screen plays and holds, and `stage` has the screens on which batches are played, beside their tables. `host` marks
-//! the cursor in the line, and `random_numbers` has numbers from a seed, with what trials are made of in `picks`.
+//! `table` is what a screen should hold, `painted` what a batch shows by its texts, `shows` what a model screen holds
+//! after a batch. `stage` has the screens on which batches are played, beside their tables. `host` marks the cursor in
+//! the line. `random_numbers` makes numbers from a seed, and `picks` makes trials of them.
 #![tactic(auto)]
 
 mod device;
@@ -21,11 +22,13 @@ mod table;
 use anyhow::anyhow;
 use std::env;
 
-/// The parts of the trials at a device, and the rounds, of which the first has this seed.
+/// How many parts of trials are played at a device.
 const PARTS: usize = 10;
 
+/// How many rounds are played.
 const ROUNDS: u64 = 2_000;
 
+/// The seed of the first round.
 const SEED: u64 = 1;
 
 /// The rounds of `few`.

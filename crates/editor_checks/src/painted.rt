@@ -62,8 +62,7 @@ fn read_painting(changes: &[Change]) -> Batch<'_> {
     }
 }
 
-/// The lower text. That of a preview stands after a line break of its own, and that of a search begins with
-/// it.
+/// Returns the lower text. That of a preview stands after a line break of its own, and that of a search begins with it.
 fn read_lower(changes: &[Change]) -> Option<&str> {
     match changes {
         [

@@ -9,12 +9,12 @@ pub struct RandomNumbers {
 }
 
 impl RandomNumbers {
-    /// The numbers of a seed that is not 0.
+    /// Creates the numbers of a seed that is not 0.
     pub fn new(seed: u64) -> Self {
         RandomNumbers { state: seed }
     }
 
-    /// The next number.
+    /// Returns the next number.
     pub fn number(&mut self) -> u64 {
         self.state ^= self.state << 13;
         self.state ^= self.state >> 7;
@@ -22,18 +22,18 @@ impl RandomNumbers {
         self.state
     }
 
-    /// A number below the bound, or 0 where there is none.
+    /// Returns a number below the bound, or 0 where there is none.
     pub fn below(&mut self, bound: u64) -> u64 {
         self.number().checked_rem(bound).unwrap_or(0)
     }
 
-    /// One of the items, or the other one where there are none.
+    /// Returns one of the items, or the other one where there are none.
     pub fn pick<T: Copy>(&mut self, items: &[T], other: T) -> T {
         let at = self.below(items.len() as u64);
         items.get(at as usize).copied().unwrap_or(other)
     }
 
-    /// Some of the texts, fewer than the bound.
+    /// Picks some of the texts, fewer than the bound.
     pub fn pick_below(
         &mut self,
         alloc: Global,

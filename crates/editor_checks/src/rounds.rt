@@ -19,7 +19,7 @@ use std::alloc::Global;
 /// The most findings that are shown in full.
 const SHOWN: u64 = 10;
 
-/// Plays so many rounds, of which the first has this seed, and prints what was counted.
+/// Plays `rounds` rounds, the first with `seed`, and prints what was counted.
 pub fn check(
     rt: &(impl Print + Alloc<A = Global>),
     seed: u64,

@@ -11,10 +11,10 @@ pub trait Plays {
 
 /// A screen that shows characters and a cursor.
 pub trait Shows {
-    /// The character at a row and a column.
+    /// Returns the character at a row and a column.
     fn char_at(&self, row: usize, col: usize) -> char;
 
-    /// The row and the column of the cursor.
+    /// Returns the row and the column of the cursor.
     fn cursor(&self) -> (usize, usize);
 }
 

@@ -19,7 +19,7 @@ pub struct Stage {
 }
 
 impl Stage {
-    /// Screens of this width, and the table beside them.
+    /// Creates screens of this width, and the table beside them.
     pub fn new(alloc: Global, width: usize, entry: Entry) -> Result<Self, anyhow::Error> {
         let mut screen = Screen::new(alloc, width)?;
         let mut styled = StyledScreen::new(alloc, width)?;
@@ -62,7 +62,7 @@ pub struct ScrollingTable {
 }
 
 impl ScrollingTable {
-    /// What a screen of some rows and columns holds at first.
+    /// Returns what a screen of some rows and columns holds at first.
     pub fn new(alloc: Global, rows: usize, width: usize, entry: Entry) -> Result<Self, AllocError>
         requires { 0 < width }
     {
@@ -73,7 +73,7 @@ impl ScrollingTable {
         })
     }
 
-    /// What the screen is to hold, or none after a painting that has more rows than it, until it is cleared.
+    /// Returns what the screen is to hold, or none after a painting that has more rows than it, until it is cleared.
     pub fn known(&self) -> Option<&Table> {
         if self.is_known {
             Some(&self.table)
@@ -97,7 +97,7 @@ impl ScrollingTable {
         true
     }
 
-    /// The texts are painted from the first row on, or from as far above as it needs.
+    /// Paints the texts from the first row on, or from as far above as they need.
     fn paint(&mut self, texts: &PaintedTexts<'_>, column: Option<usize>) {
         let needed = self.table.rows_of(texts, column);
         if needed > self.rows {
@@ -127,7 +127,7 @@ pub struct ScrollingStage {
 }
 
 impl ScrollingStage {
-    /// A screen of some rows and this width, and the table beside it.
+    /// Creates a screen of some rows and this width, and the table beside it.
     pub fn new(
         alloc: Global,
         rows: usize,

@@ -28,7 +28,7 @@ pub enum Entry {
 }
 
 impl Entry {
-    /// One of the two.
+    /// Returns one of the two.
     pub fn pick(numbers: &mut RandomNumbers) -> Self {
         if numbers.below(2) == 0 {
             Entry::Blank
@@ -37,7 +37,7 @@ impl Entry {
         }
     }
 
-    /// The row at which a screen is entered, of which so many rows are compared.
+    /// Returns the row at which a screen is entered, of which `rows` rows are compared.
     pub fn row(self, rows: usize) -> usize {
         match self {
             Entry::Blank => 0,
@@ -54,7 +54,7 @@ struct TableCell {
 }
 
 impl TableCell {
-    /// A character in default attributes.
+    /// Returns a character in default attributes.
     fn plain(character: char) -> Self {
         TableCell {
             character,
@@ -62,7 +62,7 @@ impl TableCell {
         }
     }
 
-    /// The character under its attributes. The mark is that of the host of this crate.
+    /// Returns the character under its attributes. The mark is that of the host of this crate.
     fn shown(self) -> ScreenCell {
         ScreenCell {
             character: self.character,
@@ -86,7 +86,7 @@ pub struct Table {
 }
 
 impl Table {
-    /// A screen as it is at first, of which so many rows are compared.
+    /// Creates a screen as it is at first, of which `rows` rows are compared.
     pub fn new(alloc: Global, rows: usize, width: usize, entry: Entry) -> Result<Self, AllocError>
         requires { 0 < width }
     {
@@ -105,7 +105,7 @@ impl Table {
         })
     }
 
-    /// The whole screen is cleared, and entered at its first row.
+    /// Clears the whole screen, which is then entered at its first row.
     pub fn clear(&mut self) {
         self.first_row = 0;
         self.last_row = 0;
@@ -113,8 +113,8 @@ impl Table {
         self.clear_from(0);
     }
 
-    /// How many rows a painting takes, down to its last one or to the cursor's. The column of the cursor is the one
-    /// given, or else the number of characters before the cursor.
+    /// Returns how many rows a painting takes, down to its last one or to the cursor's. The column of the cursor is the
+    /// one given, or else the number of characters before the cursor.
     pub fn rows_of(&self, texts: &PaintedTexts<'_>, column: Option<usize>) -> usize {
         let line = texts.prompt.len();
         let end = line
@@ -129,17 +129,17 @@ impl Table {
         last.max(cursor / self.width).saturating_add(1)
     }
 
-    /// The row from which the next painting goes.
+    /// Returns the row from which the next painting goes.
     pub fn first_row(&self) -> usize {
         self.first_row
     }
 
-    /// The row under the last one that was painted.
+    /// Returns the row under the last one that was painted.
     pub fn next_row(&self) -> usize {
         self.last_row.saturating_add(1)
     }
 
-    /// All goes up by so many rows, and blank ones come in below.
+    /// Moves all up by `count` rows, and adds blank ones below.
     pub fn raise(&mut self, count: usize) {
         let gone = self.index_of(count, 0).min(self.cells.len());
         self.cells.rotate_left(gone);
@@ -152,7 +152,7 @@ impl Table {
         self.cursor.0 = self.cursor.0.saturating_sub(count);
     }
 
-    /// The texts are painted from the row on where the screen was entered, and a blank after the line where it fills
+    /// Paints the texts from the row on where the screen was entered, and a blank after the line where it fills
     /// its last row. The column of the cursor is the one given, or else the number of characters before the cursor.
     pub fn paint(&mut self, texts: &PaintedTexts<'_>, column: Option<usize>) {
         let row = self.first_row;
@@ -176,7 +176,7 @@ impl Table {
         }
     }
 
-    /// The reading has ended. The next one enters the screen in this row, under the last one.
+    /// Ends the reading. The next one enters the screen in this row, under the last one.
     pub fn close(&mut self, row: usize) {
         self.clear_from(row);
         self.first_row = row;
@@ -184,17 +184,17 @@ impl Table {
         self.cursor = (row, 0);
     }
 
-    /// How many cells there are.
+    /// Returns how many cells there are.
     pub fn len(&self) -> usize {
         self.cells.len()
     }
 
-    /// Where the cursor is to stand.
+    /// Returns where the cursor is to stand.
     pub fn cursor(&self) -> (usize, usize) {
         self.cursor
     }
 
-    /// What the cell at a row and a column is to hold, under its attributes, or none where it is not compared.
+    /// Returns what the cell at a row and a column is to hold, under its attributes, or none where it is not compared.
     pub fn cell(&self, row: usize, col: usize) -> Option<ScreenCell> {
         if col >= self.width {
             return None;
@@ -205,7 +205,7 @@ impl Table {
         }
     }
 
-    /// How many cells of the screen hold something else. A cursor that stands elsewhere counts as one more.
+    /// Returns how many cells of the screen hold something else. A cursor that stands elsewhere counts as one more.
     pub fn differences(&self, screen: &impl Shows) -> usize {
         let width = self.width;
         let cells = self
@@ -217,7 +217,7 @@ impl Table {
         cells.saturating_add(usize::from(screen.cursor() != self.cursor))
     }
 
-    /// The same of a screen that shows attributes: a character in other attributes is another cell.
+    /// Returns the same of a screen that shows attributes: a character in other attributes is another cell.
     pub fn styled_differences(&self, screen: &StyledScreen) -> usize {
         let width = self.width;
         let cells = self
@@ -229,7 +229,7 @@ impl Table {
         cells.saturating_add(usize::from(screen.cursor() != self.cursor))
     }
 
-    /// The place so many characters after the start of a row.
+    /// Returns the place `characters` characters after the start of a row.
     fn place(&self, row: usize, characters: usize) -> (usize, usize) {
         (
             row.saturating_add(characters / self.width),
@@ -248,7 +248,7 @@ impl Table {
         }
     }
 
-    /// Puts a text, marked or not, so many characters after the start of a row.
+    /// Puts a text, marked or not, `before` characters after the start of a row.
     fn put_text(&mut self, row: usize, before: usize, text: &str, is_marked: bool) {
         for (index, byte) in text.bytes().enumerate() {
             let (row, column) = self.place(row, before.saturating_add(index));
@@ -271,7 +271,7 @@ impl Table {
         }
     }
 
-    /// How many rows the lower lines take.
+    /// Returns how many rows the lower lines take.
     fn lower_rows(&self, lower: &str) -> usize {
         let mut rows: usize = 0;
         for line in lower.split("\r\n") {
@@ -280,7 +280,7 @@ impl Table {
         rows
     }
 
-    /// How many rows a line under the line takes.
+    /// Returns how many rows a line under the line takes.
     fn line_rows(&self, line: &str) -> usize {
         line.len().div_ceil(self.width).max(1)
     }

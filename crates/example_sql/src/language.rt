@@ -133,7 +133,7 @@ impl Application for Language {
         Ok(ranges)
     }
 
-    /// A line may be accepted once each of its statements ends. A command has one row.
+    /// Returns what the line lacks, or `None` if it may be accepted: a command, or statements each of which ends.
     fn lack(&self, alloc: Global, line: &str) -> Result<Option<String>, AllocError> {
         if line.starts_with('.') || is_blank(unfinished(line)) {
             return Ok(None);

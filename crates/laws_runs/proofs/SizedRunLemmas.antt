@@ -99,7 +99,7 @@ module _ {V : Type 0} (rules : HostRules V) where
   since_set mark (first ∷ more) station end e w = station_sets rules mark first (more ++ station ∷ []) end e w
 
   module _ {W : Type 0} (contents : W → Option (List ℕ)) where
-    -- the bytes of the stations since a clearing come after the ones before it, whatever sizes are told
+    -- the bytes of the stations since a clearing come after the ones before it, at any sizes
     pub since_is_sent : SinceIsSent rules contents
     since_is_sent prompt value old new events held h w earlier since station later k stations-are sent-at =
         let f : Frame V = reading_frame prompt value old events in

@@ -20,7 +20,7 @@ use Rattle.tw_device.specs.declared.terminal.AnsiTerminal.{AnsiTerminal}
 abbrev pub with_events : {V : Type 0} → List EventView → Frame V → Frame V
 with_events events f = record f { terminal = record f.terminal { events = events } }
 
--- where a reading begins that is told these events
+-- where a reading of these events begins
 abbrev pub reading_frame : {V W : Type 0} → List ℕ → V → AnsiTerminal W → List EventView → Frame V
 reading_frame prompt value old events = with_events events (fresh_frame prompt value (terminal_state old))
 

@@ -4,6 +4,7 @@ use Rattle.std.specs.Prelude.{slice_index_or}
 use Rattle.std.proofs.lemmas.Bool.{cases_eq, cases_lt, eq-eqb, ne_eqb, eqb-true, eqb-false, and_left, and_right, cond-true, cond-false, le-leb, lt-leb, lt-ltb, le-ltb}
 use Rattle.std.proofs.lemmas.Nat.{same_from_place, rows, div-mul-add, mod-mul-add}
 use Rattle.std.proofs.Math.Nat.{add-mul, one-mul, mul-add-div_right, mul-add-mod_self_right}
+pub use Rattle.tw_surface.proofs.LineOfCells.{same_cell, below_row, next_row, behind as behind_cell}
 use Rattle.laws_screens.specs.Strokes.{PictureOf, Stroke, put_in, cleared_in, put, step, steps}
 use Rattle.laws_screens.specs.Sheets.{typed}
 
@@ -14,47 +15,6 @@ at_row w s k h = mul-add-div_right h s k
 
 pub at_col : (w s k : ℕ) → (s * w + k) % w ≡ k % w
 at_col w s k = mul-add-mod_self_right s w k
-
--- ---- rows and columns
-
-pub same_cell : (w r c i j : ℕ) → c < w → j < w → (eqb r i && eqb c j) ≡ eqb (r * w + c) (i * w + j)
-same_cell w r c i j h k =
-    elim (cases_eq (r * w + c) (i * w + j)) [
-      | inl e ↦
-          let p = same_from_place r c i j w h k e in
-          rw (eq-eqb r i p.0, eq-eqb c j p.1, eq-eqb _ _ e) refl
-      | inr n ↦
-          elim (cases_eq r i) [
-            | inl a ↦
-                rw (ne_eqb _ _ n) (and_right (eqb r i) (eqb c j) (ne_eqb c j (λ b. n (rw (a, b) refl))))
-            | inr a ↦ rw (ne_eqb _ _ n) (and_left (eqb r i) (eqb c j) (ne_eqb r i a))
-          ]
-    ]
-
-pub below_row : (w r c i : ℕ) → r < i → c < w → r * w + c < i * w
-below_row w r c i a h = grind (arith, rows)
-
-leb_past : (a c j : ℕ) → leb c j ≡ leb (a + c) (a + j)
-leb_past a c j =
-    elim (cases_lt j c) [
-      | inl h ↦ rw (lt-leb c j h) (sym (lt-leb (a + c) (a + j) (omega arith)))
-      | inr h ↦ rw (le-leb c j h) (sym (le-leb (a + c) (a + j) (omega arith)))
-    ]
-
-pub next_row : (r w x : ℕ) → (r + 1) * w + x ≡ r * w + w + x
-next_row r w x = omega (arith, add-mul r 1 w, one-mul w)
-
--- a cell is after another in its row or below where its place is
-pub behind_cell : (w r c i j : ℕ) → c < w → j < w → (ltb r i || (eqb r i && leb c j)) ≡ leb (r * w + c) (i * w + j)
-behind_cell w r c i j h k =
-    elim (cases_lt r i) [
-      | inl a ↦ rw (lt-ltb r i a) (sym (le-leb _ _ (omega (arith, below_row w r c i a h))))
-      | inr a ↦ rw (le-ltb r i a)
-          (elim (cases_eq r i) [
-            | inl e ↦ rw (eq-eqb r i e, e) (leb_past (i * w) c j)
-            | inr n ↦ rw (ne_eqb r i n) (sym (lt-leb _ _ (omega (arith, below_row w i j r (omega arith) k))))
-          ])
-    ]
 
 module _ {C : Type 0} where
   -- ---- one line of cells

@@ -24,7 +24,7 @@ impl Agreement {
         self.agreeing = self.agreeing.saturating_add(other.agreeing);
     }
 
-    /// Whether all agree.
+    /// Returns true if all agree.
     pub fn is_whole(self) -> bool {
         self.scripts == self.agreeing
     }

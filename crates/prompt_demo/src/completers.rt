@@ -7,7 +7,7 @@ use tw_completion_parts::{Completer, Context, ContextCompleter, WordList};
 /// What `count` counts.
 const COUNTED: &str = "bytes lines words";
 
-/// The completer of a command's arguments.
+/// Returns the completer of a command's arguments.
 fn arguments(
     alloc: Global,
     command: &str,
@@ -19,7 +19,7 @@ fn arguments(
     })
 }
 
-/// File names after `copy` and `move`, and after `count` what is counted, one after the other with commas between them.
+/// Completes file names after `copy` and `move`, and after `count` what is counted, with commas between.
 pub fn completers(alloc: Global) -> Result<Vec<ContextCompleter>, AllocError> {
     let counted = WordList {
         words: words(alloc, COUNTED)?,

@@ -10,7 +10,7 @@ const COMMANDS: &str = "copy count move quit";
 /// What is shown under a line that begins with a question mark.
 const HELP: &str = "Tab completes\r\nUp recalls a line";
 
-/// The words of a text, which spaces part.
+/// Returns the words of a text, which spaces part.
 pub fn words(alloc: Global, text: &str) -> Result<Vec<String>, AllocError> {
     let mut words = Vec::new(alloc);
     for word in text.split(' ') {
@@ -19,7 +19,7 @@ pub fn words(alloc: Global, text: &str) -> Result<Vec<String>, AllocError> {
     Ok(words)
 }
 
-/// Commands are bold, and quoted texts green.
+/// Returns styles in which commands are bold and quoted texts green.
 fn styles() -> Styles {
     let mut keyword = CellAttributes::default();
     keyword.intensity = Intensity::Bold;
@@ -28,7 +28,7 @@ fn styles() -> Styles {
     Styles { keyword, quote }
 }
 
-/// The tables of the prompt.
+/// Returns the tables of the prompt.
 pub fn tables(alloc: Global) -> Result<Tables, AllocError> {
     let hint = Hint {
         word: String::from_str(alloc, "?")?,

@@ -20,7 +20,7 @@ pub enum Answer {
 }
 
 impl Answer {
-    /// The answer of an editor. Want of memory ends the run.
+    /// Returns the answer of an editor. Want of memory ends the run.
     pub fn new(outcome: Result<Option<String>, Error>) -> Result<Answer, RunFault>
         ensures told { IsAnswerTo outcome result }
         ensures fault { IfErr result IsOutside }

@@ -31,8 +31,8 @@ pub enum Directive<'a> {
     Read,
 }
 
-/// The directive on a line, which is a word, or a word, a space and a text that goes to the line's end. None where
-/// the line is no directive, or is not UTF-8.
+/// Returns the directive on a line, which is a word, or a word, a space and a text that goes to the line's end. None
+/// where the line is no directive, or is not UTF-8.
 pub fn parse_line(line: &[u8]) -> Option<Directive<'_>>
     ensures named { IfSome result (IsLineOf line.now) }
     ensures utf8 { IsSome result → IsUtf8 line.now }
@@ -41,7 +41,7 @@ pub fn parse_line(line: &[u8]) -> Option<Directive<'_>>
     parse_text(std::str::from_utf8(line).ok()?)
 }
 
-/// The directive on a line of text.
+/// Returns the directive on a line of text.
 fn parse_text(line: &str) -> Option<Directive<'_>>
     ensures { MatchOption result (¬ (IsDirective line.now)) (IsLineOf line.now) }
 {
@@ -63,7 +63,7 @@ fn parse_text(line: &str) -> Option<Directive<'_>>
     }
 }
 
-/// The range and the text of a candidate: two numbers and the text, which may be left out with its space.
+/// Returns the range and the text of a candidate: two numbers and the text, which may be left out with its space.
 fn parse_candidate(text: &str) -> Option<(Range<usize>, &str)>
     ensures named { IfSome result
         (λ candidate. IsRangeAndText text.now candidate.0.start candidate.0.end candidate.1.now) }
@@ -75,7 +75,7 @@ fn parse_candidate(text: &str) -> Option<(Range<usize>, &str)>
     Some((parse_number(start)?..parse_number(end)?, text))
 }
 
-/// The word that a line begins with, and the text after the space that follows it. Without a space the whole
+/// Returns the word that a line begins with, and the text after the space that follows it. Without a space the whole
 /// line is the word, and the text is empty.
 fn split_word(line: &str) -> (&str, &str)
     ensures word { result.0.now ≡ first_word line.now }

@@ -28,7 +28,7 @@ pub fn play(screen: &mut Screen, batch: &[Change]) -> Result<(), ScreenFault> {
     Ok(())
 }
 
-/// Adds the rows of the screen, the cursor while the line was edited, and the cursor now.
+/// Adds the rows of the screen, each between two bars, the cursor while the line was edited, and the cursor now.
 pub fn show_screen(
     screen: &Screen,
     cols: usize,
@@ -38,20 +38,27 @@ pub fn show_screen(
     ensures { OnOk result (IsContinuation (string_bytes shown.old) (string_bytes shown.new)) }
 {
     if let Some(last) = screen.last_row() {
-        for row in 0..=last {
-            show_row(screen, cols, row, shown)?;
+        shown.push('|')?;
+        for row in 0..last {
+            show_row(screen, cols, row, "|\n|", shown)?;
         }
+        show_row(screen, cols, last, "|\n", shown)?;
     }
     let (row, col) = cursor;
     let (end_row, end_col) = screen.cursor();
     write!(shown, "cursor {row} {col}\nend {end_row} {end_col}\n")
 }
 
-/// Adds a row of the screen, between two bars.
-fn show_row(screen: &Screen, cols: usize, row: usize, shown: &mut String) -> Result<(), AllocError>
+/// Adds a row of the screen, and what ends it.
+fn show_row(
+    screen: &Screen,
+    cols: usize,
+    row: usize,
+    end: &str,
+    shown: &mut String,
+) -> Result<(), AllocError>
     ensures { OnOk result (IsContinuation (string_bytes shown.old) (string_bytes shown.new)) }
 {
-    shown.push('|')?;
     screen.push_row(row, cols, shown)?;
-    shown.push_str("|\n")
+    shown.push_str(end)
 }

@@ -5,7 +5,7 @@ ghost use Rattle.script_player.specs.Escapes.{unescaped_text};
 
 use std::alloc::{AllocError, Global};
 
-/// The text with CR LF in place of each `\n`. A backslash before any other character, or at the end, is itself.
+/// Returns the text with CR LF in place of each `\n`. A backslash before any other character, or at the end, is itself.
 pub fn unescape(alloc: Global, text: &str) -> Result<String, AllocError>
     ensures { IfOk result (λ lines. string_bytes lines ≡ unescaped_text text.now) }
 {

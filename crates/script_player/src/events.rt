@@ -47,15 +47,14 @@ fn push_typed(text: &str, events: &mut Vec<InputEvent>) -> Result<(), AllocError
     Ok(())
 }
 
-/// The event of this name: `paste:TEXT` is a pasted text, and `5x24` a new size of 5 columns and 24 rows; a character
-/// alone is its key, `F1` is the first function key, and the others are the names of keys.
+/// Returns the event of this name: `paste:TEXT` is a pasted text, and `5x24` a new size of 5 columns and 24 rows; a
+/// single character is its key, `F1` is the first function key, and the others are the names of keys.
 pub fn event_named(alloc: Global, name: &str) -> Result<Option<InputEvent>, AllocError>
     ensures named { IfOk result
         (λ found. IfSome found (λ event. IsEventName name.now (event_view event))) }
     ensures pasted { (text : List ℕ) → name.now ≡ codes "paste:" ++ text → IfOk result IsSome }
-    ensures key { Contains key_names name.now → IfOk result IsSome }
-    ensures modified { (c : ℕ) → IsScalar c → Contains (character_names c) name.now →
-        IfOk result IsSome }
+    ensures key { (Contains key_names name.now → IfOk result IsSome)
+        × ((c : ℕ) → IsScalar c → Contains (character_names c) name.now → IfOk result IsSome) }
     ensures character { (c : ℕ) → IsScalar c → name.now ≡ encode_utf8 c → IfOk result IsSome }
     ensures function { (n : ℕ) → n < 256 → IsPlainName name.now (KeyCode.Function n) →
         IfOk result IsSome }
@@ -75,7 +74,7 @@ pub fn event_named(alloc: Global, name: &str) -> Result<Option<InputEvent>, Allo
     Ok(size_named(name))
 }
 
-/// The key without modifiers that a character alone names, or `F` and its number.
+/// Returns the key without modifiers that a single character names, or `F` and its number.
 fn plain_key_named(name: &str) -> Option<KeyEvent>
     ensures named { IfSome result (IsPlainKeyName name.now) }
     ensures character { (c : ℕ) → IsScalar c → name.now ≡ encode_utf8 c → IsSome result }
@@ -92,7 +91,7 @@ fn plain_key_named(name: &str) -> Option<KeyEvent>
     })
 }
 
-/// The change of the size that two numbers name, with an `x` between them: columns and rows.
+/// Returns the change of the size that two numbers name, with an `x` between them: columns and rows.
 fn size_named(name: &str) -> Option<InputEvent>
     ensures named { IfSome result (λ event. IsEventName name.now (event_view event)) }
     ensures size { (cols rows : ℕ) → cols < 2 ^ 64 → rows < 2 ^ 64 → IsSizeName name.now cols rows →

@@ -6,7 +6,7 @@ ghost use Rattle.script_player.specs.KeyNames.{key_name, key_names, plain_name, 
 
 use tw_input::{KeyCode, KeyEvent, Modifiers};
 
-/// The key of this name.
+/// Returns the key of this name.
 pub fn key_named(name: &str) -> Option<KeyEvent>
     ensures named { IfSome result (λ key. key_name key ≡ Some name.now) }
     ensures scalar { IfSome result IsKey }
@@ -33,7 +33,7 @@ pub fn key_named(name: &str) -> Option<KeyEvent>
     })
 }
 
-/// The key of a name such as `Enter`, with no modifier.
+/// Returns the key of a name such as `Enter`, with no modifier.
 fn plain_named(name: &str) -> Option<KeyCode>
     ensures { MatchOption result ((key : KeyCode) →
         ¬ (plain_name key ≡ Some name.now)) (λ key. plain_name key ≡ Some name.now) }
@@ -58,7 +58,7 @@ fn plain_named(name: &str) -> Option<KeyCode>
     }
 }
 
-/// The key of a name such as `C-x`: a letter for the modifier, a hyphen, and the character.
+/// Returns the key of a name such as `C-x`: a letter for the modifier, a hyphen, and the character.
 fn character_named(name: &str) -> Option<KeyEvent>
     ensures named { IfSome result (λ key. key_name key ≡ Some name.now) }
     ensures scalar { IfSome result IsKey }

@@ -3,7 +3,7 @@
 ghost use Rattle.std.specs.Prelude.{◌<◌, length};
 ghost use Rattle.script_player.specs.Lines.{IsFirstLine};
 
-/// The first line, without the line feed that ends it, and what follows.
+/// Returns the first line, without the line feed that ends it, and what follows.
 pub fn split_line(script: &[u8]) -> (&[u8], &[u8])
     requires { 0 < length script.now }
     ensures line { IsFirstLine script.now result.0.now result.1.now }

@@ -29,7 +29,7 @@ impl Model for ListHistory {
 }
 
 impl ListHistory {
-    /// The history of no lines. Takes no memory: each `add` takes it from `alloc`.
+    /// Creates the history of no lines. Takes no memory: each `add` takes it from `alloc`.
     pub fn new(alloc: Global) -> Self
         ensures { result ≡ [] }
     {
@@ -74,7 +74,7 @@ impl History for ListHistory {
 
     ghost add_gives = { λ history line grown. grown ≡ with_line history line };
 
-    /// The line at `idx`, which is lent and not copied. Takes no memory.
+    /// Returns the line at `idx`, which is lent and not copied. Takes no memory.
     fn get(&self, _alloc: Global, idx: HistoryIndex) -> Result<Option<CowStr<'_>>, AllocError>
         ensures line { IsOkAnd result (λ line. option_map cow_str_bytes line
             ≡ slice_get self.now idx) }
@@ -104,7 +104,7 @@ impl History for ListHistory {
         self.append(line)
     }
 
-    /// The nearest match. Takes no memory.
+    /// Returns the nearest match. Takes no memory.
     fn search(
         &self,
         _alloc: Global,

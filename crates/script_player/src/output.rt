@@ -27,7 +27,7 @@ pub fn put<W: Write>(writer: &mut W, text: &str) -> Result<(), RunFault>
     Ok(())
 }
 
-/// The line that names a bad line.
+/// Returns the line that names a bad line.
 pub fn bad_line_text(alloc: Global, number: u64) -> Result<String, AllocError>
     ensures { IfOk result (λ text. string_bytes text ≡ bad_line number) }
 {

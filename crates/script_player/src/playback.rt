@@ -42,7 +42,7 @@ pub struct Playback {
 impl Playback {
     ghost use Rattle.script_player.specs.Playback.{FailsToObey, Obeys, Tells, first_stage, screen_of, stage_of};
 
-    /// The playback at the start of a script.
+    /// Creates the playback at the start of a script.
     pub fn new(alloc: Global) -> Result<Self, AllocError>
         ensures { IfOk result (λ playback. stage_of playback ≡ first_stage) }
     {
@@ -96,7 +96,7 @@ impl Playback {
         Ok(())
     }
 
-    /// A new screen, or none where no screen has so many columns.
+    /// Begins a new screen, or none if no screen has that many columns.
     fn clear_screen(&mut self)
         ensures { stage_of self.new
             ≡ record (stage_of self.old) { screen = screen_of self.old.cols } }

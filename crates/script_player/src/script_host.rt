@@ -5,7 +5,9 @@ ghost use Rattle.script_player.specs.ScriptRules.{Scripted, value_of, scripted_c
 
 use std::alloc::{AllocError, Global};
 use std::ops::Range;
-use tw_lineedit::{CompletionCandidate, History, LineEditorHost, OutputElement, Overrides};
+use tw_lineedit::{
+    CompletionCandidate, History, LineEditorHost, OutputElement, Overrides, copy_candidates,
+};
 
 /// A host with a history, a preview under every line, and candidates that it answers to every request. Its
 /// other answers are the default ones.
@@ -18,7 +20,7 @@ pub struct ScriptHost<L> {
 }
 
 impl<L: History> ScriptHost<L> {
-    /// The host with this history, without a preview and without candidates.
+    /// Creates the host with this history, without a preview and without candidates.
     pub fn new(alloc: Global, history: L) -> Self
         ensures { value_of L.lines result ≡ history_only (L.lines history) }
     {
@@ -30,7 +32,7 @@ impl<L: History> ScriptHost<L> {
         }
     }
 
-    /// Shows this preview from now on, and none where it is empty. Where it is refused nothing is changed.
+    /// Shows this preview from now on, and none where it is empty. If it is refused, nothing is changed.
     pub fn set_preview(&mut self, preview: &str) -> Result<(), AllocError>
         ensures set { OnOk result (value_of L.lines self.new
             ≡ with_preview preview.now (value_of L.lines self.old)) }
@@ -40,7 +42,7 @@ impl<L: History> ScriptHost<L> {
         Ok(())
     }
 
-    /// Adds a candidate after the others. Where it is refused nothing is changed.
+    /// Adds a candidate after the others. If it is refused, nothing is changed.
     pub fn offer(&mut self, range: Range<usize>, text: &str) -> Result<(), AllocError>
         ensures last { OnOk result (value_of L.lines self.new
             ≡ with_last_candidate (scripted_candidate range.start range.end text.now)
@@ -93,14 +95,7 @@ impl<L: History> LineEditorHost for ScriptHost<L> {
         _line: &str,
         _cursor_position: usize,
     ) -> Result<Vec<CompletionCandidate>, AllocError> {
-        let mut copies = Vec::new(alloc);
-        for candidate in &self.candidates {
-            copies.push(CompletionCandidate {
-                range: candidate.range.start..candidate.range.end,
-                text: String::from_str(alloc, candidate.text.as_str())?,
-            })?;
-        }
-        Ok(copies)
+        copy_candidates(alloc, &self.candidates)
     }
 
     ghost plain_answers = { script_is_plain };

@@ -60,7 +60,7 @@ pub struct ScreenTerminal {
 }
 
 impl ScreenTerminal {
-    /// A terminal of this size with these events, on a screen. It takes no memory.
+    /// Creates a terminal of this size with these events, on a screen. Takes no memory.
     pub fn new(size: ScreenSize, events: Vec<InputEvent>, screen: Option<Screen>) -> Self
         ensures state { ⟦<ScreenTerminal as Terminal>⟧.state result ≡
             fresh_terminal size (map event_view events.items) }
@@ -80,7 +80,7 @@ impl ScreenTerminal {
         }
     }
 
-    /// The screen, and what the batches came to on it.
+    /// Returns the screen, and what the batches came to on it.
     pub fn into_shown(self) -> Shown
         ensures { result ≡ self.shown }
     {

@@ -25,7 +25,7 @@ pub struct Case<'a> {
     pub fault: Option<(usize, usize)>,
 }
 
-/// Two numbers with a space between them.
+/// Parses two numbers with a space between them.
 pub fn pair_of(text: &str) -> Result<(usize, usize), Fail> {
     let (first, second) = text.split_once(' ').ok_or("no pair")?;
     Ok((first.parse()?, second.parse()?))
@@ -37,10 +37,10 @@ fn candidate_of(text: &str) -> Result<(usize, usize, &str), Fail> {
     Ok((start.parse()?, end.parse()?, text))
 }
 
-/// The case of lines `size ROWS COLS`, `history TEXT` for each line of the history, `preview TEXT`,
-/// `cand START END TEXT` for each candidate, `prompt TEXT`, `initial TEXT`, `events NAMES`, `readings COUNT`,
-/// `host NAME`, `show NAME` (`told_of`) and `fail CALL TAKEN`, each of which may be left out, and of steps (`steps_of`). A line `# TEXT` says what
-/// the case shows.
+/// Returns the case of lines `size ROWS COLS`, `history TEXT` for each line of the history, `preview TEXT`, `cand START
+/// END TEXT` for each candidate, `prompt TEXT`, `initial TEXT`, `events NAMES`, `readings COUNT`, `host NAME`, `show
+/// NAME` (`told_of`) and `fail CALL TAKEN`, each of which may be left out, and of steps (`steps_of`). A line `# TEXT`
+/// says what the case shows.
 pub fn case_of(alloc: Global, lines: &str) -> Result<Case<'_>, Fail> {
     let mut case = Case {
         size: ScreenSize { rows: 24, cols: 80 },
@@ -91,7 +91,7 @@ pub fn remember_all<H: LineEditorHost>(host: &mut H, lines: &[&str]) -> Result<(
     Ok(())
 }
 
-/// The host of a case, over a history that is empty at first.
+/// Returns the host of a case, over a history that is empty at first.
 pub fn host_of<L: History + Drop>(
     alloc: Global,
     history: L,

@@ -19,7 +19,7 @@ pub(crate) fn fail_with(unlike: &str) -> Result<(), Fail> {
     Err(Fail::new(format_args!("{unlike}")))
 }
 
-/// Whether what comes is what is wanted. Below a line `..` stand ends of some of the lines that come.
+/// Returns true if what comes is what is wanted. Below a line `..` stand ends of some of the lines that come.
 fn is_wanted(came: &str, wanted: &str) -> bool {
     match wanted.split_once("\n..\n") {
         None => came.trim_end_matches('\n') == wanted.trim_end_matches('\n'),

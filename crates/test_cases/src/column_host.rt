@@ -14,7 +14,7 @@ pub struct ColumnHost {
 }
 
 impl ColumnHost {
-    /// The host with an empty history and this column. It takes no memory.
+    /// Creates the host with an empty history and this column. Takes no memory.
     pub fn new(alloc: Global, column: usize) -> Self
         ensures { ⟦<ColumnHost as LineEditorHost>⟧.value result
             ≡ record { lines = []; column = column } }

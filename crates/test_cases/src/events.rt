@@ -17,7 +17,7 @@ pub fn event_of(alloc: Global, name: &str) -> Result<InputEvent, Fail> {
     }
 }
 
-/// The events of a list of names, parted by spaces.
+/// Returns the events of a list of names, parted by spaces.
 pub fn events_named(alloc: Global, names: &str) -> Result<Vec<InputEvent>, Fail> {
     let mut events = Vec::new(alloc);
     for name in names.split_whitespace() {
@@ -49,12 +49,12 @@ fn mark_text(held: Modifiers, modifier: Modifiers, name: &'static str) -> &'stat
     }
 }
 
-/// A terminal of 24 rows.
+/// Returns a terminal of 24 rows.
 pub fn terminal_of(alloc: Global, cols: usize, names: &str) -> Result<ScriptTerminal, Fail> {
     terminal_sized(alloc, ScreenSize { rows: 24, cols }, names)
 }
 
-/// A terminal of this size, with the events of these names.
+/// Returns a terminal of this size, with the events of these names.
 pub fn terminal_sized(
     alloc: Global,
     size: ScreenSize,

@@ -42,7 +42,7 @@ struct FedLine {
 }
 
 impl FedLine {
-    /// The batches that the terminal took.
+    /// Returns the batches that the terminal took.
     fn batches(&self) -> &[Vec<Change>] {
         self.terminal
             .batches()
@@ -137,7 +137,7 @@ fn answer_of<H: LineEditorHost>(
     Ok((answer, Some(fed)))
 }
 
-/// Whether no line is open: none takes an event, and none is finished. Another one can be begun.
+/// Returns whether no line is open: none takes an event, and none is finished. Another one can be begun.
 fn is_closed<H: LineEditorHost>(
     alloc: Global,
     editor: &mut LineEditor<'_, Watched>,
@@ -177,7 +177,7 @@ fn end_of<H: LineEditorHost>(
     Ok((end, is_closed))
 }
 
-/// A line of a case that is fed the first `count` of its events.
+/// Returns a line of a case that is fed the first `count` of its events.
 fn fed_line<H: LineEditorHost>(
     alloc: Global,
     case: &Case<'_>,
@@ -198,9 +198,9 @@ fn fed_line<H: LineEditorHost>(
     })
 }
 
-/// Whether a refused line painted what one paints that is finished after the events that it was fed, and closed
-/// likewise. It may have cleared the screen for the event that was refused. One that was not begun painted nothing,
-/// and one whose closing batch is refused is not flushed.
+/// Returns true if a refused line painted what one paints that is finished after the events that it was fed, and closed
+/// likewise. It may have cleared the screen for the event that was refused. One that was not begun painted nothing, and
+/// one whose closing batch is refused is not flushed.
 fn stops_at(refused: &FedLine, cut: &FedLine) -> bool {
     let Some((closing, painted)) = cut.batches().split_last() else {
         return false;

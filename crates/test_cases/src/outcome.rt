@@ -9,9 +9,9 @@ use std::test::Fail;
 use tw_lineedit::LineEditorHost;
 use tw_surface::{Change, Screen};
 
-/// What comes of a case: the answers of its readings, or what comes of its steps. If it shows `batches`, what the
-/// terminal has taken follows; if it shows `screen`, `painting` with the last painting, `closing` with the closing batch,
-/// `screen` with the rows of the screen, and where its cursor was before the closing batch and after it.
+/// Returns what comes of a case: the answers of its readings, or what comes of its steps. If it shows `batches`, what
+/// the terminal has taken follows; if it shows `screen`, `painting` with the last painting, `closing` with the closing
+/// batch, `screen` with the rows of the screen, and where its cursor was before the closing batch and after it.
 pub fn told_of<H: LineEditorHost>(
     alloc: Global,
     case: &Case<'_>,
@@ -50,7 +50,7 @@ fn shown_text(alloc: Global, cols: usize, batches: &[Vec<Change>]) -> Result<Str
     Ok(outcome)
 }
 
-/// The rows that a screen shows of batches, and below them where the cursor was before the last one.
+/// Returns the rows that a screen shows of batches, and below them where the cursor was before the last one.
 fn screen_text(
     alloc: Global,
     cols: usize,

@@ -40,7 +40,7 @@ struct LastReading {
 }
 
 impl LastReading {
-    /// The batches that the terminal took.
+    /// Returns the batches that the terminal took.
     fn batches(&self) -> &[Vec<Change>] {
         self.terminal
             .batches()
@@ -48,7 +48,7 @@ impl LastReading {
             .unwrap_or(&[])
     }
 
-    /// How often the terminal was flushed.
+    /// Returns how often the terminal was flushed.
     fn flushes(&self) -> usize {
         self.end
             .after
@@ -56,17 +56,17 @@ impl LastReading {
             .saturating_sub(self.end.before.flushes)
     }
 
-    /// How often the terminal was asked for its size.
+    /// Returns how often the terminal was asked for its size.
     fn sizes(&self) -> usize {
         self.end.after.sizes.saturating_sub(self.end.before.sizes)
     }
 
-    /// How many events were taken.
+    /// Returns how many events were taken.
     fn polled(&self) -> usize {
         self.end.before.left.saturating_sub(self.end.after.left)
     }
 
-    /// Whether another reading came to the same.
+    /// Returns whether another reading came to the same.
     fn is_as(&self, alloc: Global, other: &LastReading) -> Result<bool, AllocError> {
         let answer = answer_text(alloc, &self.end.answer)?;
         let wanted = answer_text(alloc, &other.end.answer)?;
@@ -128,7 +128,7 @@ fn last_reading<H: LineEditorHost>(
     Ok(LastReading { end, terminal })
 }
 
-/// The batches without a clearing of the screen after them.
+/// Returns the batches without a clearing of the screen after them.
 pub fn without_clearing(batches: &[Vec<Change>]) -> &[Vec<Change>] {
     match batches {
         [before @ .., last]
@@ -139,7 +139,8 @@ pub fn without_clearing(batches: &[Vec<Change>]) -> &[Vec<Change>] {
     }
 }
 
-/// The paintings of a refused reading, and its closing batch where it was rendered: the terminal was flushed then.
+/// Returns the paintings of a refused reading, and its closing batch where it was rendered: the terminal was flushed
+/// then.
 fn parts_of(refused: &LastReading) -> (&[Vec<Change>], Option<&[Change]>) {
     let batches = refused.batches();
     if refused.flushes() == 0 {
@@ -151,7 +152,7 @@ fn parts_of(refused: &LastReading) -> (&[Vec<Change>], Option<&[Change]>) {
     }
 }
 
-/// Whether a refused reading was stopped where the events of another one end: it painted the same, and closed
+/// Returns true if a refused reading was stopped where the events of another one end: it painted the same, and closed
 /// likewise. It may have taken one event more, and cleared the screen for that.
 fn stops_at(refused: &LastReading, cut: &LastReading) -> bool {
     let (begun, closing) = parts_of(refused);

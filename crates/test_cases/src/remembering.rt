@@ -32,7 +32,7 @@ struct Remembered {
 }
 
 impl Remembered {
-    /// The batches that the terminal took.
+    /// Returns the batches that the terminal took.
     fn batches(&self) -> &[Vec<Change>] {
         self.terminal
             .batches()
@@ -41,7 +41,7 @@ impl Remembered {
     }
 }
 
-/// Whether the editor can read a line.
+/// Returns true if the editor can read a line.
 fn reads<H: LineEditorHost>(editor: &mut LineEditor<'_, Watched>, host: &mut H) -> bool {
     editor.read_line(host).is_ok()
 }

@@ -14,7 +14,7 @@ pub struct ResolvingHost {
 }
 
 impl ResolvingHost {
-    /// The host with an empty history. It takes no memory.
+    /// Creates the host with an empty history. Takes no memory.
     pub fn new(alloc: Global) -> Self
         ensures { ⟦<ResolvingHost as LineEditorHost>⟧.value result ≡ [] }
     {

@@ -6,7 +6,7 @@ use script_player::{RunFault, run};
 use std::alloc::Global;
 use std::test::Fail;
 
-/// Whether a text says that the terminal refused, and what a screen shows then.
+/// Returns true if a text says that the terminal refused, and what a screen shows then.
 fn is_refused_by_terminal(written: &str) -> bool {
     let Some(rest) = written.strip_prefix("refused 7\n") else {
         return false;
@@ -19,8 +19,8 @@ fn is_refused_by_terminal(written: &str) -> bool {
     })
 }
 
-/// Whether a run between marks wrote what the run with memory writes, nothing if memory was refused, but for what stands
-/// before a bad line, or that the terminal refused.
+/// Returns true if a run between marks wrote what the run with memory writes, nothing if memory was refused, but for
+/// what stands before a bad line, or that the terminal refused.
 fn is_in_place(
     (written, ended): (&str, &Result<(), RunFault>),
     (output, end): (&str, &Result<(), RunFault>),

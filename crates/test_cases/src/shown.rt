@@ -5,13 +5,13 @@ use std::test::Fail;
 use tw_surface::{CellAttributes, Change, Intensity, Screen};
 use tw_terminal::ScriptTerminal;
 
-/// The changes of the last painting: the last batch but the closing one. None where nothing was painted.
+/// Returns the changes of the last painting: the last batch but the closing one. None where nothing was painted.
 pub fn last_painting(terminal: &ScriptTerminal) -> Option<&[Change]> {
     Some(terminal.batches().iter().rev().nth(1)?.as_slice())
 }
 
-/// The texts of some changes, one after the other. Where an attribute is set its change stands between braces, and
-/// `{}` where all are set to their defaults.
+/// Returns the texts of some changes, one after the other. Where an attribute is set its change stands between braces,
+/// and `{}` where all are set to their defaults.
 pub fn marked_text(alloc: Global, changes: &[Change]) -> Result<String, AllocError> {
     let mut marked = String::new(alloc);
     for change in changes {
@@ -43,8 +43,8 @@ pub fn painted_text(alloc: Global, terminal: &ScriptTerminal) -> Result<String, 
     Ok(marked.replace(alloc, bold.as_str(), "bold")?)
 }
 
-/// The rows of a screen of so many columns, from row 0 to the last one that is not blank, without the spaces at their
-/// ends.
+/// Returns the rows of a screen of `width` columns, from row 0 to the last one that is not blank, without the spaces at
+/// their ends.
 pub fn rows(alloc: Global, screen: &Screen, width: usize) -> Result<Vec<String>, AllocError> {
     let mut rows = Vec::new(alloc);
     let Some(last) = screen.last_row() else {

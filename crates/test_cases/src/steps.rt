@@ -13,7 +13,7 @@ use tw_terminal::{ScriptTerminal, TerminalFault};
 
 type Editor<'term> = LineEditor<'term, ScriptTerminal>;
 
-/// Whether memory was refused, to the editor or to its terminal.
+/// Returns true if memory was refused, to the editor or to its terminal.
 pub fn is_memory(error: &Error) -> bool {
     matches!(
         error,
@@ -21,7 +21,7 @@ pub fn is_memory(error: &Error) -> bool {
     )
 }
 
-/// The line and its cursor.
+/// Returns the line and its cursor.
 fn line_text(alloc: Global, editor: &mut Editor<'_>) -> Result<String, AllocError> {
     let (line, cursor) = editor.get_line_and_cursor();
     format!(in alloc; "{line:?} at {cursor}")

@@ -5,7 +5,7 @@ use tw_lineedit::Error;
 use tw_surface::{CellAttributes, Change, ColorAttribute, Position};
 use tw_terminal::ScriptTerminal;
 
-/// What a reading of a line answered.
+/// Returns what a reading of a line answered.
 pub fn answer_text(
     alloc: Global,
     answer: &Result<Option<String>, Error>,
@@ -19,7 +19,7 @@ pub fn answer_text(
     }
 }
 
-/// The batches, one a line.
+/// Returns the batches, one a line.
 pub fn batches_text(alloc: Global, batches: &[Vec<Change>]) -> Result<String, AllocError> {
     let mut text = String::new(alloc);
     for batch in batches {
@@ -69,7 +69,7 @@ fn write_position(text: &mut String, position: Position) -> Result<(), AllocErro
     }
 }
 
-/// What a terminal has taken, and what it was left with.
+/// Returns what a terminal has taken, and what it was left with.
 pub fn terminal_text(alloc: Global, terminal: &ScriptTerminal) -> Result<String, AllocError> {
     let left = terminal.events_left();
     let flushed = terminal.flushed();

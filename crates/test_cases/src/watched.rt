@@ -25,7 +25,7 @@ pub struct Watched {
 }
 
 impl Watched {
-    /// The terminal, which was not called yet.
+    /// Creates the terminal, which was not called yet.
     pub fn new(alloc: Global, script: ScriptTerminal) -> Result<Self, AllocError> {
         let seen = Cell::new(Seen {
             sizes: 0,
@@ -37,12 +37,12 @@ impl Watched {
         Ok(Watched { script, seen })
     }
 
-    /// Where it shows how far it has come.
+    /// Returns where it shows how far it has come.
     pub fn seen(&self) -> Result<Rc<Cell<Seen>>, AllocError> {
         Ok(Rc::clone(&self.seen)?)
     }
 
-    /// The terminal that was watched.
+    /// Returns the terminal that was watched.
     pub fn into_script(self) -> ScriptTerminal {
         let Watched { script, seen: _ } = self;
         script

@@ -6,7 +6,7 @@ use test_cases::{answer_text, expect_runs, painted_text, pair_of, script_termina
 use tw_lineedit::{History, LineEditor, LineEditorHost};
 use worked_host::CommandHost;
 
-/// A host that knows three commands.
+/// Returns a host that knows three commands.
 fn host_of_three(alloc: Global) -> Result<CommandHost, AllocError> {
     let mut known = Vec::new(alloc);
     for &word in &["copy", "count", "move"] {

@@ -26,7 +26,7 @@ struct Typed<'a> {
 }
 
 impl<'a> Typed<'a> {
-    /// A source that refuses the call of this number, counted from 1.
+    /// Creates a source that refuses the call of this number, counted from 1.
     fn new(characters: &'a [u8], refused_call: usize) -> Self {
         Typed {
             characters,
@@ -38,7 +38,7 @@ impl<'a> Typed<'a> {
     }
 }
 
-/// The event of a character.
+/// Returns the event of a character.
 fn event_of(character: u8) -> InputEvent {
     let key = match character {
         b'~' => return InputEvent::Resized { cols: 40, rows: 10 },
@@ -101,7 +101,7 @@ impl Read for Pieces<'_> {
     }
 }
 
-/// A terminal that writes to memory.
+/// Returns a terminal that writes to memory.
 fn terminal(alloc: Global) -> AnsiTerminal<Vec<u8>> {
     AnsiTerminal::new(alloc, Vec::new(alloc), ScreenSize { rows: 24, cols: 80 })
 }

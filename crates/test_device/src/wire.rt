@@ -19,7 +19,7 @@ pub struct Wire<'a> {
 }
 
 impl<'a> Wire<'a> {
-    /// A writer that adds what it takes, and refuses the write of this number.
+    /// Creates a writer that adds what it takes, and refuses the write of this number.
     pub fn new(taken: &'a mut Vec<u8>, refused: usize) -> Self {
         Wire {
             taken,

@@ -82,7 +82,7 @@ impl LineEditorHost for AskedHost {
     ghost held_lines = { λ host. refl };
 }
 
-/// How often a host is asked for prompt, line and preview by a reading of these events.
+/// Returns how often a host is asked for prompt, line and preview by a reading of these events.
 fn play_asked(alloc: Global, events: &str) -> Result<String, Fail> {
     let mut terminal = terminal_of(alloc, 80, events.trim_end())?;
     let mut history = BasicHistory::new(alloc);

@@ -43,7 +43,7 @@ impl Terminal for Listing {
     }
 }
 
-/// Whether a refusal is another fault of the terminal than this one.
+/// Returns true if a refusal is another fault of the terminal than this one.
 fn is_other(error: &Error, wanted: TerminalFault) -> bool {
     match error {
         Error::Terminal(fault) => *fault != wanted,

@@ -154,7 +154,7 @@ fn a_fault_ends_the_calls(rt: HostRuntime) -> Result<(), Fail> {
     Ok(())
 }
 
-/// The batches of the line of `a Enter`, the first changes of the batch of call `call` only, and no more of it.
+/// Returns the batches of the line of `a Enter`, the first changes of the batch of call `call` only, and no more of it.
 fn batches_of(alloc: Global, call: usize, taken: usize) -> Result<String, Fail> {
     let case = format!(in alloc; "events a Enter\nshow batches\nfail {call} {taken}\n")?;
     let outcome = play_calls(alloc, case.as_str())?;

@@ -147,7 +147,8 @@ fn paintings_leave_nothing_stale(rt: HostRuntime) -> Result<(), Fail> {
     expect_cases(rt.alloc(), SCREENS, play)
 }
 
-/// What the default host shows of each line `CURSOR TEXT`, the column, and the number of its candidates; and its name.
+/// Returns what the default host shows of each line `CURSOR TEXT`, the column, and the number of its candidates; and
+/// its name.
 fn play_defaults(alloc: Global, lines: &str) -> Result<String, Fail> {
     let host = NopLineEditorHost::new(alloc);
     let mut outcome = String::new(alloc);

@@ -46,7 +46,7 @@ const KEYS: &[KeyCode] = &[
     KeyCode::Char('\u{e9}'),
 ];
 
-/// Whether a key has an action: by modifier, those that have one, or have none.
+/// Returns true if a key has an action: by modifier, those that have one, or have none.
 fn has_action(event: KeyEvent) -> bool {
     let KeyEvent { key, modifiers } = event;
     if modifiers == Modifiers::NONE {

@@ -16,7 +16,7 @@ fn modifier_name(modifiers: Modifiers) -> &'static str {
     }
 }
 
-/// The key and the modifier of each name.
+/// Returns the key and the modifier of each name.
 fn play_names(alloc: Global, names: &str) -> Result<String, Fail> {
     let mut outcome = String::new(alloc);
     for line in names.lines() {

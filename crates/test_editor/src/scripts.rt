@@ -198,20 +198,6 @@ cursor 2 2
 end 3 0
 -- ok
 ==
-cols 16
-history git log
-history ls
-key C-R
-type g
-read
---
-line g
-|> git log       |
-|bck-i-search: g_|
-cursor 0 2
-end 2 0
--- ok
-==
 cols 0
 read
 cols 20
@@ -252,18 +238,6 @@ cursor 1 3
 end 2 0
 -- ok
 ==
-cols 2
-type a
-key Enter
-read
---
-line a
-|> |
-|a |
-cursor 1 1
-end 2 0
--- ok
-==
 cols 10
 type x
 key Enter
@@ -282,19 +256,6 @@ line abcdefghij
 |ij        |
 cursor 1 2
 end 2 0
--- ok
-==
-cols 20
-type a b
-key C-W
-type c
-key Enter
-read
---
-line a c
-|> a c               |
-cursor 0 5
-end 1 0
 -- ok
 ==
 cols 5
@@ -381,18 +342,6 @@ end 2 0
 cols 10
 preview ok
 type x
-key Enter
-read
---
-line x
-|> x       |
-cursor 0 3
-end 1 0
--- ok
-==
-cols 10
-preview ok
-type x
 read
 preview
 type y
@@ -409,20 +358,6 @@ line y
 |> y       |
 cursor 2 3
 end 3 0
--- ok
-==
-cols 5
-preview abcde\\n\\nfg
-type x
-read
---
-line x
-|> x  |
-|abcde|
-|     |
-|fg   |
-cursor 0 3
-end 4 0
 -- ok
 ==
 cols 5

@@ -104,7 +104,7 @@ impl LineEditorHost for StrayHost {
     ghost held_lines = { λ host. refl };
 }
 
-/// The host with an empty history.
+/// Returns the host with an empty history.
 pub fn stray_host(alloc: Global) -> StrayHost {
     StrayHost {
         history: BasicHistory::new(alloc),

@@ -7,7 +7,7 @@ use std::test::Fail;
 use test_cases::expect_rows;
 use tw_line::{BasicHistory, History, SearchDirection, SearchResult, SearchStyle};
 
-/// The history with lines added in turn.
+/// Returns the history with lines added in turn.
 fn filled<H: History + Drop>(mut history: H, lines: &[&str]) -> Result<H, AllocError> {
     for line in lines {
         history.add(line)?;

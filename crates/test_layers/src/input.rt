@@ -11,7 +11,7 @@ use std::test::Fail;
 use test_cases::expect_rows;
 use tw_input::{Modifiers, laws};
 
-/// What `from_bits` answers, in the bits of the modifiers.
+/// Returns what `from_bits` answers, in the bits of the modifiers.
 fn known_modifiers(bits: u16) -> Option<Modifiers>
     ensures known { IsSome result ↔ (bit_and bits 30 ≡ bits) }
     ensures value { IfSome result (λ modifiers. modifier_bits modifiers ≡ bits) }
@@ -20,7 +20,7 @@ fn known_modifiers(bits: u16) -> Option<Modifiers>
     Modifiers::from_bits(bits)
 }
 
-/// A name for what is held, by a pattern.
+/// Returns a name for what is held, by a pattern.
 fn held_name(modifiers: Modifiers) -> &'static str {
     match modifiers {
         Modifiers::NONE => "none",

@@ -42,7 +42,7 @@ impl Painted {
         }
     }
 
-    /// Whether the last two paintings end in the same row and have the same height.
+    /// Returns true if the last two paintings end in the same row and have the same height.
     fn is_same(&self) -> bool {
         match (self.left, self.before) {
             (Some(left), Some(before)) => left.row == before.row && left.height == before.height,

@@ -7,7 +7,7 @@ use tw_input::InputEvent;
 use tw_surface::Change;
 use tw_terminal::{ScreenSize, ScriptTerminal, Terminal, TerminalFault};
 
-/// A terminal whose events are a key and a new size.
+/// Returns a terminal whose events are a key and a new size.
 fn two_events(alloc: Global) -> Result<ScriptTerminal, Fail> {
     let size = ScreenSize { rows: 24, cols: 80 };
     Ok(ScriptTerminal::new(alloc, size, events_named(alloc, "Enter 5x3")?))

@@ -49,7 +49,7 @@ fn context_of(alloc: Global, line: &str) -> Result<ContextCompleter, Fail> {
     Ok(ContextCompleter { context, completer })
 }
 
-/// A listing of a directory, whose own directories have a slash at their ends.
+/// Returns a listing of a directory, whose own directories have a slash at their ends.
 fn listing(alloc: Global, directory: &str, names: &str) -> Result<Listing, Fail> {
     let mut entries = Vec::new(alloc);
     for name in names.split(' ') {

@@ -12,7 +12,8 @@ use tw_input::{KeyCode, KeyEvent, Modifiers};
 use tw_line::{BasicHistory, LineEditBuffer};
 use tw_surface::{CellAttributes, ColorAttribute, Intensity};
 
-/// The elements as text: `B` before a bold text, `G` before a green one, `.` before a plain one, all between bars.
+/// Returns the elements as text: `B` before a bold text, `G` before a green one, `.` before a plain one, all between
+/// bars.
 fn marked(alloc: Global, elements: &[OutputElement]) -> Result<String, AllocError> {
     let mut output = String::new(alloc);
     let mut style = '.';
@@ -38,7 +39,7 @@ fn marked(alloc: Global, elements: &[OutputElement]) -> Result<String, AllocErro
     Ok(output)
 }
 
-/// Two rows have the same word.
+/// Returns hints of which two rows have the same word.
 fn sql_hints(alloc: Global) -> Result<Vec<Hint>, AllocError> {
     let mut hints = Vec::new(alloc);
     for &(word, text) in &[
@@ -54,7 +55,7 @@ fn sql_hints(alloc: Global) -> Result<Vec<Hint>, AllocError> {
     Ok(hints)
 }
 
-/// Two rows have the same key.
+/// Returns keys of which two rows have the same one.
 fn sql_keys(alloc: Global) -> Result<Vec<KeyBinding>, AllocError> {
     let mut keys = Vec::new(alloc);
     for &(key, binding) in &[
@@ -67,8 +68,8 @@ fn sql_keys(alloc: Global) -> Result<Vec<KeyBinding>, AllocError> {
     Ok(keys)
 }
 
-/// A host that knows some SQL, with a hint for an empty line and one for a line that begins with `drop`. Keywords are
-/// bold, and quoted texts green.
+/// Returns a host that knows some SQL, with a hint for an empty line and one for a line that begins with `drop`.
+/// Keywords are bold, and quoted texts green.
 fn sql_host(alloc: Global) -> Result<TableHost<BasicHistory>, AllocError> {
     let mut keyword = CellAttributes::default();
     keyword.intensity = Intensity::Bold;

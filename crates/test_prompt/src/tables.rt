@@ -7,7 +7,7 @@ use tw_hosts::{Styles, TableHost, Tables};
 use tw_lineedit::BasicHistory;
 use tw_surface::CellAttributes;
 
-/// A host that completes some words, which spaces part.
+/// Returns a host that completes some words, which spaces part.
 pub fn table_host(alloc: Global, words: &str) -> Result<TableHost<BasicHistory>, Fail> {
     let tables = Tables {
         keywords: Vec::new(alloc),

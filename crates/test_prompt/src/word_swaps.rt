@@ -6,7 +6,7 @@ use test_cases::expect_rows;
 use tw_key_parts::with_swapped_words;
 use tw_line::LineEditBuffer;
 
-/// The line that a text writes, with its cursor.
+/// Returns the line that a text writes, with its cursor.
 fn line_of(alloc: Global, text: &str) -> Result<LineEditBuffer, AllocError> {
     let (before, after) = text.split_once('|').unwrap_or((text, ""));
     let mut line = LineEditBuffer::new(alloc, after, 0)?;

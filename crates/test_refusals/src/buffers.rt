@@ -23,8 +23,8 @@ fn numbered(text: &str) -> Result<(usize, &str), Fail> {
     Ok((number.parse()?, rest))
 }
 
-/// The call of a line: `char C`, `text TEXT`, `chars COUNT C`, `texts COUNT TEXT`, `set CURSOR TEXT`, `move MOVEMENT`,
-/// `kill MOVEMENT, MOVEMENT` or `clear`.
+/// Returns the call of a line: `char C`, `text TEXT`, `chars COUNT C`, `texts COUNT TEXT`, `set CURSOR TEXT`, `move
+/// MOVEMENT`, `kill MOVEMENT, MOVEMENT` or `clear`.
 fn call_of(line: &str) -> Result<Call<'_>, Fail> {
     let (word, text) = line.split_once(' ').unwrap_or((line, ""));
     match word {
@@ -88,7 +88,7 @@ fn make_marked(alloc: Global, buffer: &mut LineEditBuffer, call: Call<'_>) -> Re
     Ok(())
 }
 
-/// The buffer of `new CURSOR TEXT`, which is made between marks, or of `old CURSOR TEXT`.
+/// Returns the buffer of `new CURSOR TEXT`, which is made between marks, or of `old CURSOR TEXT`.
 fn buffer_of(alloc: Global, line: &str) -> Result<LineEditBuffer, Fail> {
     let (word, text) = line.split_once(' ').ok_or("no buffer")?;
     let (cursor, text) = numbered(text)?;

@@ -12,7 +12,8 @@ enum Drawn {
     To((usize, isize)),
 }
 
-/// The change of `text TEXT`, with `\r` and `\n` for these, of `move COLUMNS ROWS` or of `clear`, or `to COLUMN ROW`.
+/// Returns the change of `text TEXT`, with `\r` and `\n` for these, of `move COLUMNS ROWS` or of `clear`, or `to COLUMN
+/// ROW`.
 fn drawn_of(alloc: Global, line: &str) -> Result<Drawn, Fail> {
     let (word, text) = line.split_once(' ').unwrap_or((line, ""));
     if word == "text" {
@@ -34,7 +35,7 @@ fn drawn_of(alloc: Global, line: &str) -> Result<Drawn, Fail> {
     }))
 }
 
-/// A copy that is made between marks, again if it is refused.
+/// Returns a copy that is made between marks, again if it is refused.
 fn copy_of(alloc: Global, change: &Change) -> Result<Change, Fail> {
     mark(alloc)?;
     let copy = change.try_clone(alloc);
@@ -52,7 +53,7 @@ fn add(drawing: &mut ChangeSequence, drawn: Drawn) -> Result<(), AddFault> {
     }
 }
 
-/// Where a sequence has come to: column, row and height.
+/// Returns where a sequence has come to: column, row and height.
 fn place_text(alloc: Global, drawing: &ChangeSequence) -> Result<String, AllocError> {
     let (col, row) = drawing.current_cursor_position();
     format!(in alloc; "{col} {row} {}", drawing.render_height())
@@ -133,7 +134,7 @@ fn added_changes_refused_in_turn(rt: HostRuntime) -> Result<(), Fail> {
     expect_cases(rt.alloc(), SEQUENCES, play_sequence)
 }
 
-/// The rows of a screen of 5 columns, each ended by a bar, and its cursor.
+/// Returns the rows of a screen of 5 columns, each ended by a bar, and its cursor.
 fn screen_text(alloc: Global, screen: &Screen) -> Result<String, AllocError> {
     let mut text = String::new(alloc);
     for row in 0..=screen.last_row().unwrap_or(0) {

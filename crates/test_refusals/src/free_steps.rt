@@ -121,7 +121,7 @@ fn calls_of_a_new_editor_without_memory(rt: HostRuntime) -> Result<(), Fail> {
     Ok(())
 }
 
-/// A host whose table has one key, F1, which clears the line.
+/// Returns a host whose table has one key, F1, which clears the line.
 fn clearing_host(alloc: Global) -> Result<TableHost<BasicHistory>, AllocError> {
     let attributes = CellAttributes::default();
     let clear = KeyBinding {

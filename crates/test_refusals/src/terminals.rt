@@ -6,7 +6,7 @@ use test_cases::{batches_text, expect_cases, hold, mark, terminal_of};
 use tw_surface::{Change, ColorAttribute};
 use tw_terminal::{ScriptTerminal, Terminal, TerminalFault};
 
-/// A clearing of the screen and a text.
+/// Returns a clearing of the screen and a text.
 fn batch_of(alloc: Global, text: &str) -> Result<Vec<Change>, AllocError> {
     let mut batch = Vec::new(alloc);
     batch.push(Change::ClearScreen(ColorAttribute::Default))?;
@@ -14,7 +14,7 @@ fn batch_of(alloc: Global, text: &str) -> Result<Vec<Change>, AllocError> {
     Ok(batch)
 }
 
-/// What a terminal has taken, and what it was left with. Of the failures `refused` were of memory.
+/// Returns what a terminal has taken, and what it was left with. Of the failures `refused` were of memory.
 fn taken_text(
     alloc: Global,
     terminal: &ScriptTerminal,

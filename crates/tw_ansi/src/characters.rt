@@ -7,7 +7,7 @@ ghost use Rattle.tw_ansi.specs.KeyBytes.{is_continuation, following_len, code_of
 use crate::token::{Scanned, key, replacement};
 use tw_input::{KeyCode, Modifiers};
 
-/// The code that the bytes of a character write, by its first byte and those that follow.
+/// Returns the code that the bytes of a character write, by its first byte and those that follow.
 fn code_of(first: u8, following: &[u8]) -> u32
     ensures { result ≡ code_of first following.now }
 {
@@ -22,7 +22,7 @@ fn code_of(first: u8, following: &[u8]) -> u32
     }
 }
 
-/// The least code that takes so many bytes after the first one.
+/// Returns the least code that takes `following` bytes after the first one.
 fn least_code(following: usize) -> u32
     ensures { result ≡ least_code following }
 {
@@ -33,7 +33,7 @@ fn least_code(following: usize) -> u32
     }
 }
 
-/// A character, all of whose bytes are there.
+/// Returns a character, all of whose bytes are there.
 fn whole_character(first: u8, following: &[u8]) -> Option<Scanned>
     requires { length following.now ≤ 3 }
     ensures value { result ≡ whole_character first following.now }
@@ -53,7 +53,7 @@ fn whole_character(first: u8, following: &[u8]) -> Option<Scanned>
     }
 }
 
-/// How many bytes follow the first byte of a character of several.
+/// Returns how many bytes follow the first byte of a character of several.
 fn following_len(first: u8) -> usize
     ensures value { result ≡ following_len first }
     ensures bound { result ≤ 3 }
@@ -65,7 +65,7 @@ fn following_len(first: u8) -> usize
     }
 }
 
-/// The first so many bytes, or all.
+/// Returns the first `len` bytes, or all.
 #[tactic(auto, using(std::proofs::lemmas::List::take_min))]
 fn first_bytes(bytes: &[u8], len: usize) -> &[u8]
     ensures { result.now ≡ take len bytes.now }
@@ -73,14 +73,14 @@ fn first_bytes(bytes: &[u8], len: usize) -> &[u8]
     &bytes[..len.min(bytes.len())]
 }
 
-/// Whether all bytes can stand after the first one of a character.
+/// Returns true if all bytes can stand after the first one of a character.
 fn all_follow(bytes: &[u8]) -> bool
     ensures { result ≡ list_all is_continuation bytes.now }
 {
     bytes.iter().all(|byte| (0x80..=0xbf).contains(byte))
 }
 
-/// A character of several bytes, by those that are there.
+/// Returns a character of several bytes, by those that are there.
 fn wide_character(first: u8, following: &[u8], is_last: bool) -> Option<Scanned>
     requires { length following.now ≤ 3 }
     ensures value { result ≡ wide_character is_last first following.now }
@@ -95,7 +95,7 @@ fn wide_character(first: u8, following: &[u8], is_last: bool) -> Option<Scanned>
     whole_character(first, following)
 }
 
-/// A control key with no key of its own.
+/// Returns a control key with no key of its own.
 fn with_control(byte: u8) -> Option<Scanned>
     requires { byte < 32 }
     ensures value { result ≡ with_control byte }
@@ -107,7 +107,7 @@ fn with_control(byte: u8) -> Option<Scanned>
     key(KeyCode::Char((byte + 64) as char), Modifiers::CTRL, 1)
 }
 
-/// A character that is no control character.
+/// Returns a character that is no control character.
 fn typed_at(first: u8, bytes: &[u8], is_last: bool) -> Option<Scanned>
     ensures value { result ≡ typed_at is_last first bytes.now }
     ensures bound { IfSome result (λ s. s.used ≤ 4) }
@@ -119,7 +119,7 @@ fn typed_at(first: u8, bytes: &[u8], is_last: bool) -> Option<Scanned>
     }
 }
 
-/// A character or a control key, by its first byte and what stands after it.
+/// Returns a character or a control key, by its first byte and what stands after it.
 pub fn character_at(first: u8, bytes: &[u8], is_last: bool) -> Option<Scanned>
     ensures value { result ≡ character_at is_last first bytes.now }
     ensures bound { IfSome result (λ s. s.used ≤ 4) }

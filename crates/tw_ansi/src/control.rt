@@ -12,7 +12,7 @@ use tw_input::{KeyCode, KeyEvent, Modifiers};
 /// What ends a pasted text.
 pub const PASTE_END: [u8; 6] = *b"\x1b[201~";
 
-/// How many bytes are at the front that can stand in a control sequence before its letter.
+/// Returns how many bytes are at the front that can stand in a control sequence before its letter.
 pub fn parameters_len(bytes: &[u8]) -> usize
     ensures value { result ≡ prefix_len is_parameter bytes.now }
     ensures bound { result ≤ length bytes.now }
@@ -25,7 +25,7 @@ pub fn parameters_len(bytes: &[u8]) -> usize
     bytes.len()
 }
 
-/// The bytes before the first semicolon.
+/// Returns the bytes before the first semicolon.
 fn semicolon_at(bytes: &[u8]) -> usize
     ensures value { result ≡ position_or_len is_semicolon bytes.now }
     ensures bound { result ≤ length bytes.now }
@@ -38,7 +38,7 @@ fn semicolon_at(bytes: &[u8]) -> usize
     bytes.len()
 }
 
-/// The number that digits write, or the greatest one in place of one above it.
+/// Returns the number that digits write, or the greatest one in place of one above it.
 fn number_of(digits: &[u8]) -> u32
     ensures { result ≡ number_of digits.now }
 {
@@ -50,14 +50,14 @@ fn number_of(digits: &[u8]) -> u32
     number
 }
 
-/// The first number of some parameters, 0 where none stands there.
+/// Returns the first number of some parameters, 0 where none stands there.
 fn first_number(parameters: &[u8]) -> u32
     ensures { result ≡ first_number parameters.now }
 {
     number_of(&parameters[..semicolon_at(parameters)])
 }
 
-/// The second number of some parameters.
+/// Returns the second number of some parameters.
 fn second_number(parameters: &[u8]) -> u32
     ensures { result ≡ second_number parameters.now }
 {
@@ -69,7 +69,7 @@ fn second_number(parameters: &[u8]) -> u32
     }
 }
 
-/// The third number of some parameters.
+/// Returns the third number of some parameters.
 fn third_number(parameters: &[u8]) -> u32
     ensures { result ≡ third_number parameters.now }
 {
@@ -81,7 +81,8 @@ fn third_number(parameters: &[u8]) -> u32
     }
 }
 
-/// The modifiers that a number tells: one more than a sum of 1 for SHIFT, 2 for ALT, 4 for CTRL and 8 for SUPER.
+/// Returns the modifiers that a number tells: one more than a sum of 1 for SHIFT, 2 for ALT, 4 for CTRL and 8 for
+/// SUPER.
 fn told_modifiers(number: u32) -> Modifiers
     ensures { modifier_bits result ≡ told_bits number }
 {
@@ -89,7 +90,7 @@ fn told_modifiers(number: u32) -> Modifiers
     Modifiers::from_bits_retain(sum as u16 * 2)
 }
 
-/// The key of a sequence that ends in a letter.
+/// Returns the key of a sequence that ends in a letter.
 pub fn letter_key(letter: u8) -> Option<KeyCode>
     ensures { result ≡ key_in letter_keys letter }
 {
@@ -108,7 +109,7 @@ pub fn letter_key(letter: u8) -> Option<KeyCode>
     })
 }
 
-/// The key of a sequence that ends in a tilde.
+/// Returns the key of a sequence that ends in a tilde.
 fn number_key(number: u32) -> Option<KeyCode>
     ensures { result ≡ key_in number_keys number }
 {
@@ -135,7 +136,7 @@ fn number_key(number: u32) -> Option<KeyCode>
     })
 }
 
-/// What two numbers and a letter say.
+/// Returns what two numbers and a letter say.
 fn numbers_token(first: u32, second: u32, letter: u8) -> Token
     ensures { result ≡ numbers_token first second letter }
 {
@@ -165,7 +166,7 @@ fn numbers_token(first: u32, second: u32, letter: u8) -> Token
     }
 }
 
-/// A size that the terminal tells by itself.
+/// Returns a size that the terminal tells by itself.
 fn size_token(rows: u32, cols: u32) -> Token
     ensures { result ≡ size_token rows cols }
 {
@@ -178,7 +179,7 @@ fn size_token(rows: u32, cols: u32) -> Token
     Token::Unknown
 }
 
-/// What some parameters and a letter say: a size after 48 and before `t`, as terminals tell it in mode 2048.
+/// Returns what some parameters and a letter say: a size after 48 and before `t`, as terminals tell it in mode 2048.
 #[tactic(auto, unfolding(crate::specs::KeyBytes::parameters_token))]
 fn parameters_token(parameters: &[u8], letter: u8) -> Token
     ensures { result ≡ parameters_token parameters.now letter }
@@ -191,7 +192,7 @@ fn parameters_token(parameters: &[u8], letter: u8) -> Token
     numbers_token(first, second, letter)
 }
 
-/// How many bytes stand before the first end of a pasted text.
+/// Returns how many bytes stand before the first end of a pasted text.
 pub fn paste_len(bytes: &[u8]) -> Option<usize>
     ensures value { result ≡ paste_len bytes.now }
     ensures bound { IfSome result (λ len. len + 6 ≤ length bytes.now) }
@@ -204,7 +205,7 @@ pub fn paste_len(bytes: &[u8]) -> Option<usize>
     None
 }
 
-/// A pasted text after a sequence of so many bytes, by where its end begins.
+/// Returns a pasted text of which `from` bytes are no text, by where its end begins.
 pub fn paste_of(from: usize, left: usize, len: Option<usize>, is_last: bool) -> Option<Scanned>
     requires all { from + left < 2 ^ 64 }
     requires within { IfSome len (λ len. len + 6 ≤ left) }
@@ -223,7 +224,7 @@ pub fn paste_of(from: usize, left: usize, len: Option<usize>, is_last: bool) -> 
     }
 }
 
-/// A mouse's report after ESC [ M: three bytes, of which so many are there.
+/// Returns a mouse's report after ESC [ M: three bytes, of which `left` are there.
 fn mouse_report(left: usize, is_last: bool) -> Option<Scanned>
     ensures { result ≡ mouse_report is_last left }
 {
@@ -236,7 +237,7 @@ fn mouse_report(left: usize, is_last: bool) -> Option<Scanned>
     })
 }
 
-/// Whether only digits and semicolons stand there.
+/// Returns true if only digits and semicolons stand there.
 fn all_numeric(bytes: &[u8]) -> bool
     ensures { result ≡ list_all is_numeric bytes.now }
 {
@@ -245,7 +246,7 @@ fn all_numeric(bytes: &[u8]) -> bool
         .all(|byte| (b'0'..=b'9').contains(byte) || *byte == b';')
 }
 
-/// A sequence with these parameters and this letter, and what stands after it.
+/// Returns a sequence with these parameters and this letter, and what stands after it.
 fn sequence_at(parameters: &[u8], letter: u8, bytes: &[u8], is_last: bool) -> Option<Scanned>
     requires { length parameters.now + length bytes.now + 3 < 2 ^ 64 }
     ensures { result ≡ sequence_at is_last parameters.now letter bytes.now }
@@ -270,7 +271,7 @@ fn sequence_at(parameters: &[u8], letter: u8, bytes: &[u8], is_last: bool) -> Op
     })
 }
 
-/// Parameters, and what stands after them.
+/// Cuts off parameters by what stands after them.
 pub fn ended_at(parameters: &[u8], bytes: &[u8], is_last: bool) -> Option<Scanned>
     requires { length parameters.now + length bytes.now + 3 < 2 ^ 64 }
     ensures { result ≡ ended_at is_last parameters.now bytes.now }
@@ -286,7 +287,7 @@ pub fn ended_at(parameters: &[u8], bytes: &[u8], is_last: bool) -> Option<Scanne
     }
 }
 
-/// What stands after ESC [.
+/// Returns what stands after ESC [.
 pub fn control_at(bytes: &[u8], is_last: bool) -> Option<Scanned>
     requires { length bytes.now + 3 < 2 ^ 64 }
     ensures { result ≡ control_at is_last bytes.now }

@@ -11,7 +11,7 @@ use tw_input::{KeyCode, Modifiers};
 
 pub const ESC: u8 = 0x1b;
 
-/// The token at the front of the bytes, or none where more bytes are wanted. An ESC alone is the key Escape.
+/// Returns the token at the front of the bytes, or none where more bytes are wanted. An ESC alone is the key Escape.
 /// Where these are the last bytes there is always one.
 pub fn scan(bytes: &[u8], is_last: bool) -> Option<Scanned>
     requires { 0 < length bytes.now }
@@ -34,14 +34,14 @@ pub fn token_at(bytes: &[u8], is_last: bool) -> Option<Scanned>
     }
 }
 
-/// An ESC that stands for itself.
+/// Returns an ESC that stands for itself.
 fn escape_alone() -> Option<Scanned>
     ensures { result ≡ escape_alone }
 {
     key(KeyCode::Escape, Modifiers::NONE, 1)
 }
 
-/// What stands after ESC ESC: the bytes of a key that has a letter, which is told with ALT so.
+/// Returns what stands after ESC ESC: the bytes of a key with a letter, which a terminal sends so for Alt.
 fn second_escape_at(bytes: &[u8], is_last: bool) -> Option<Scanned>
     ensures { result ≡ second_escape_at is_last bytes.now }
 {
@@ -57,7 +57,7 @@ fn second_escape_at(bytes: &[u8], is_last: bool) -> Option<Scanned>
     }
 }
 
-/// What stands after an ESC.
+/// Returns what stands after an ESC.
 fn escape_at(bytes: &[u8], is_last: bool) -> Option<Scanned>
     ensures { result ≡ escape_at is_last bytes.now }
 {
@@ -77,7 +77,7 @@ fn escape_at(bytes: &[u8], is_last: bool) -> Option<Scanned>
     }
 }
 
-/// The key of ESC O and a letter.
+/// Returns the key of ESC O and a letter.
 fn application_key(letter: u8) -> Option<KeyCode>
     ensures { result ≡ key_in application_keys letter }
 {
@@ -97,7 +97,7 @@ fn application_key(letter: u8) -> Option<KeyCode>
     })
 }
 
-/// What stands after ESC O: a key of the application mode, or ALT and O were pressed.
+/// Returns what stands after ESC O: a key of the application mode, or ALT and O were pressed.
 fn application_at(bytes: &[u8], is_last: bool) -> Option<Scanned>
     ensures { result ≡ application_at is_last bytes.now }
 {

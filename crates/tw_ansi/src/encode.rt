@@ -36,7 +36,7 @@ pub struct Encoder {
 }
 
 impl Encoder {
-    /// For a screen of so many columns, with the cursor in column 0 and no attribute set.
+    /// Creates an encoder for a screen of `cols` columns, with the cursor in column 0 and no attribute set.
     pub fn new(cols: usize) -> Encoder
         ensures { result ≡ first_known cols }
     {
@@ -48,14 +48,14 @@ impl Encoder {
         }
     }
 
-    /// The screen has so many columns from now on.
+    /// Sets the number of columns.
     pub fn set_cols(&mut self, cols: usize)
         ensures { self.new ≡ record self.old { cols = cols } }
     {
         self.cols = cols;
     }
 
-    /// What resets all attributes: none is set from then on.
+    /// Returns what resets all attributes: none is set from then on.
     pub fn reset(&mut self) -> &'static str
         ensures text { result.now ≡ set_attributes default_attributes }
         ensures next { self.new ≡ without_attributes self.old }
@@ -147,7 +147,7 @@ impl Encoder {
         send_attribute(change, out)
     }
 
-    /// A text: a plain one character by character, any other one cluster by cluster.
+    /// Writes a text: a plain one by its characters, any other one by its clusters.
     fn write(&mut self, text: &str, out: &mut String) -> Result<(), AllocError>
         ensures bytes { OnOk result (string_bytes out.new
             ≡ string_bytes out.old ++ (sent_text text.now self.old).bytes) }
@@ -187,7 +187,7 @@ impl Encoder {
         Ok(())
     }
 
-    /// A character of a plain text.
+    /// Writes a character of a plain text.
     fn write_byte(&mut self, byte: u8, out: &mut String) -> Result<(), AllocError>
         requires { byte < 128 }
         ensures bytes { OnOk result (string_bytes out.new
@@ -205,7 +205,7 @@ impl Encoder {
         }
     }
 
-    /// A cluster of any other text.
+    /// Writes a cluster of any other text.
     fn write_cluster(&mut self, cluster: &str, out: &mut String) -> Result<(), AllocError>
         ensures bytes { OnOk result (string_bytes out.new
             ≡ string_bytes out.old ++ (sent_cluster self.old cluster.now).bytes) }
@@ -259,7 +259,7 @@ impl Encoder {
         go_to_column(self.cols.saturating_sub(1), out)
     }
 
-    /// Makes room for so many columns: in the row where they fit, and else in the next one.
+    /// Makes room for `width` columns: in the row where they fit, and else in the next one.
     fn begin_columns(&mut self, width: usize, out: &mut String) -> Result<(), AllocError>
         ensures bytes { OnOk result (string_bytes out.new
             ≡ string_bytes out.old ++ (sent_beginning self.old width).bytes) }
@@ -278,7 +278,7 @@ impl Encoder {
         Ok(())
     }
 
-    /// The cursor stands in this column.
+    /// Notes that the cursor stands in this column.
     fn stand_at(&mut self, x: usize)
         ensures { self.new ≡ at_column x self.old }
     {
@@ -353,7 +353,7 @@ impl Encoder {
         }
     }
 
-    /// The column to which a position leads.
+    /// Returns the column to which a position leads.
     fn column_of(&self, x: Position) -> usize
         ensures { result ≡ column_of x self.now }
     {
@@ -365,21 +365,21 @@ impl Encoder {
     }
 }
 
-/// Whether each character of a text is printable ASCII, CR or LF.
+/// Returns true if each character of a text is printable ASCII, CR or LF.
 fn is_plain_text(text: &[u8]) -> bool
     ensures { result ≡ list_all is_plain text.now }
 {
     text.iter().all(|byte| *byte == b'\r' || *byte == b'\n' || (0x20..=0x7e).contains(byte))
 }
 
-/// Whether a control character is in a text.
+/// Returns true if a control character is in a text.
 fn has_control(text: &str) -> bool
     ensures { result ≡ list_any is_control (chars text.now) }
 {
     text.chars().any(|character| character.is_control())
 }
 
-/// What a cluster is shown as: a question mark where a control character is in it.
+/// Returns what a cluster is shown as: a question mark where a control character is in it.
 fn shown_as(cluster: &str) -> &str
     ensures { result.now ≡ shown_as cluster.now }
 {

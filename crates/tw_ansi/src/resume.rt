@@ -22,16 +22,16 @@ const PASTE_MARK_LEN: usize = 4;
 pub enum Progress {
     /// Nothing is known of them.
     Start,
-    /// ESC [ and so many bytes of parameters.
+    /// ESC [ and `len` bytes of parameters.
     Parameters { len: usize },
-    /// ESC ] or ESC P and so many bytes of a control string.
+    /// ESC ] or ESC P and `len` bytes of a control string.
     ControlString { len: usize },
-    /// So many bytes, and then a pasted text whose end does not begin in its first `searched` bytes.
+    /// `from` bytes, and then a pasted text whose end does not begin in its first `searched` bytes.
     Paste { from: usize, searched: usize },
 }
 
-/// The token at the front of the bytes, as `scan` gives it, or, where more bytes are wanted, how far these were read.
-/// A call for the same bytes and more goes on from there.
+/// Returns the token at the front of the bytes, as `scan` gives it, or, where more bytes are wanted, how far these were
+/// read. A call for the same bytes and more goes on from there.
 #[tactic(auto, using(crate::proofs::Resumes::is_found, crate::proofs::Resumes::is_none, crate::proofs::Resumes::is_read, crate::proofs::Resumes::is_bounded))]
 pub fn scan_on(bytes: &[u8], progress: Progress, is_last: bool) -> Result<Scanned, Progress>
     requires { Fits progress bytes.now }
@@ -44,7 +44,7 @@ pub fn scan_on(bytes: &[u8], progress: Progress, is_last: bool) -> Result<Scanne
     go_on(progress, bytes, is_last)
 }
 
-/// The token at the front, or how far the bytes were read.
+/// Returns the token at the front, or how far the bytes were read.
 fn go_on(progress: Progress, bytes: &[u8], is_last: bool) -> Result<Scanned, Progress>
     requires { passed_len progress ≤ length bytes.now }
     ensures { result ≡ ok_or (token_resumed progress is_last bytes.now)
@@ -71,7 +71,7 @@ fn begin(bytes: &[u8], is_last: bool) -> Result<Scanned, Progress>
     }
 }
 
-/// Goes on after ESC [ and so many bytes of parameters.
+/// Goes on after ESC [ and `len` bytes of parameters.
 fn parameters_on(len: usize, bytes: &[u8], is_last: bool) -> Result<Scanned, Progress>
     requires within { len ≤ length bytes.now }
     requires room { length bytes.now + 3 < 2 ^ 64 }
@@ -90,7 +90,7 @@ fn parameters_on(len: usize, bytes: &[u8], is_last: bool) -> Result<Scanned, Pro
     ended_at(&bytes[..all], &bytes[all..], is_last).ok_or(progress)
 }
 
-/// Goes on after ESC ] or ESC P and so many bytes of a control string.
+/// Goes on after ESC ] or ESC P and `len` bytes of a control string.
 fn string_on(len: usize, bytes: &[u8], is_last: bool) -> Result<Scanned, Progress>
     requires within { len ≤ length bytes.now }
     requires room { length bytes.now + 4 < 2 ^ 64 }
@@ -100,7 +100,7 @@ fn string_on(len: usize, bytes: &[u8], is_last: bool) -> Result<Scanned, Progres
     string_of(2 + all, &bytes[all..], is_last).ok_or(Progress::ControlString { len: all })
 }
 
-/// How many bytes of a pasted text are passed, in all of which no end was found: it may begin in the last five.
+/// Returns how many bytes of a pasted text are passed, in all of which no end was found: it may begin in the last five.
 fn searched_to(searched: usize, len: usize) -> usize
     requires { searched ≤ len }
     ensures { result ≡ searched_to searched len }
@@ -108,7 +108,7 @@ fn searched_to(searched: usize, len: usize) -> usize
     searched + (len - searched).saturating_sub(PASTE_END.len() - 1)
 }
 
-/// Goes on in a pasted text that begins after so many bytes.
+/// Goes on in a pasted text that begins after `from` bytes.
 fn paste_on(from: usize, searched: usize, bytes: &[u8], is_last: bool) -> Result<Scanned, Progress>
     requires within { searched ≤ length bytes.now }
     requires room { from + length bytes.now < 2 ^ 64 }

@@ -37,7 +37,7 @@ fn push_number(out: &mut String, number: usize, letter: &str) -> Result<(), Allo
     push_all(out, &["\x1b[", Buffer::new().format(number), letter])
 }
 
-/// Adds a control sequence of so many steps. One step is told by no number.
+/// Appends a control sequence of `count` steps, which has no number if `count` is 1.
 fn push_steps(out: &mut String, count: usize, letter: &str) -> Result<(), AllocError>
     ensures ok { OnOk result (string_bytes out.new
         ≡ string_bytes out.old ++ sequence (step_count count) letter.now) }
@@ -127,7 +127,7 @@ pub fn go_along_column(to: Position, out: &mut String) -> Result<(), AllocError>
     }
 }
 
-/// The parameters that set an attribute that is no colour.
+/// Returns the parameters that set an attribute that is no colour.
 fn plain_parameters(change: AttributeChange) -> &'static str
     ensures { is_color change ≡ false → result.now ≡ attribute_parameters change }
 {
@@ -197,7 +197,7 @@ pub fn send_attribute(change: AttributeChange, out: &mut String) -> Result<(), A
     }
 }
 
-/// Whether an attribute has its first value.
+/// Returns true if an attribute has its first value.
 fn is_off(change: AttributeChange) -> bool
     ensures { result ≡ is_off change }
 {
@@ -259,7 +259,7 @@ pub fn send_attributes(to: CellAttributes, out: &mut String) -> Result<(), Alloc
     send_those_on(&changes, out)
 }
 
-/// Whether two colours are one.
+/// Returns true if two colours are one.
 fn is_same_color(a: ColorAttribute, b: ColorAttribute) -> bool
     ensures { result ≡ is_same_color a b }
 {

@@ -12,21 +12,21 @@ use tw_input::{KeyCode, Modifiers};
 
 const BEL: u8 = 0x07;
 
-/// Whether a byte begins a control string after ESC.
+/// Returns true if a byte begins a control string after ESC.
 fn opens_string(byte: u8) -> bool
     ensures { result ≡ opens_string byte }
 {
     byte == b']' || byte == b'P'
 }
 
-/// Whether a byte stands first in a string that a terminal answers.
+/// Returns true if a byte stands first in a string that a terminal answers.
 fn begins_answer(byte: u8) -> bool
     ensures { result ≡ begins_answer byte }
 {
     (b'0'..=b'9').contains(&byte) || byte == b'!' || byte == b'>'
 }
 
-/// Whether the bytes begin a control string.
+/// Returns true if the bytes begin a control string.
 pub fn begins_string(bytes: &[u8]) -> bool
     ensures { result ≡ begins_string bytes.now }
 {
@@ -36,7 +36,7 @@ pub fn begins_string(bytes: &[u8]) -> bool
     }
 }
 
-/// How many bytes are at the front that can stand in a string: each but a control character.
+/// Returns how many bytes are at the front that can stand in a string: each but a control character.
 pub fn string_len(bytes: &[u8]) -> usize
     ensures value { result ≡ prefix_len is_string_byte bytes.now }
     ensures bound { result ≤ length bytes.now }
@@ -49,7 +49,7 @@ pub fn string_len(bytes: &[u8]) -> usize
     bytes.len()
 }
 
-/// A string that takes so many bytes.
+/// Returns a string that takes `used` bytes.
 fn string(used: usize) -> Option<Scanned>
     ensures { result ≡ scanned_as Unknown used }
 {
@@ -59,8 +59,8 @@ fn string(used: usize) -> Option<Scanned>
     })
 }
 
-/// A string of so many bytes, by what stands after them: BEL ends it, and so do ESC and a backslash. No other byte is
-/// taken.
+/// Returns a string of `used` bytes, by what stands after them: BEL ends it, and so do ESC and a backslash. No other
+/// byte is taken.
 pub fn string_of(used: usize, bytes: &[u8], is_last: bool) -> Option<Scanned>
     requires { used + 2 < 2 ^ 64 }
     ensures { result ≡ string_of is_last used bytes.now }
@@ -73,7 +73,7 @@ pub fn string_of(used: usize, bytes: &[u8], is_last: bool) -> Option<Scanned>
     }
 }
 
-/// What stands after ESC ] or ESC P: a string, or that character and ALT were pressed.
+/// Returns what stands after ESC ] or ESC P: a string, or that character and ALT were pressed.
 pub fn string_at(opening: u8, bytes: &[u8], is_last: bool) -> Option<Scanned>
     requires { opening < 127 }
     ensures { result ≡ string_at is_last opening bytes.now }

@@ -12,10 +12,10 @@ use tw_input::{KeyCode, KeyEvent, Modifiers};
 pub enum Token {
     /// A key.
     Key(KeyEvent),
-    /// The place of the cursor, counted from 1. A terminal that was sent to the last cell tells its size by it. From
-    /// row 1 it is not told from F3, which is then taken.
+    /// The place of the cursor, counted from 1. A terminal that was sent to the last cell tells its size by it. In
+    /// row 1 its bytes are those of F3, which is then taken.
     Size { cols: usize, rows: usize },
-    /// A pasted text: so many bytes that are no part of it, and so many bytes of text. Its end takes six more.
+    /// A pasted text: `from` bytes that are no part of it, then `len` bytes of text. Its end takes six more.
     Paste { from: usize, len: usize },
     /// A control sequence or a control string that means nothing here.
     Unknown,
@@ -28,7 +28,7 @@ pub struct Scanned {
     pub used: usize,
 }
 
-/// A key that takes so many bytes.
+/// Returns a key that takes `used` bytes.
 pub fn key(key: KeyCode, modifiers: Modifiers, used: usize) -> Option<Scanned>
     ensures { result ≡ scanned_as (key_token key (modifier_bits modifiers)) used }
 {
@@ -38,14 +38,14 @@ pub fn key(key: KeyCode, modifiers: Modifiers, used: usize) -> Option<Scanned>
     })
 }
 
-/// What a byte that is no part of a character is shown as.
+/// Returns what a byte that is no part of a character is shown as.
 pub fn replacement() -> Option<Scanned>
     ensures { result ≡ replacement }
 {
     key(KeyCode::Char('\u{fffd}'), Modifiers::NONE, 1)
 }
 
-/// The same key, with ALT held too.
+/// Returns the same key, with ALT held too.
 pub fn with_alt(token: Token) -> Token
     ensures { result ≡ with_alt token }
 {

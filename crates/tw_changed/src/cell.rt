@@ -13,7 +13,7 @@ pub struct ScreenCell {
 }
 
 impl ScreenCell {
-    /// What a clearing to a colour leaves: a blank on it, its other attributes the default ones.
+    /// Returns what a clearing to a colour leaves: a blank on it, its other attributes the default ones.
     pub fn blank(color: ColorAttribute) -> Self
         ensures { result ≡ paper_cell color }
     {

@@ -14,7 +14,7 @@ use crate::laws::colors;
 use crate::screen::StyledScreen;
 use tw_surface::ColorAttribute;
 
-/// What stands at a row and a column.
+/// Returns what stands at a row and a column.
 pub fn cell_at(screen: &StyledScreen, row: usize, col: usize) -> ScreenCell
     requires { col < screen.now.width }
     ensures { styled_cell result ≡ screen_cells screen.now row col }
@@ -25,7 +25,7 @@ pub fn cell_at(screen: &StyledScreen, row: usize, col: usize) -> ScreenCell
     }
 }
 
-/// What stands at a row and a column of a screen that was emptied from an index on, counted along the rows.
+/// Returns what stands at a row and a column of a screen that was emptied from an index on, counted along the rows.
 fn left_at(screen: &StyledScreen, from: Option<usize>, row: usize, col: usize) -> ScreenCell
     requires { col < screen.now.width }
     ensures { styled_cell result ≡ left_of screen.now.width from (screen_cells screen.now) row col }
@@ -39,7 +39,7 @@ fn left_at(screen: &StyledScreen, from: Option<usize>, row: usize, col: usize) -
     }
 }
 
-/// Whether two screens differ in a cell, the old one being emptied from an index on.
+/// Returns true if two screens differ in a cell, the old one being emptied from an index on.
 fn differ_at(
     old: &StyledScreen,
     from: Option<usize>,
@@ -55,7 +55,7 @@ fn differ_at(
     left_at(old, from, row, col) != cell_at(new, row, col)
 }
 
-/// The first column of a row in which two screens differ, the old one being emptied from an index on.
+/// Returns the first column of a row in which two screens differ, the old one being emptied from an index on.
 pub fn first_changed(
     old: &StyledScreen,
     from: Option<usize>,
@@ -75,7 +75,7 @@ pub fn first_changed(
     None
 }
 
-/// The last column of a row in which two screens differ, the old one being emptied from an index on.
+/// Returns the last column of a row in which two screens differ, the old one being emptied from an index on.
 pub fn last_changed(
     old: &StyledScreen,
     from: Option<usize>,
@@ -97,7 +97,7 @@ pub fn last_changed(
     None
 }
 
-/// Whether the place of an index, counted along the rows, is not blank.
+/// Returns true if the place of an index, counted along the rows, is not blank.
 fn is_used(screen: &StyledScreen, index: usize) -> bool
     ensures { result ≡ is_used screen.now.width (screen_cells screen.now) index }
 {
@@ -105,7 +105,7 @@ fn is_used(screen: &StyledScreen, index: usize) -> bool
     cell_at(screen, index / width, index % width) != ScreenCell::blank(ColorAttribute::Default)
 }
 
-/// Where the cells of some rows end: the index after the last one that is not blank.
+/// Returns where the cells of some rows end: the index after the last one that is not blank.
 pub fn end_of(screen: &StyledScreen, rows: usize) -> usize
     requires { rows ≤ 65535 }
     ensures value { result ≡ end_of screen.now.width rows (screen_cells screen.now) }
@@ -121,8 +121,8 @@ pub fn end_of(screen: &StyledScreen, rows: usize) -> usize
     0
 }
 
-/// The index from which on the old screen is to be emptied: the end of the new one's rows, where the old ones go on
-/// after it.
+/// Returns the index from which on the old screen is to be emptied: the end of the new one's rows, where the old ones
+/// go on after it.
 pub fn rest_of(old: &StyledScreen, rows: usize, end: usize) -> Option<usize>
     requires { rows ≤ 65535 }
     ensures value { result ≡ (if ltb end (end_of old.now.width rows (screen_cells old.now))
@@ -135,7 +135,7 @@ pub fn rest_of(old: &StyledScreen, rows: usize, end: usize) -> Option<usize>
     None
 }
 
-/// Whether two screens of one width show the same in the first `cols` columns of a row.
+/// Returns true if two screens of one width show the same in the first `cols` columns of a row.
 pub fn is_same_in_row(old: &StyledScreen, new: &StyledScreen, row: usize, cols: usize) -> bool
     requires width { old.now.width ≡ new.now.width }
     requires cols { cols ≤ new.now.width }
@@ -151,7 +151,7 @@ pub fn is_same_in_row(old: &StyledScreen, new: &StyledScreen, row: usize, cols: 
     true
 }
 
-/// Whether two screens show the same before an index, counted along the rows.
+/// Returns true if two screens show the same before an index, counted along the rows.
 fn is_same_before(old: &StyledScreen, new: &StyledScreen, end: usize) -> bool
     requires { old.now.width ≡ new.now.width }
     ensures { result
@@ -167,14 +167,14 @@ fn is_same_before(old: &StyledScreen, new: &StyledScreen, end: usize) -> bool
     is_same_in_row(old, new, end / width, end % width)
 }
 
-/// Whether a row ends in a blank.
+/// Returns true if a row ends in a blank.
 fn ends_blank(screen: &StyledScreen, row: usize) -> bool
     ensures { result ≡ ends_blank screen.now.width (screen_cells screen.now) row }
 {
     cell_at(screen, row, screen.width() - 1) == ScreenCell::blank(ColorAttribute::Default)
 }
 
-/// Whether none of the rows from one to before another ends in a blank.
+/// Returns true if none of the rows from one to before another ends in a blank.
 fn are_full(screen: &StyledScreen, from: usize, to: usize) -> bool
     ensures { result ≡ is_none (least_from (ends_blank screen.now.width (screen_cells screen.now))
         from (to - from)) }
@@ -187,8 +187,9 @@ fn are_full(screen: &StyledScreen, from: usize, to: usize) -> bool
     true
 }
 
-/// Whether all that differs comes at the cursor or after it, where the old screen shows nothing, in rows that are full
-/// but for the last one, below which no row is new but the cursor's. The cells of the new screen's rows end at `end`.
+/// Returns true if all that differs comes at the cursor or after it, where the old screen shows nothing, in rows that
+/// are full but for the last one, below which no row is new but the cursor's. The cells of the new screen's rows end at
+/// `end`.
 pub fn goes_onward(
     old: &StyledScreen,
     reached: usize,
@@ -215,7 +216,7 @@ pub fn goes_onward(
         && are_full(new, hand.row, end / width)
 }
 
-/// Whether the cells of a row are printable characters.
+/// Returns true if the cells of a row are printable characters.
 fn is_printable_row(screen: &StyledScreen, row: usize) -> bool
     ensures yes { result ≡ true → ArePrintable screen.now.width (screen_cells screen.now row) }
     ensures no { result ≡ false → ArePrintable screen.now.width (screen_cells screen.now row) → ⊥ }
@@ -232,7 +233,7 @@ fn is_printable_row(screen: &StyledScreen, row: usize) -> bool
     true
 }
 
-/// Whether the cells of the first rows are printable characters. Their colours are by bytes.
+/// Returns true if the cells of the first rows are printable characters. Their colours are by bytes.
 pub fn is_printable(screen: &StyledScreen, rows: usize) -> bool
     ensures yes { result ≡ true → IsPrintable rows screen.now }
     ensures no { result ≡ false → IsPrintable rows screen.now → ⊥ }

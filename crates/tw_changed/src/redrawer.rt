@@ -170,7 +170,7 @@ impl Redrawer {
         Ok(())
     }
 
-    /// Feeds so many lines.
+    /// Feeds `count` lines.
     fn feed_lines(&mut self, count: usize, out: &mut String) -> Result<(), AllocError>
         requires held { self.old.hand.row + count ≤ 4294967295 }
         ensures ok { OnOk result (IsAdded (fed count self.old.hand) self.old (string_bytes out.old)
@@ -222,7 +222,7 @@ impl Redrawer {
         self.select(to.attributes, out)
     }
 
-    /// Empties what stands from the cursor on.
+    /// Clears what stands from the cursor on.
     fn empty_here(&mut self, out: &mut String) -> Result<(), AllocError>
         ensures ok { OnOk result (IsAdded (emptied_here self.old.hand) self.old
             (string_bytes out.old) self.new (string_bytes out.new)) }
@@ -233,7 +233,7 @@ impl Redrawer {
         self.encoder.encode_tersely(&change, out)
     }
 
-    /// Empties what stands from an index on, where there is one.
+    /// Clears what stands from an index on, if there is one.
     fn empty_rest(
         &mut self,
         width: usize,
@@ -333,7 +333,7 @@ impl Redrawer {
     }
 }
 
-/// Where a screen's cursor stands, and its attributes.
+/// Returns where a screen's cursor stands, and its attributes.
 fn hand_of(screen: &StyledScreen) -> Hand
     ensures value { result ≡ hand_of screen.now }
     ensures row { result.row ≤ 4294967295 }

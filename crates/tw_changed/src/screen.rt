@@ -45,7 +45,7 @@ impl Model for StyledScreen {
 }
 
 impl StyledScreen {
-    /// A blank screen of 1 to 65,535 columns, with the cursor at (0, 0). It takes no memory.
+    /// Creates a blank screen of 1 to 65,535 columns, with the cursor at (0, 0). Takes no memory.
     pub fn new(alloc: Global, width: usize) -> Result<Self, SizeFault>
         ensures zero { (result ≡ Err SizeFault.ZeroSize) ↔ (width ≡ 0) }
         ensures large { (result ≡ Err SizeFault.OutOfRange) ↔ (65535 < width) }
@@ -67,7 +67,7 @@ impl StyledScreen {
         })
     }
 
-    /// The same screen without its first rows, which its cursor is not in.
+    /// Returns the same screen without its first rows, which its cursor is not in.
     pub fn without_rows(&self, alloc: Global, count: usize) -> Result<Self, AllocError>
         requires { count ≤ self.now.row }
         ensures { IfOk result (λ cut. cut ≡ without_rows count self.now) }
@@ -83,14 +83,14 @@ impl StyledScreen {
         })
     }
 
-    /// The same screen once more.
+    /// Returns the same screen once more.
     pub fn copy(&self, alloc: Global) -> Result<Self, AllocError>
         ensures { IfOk result (λ copy. copy ≡ self.now) }
     {
         self.without_rows(alloc, 0)
     }
 
-    /// What stands at a row and a column of the screen.
+    /// Returns what stands at a row and a column of the screen.
     pub fn cell(&self, row: usize, col: usize) -> Option<ScreenCell>
         ensures inside { col < self.now.width → result
             ≡ Some (slice_index_or self.now.cells (row * self.now.width + col) self.now.rest) }
@@ -103,7 +103,7 @@ impl StyledScreen {
         Some(*self.cells.get(place).unwrap_or(&self.rest))
     }
 
-    /// The cursor's row and column. The column is the width where the cursor waits after the last.
+    /// Returns the cursor's row and column. The column is the width where the cursor waits after the last.
     pub fn cursor(&self) -> (usize, usize)
         ensures row { result.0 ≡ self.now.row }
         ensures col { result.1 ≡ self.now.col }
@@ -113,7 +113,7 @@ impl StyledScreen {
         (self.row, self.col)
     }
 
-    /// The number of columns.
+    /// Returns the number of columns.
     pub fn width(&self) -> usize
         ensures value { result ≡ self.now.width }
         ensures above { 0 < result }
@@ -122,7 +122,7 @@ impl StyledScreen {
         self.width
     }
 
-    /// The attributes under which the text that follows is typed.
+    /// Returns the attributes under which the text that follows is typed.
     pub fn attributes(&self) -> CellAttributes
         ensures { result ≡ self.now.kept }
     {
@@ -160,7 +160,7 @@ impl StyledScreen {
         }
     }
 
-    /// The place of the cursor in the line of all rows.
+    /// Returns the place of the cursor in the line of all rows.
     fn place(&self) -> usize
         ensures place { result ≡ self.now.row * self.now.width + self.now.col }
         ensures most { result < 281474976710656 }
@@ -168,7 +168,7 @@ impl StyledScreen {
         self.row * self.width + self.col
     }
 
-    /// The row and the column of the cell that is written next.
+    /// Returns the row and the column of the cell that is written next.
     fn next_cell(&self) -> (usize, usize)
         ensures row { result.0
             ≡ (if eqb self.now.col self.now.width then self.now.row + 1 else self.now.row) }
@@ -289,7 +289,7 @@ impl StyledScreen {
     }
 }
 
-/// Where a position leads a row or a column: to 0 in place of a negative number.
+/// Returns where a position leads a row or a column: to 0 in place of a negative number.
 fn led_to(position: Position, at: usize) -> usize
     requires { at ≤ 4294967295 }
     ensures { result ≡ led position at }

@@ -218,7 +218,7 @@ impl<W: Write> DeviceTerminal for AnsiTerminal<W> {
         AnsiTerminal::set_screen_size(self, size);
     }
 
-    /// Each batch is sent at once, so nothing changes.
+    /// Changes nothing: each batch is sent at once.
     fn set_more_at_hand(&mut self, _: bool)
         ensures kept { self.new ≡ self.old }
     {}

@@ -11,9 +11,9 @@ pub enum Action {
     Cancel,
     /// Ends the editing with `Error::EndOfFile`.
     EndOfFile,
-    /// Inserts a character so many times at the cursor.
+    /// Inserts a character at the cursor, the given number of times.
     InsertChar(RepeatCount, char),
-    /// Inserts a text so many times at the cursor.
+    /// Inserts a text at the cursor, the given number of times.
     InsertText(RepeatCount, String),
     /// Clears the screen, and paints the editor anew.
     Repaint,

@@ -54,6 +54,24 @@ pub struct CompletionCandidate {
     pub text: String,
 }
 
+/// Returns copies of the candidates.
+pub fn copy_candidates(
+    alloc: Global,
+    candidates: &[CompletionCandidate],
+) -> Result<Vec<CompletionCandidate>, AllocError>
+    ensures { IfOk result (λ copies. map candidate_view copies.items
+        ≡ map candidate_view candidates.now) }
+{
+    let mut copies = Vec::new(alloc);
+    for candidate in candidates {
+        copies.push(CompletionCandidate {
+            range: candidate.range.start..candidate.range.end,
+            text: candidate.text.clone()?,
+        })?;
+    }
+    Ok(copies)
+}
+
 /// Which calls a host answers for itself. The default bodies answer the others.
 #[derive(Clone, Copy, Debug, PartialEq, Eq)]
 pub struct Overrides {
@@ -89,7 +107,7 @@ impl Overrides {
     };
 }
 
-/// One element: the text as it is. It is what a host answers that shows a text plainly.
+/// Returns one element: the text as it is. It is what a host answers that shows a text plainly.
 pub fn plain_element(alloc: Global, text: &str) -> Result<Vec<OutputElement>, AllocError>
     ensures { IfOk result (λ elements. map element_view elements.items ≡ plain_text text.now) }
 {
@@ -98,8 +116,8 @@ pub fn plain_element(alloc: Global, text: &str) -> Result<Vec<OutputElement>, Al
     Ok(elements)
 }
 
-/// The line as it is, and the columns of the text before its cursor, which is a boundary of the line. It is what a
-/// host answers that shows the line plainly.
+/// Returns the line as it is, and the columns of the text before its cursor, which is a boundary of the line. It is
+/// what a host answers that shows the line plainly.
 pub fn plain_line(
     alloc: Global,
     line: &str,
@@ -147,7 +165,7 @@ pub trait LineEditorHost {
             (with_history self.old)) }
         ensures shows { result.now ≡ history_of self.old };
 
-    /// The prompt as it is shown. By default the text itself.
+    /// Returns the prompt as it is shown. By default the text itself.
     fn render_prompt(&self, alloc: Global, prompt: &str) -> Result<Vec<OutputElement>, AllocError>
         ensures { IfOk result (λ elements. map element_view elements.items
             ≡ rules.prompt (value self.now) prompt.now) }
@@ -158,7 +176,7 @@ pub trait LineEditorHost {
         plain_element(alloc, prompt)
     }
 
-    /// What is shown under the line while it is edited. By default nothing.
+    /// Returns what is shown under the line while it is edited. By default nothing.
     fn render_preview(&self, alloc: Global, line: &str) -> Result<Vec<OutputElement>, AllocError>
         ensures { IfOk result (λ elements. map element_view elements.items
             ≡ rules.preview (value self.now) line.now) }
@@ -169,8 +187,8 @@ pub trait LineEditorHost {
         Ok(Vec::new(alloc))
     }
 
-    /// The line as it is shown, and the column of its cursor, counted from where the line begins. By
-    /// default the text itself, and the columns of the text before the cursor.
+    /// Returns the line as it is shown, and the column of its cursor, counted from where the line begins. By default
+    /// the text itself, and the columns of the text before the cursor.
     fn highlight_line(
         &self,
         alloc: Global,
@@ -189,8 +207,8 @@ pub trait LineEditorHost {
         plain_line(alloc, line, cursor_position)
     }
 
-    /// The texts that can complete a line with its cursor at a byte offset, in the order in which they are
-    /// put in. By default there are none.
+    /// Returns the texts that can complete a line with its cursor at a byte offset, in the order in which they are put
+    /// in. By default there are none.
     fn complete(
         &self,
         alloc: Global,
@@ -207,8 +225,8 @@ pub trait LineEditorHost {
         Ok(Vec::new(alloc))
     }
 
-    /// What the host makes of an event before the key table does: it may change itself and the line, and
-    /// may name an action. By default it does nothing. Where it is refused nothing is changed.
+    /// Returns what the host makes of an event before the key table does: it may change itself and the line, and may
+    /// name an action. By default it does nothing. If it is refused, nothing is changed.
     fn resolve_action(
         &mut self,
         alloc: Global,
@@ -237,7 +255,7 @@ pub trait LineEditorHost {
         ≡ rules.lines (value host) };
 
     /// Adds a line to the history, which the editor itself never does. The rest of the host stays as it was.
-    /// Where memory is lacking, the history's lines stay too.
+    /// If memory is lacking, the history's lines stay too.
     final fn remember(&mut self, line: &str) -> Result<(), AllocError>
         ensures kept { self.new ≡ with_history self.old (history_of self.new) }
         ensures last { OnOk result (last_line (rules.lines (value self.new)) ≡ Some line.now) }
@@ -257,7 +275,7 @@ pub struct NopLineEditorHost {
 }
 
 impl NopLineEditorHost {
-    /// The host with an empty history. It takes no memory.
+    /// Creates the host with an empty history. Takes no memory.
     pub fn new(alloc: Global) -> Self
         ensures rules { ⟦<NopLineEditorHost as LineEditorHost>⟧.rules
             ≡ plain_rules (λ lines. lines) }

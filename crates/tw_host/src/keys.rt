@@ -12,8 +12,8 @@ use std::alloc::{AllocError, Global};
 use tw_input::{InputEvent, KeyCode, KeyEvent, Modifiers};
 use tw_line::Movement;
 
-/// The action that the key table has for an event, if it has one. It takes memory for a `Paste` alone, whose text is
-/// not empty.
+/// Returns the action that the key table has for an event, if it has one. It allocates only for a
+/// `Paste` whose text is not empty.
 pub fn default_action(alloc: Global, event: &InputEvent) -> Result<Option<Action>, AllocError>
     ensures action { IfOk result (λ action.
         option_map action_view action ≡ action_of (event_view event.now)) }
@@ -26,7 +26,7 @@ pub fn default_action(alloc: Global, event: &InputEvent) -> Result<Option<Action
     })
 }
 
-/// A copy of the text. The empty one takes no memory.
+/// Returns a copy of the text.
 fn copy_of(alloc: Global, text: &str) -> Result<String, AllocError>
     ensures ok { IfOk result (λ copy. string_bytes copy ≡ text.now) }
     ensures empty { text.now ≡ [] → IsOk result }
@@ -36,7 +36,7 @@ fn copy_of(alloc: Global, text: &str) -> Result<String, AllocError>
     Ok(copy)
 }
 
-/// The action of a key, whose modifiers must be exactly those of its row.
+/// Returns the action of a key, whose modifiers must be exactly those of its row.
 fn key_action(event: KeyEvent) -> Option<Action>
     ensures { option_map action_view result ≡ key_action_of event }
 {
@@ -49,7 +49,7 @@ fn key_action(event: KeyEvent) -> Option<Action>
     }
 }
 
-/// The action of a key while CTRL is held.
+/// Returns the action of a key while CTRL is held.
 fn ctrl_action(key: KeyCode) -> Option<Action>
     ensures { option_map action_view result ≡ key_action_of (key_press ctrl key) }
 {
@@ -76,7 +76,7 @@ fn ctrl_action(key: KeyCode) -> Option<Action>
     }
 }
 
-/// The action of a key while no modifier is held.
+/// Returns the action of a key while no modifier is held.
 fn plain_action(key: KeyCode) -> Option<Action>
     ensures { option_map action_view result ≡ key_action_of (key_press none key) }
 {
@@ -99,7 +99,7 @@ fn plain_action(key: KeyCode) -> Option<Action>
     }
 }
 
-/// The action of a key while ALT is held.
+/// Returns the action of a key while ALT is held.
 fn alt_action(key: KeyCode) -> Option<Action>
     ensures { option_map action_view result ≡ key_action_of (key_press alt key) }
 {
@@ -114,7 +114,7 @@ fn alt_action(key: KeyCode) -> Option<Action>
     }
 }
 
-/// The action of a key that types a character.
+/// Returns the action of a key that types a character.
 fn typed_action(key: KeyCode) -> Option<Action>
     ensures { option_map action_view result ≡ typed_code key }
 {

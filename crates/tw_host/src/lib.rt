@@ -13,6 +13,6 @@ pub mod laws;
 pub use actions::Action;
 pub use host::{
     CompletionCandidate, LineEditorHost, NopLineEditorHost, OutputElement, Overrides,
-    plain_element, plain_line,
+    copy_candidates, plain_element, plain_line,
 };
 pub use keys::default_action;

@@ -95,7 +95,7 @@ pub fn binding_action(binding: Binding) -> Action
     }
 }
 
-/// Empties the line if the binding clears it.
+/// Clears the line if the binding does.
 fn clear_if(binding: Binding, editor: &mut LineEditBuffer)
     ensures { editor.new ≡ binding_cut binding editor.old }
 {

@@ -30,7 +30,7 @@ fn split_last_word(alloc: Global, text: &str) -> Result<(String, String), AllocE
     ))
 }
 
-/// Some texts, one after the other.
+/// Joins four texts.
 fn joined(
     alloc: Global,
     first: &str,

@@ -37,7 +37,7 @@ impl LineEditBuffer {
     ghost use Rattle.tw_line.specs.Movements.{after_move};
     ghost use Rattle.tw_line.specs.Starts.{binary_digits};
 
-    /// The empty line. It takes no memory.
+    /// Creates the empty line. Takes no memory.
     pub fn empty(alloc: Global) -> Self
         ensures { result ≡ empty_cut }
     {
@@ -47,7 +47,8 @@ impl LineEditBuffer {
         }
     }
 
-    /// A line with its cursor at the byte offset `cursor`, a boundary of the line. The empty line takes no memory.
+    /// Creates a line with its cursor at the byte offset `cursor`, a boundary of the line. The empty line takes no
+    /// memory.
     pub fn new(alloc: Global, line: &str, cursor: usize) -> Result<Self, AllocError>
         requires { IsCharBoundary line.now cursor }
         ensures ok { IfOk result (λ b. b ≡ cut_at line.now cursor) }
@@ -57,7 +58,7 @@ impl LineEditBuffer {
         Ok(LineEditBuffer { line, cursor })
     }
 
-    /// The same line with the same cursor. The empty line takes no memory, and a refusal leaves nothing.
+    /// Returns the same line with the same cursor.
     pub fn try_clone(&self, alloc: Global) -> Result<Self, AllocError>
         ensures equal { IfOk result (λ copy. copy ≡ self.now) }
         ensures empty { self.now.line ≡ [] → IsOk result }
@@ -70,7 +71,7 @@ impl LineEditBuffer {
     }
 
     /// Replaces the line, and sets the cursor to the byte offset `cursor`, a boundary of the new
-    /// line. Where it is refused the buffer is as it was. The empty line takes no memory.
+    /// line. If it is refused, the buffer is as it was.
     pub fn set_line_and_cursor(&mut self, line: &str, cursor: usize) -> Result<(), AllocError>
         requires { IsCharBoundary line.now cursor }
         ensures ok { OnOk result (self.new ≡ cut_at line.now cursor) }
@@ -82,14 +83,14 @@ impl LineEditBuffer {
         Ok(())
     }
 
-    /// The line.
+    /// Returns the line.
     pub fn get_line(&self) -> &str
         ensures { result.now ≡ self.now.line }
     {
         self.line.as_str()
     }
 
-    /// The byte offset of the cursor, which is a boundary of the line.
+    /// Returns the byte offset of the cursor, which is a boundary of the line.
     pub fn get_cursor(&self) -> usize
         ensures value { result ≡ self.now.cursor }
         ensures boundary { IsCut self.now }
@@ -97,8 +98,8 @@ impl LineEditBuffer {
         self.cursor
     }
 
-    /// The index of the character at the cursor, or the number of characters at the end, and how
-    /// many comparisons of offsets found it.
+    /// Returns the index of the character at the cursor, or the number of characters at the end, and how many
+    /// comparisons of offsets found it.
     pub fn find_cursor(&self) -> (usize, u32)
         ensures index { result.0 ≡ index_of self.now.line self.now.cursor }
         ensures some { 0 < length (chars self.now.line) → 0 < result.1 }
@@ -107,7 +108,7 @@ impl LineEditBuffer {
         self.line.find_index(self.cursor)
     }
 
-    /// Empties the line. It keeps the memory.
+    /// Clears the line, and keeps its memory.
     pub fn clear(&mut self)
         ensures { self.new ≡ empty_cut }
     {
@@ -116,7 +117,7 @@ impl LineEditBuffer {
     }
 
     /// Inserts the character at the cursor, which goes to the next cluster boundary of the new
-    /// line. Where it is refused the buffer is as it was.
+    /// line. If it is refused, the buffer is as it was.
     pub fn insert_char(&mut self, c: char) -> Result<(), AllocError>
         ensures ok { OnOk result (self.new ≡ with_char c self.old) }
         ensures err { OnErr result (self.new ≡ self.old) }
@@ -128,7 +129,7 @@ impl LineEditBuffer {
     }
 
     /// Inserts the text at the cursor, which goes after it and so may stand inside a cluster.
-    /// Where it is refused the buffer is as it was. The empty text takes no memory.
+    /// If it is refused, the buffer is as it was.
     pub fn insert_text(&mut self, text: &str) -> Result<(), AllocError>
         ensures ok { OnOk result (self.new ≡ with_text text.now self.old) }
         ensures err { OnErr result (self.new ≡ self.old) }
@@ -139,9 +140,8 @@ impl LineEditBuffer {
         Ok(())
     }
 
-    /// Inserts the character `count` times, or not at all: where it is refused the buffer is as it
-    /// was. It is refused before anything is inserted where the line would pass `isize::MAX` bytes. 0 times take
-    /// no memory.
+    /// Inserts the character `count` times. Fails before anything is inserted if the line would pass `isize::MAX` bytes.
+    /// If it is refused, the buffer is as it was.
     pub fn insert_char_times(&mut self, count: RepeatCount, c: char) -> Result<(), AllocError>
         ensures ok { OnOk result (self.new ≡ iterate (with_char c) count self.old) }
         ensures err { OnErr result (self.new ≡ self.old) }
@@ -168,9 +168,8 @@ impl LineEditBuffer {
         Ok(())
     }
 
-    /// Inserts the text `count` times, or not at all: where it is refused the buffer is as it was.
-    /// It is refused before anything is inserted where the line would pass `isize::MAX` bytes. 0 times, and the
-    /// empty text, take no memory.
+    /// Inserts the text `count` times. Fails before anything is inserted if the line would pass `isize::MAX` bytes. If it
+    /// is refused, the buffer is as it was.
     pub fn insert_text_times(&mut self, count: RepeatCount, text: &str) -> Result<(), AllocError>
         ensures ok { OnOk result (self.new ≡ iterate (with_text text.now) count self.old) }
         ensures err { OnErr result (self.new ≡ self.old) }
@@ -188,7 +187,7 @@ impl LineEditBuffer {
         Ok(())
     }
 
-    /// Moves the cursor. It returns for every count, and takes no memory.
+    /// Moves the cursor. It returns for every count.
     pub fn exec_movement(&mut self, movement: Movement)
         ensures { self.new ≡ after_move movement self.old }
     {
@@ -197,7 +196,7 @@ impl LineEditBuffer {
 
     /// Takes away what lies between the cursor and where `kill` leads. The cursor goes to the
     /// greatest boundary of what is left that is not above where `movement` leads; both movements
-    /// are those in the old line. It takes no memory.
+    /// are those in the old line.
     pub fn kill_text(&mut self, kill: Movement, movement: Movement)
         ensures { self.new ≡ after_kill kill movement self.old }
     {

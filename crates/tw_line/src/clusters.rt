@@ -11,7 +11,7 @@ use unicode_segmentation::GraphemeCursor;
 /// The steps go over legacy clusters, which are not extended.
 const IS_EXTENDED: bool = false;
 
-/// The least cluster boundary above `at`, or `at` where there is none.
+/// Returns the least cluster boundary above `at`, or `at` where there is none.
 pub fn cluster_after(line: &str, at: usize) -> usize
     requires { IsCharBoundary line.now at }
     ensures value { result ≡ cluster_after line.now at }
@@ -20,8 +20,8 @@ pub fn cluster_after(line: &str, at: usize) -> usize
     clusters_after(line, at, 1)
 }
 
-/// Where `count` steps ahead lead from `at`. One cursor takes them all, and it returns as soon as
-/// there is no boundary above.
+/// Returns where `count` steps ahead lead from `at`. One cursor takes them all, and it returns as soon as there is no
+/// boundary above.
 pub fn clusters_after(line: &str, at: usize, count: RepeatCount) -> usize
     requires { IsCharBoundary line.now at }
     ensures value { result ≡ iterate (cluster_after line.now) count at }
@@ -39,7 +39,7 @@ pub fn clusters_after(line: &str, at: usize, count: RepeatCount) -> usize
     end
 }
 
-/// Whether `at` is a cluster boundary, and the least one above it, or `at` where there is none. What stands
+/// Returns whether `at` is a cluster boundary, and the least one above it, or `at` where there is none. What stands
 /// before the cluster boundary `from` is not looked at.
 pub fn cluster_from(line: &str, from: usize, at: usize) -> (bool, usize)
     requires start { IsCharBoundary line.now from }
@@ -63,8 +63,8 @@ pub fn cluster_from(line: &str, from: usize, at: usize) -> (bool, usize)
     }
 }
 
-/// Where `count` steps back lead from `at`. One cursor takes them all, and it returns as soon as
-/// there is no boundary below.
+/// Returns where `count` steps back lead from `at`. One cursor takes them all, and it returns as soon as there is no
+/// boundary below.
 pub fn clusters_before(line: &str, at: usize, count: RepeatCount) -> usize
     requires { IsCharBoundary line.now at }
     ensures value { result ≡ iterate (cluster_before line.now) count at }

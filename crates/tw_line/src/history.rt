@@ -28,8 +28,8 @@ pub enum SearchStyle {
 }
 
 impl SearchStyle {
-    /// The byte offset in `line` at which `pattern` stands first, or `None` where it stands nowhere. An
-    /// empty pattern stands at offset 0. Takes no memory.
+    /// Returns the byte offset in `line` at which `pattern` stands first, or `None` if it stands nowhere. An empty
+    /// pattern stands at offset 0. Takes no memory.
     #[tactic(auto, using(crate::proofs::SearchLemmas::find_gives_first))]
     pub fn match_against(&self, pattern: &str, line: &str) -> Option<usize>
         ensures value { result ≡ first pattern.now line.now }
@@ -51,8 +51,8 @@ pub enum SearchDirection {
 }
 
 impl SearchDirection {
-    /// The index beside `idx` in this direction, or `None` where there is none: before 0 and past
-    /// `usize::MAX`. Whether a line has that index is not asked.
+    /// Returns the index beside `idx` in this direction, or `None` if there is none: before 0 and past `usize::MAX`.
+    /// Whether a line has that index is not asked.
     pub fn next(self, idx: HistoryIndex) -> Option<HistoryIndex>
         ensures { result ≡ next_index self idx }
     {
@@ -82,13 +82,13 @@ pub trait History {
 
     ghost add_gives: { Self → List ℕ → Self → Type 0 } = { λ history line grown. Unit {0} };
 
-    /// The line at `idx`, or `None` where no line has that index. A history that makes its answer may lack
-    /// memory for it.
+    /// Returns the line at `idx`, or `None` if no line has that index. A history that makes its answer may lack memory
+    /// for it.
     fn get(&self, alloc: Global, idx: HistoryIndex) -> Result<Option<CowStr<'_>>, AllocError>
         ensures { IfOk result (λ line. option_map cow_str_bytes line
             ≡ slice_get (lines self.now) idx) };
 
-    /// The index of the last line, or `None` where there are no lines. Takes no memory.
+    /// Returns the index of the last line, or `None` if there are no lines. Takes no memory.
     fn last(&self) -> Option<HistoryIndex>
         ensures { result ≡ last_index (lines self.now) };
 
@@ -99,9 +99,9 @@ pub trait History {
         ensures refused { OnErr result (lines self.new ≡ lines self.old) }
         ensures added { OnOk result (add_gives self.old line.now self.new) };
 
-    /// The nearest line from `idx` on, the one at `idx` included, that contains the pattern, with the byte
-    /// offset at which the pattern stands first in it. `None` where no line on that side contains the
-    /// pattern, or no line has the index `idx`. A history that makes its answer may lack memory for it.
+    /// Returns the nearest line from `idx` on, the one at `idx` included, that contains the pattern, with the byte
+    /// offset at which the pattern stands first in it. `None` if no line on that side contains the pattern, or no line
+    /// has the index `idx`. A history that makes its answer may lack memory for it.
     fn search(
         &self,
         alloc: Global,
@@ -137,7 +137,7 @@ impl Model for BasicHistory {
 }
 
 impl BasicHistory {
-    /// The history of no lines. Takes no memory: each `add` takes it from `alloc`.
+    /// Creates the history of no lines. Takes no memory: each `add` takes it from `alloc`.
     pub fn new(alloc: Global) -> Self
         ensures { result ≡ [] }
     {
@@ -147,7 +147,7 @@ impl BasicHistory {
         }
     }
 
-    /// All lines one after the other as one text, and the end offset of each line in it. Takes no memory.
+    /// Returns all lines one after the other as one text, and the end offset of each line in it. Takes no memory.
     #[tactic(auto, using(crate::proofs::JoinedLemmas::concat_lines_from, crate::proofs::JoinedLemmas::ends_from_lines, crate::proofs::JoinedLemmas::boundaries))]
     pub fn joined(&self) -> (&str, &[usize])
         ensures text { result.0.now ≡ concat self.now }
@@ -181,7 +181,7 @@ impl BasicHistory {
     }
 }
 
-/// The offset at which the line at an index starts, by the end offsets of the lines.
+/// Returns the offset at which the line at an index starts, by the end offsets of the lines.
 fn start_of(ends: &[usize], at: HistoryIndex) -> usize
     requires { at < length ends.now }
     ensures { result ≡ slice_index (0 ∷ ends.now) at }
@@ -192,7 +192,7 @@ fn start_of(ends: &[usize], at: HistoryIndex) -> usize
     }
 }
 
-/// The line at an index, by the text that the lines make up and the end offset of each.
+/// Returns the line at an index, by the text that the lines make up and the end offset of each.
 fn line_of<'a>(text: &'a str, ends: &[usize], at: HistoryIndex) -> &'a str
     requires made_up { AreEnds text.now 0 ends.now }
     requires inside { at < length ends.now }
@@ -219,7 +219,7 @@ impl History for BasicHistory {
 
     ghost add_gives = { λ history line grown. grown ≡ with_line history line };
 
-    /// The line at `idx`, which is lent and not copied. Takes no memory.
+    /// Returns the line at `idx`, which is lent and not copied. Takes no memory.
     fn get(&self, _alloc: Global, idx: HistoryIndex) -> Result<Option<CowStr<'_>>, AllocError>
         ensures line { IsOkAnd result (λ line. option_map cow_str_bytes line
             ≡ slice_get self.now idx) }
@@ -249,7 +249,7 @@ impl History for BasicHistory {
         self.append(line)
     }
 
-    /// The nearest match. Each line on the side is read once at most, and none is copied. Takes no memory.
+    /// Returns the nearest match. Each line on the side is read once at most, and none is copied. Takes no memory.
     fn search(
         &self,
         _alloc: Global,

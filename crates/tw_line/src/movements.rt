@@ -15,7 +15,7 @@ use crate::words::{word_after, word_before};
 /// How many times.
 pub type RepeatCount = usize;
 
-/// A way for the cursor to go. Where a step leads nowhere the cursor stays, so every count is fine.
+/// A way for the cursor to go. If a step leads nowhere, the cursor stays, so every count is fine.
 #[derive(Clone, Copy, Debug)]
 pub enum Movement {
     /// So many grapheme clusters back.
@@ -41,7 +41,7 @@ enum Step {
     ForwardWord,
 }
 
-/// Where the movement leads from `cursor`.
+/// Returns where the movement leads from `cursor`.
 #[tactic(auto, unfolding(crate::specs::Movements::destination))]
 pub fn destination(line: &Text, cursor: usize, movement: Movement) -> usize
     requires { IsCharBoundary (bytes_of line.now) cursor }
@@ -59,7 +59,7 @@ pub fn destination(line: &Text, cursor: usize, movement: Movement) -> usize
     }
 }
 
-/// Where `count` steps over words lead from `start`. It returns as soon as a step leads nowhere.
+/// Returns where `count` steps over words lead from `start`. It returns as soon as a step leads nowhere.
 fn steps_from(line: &Text, start: usize, step: Step, count: RepeatCount) -> usize
     requires { IsCharBoundary (bytes_of line.now) start }
     ensures value { result ≡ iterate (step_from step (bytes_of line.now)) count start }
@@ -76,7 +76,7 @@ fn steps_from(line: &Text, start: usize, step: Step, count: RepeatCount) -> usiz
     at
 }
 
-/// Where one step over a word leads from `at`.
+/// Returns where one step over a word leads from `at`.
 fn step_from(line: &Text, at: usize, step: Step) -> usize
     requires { IsCharBoundary (bytes_of line.now) at }
     ensures value { result ≡ step_from step (bytes_of line.now) at }

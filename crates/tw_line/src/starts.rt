@@ -6,7 +6,7 @@ ghost use Rattle.std.specs.List.Sorted.{IsStrictlyIncreasing};
 ghost use Rattle.std.specs.Str.{chars};
 ghost use Rattle.tw_line.specs.Starts.{starts_from, with_starts, binary_digits};
 
-/// Whether the offset is below `at`. It adds one to the count of comparisons.
+/// Returns true if the offset is below `at`. It adds one to the count of comparisons.
 fn is_below(offset: usize, at: usize, comparisons: &mut u32) -> bool
     requires { comparisons.old + 1 < 2 ^ 32 }
     ensures answer { IsTrue result ↔ (offset < at) }
@@ -16,8 +16,8 @@ fn is_below(offset: usize, at: usize, comparisons: &mut u32) -> bool
     offset < at
 }
 
-/// How many of the rising offsets are below `at`, and how many comparisons found it. One comparison
-/// with the middle offset leaves a half to be searched.
+/// Returns how many of the rising offsets are below `at`, and how many comparisons found it. One comparison with the
+/// middle offset leaves a half to be searched.
 pub fn count_below(starts: &[usize], at: usize) -> (usize, u32)
     requires { IsStrictlyIncreasing starts.now }
     ensures within { result.0 ≤ length starts.now }
@@ -115,8 +115,8 @@ pub fn insert_starts(starts: &mut Vec<usize>, index: usize, at: usize, text: &st
     move_forward(starts, index, count);
 }
 
-/// Takes away the starts from one index to another, whose characters take so many bytes: what
-/// starts later is lowered. It keeps the memory.
+/// Takes away the starts from one index to another, whose characters take `bytes` bytes: what starts later is lowered.
+/// It keeps the memory.
 pub fn remove_starts(starts: &mut Vec<usize>, first: usize, last: usize, bytes: usize)
     requires order { first ≤ last }
     requires inside { last ≤ vec_len starts.old }

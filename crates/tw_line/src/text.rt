@@ -24,7 +24,7 @@ pub struct Text {
 impl Text {
     ghost use Rattle.tw_line.specs.Text.{bytes_of, chars_of, index_in, room_of, places_of, LacksRoom};
 
-    /// The empty text. It takes no memory.
+    /// Creates the empty text. Takes no memory.
     pub fn new(alloc: Global) -> Self
         ensures { bytes_of result ≡ [] }
     {
@@ -34,7 +34,7 @@ impl Text {
         }
     }
 
-    /// A copy of the text. The empty one takes no memory.
+    /// Returns a copy of the text.
     pub fn from_str(alloc: Global, text: &str) -> Result<Self, AllocError>
         ensures ok { IfOk result (λ t. bytes_of t ≡ text.now) }
         ensures empty { text.now ≡ [] → IsOk result }
@@ -44,7 +44,7 @@ impl Text {
         Ok(made)
     }
 
-    /// The same text, with room of its own. The empty one takes no memory.
+    /// Returns the same text, with room of its own.
     pub fn try_clone(&self, alloc: Global) -> Result<Self, AllocError>
         ensures ok { IfOk result (λ t. bytes_of t ≡ bytes_of self.now) }
         ensures empty { bytes_of self.now ≡ [] → IsOk result }
@@ -57,7 +57,7 @@ impl Text {
         Ok(Text { line, starts })
     }
 
-    /// Replaces the text. The empty one takes no memory.
+    /// Replaces the text.
     pub fn set(&mut self, text: &str) -> Result<(), AllocError>
         ensures ok { OnOk result (bytes_of self.new ≡ text.now) }
         ensures err { OnErr result (bytes_of self.new ≡ bytes_of self.old) }
@@ -67,33 +67,33 @@ impl Text {
         Ok(())
     }
 
-    /// The text as it is.
+    /// Returns the text as it is.
     pub fn as_str(&self) -> &str
         ensures { result.now ≡ bytes_of self.now }
     {
         self.line.as_str()
     }
 
-    /// The length in bytes.
+    /// Returns the length in bytes.
     pub fn len(&self) -> usize
         ensures { result ≡ length (bytes_of self.now) }
     {
         self.line.len()
     }
 
-    /// How many characters the text has.
+    /// Returns how many characters the text has.
     pub fn count(&self) -> usize
         ensures { result ≡ length (chars_of self.now) }
     {
         self.starts.len()
     }
 
-    /// The allocator that keeps the text.
+    /// Returns the allocator that keeps the text.
     pub fn allocator(&self) -> Global {
         *self.line.allocator()
     }
 
-    /// Makes room for so many bytes and so many characters more.
+    /// Makes room for `bytes` bytes and `characters` characters more.
     pub fn reserve(&mut self, bytes: usize, characters: usize) -> Result<(), AllocError>
         ensures bytes { bytes_of self.new ≡ bytes_of self.old }
         ensures room { OnOk result (length (bytes_of self.new) + bytes ≤ room_of self.new) }
@@ -160,7 +160,7 @@ impl Text {
         remove_starts(&mut self.starts, first, last, end - start);
     }
 
-    /// Empties the text. It keeps the memory.
+    /// Clears the text, and keeps its memory.
     pub fn clear(&mut self)
         ensures { bytes_of self.new ≡ [] }
     {
@@ -168,7 +168,7 @@ impl Text {
         self.starts.clear();
     }
 
-    /// The character that starts at `start`, and the offset at which it ends.
+    /// Returns the character that starts at `start`, and the offset at which it ends.
     pub fn char_at(&self, start: usize) -> (char, usize)
         requires inside { start < length (bytes_of self.now) }
         requires boundary { IsCharBoundary (bytes_of self.now) start }
@@ -182,7 +182,7 @@ impl Text {
         (c, line.len() - chars.as_str().len())
     }
 
-    /// The character at the index.
+    /// Returns the character at the index.
     pub fn character(&self, index: usize) -> char
         requires { index < length (chars_of self.now) }
         ensures { result ≡ slice_index (chars_of self.now) index }
@@ -191,7 +191,7 @@ impl Text {
         c
     }
 
-    /// How many characters stand before the boundary `at`, and how many comparisons found it.
+    /// Returns how many characters stand before the boundary `at`, and how many comparisons found it.
     pub fn find_index(&self, at: usize) -> (usize, u32)
         requires { IsCharBoundary (bytes_of self.now) at }
         ensures index { result.0 ≡ index_in self.now at }
@@ -201,7 +201,7 @@ impl Text {
         count_below(&self.starts, at)
     }
 
-    /// How many characters stand before the boundary `at`.
+    /// Returns how many characters stand before the boundary `at`.
     pub fn index_of(&self, at: usize) -> usize
         requires { IsCharBoundary (bytes_of self.now) at }
         ensures index { result ≡ index_in self.now at }
@@ -211,8 +211,7 @@ impl Text {
         index
     }
 
-    /// The offset at which the character of the index starts, or the length for the number of
-    /// characters.
+    /// Returns the offset at which the character of the index starts, or the length for the number of characters.
     pub fn offset_of(&self, index: usize) -> usize
         requires { index ≤ length (chars_of self.now) }
         ensures value { result ≡ offset_of (bytes_of self.now) index }
@@ -226,7 +225,7 @@ impl Text {
         }
     }
 
-    /// The greatest boundary that is not above `limit`.
+    /// Returns the greatest boundary that is not above `limit`.
     pub fn boundary_below(&self, limit: usize) -> usize
         ensures value { result ≡ boundary_below (bytes_of self.now) limit }
         ensures boundary { IsCharBoundary (bytes_of self.now) result }

@@ -6,7 +6,7 @@ ghost use Rattle.tw_line.specs.Words.{kind_from, word_after, word_before};
 
 use crate::text::Text;
 
-/// The start of the word before the index.
+/// Returns the start of the word before the index.
 pub fn word_before(line: &Text, index: usize) -> usize
     requires { index ≤ length (chars_of line.now) }
     ensures value { result ≡ word_before (chars_of line.now) index }
@@ -22,8 +22,8 @@ pub fn word_before(line: &Text, index: usize) -> usize
     0
 }
 
-/// The first character from `start` on that is whitespace, or that is none where `space` is false. Without
-/// one, the end of the line.
+/// Returns the first character from `start` on that is whitespace, or that is none where `space` is false. Without one,
+/// the end of the line.
 fn find_from(line: &Text, start: usize, space: bool) -> usize
     requires { start ≤ length (chars_of line.now) }
     ensures value { result ≡ kind_from space (chars_of line.now) start }
@@ -39,7 +39,7 @@ fn find_from(line: &Text, start: usize, space: bool) -> usize
     index
 }
 
-/// The start of the word after the index.
+/// Returns the start of the word after the index.
 pub fn word_after(line: &Text, index: usize) -> usize
     requires { index ≤ length (chars_of line.now) }
     ensures value { result ≡ word_after (chars_of line.now) index }

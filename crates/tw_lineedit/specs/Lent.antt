@@ -3,6 +3,7 @@ use Rattle.std.specs.Prelude.{◌≡◌, ⊤, []}
 use Rattle.std.specs.Borrow.{Fml, RattleType, MutBor, follows_so, Lends}
 use mathlib.Core.Option.{none}
 use mir.Syntax.{named}
+use Rattle.tw_terminal.specs.Uses.{IsUsed}
 use Rattle.tw_lineedit.specs.contracts.editor.EditorOver as editor
 use Rattle.tw_session.specs.contracts.session.Session as session
 
@@ -21,3 +22,7 @@ with_terminal terminal e left = record e { terminal = record e.terminal { now = 
 -- the editor ends with its terminal as it was left after the reference
 abbrev pub LendsTerminal : (terminal : RattleType) → MutBor (editor_row terminal).Denot → MutBor terminal.Denot → Fml
 LendsTerminal terminal editor lent = Lends (editor_row terminal) terminal editor lent (with_terminal terminal editor.now)
+
+-- it borrows the same terminal after a call, and only calls of the terminal's trait have changed it
+abbrev pub KeepsTerminal : {T K : Type 0} → (T → T → K → Type 0) → MutBor T → MutBor T → Type 0
+KeepsTerminal follows before after = (after.ghost_name ≡ before.ghost_name) × IsUsed follows before.now after.now

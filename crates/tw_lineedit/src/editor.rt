@@ -15,7 +15,7 @@ ghost use Rattle.tw_session.specs.SessionView.{new_session, on_state};
 ghost use Rattle.tw_session.specs.Refusal.{IsMemory};
 ghost use Rattle.tw_lineedit.specs.Frame.{across, frame, own_frame, IsSame};
 ghost use Rattle.tw_lineedit.specs.Lines.{BeginsWith, IsAnsweredWith, ReadsWith, ShowsWith};
-ghost use Rattle.tw_lineedit.specs.Lent.{EndsAs, editor_row};
+ghost use Rattle.tw_lineedit.specs.Lent.{EndsAs, editor_row, KeepsTerminal};
 ghost use Rattle.tw_lineedit.specs.EditorSteps.{Closes, FailsToClose, Paints, FailsToPaint, Applies, FailsToApply, Handles, FailsToHandle, HandlesAndPaints, FailsToHandleOrPaint, GivesUp};
 ghost use Rattle.tw_lineedit.specs.Feeding.{Begins, IsNotBegun, IsRefusedOn, Continues, IsEnded, IsAnsweredOn};
 ghost use Rattle.tw_lineedit.specs.Reading.{initial_text, start, Reads, FailsToRead, IsTurnedDown, FailuresTell};
@@ -53,8 +53,8 @@ impl<T: Terminal, S: Drop> Drop for EditorOver<'_, T, S> {
 }
 
 impl<'term, T: Terminal> LineEditor<'term, T> {
-    /// An editor with the prompt `> ` and an empty line. It takes no memory and calls nothing of the terminal, so
-    /// it always succeeds.
+    /// Creates an editor with the prompt `> ` and an empty line. Takes no memory and calls nothing of the terminal, so it
+    /// always succeeds.
     pub fn new(alloc: Global, terminal: &'term mut T) -> Result<Self, Error>
         ensures succeeds { IsOk result }
         ensures same_reference { IfOk result (λ editor. editor.terminal.ghost_name
@@ -66,7 +66,7 @@ impl<'term, T: Terminal> LineEditor<'term, T> {
         Ok(EditorOver { terminal, session })
     }
 
-    /// Sets the prompt, which is `> ` at first. Where it is refused nothing is changed.
+    /// Sets the prompt, which is `> ` at first. A refusal changes nothing.
     pub fn set_prompt(&mut self, prompt: &str) -> Result<(), Error>
         ensures same_reference { self.new.terminal.ghost_name ≡ self.old.terminal.ghost_name }
         ensures terminal { self.new.terminal.now ≡ self.old.terminal.now }
@@ -79,8 +79,8 @@ impl<'term, T: Terminal> LineEditor<'term, T> {
         Ok(())
     }
 
-    /// The line, and the byte offset of its cursor, which is a boundary of it. It takes no memory, and the editor
-    /// and its terminal are afterwards as before.
+    /// Returns the line and the byte offset of its cursor, a character boundary. Takes no memory, and changes neither the
+    /// editor nor its terminal.
     pub fn get_line_and_cursor(&mut self) -> (&str, usize)
         ensures* same { sem 𝓛 (EndsAs (editor_row T.row) self.entry self.old) }
         ensures line { result.0.now ≡ self.old.session.state.cut.line }
@@ -90,8 +90,8 @@ impl<'term, T: Terminal> LineEditor<'term, T> {
         self.session.get_line_and_cursor()
     }
 
-    /// Sets the line, and its cursor at a byte offset that is a boundary of it. Where it is refused nothing
-    /// is changed. The empty line takes no memory.
+    /// Sets the line and its cursor, a byte offset at a character boundary. A refusal changes nothing. The empty line takes
+    /// no memory.
     pub fn set_line_and_cursor(&mut self, line: &str, cursor: usize) -> Result<(), Error>
         requires { IsCharBoundary line.now cursor }
         ensures same_reference { self.new.terminal.ghost_name ≡ self.old.terminal.ghost_name }
@@ -122,17 +122,15 @@ impl<'term, T: Terminal> LineEditor<'term, T> {
         Ok(())
     }
 
-    /// Applies an action to the line and the mode, whatever the mode is. `Repaint` clears the screen, and no
-    /// other action calls the terminal. Where it is refused nothing is changed, but that the terminal may have
-    /// taken a beginning of the clearing.
+    /// Applies an action to the line and the mode, whatever the mode is. `Repaint` clears the screen, and no other action
+    /// calls the terminal. A refusal changes nothing, but the terminal may have taken a beginning of the clearing.
     #[tactic(auto, unfolding(tw_session::specs::Steps::apply))]
     pub fn apply_action<H: LineEditorHost>(
         &mut self,
         host: &mut H,
         action: Action,
     ) -> Result<(), Error>
-        ensures same_reference { self.new.terminal.ghost_name ≡ self.old.terminal.ghost_name }
-        ensures used { IsUsed T.follows self.old.terminal.now self.new.terminal.now }
+        ensures terminal { KeepsTerminal T.follows self.old.terminal self.new.terminal }
         ensures host { host.new ≡ host.old }
         ensures uncalled { action_view action ≢ Repaint → self.new.terminal.now
             ≡ self.old.terminal.now }
@@ -206,7 +204,7 @@ impl<'term, T: Terminal> LineEditor<'term, T> {
         self.paint(host)
     }
 
-    /// Takes an event, handles it, and paints. Returns false where the run ends.
+    /// Takes an event, handles it, and paints. Returns false if the run ends.
     fn turn<H: LineEditorHost>(&mut self, host: &mut H) -> Result<bool, Error>
         ensures same_reference { self.new.terminal.ghost_name ≡ self.old.terminal.ghost_name }
         ensures used { IsUsed T.follows self.old.terminal.now self.new.terminal.now }
@@ -358,24 +356,21 @@ impl<'term, T: Terminal> LineEditor<'term, T> {
         }
     }
 
-    /// Reads a line that begins with the initial value, its cursor at the end. Returns the line where it was
-    /// accepted or no event is left, and none where it was cancelled. Events after the one that ended it are
-    /// left.
+    /// Reads a line that begins with the initial value, its cursor at the end. Returns the line if it was accepted or no
+    /// event is left, and `None` if it was cancelled. Events after the one that ended it are left.
     ///
-    /// `Recursive` leaves all as it was. Every other refusal leaves the mode Inactive and the line as it was
-    /// when the call was refused; the closing batch is rendered and flushed, unless the terminal refuses that
-    /// too, which is then returned.
+    /// `Recursive` leaves all as it was. Every other refusal leaves the mode Inactive and the line as it was when the call
+    /// was refused; the closing batch is rendered and flushed, unless the terminal refuses that too: then that refusal is
+    /// returned.
     pub fn read_line_with_optional_initial_value<H: LineEditorHost>(
         &mut self,
         host: &mut H,
         initial_value: Option<&str>,
     ) -> Result<Option<String>, Error>
-        ensures same_reference { self.new.terminal.ghost_name ≡ self.old.terminal.ghost_name }
-        ensures used { IsUsed T.follows self.old.terminal.now self.new.terminal.now }
+        ensures terminal { KeepsTerminal T.follows self.old.terminal self.new.terminal }
         ensures recursive { self.old.session.state.mode ≢ Inactive → (result ≡ Err Error.Recursive)
+            × (self.new.terminal.now ≡ self.old.terminal.now) × (host.new ≡ host.old)
             × across T.state H.value IsSame self.old host.old self.new host.new }
-        ensures untouched { self.old.session.state.mode ≢ Inactive
-            → (self.new.terminal.now ≡ self.old.terminal.now) × (host.new ≡ host.old) }
         ensures ok { self.old.session.state.mode ≡ Inactive
             → IfOk result (λ it. across T.state H.value
             (ReadsWith H.rules (initial_text initial_value.entry))
@@ -398,12 +393,10 @@ impl<'term, T: Terminal> LineEditor<'term, T> {
 
     /// Reads a line that begins empty, as `read_line_with_optional_initial_value` does.
     pub fn read_line<H: LineEditorHost>(&mut self, host: &mut H) -> Result<Option<String>, Error>
-        ensures same_reference { self.new.terminal.ghost_name ≡ self.old.terminal.ghost_name }
-        ensures used { IsUsed T.follows self.old.terminal.now self.new.terminal.now }
+        ensures terminal { KeepsTerminal T.follows self.old.terminal self.new.terminal }
         ensures recursive { self.old.session.state.mode ≢ Inactive → (result ≡ Err Error.Recursive)
+            × (self.new.terminal.now ≡ self.old.terminal.now) × (host.new ≡ host.old)
             × across T.state H.value IsSame self.old host.old self.new host.new }
-        ensures untouched { self.old.session.state.mode ≢ Inactive
-            → (self.new.terminal.now ≡ self.old.terminal.now) × (host.new ≡ host.old) }
         ensures ok { self.old.session.state.mode ≡ Inactive
             → IfOk result (λ it. across T.state H.value (ReadsWith H.rules None)
             self.old host.old self.new host.new (outcome_of (Ok it))) }

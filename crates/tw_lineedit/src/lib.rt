@@ -23,7 +23,7 @@
 //!
 //! # Keys
 //!
-//! A host may give any event another action, or none (`LineEditorHost::resolve_action`). Where it says nothing:
+//! A host may give any event another action, or none (`LineEditorHost::resolve_action`). If it does not:
 //!
 //! | Key | What it does |
 //! |---|---|
@@ -47,7 +47,7 @@ mod remembering;
 pub use editor::{EditorOver, LineEditor, LineStatus};
 pub use tw_host::{
     Action, CompletionCandidate, LineEditorHost, NopLineEditorHost, OutputElement, Overrides,
-    default_action, plain_element, plain_line,
+    copy_candidates, default_action, plain_element, plain_line,
 };
 pub use tw_line::{
     BasicHistory, BoundedHistory, History, HistoryIndex, LentLines, LineEditBuffer, Movement,

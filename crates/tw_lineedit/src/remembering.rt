@@ -1,9 +1,9 @@
 //! Reading a line that the host then has in its history.
 
 ghost use Rattle.std.specs.Prelude.{◌≡◌, ◌≢◌, Err, IfErr, IfOk, None, option_map, string_bytes};
-ghost use Rattle.tw_terminal.specs.Uses.{IsUsed};
 ghost use Rattle.tw_session.specs.EditState.{Inactive};
 ghost use Rattle.tw_lineedit.specs.Frame.{across, frame, IsSame};
+ghost use Rattle.tw_lineedit.specs.Lent.{KeepsTerminal};
 ghost use Rattle.tw_lineedit.specs.Lines.{ShowsWith};
 ghost use Rattle.tw_lineedit.specs.Reading.{FailuresTell};
 ghost use Rattle.tw_lineedit.specs.Remembering.{FailsToReadAndRemember, ReadsAndRemembers};
@@ -14,21 +14,18 @@ use tw_session::Error;
 use tw_terminal::Terminal;
 
 impl<'term, T: Terminal> LineEditor<'term, T> {
-    /// Reads a line as `read_line` does, and adds it to the host's history. Where the reading was cancelled
-    /// nothing is added.
+    /// Reads a line as `read_line` does, and adds it to the host's history. A cancelled line is not added.
     ///
-    /// A reading that is refused leaves what a refused `read_line` leaves, and nothing is added. Where memory
-    /// is lacking to add the line, the reading is over and the history's lines are as it left them.
+    /// A refused reading leaves what a refused `read_line` leaves, and adds nothing. If there is no memory to add the line,
+    /// the reading is over, and the history is as it was.
     pub fn read_line_and_remember<H: LineEditorHost>(
         &mut self,
         host: &mut H,
     ) -> Result<Option<String>, Error>
-        ensures same_reference { self.new.terminal.ghost_name ≡ self.old.terminal.ghost_name }
-        ensures used { IsUsed T.follows self.old.terminal.now self.new.terminal.now }
+        ensures terminal { KeepsTerminal T.follows self.old.terminal self.new.terminal }
         ensures recursive { self.old.session.state.mode ≢ Inactive → (result ≡ Err Error.Recursive)
+            × (self.new.terminal.now ≡ self.old.terminal.now) × (host.new ≡ host.old)
             × across T.state H.value IsSame self.old host.old self.new host.new }
-        ensures untouched { self.old.session.state.mode ≢ Inactive
-            → (self.new.terminal.now ≡ self.old.terminal.now) × (host.new ≡ host.old) }
         ensures ok { self.old.session.state.mode ≡ Inactive → IfOk result (λ line.
             ReadsAndRemembers H.rules H.value H.history_of H.with_history H.Hist.add_gives
             (frame T.state H.value self.old host.old) (frame T.state H.value self.new) host.new

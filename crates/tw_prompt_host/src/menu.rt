@@ -10,7 +10,7 @@ ghost use Rattle.tw_prompt_host.specs.MenuState.{menu_after, menu_begun, menu_be
 
 use std::alloc::{AllocError, Global};
 use std::marker::Model;
-use tw_host::{Action, CompletionCandidate};
+use tw_host::{Action, CompletionCandidate, copy_candidates};
 use tw_input::{InputEvent, KeyCode, KeyEvent, Modifiers};
 use tw_key_parts::{is_key, is_same_cut};
 use tw_line::LineEditBuffer;
@@ -65,7 +65,7 @@ impl OpenMenu {
     pub fn chosen_one(&self, alloc: Global) -> Result<Vec<CompletionCandidate>, AllocError>
         ensures { IfOk result (λ copies. map candidate_view copies.items ≡ chosen_of self.now) }
     {
-        copied(alloc, &self.candidates[self.chosen..self.chosen + 1])
+        copy_candidates(alloc, &self.candidates[self.chosen..self.chosen + 1])
     }
 
     /// Chooses the next candidate, or goes back to the one before.
@@ -201,22 +201,4 @@ impl Menu {
             None => self.go_on(before, after, action),
         }
     }
-}
-
-/// Copies candidates.
-pub fn copied(
-    alloc: Global,
-    candidates: &[CompletionCandidate],
-) -> Result<Vec<CompletionCandidate>, AllocError>
-    ensures { IfOk result (λ copies. map candidate_view copies.items
-        ≡ map candidate_view candidates.now) }
-{
-    let mut copies = Vec::new(alloc);
-    for candidate in candidates {
-        copies.push(CompletionCandidate {
-            range: candidate.range.start..candidate.range.end,
-            text: candidate.text.clone()?,
-        })?;
-    }
-    Ok(copies)
 }

@@ -29,12 +29,11 @@ impl PromptHost<NopLineEditorHost, BasicHistory, Keys<ReadlineKeys>, AllLines> {
     pub fn new(alloc: Global, prompt: &str, cols: usize) -> Result<Self, AllocError>
         ensures lines { IfOk result (λ it. it.history ≡ []) }
         ensures off { IfOk result (λ it. (it.completers.items ≡ []) × (it.listings.items ≡ [])
-            × (it.hints ≡ Off)) }
+            × (it.hints ≡ Off) × (rows_view it.rows ≡ None)) }
         ensures searches { IfOk result (λ it. it.stops_failing_searches ≡ true) }
         ensures menu { IfOk result (λ it. it.menu ≡ reverse_style cols 4) }
         ensures screen { IfOk result (λ it. screen_view it.screen
             ≡ record { cols = cols; prompt = prompt.now }) }
-        ensures rows { IfOk result (λ it. rows_view it.rows ≡ None) }
         ensures going { IfOk result (λ it. going_view it.going ≡ going_at_rest) }
     {
         let screen = PromptScreen {

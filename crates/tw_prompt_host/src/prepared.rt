@@ -10,10 +10,10 @@ ghost use Rattle.tw_surface.specs.Defaults.{default_attributes};
 ghost use Rattle.tw_key_parts.specs.Ring.{is_same_cut};
 ghost use Rattle.tw_prompt_host.specs.Prepared.{behind_range, bytes_before, shown_range, styled_ranges};
 
-use crate::menu::copied;
 use std::alloc::{AllocError, Global};
 use tw_host::{
-    Action, CompletionCandidate, LineEditorHost, OutputElement, Overrides, plain_element,
+    Action, CompletionCandidate, LineEditorHost, OutputElement, Overrides, copy_candidates,
+    plain_element,
 };
 use tw_hosts::styled;
 use tw_input::InputEvent;
@@ -194,7 +194,7 @@ impl LineEditorHost for PreparedHost {
         cursor_position: usize,
     ) -> Result<Vec<CompletionCandidate>, AllocError> {
         if self.is_asked(line, cursor_position) {
-            copied(alloc, &self.candidates)
+            copy_candidates(alloc, &self.candidates)
         } else {
             Ok(Vec::new(alloc))
         }

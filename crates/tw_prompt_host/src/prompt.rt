@@ -28,14 +28,14 @@ use crate::failing::{fails_after, is_failing};
 use crate::going::{Going, gives_up};
 use crate::hint::{Hints, history_hint, is_taking, part_taken};
 use crate::layout::{MenuStyle, menu_page};
-use crate::menu::{Menu, Turn, copied};
+use crate::menu::{Menu, Turn};
 use crate::rows::Rows;
 use crate::validator::Validator;
 use std::alloc::{AllocError, Global};
 use tw_completion_parts::{ContextCompleter, Listing, beginning_first, complete_in_context};
 use tw_host::{
-    Action, CompletionCandidate, LineEditorHost, OutputElement, Overrides, default_action,
-    plain_element,
+    Action, CompletionCandidate, LineEditorHost, OutputElement, Overrides, copy_candidates,
+    default_action, plain_element,
 };
 use tw_hosts::PromptScreen;
 use tw_input::InputEvent;
@@ -532,7 +532,7 @@ impl<H: LineEditorHost, L: History + LentLines, K: KeyPart, V: Validator> LineEd
     ) -> Result<Vec<CompletionCandidate>, AllocError> {
         match &self.going.menu {
             Menu::Open(menu) => menu.chosen_one(alloc),
-            Menu::Few(candidates) => copied(alloc, candidates),
+            Menu::Few(candidates) => copy_candidates(alloc, candidates),
             _ => self.found(alloc, line, cursor_position),
         }
     }

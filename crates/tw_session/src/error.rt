@@ -35,7 +35,7 @@ impl Error {
     ghost use Rattle.std.specs.Prelude.{◌≡◌};
     ghost use Rattle.tw_session.specs.Refusal.{error_number};
 
-    /// The error's number, from 1 to 7 in the order of the variants.
+    /// Returns the error's number, from 1 to 7 in the order of the variants.
     pub fn number(&self) -> u8
         ensures { result ≡ error_number self.now }
     {

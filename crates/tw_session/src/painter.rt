@@ -53,7 +53,7 @@ impl Model for Mark {
 }
 
 impl Mark {
-    /// The move from the cursor back to the first row.
+    /// Returns the move from the cursor back to the first row.
     pub fn start_move(self) -> Change
         ensures { change_view result ≡ start_move self }
     {
@@ -63,7 +63,7 @@ impl Mark {
         }
     }
 
-    /// The batch that moves the cursor to the row under the painting and clears from there on.
+    /// Returns the batch that moves the cursor to the row under the painting and clears from there on.
     pub fn closing_batch(self) -> [Change; 2]
         ensures { batch_view result ≡ closing self }
     {
@@ -140,7 +140,7 @@ fn draw_line(
     draw_edge_space(drawing, alloc, cols)
 }
 
-/// The label of a search.
+/// Returns the label of a search.
 fn search_label(direction: SearchDirection) -> &'static str
     ensures { result.now ≡ label direction }
 {
@@ -150,7 +150,7 @@ fn search_label(direction: SearchDirection) -> &'static str
     }
 }
 
-/// The text of a search, in the next row.
+/// Returns the text of a search, in the next row.
 fn search_row(
     alloc: Global,
     direction: SearchDirection,
@@ -206,7 +206,7 @@ fn draw_below<H: LineEditorHost>(
     }
 }
 
-/// The cell so many columns after a place, or `None` where it is out of range.
+/// Returns the cell `column` columns after a place, or `None` if it is out of range.
 fn cursor_cell(cols: usize, start: (usize, isize), column: usize) -> Option<(usize, isize)>
     requires some_columns { 0 < cols }
     requires columns { cols ≤ 65535 }
@@ -227,7 +227,7 @@ fn cursor_cell(cols: usize, start: (usize, isize), column: usize) -> Option<(usi
     Some((reach % cols, row))
 }
 
-/// The line as the host shows it, and the column of its cursor.
+/// Returns the line as the host shows it, and the column of its cursor.
 fn highlighted<H: LineEditorHost>(
     host: &H,
     alloc: Global,
@@ -274,7 +274,7 @@ fn draw_scene<H: LineEditorHost>(
     })
 }
 
-/// A batch, after the start move of the painting before, if there was one.
+/// Returns a batch, after the start move of the painting before, if there was one.
 fn from_start(before: Option<Mark>, batch: Vec<Change>) -> Result<Vec<Change>, AllocError>
     ensures { IfOk result (λ all. batch_view all.items
         ≡ start_of before ++ batch_view batch.items) }
@@ -286,8 +286,8 @@ fn from_start(before: Option<Mark>, batch: Vec<Change>) -> Result<Vec<Change>, A
     Ok(all)
 }
 
-/// The painting of a line after its prompt, with what stands under it: its batch and its mark. The batch goes back
-/// to the first row of the painting before, if there was one. A size that no screen can have is refused before the
+/// Returns the painting of a line after its prompt, with what stands under it: its batch and its mark. The batch goes
+/// back to the first row of the painting before, if there was one. A size that no screen can have is refused before the
 /// host is asked.
 pub fn painting<H: LineEditorHost>(
     host: &H,

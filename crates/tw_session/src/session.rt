@@ -81,7 +81,7 @@ impl Model for Session {
 impl Session {
     ghost use Rattle.tw_session.specs.SessionView.{new_session, on_state, begun_state, mode_view, ActsOn, FailsToActOn};
 
-    /// A session with the prompt `> `, an empty line and nothing painted. It takes no memory.
+    /// Returns a session with the prompt `> `, an empty line and nothing painted. Takes no memory.
     pub fn new(alloc: Global) -> Session
         ensures { result ≡ new_session }
     {
@@ -97,12 +97,12 @@ impl Session {
         }
     }
 
-    /// The allocator of all that the session holds.
+    /// Returns the allocator of all that the session holds.
     pub fn alloc(&self) -> Global {
         self.alloc
     }
 
-    /// Sets the prompt. Where it is refused nothing is changed.
+    /// Sets the prompt. If it is refused, nothing is changed.
     pub fn set_prompt(&mut self, prompt: &str) -> Result<(), AllocError>
         ensures ok { OnOk result (self.new
             ≡ on_state (λ state. record state { prompt = prompt.now }) self.old) }
@@ -112,7 +112,7 @@ impl Session {
         Ok(())
     }
 
-    /// The line and its cursor.
+    /// Returns the line and its cursor.
     pub fn get_line_and_cursor(&self) -> (&str, usize)
         ensures line { result.0.now ≡ self.now.state.cut.line }
         ensures cursor { result.1 ≡ self.now.state.cut.cursor }
@@ -121,7 +121,7 @@ impl Session {
         (self.line.get_line(), self.line.get_cursor())
     }
 
-    /// Sets the line and its cursor. Where it is refused nothing is changed. The empty line takes no memory.
+    /// Sets the line and its cursor. If it is refused, nothing is changed.
     pub fn set_line_and_cursor(&mut self, line: &str, cursor: usize) -> Result<(), AllocError>
         requires { IsCharBoundary line.now cursor }
         ensures ok { OnOk result (self.new
@@ -132,28 +132,28 @@ impl Session {
         self.line.set_line_and_cursor(line, cursor)
     }
 
-    /// Whether no line is being read.
+    /// Returns true if no line is being read.
     pub fn is_inactive(&self) -> bool
         ensures { IsTrue result ↔ (self.now.state.mode ≡ InactiveView) }
     {
         matches!(self.mode, Mode::Inactive)
     }
 
-    /// Whether a line takes events.
+    /// Returns true if a line takes events.
     pub fn is_open(&self) -> bool
         ensures { result ≡ is_open self.now.state.mode }
     {
         matches!(self.mode, Mode::Editing | Mode::Searching { .. })
     }
 
-    /// Whether the line was accepted or the run cancelled.
+    /// Returns true if the line was accepted or the run cancelled.
     pub fn is_over(&self) -> bool
         ensures { result ≡ is_over self.now.state.mode }
     {
         matches!(self.mode, Mode::Accepted | Mode::Cancelled)
     }
 
-    /// The mark of the last painting, if there is one.
+    /// Returns the mark of the last painting, if there is one.
     pub fn mark(&self) -> Option<Mark>
         ensures { result ≡ self.now.mark }
     {
@@ -190,7 +190,7 @@ impl Session {
     }
 
     /// Applies an action to the state. A `Repaint` changes nothing in it. An edit, a movement, and a step
-    /// through the history or a search end the cycle of candidates. Where it is refused nothing is changed.
+    /// through the history or a search end the cycle of candidates. If it is refused, nothing is changed.
     #[tactic(auto, unfolding(crate::specs::Steps::apply))]
     pub fn act<H: LineEditorHost>(&mut self, host: &mut H, action: Action) -> Result<(), Error>
         ensures host { host.new ≡ host.old }
@@ -231,7 +231,7 @@ impl Session {
         Ok(())
     }
 
-    /// The answer at the end of a run: a copy of the line, or none where the run was cancelled.
+    /// Returns the answer at the end of a run: a copy of the line, or none where the run was cancelled.
     pub fn answer(&self) -> Result<Option<String>, AllocError>
         ensures ok { IfOk result (λ line. outcome_of (Ok line) ≡ answer_at self.now.state) }
         ensures err { OnErr result (IsLine (answer_at self.now.state)) }
@@ -245,7 +245,7 @@ impl Session {
         }
     }
 
-    /// Asks the host, which may change itself and the line. Where it is refused nothing is changed. A host that leaves
+    /// Asks the host, which may change itself and the line. If it is refused, nothing is changed. A host that leaves
     /// its events to the key table is not asked, and so does not refuse.
     pub fn resolve<H: LineEditorHost>(
         &mut self,
@@ -271,7 +271,7 @@ impl Session {
         host.resolve_action(self.alloc, event, &mut self.line)
     }
 
-    /// The batch that paints this state at a size, after its start move, and its mark.
+    /// Returns the batch that paints this state at a size, after its start move, and its mark.
     pub fn painting<H: LineEditorHost>(
         &self,
         host: &H,
@@ -286,7 +286,7 @@ impl Session {
         self.painting_over(host, size, self.mark)
     }
 
-    /// The same over another painting, or over none.
+    /// Returns the same over another painting, or over none.
     pub fn painting_over<H: LineEditorHost>(
         &self,
         host: &H,
@@ -312,7 +312,7 @@ impl Session {
         painting(host, self.alloc, prompt, line, below, size, before)
     }
 
-    /// The line that is shown: while searching the matching one.
+    /// Returns the line that is shown: while searching the matching one.
     fn shown_line(&self) -> &LineEditBuffer
         ensures { result.now ≡ shown_in self.now.state.cut self.now.state.mode }
     {

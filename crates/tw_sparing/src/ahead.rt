@@ -36,7 +36,7 @@ impl Model for Ahead {
     ghost invariant = { λ a. AreAhead a.size a.shown a.drawn (all_changes a.kept) };
 }
 
-/// Whether a batch goes out of sight of what is known, where anything is known, on a terminal of so many rows.
+/// Returns true if a batch goes out of sight of what is known, where anything is known, on a terminal of `rows` rows.
 fn leaves_sight(shown: &Option<Shown>, changes: &[Change], rows: usize) -> bool
     ensures { result ≡ leaves_sight rows shown.now (batch_view changes.now) }
 {
@@ -47,7 +47,7 @@ fn leaves_sight(shown: &Option<Shown>, changes: &[Change], rows: usize) -> bool
 }
 
 impl Ahead {
-    /// A terminal of a size that shows this. Nothing is kept back.
+    /// Creates a terminal of a size that shows this. Nothing is kept back.
     pub fn new(size: ScreenSize, shown: Option<Shown>) -> Self
         ensures { result ≡ settled_at size shown }
     {
@@ -59,23 +59,23 @@ impl Ahead {
         }
     }
 
-    /// The size.
+    /// Returns the size.
     pub fn size(&self) -> ScreenSize
         ensures { result ≡ self.now.size }
     {
         self.size
     }
 
-    /// Whether nothing is kept back.
+    /// Returns true if nothing is kept back.
     pub fn is_settled(&self) -> bool
         ensures { (result ≡ true) ↔ (self.now.kept ≡ []) }
     {
         self.drawn.is_none()
     }
 
-    /// What is known once a batch is drawn on the latest picture, and whether all that is kept back and the batch can
-    /// be sent as one difference: where the batch does not go out of sight, and the rows that leave the terminal show
-    /// what they show now.
+    /// Returns what is known once a batch is drawn on the latest picture, and whether all that is kept back and the
+    /// batch can be sent as one difference: where the batch does not go out of sight, and the rows that leave the
+    /// terminal show what they show now.
     pub fn known_after(
         &self,
         alloc: Global,
@@ -95,7 +95,7 @@ impl Ahead {
         (next, is_joined)
     }
 
-    /// What is known of the latest picture: what is drawn ahead, or else what is shown.
+    /// Returns what is known of the latest picture: what is drawn ahead, or else what is shown.
     fn latest(&self) -> &Option<Shown>
         ensures { result.now ≡ latest_known self.now }
     {
@@ -105,7 +105,8 @@ impl Ahead {
         }
     }
 
-    /// Whether all that is kept back and a batch can be sent as one difference, by what is known after the batch.
+    /// Returns true if all that is kept back and a batch can be sent as one difference, by what is known after the
+    /// batch.
     fn is_joined(&self, changes: &[Change], next: &Option<Shown>) -> bool
         requires { IsKnownAfter self.now.size.cols self.now.size.rows (batch_view changes.now)
             (latest_known self.now) next.now }

@@ -23,8 +23,8 @@ fn encode(changes: &[Change], mut encoder: Encoder, out: &mut String) -> Result<
     Ok(encoder)
 }
 
-/// How many of the first rows of an old screen have left a terminal of so many once it shows a new one: those that had
-/// left it before, and those that leave it now, unless the old cursor stands in one of these.
+/// Returns how many of the first rows of an old screen have left a terminal of `rows` once it shows a new one: those
+/// that had left it before, and those that leave it now, unless the old cursor stands in one of these.
 fn gone_rows(rows: usize, old: &Shown, new: &Shown) -> usize
     ensures { result ≡ gone_rows rows old.now new.now }
 {
@@ -38,7 +38,7 @@ fn gone_rows(rows: usize, old: &Shown, new: &Shown) -> usize
     }
 }
 
-/// Adds what differs of two screens in the rows that have not left a terminal of so many, and returns what is then known.
+/// Adds what differs of two screens in the rows that have not left a terminal of `rows` rows, and returns what is then known.
 pub fn send_known(
     alloc: Global,
     rows: usize,

@@ -26,7 +26,7 @@ pub struct Shown {
 }
 
 impl Shown {
-    /// An empty screen. Where it has no column, or too many, it is not known what is shown.
+    /// Returns an empty screen. Where it has no column, or too many, it is not known what is shown.
     fn empty(alloc: Global, cols: usize) -> Option<Self>
         ensures { IfSome result (λ shown. shown ≡ first_shown cols) }
     {
@@ -36,14 +36,14 @@ impl Shown {
         }
     }
 
-    /// How many of its rows have left a terminal of so many.
+    /// Returns how many of its rows have left a terminal of `rows` rows.
     pub fn left_behind(&self, rows: usize) -> usize
         ensures { result ≡ left_behind rows self.now }
     {
         self.reached.saturating_sub(rows)
     }
 
-    /// How many of the rows in sight stand above the cursor, on a terminal of so many rows.
+    /// Returns how many of the rows in sight stand above the cursor, on a terminal of `rows` rows.
     fn rows_above(&self, rows: usize) -> usize
         ensures { result ≡ rows_above rows self.now }
     {
@@ -51,8 +51,9 @@ impl Shown {
         row.saturating_sub(self.left_behind(rows))
     }
 
-    /// Whether a change does on a terminal of so many rows what it does on this screen: a plain text, attributes, a
-    /// relative move to one of the rows that are in sight, and a clearing to blanks, where the cursor does not wait.
+    /// Returns true if a change does on a terminal of `rows` rows what it does on this screen: a plain text,
+    /// attributes, a relative move to one of the rows that are in sight, and a clearing to blanks, where the cursor
+    /// does not wait.
     fn is_playable(&self, change: &Change, rows: usize) -> bool
         ensures { result ≡ true → IsPlayable rows self.now (change_view change.now) }
     {
@@ -99,8 +100,8 @@ impl Shown {
         true
     }
 
-    /// Whether a terminal of so many rows can show it: its cursor stands in a column and in one of the last rows that
-    /// it has reached, and its cells hold printable characters.
+    /// Returns true if a terminal of `rows` rows can show it: its cursor stands in a column and in one of the last rows
+    /// that it has reached, and its cells hold printable characters.
     fn is_fit(&self, rows: usize) -> bool
         ensures { result ≡ true → FitsTerminal rows self.now }
     {
@@ -114,7 +115,7 @@ impl Shown {
             && is_printable(&self.screen, self.reached)
     }
 
-    /// What is shown once changes are drawn on an empty screen, on a terminal of so many rows.
+    /// Returns what is shown once changes are drawn on an empty screen, on a terminal of `rows` rows.
     fn fresh(alloc: Global, cols: usize, changes: &[Change], rows: usize) -> Option<Self>
         ensures fits { IfSome result (λ new. FitsTerminal rows new) }
         ensures played { IfSome result (λ new. IsPlayed rows (batch_view changes.now)
@@ -127,14 +128,14 @@ impl Shown {
         None
     }
 
-    /// Whether a batch leads first to a row out of sight, on a terminal of so many rows.
+    /// Returns true if a batch leads first to a row out of sight, on a terminal of `rows` rows.
     pub fn is_left_by(&self, changes: &[Change], rows: usize) -> bool
         ensures { result ≡ goes_out_of_sight (rows_above rows self.now) (batch_view changes.now) }
     {
         goes_out_of_sight(changes, self.rows_above(rows))
     }
 
-    /// What is shown once a batch is drawn on it, on a terminal of so many rows.
+    /// Returns what is shown once a batch is drawn on it, on a terminal of `rows` rows.
     fn drawn(&self, alloc: Global, changes: &[Change], rows: usize) -> Option<Self>
         ensures { IfSome result (λ new. IsDrawnAfter rows (batch_view changes.now) self.now new) }
     {
@@ -154,8 +155,8 @@ impl Shown {
         None
     }
 
-    /// What is shown once a terminal of so many rows, all of which are reached, is emptied from its first row on and
-    /// filled again.
+    /// Returns what is shown once a terminal of `rows` rows, all of which are reached, is emptied from its first row on
+    /// and filled again.
     fn refilled(&self, alloc: Global, changes: &[Change], rows: usize) -> Option<Self>
         ensures { IfSome result (λ new. IsRefilled rows (batch_view changes.now) self.now new) }
     {
@@ -171,7 +172,7 @@ impl Shown {
         Some(next)
     }
 
-    /// What is shown once a batch was sent, on a terminal of so many rows.
+    /// Returns what is shown once a batch was sent, on a terminal of `rows` rows.
     fn known_after(&self, alloc: Global, changes: &[Change], rows: usize) -> Option<Self>
         ensures { IfSome result (λ new. IsKnownBy
             (goes_out_of_sight (rows_above rows self.now) (batch_view changes.now)) rows
@@ -184,7 +185,7 @@ impl Shown {
     }
 }
 
-/// Whether the first rows of two screens show the same, and the cursor of the old one is after them.
+/// Returns true if the first rows of two screens show the same, and the cursor of the old one is after them.
 pub fn is_same_above(old: &StyledScreen, new: &StyledScreen, top: usize) -> bool
     requires { old.now.width ≡ new.now.width }
     ensures same { result ≡ true → KeepsAbove top old.now new.now }
@@ -202,7 +203,7 @@ pub fn is_same_above(old: &StyledScreen, new: &StyledScreen, top: usize) -> bool
     true
 }
 
-/// Whether a position is a row that is in sight, with so many rows above the cursor.
+/// Returns true if a position is a row that is in sight, with `above` rows above the cursor.
 fn is_in_sight(position: Position, above: usize) -> bool
     ensures { result ≡ true → IsInSight above position }
 {
@@ -212,7 +213,8 @@ fn is_in_sight(position: Position, above: usize) -> bool
     }
 }
 
-/// Whether a batch leads first to column 0 of a row out of sight, there being so many rows in sight above the cursor.
+/// Returns true if a batch leads first to column 0 of a row out of sight, there being `above` rows in sight above the
+/// cursor.
 fn goes_out_of_sight(changes: &[Change], above: usize) -> bool
     ensures { result ≡ goes_out_of_sight above (batch_view changes.now) }
 {
@@ -228,7 +230,7 @@ fn goes_out_of_sight(changes: &[Change], above: usize) -> bool
     }
 }
 
-/// Whether a change empties what stands from the cursor on.
+/// Returns true if a change empties what stands from the cursor on.
 fn is_emptying(change: &Change) -> bool
     ensures { result ≡ true → change_view change.now ≡ ClearToEndOfScreen default_color }
 {
@@ -238,7 +240,7 @@ fn is_emptying(change: &Change) -> bool
     }
 }
 
-/// Whether a change sets all attributes.
+/// Returns true if a change sets all attributes.
 fn is_setting(change: &Change) -> bool
     ensures { result ≡ true → SetsAttributes (change_view change.now) }
 {
@@ -248,7 +250,7 @@ fn is_setting(change: &Change) -> bool
     }
 }
 
-/// Whether a batch empties the terminal from its cursor on, and then sets all attributes.
+/// Returns true if a batch empties the terminal from its cursor on, and then sets all attributes.
 fn empties(changes: &[Change]) -> bool
     ensures { result ≡ true → Empties (batch_view changes.now) }
 {
@@ -258,7 +260,7 @@ fn empties(changes: &[Change]) -> bool
     }
 }
 
-/// Whether a move leads as many rows at any terminal.
+/// Returns true if a move leads as many rows at any terminal.
 fn is_near(position: Position) -> bool
     ensures { result ≡ true → IsShortMove position }
 {
@@ -268,7 +270,7 @@ fn is_near(position: Position) -> bool
     }
 }
 
-/// What is left of a batch after a move to column 0.
+/// Returns what is left of a batch after a move to column 0.
 fn behind_move(changes: &[Change]) -> Option<&[Change]>
     ensures { IfSome result (λ rest. IsMovedBy (batch_view changes.now) (batch_view rest.now)) }
 {
@@ -284,7 +286,8 @@ fn behind_move(changes: &[Change]) -> Option<&[Change]>
     }
 }
 
-/// What is left of a batch that empties the terminal from column 0 on: where it begins there, or after its move.
+/// Returns what is left of a batch that empties the terminal from column 0 on: where it begins there, or after its
+/// move.
 fn begun(changes: &[Change], at_start: bool) -> Option<&[Change]>
     ensures begun { IfSome result (λ rest. IsBegunBy (batch_view changes.now)
         (batch_view rest.now)) }
@@ -298,7 +301,7 @@ fn begun(changes: &[Change], at_start: bool) -> Option<&[Change]>
     }
 }
 
-/// What a terminal of a size shows once a batch was sent, by what it showed before.
+/// Returns what a terminal of a size shows once a batch was sent, by what it showed before.
 pub fn shown_after(
     alloc: Global,
     size: ScreenSize,
@@ -316,7 +319,7 @@ pub fn shown_after(
     }
 }
 
-/// Whether a batch leaves the cursor in column 0 of a terminal.
+/// Returns true if a batch leaves the cursor in column 0 of a terminal.
 pub fn ends_at_start(changes: &[Change]) -> bool {
     matches!(
         changes,

@@ -82,11 +82,11 @@ impl<W: Write> SparingTerminal<W> {
     pub fn send(&mut self, text: &str) -> Result<(), TerminalFault>
         ensures kept { sparing_state self.new ≡ sparing_state self.old }
         ensures sent { let bytes = set_attributes default_attributes ++ text.now in
-            OnOk result (Appends (W.contents self.old.writer) (W.contents self.new.writer) bytes) }
-        ensures next { OnOk result (self.new.encoder ≡ without_attributes self.old.encoder) }
-        ensures known { OnErr result (self.new.encoder ≡ self.old.encoder) }
+            OnOk result (Appends (W.contents self.old.writer) (W.contents self.new.writer) bytes
+            × (self.new.encoder ≡ without_attributes self.old.encoder)) }
+        ensures refused { OnErr result ((self.new.encoder ≡ self.old.encoder)
+            × (self.new.at_start ≡ false)) }
         ensures shown { self.new.shown ≡ None }
-        ensures start { OnErr result (self.new.at_start ≡ false) }
         ensures said { OnOk result (DoesSparingly W.contents self.old self.new (Said text.now)) }
     {
         self.shown = None;
@@ -256,7 +256,7 @@ impl<W: Write> DeviceTerminal for SparingTerminal<W> {
         SparingTerminal::set_screen_size(self, size);
     }
 
-    /// Each batch is sent at once, so nothing changes.
+    /// Changes nothing: each batch is sent at once.
     fn set_more_at_hand(&mut self, _: bool)
         ensures kept { self.new ≡ self.old }
     {}

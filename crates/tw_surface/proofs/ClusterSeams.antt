@@ -20,7 +20,7 @@ use Rattle.unicode_segmentation.specs.Grapheme.{break_by_pair, ends_in_linker, i
 use Rattle.unicode_segmentation.specs.Segments.{cut}
 use Rattle.unicode_segmentation.proofs.BoolLemmas.{or-true}
 use Rattle.unicode_segmentation.proofs.CursorLemmas.{break_between_regionals}
-use Rattle.tw_surface.specs.Clusters.{is_joined}
+use Rattle.tw_surface.specs.Clusters.{is_joined, is_linking}
 
 -- a line end or a control character
 is_control : GraphemeClusterBreak → Bool
@@ -33,12 +33,6 @@ is_control _ = false
 abbrev pub is_mark : IndicConjunctBreak → Bool
 is_mark conjuncts.Extend = true
 is_mark _ = false
-
--- a linker, or such a mark
-abbrev pub is_linking : IndicConjunctBreak → Bool
-is_linking conjuncts.Linker = true
-is_linking conjuncts.Extend = true
-is_linking _ = false
 
 control_no_pictograph : (c : ℕ) → not (is_control (grapheme_cluster_break c) && is_extended_pictographic c) ≡ true
 unfolding is_control ucd_breaks ucd_emoji

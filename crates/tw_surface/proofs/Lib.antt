@@ -16,6 +16,7 @@ pub mod SettledCells
 pub mod RowLemmas
 pub mod ClusterSeams
 pub mod ClusterCuts
+pub mod OpeningLemmas
 pub mod LoneCharacters
 pub mod LoneWidths
 pub mod RunLemmas

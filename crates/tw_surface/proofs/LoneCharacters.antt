@@ -1,29 +1,27 @@
 -- Characters that are a cluster each in a row of them, as their first bytes tell.
-use Rattle.std.proofs.Common.{◌≡◌, ℕ, ◌<◌, ◌≤◌, ◌+◌, ◌/◌, Bool, true, false, not, ◌⊎◌, ◌&&◌, ◌||◌, List, [], ◌∷◌, ◌++◌, map, length, length-append, drop, drop_at, get_or, leb, refl, unwrap_or, sym, ap, subst, ◌∙◌, arith, ⊎_elim}
-use Rattle.std.proofs.lemmas.Bool.{cases_lt, and_parts, not-true, leb-true, false≢true}
+use Rattle.std.proofs.Common.{◌≡◌, ℕ, ◌<◌, ◌≤◌, ◌+◌, ◌-◌, ◌/◌, true, false, not, ◌⊎◌, ◌&&◌, ◌||◌, List, [], ◌∷◌, ◌++◌, length, length-append, drop, drop_at, get_or, leb, refl, sym, ap, subst, ◌∙◌, arith, ⊎_elim}
+use Rattle.std.proofs.lemmas.Bool.{cases_Bool, cases_lt, and_parts, leb-true}
 use Rattle.std.proofs.lemmas.Bool.Decides.{nat_tests}
-use Rattle.std.proofs.lemmas.Str.{chars-nil, encodes-chars, chars_past_char, length-encode, encode_ascii, IsUtf8-past_char, IsCharBoundary-at_seam}
+use Rattle.std.proofs.lemmas.Str.{chars-nil, encodes-chars, chars_past_char, length-encode, encode_ascii, IsUtf8-past_char}
 use Rattle.std.specs.Char.{encode_utf8}
-use Rattle.std.specs.Prelude.{encode_utf8_all, if◌then◌else◌}
-use Rattle.std.specs.Str.{chars, IsUtf8, IsCharBoundary}
+use Rattle.std.specs.Prelude.{encode_utf8_all}
+use Rattle.std.specs.Str.{chars, IsUtf8}
 use Rattle.ucd_table.specs.Rows.{Range, in_ranges}
 use Rattle.ucd_table.proofs.Computing.{tables}
 use Rattle.ucd_table.proofs.Facts.{Stepped-everywhere}
-use Rattle.ucd_table.proofs.Stepped.{of_ranges, zip_stepped}
+use Rattle.ucd_table.proofs.Stepped.{of_ranges, zip_stepped, Stepped}
 use Rattle.ucd_breaks.specs.GraphemeClusterBreak.{grapheme_cluster_break}
-use Rattle.ucd_breaks.specs.declared.GraphemeClusterBreak.{GraphemeClusterBreak}
-use Rattle.ucd_breaks.specs.declared.GraphemeClusterBreak.TheVariants.{Control, Cr, Extend, Lf, Other, SpacingMark, Zwj}
 use Rattle.ucd_breaks.proofs.Computing.{ucd_breaks}
 use Rattle.ucd_breaks.proofs.GraphemeClusterBreakLemmas.{grapheme_cluster_break_stepped}
 use Rattle.ucd_derived.specs.IndicConjunctBreak.{indic_conjunct_break}
 use Rattle.ucd_derived.proofs.Computing.{ucd_derived}
 use Rattle.ucd_derived.proofs.IndicConjunctBreakLemmas.{indic_conjunct_break_stepped}
-use Rattle.unicode_segmentation.specs.Grapheme.{break_by_pair, ends_in_half_flag, is_grapheme_break, graphemes}
-use Rattle.unicode_segmentation.specs.Segments.{cut, prepend}
-use Rattle.tw_surface.proofs.ClusterSeams.{is_linking, ends_in_linker-not}
-use Rattle.tw_surface.proofs.ClusterCuts.{clusters_of, IsFirstCluster-from}
+use Rattle.ucd_emoji.specs.Binary.{is_extended_pictographic}
+use Rattle.ucd_emoji.proofs.BinaryLemmas.{is_extended_pictographic_stepped}
+use Rattle.ucd_emoji.proofs.Computing.{ucd_emoji}
 use Rattle.tw_surface.specs.Characters.{is_printable}
-use Rattle.tw_surface.specs.Clusters.{lone_len, is_joined, starts_apart, IsFirstCluster}
+use Rattle.tw_surface.specs.Clusters.{is_linking, is_other, is_picture, picture_blocks, lone_columns, lone_len, lone_ranges, narrow_blocks, stands_alone, starts_apart, wide_blocks, IsFirstCluster}
+use Rattle.tw_surface.proofs.OpeningLemmas.{first_opened, opens_alone, starts_alone}
 
 -- Latin, Greek and Cyrillic of two bytes
 abbrev pub two_bytes : List Range
@@ -67,6 +65,12 @@ first_three c low high = grind (arith, nat_tests)
 first_four : (c : ℕ) → 65536 ≤ c → get_or (encode_utf8 c) 0 0 ≡ 240 + c / 262144
 unfolding encode_utf8
 first_four c low = grind (arith, nat_tests)
+
+pub first_high : (c : ℕ) → 0xA0 < c → 14 ≤ get_or (encode_utf8 c) 0 0
+first_high c above =
+    ⊎_elim (λ two. rw (first_two c (omega arith) two) (omega arith))
+    (λ more. ⊎_elim (λ three. rw (first_three c more three) (omega arith)) (λ four. rw (first_four c four) (omega arith)) (cases_lt c 65536))
+    (cases_lt c 2048)
 
 -- which such a byte tells
 lone_one : (c b : ℕ) → b ≡ get_or (encode_utf8 c) 0 0 → 0 < lone_len b → c < 128 → IsLone c (lone_len b)
@@ -122,7 +126,7 @@ get_or-front : (xs ys : List ℕ) → 0 < length xs → get_or xs 0 0 ≡ get_or
 get_or-front [] ys some = absurd (omega arith)
 get_or-front (x ∷ xs) ys some = refl
 
-some_bytes : (c : ℕ) → 0 < length (encode_utf8 c)
+pub some_bytes : (c : ℕ) → 0 < length (encode_utf8 c)
 some_bytes c = let bytes : 1 ≤ length (encode_utf8 c) = rw (length-encode c) (grind (arith, nat_tests)) in omega arith
 
 pub BeginsLone-from : (text : List ℕ) → IsUtf8 text → 0 < length text → 0 < lone_len (get_or text 0 0) → BeginsLone text
@@ -144,25 +148,27 @@ BeginsLone-from text u some lone = by (chars text) refl
 
 -- ---- what the tables say of them
 
-abbrev lone_ranges : List Range
-lone_ranges = (0x20, 0x7E) ∷ (0xC0, 0x2FF) ∷ (0x380, 0x47F) ∷ (0x4000, 0x9FFF) ∷ []
+abbrev alone_stepped : Stepped stands_alone
+alone_stepped = zip_stepped (λ g v. is_other g && not (is_linking v)) grapheme_cluster_break indic_conjunct_break grapheme_cluster_break_stepped indic_conjunct_break_stepped
 
-is_other : GraphemeClusterBreak → Bool
-is_other Other = true
-is_other _ = false
+lone_facts : (c : ℕ) → (not (in_ranges lone_ranges c) || stands_alone c) ≡ true
+unfolding tables ucd_breaks ucd_derived
+lone_facts = Stepped-everywhere _ (zip_stepped (λ inside alone. not inside || alone) (in_ranges lone_ranges) stands_alone (of_ranges lone_ranges refl) alone_stepped) refl
 
-other-is : (g : GraphemeClusterBreak) → is_other g ≡ true → g ≡ Other
-unfolding is_other
-other-is Other h = refl
-other-is _ h = absurd (false≢true h)
+narrow_facts : (c : ℕ) → (not (in_ranges narrow_blocks c) || stands_alone c) ≡ true
+unfolding tables ucd_breaks ucd_derived
+narrow_facts = Stepped-everywhere _ (zip_stepped (λ inside alone. not inside || alone) (in_ranges narrow_blocks) stands_alone (of_ranges narrow_blocks refl) alone_stepped) refl
 
-lone_facts : (c : ℕ) → (not (in_ranges lone_ranges c) || (is_other (grapheme_cluster_break c) && not (is_linking (indic_conjunct_break c)))) ≡ true
-unfolding is_other tables ucd_breaks ucd_derived
-lone_facts =
+wide_facts : (c : ℕ) → (not (in_ranges wide_blocks c) || stands_alone c) ≡ true
+unfolding tables ucd_breaks ucd_derived
+wide_facts = Stepped-everywhere _ (zip_stepped (λ inside alone. not inside || alone) (in_ranges wide_blocks) stands_alone (of_ranges wide_blocks refl) alone_stepped) refl
+
+picture_facts : (c : ℕ) → (not (in_ranges picture_blocks c) || is_picture c) ≡ true
+unfolding tables ucd_breaks ucd_derived ucd_emoji
+picture_facts =
     Stepped-everywhere _
-    (zip_stepped (λ inside alone. not inside || alone) (in_ranges lone_ranges) (λ c. is_other (grapheme_cluster_break c) && not (is_linking (indic_conjunct_break c)))
-    (of_ranges lone_ranges refl)
-    (zip_stepped (λ g v. is_other g && not (is_linking v)) grapheme_cluster_break indic_conjunct_break grapheme_cluster_break_stepped indic_conjunct_break_stepped))
+    (zip_stepped (λ inside is. not inside || is) (in_ranges picture_blocks) is_picture (of_ranges picture_blocks refl)
+    (zip_stepped (λ alone extended. alone && extended) stands_alone is_extended_pictographic alone_stepped is_extended_pictographic_stepped))
     refl
 
 in_lone_ranges : (c width : ℕ) → IsLone c width → 0 < width → width ≤ 3 → in_ranges lone_ranges c ≡ true
@@ -179,97 +185,61 @@ in_lone_ranges c width lone some few =
     (cases_lt width 3))
     (cases_lt width 2)
 
-pub record StandsAlone (c : ℕ) : Type 0 where
-  pub other : grapheme_cluster_break c ≡ Other
-  pub no_linker : is_linking (indic_conjunct_break c) ≡ false
+pub picture_in_block : (c : ℕ) → in_ranges picture_blocks c ≡ true → is_picture c ≡ true
+picture_in_block c inside = rw inside at (picture_facts c)
 
-StandsAlone-from : (c width : ℕ) → IsLone c width → 0 < width → width ≤ 3 → StandsAlone c
-StandsAlone-from c width lone some few =
-    let facts = and_parts (is_other (grapheme_cluster_break c)) (not (is_linking (indic_conjunct_break c))) (rw (in_lone_ranges c width lone some few) at (lone_facts c)) in
-    record { other = other-is (grapheme_cluster_break c) facts.0; no_linker = not-true _ facts.1 }
+pub alone_in_range : (c : ℕ) → in_ranges lone_ranges c ≡ true → stands_alone c ≡ true
+alone_in_range c inside = rw inside at (lone_facts c)
 
--- no rule joins a character to one of them unless that character itself asks for it
-no_pair : (g : GraphemeClusterBreak) (rest : Bool) → is_joined g ≡ false → unwrap_or (break_by_pair true Other g) (not (false || false || false)) ≡ true
-no_pair Control rest h = refl
-no_pair Cr rest h = refl
-no_pair Lf rest h = refl
-no_pair Extend rest h = sym h
-no_pair Zwj rest h = sym h
-no_pair SpacingMark rest h = sym h
-no_pair _ rest h = refl
+-- what is in no block has no columns there
+pub no_columns : (c : ℕ) → in_ranges narrow_blocks c ≡ false → in_ranges wide_blocks c ≡ false → lone_columns c ≡ 0
+no_columns c narrow wide = rw (narrow, wide) refl
 
--- so a cluster ends after it
-breaks_behind : (c d : ℕ) (after : List ℕ) → StandsAlone c → is_joined (grapheme_cluster_break d) ≡ false → is_grapheme_break true (c ∷ []) (d ∷ after) ≡ true
-unfolding is_grapheme_break ends_in_half_flag
-breaks_behind c d after h apart =
-    rw (h.other, ends_in_linker-not (indic_conjunct_break c) [] h.no_linker) (no_pair (grapheme_cluster_break d) true apart)
+pub alone_in_block : (c : ℕ) → 0 < lone_columns c → stands_alone c ≡ true
+alone_in_block c some =
+    ⊎_elim (λ narrow. rw narrow at (narrow_facts c))
+    (λ other. ⊎_elim (λ wide. rw wide at (wide_facts c))
+    (λ none. absurd (omega (arith, some, no_columns c other none)))
+    (cases_Bool (in_ranges wide_blocks c)))
+    (cases_Bool (in_ranges narrow_blocks c))
 
 lone_len-few : (b : ℕ) → lone_len b ≤ 3
 lone_len-few b = grind (arith, nat_tests)
 
-length-zero : (xs : List ℕ) → length xs ≡ 0 → xs ≡ []
-length-zero [] e = refl
-length-zero (x ∷ xs) e = absurd (omega arith)
+-- a character that its first byte tells
+pub alone_by_byte : (text : List ℕ) → 0 < lone_len (get_or text 0 0) → (first : BeginsLone text) → stands_alone first.character ≡ true
+alone_by_byte text lone first = alone_in_range first.character (in_lone_ranges first.character _ first.lone lone (lone_len-few (get_or text 0 0)))
 
-module _ (text : List ℕ) (u : IsUtf8 text) (some : 0 < length text) (width : ℕ) (is : width ≡ lone_len (get_or text 0 0)) (lone : 0 < width) where
-  pub begins : BeginsLone text
-  begins = BeginsLone-from text u some (rw (← is) lone)
+-- a text that is one character
+pub only_character : (text rest : List ℕ) (c : ℕ) → IsUtf8 text → text ≡ encode_utf8 c ++ rest → length text ≤ length (encode_utf8 c) → chars text ≡ c ∷ []
+only_character text rest c u whole end =
+    let parts : length text ≡ length (encode_utf8 c) + length rest = ap length whole ∙ length-append (encode_utf8 c) rest in
+    let none : rest ≡ [] = length-zero rest (omega (arith, parts)) in
+    chars_past_char text rest c u whole ∙ ap (λ t. c ∷ chars t) none ∙ ap (λ t. c ∷ t) chars-nil
+  where
+    length-zero : (xs : List ℕ) → length xs ≡ 0 → xs ≡ []
+    length-zero [] e = refl
+    length-zero (x ∷ xs) e = absurd (omega arith)
 
-  few : width ≤ 3
-  few = rw is (lone_len-few (get_or text 0 0))
+-- ---- first clusters of such texts
 
-  bytes : length (encode_utf8 begins.character) ≡ width
-  bytes = begins.lone.bytes ∙ sym is
-
-  parts : length text ≡ width + length begins.rest
-  parts = ap length begins.whole ∙ length-append (encode_utf8 begins.character) begins.rest ∙ ap (λ n. n + length begins.rest) bytes
-
-  alone : StandsAlone begins.character
-  alone = StandsAlone-from begins.character width (subst (IsLone begins.character) (sym is) begins.lone) lone few
-
-  pub alone_is : length text ≤ width → chars text ≡ begins.character ∷ []
-  alone_is end =
-      let none : begins.rest ≡ [] = length-zero begins.rest (omega (arith, parts)) in
-      chars_past_char text begins.rest begins.character u begins.whole ∙ ap (λ t. begins.character ∷ chars t) none ∙ ap (λ t. begins.character ∷ t) chars-nil
-
-  first_piece : (ps : List (List ℕ)) → graphemes true text ≡ encode_utf8_all (begins.character ∷ []) ∷ ps → IsFirstCluster text width
-  first_piece ps e =
-      subst (IsFirstCluster text) (length-append (encode_utf8 begins.character) [] ∙ omega (arith, bytes))
-      (IsFirstCluster-from text u (encode_utf8_all (begins.character ∷ [])) ps e)
-
-  -- where the text ends after such a character, its cluster does
-  pub first_alone : length text ≤ width → IsFirstCluster text width
-  unfolding cut is_grapheme_break
-  first_alone end = first_piece [] (clusters_of text (begins.character ∷ []) (alone_is end))
-
-  -- and where none that joins it stands after it
-  pub first_before : width < length text → starts_apart (chars (drop width text)) ≡ true → IsFirstCluster text width
-  unfolding cut
-  first_before inside apart =
-      let c = begins.character in
-      let from : drop width text ≡ begins.rest = ap (drop width) begins.whole ∙ drop_at (encode_utf8 c) begins.rest width bytes in
-      by (chars begins.rest) refl (ap (λ t. starts_apart (chars t)) (sym from) ∙ apart)
-    where
-      by : (cs : List ℕ) → chars begins.rest ≡ cs → starts_apart (chars begins.rest) ≡ true → IsFirstCluster text width
-      by [] none apart =
-          let empty : length begins.rest ≡ 0 = ap length (sym (encodes-chars begins.rest begins.utf8) ∙ ap encode_utf8_all none) in
-          absurd (omega (arith, parts))
-      by (d ∷ cs) rest apart =
-          let c = begins.character in
-          let is : chars text ≡ c ∷ d ∷ cs = chars_past_char text begins.rest c u begins.whole ∙ ap (λ t. c ∷ t) rest in
-          let after = cut (is_grapheme_break true) (c ∷ []) (d ∷ cs) [] in
-          let breaks = breaks_behind c d (cs ++ []) alone (not-true _ (ap starts_apart (sym rest) ∙ apart)) in
-          let cut_there : map encode_utf8_all (cut (is_grapheme_break true) [] (c ∷ d ∷ cs) []) ≡ encode_utf8_all (c ∷ []) ∷ map encode_utf8_all after =
-          ap (λ b. map encode_utf8_all (if b then (c ∷ []) ∷ after else prepend (c ∷ []) after)) breaks in
-          first_piece (map encode_utf8_all after) (clusters_of text (c ∷ d ∷ cs) is ∙ cut_there)
-
-  -- after it begins a character
-  pub boundary_behind : IsCharBoundary text width
-  boundary_behind = subst (IsCharBoundary text) bytes (IsCharBoundary-at_seam text (encode_utf8 begins.character) begins.rest begins.whole begins.utf8)
-
--- another one of them does not join it
 pub lone_starts_apart : (text : List ℕ) → IsUtf8 text → 0 < length text → 0 < lone_len (get_or text 0 0) → starts_apart (chars text) ≡ true
 lone_starts_apart text u some lone =
-    let first = BeginsLone-from text u some lone in
-    let alone = StandsAlone-from first.character (lone_len (get_or text 0 0)) first.lone lone (lone_len-few (get_or text 0 0)) in
-    ap starts_apart (chars_past_char text first.rest first.character u first.whole) ∙ ap (λ g. not (is_joined g)) alone.other
+    let first = BeginsLone-from text u some lone in starts_alone text first.rest first.character u first.whole (alone_by_byte text lone first)
+
+pub nothing_starts_apart : (text : List ℕ) → length text ≡ 0 → starts_apart (chars text) ≡ true
+nothing_starts_apart [] none = ap starts_apart chars-nil
+nothing_starts_apart (b ∷ bs) none = absurd (omega arith)
+
+pub first_by_byte : (text : List ℕ) → IsUtf8 text → 0 < length text → (len : ℕ) → len ≡ lone_len (get_or text 0 0) → 0 < len
+    → ((rest : List ℕ) → IsUtf8 rest → rest ≡ drop len text → starts_apart (chars rest) ≡ true) → IsFirstCluster text len
+first_by_byte text u some len is lone apart =
+    let first = BeginsLone-from text u some (rw (← is) lone) in
+    let c = first.character in
+    let bytes : length (encode_utf8 c) ≡ len = first.lone.bytes ∙ sym is in
+    let from : drop len text ≡ first.rest = ap (drop len) first.whole ∙ drop_at (encode_utf8 c) first.rest len bytes in
+    let parts = ap length first.whole ∙ length-append (encode_utf8 c) first.rest in
+    let size : length text - length first.rest ≡ len = omega (arith, parts, bytes) in
+    subst (IsFirstCluster text) size
+    (first_opened text first.rest u first.utf8 (opens_alone text first.rest c first.whole (alone_by_byte text (rw (← is) lone) first))
+    (apart first.rest first.utf8 (sym from)))

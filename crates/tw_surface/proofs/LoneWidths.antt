@@ -1,23 +1,28 @@
 -- The columns of characters that are a cluster each in a row of them.
-use Rattle.std.proofs.Common.{◌≡◌, ℕ, ◌<◌, ◌≤◌, Bool, true, false, not, ◌||◌, nat_lt, List, [], ◌∷◌, length, get_or, refl, sym, ap, subst, ◌∙◌, arith, add-zero, le_refl, ⊎_elim}
-use Rattle.std.proofs.lemmas.Bool.{false≢true, and_from, cases_lt, cases_eq}
+use Rattle.std.proofs.Common.{◌≡◌, ℕ, ◌<◌, ◌≤◌, Bool, true, false, not, ◌&&◌, ◌||◌, ◌-◌, eqb, leb, nat_lt, List, [], ◌∷◌, ◌++◌, length, length-append, get_or, take, take_at, drop, drop_at, refl, sym, ap, ap₂, subst, ◌∙◌, arith, append-nil, ⊎_elim}
+use Rattle.std.proofs.lemmas.Bool.{false≢true, and_from, and_parts, leb-true, cases_Bool, cases_lt, cases_eq}
 use Rattle.std.proofs.lemmas.Bool.Decides.{nat_tests}
-use Rattle.std.proofs.lemmas.List.Sums.{sum_by-cons}
+use Rattle.std.proofs.lemmas.Str.{chars_past_char, scalars-chars, IsUtf8-encode, IsUtf8-past_char}
+use Rattle.std.proofs.Math.Utf8.{scalar, scalars}
+use Rattle.std.specs.Char.{encode_utf8}
 use Rattle.std.specs.Str.{chars, IsUtf8}
-use Rattle.ucd_table.specs.Rows.{in_ranges}
+use Rattle.ucd_table.specs.Rows.{Range, in_ranges}
 use Rattle.ucd_table.proofs.Computing.{tables}
 use Rattle.ucd_table.proofs.Facts.{Stepped-everywhere}
 use Rattle.ucd_table.proofs.Stepped.{of_ranges, zip_stepped}
+use Rattle.unicode_segmentation.specs.Grapheme.{graphemes}
 use Rattle.unicode_width.specs.declared.kind.Kind.{Kind}
 use Rattle.unicode_width.specs.declared.kind.Kind.TheVariants as kinds
 use Rattle.unicode_width.specs.Kind.{kind}
-use Rattle.unicode_width.specs.Width.{of_kind, alone, char_width, str_width}
+use Rattle.unicode_width.specs.Width.{of_kind, alone, in_context, joins, past_emoji, past_selectors, step, str_width}
 use Rattle.unicode_width.proofs.KindLemmas.{kind_stepped}
-use Rattle.unicode_width.proofs.Rules.{is_simple, is_simple_kind, width_or_zero, str_width-simple, str_width-printable}
-use Rattle.unicode_segmentation.proofs.BoolLemmas.{or-true}
-use Rattle.tw_surface.specs.Clusters.{lone_len}
+use Rattle.unicode_width.proofs.Rules.{str_width-printable}
+use Rattle.tw_surface.specs.Clusters.{flag_letters, lone_columns, lone_len, narrow_blocks, starts_apart, wide_blocks, IsFlag}
 use Rattle.tw_surface.specs.Width.{cluster_width}
-use Rattle.tw_surface.proofs.LoneCharacters.{two_bytes, three_bytes, IsLone, begins, alone_is}
+use Rattle.tw_surface.specs.Places.{cluster_piece, IsWideSplit}
+use Rattle.tw_surface.specs.declared.measure.Piece.TheVariants.{Wide}
+use Rattle.tw_surface.proofs.OpeningLemmas.{first_opened, opens_alone}
+use Rattle.tw_surface.proofs.LoneCharacters.{two_bytes, three_bytes, alone_in_block, first_high, some_bytes, BeginsLone, BeginsLone-from, IsLone, no_columns, only_character}
 
 is_narrow : Kind → Bool
 is_narrow kinds.Narrow = true
@@ -26,6 +31,7 @@ is_narrow _ = false
 
 is_wide : Kind → Bool
 is_wide kinds.Wide = true
+is_wide kinds.Emoji = true
 is_wide _ = false
 
 narrow_kinds : (c : ℕ) → (not (in_ranges two_bytes c) || is_narrow (kind c)) ≡ true
@@ -36,45 +42,150 @@ wide_kinds : (c : ℕ) → (not (in_ranges three_bytes c) || is_wide (kind c)) �
 unfolding is_wide tables kind_stepped
 wide_kinds = Stepped-everywhere _ (zip_stepped (λ inside k. not inside || is_wide k) (in_ranges three_bytes) kind (of_ranges three_bytes refl) kind_stepped) refl
 
--- such kinds say the columns, and join nothing
-narrow-is : (c : ℕ) (k : Kind) → is_narrow k ≡ true → (is_simple_kind k ≡ true) × ((of_kind false c k).0 ≡ 1)
+narrow_block_kinds : (c : ℕ) → (not (in_ranges narrow_blocks c) || is_narrow (kind c)) ≡ true
+unfolding is_narrow tables kind_stepped
+narrow_block_kinds = Stepped-everywhere _ (zip_stepped (λ inside k. not inside || is_narrow k) (in_ranges narrow_blocks) kind (of_ranges narrow_blocks refl) kind_stepped) refl
+
+wide_block_kinds : (c : ℕ) → (not (in_ranges wide_blocks c) || is_wide (kind c)) ≡ true
+unfolding is_wide tables kind_stepped
+wide_block_kinds = Stepped-everywhere _ (zip_stepped (λ inside k. not inside || is_wide k) (in_ranges wide_blocks) kind (of_ranges wide_blocks refl) kind_stepped) refl
+
+-- such kinds say the columns
+narrow-is : (c : ℕ) (k : Kind) → is_narrow k ≡ true → (of_kind false c k).0 ≡ 1
 unfolding is_narrow
-narrow-is c kinds.Narrow h = (refl, refl)
-narrow-is c kinds.Ambiguous h = (refl, refl)
+narrow-is c kinds.Narrow h = refl
+narrow-is c kinds.Ambiguous h = refl
 narrow-is c _ h = absurd (false≢true h)
 
-wide-is : (c : ℕ) (k : Kind) → is_wide k ≡ true → (is_simple_kind k ≡ true) × ((of_kind false c k).0 ≡ 2)
+wide-is : (c : ℕ) (k : Kind) → is_wide k ≡ true → (of_kind false c k).0 ≡ 2
 unfolding is_wide
-wide-is c kinds.Wide h = (refl, refl)
+wide-is c kinds.Wide h = refl
+wide-is c kinds.Emoji h = refl
 wide-is c _ h = absurd (false≢true h)
 
-above : (c : ℕ) → in_ranges two_bytes c ≡ true → 0xA0 < c
-unfolding in_ranges
-above c h = grind (arith, nat_tests, h)
+-- every block lies above Latin's control characters
+abbrev above_latin : (ranges : List Range) → Bool
+above_latin [] = true
+above_latin ((from, to) ∷ ranges) = nat_lt 0xA0 from && above_latin ranges
 
-far_above : (c : ℕ) → in_ranges three_bytes c ≡ true → 0xA0 < c
+block_above : (ranges : List Range) (c : ℕ) → above_latin ranges ≡ true → in_ranges ranges c ≡ true → 0xA0 < c
 unfolding in_ranges
-far_above c h = grind (arith, nat_tests, h)
+block_above [] c all inside = absurd (false≢true inside)
+block_above ((from, to) ∷ ranges) c all inside =
+    let parts = and_parts (nat_lt 0xA0 from) (above_latin ranges) all in
+    ⊎_elim (λ there. block_above ranges c parts.1 there)
+    (λ out.
+    let here : (leb from c && leb c to) ≡ true = grind (arith, nat_tests, inside, out) in
+    let above : 0xA0 < from = grind (arith, nat_tests, parts.0) in
+    let within : from ≤ c = leb-true from c (and_parts (leb from c) (leb c to) here).0 in
+    omega (arith, above, within))
+    (cases_Bool (in_ranges ranges c))
 
 -- so its columns are those of the text that it makes
-width_of_one : (c n : ℕ) → 0xA0 < c → is_simple_kind (kind c) ≡ true → (of_kind false c (kind c)).0 ≡ n → str_width false (c ∷ []) ≡ n
-unfolding char_width alone
-width_of_one c n high simple own =
-    let above : nat_lt 0xA0 c ≡ true = grind (arith, nat_tests) in
-    let is : is_simple c ≡ true = rw (above, simple) (or-true _) in
-    let width : width_or_zero false c ≡ n = grind (arith, nat_tests, own) in
-    str_width-simple false (c ∷ []) (and_from _ _ is refl) ∙ sum_by-cons (width_or_zero false) c [] ∙ add-zero (width_or_zero false c) ∙ width
+width_of_one : (c n : ℕ) → 0xA0 < c → (of_kind false c (kind c)).0 ≡ n → str_width false (c ∷ []) ≡ n
+unfolding str_width step past_emoji alone
+width_of_one c n high own = grind (arith, nat_tests, own)
 
--- the columns of a text that is one such character
+narrow_columns : (c : ℕ) → in_ranges narrow_blocks c ≡ true → 1 ≡ lone_columns c
+narrow_columns c narrow = rw narrow refl
+
+wide_columns : (c : ℕ) → in_ranges narrow_blocks c ≡ false → in_ranges wide_blocks c ≡ true → 2 ≡ lone_columns c
+wide_columns c other wide = rw (other, wide) refl
+
+block_columns : (c : ℕ) → 0 < lone_columns c → str_width false (c ∷ []) ≡ lone_columns c
+block_columns c some =
+    ⊎_elim
+    (λ narrow. width_of_one c 1 (block_above narrow_blocks c refl narrow) (narrow-is c (kind c) (rw narrow at (narrow_block_kinds c))) ∙ narrow_columns c narrow)
+    (λ other. ⊎_elim
+    (λ wide. width_of_one c 2 (block_above wide_blocks c refl wide) (wide-is c (kind c) (rw wide at (wide_block_kinds c))) ∙ wide_columns c other wide)
+    (λ none. absurd (omega (arith, some, no_columns c other none)))
+    (cases_Bool (in_ranges wide_blocks c)))
+    (cases_Bool (in_ranges narrow_blocks c))
+
+block_low : (c : ℕ) → 0 < lone_columns c → 0xA0 < c
+block_low c some =
+    ⊎_elim (block_above narrow_blocks c refl)
+    (λ other. ⊎_elim (block_above wide_blocks c refl)
+    (λ none. absurd (omega (arith, some, no_columns c other none)))
+    (cases_Bool (in_ranges wide_blocks c)))
+    (cases_Bool (in_ranges narrow_blocks c))
+
+no_line_end : (cluster : List ℕ) → 14 ≤ get_or cluster 0 0 → cluster_piece cluster ≡ Wide (cluster_width cluster)
+no_line_end [] low = absurd (omega arith)
+no_line_end (b ∷ bs) low =
+    let no_cr : eqb b 13 ≡ false = grind (arith, nat_tests) in
+    let no_lf : eqb b 10 ≡ false = grind (arith, nat_tests) in
+    rw (no_cr, no_lf) refl
+
+-- a character of a block before what does not join it
+pub wide_split : (text rest : List ℕ) (c : ℕ) → IsUtf8 text → IsUtf8 rest → text ≡ encode_utf8 c ++ rest → 0 < lone_columns c
+    → starts_apart (chars rest) ≡ true → IsWideSplit text (lone_columns c) rest
+wide_split text rest c u v whole some apart =
+    let cluster = encode_utf8 c in
+    let first = first_opened text rest u v (opens_alone text rest c whole (alone_in_block c some)) apart in
+    let all : scalars (c ∷ chars rest) ≡ true = ap scalars (sym (chars_past_char text rest c u whole)) ∙ scalars-chars text u in
+    let own : chars cluster ≡ c ∷ [] = only_character cluster [] c (IsUtf8-encode c (and_parts (scalar c) (scalars (chars rest)) all).0) (sym (append-nil cluster)) (omega arith) in
+    let parts = ap length whole ∙ length-append cluster rest in
+    let end : length cluster ≡ length text - length rest = omega (arith, parts) in
+    let front : take (length text - length rest) text ≡ cluster = rw (← end) (ap (take (length cluster)) whole ∙ take_at cluster rest (length cluster) refl) in
+    let behind : drop (length text - length rest) text ≡ rest = rw (← end) (ap (drop (length cluster)) whole ∙ drop_at cluster rest (length cluster) refl) in
+    let width : cluster_width cluster ≡ lone_columns c = ap (str_width false) own ∙ block_columns c some in
+    record {
+      cluster = cluster;
+      split = (whole, some_bytes c, first.first ∙ ap₂ (λ t d. t ∷ graphemes true d) front behind);
+      width = width;
+      piece = no_line_end cluster (first_high c (block_low c some)) ∙ ap Wide width;
+      bound = grind (arith, nat_tests);
+    }
+
+-- a flag takes two
+
+is_half : Kind → Bool
+is_half kinds.RegionalIndicator = true
+is_half _ = false
+
+half_kinds : (c : ℕ) → (not (in_ranges flag_letters c) || is_half (kind c)) ≡ true
+unfolding is_half tables kind_stepped
+half_kinds = Stepped-everywhere _ (zip_stepped (λ inside k. not inside || is_half k) (in_ranges flag_letters) kind (of_ranges flag_letters refl) kind_stepped) refl
+
+half-is : (k : Kind) → is_half k ≡ true → k ≡ kinds.RegionalIndicator
+unfolding is_half
+half-is kinds.RegionalIndicator h = refl
+half-is _ h = absurd (false≢true h)
+
+half_range : (c : ℕ) → in_ranges flag_letters c ≡ true → (0x1F1E6 ≤ c) × (c ≤ 0x1F1FF)
+unfolding in_ranges
+half_range c inside = (grind (arith, nat_tests, inside), grind (arith, nat_tests, inside))
+
+flag_columns : (c d : ℕ) → in_ranges flag_letters c ≡ true → in_ranges flag_letters d ≡ true → str_width false (c ∷ d ∷ []) ≡ 2
+unfolding str_width step past_emoji alone in_context past_selectors joins
+flag_columns c d first second =
+    let left = half_range c first in
+    let right = half_range d second in
+    let last : kind d ≡ kinds.RegionalIndicator = half-is (kind d) (rw second at (half_kinds d)) in
+    grind (arith, nat_tests, left.0, left.1, right.0, right.1, last)
+
+pub flag_width : (text : List ℕ) → IsUtf8 text → IsFlag text → 2 ≡ cluster_width text
+flag_width text u (c, d, whole, first, second) =
+    let rest = encode_utf8 d in
+    let v = IsUtf8-past_char text rest c u whole in
+    let end = only_character rest [] d v (sym (append-nil rest)) (omega arith) in
+    let is : chars text ≡ c ∷ d ∷ [] = chars_past_char text rest c u whole ∙ ap (λ t. c ∷ t) end in
+    sym (ap (str_width false) is ∙ flag_columns c d first second)
+
+-- the columns of a text that is one character which its first byte tells
 module _ (text : List ℕ) (u : IsUtf8 text) (some : 0 < length text) (whole : length text ≡ lone_len (get_or text 0 0)) where
+  begins : BeginsLone text
+  begins = BeginsLone-from text u some (rw (← whole) some)
+
   abbrev character : ℕ
-  character = (begins text u some (length text) whole some).character
+  character = begins.character
 
   lone : IsLone character (length text)
-  lone = subst (IsLone character) (sym whole) (begins text u some (length text) whole some).lone
+  lone = subst (IsLone character) (sym whole) begins.lone
 
   is : chars text ≡ character ∷ []
-  is = alone_is text u some (length text) whole some (le_refl (length text))
+  is = only_character text begins.rest character u begins.whole (omega (arith, whole, begins.lone.bytes))
 
   pub ascii_width : length text ≡ 1 → 1 ≡ cluster_width text
   ascii_width one = sym (ap (str_width false) is ∙ str_width-printable false (character ∷ []) (and_from _ _ (lone.ascii one) refl))
@@ -83,13 +194,13 @@ module _ (text : List ℕ) (u : IsUtf8 text) (some : 0 < length text) (whole : l
   two_bytes_width two =
       let inside = lone.two two in
       let is_kind = narrow-is character (kind character) (rw inside at (narrow_kinds character)) in
-      sym (ap (str_width false) is ∙ width_of_one character 1 (above character inside) is_kind.0 is_kind.1)
+      sym (ap (str_width false) is ∙ width_of_one character 1 (block_above two_bytes character refl inside) is_kind)
 
   pub han_width : length text ≡ 3 → 2 ≡ cluster_width text
   han_width three =
       let inside = lone.three three in
       let is_kind = wide-is character (kind character) (rw inside at (wide_kinds character)) in
-      sym (ap (str_width false) is ∙ width_of_one character 2 (far_above character inside) is_kind.0 is_kind.1)
+      sym (ap (str_width false) is ∙ width_of_one character 2 (block_above three_bytes character refl inside) is_kind)
 
   pub narrow_width : length text ≤ 3 → (length text ≡ 3 → ⊥) → 1 ≡ cluster_width text
   narrow_width few other =

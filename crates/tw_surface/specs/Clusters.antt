@@ -1,9 +1,14 @@
 -- A text cut after its first extended grapheme cluster.
-use Rattle.std.specs.Prelude.{ℕ, ◌<◌, ◌≡◌, Bool, true, false, not, ◌&&◌, ◌||◌, leb, List, [], ◌∷◌, ◌++◌, length, take, drop, if◌then◌else◌}
+use Rattle.std.specs.Prelude.{ℕ, ◌<◌, ◌≡◌, Bool, true, false, not, ◌&&◌, ◌||◌, leb, List, [], ◌∷◌, ◌++◌, encode_utf8, length, take, drop, if◌then◌else◌}
 use Rattle.std.specs.Str.{IsCharBoundary}
+use Rattle.ucd_table.specs.Rows.{Range, in_ranges}
 use Rattle.ucd_breaks.specs.GraphemeClusterBreak.{grapheme_cluster_break}
 use Rattle.ucd_breaks.specs.declared.GraphemeClusterBreak.{GraphemeClusterBreak}
-use Rattle.ucd_breaks.specs.declared.GraphemeClusterBreak.TheVariants.{Extend, SpacingMark, Zwj}
+use Rattle.ucd_breaks.specs.declared.GraphemeClusterBreak.TheVariants.{Extend, Other, SpacingMark, Zwj}
+use Rattle.ucd_derived.specs.IndicConjunctBreak.{indic_conjunct_break}
+use Rattle.ucd_emoji.specs.Binary.{is_extended_pictographic}
+use Rattle.ucd_derived.specs.declared.IndicConjunctBreak.{IndicConjunctBreak}
+use Rattle.ucd_derived.specs.declared.IndicConjunctBreak.TheVariants as conjuncts
 use Rattle.unicode_segmentation.specs.Grapheme.{graphemes}
 use Rattle.tw_surface.specs.Characters.{is_printable}
 
@@ -16,12 +21,88 @@ lone_len lead =
     else if leb 0xE4 lead && leb lead 0xE9 then 3
     else 0
 
+-- the characters that such bytes begin
+abbrev pub lone_ranges : List Range
+lone_ranges = (0x20, 0x7E) ∷ (0xC0, 0x2FF) ∷ (0x380, 0x47F) ∷ (0x4000, 0x9FFF) ∷ []
+
+-- two of these are a flag
+abbrev pub flag_letters : List Range
+flag_letters = (0x1F1E6, 0x1F1FF) ∷ []
+
+abbrev pub IsFlag : List ℕ → Type 0
+IsFlag text =
+    (c : ℕ) × (d : ℕ) × (text ≡ encode_utf8 c ++ encode_utf8 d)
+    × (in_ranges flag_letters c ≡ true) × (in_ranges flag_letters d ≡ true)
+
+-- characters of one column that are a cluster each before any that does not join them: letters of Hebrew and Arabic,
+-- accented Latin and Greek, punctuation, arrows, mathematics, box drawing, Braille, private use, halfwidth kana
+abbrev pub narrow_blocks : List Range
+narrow_blocks =
+    (0x05D0, 0x05DB) ∷ (0x05DD, 0x05FF) ∷ (0x0628, 0x064A) ∷ (0x0676, 0x06D5) ∷ (0x1E00, 0x200A) ∷ (0x2010, 0x2027)
+    ∷ (0x2070, 0x20CF) ∷ (0x20F1, 0x2319) ∷ (0x232B, 0x23E8) ∷ (0x23F4, 0x25FC) ∷ (0x27C0, 0x2B1A) ∷ (0xE000, 0xF8FF)
+    ∷ (0xFF61, 0xFF9D) ∷ []
+
+-- emoji
+abbrev pub picture_blocks : List Range
+picture_blocks =
+    (0x1F300, 0x1F320) ∷ (0x1F337, 0x1F37C) ∷ (0x1F3A0, 0x1F3CA) ∷ (0x1F400, 0x1F43E) ∷ (0x1F442, 0x1F4FC)
+    ∷ (0x1F4FF, 0x1F53D) ∷ (0x1F5FB, 0x1F64F) ∷ (0x1F680, 0x1F6C5) ∷ (0x1F90C, 0x1F93A) ∷ (0x1F947, 0x1F9FF) ∷ []
+
+-- the same of two columns: kana, Hanzi with their marks, fullwidth forms, emoji
+abbrev pub wide_blocks : List Range
+wide_blocks =
+    (0x3000, 0x3029) ∷ (0x3041, 0x3096) ∷ (0x309B, 0x30FF) ∷ (0x3250, 0xA48C) ∷ (0xF900, 0xFAFF) ∷ (0xFF01, 0xFF60)
+    ∷ picture_blocks
+
+-- the columns of such a character. Else 0
+abbrev pub lone_columns : ℕ → ℕ
+lone_columns c = if in_ranges narrow_blocks c then 1 else if in_ranges wide_blocks c then 2 else 0
+
 -- a character that joins whatever stands before it, if that is no line end and no control character
 abbrev pub is_joined : GraphemeClusterBreak → Bool
 is_joined Extend = true
 is_joined Zwj = true
 is_joined SpacingMark = true
 is_joined _ = false
+
+-- a linker of conjuncts, or a mark that may stand behind one
+abbrev pub is_linking : IndicConjunctBreak → Bool
+is_linking conjuncts.Linker = true
+is_linking conjuncts.Extend = true
+is_linking _ = false
+
+abbrev pub is_linker : IndicConjunctBreak → Bool
+is_linker conjuncts.Linker = true
+is_linker _ = false
+
+abbrev pub is_other : GraphemeClusterBreak → Bool
+is_other Other = true
+is_other _ = false
+
+-- a base: nothing follows it in its cluster but what joins whatever stands before it
+abbrev pub stands_alone : ℕ → Bool
+stands_alone c = is_other (grapheme_cluster_break c) && not (is_linking (indic_conjunct_break c))
+
+abbrev pub is_mark_break : GraphemeClusterBreak → Bool
+is_mark_break Extend = true
+is_mark_break SpacingMark = true
+is_mark_break _ = false
+
+-- a character that joins whatever stands before it, and that nothing else follows either
+abbrev pub is_plain_mark : ℕ → Bool
+is_plain_mark c = is_mark_break (grapheme_cluster_break c) && not (is_linker (indic_conjunct_break c))
+
+abbrev pub is_extend_break : GraphemeClusterBreak → Bool
+is_extend_break Extend = true
+is_extend_break _ = false
+
+-- such a character that may stand between a pictograph and a joiner
+abbrev pub is_plain_extend : ℕ → Bool
+is_plain_extend c = is_extend_break (grapheme_cluster_break c) && not (is_linker (indic_conjunct_break c))
+
+-- a pictograph that is a base
+abbrev pub is_picture : ℕ → Bool
+is_picture c = stands_alone c && is_extended_pictographic c
 
 -- the characters begin with none that joins what stands before it
 abbrev pub starts_apart : List ℕ → Bool

@@ -6,6 +6,7 @@ pub mod Positions
 pub mod Pictures
 pub mod Width
 pub mod Clusters
+pub mod Openings
 pub mod Places
 pub mod Drawings
 pub mod Extents

@@ -10,6 +10,7 @@ use Rattle.tw_surface.specs.ChangeView.{ChangeView, Batch}
 use Rattle.tw_surface.specs.ChangeView.{Attribute, AllAttributes, Text, ClearScreen, ClearToEndOfScreen, CursorPosition}
 use Rattle.tw_surface.specs.Characters.{is_plain, cr, lf}
 use Rattle.tw_surface.specs.Positions.{position_after, at_least_0}
+use Rattle.tw_surface.specs.Clusters.{IsSplit}
 use Rattle.tw_surface.specs.Width.{cluster_width}
 
 -- a column from 0 on, where the number of columns says that the wrap is pending, and a row
@@ -28,6 +29,14 @@ cluster_piece cluster =
     else if pointwise eqb cluster (lf ∷ []) then Lf
     else if pointwise eqb cluster (cr ∷ lf ∷ []) then CrLf
     else Wide (cluster_width cluster)
+
+-- the first cluster of a text is a character of these columns, and a rest follows it
+pub record IsWideSplit (text : List ℕ) (columns : ℕ) (rest : List ℕ) : Type 0 where
+  pub cluster : List ℕ
+  pub split : IsSplit text cluster rest
+  pub width : cluster_width cluster ≡ columns
+  pub piece : cluster_piece cluster ≡ Wide columns
+  pub bound : columns ≤ 2
 
 -- a plain text is cut into its characters, every other text into its extended grapheme clusters
 unfoldable pub pieces : List ℕ → List Piece

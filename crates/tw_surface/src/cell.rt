@@ -1,13 +1,14 @@
 //! The attributes of a cell, and the columns that a text takes.
 
-ghost use Rattle.std.specs.Prelude.{◌≡◌, ◌*◌, ◌≤◌, length, true};
+ghost use Rattle.std.specs.Prelude.{◌≡◌, ◌+◌, ◌*◌, ◌<◌, ◌≤◌, [], length, true, IfSome, MatchOption};
 ghost use Rattle.std.specs.List.{sum_by};
 ghost use Rattle.unicode_segmentation.specs.Grapheme.{graphemes};
 ghost use Rattle.tw_surface.specs.Attributes.{with_attribute};
+ghost use Rattle.tw_surface.specs.Clusters.{IsFlag};
 ghost use Rattle.tw_surface.specs.Width.{cluster_width, column_width};
 
 use crate::characters::is_printable_text;
-use crate::clusters::{lone_len, split_cluster};
+use crate::clusters::{is_flag_letter, lone_len, split_block, split_cluster};
 use crate::color::ColorAttribute;
 use unicode_width::UnicodeWidthStr;
 
@@ -139,8 +140,8 @@ pub enum AttributeChange {
     Background(ColorAttribute),
 }
 
-/// The columns that a text takes: its characters where all are printable ASCII, else the widths of
-/// its extended grapheme clusters. Takes no memory.
+/// Returns the columns that a text takes: its characters where all are printable ASCII, else the widths of its extended
+/// grapheme clusters. Takes no memory.
 #[tactic(auto, unfolding(crate::specs::Width::column_width))]
 pub fn unicode_column_width(s: &str) -> usize
     ensures value { result ≡ column_width s.now }
@@ -153,8 +154,8 @@ pub fn unicode_column_width(s: &str) -> usize
     }
 }
 
-/// The columns of a grapheme cluster. One character that its first byte tells to be narrow or wide, which most clusters
-/// are, is told at once.
+/// Returns the columns of a grapheme cluster. A single character whose first byte tells its width, as most
+/// clusters are, needs no table.
 #[inline]
 pub fn cluster_width(cluster: &str) -> usize
     ensures value { result ≡ cluster_width cluster.now }
@@ -163,11 +164,12 @@ pub fn cluster_width(cluster: &str) -> usize
     let bytes = cluster.as_bytes();
     match bytes.first() {
         Some(lead) if lone_len(*lead) == bytes.len() => { if bytes.len() == 3 { 2 } else { 1 } }
+        Some(0xF0) if is_flag(cluster) => 2,
         _ => ruled_width(cluster),
     }
 }
 
-/// The same by the rules for each character. It is a function of its own, so that the one above stays short.
+/// Returns the same by the rules. It is a function of its own, so that the one above stays short.
 #[inline(never)]
 fn ruled_width(cluster: &str) -> usize
     ensures value { result ≡ cluster_width cluster.now }
@@ -176,14 +178,46 @@ fn ruled_width(cluster: &str) -> usize
     cluster.width()
 }
 
+/// Returns true if the text is a flag, and nothing else. It is a function of its own, so that `cluster_width` stays short.
+#[inline(never)]
+fn is_flag(text: &str) -> bool
+    ensures { result ≡ true → IsFlag text.now }
+{
+    let mut chars = text.chars();
+    match (chars.next(), chars.next()) {
+        (Some(first), Some(second)) => {
+            is_flag_letter(first) && is_flag_letter(second) && chars.as_str().is_empty()
+        }
+        _ => false,
+    }
+}
+
+/// Returns the columns of the first cluster of a text and what follows it, or `None` if the text is empty.
+#[inline]
+fn split_columns(text: &str) -> Option<(usize, &str)>
+    ensures sums { MatchOption result
+        (graphemes true text.now ≡ [])
+        (λ (columns, rest). columns + sum_by cluster_width (graphemes true rest.now)
+        ≡ sum_by cluster_width (graphemes true text.now)) }
+    ensures bound { IfSome result (λ (columns, rest).
+        columns + 2 * length rest.now ≤ 2 * length text.now) }
+    ensures shorter { IfSome result (λ (columns, rest). length rest.now < length text.now) }
+{
+    if let Some(split) = split_block(text) {
+        return Some(split);
+    }
+    let (cluster, rest) = split_cluster(text)?;
+    Some((cluster_width(cluster), rest))
+}
+
 fn clusters_width(text: &str) -> usize
     ensures value { result ≡ sum_by cluster_width (graphemes true text.now) }
     ensures bound { result ≤ 2 * length text.now }
 {
     let mut total: usize = 0;
     let mut rest = text;
-    while let Some((cluster, more)) = split_cluster(rest) {
-        total += cluster_width(cluster);
+    while let Some((columns, more)) = split_columns(rest) {
+        total += columns;
         rest = more;
     }
     total

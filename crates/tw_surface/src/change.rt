@@ -18,7 +18,7 @@ pub enum Position {
 }
 
 impl Position {
-    /// Where it leads from a column or a row up to 4,294,967,295, or 0 in place of a negative number.
+    /// Returns where it leads from a column or a row up to 4,294,967,295, or 0 in place of a negative number.
     pub(crate) fn moved_from(self, at: usize) -> usize
         requires { at ≤ 4294967295 }
         ensures { result ≡ at_least_0 (position_after self (pos at)) }
@@ -48,7 +48,7 @@ pub enum Change {
 }
 
 impl Change {
-    /// An equal change. Only a text takes memory, and a refusal leaves nothing behind.
+    /// Returns an equal change. Only a text takes memory, and a refusal leaves nothing behind.
     pub fn try_clone(&self, alloc: Global) -> Result<Change, AllocError>
         ensures equal { IfOk result (λ change. change_view change ≡ change_view self.now) }
         ensures memory { OnErr result ((text : List ℕ) × (change_view self.now ≡ TextView text)) }

@@ -1,15 +1,29 @@
 //! Texts cut after their first extended grapheme cluster.
 
-ghost use Rattle.std.specs.Prelude.{◌≡◌, ◌<◌, ◌≤◌, [], length, true, MatchOption};
+ghost use Rattle.std.specs.Prelude.{◌≡◌, ◌<◌, ◌≤◌, [], length, true, IfSome, MatchOption};
 ghost use Rattle.std.specs.Str.{chars};
 ghost use Rattle.unicode_segmentation.specs.Grapheme.{graphemes};
-ghost use Rattle.tw_surface.specs.Clusters.{lone_len, starts_apart, IsFirstCluster, IsSplit};
+ghost use Rattle.ucd_table.specs.Rows.{in_ranges};
+ghost use Rattle.tw_surface.specs.Clusters.{flag_letters, picture_blocks, is_picture, is_plain_extend, is_plain_mark, lone_columns, lone_len, lone_ranges, narrow_blocks, stands_alone, starts_apart, wide_blocks, IsFirstCluster, IsSplit};
+ghost use Rattle.tw_surface.specs.Places.{IsWideSplit};
+ghost use Rattle.tw_surface.specs.Openings.{ArePastMarks, ArePictures, GoesOn, IsPastMark, IsPastPictograph, BeginsOpen};
 
 use ucd_breaks::GraphemeClusterBreak;
+use ucd_derived::IndicConjunctBreak;
+use ucd_emoji::is_extended_pictographic;
 use unicode_segmentation::UnicodeSegmentation;
 
-/// The bytes of a character that begins with this byte, where it tells that the character is a cluster of its own
-/// before another one like it: printable ASCII, Latin (U+00C0 to U+02FF), Greek and Cyrillic (U+0380 to U+047F) and
+/// No character before it joins what stands before.
+const FIRST_MARK: char = '\u{300}';
+
+/// The last character of the blocks of one column.
+const LAST_NARROW: char = '\u{FF9D}';
+
+/// The zero width joiner, which makes one cluster of two pictographs.
+const JOINER: char = '\u{200D}';
+
+/// Returns the bytes of a character that begins with this byte, where it tells that the character is a cluster of its
+/// own before another one like it: printable ASCII, Latin (U+00C0 to U+02FF), Greek and Cyrillic (U+0380 to U+047F) and
 /// Han (U+4000 to U+9FFF). Else 0.
 #[inline]
 pub fn lone_len(lead: u8) -> usize
@@ -24,12 +38,142 @@ pub fn lone_len(lead: u8) -> usize
     }
 }
 
-/// Whether a text is empty or begins with a character that does not join whatever stands before it.
-#[inline(never)]
+/// Returns true if the character stands in a block of characters of one column.
+#[tactic(auto, unfolding(ucd_table::specs::Rows::in_ranges))]
+fn is_in_narrow_block(c: char) -> bool
+    ensures { result ≡ in_ranges narrow_blocks c }
+{
+    c <= LAST_NARROW
+        && matches!(
+        c,
+        '\u{05D0}'..='\u{05DB}'
+            | '\u{05DD}'..='\u{05FF}'
+            | '\u{0628}'..='\u{064A}'
+            | '\u{0676}'..='\u{06D5}'
+            | '\u{1E00}'..='\u{200A}'
+            | '\u{2010}'..='\u{2027}'
+            | '\u{2070}'..='\u{20CF}'
+            | '\u{20F1}'..='\u{2319}'
+            | '\u{232B}'..='\u{23E8}'
+            | '\u{23F4}'..='\u{25FC}'
+            | '\u{27C0}'..='\u{2B1A}'
+            | '\u{E000}'..='\u{F8FF}'
+            | '\u{FF61}'..='\u{FF9D}'
+    )
+}
+
+/// Returns true if the character stands in a block of emoji.
+#[tactic(auto, unfolding(ucd_table::specs::Rows::in_ranges))]
+fn is_in_picture_block(c: char) -> bool
+    ensures { result ≡ in_ranges picture_blocks c }
+{
+    matches!(
+        c,
+        '\u{1F300}'..='\u{1F320}'
+            | '\u{1F337}'..='\u{1F37C}'
+            | '\u{1F3A0}'..='\u{1F3CA}'
+            | '\u{1F400}'..='\u{1F43E}'
+            | '\u{1F442}'..='\u{1F4FC}'
+            | '\u{1F4FF}'..='\u{1F53D}'
+            | '\u{1F5FB}'..='\u{1F64F}'
+            | '\u{1F680}'..='\u{1F6C5}'
+            | '\u{1F90C}'..='\u{1F93A}'
+            | '\u{1F947}'..='\u{1F9FF}'
+    )
+}
+
+/// Returns true if the character stands in a block of characters of two columns.
+#[tactic(auto, unfolding(ucd_table::specs::Rows::in_ranges))]
+fn is_in_wide_block(c: char) -> bool
+    ensures { result ≡ in_ranges wide_blocks c }
+{
+    matches!(
+        c,
+        '\u{3000}'..='\u{3029}'
+            | '\u{3041}'..='\u{3096}'
+            | '\u{309B}'..='\u{30FF}'
+            | '\u{3250}'..='\u{A48C}'
+            | '\u{F900}'..='\u{FAFF}'
+            | '\u{FF01}'..='\u{FF60}'
+    ) || is_in_picture_block(c)
+}
+
+/// Returns the columns of a character that is a cluster of its own before any character that does not join it, if it
+/// stands in one of these blocks. Else 0.
+fn lone_columns(c: char) -> usize
+    ensures value { result ≡ lone_columns c }
+    ensures bound { result ≤ 2 }
+{
+    if is_in_narrow_block(c) {
+        1
+    } else if is_in_wide_block(c) {
+        2
+    } else {
+        0
+    }
+}
+
+/// Returns true if the character stands in a range that [`lone_len`] knows by its first byte.
+#[tactic(auto, unfolding(ucd_table::specs::Rows::in_ranges))]
+fn is_in_lone_range(c: char) -> bool
+    ensures { result ≡ in_ranges lone_ranges c }
+{
+    matches!(c, ' '..='~' | '\u{C0}'..='\u{2FF}' | '\u{380}'..='\u{47F}' | '\u{4000}'..='\u{9FFF}')
+}
+
+/// Returns true if the character is half a flag.
+#[tactic(auto, unfolding(ucd_table::specs::Rows::in_ranges))]
+pub fn is_flag_letter(c: char) -> bool
+    ensures { result ≡ in_ranges flag_letters c }
+{
+    matches!(c, '\u{1F1E6}'..='\u{1F1FF}')
+}
+
+/// Returns true if the character is a base: nothing follows it in its cluster but what joins whatever stands before it.
+fn stands_alone(c: char) -> bool
+    ensures { result ≡ stands_alone c }
+{
+    if is_in_lone_range(c) {
+        return true;
+    }
+    matches!(
+        GraphemeClusterBreak::for_char(c),
+        GraphemeClusterBreak::Other
+    ) && !matches!(
+        IndicConjunctBreak::for_char(c),
+        IndicConjunctBreak::Linker | IndicConjunctBreak::Extend
+    )
+}
+
+/// Returns true if the character joins whatever stands before it, and nothing else follows it either.
+fn is_plain_mark(c: char) -> bool
+    ensures { result ≡ is_plain_mark c }
+{
+    if c < FIRST_MARK {
+        return false;
+    }
+    matches!(
+        GraphemeClusterBreak::for_char(c),
+        GraphemeClusterBreak::Extend | GraphemeClusterBreak::SpacingMark
+    ) && !matches!(IndicConjunctBreak::for_char(c), IndicConjunctBreak::Linker)
+}
+
+/// Returns true if the character is a plain mark that may stand between a pictograph and a joiner.
+fn is_plain_extend(c: char) -> bool
+    ensures { result ≡ is_plain_extend c }
+{
+    matches!(
+        GraphemeClusterBreak::for_char(c),
+        GraphemeClusterBreak::Extend
+    ) && !matches!(IndicConjunctBreak::for_char(c), IndicConjunctBreak::Linker)
+}
+
+/// Returns true if the text is empty or begins with a character that does not join whatever stands before it.
 fn starts_apart(text: &str) -> bool
     ensures { result ≡ starts_apart (chars text.now) }
 {
     match text.chars().next() {
+        Some(first) if first < FIRST_MARK => true,
         Some(first) => !matches!(
             GraphemeClusterBreak::for_char(first),
             GraphemeClusterBreak::Extend
@@ -40,8 +184,55 @@ fn starts_apart(text: &str) -> bool
     }
 }
 
-/// The bytes of the first cluster of a text that is not empty. Such a character at its start tells them, where none
-/// that joins it follows.
+/// Returns what follows the first character, if that is a plain mark.
+fn past_mark(text: &str) -> Option<&str>
+    ensures { IfSome result (λ rest. IsPastMark text.now rest.now) }
+{
+    let mut chars = text.chars();
+    if is_plain_mark(chars.next()?) {
+        Some(chars.as_str())
+    } else {
+        None
+    }
+}
+
+/// Returns what follows the plain marks that the text begins with.
+fn past_marks(text: &str) -> &str
+    ensures { ArePastMarks text.now result.now }
+{
+    let mut rest = text;
+    while let Some(behind) = past_mark(rest) {
+        rest = behind;
+    }
+    rest
+}
+
+/// Returns what follows the first character, if it is a base.
+fn past_base(text: &str) -> Option<&str>
+    ensures { IfSome result (λ rest. BeginsOpen text.now rest.now) }
+{
+    let mut chars = text.chars();
+    if stands_alone(chars.next()?) {
+        Some(chars.as_str())
+    } else {
+        None
+    }
+}
+
+/// Returns what follows the first two characters, if they are a flag.
+fn past_flag(text: &str) -> Option<&str>
+    ensures { IfSome result (λ rest. BeginsOpen text.now rest.now) }
+{
+    let mut chars = text.chars();
+    if is_flag_letter(chars.next()?) && is_flag_letter(chars.next()?) {
+        Some(chars.as_str())
+    } else {
+        None
+    }
+}
+
+/// Returns the bytes of the first cluster of a text that is not empty. Such a character at its start tells them, if
+/// another one follows.
 #[inline]
 fn first_len(text: &str) -> usize
     requires { 0 < length text.now }
@@ -52,17 +243,129 @@ fn first_len(text: &str) -> usize
     if len > 0 {
         match bytes.get(len) {
             Some(next) => {
-                if lone_len(*next) > 0 || starts_apart(&text[len..]) {
+                if lone_len(*next) > 0 {
                     return len;
                 }
             }
             None => return len,
         }
     }
-    ruled_len(text)
+    match bytes[0] {
+        0xE0..=0xE3 | 0xEA..=0xEF => ruled_len(text),
+        _ => other_len(text),
+    }
 }
 
-/// The same by the rules for each pair of characters. It is a function of its own, so that the one above stays short.
+/// Returns the same for a text that may begin with a base and its marks, a flag or pictographs behind joiners.
+#[inline(never)]
+fn other_len(text: &str) -> usize
+    requires { 0 < length text.now }
+    ensures { IsFirstCluster text.now result }
+{
+    match text.as_bytes() {
+        [0xF0, 0x9F, 0x87, ..] => flag_len(text),
+        [0xF0, _, _, _, 0xE2, 0x80, 0x8D, ..] => pictures_len(text),
+        [0xF0, ..] => ruled_len(text),
+        _ => settled_len(text),
+    }
+}
+
+/// Returns true if the character is a pictograph and a base.
+fn is_picture(c: char) -> bool
+    ensures { result ≡ is_picture c }
+{
+    is_in_picture_block(c) || (stands_alone(c) && is_extended_pictographic(c))
+}
+
+/// Returns what follows the first character, if that is a pictograph.
+fn past_picture(text: &str) -> Option<&str>
+    ensures { IfSome result (λ rest. IsPastPictograph text.now rest.now) }
+{
+    let mut chars = text.chars();
+    if is_picture(chars.next()?) {
+        Some(chars.as_str())
+    } else {
+        None
+    }
+}
+
+/// Returns what follows a mark of a pictograph, or a joiner and another pictograph.
+fn past_link(text: &str) -> Option<&str>
+    ensures { IfSome result (λ rest. GoesOn text.now rest.now) }
+{
+    let mut chars = text.chars();
+    let first = chars.next()?;
+    if first == JOINER {
+        return past_picture(chars.as_str());
+    }
+    if is_plain_extend(first) {
+        Some(chars.as_str())
+    } else {
+        None
+    }
+}
+
+/// Returns what follows a pictograph and others behind joiners, each with its marks.
+fn past_pictures(text: &str) -> Option<&str>
+    ensures { IfSome result (λ rest. ArePictures text.now rest.now) }
+{
+    let mut rest = past_picture(text)?;
+    while let Some(behind) = past_link(rest) {
+        rest = behind;
+    }
+    Some(rest)
+}
+
+/// Returns the same where a base and its marks tell it.
+fn settled_len(text: &str) -> usize
+    requires { 0 < length text.now }
+    ensures { IsFirstCluster text.now result }
+{
+    match past_base(text) {
+        Some(rest) if starts_apart(rest) => text.len() - rest.len(),
+        Some(rest) => marked_len(text, rest),
+        None => ruled_len(text),
+    }
+}
+
+/// Returns the same for a base that is not all of its cluster.
+fn marked_len(text: &str, behind: &str) -> usize
+    requires some { 0 < length text.now }
+    requires base { BeginsOpen text.now behind.now }
+    ensures { IsFirstCluster text.now result }
+{
+    let rest = past_marks(behind);
+    if starts_apart(rest) {
+        text.len() - rest.len()
+    } else {
+        ruled_len(text)
+    }
+}
+
+/// Returns the same where a flag tells it.
+fn flag_len(text: &str) -> usize
+    requires { 0 < length text.now }
+    ensures { IsFirstCluster text.now result }
+{
+    match past_flag(text) {
+        Some(rest) if starts_apart(rest) => text.len() - rest.len(),
+        _ => ruled_len(text),
+    }
+}
+
+/// Returns the same for a pictograph that a joiner follows.
+fn pictures_len(text: &str) -> usize
+    requires { 0 < length text.now }
+    ensures { IsFirstCluster text.now result }
+{
+    match past_pictures(text) {
+        Some(rest) if starts_apart(rest) => text.len() - rest.len(),
+        _ => ruled_len(text),
+    }
+}
+
+/// Returns the same by the rules for each pair of characters. It is a function of its own, so that the one above stays
+/// short.
 #[inline(never)]
 fn ruled_len(text: &str) -> usize
     requires { 0 < length text.now }
@@ -74,7 +377,42 @@ fn ruled_len(text: &str) -> usize
     }
 }
 
-/// The first cluster of a text and what follows it, or `None` where the text is empty.
+/// Returns the columns of the first cluster of a text and what follows it, if the cluster is a character of a block and
+/// the next one does not join it.
+#[inline]
+pub fn split_block(text: &str) -> Option<(usize, &str)>
+    ensures { IfSome result (λ (columns, rest). IsWideSplit text.now columns rest.now) }
+{
+    match text.as_bytes().first() {
+        // (the first bytes of the characters of blocks)
+        Some(0xD7..=0xDB | 0xE1..=0xE3 | 0xEE..=0xF0) => split_lone(text),
+        _ => None,
+    }
+}
+
+/// Returns the same for a text that may begin with such a character.
+#[inline(never)]
+fn split_lone(text: &str) -> Option<(usize, &str)>
+    ensures { IfSome result (λ (columns, rest). IsWideSplit text.now columns rest.now) }
+{
+    match text.as_bytes() {
+        // (Jamo, symbols that may be emoji, and emoji before a selector, a joiner or a colour of the skin)
+        [0xE1, 0x80..=0xB7, ..] | [0xE2, 0x98..=0x9E, ..] => return None,
+        [0xF0, _, _, _, 0xEF, 0xB8, ..] | [0xF0, _, _, _, 0xE2, 0x80, ..] => return None,
+        [0xF0, _, _, _, 0xF0, 0x9F, 0x8F, ..] => return None,
+        _ => {}
+    }
+    let mut chars = text.chars();
+    let columns = lone_columns(chars.next()?);
+    let rest = chars.as_str();
+    if columns > 0 && starts_apart(rest) {
+        Some((columns, rest))
+    } else {
+        None
+    }
+}
+
+/// Returns the first cluster of a text and what follows it, or `None` if the text is empty.
 #[inline]
 pub fn split_cluster(text: &str) -> Option<(&str, &str)>
     ensures { MatchOption result

@@ -1,6 +1,6 @@
 //! How texts move the place of a sequence.
 
-ghost use Rattle.std.specs.Prelude.{◌≡◌, ◌≤◌, [], ◌∷◌, map, replicate, true};
+ghost use Rattle.std.specs.Prelude.{◌≡◌, ◌<◌, ◌≤◌, [], ◌∷◌, length, map, replicate, true, IfSome, MatchOption};
 ghost use Rattle.unicode_segmentation.specs.Grapheme.{graphemes};
 ghost use Rattle.tw_surface.specs.declared.measure.Piece.TheVariants.{Wide};
 ghost use Rattle.tw_surface.specs.Places.{plain_piece, cluster_piece, pieces, next_place, places_after, is_in_range};
@@ -8,7 +8,7 @@ ghost use Rattle.tw_surface.specs.Extents.{place_of, Measures, start_extent};
 
 use crate::cell::cluster_width;
 use crate::characters::{is_plain_text, is_printable_text};
-use crate::clusters::split_cluster;
+use crate::clusters::{split_block, split_cluster};
 use crate::size::MAX_REACH;
 
 /// A piece of a text, by what it does to the cursor.
@@ -38,7 +38,7 @@ pub struct Extent {
 }
 
 impl Extent {
-    /// The place (0, 0).
+    /// Returns the place (0, 0).
     pub fn start() -> Extent
         ensures { result ≡ start_extent }
     {
@@ -50,7 +50,7 @@ impl Extent {
         }
     }
 
-    /// The extent with one more place, or `None` where that place is out of range.
+    /// Returns the extent with one more place, or `None` if that place is out of range.
     pub fn reach(self, x: usize, y: isize) -> Option<Extent>
         ensures { Measures self (record { x = x; y = y } ∷ []) result }
     {
@@ -65,7 +65,7 @@ impl Extent {
         })
     }
 
-    /// The extent after a piece, or `None` where its place is out of range.
+    /// Returns the extent after a piece, or `None` if its place is out of range.
     pub fn advance(self, cols: usize, piece: Piece) -> Option<Extent>
         requires cols { cols ≤ 65535 }
         requires range { is_in_range (place_of self) ≡ true }
@@ -88,7 +88,7 @@ impl Extent {
 }
 
 impl Piece {
-    /// A character of a plain text.
+    /// Returns a character of a plain text.
     fn of_byte(byte: u8) -> Piece
         ensures { result ≡ plain_piece byte }
     {
@@ -99,7 +99,7 @@ impl Piece {
         }
     }
 
-    /// A grapheme cluster of any other text.
+    /// Returns a grapheme cluster of any other text.
     pub fn of_cluster(cluster: &str) -> Piece
         ensures { result ≡ cluster_piece cluster.now }
     {
@@ -112,7 +112,7 @@ impl Piece {
     }
 }
 
-/// So many characters of one column: those that fit in a row are one step.
+/// Measures `count` characters of one column. Those that fit in a row are one step.
 fn measure_printable(cols: usize, start: Extent, count: usize) -> Option<Extent>
     requires cols { cols ≤ 65535 }
     requires range { is_in_range (place_of start) ≡ true }
@@ -143,6 +143,22 @@ fn measure_plain(cols: usize, start: Extent, text: &[u8]) -> Option<Extent>
     Some(extent)
 }
 
+/// Returns the piece of the first cluster of a text and what follows it, or `None` if the text is empty.
+#[inline]
+fn split_piece(text: &str) -> Option<(Piece, &str)>
+    ensures pieces { MatchOption result
+        (graphemes true text.now ≡ [])
+        (λ (piece, rest). map cluster_piece (graphemes true text.now)
+        ≡ piece ∷ map cluster_piece (graphemes true rest.now)) }
+    ensures shorter { IfSome result (λ (piece, rest). length rest.now < length text.now) }
+{
+    if let Some((columns, rest)) = split_block(text) {
+        return Some((Piece::Wide(columns), rest));
+    }
+    let (cluster, rest) = split_cluster(text)?;
+    Some((Piece::of_cluster(cluster), rest))
+}
+
 fn measure_clusters(cols: usize, start: Extent, text: &str) -> Option<Extent>
     requires cols { cols ≤ 65535 }
     requires range { is_in_range (place_of start) ≡ true }
@@ -151,14 +167,14 @@ fn measure_clusters(cols: usize, start: Extent, text: &str) -> Option<Extent>
 {
     let mut extent = start;
     let mut rest = text;
-    while let Some((cluster, more)) = split_cluster(rest) {
-        extent = extent.advance(cols, Piece::of_cluster(cluster))?;
+    while let Some((piece, more)) = split_piece(rest) {
+        extent = extent.advance(cols, piece)?;
         rest = more;
     }
     Some(extent)
 }
 
-/// The extent after a text on a screen of `cols` columns, or `None` where a place on the way is out of range.
+/// Returns the extent after a text on a screen of `cols` columns, or `None` if a place on the way is out of range.
 #[tactic(auto, using(crate::proofs::RowLemmas::printable_pieces), unfolding(crate::specs::Places::pieces))]
 pub fn measure_text(cols: usize, start: Extent, text: &str) -> Option<Extent>
     requires cols { cols ≤ 65535 }

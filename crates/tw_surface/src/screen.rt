@@ -100,7 +100,7 @@ impl Model for Screen {
 }
 
 impl Screen {
-    /// A blank screen of 1 to 65,535 columns, with the cursor at (0, 0). It takes no memory.
+    /// Creates a blank screen of 1 to 65,535 columns, with the cursor at (0, 0). Takes no memory.
     pub fn new(alloc: Global, width: usize) -> Result<Self, SizeFault>
         ensures zero { (result ≡ Err SizeFault.ZeroSize) ↔ (width ≡ 0) }
         ensures large { (result ≡ Err SizeFault.OutOfRange) ↔ (65535 < width) }
@@ -121,7 +121,7 @@ impl Screen {
         })
     }
 
-    /// The character at a row and a column: a blank where nothing was written, and from the width on.
+    /// Returns the character at a row and a column: a blank where nothing was written, and from the width on.
     pub fn char_at(&self, row: usize, col: usize) -> char
         ensures shown { result ≡ (picture self.now).cell row col }
         ensures outside { self.now.width ≤ col → result ≡ blank }
@@ -150,7 +150,7 @@ impl Screen {
         push_blanks(shown, cols - end)
     }
 
-    /// The cursor's row and column. The column is the width where the cursor waits after the last.
+    /// Returns the cursor's row and column. The column is the width where the cursor waits after the last.
     pub fn cursor(&self) -> (usize, usize)
         ensures row { result.0 ≡ (picture self.now).row }
         ensures col { result.1 ≡ (picture self.now).col }
@@ -160,7 +160,7 @@ impl Screen {
         (self.row, self.col)
     }
 
-    /// The greatest row with a character that is not a blank, None where there is none.
+    /// Returns the greatest row with a character that is not a blank, or `None` if there is none.
     pub fn last_row(&self) -> Option<usize>
         ensures { IsLastRow (picture self.now).cell result }
     {

@@ -32,7 +32,7 @@ impl Model for ScrollingScreen {
 }
 
 impl ScrollingScreen {
-    /// A blank screen of 1 to 65,535 rows and columns, with the cursor at (0, 0). It takes no memory.
+    /// Creates a blank screen of 1 to 65,535 rows and columns, with the cursor at (0, 0). Takes no memory.
     pub fn new(alloc: Global, rows: usize, width: usize) -> Result<Self, SizeFault>
         ensures ok { 0 < rows → rows ≤ 65535 → 0 < width → width ≤ 65535 → result
             ≡ Ok (blank_rows rows width) }
@@ -50,7 +50,7 @@ impl ScrollingScreen {
         Ok(ScrollingScreen { screen, rows })
     }
 
-    /// The character at a row and a column: a blank where nothing was written, from the width on, and below the
+    /// Returns the character at a row and a column: a blank where nothing was written, from the width on, and below the
     /// last row.
     pub fn char_at(&self, row: usize, col: usize) -> char
         ensures shown { result ≡ (picture self.now.screen).cell row col }
@@ -62,7 +62,7 @@ impl ScrollingScreen {
         self.screen.char_at(row, col)
     }
 
-    /// The cursor's row and column. The column is the width where the cursor waits after the last.
+    /// Returns the cursor's row and column. The column is the width where the cursor waits after the last.
     pub fn cursor(&self) -> (usize, usize)
         ensures row { result.0 ≡ (picture self.now.screen).row }
         ensures col { result.1 ≡ (picture self.now.screen).col }
@@ -85,7 +85,7 @@ impl ScrollingScreen {
         ensures plain { (result ≡ Err ScreenFault.NotPlain)
             ↔ (can_play (change_view change.now) ≡ false) }
 
-        // The limit is one of the change alone, as it is played without a bottom from the cursor's row on.
+        // The limit is one of the change only, as it is played without a bottom from the cursor's row on.
         ensures range { RefusesPastLimit (change_view change.now) self.old.screen result }
         ensures memory { result ≡ Err ScreenFault.Memory → (text : List ℕ)
             × (change_view change.now ≡ TextView text) }

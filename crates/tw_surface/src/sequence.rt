@@ -37,7 +37,7 @@ impl fmt::Display for AddFault {
 
 impl Error for AddFault {}
 
-/// The row to which a position leads, or `None` where it is far out of range.
+/// Returns the row to which a position leads, or `None` if it is far out of range.
 fn moved_row(position: Position, at: isize) -> Option<isize>
     requires { nat_abs at ≤ 2147483647 }
     ensures { MatchOption result (2147483647 < nat_abs (position_after position at))
@@ -59,7 +59,7 @@ fn moved_row(position: Position, at: isize) -> Option<isize>
     }
 }
 
-/// The extent after a change, or `None` where a place on the way is out of range.
+/// Returns the extent after a change, or `None` if a place on the way is out of range.
 fn measure_change(cols: usize, extent: Extent, change: &Change) -> Option<Extent>
     requires above { 0 < cols }
     requires cols { cols ≤ 65535 }
@@ -103,7 +103,7 @@ impl Model for ChangeSequence {
 }
 
 impl ChangeSequence {
-    /// A sequence without changes. Takes no memory.
+    /// Creates a sequence without changes. Takes no memory.
     pub fn new(alloc: Global, rows: usize, cols: usize) -> Result<Self, SizeFault>
         ensures zero { (rows ≡ 0) ⊎ (cols ≡ 0) → result ≡ Err SizeFault.ZeroSize }
         ensures large { 0 < rows → 0 < cols → (65535 < rows) ⊎ (65535 < cols) → result
@@ -124,8 +124,8 @@ impl ChangeSequence {
         })
     }
 
-    /// The column and the row to which the changes lead. The column is the number of columns where
-    /// the wrap is pending.
+    /// Returns the column and the row to which the changes lead. The column is the number of columns where the wrap is
+    /// pending.
     pub fn current_cursor_position(&self) -> (usize, isize)
         ensures column { result.0 ≡ (place self.now).x }
         ensures row { result.1 ≡ (place self.now).y }
@@ -133,7 +133,7 @@ impl ChangeSequence {
         (self.reached.x, self.reached.y)
     }
 
-    /// The greatest row so far minus the least one, row 0 counted in both.
+    /// Returns the greatest row so far minus the least one, row 0 counted in both.
     pub fn render_height(&self) -> usize
         ensures { result ≡ height self.now.cols self.now.changes }
     {
@@ -181,7 +181,7 @@ impl ChangeSequence {
         self.add_change(change)
     }
 
-    /// The changes in the order in which they were added. Takes no memory.
+    /// Returns the changes in the order in which they were added. Takes no memory.
     pub fn consume(self) -> Vec<Change>
         ensures { batch_view result.items ≡ self.changes }
     {
@@ -201,7 +201,7 @@ fn push_change(changes: &mut Vec<Change>, change: Change) -> Result<(), AllocErr
     Ok(())
 }
 
-/// The relative move from where a extent ends.
+/// Returns the relative move from where a extent ends.
 fn relative_move(from: Extent, x: usize, y: isize) -> Change
     requires from_column { from.x ≤ 2147483647 }
     requires to_column { x ≤ 65535 }

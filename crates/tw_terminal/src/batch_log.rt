@@ -99,7 +99,7 @@ impl Model for BatchLog {
 }
 
 impl BatchLog {
-    /// No batch.
+    /// Creates a log of no batches.
     pub fn new() -> Self
         ensures { result ≡ [] }
     {
@@ -108,7 +108,7 @@ impl BatchLog {
         }
     }
 
-    /// These batches, and one more after them.
+    /// Returns these batches with one more after them.
     pub fn with_batch(&self, changes: &[Change]) -> Self
         ensures { result ≡ self.now ++ batch_view changes.now ∷ [] }
     {

@@ -2,7 +2,7 @@
 //!
 //! `terminal` has the trait of terminals, the sizes of their screens and their faults; `batch_log` the batches that a
 //! terminal took, for contracts alone; `script` the terminal that plays a script of events, keeps what is rendered and
-//! fails where it is told to. `laws` says that sizes and faults are compared by their values.
+//! fails at a named call. `laws` says that sizes and faults are compared by their values.
 #![tactic(auto)]
 
 mod batch_log;

@@ -1,4 +1,4 @@
-//! A terminal with a script of events, which keeps what is rendered and fails where it is told to.
+//! A terminal with a script of events, which keeps what is rendered and fails at a named call.
 
 ghost use Rattle.std.specs.Prelude.{◌≡◌, ◌≢◌, ◌↔◌, ◌∷◌, [], length, map, take, Some, IfOk, OnOk, OnErr, MatchOption};
 ghost use Rattle.tw_surface.specs.ChangeView.{batch_view};
@@ -19,7 +19,7 @@ use tw_surface::Change;
 struct Fault {
     /// The number of the call.
     call: usize,
-    /// How many changes it takes first, where it is a `render`.
+    /// How many changes it takes first, if it is a `render`.
     taken: usize,
 }
 
@@ -60,7 +60,7 @@ impl Model for ScriptTerminal {
 }
 
 impl ScriptTerminal {
-    /// A terminal of this size with these events, which no call has reached yet. It takes no memory.
+    /// Creates a terminal of this size with these events, which no call has reached yet. Takes no memory.
     pub fn new(alloc: Global, size: ScreenSize, events: Vec<InputEvent>) -> Self
         ensures { result ≡ fresh_script size (map event_view events.items) }
     {
@@ -77,8 +77,8 @@ impl ScriptTerminal {
     }
 
     /// Lets the call of this number answer `TerminalFault::Device`, in place of the call that was named
-    /// before. Where it is a `render`, the first `taken` of its changes are recorded as a batch, if there are
-    /// any; where memory for them is refused nothing is recorded, and the answer is `TerminalFault::Memory`.
+    /// before. Of a `render`, the first `taken` changes are recorded as a batch, if there are
+    /// any; if memory for them is refused, nothing is recorded, and the answer is `TerminalFault::Memory`.
     /// The calls after it go on.
     pub fn fail_at(&mut self, call: usize, taken: usize)
         ensures { self.new ≡ record self.old {
@@ -89,35 +89,35 @@ impl ScriptTerminal {
         self.fault = Some(Fault { call, taken });
     }
 
-    /// The batches recorded, in order.
+    /// Returns the batches recorded, in order.
     pub fn batches(&self) -> &[Vec<Change>]
         ensures { batches_view result.now ≡ self.now.terminal.batches }
     {
         self.batches.as_slice()
     }
 
-    /// How many batches are flushed.
+    /// Returns how many batches are flushed.
     pub fn flushed(&self) -> usize
         ensures { result ≡ self.now.terminal.flushed }
     {
         self.flushed
     }
 
-    /// How many events are left.
+    /// Returns how many events are left.
     pub fn events_left(&self) -> usize
         ensures { result ≡ length self.now.terminal.events }
     {
         self.events.len()
     }
 
-    /// How many calls were refused, for either fault. The count stays at `usize::MAX`.
+    /// Returns how many calls were refused, for either fault. The count stays at `usize::MAX`.
     pub fn failures(&self) -> usize
         ensures { result ≡ self.now.terminal.failures }
     {
         self.failures
     }
 
-    /// Counts a call, and says how many changes it takes first where it is the one to fail.
+    /// Counts a call, and returns how many changes it takes first if it is the one to fail.
     fn count_call(&mut self) -> Option<usize>
         ensures due { result ≡ part_due self.old }
         ensures script { self.new ≡ with_call_counted self.old }
@@ -137,7 +137,7 @@ impl ScriptTerminal {
         self.failures = self.failures.saturating_add(1);
     }
 
-    /// Makes a call that takes no memory, which fails where it is the one to fail.
+    /// Makes a call that does not allocate, which fails if it is the one to fail.
     fn begin_call(&mut self) -> Result<(), TerminalFault>
         ensures device { (result ≡ Err TerminalFault.Device) ↔ IsDue self.old }
         ensures memory { result ≢ Err TerminalFault.Memory }
@@ -178,7 +178,7 @@ impl ScriptTerminal {
     }
 }
 
-/// Equal changes, unless no memory is found.
+/// Returns equal changes, or fails for memory.
 fn copies(alloc: Global, changes: &[Change]) -> Result<Vec<Change>, AllocError>
     ensures { IfOk result (λ copies. batch_view copies.items ≡ batch_view changes.now) }
 {
@@ -228,7 +228,7 @@ impl Terminal for ScriptTerminal {
     }
 
     /// Records the changes as a batch. The call that is to fail records those that its fault takes, if there are
-    /// any, and returns `Device`. Where memory for what it records is refused, nothing is recorded, and the
+    /// any, and returns `Device`. If memory for what it records is refused, nothing is recorded, and the
     /// answer is `Memory`.
     #[tactic(auto, using(crate::proofs::Parts::parts))]
     fn render(&mut self, changes: &[Change]) -> Result<(), TerminalFault>

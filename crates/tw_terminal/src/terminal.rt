@@ -19,7 +19,7 @@ pub struct ScreenSize {
 }
 
 impl ScreenSize {
-    /// The size once an event is taken: a `Resized` tells it, and any other event leaves it.
+    /// Returns the size once an event is taken: a `Resized` tells it, and any other event leaves it.
     pub fn after(self, event: &InputEvent) -> Self
         ensures { result ≡ size_after (event_view event.now) self }
     {
@@ -64,7 +64,7 @@ pub trait Terminal {
     // What a call did besides: from such a terminal to such a one, as this call.
     ghost follows: { Self → Self → Call → Type 0 } = { λ _ _ _. ⊤ };
 
-    /// The size of the screen, in rows and columns of cells. It changes where a `Resized` event is taken.
+    /// Returns the size of the screen, in rows and columns of cells. It changes where a `Resized` event is taken.
     fn get_screen_size(&mut self) -> Result<ScreenSize, TerminalFault>
         ensures size { IfOk result (λ size. size ≡ (state self.old).size) }
         ensures ok { OnOk result (state self.new ≡ state self.old) }

@@ -26,7 +26,7 @@ pub struct CommandHost {
 }
 
 impl CommandHost {
-    /// The host that knows these commands, with an empty history. It takes no memory.
+    /// Creates the host that knows these commands, with an empty history. Takes no memory.
     pub fn new(alloc: Global, known: Vec<String>) -> Self
         ensures { ⟦<CommandHost as LineEditorHost>⟧.value result
             ≡ record { known = map string_bytes known.items; lines = [] } }
@@ -37,7 +37,7 @@ impl CommandHost {
         }
     }
 
-    /// The line with its first word in bold, if it is a command.
+    /// Returns the line with its first word in bold, if it is a command.
     fn show(&self, alloc: Global, line: &str) -> Result<Vec<OutputElement>, AllocError>
         ensures { IfOk result (λ elements. map element_view elements.items
             ≡ shown_line (map string_bytes self.now.known.items) line.now) }
@@ -52,7 +52,7 @@ impl CommandHost {
     }
 }
 
-/// Bold, and else as by default.
+/// Returns the default attributes, but bold.
 fn bold() -> CellAttributes
     ensures { result ≡ bold }
 {
@@ -61,7 +61,7 @@ fn bold() -> CellAttributes
     attributes
 }
 
-/// The keys of the host's own.
+/// Returns the keys of the host's own.
 fn own_keys() -> [KeyBinding; 2]
     ensures { result ≡ own_keys }
 {

@@ -16,7 +16,7 @@ pub struct Pieces<'a> {
 }
 
 impl<'a> Pieces<'a> {
-    /// These bytes, in pieces of lengths that the numbers give.
+    /// Creates a reader of these bytes, in pieces of lengths that the numbers give.
     pub fn new(bytes: &'a [u8], cuts: RandomNumbers) -> Self {
         Pieces { bytes, cuts }
     }
@@ -38,7 +38,7 @@ impl Read for Pieces<'_> {
 pub struct Whole<'a>(&'a [u8]);
 
 impl<'a> Whole<'a> {
-    /// These bytes.
+    /// Creates a reader of these bytes.
     pub fn new(bytes: &'a [u8]) -> Self {
         Whole(bytes)
     }
@@ -62,7 +62,7 @@ pub struct Writes {
 }
 
 impl Writes {
-    /// Nothing.
+    /// Creates a writer that took nothing yet.
     pub fn new(alloc: Global) -> Self {
         Writes {
             bytes: Vec::new(alloc),
@@ -77,12 +77,12 @@ impl Writes {
         Ok(())
     }
 
-    /// How many writes there were.
+    /// Returns how many writes there were.
     pub fn len(&self) -> usize {
         self.ends.len()
     }
 
-    /// The bytes of a write, counted from 0, or none after the last one.
+    /// Returns the bytes of a write, counted from 0, or none after the last one.
     pub fn get(&self, index: usize) -> Option<&[u8]> {
         let end = *self.ends.get(index)?;
         let start = match index.checked_sub(1) {

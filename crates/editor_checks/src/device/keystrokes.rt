@@ -58,7 +58,7 @@ const PASTES: [&[u8]; 4] = [
 /// line is empty.
 const ENDS: [&[u8]; 5] = [b"\r", b"\r", b"\n", b"\x03", b"\x04"];
 
-/// The bytes of one key, most often of a letter.
+/// Returns the bytes of one key, most often of a letter.
 fn keystroke(numbers: &mut RandomNumbers) -> &'static [u8] {
     match numbers.below(40) {
         0 => b"\x0c",
@@ -69,7 +69,7 @@ fn keystroke(numbers: &mut RandomNumbers) -> &'static [u8] {
     }
 }
 
-/// The bytes of so many keys, one after the other.
+/// Returns the bytes of `count` keys, one after the other.
 pub fn keystrokes(
     alloc: Global,
     numbers: &mut RandomNumbers,

@@ -50,7 +50,7 @@ pub fn read_bytes(
     Ok(endings)
 }
 
-/// The keys that the bytes of a trial are, all at once.
+/// Returns the keys that the bytes of a trial are, all at once.
 pub fn keys_of(alloc: Global, trial: &Trial) -> Result<Vec<InputEvent>, anyhow::Error> {
     let whole = Whole::new(trial.bytes.as_slice());
     let mut keys = KeyReader::with_escape(alloc, whole, Escape::Waits);
@@ -64,7 +64,7 @@ pub fn keys_of(alloc: Global, trial: &Trial) -> Result<Vec<InputEvent>, anyhow::
     Ok(events)
 }
 
-/// Reads so many lines of a trial from its keys, which a terminal has that keeps the batches.
+/// Reads `count` lines of a trial from its keys, which a terminal has that keeps the batches.
 pub fn read_keys(
     alloc: Global,
     trial: &Trial,

@@ -28,7 +28,7 @@ pub enum Found {
     Unknown,
 }
 
-/// What each cell of a screen holds at first.
+/// Returns what each cell of a screen holds at first.
 fn first_cell(entry: Entry) -> ScreenCell {
     match entry {
         Entry::Blank => ScreenCell::blank(ColorAttribute::Default),
@@ -40,7 +40,7 @@ fn first_cell(entry: Entry) -> ScreenCell {
 }
 
 impl Shown {
-    /// The screen of a trial, with the cursor in the row where it is entered.
+    /// Creates the screen of a trial, with the cursor in the row where it is entered.
     pub fn new(alloc: Global, trial: &Trial) -> Result<Self, anyhow::Error> {
         let rows = trial.size.rows;
         let cols = trial.size.cols;
@@ -52,7 +52,7 @@ impl Shown {
         Ok(Shown { terminal, table })
     }
 
-    /// The terminal receives the bytes of a batch, and is compared with what it is to hold then.
+    /// Has the terminal receive the bytes of a batch, and compares it with what it should hold then.
     pub fn take(
         &mut self,
         batch: &[Change],

@@ -44,14 +44,14 @@ pub struct Trial {
     history: Vec<&'static str>,
 }
 
-/// A number from one up to another.
+/// Returns a number from one up to another.
 fn between(numbers: &mut RandomNumbers, from: u64, to: u64) -> usize {
     let more = numbers.below(to.saturating_sub(from).saturating_add(1));
     from.saturating_add(more) as usize
 }
 
 impl Trial {
-    /// The next trial.
+    /// Returns the next trial.
     pub fn generate(alloc: Global, numbers: &mut RandomNumbers) -> Result<Self, AllocError> {
         let size = ScreenSize {
             rows: between(numbers, LEAST, MOST_ROWS),
@@ -70,7 +70,7 @@ impl Trial {
         })
     }
 
-    /// The host of an editor, with two candidates.
+    /// Returns the host of an editor, with two candidates.
     pub fn host(&self, alloc: Global) -> Result<MarkedHost<BasicHistory>, AllocError> {
         let mut history = BasicHistory::new(alloc);
         for line in &self.history {

@@ -48,7 +48,7 @@ const COMMANDS: [&str; 18] = [
     "C-S",
 ];
 
-/// The name of something that is typed: most often a letter.
+/// Returns the name of something that is typed: most often a letter.
 fn name(numbers: &mut RandomNumbers) -> &'static str {
     match numbers.below(40) {
         0 => "C-L",
@@ -67,7 +67,7 @@ fn names(alloc: Global, numbers: &mut RandomNumbers) -> Result<Vec<&'static str>
     Ok(names)
 }
 
-/// The next trial, and the screen that it is played on.
+/// Returns the next trial, and the screen that it is played on.
 pub fn generate(alloc: Global, numbers: &mut RandomNumbers) -> Result<GeneratedTrial, AllocError> {
     Ok(GeneratedTrial {
         entry: Entry::pick(numbers),
@@ -94,7 +94,7 @@ pub struct GeneratedTrial {
 }
 
 impl GeneratedTrial {
-    /// The trial.
+    /// Returns the trial.
     pub fn trial(&self) -> Trial<'_> {
         Trial {
             prompt: self.prompt,

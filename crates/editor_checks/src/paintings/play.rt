@@ -99,7 +99,7 @@ fn play_scrolling(
     Ok(count)
 }
 
-/// One editor reads the lines of a trial.
+/// Has one editor read the lines of a trial.
 fn read_lines(
     alloc: Global,
     terminal: &mut ScriptTerminal,

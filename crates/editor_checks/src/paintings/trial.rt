@@ -26,7 +26,7 @@ pub struct Trial<'a> {
 }
 
 impl Trial<'_> {
-    /// The events that come.
+    /// Returns the events that come.
     pub fn events(&self, alloc: Global) -> Result<Vec<InputEvent>, anyhow::Error> {
         let mut events = Vec::new(alloc);
         for name in self.names {

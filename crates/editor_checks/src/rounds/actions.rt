@@ -7,7 +7,7 @@ use tw_lineedit::{Action, Movement};
 
 const COUNTS: [usize; 8] = [0, 1, 1, 1, 2, 3, 7, usize::MAX];
 
-/// An action of any kind.
+/// Returns an action of any kind.
 pub fn action(
     alloc: Global,
     numbers: &mut RandomNumbers,

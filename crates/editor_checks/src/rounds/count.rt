@@ -42,7 +42,7 @@ pub struct Refusals {
 }
 
 impl Refusals {
-    /// The count of a number from 1 to 7, and else of 7.
+    /// Returns the count of a number from 1 to 7, and else of 7.
     fn of(&mut self, number: u8) -> &mut u64 {
         match number {
             1 => &mut self.end,
@@ -61,7 +61,7 @@ impl Refusals {
         *count = count.saturating_add(1);
     }
 
-    /// How many were refused by this number.
+    /// Returns how many were refused by this number.
     pub fn by(&self, number: u8) -> u64 {
         let mut copy = *self;
         *copy.of(number)

@@ -102,7 +102,7 @@ const HELD: [Modifiers; 5] = [
     Modifiers::SUPER,
 ];
 
-/// A text: of printable ASCII where it is to be plain.
+/// Returns a text: of printable ASCII where it is to be plain.
 pub fn text(numbers: &mut RandomNumbers, plain: bool) -> &'static str {
     if plain {
         numbers.pick(&PLAIN, "")
@@ -111,7 +111,7 @@ pub fn text(numbers: &mut RandomNumbers, plain: bool) -> &'static str {
     }
 }
 
-/// A character: of printable ASCII where it is to be plain.
+/// Returns a character: of printable ASCII where it is to be plain.
 pub fn letter(numbers: &mut RandomNumbers, plain: bool) -> char {
     if plain {
         numbers.pick(&LETTERS, ' ')
@@ -120,7 +120,7 @@ pub fn letter(numbers: &mut RandomNumbers, plain: bool) -> char {
     }
 }
 
-/// An event. Where it is to be plain it brings printable ASCII alone, and no size.
+/// Returns an event. Where it is to be plain it brings printable ASCII alone, and no size.
 pub fn event(
     alloc: Global,
     numbers: &mut RandomNumbers,
@@ -140,7 +140,7 @@ pub fn event(
     })
 }
 
-/// A key: most often a character.
+/// Returns a key: most often a character.
 fn key(numbers: &mut RandomNumbers, plain: bool) -> KeyEvent {
     match numbers.below(60) {
         0..=17 => pressed(numbers.pick(&COMMANDS, KeyCode::Tab), Modifiers::NONE),

@@ -37,14 +37,14 @@ const WILD_COLUMNS: [Option<usize>; 12] = [
     Some(usize::MAX),
 ];
 
-/// The numbers of a seed. Seeds beside each other have numbers that are far from each other.
+/// Returns the numbers of a seed. Seeds beside each other have numbers that are far from each other.
 fn numbers_of(seed: u64) -> RandomNumbers {
     let mixed = seed.wrapping_add(1).wrapping_mul(0x9e37_79b9_7f4a_7c15);
     let mixed = (mixed ^ (mixed >> 31)).wrapping_mul(0xbf58_476d_1ce4_e5b9);
     RandomNumbers::new((mixed ^ (mixed >> 29)) | 1)
 }
 
-/// The round of a seed. Each seed has one, always the same.
+/// Returns the round of a seed. Each seed has one, always the same.
 pub fn round_of(alloc: Global, seed: u64) -> Result<Round, AllocError> {
     let mut numbers = numbers_of(seed);
     let numbers = &mut numbers;
@@ -75,7 +75,7 @@ fn size(numbers: &mut RandomNumbers, plain: bool) -> ScreenSize {
     }
 }
 
-/// Most often the usual prompt.
+/// Returns a prompt, most often the usual one.
 fn prompt(numbers: &mut RandomNumbers, plain: bool) -> &'static str {
     if numbers.below(2) == 0 {
         return "> ";
@@ -98,7 +98,7 @@ fn column(numbers: &mut RandomNumbers, plain: bool) -> Option<usize> {
     }
 }
 
-/// Candidates with small offsets, so that many fit and others do not.
+/// Makes candidates with small offsets, so that many fit and others do not.
 fn candidates(
     alloc: Global,
     numbers: &mut RandomNumbers,
@@ -140,7 +140,7 @@ fn events(
     Ok(events)
 }
 
-/// A call that fails, in one of three rounds that are not plain.
+/// Returns a call that fails, in one of three rounds that are not plain.
 fn fault(numbers: &mut RandomNumbers, plain: bool) -> Option<(usize, usize)> {
     if plain || numbers.below(3) > 0 {
         return None;
@@ -148,7 +148,7 @@ fn fault(numbers: &mut RandomNumbers, plain: bool) -> Option<(usize, usize)> {
     Some((numbers.below(50) as usize, numbers.below(12) as usize))
 }
 
-/// Readings, and in one of three rounds other calls between them. The last step is a reading.
+/// Makes readings, and in one of three rounds other calls between them. The last step is a reading.
 fn steps(alloc: Global, numbers: &mut RandomNumbers, plain: bool) -> Result<Vec<Step>, AllocError> {
     let mut steps = Vec::new(alloc);
     let calls = numbers.below(3) == 0;

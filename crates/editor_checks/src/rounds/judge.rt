@@ -42,7 +42,7 @@ pub fn judge(alloc: Global, seed: u64) -> Result<(Count, String), anyhow::Error>
     Ok((count, findings))
 }
 
-/// Each failure is answered, and all batches are flushed where they are to be.
+/// Judges that each failure was answered, and that all batches were flushed where they should be.
 fn judge_terminal(notes: &mut Notes, terminal: &ScriptTerminal) -> Result<(), AllocError> {
     notes.expect(
         terminal.failures() as u64 == notes.count.faults,
@@ -54,7 +54,7 @@ fn judge_terminal(notes: &mut Notes, terminal: &ScriptTerminal) -> Result<(), Al
     )
 }
 
-/// A size that stays is refused by its number, in each reading that gets so far, and a size that serves is not.
+/// Judges that a size that stays was refused by its number, in each reading that got so far, and no other was.
 fn judge_size(notes: &mut Notes, round: &Round) -> Result<(), AllocError> {
     if round.events.iter().any(is_resized) {
         return Ok(());
@@ -79,7 +79,7 @@ fn is_resized(event: &InputEvent) -> bool {
     matches!(event, InputEvent::Resized { .. })
 }
 
-/// Another history of the same lines has the same answers.
+/// Judges that another history of the same lines has the same answers.
 fn judge_alike(
     alloc: Global,
     notes: &mut Notes,
@@ -97,7 +97,7 @@ fn judge_alike(
     notes.expect(alike, broken.as_str())
 }
 
-/// After each batch the screen holds what a fresh painting would show.
+/// Judges that after each batch the screen holds what a fresh painting would show.
 fn judge_screen(
     alloc: Global,
     notes: &mut Notes,

@@ -28,7 +28,7 @@ pub struct Notes {
 }
 
 impl Notes {
-    /// Nothing was played.
+    /// Creates the notes of a round of which nothing was played.
     fn new(alloc: Global) -> Self {
         Notes {
             told: String::new(alloc),
@@ -81,7 +81,7 @@ impl Notes {
         self.settled = true;
     }
 
-    /// A reading was refused by this number.
+    /// Notes a reading that was refused by this number.
     fn refused(&mut self, number: u8) -> Result<(), AllocError> {
         if number == 2 {
             return self.expect(self.acted, "a reading left a mode");
@@ -93,7 +93,7 @@ impl Notes {
         self.began()
     }
 
-    /// A reading began, whatever it answered, and so it has left no mode.
+    /// Notes that a reading began. Whatever it answered, it has left no mode.
     fn began(&mut self) -> Result<(), AllocError> {
         self.acted = false;
         self.expect(!self.ended, "a reading began in a mode that was left")
@@ -153,7 +153,7 @@ pub fn play<L: History + Drop>(
     Ok((notes, terminal))
 }
 
-/// The host of a round.
+/// Returns the host of a round.
 fn host_of<L: History + Drop>(
     alloc: Global,
     round: &Round,
@@ -217,7 +217,7 @@ fn read<L: History>(
     Ok(())
 }
 
-/// Applies an action. Where it is refused, the line is as it was.
+/// Applies an action. If it is refused, the line is as it was.
 fn act<L: History>(
     alloc: Global,
     editor: &mut Editor<'_>,

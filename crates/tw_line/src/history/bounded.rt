@@ -14,7 +14,7 @@ use std::borrow::CowStr;
 use std::collections::VecDeque;
 use std::marker::Model;
 
-/// A history in memory that keeps so many lines at most, the newest: where one more is added than it is to
+/// A history in memory that keeps at most `limit` lines, the newest: if one more is added than it is to
 /// keep, it forgets its oldest line, and the others then have smaller indices. It lends its lines and copies
 /// none of them.
 #[derive(Debug, Drop)]
@@ -36,7 +36,7 @@ impl Model for BoundedHistory {
 }
 
 impl BoundedHistory {
-    /// The history of no lines, which is to keep `limit` at most, one at least. Takes no memory: each `add`
+    /// Creates the history of no lines, which is to keep `limit` at most, one at least. Takes no memory: each `add`
     /// takes it from `alloc`.
     pub fn with_limit(alloc: Global, limit: usize) -> Self
         requires { 0 < limit }
@@ -49,7 +49,7 @@ impl BoundedHistory {
         }
     }
 
-    /// How many lines are kept at most. Takes no memory.
+    /// Returns how many lines are kept at most. Takes no memory.
     pub fn limit(&self) -> usize
         ensures { result ≡ self.now.limit }
     {
@@ -103,7 +103,7 @@ impl History for BoundedHistory {
 
     ghost add_gives = { λ history line grown. grown ≡ with_newest history line };
 
-    /// The line at `idx`, which is lent and not copied. Takes no memory.
+    /// Returns the line at `idx`, which is lent and not copied. Takes no memory.
     fn get(&self, _alloc: Global, idx: HistoryIndex) -> Result<Option<CowStr<'_>>, AllocError>
         ensures line { IsOkAnd result (λ line. option_map cow_str_bytes line
             ≡ slice_get self.now.lines idx) }
@@ -119,9 +119,8 @@ impl History for BoundedHistory {
         self.entries.len().checked_sub(1)
     }
 
-    /// Adds a line at the end, unless it is the last line already, and forgets the oldest line where there
-    /// are too many then. Takes memory for a new line only. Where that is lacking, the lines stay as they
-    /// were.
+    /// Adds a line at the end, unless it is the last line already, and forgets the oldest line if there
+    /// are too many then. Allocates only for a new line. If it is refused, the lines stay as they were.
     #[tactic(auto, using(crate::proofs::BoundedLemmas::last_line_newest))]
     fn add(&mut self, line: &str) -> Result<(), AllocError>
         ensures last { OnOk result (last_line self.new.lines ≡ Some line.now) }
@@ -136,7 +135,7 @@ impl History for BoundedHistory {
         push_newest(&mut self.entries, entry, self.limit)
     }
 
-    /// The nearest match. Each line on the side is read once at most, and none is copied. Takes no memory.
+    /// Returns the nearest match. Each line on the side is read once at most, and none is copied. Takes no memory.
     fn search(
         &self,
         _alloc: Global,

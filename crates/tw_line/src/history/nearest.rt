@@ -12,18 +12,18 @@ use std::borrow::CowStr;
 pub trait LentLines {
     ghost lines: { Self → List (List ℕ) };
 
-    /// How many lines there are. Takes no memory.
+    /// Returns how many lines there are. Takes no memory.
     fn line_count(&self) -> usize
         ensures { result ≡ length (lines self.now) };
 
-    /// The line at an index that a line has. Takes no memory.
+    /// Returns the line at an index that a line has. Takes no memory.
     fn line(&self, at: HistoryIndex) -> &str
         requires { at < length (lines self.now) }
         ensures { result.now ≡ line_at (lines self.now) at };
 }
 
-/// The nearest line from `idx` on, as `History::search` returns it. Each line on the side is read once at
-/// most, and none is copied. Takes no memory.
+/// Returns the nearest line from `idx` on, as `History::search` returns it. Each line on the side is read once at most,
+/// and none is copied. Takes no memory.
 pub fn nearest_line<'a, L: LentLines>(
     lines: &'a L,
     idx: HistoryIndex,

@@ -7,6 +7,7 @@ ghost use Rattle.tw_session.specs.Outcomes.{is_open};
 ghost use Rattle.tw_lineedit.specs.Above.{text_above, FailsToPrint, PrintsAbove, ShowsAbove};
 ghost use Rattle.tw_lineedit.specs.Feeding.{status_if};
 ghost use Rattle.tw_lineedit.specs.Frame.{across, IsSame};
+ghost use Rattle.tw_lineedit.specs.Lent.{KeepsTerminal};
 ghost use Rattle.tw_lineedit.specs.Reading.{FailuresTell};
 
 use crate::editor::LineEditor;
@@ -50,19 +51,16 @@ impl<'term, T: Terminal> LineEditor<'term, T> {
         host: &H,
         text: &str,
     ) -> Result<LineStatus, Error>
-        ensures same_reference { self.new.terminal.ghost_name ≡ self.old.terminal.ghost_name }
-        ensures used { IsUsed T.follows self.old.terminal.now self.new.terminal.now }
+        ensures terminal { KeepsTerminal T.follows self.old.terminal self.new.terminal }
         ensures ended { is_open self.old.session.state.mode ≡ false
             → (result ≡ Ok LineStatus.Ended) × (self.new.terminal.now ≡ self.old.terminal.now)
             × across T.state H.value IsSame self.old host.now self.new host.now }
         ensures ok { is_open self.old.session.state.mode ≡ true
             → OnOk result (across T.state H.value (PrintsAbove H.rules text.now)
+            self.old host.now self.new host.now × across T.state H.value (ShowsAbove H.rules text.now)
             self.old host.now self.new host.now) }
         ensures status { IfOk result (λ status. status
             ≡ status_if (is_open self.new.session.state.mode)) }
-        ensures shows { is_open self.old.session.state.mode ≡ true
-            → OnOk result (across T.state H.value (ShowsAbove H.rules text.now)
-            self.old host.now self.new host.now) }
         ensures err { IfErr result (across T.state H.value (FailsToPrint H.rules text.now)
             self.old host.now self.new host.now) }
         ensures failures { FailuresTell result (T.state self.old.terminal.now).failures

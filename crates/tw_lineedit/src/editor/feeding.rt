@@ -4,7 +4,7 @@ ghost use Rattle.std.specs.Prelude.{◌≡◌, ◌≢◌, Ok, Err, None, IfOk, I
 ghost use Rattle.std.specs.Borrow.{sem};
 ghost use Rattle.tw_lineedit.specs.Frame.{across, own_frame, IsSame};
 ghost use Rattle.tw_lineedit.specs.Lines.{BeginsWith, ShowsFirstWith, FinishesLine};
-ghost use Rattle.tw_lineedit.specs.Lent.{LendsTerminal};
+ghost use Rattle.tw_lineedit.specs.Lent.{KeepsTerminal, LendsTerminal};
 ghost use Rattle.tw_input.specs.EventView.{event_view};
 ghost use Rattle.tw_terminal.specs.TerminalState.{size_after};
 ghost use Rattle.tw_terminal.specs.Uses.{IsUsed};
@@ -31,7 +31,7 @@ pub enum LineStatus {
 impl<'term, T: Terminal> LineEditor<'term, T> {
     /// Begins a line that is fed its events: it is painted, and takes no event of the terminal. The line begins
     /// with the initial value, its cursor at the end. `Recursive` leaves all as it was. Every other refusal leaves no
-    /// line open: the closing batch is rendered and flushed, unless the terminal refuses that too, which is then
+    /// line open: the closing batch is rendered and flushed, unless the terminal refuses that too: then that refusal is
     /// returned.
     ///
     /// A screen shows the first painting as `read_line` says of it. What it shows of the later ones, whatever events the
@@ -41,18 +41,14 @@ impl<'term, T: Terminal> LineEditor<'term, T> {
         host: &H,
         initial_value: Option<&str>,
     ) -> Result<(), Error>
-        ensures same_reference { self.new.terminal.ghost_name ≡ self.old.terminal.ghost_name }
-        ensures used { IsUsed T.follows self.old.terminal.now self.new.terminal.now }
+        ensures terminal { KeepsTerminal T.follows self.old.terminal self.new.terminal }
         ensures recursive { self.old.session.state.mode ≢ Inactive → (result ≡ Err Error.Recursive)
+            × (self.new.terminal.now ≡ self.old.terminal.now)
             × across T.state H.value IsSame self.old host.now self.new host.now }
-        ensures untouched { self.old.session.state.mode ≢ Inactive → self.new.terminal.now
-            ≡ self.old.terminal.now }
         ensures ok { self.old.session.state.mode ≡ Inactive
-            → OnOk result (across T.state H.value
+            → OnOk result ((is_open self.new.session.state.mode ≡ true) × across T.state H.value
             (BeginsWith H.rules H.OVERRIDES (initial_text initial_value.entry))
             self.old host.now self.new host.now) }
-        ensures open { self.old.session.state.mode ≡ Inactive
-            → OnOk result (is_open self.new.session.state.mode ≡ true) }
         ensures err { self.old.session.state.mode ≡ Inactive
             → IfErr result (across T.state H.value
             (FailsToBegin H.rules (initial_text initial_value.entry))
@@ -71,12 +67,11 @@ impl<'term, T: Terminal> LineEditor<'term, T> {
         }
     }
 
-    /// Handles an event and paints, and says whether the line takes more events. Where no line takes events nothing
-    /// is done, and `Ended` is returned. A `Resized` has to tell the size that the terminal has already.
+    /// Handles an event and paints, and returns whether the line takes more events. If no line takes events, nothing is
+    /// done, and `Ended` is returned. A `Resized` has to tell the size that the terminal has already.
     ///
-    /// A refusal leaves no line open: the host refused the event, or the action was refused, or the clearing of
-    /// the screen, or the painting. The closing batch is rendered and flushed, unless the terminal refuses that
-    /// too, which is then returned.
+    /// A refusal of the event by the host, of the action, of the clearing or of the painting leaves no line open. The
+    /// closing batch is rendered and flushed, unless the terminal refuses that too: then that refusal is returned.
     pub fn feed<H: LineEditorHost>(
         &mut self,
         host: &mut H,
@@ -84,13 +79,10 @@ impl<'term, T: Terminal> LineEditor<'term, T> {
     ) -> Result<LineStatus, Error>
         requires { size_after (event_view event.now) (T.state self.old.terminal.now).size
             ≡ (T.state self.old.terminal.now).size }
-        ensures same_reference { self.new.terminal.ghost_name ≡ self.old.terminal.ghost_name }
-        ensures used { IsUsed T.follows self.old.terminal.now self.new.terminal.now }
+        ensures terminal { KeepsTerminal T.follows self.old.terminal self.new.terminal }
         ensures ended { is_open self.old.session.state.mode ≡ false
-            → (result ≡ Ok LineStatus.Ended)
-            × across T.state H.value IsSame self.old host.old self.new host.new }
-        ensures untouched { is_open self.old.session.state.mode ≡ false
-            → (self.new.terminal.now ≡ self.old.terminal.now) × (host.new ≡ host.old) }
+            → (result ≡ Ok LineStatus.Ended) × (self.new.terminal.now ≡ self.old.terminal.now)
+            × (host.new ≡ host.old) × across T.state H.value IsSame self.old host.old self.new host.new }
         ensures ok { is_open self.old.session.state.mode ≡ true
             → OnOk result (across T.state H.value
             (IsFed H.rules H.OVERRIDES (event_view event.now))
@@ -109,16 +101,14 @@ impl<'term, T: Terminal> LineEditor<'term, T> {
         Ok(self.status())
     }
 
-    /// Ends a line that was fed its events: returns the line, and none where it was cancelled. A line that takes
-    /// more events is returned as it stands. The closing batch is rendered and flushed. No line is open then,
-    /// whether it is refused or not. Where no line was begun nothing is done, and none is returned.
+    /// Ends a line that was fed its events. Returns the line, as it stands if it takes more events, and `None` if it was
+    /// cancelled. The closing batch is rendered and flushed. No line is open then, whether the call is refused or not. If
+    /// no line was begun, nothing is done, and `None` is returned.
     pub fn finish_line(&mut self) -> Result<Option<String>, Error>
-        ensures same_reference { self.new.terminal.ghost_name ≡ self.old.terminal.ghost_name }
-        ensures used { IsUsed T.follows self.old.terminal.now self.new.terminal.now }
+        ensures terminal { KeepsTerminal T.follows self.old.terminal self.new.terminal }
         ensures inactive { self.old.session.state.mode ≡ Inactive → (result ≡ Ok None)
+            × (self.new.terminal.now ≡ self.old.terminal.now)
             × (own_frame T.state self.new ≡ own_frame T.state self.old) }
-        ensures untouched { self.old.session.state.mode ≡ Inactive → self.new.terminal.now
-            ≡ self.old.terminal.now }
         ensures ok { self.old.session.state.mode ≢ Inactive
             → IfOk result (λ it. FinishesLine (own_frame T.state self.old)
             (own_frame T.state self.new) (outcome_of (Ok it))) }
@@ -161,7 +151,7 @@ impl<'term, T: Terminal> LineEditor<'term, T> {
         self.terminal
     }
 
-    /// Whether the line takes more events.
+    /// Returns whether the line takes more events.
     pub(crate) fn status(&self) -> LineStatus
         ensures { result ≡ status_if (is_open self.now.session.state.mode) }
     {

@@ -37,7 +37,7 @@ impl Model for Cycle {
 }
 
 impl Cycle {
-    /// The first candidate has come in for this line.
+    /// Begins with the first candidate, which has replaced this line.
     fn new(candidates: Vec<CompletionCandidate>, original: LineEditBuffer) -> Self
         requires { 0 < vec_len candidates }
         ensures { result ≡ record {
@@ -54,7 +54,7 @@ impl Cycle {
     }
 
     /// Goes to the next candidate, and from the last to the first. The answer is the original line with it.
-    /// Where it is refused nothing is changed.
+    /// If it is refused, nothing is changed.
     fn advance(&mut self, alloc: Global) -> Result<LineEditBuffer, Error>
         ensures ok { IfOk result (Advances self.old self.new) }
         ensures err { IfErr result (FailsToAdvance self.old self.new) }
@@ -66,7 +66,7 @@ impl Cycle {
     }
 }
 
-/// Where the cursor comes to stand once the candidate's text has taken the place of its range, if it fits.
+/// Returns where the cursor comes to stand once the candidate's text has taken the place of its range, if it fits.
 fn landing_of(start: usize, end: usize, text: &str, line: &str, cursor: usize) -> Option<usize>
     requires { IsCharBoundary line.now cursor }
     ensures { MatchOption result
@@ -92,7 +92,7 @@ fn landing_of(start: usize, end: usize, text: &str, line: &str, cursor: usize) -
     if lands { Some(at) } else { None }
 }
 
-/// A copy of the line with the candidate's text in the place of its range. It is tested before it grows.
+/// Returns a copy of the line with the candidate's text in the place of its range. It is tested before it grows.
 fn completed_by(
     alloc: Global,
     candidate: &CompletionCandidate,
@@ -117,7 +117,7 @@ fn completed_by(
 
 impl Session {
     /// Puts in the first of the host's candidates for the line that is shown, or the cycle's next one, and
-    /// leaves a search. Where it is refused nothing is changed.
+    /// leaves a search. If it is refused, nothing is changed.
     #[tactic(auto, unfolding(crate::specs::Steps::apply, crate::specs::Completion::completion_step))]
     pub(super) fn complete<H: LineEditorHost>(&mut self, host: &H) -> Result<(), Error>
         ensures ok { OnOk result (ActsOn H.rules (H.value host.now) Complete self.old self.new) }
@@ -160,7 +160,7 @@ impl Session {
         Ok(())
     }
 
-    /// The first of the candidates has come in, and makes this line; two or more are kept.
+    /// Takes the first candidate, which makes this line. Two or more are kept.
     fn take_first(&mut self, completed: LineEditBuffer, candidates: Vec<CompletionCandidate>)
         requires { self.old.state.cycle ≡ None }
         ensures { self.new

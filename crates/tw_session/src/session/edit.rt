@@ -20,7 +20,7 @@ pub(super) enum Edit<'a> {
 }
 
 impl Edit<'_> {
-    /// Edits a line. Where it is refused the line is as it was; where nothing is inserted it is not refused.
+    /// Applies the edit to a line. A refusal leaves the line, and comes only if something is inserted.
     fn apply(self, line: &mut LineEditBuffer) -> Result<(), AllocError>
         ensures ok { OnOk result (line.new ≡ edit_of self.entry line.old) }
         ensures err { OnErr result (line.new ≡ line.old) }
@@ -39,7 +39,7 @@ impl Edit<'_> {
 
 impl Session {
     /// Edits the line; while searching, the pattern, which is then applied again, where there are lines to seek it in.
-    /// Where it is refused nothing is changed.
+    /// If it is refused, nothing is changed.
     #[tactic(auto, unfolding(crate::specs::Search::searched_again))]
     pub(super) fn edit<H: LineEditorHost>(
         &mut self,

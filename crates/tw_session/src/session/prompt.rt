@@ -5,7 +5,7 @@ ghost use Rattle.std.specs.Prelude.{◌≡◌, codes, IfOk};
 use std::alloc::{AllocError, Global};
 use std::marker::Model;
 
-/// What stands before the line. The default one takes no memory.
+/// What stands before the line.
 #[derive(Debug, Drop)]
 pub struct Prompt {
     /// The prompt that was set, if one was.
@@ -25,14 +25,14 @@ impl Prompt {
     /// The prompt of a new editor.
     const DEFAULT: &'static str = "> ";
 
-    /// The default prompt. It takes no memory.
+    /// Creates the default prompt. Takes no memory.
     pub fn new() -> Self
         ensures { result ≡ codes "> " }
     {
         Prompt { own: None }
     }
 
-    /// A prompt of this text.
+    /// Returns a prompt of this text.
     pub fn from_str(alloc: Global, text: &str) -> Result<Self, AllocError>
         ensures { IfOk result (λ prompt. prompt ≡ text.now) }
     {
@@ -40,7 +40,7 @@ impl Prompt {
         Ok(Prompt { own: Some(text) })
     }
 
-    /// The text.
+    /// Returns the text.
     pub fn as_str(&self) -> &str
         ensures { result.now ≡ self.now }
     {

@@ -19,7 +19,8 @@ pub struct Found {
     idx: HistoryIndex,
 }
 
-/// The nearest line from an index on that contains the pattern. Where no line has the index the history is not asked.
+/// Returns the nearest line from an index on that contains the pattern. If no line has the index, the history is not
+/// asked.
 fn find<H: LineEditorHost>(
     host: &mut H,
     alloc: Global,
@@ -51,7 +52,7 @@ fn find<H: LineEditorHost>(
     }
 }
 
-/// The nearest line from the last one on that contains the pattern.
+/// Returns the nearest line from the last one on that contains the pattern.
 fn find_from_last<H: LineEditorHost>(
     host: &mut H,
     alloc: Global,
@@ -73,7 +74,7 @@ fn find_from_last<H: LineEditorHost>(
 }
 
 impl Session {
-    /// Leaves a search: the matching line comes in. It takes no memory.
+    /// Leaves a search: the matching line comes in.
     pub(super) fn leave_search(&mut self)
         ensures { self.new ≡ on_state search_left self.old }
     {
@@ -83,7 +84,7 @@ impl Session {
         }
     }
 
-    /// Makes this line the pattern and applies it from the last line on, while searching. Where it is refused
+    /// Makes this line the pattern and applies it from the last line on, while searching. If it is refused,
     /// nothing is changed.
     #[tactic(auto, unfolding(crate::specs::Search::searched_again))]
     pub(super) fn search_again<H: LineEditorHost>(
@@ -117,7 +118,7 @@ impl Session {
         Ok(())
     }
 
-    /// Begins a search, or goes on with it beside the index. Where it is refused nothing is changed.
+    /// Begins a search, or goes on with it beside the index. If it is refused, nothing is changed.
     #[tactic(auto, unfolding(crate::specs::Search::search_step))]
     pub(super) fn search<H: LineEditorHost>(
         &mut self,

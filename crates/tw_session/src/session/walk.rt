@@ -14,7 +14,7 @@ use std::borrow::CowStr;
 use tw_host::LineEditorHost;
 use tw_line::{History, HistoryIndex, SearchDirection};
 
-/// The line at an index, if there is one. Where there is none the history is not asked.
+/// Returns the line at an index, if there is one. If there is none, the history is not asked.
 fn line_at<L: History>(
     history: &L,
     alloc: Global,
@@ -30,7 +30,7 @@ fn line_at<L: History>(
     }
 }
 
-/// The line after an index, if there is one. Where there is none the history is not asked.
+/// Returns the line after an index, if there is one. If there is none, the history is not asked.
 fn line_after<L: History>(
     history: &L,
     alloc: Global,
@@ -48,7 +48,7 @@ fn line_after<L: History>(
 }
 
 impl Session {
-    /// Takes the line before; while searching, searches backwards. Where it is refused nothing is changed.
+    /// Takes the line before; while searching, searches backwards. If it is refused, nothing is changed.
     pub(super) fn step_back<H: LineEditorHost>(&mut self, host: &mut H) -> Result<(), AllocError>
         ensures host { host.new ≡ host.old }
         ensures ok { let lines = H.rules.lines (H.value host.old) in
@@ -66,7 +66,7 @@ impl Session {
         }
     }
 
-    /// Takes the line after; while searching, searches forwards. Where it is refused nothing is changed.
+    /// Takes the line after; while searching, searches forwards. If it is refused, nothing is changed.
     pub(super) fn step_forth<H: LineEditorHost>(&mut self, host: &mut H) -> Result<(), AllocError>
         ensures host { host.new ≡ host.old }
         ensures ok { let lines = H.rules.lines (H.value host.old) in
@@ -168,7 +168,7 @@ impl Session {
         Ok(())
     }
 
-    /// Leaves the history: the typed line comes back, or the line is cleared. Where it is refused nothing is
+    /// Leaves the history: the typed line comes back, or the line is cleared. If it is refused, nothing is
     /// changed.
     fn restore(&mut self) -> Result<(), AllocError>
         ensures ok { OnOk result (self.new ≡ on_state with_typed_line self.old) }

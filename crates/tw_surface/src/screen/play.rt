@@ -64,7 +64,7 @@ pub fn ends_in_range(width: usize, start_row: usize, start_col: usize, text: &[u
     true
 }
 
-// Plays a character that stands after the near cells, or moves the cursor alone, and returns the cursor after it.
+// Plays a character that stands after the near cells, or only moves the cursor, and returns the cursor after it.
 fn play_far(far: &mut Vec<Cell>, width: usize, row: usize, col: usize, byte: u8) -> (usize, usize)
     requires width_above { 0 < width }
     requires width_most { width ≤ 65535 }

@@ -8,13 +8,14 @@ use crate::screen::far::Cell;
 use crate::screen::near::{blank_to, place_of};
 use std::alloc::AllocError;
 
-// How many near cells may be added: so many, and so many more for each character.
+// How many near cells may be added at any time.
 const MAX_GAP: usize = 4_096;
 
+// How many more may be added for each character.
 const MAX_SPREAD: usize = 32;
 
-// Makes room for so many characters before a place, and shows what was shown. Where that place and all far cells
-// stand not far after the near ones, all become near cells; else there is room for so many more far ones.
+// Makes room for `count` characters before the place `end`, and shows what was shown. If that place and all far cells
+// stand not far after the near ones, all become near cells; else there is room for `count` more far ones.
 pub fn make_room(
     near: &mut Vec<u8>,
     far: &mut Vec<Cell>,
@@ -45,7 +46,7 @@ pub fn make_room(
     Ok(())
 }
 
-// The greater of a place and that after all far cells, where it is not far after the near ones.
+// Returns the greater of a place and that after all far cells, if it is not far after the near ones.
 fn close_end(near: usize, far: &[Cell], width: usize, end: usize, count: usize) -> Option<usize>
     requires { IsSparse width near far.now }
     ensures text { IfSome result (λ last. end ≤ last) }

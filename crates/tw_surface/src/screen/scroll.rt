@@ -10,7 +10,7 @@ use crate::screen::Screen;
 use crate::screen::far::{Cell, find_cell};
 use crate::screen::near::place_of;
 
-// Cells that stand in some row or below go up by so many rows.
+// Moves cells up by `rows` rows.
 fn raise_cells(cells: &mut [Cell], rows: usize)
     requires { All (λ x. rows ≤ x.row) cells.old }
     ensures { cells.new ≡ map (higher_cell rows) cells.old }

@@ -23,12 +23,12 @@ returns-clause-err g c =
 pub returns-clause-sized : goal.returns-clause-sized
 returns-clause-sized g c =
     led_by_told g.T.Terminal.state g.T.Terminal.follows g.T.DeviceTerminal.may_keep g.T.DeviceTerminal.does g.met.T.DeviceTerminal.call_does (event_view c.args.event.now)
-    c.args.editor.now.terminal.now c.terminal.result.now c.prepare.new.terminal c.feed.new.self.terminal.now c.terminal.ensures.shows c.prepare.ensures.sized c.feed.ensures.used
+    c.args.editor.now.terminal.now c.terminal.result.now c.prepare.new.terminal c.feed.new.self.terminal.now c.terminal.ensures.shows c.prepare.ensures.sized c.feed.ensures.terminal.1
 
 pub returns-clause-fed : goal.returns-clause-fed
 returns-clause-fed g c =
     fed_with g.T.Terminal.state g.T.Terminal.follows g.T.DeviceTerminal.may_keep g.T.DeviceTerminal.does g.met.T.DeviceTerminal.call_does c.args.is_more (event_view c.args.event.now)
-    c.args.editor.now.terminal.now c.terminal.result.now c.prepare.new.terminal c.feed.new.self.terminal.now c.terminal.ensures.shows c.prepare.ensures.sized c.prepare.ensures.last c.feed.ensures.used
+    c.args.editor.now.terminal.now c.terminal.result.now c.prepare.new.terminal c.feed.new.self.terminal.now c.terminal.ensures.shows c.prepare.ensures.sized c.prepare.ensures.last c.feed.ensures.terminal.1
 
 pub returns-clause-led : goal.returns-clause-led
 returns-clause-led g c =

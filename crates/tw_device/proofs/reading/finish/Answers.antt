@@ -16,13 +16,13 @@ pub returns-clause-calls : goal.returns-clause-calls
 returns-clause-calls g c =
     one_call_then g.T.Terminal.state g.T.DeviceTerminal.does Other c.args.editor.now.terminal.now c.terminal.result.now c.set_more_at_hand.new.self c.finish_line.new.self.terminal.now
     c.terminal.ensures.shows c.set_more_at_hand.ensures.called
-    (used_leads g.T.DeviceTerminal.does g.T.Terminal.follows g.met.T.DeviceTerminal.call_does _ _ c.finish_line.ensures.used)
+    (used_leads g.T.DeviceTerminal.does g.T.Terminal.follows g.met.T.DeviceTerminal.call_does _ _ c.finish_line.ensures.terminal.1)
 
 pub returns-clause-closed : goal.returns-clause-closed
 returns-clause-closed g c =
     called_with_seen g.T.Terminal.state g.T.Terminal.follows g.T.DeviceTerminal.may_keep g.T.DeviceTerminal.does g.met.T.DeviceTerminal.call_does false
     c.args.editor.now.terminal.now c.terminal.result.now c.set_more_at_hand.new.self c.finish_line.new.self.terminal.now
-    c.terminal.ensures.shows c.set_more_at_hand.ensures.called c.set_more_at_hand.ensures.state c.set_more_at_hand.ensures.last c.finish_line.ensures.used
+    c.terminal.ensures.shows c.set_more_at_hand.ensures.called c.set_more_at_hand.ensures.state c.set_more_at_hand.ensures.last c.finish_line.ensures.terminal.1
 
 -- what the editor sees of its terminal is as before
 pub returns-clause-ok : goal.returns-clause-ok

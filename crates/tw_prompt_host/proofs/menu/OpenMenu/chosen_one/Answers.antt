@@ -11,4 +11,4 @@ returns c =
     let one : at + 1 - at ≡ 1 = omega arith in
     let taken = ap (λ n. map candidate_view (take n (drop at items))) one ∙ sym (take-map candidate_view 1 (drop at items)) ∙ ap (take 1) (sym (drop-map candidate_view at items)) in
     let seen = ap (λ l. take 1 (drop at (map candidate_view l))) c.deref.ensures.value ∙ ap chosen_of c.self.view_is in
-    subst (λ l. IfOk c.copied.result (λ copies. map candidate_view copies.items ≡ l)) (taken ∙ seen) c.copied.ensures
+    subst (λ l. IfOk c.copy_candidates.result (λ copies. map candidate_view copies.items ≡ l)) (taken ∙ seen) c.copy_candidates.ensures

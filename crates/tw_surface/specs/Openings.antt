@@ -1,0 +1,54 @@
+-- What the first cluster of a text begins with, where no rule looks further back than to its last character.
+use Rattle.std.specs.Prelude.{ℕ, ◌≡◌, ◌⊎◌, ⊤, true, false, List, [], ◌∷◌, ◌++◌, map, encode_utf8, encode_utf8_all}
+use Rattle.ucd_breaks.specs.GraphemeClusterBreak.{grapheme_cluster_break}
+use Rattle.ucd_derived.specs.IndicConjunctBreak.{indic_conjunct_break}
+use Rattle.unicode_segmentation.specs.Grapheme.{ends_in_linker, ends_in_pictograph, is_grapheme_break}
+use Rattle.tw_surface.specs.Clusters.{is_joined, is_picture, is_plain_extend, is_plain_mark}
+
+-- behind these characters, nearest first, what joins whatever stands before it goes on, and all else begins anew
+pub record IsPlainEnd (before : List ℕ) : Type 0 where
+  pub joins : (next : ℕ) (after : List ℕ) → is_joined (grapheme_cluster_break next) ≡ true → is_grapheme_break true before (next ∷ after) ≡ false
+  pub breaks : (next : ℕ) (after : List ℕ) → is_joined (grapheme_cluster_break next) ≡ false → is_grapheme_break true before (next ∷ after) ≡ true
+  pub no_linker : ends_in_linker (map indic_conjunct_break before) ≡ false
+
+-- these characters, behind those, are of one cluster, and settled
+abbrev pub IsOpen : List ℕ → List ℕ → Type 0
+IsOpen before [] = ⊥
+IsOpen before (c ∷ []) = IsPlainEnd (c ∷ before)
+IsOpen before (c ∷ d ∷ cs) =
+    ((after : List ℕ) → is_grapheme_break true (c ∷ before) (d ∷ after) ≡ false) × IsOpen (c ∷ before) (d ∷ cs)
+
+-- a text begins with such characters
+abbrev pub BeginsOpen : List ℕ → List ℕ → Type 0
+BeginsOpen text rest = (cs : List ℕ) × (text ≡ encode_utf8_all cs ++ rest) × IsOpen [] cs
+
+-- a text begins with a mark
+abbrev pub IsPastMark : List ℕ → List ℕ → Type 0
+IsPastMark text rest = (c : ℕ) × (text ≡ encode_utf8 c ++ rest) × (is_plain_mark c ≡ true)
+
+abbrev pub AreMarks : List ℕ → Type 0
+AreMarks [] = ⊤
+AreMarks (c ∷ cs) = (is_plain_mark c ≡ true) × AreMarks cs
+
+-- a text begins with marks, or with none
+abbrev pub ArePastMarks : List ℕ → List ℕ → Type 0
+ArePastMarks text rest = (cs : List ℕ) × (text ≡ encode_utf8_all cs ++ rest) × AreMarks cs
+
+-- a text begins with a pictograph
+abbrev pub IsPastPictograph : List ℕ → List ℕ → Type 0
+IsPastPictograph text rest = (c : ℕ) × (text ≡ encode_utf8 c ++ rest) × (is_picture c ≡ true)
+
+-- a text begins with what goes on a cluster that ends in a pictograph and its marks: a mark, or a joiner and a pictograph
+abbrev pub GoesOn : List ℕ → List ℕ → Type 0
+GoesOn text rest =
+    ((c : ℕ) × (text ≡ encode_utf8 c ++ rest) × (is_plain_extend c ≡ true))
+    ⊎ ((c : ℕ) × (text ≡ encode_utf8_all (0x200D ∷ c ∷ []) ++ rest) × (is_picture c ≡ true))
+
+-- some characters behind others, nearest first
+abbrev pub nearest : List ℕ → List ℕ → List ℕ
+nearest before [] = before
+nearest before (c ∷ cs) = nearest (c ∷ before) cs
+
+-- a text begins with characters of one cluster that end in a pictograph and its marks
+abbrev pub ArePictures : List ℕ → List ℕ → Type 0
+ArePictures text rest = (cs : List ℕ) × (text ≡ encode_utf8_all cs ++ rest) × IsOpen [] cs × (ends_in_pictograph (nearest [] cs) ≡ true)
