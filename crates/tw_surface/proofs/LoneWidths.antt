@@ -17,11 +17,11 @@ use Rattle.unicode_width.specs.Kind.{kind}
 use Rattle.unicode_width.specs.Width.{of_kind, alone, in_context, joins, past_emoji, past_selectors, step, str_width}
 use Rattle.unicode_width.proofs.KindLemmas.{kind_stepped}
 use Rattle.unicode_width.proofs.Rules.{str_width-printable}
-use Rattle.tw_surface.specs.Clusters.{flag_letters, lone_columns, lone_len, narrow_blocks, starts_apart, wide_blocks, IsFlag}
+use Rattle.tw_surface.specs.Clusters.{ends_syllable, syllables, IsFirstCluster, flag_letters, lone_columns, lone_len, narrow_blocks, starts_apart, wide_blocks, IsFlag}
 use Rattle.tw_surface.specs.Width.{cluster_width}
 use Rattle.tw_surface.specs.Places.{cluster_piece, IsWideSplit}
 use Rattle.tw_surface.specs.declared.measure.Piece.TheVariants.{Wide}
-use Rattle.tw_surface.proofs.OpeningLemmas.{first_opened, opens_alone}
+use Rattle.tw_surface.proofs.OpeningLemmas.{first_opened, first_syllable, opens_alone}
 use Rattle.tw_surface.proofs.LoneCharacters.{two_bytes, three_bytes, alone_in_block, first_high, some_bytes, BeginsLone, BeginsLone-from, IsLone, no_columns, only_character}
 
 is_narrow : Kind → Bool
@@ -117,26 +117,44 @@ no_line_end (b ∷ bs) low =
     let no_lf : eqb b 10 ≡ false = grind (arith, nat_tests) in
     rw (no_cr, no_lf) refl
 
--- a character of a block before what does not join it
-pub wide_split : (text rest : List ℕ) (c : ℕ) → IsUtf8 text → IsUtf8 rest → text ≡ encode_utf8 c ++ rest → 0 < lone_columns c
-    → starts_apart (chars rest) ≡ true → IsWideSplit text (lone_columns c) rest
-wide_split text rest c u v whole some apart =
+-- a character that is the first cluster of a text
+wide_first : (text rest : List ℕ) (c columns : ℕ) → IsUtf8 text → text ≡ encode_utf8 c ++ rest → 0xA0 < c → columns ≤ 2
+    → str_width false (c ∷ []) ≡ columns → IsFirstCluster text (length text - length rest) → IsWideSplit text columns rest
+wide_first text rest c columns u whole high few wide first =
     let cluster = encode_utf8 c in
-    let first = first_opened text rest u v (opens_alone text rest c whole (alone_in_block c some)) apart in
     let all : scalars (c ∷ chars rest) ≡ true = ap scalars (sym (chars_past_char text rest c u whole)) ∙ scalars-chars text u in
     let own : chars cluster ≡ c ∷ [] = only_character cluster [] c (IsUtf8-encode c (and_parts (scalar c) (scalars (chars rest)) all).0) (sym (append-nil cluster)) (omega arith) in
     let parts = ap length whole ∙ length-append cluster rest in
     let end : length cluster ≡ length text - length rest = omega (arith, parts) in
     let front : take (length text - length rest) text ≡ cluster = rw (← end) (ap (take (length cluster)) whole ∙ take_at cluster rest (length cluster) refl) in
     let behind : drop (length text - length rest) text ≡ rest = rw (← end) (ap (drop (length cluster)) whole ∙ drop_at cluster rest (length cluster) refl) in
-    let width : cluster_width cluster ≡ lone_columns c = ap (str_width false) own ∙ block_columns c some in
+    let width : cluster_width cluster ≡ columns = ap (str_width false) own ∙ wide in
     record {
       cluster = cluster;
       split = (whole, some_bytes c, first.first ∙ ap₂ (λ t d. t ∷ graphemes true d) front behind);
       width = width;
-      piece = no_line_end cluster (first_high c (block_low c some)) ∙ ap Wide width;
-      bound = grind (arith, nat_tests);
+      piece = no_line_end cluster (first_high c high) ∙ ap Wide width;
+      bound = few;
     }
+
+-- one of a block before what does not join it
+pub wide_split : (text rest : List ℕ) (c : ℕ) → IsUtf8 text → IsUtf8 rest → text ≡ encode_utf8 c ++ rest → 0 < lone_columns c
+    → starts_apart (chars rest) ≡ true → IsWideSplit text (lone_columns c) rest
+wide_split text rest c u v whole some apart =
+    wide_first text rest c (lone_columns c) u whole (block_low c some) (grind (arith, nat_tests)) (block_columns c some)
+    (first_opened text rest u v (opens_alone text rest c whole (alone_in_block c some)) apart)
+
+syllable_kinds : (c : ℕ) → (not (in_ranges syllables c) || is_wide (kind c)) ≡ true
+unfolding is_wide tables kind_stepped
+syllable_kinds = Stepped-everywhere _ (zip_stepped (λ inside k. not inside || is_wide k) (in_ranges syllables) kind (of_ranges syllables refl) kind_stepped) refl
+
+-- a syllable of Hangul before what does not join it
+pub syllable_split : (text rest : List ℕ) (c : ℕ) → IsUtf8 text → IsUtf8 rest → text ≡ encode_utf8 c ++ rest → in_ranges syllables c ≡ true
+    → ends_syllable (chars rest) ≡ true → IsWideSplit text 2 rest
+syllable_split text rest c u v whole is ends =
+    let high = block_above syllables c refl is in
+    wide_first text rest c 2 u whole high (omega arith) (width_of_one c 2 high (wide-is c (kind c) (rw is at (syllable_kinds c))))
+    (first_syllable text rest c u v whole is ends)
 
 -- a flag takes two
 

@@ -8,7 +8,7 @@ use Rattle.std.specs.Str.{chars, IsUtf8}
 use Rattle.ucd_table.specs.Rows.{in_ranges}
 use Rattle.ucd_table.proofs.Computing.{tables}
 use Rattle.ucd_table.proofs.Facts.{Stepped-everywhere}
-use Rattle.ucd_table.proofs.Stepped.{of_ranges, zip_stepped}
+use Rattle.ucd_table.proofs.Stepped.{map_stepped, of_ranges, zip_stepped}
 use Rattle.ucd_breaks.specs.GraphemeClusterBreak.{grapheme_cluster_break}
 use Rattle.ucd_breaks.specs.declared.GraphemeClusterBreak.{GraphemeClusterBreak}
 use Rattle.ucd_breaks.specs.declared.GraphemeClusterBreak.TheVariants.{Control, Cr, Extend, L, Lf, Lv, Lvt, Other, Prepend, RegionalIndicator, SpacingMark, T, V, Zwj}
@@ -22,7 +22,7 @@ use Rattle.ucd_derived.proofs.IndicConjunctBreakLemmas.{indic_conjunct_break_ste
 use Rattle.ucd_emoji.specs.Binary.{is_extended_pictographic}
 use Rattle.unicode_segmentation.specs.Grapheme.{break_by_pair, ends_in_half_flag, ends_in_linker, ends_in_pictograph, is_extend, is_grapheme_break, is_regional, is_zwj}
 use Rattle.unicode_segmentation.specs.Segments.{cut, prepend}
-use Rattle.tw_surface.specs.Clusters.{flag_letters, is_extend_break, is_picture, is_plain_extend, is_joined, is_linker, is_linking, is_mark_break, is_other, is_plain_mark, stands_alone, starts_apart, IsFirstCluster}
+use Rattle.tw_surface.specs.Clusters.{ends_syllable, flag_letters, lone_ranges, syllables, is_picture, is_plain_extend, is_joined, is_linker, is_linking, is_mark_break, is_other, is_plain_mark, stands_alone, starts_apart, IsFirstCluster}
 use Rattle.tw_surface.specs.Openings.{IsOpen, IsPlainEnd, BeginsOpen, IsPastMark, IsPastPictograph, GoesOn, nearest, ArePictures, AreMarks, ArePastMarks}
 use Rattle.tw_surface.proofs.ClusterSeams.{ends_in_linker-not}
 use Rattle.tw_surface.proofs.ClusterCuts.{clusters_of, IsFirstCluster-from}
@@ -192,13 +192,13 @@ opens_marks text behind rest (cs, whole, opened) (marks, more, are) = (cs ++ mar
 
 -- ---- and pictographs behind joiners
 
-extend_is_mark : (g : GraphemeClusterBreak) → is_extend_break g ≡ true → (is_mark_break g ≡ true) × (is_extend g ≡ true)
+extend_is_mark : (g : GraphemeClusterBreak) → is_extend g ≡ true → (is_mark_break g ≡ true) × (is_extend g ≡ true)
 extend_is_mark Extend h = (refl, refl)
 extend_is_mark _ h = absurd (false≢true h)
 
 plain_extend_is_mark : (c : ℕ) → is_plain_extend c ≡ true → is_plain_mark c ≡ true
 plain_extend_is_mark c is =
-    let parts = and_parts (is_extend_break (grapheme_cluster_break c)) (not (is_linker (indic_conjunct_break c))) is in
+    let parts = and_parts (is_extend (grapheme_cluster_break c)) (not (is_linker (indic_conjunct_break c))) is in
     and_from _ _ (extend_is_mark (grapheme_cluster_break c) parts.0).0 parts.1
 
 pictured_mark : (before cs : List ℕ) (mark : ℕ) → ends_in_pictograph (nearest before cs) ≡ true → is_plain_extend mark ≡ true
@@ -283,18 +283,70 @@ cut_of before (c ∷ d ∷ cs) ds opened apart =
     let more = cut_of (c ∷ before) (d ∷ cs) ds opened.1 apart in
     record { others = more.others; cuts = ap₂ (λ b pieces. if b then (c ∷ []) ∷ pieces else prepend (c ∷ []) pieces) (opened.0 ((cs ++ ds) ++ [])) more.cuts }
 
-pub opens-length : (text rest : List ℕ) → BeginsOpen text rest → length rest ≤ length text
-opens-length text rest (cs, whole, opened) = let parts = ap length whole ∙ length-append (encode_utf8_all cs) rest in omega (arith, parts)
-
-pub first_opened : (text rest : List ℕ) → IsUtf8 text → IsUtf8 rest → BeginsOpen text rest → starts_apart (chars rest) ≡ true → IsFirstCluster text (length text - length rest)
-first_opened text rest u v (cs, whole, opened) apart =
+first_cut : (text rest cs : List ℕ) → IsUtf8 text → IsUtf8 rest → text ≡ encode_utf8_all cs ++ rest → Cut [] cs (chars rest) → IsFirstCluster text (length text - length rest)
+first_cut text rest cs u v whole first =
     let parts = ap length whole ∙ length-append (encode_utf8_all cs) rest in
     let all : encode_utf8_all (cs ++ chars rest) ≡ text = encodes-append cs (chars rest) ∙ ap (λ t. encode_utf8_all cs ++ t) (encodes-chars rest v) ∙ sym whole in
     let is : chars text ≡ cs ++ chars rest = sym (chars_from_encodes (cs ++ chars rest) text u all) in
-    let first = cut_of [] cs (chars rest) opened apart in
     let bytes : length (encode_utf8_all cs) ≡ length text - length rest = omega (arith, parts) in
     subst (IsFirstCluster text) bytes
     (IsFirstCluster-from text u (encode_utf8_all cs) _ (clusters_of text (cs ++ chars rest) is ∙ ap (map encode_utf8_all) first.cuts))
+
+pub first_opened : (text rest : List ℕ) → IsUtf8 text → IsUtf8 rest → BeginsOpen text rest → starts_apart (chars rest) ≡ true → IsFirstCluster text (length text - length rest)
+first_opened text rest u v (cs, whole, opened) apart = first_cut text rest cs u v whole (cut_of [] cs (chars rest) opened apart)
+
+-- ---- a syllable of Hangul
+
+is_syllable_break : GraphemeClusterBreak → Bool
+is_syllable_break Lv = true
+is_syllable_break Lvt = true
+is_syllable_break _ = false
+
+syllable_facts : (c : ℕ) → (not (in_ranges syllables c) || (is_syllable_break (grapheme_cluster_break c) && not (is_linking (indic_conjunct_break c)))) ≡ true
+unfolding is_syllable_break tables ucd_breaks ucd_derived
+syllable_facts =
+    Stepped-everywhere _
+    (zip_stepped (λ inside is. not inside || is) (in_ranges syllables) (λ c. is_syllable_break (grapheme_cluster_break c) && not (is_linking (indic_conjunct_break c)))
+    (of_ranges syllables refl)
+    (zip_stepped (λ g v. is_syllable_break g && not (is_linking v)) grapheme_cluster_break indic_conjunct_break grapheme_cluster_break_stepped indic_conjunct_break_stepped))
+    refl
+
+ends_facts : (c : ℕ) → (not (in_ranges syllables c || in_ranges lone_ranges c) || (is_syllable_break (grapheme_cluster_break c) || is_other (grapheme_cluster_break c))) ≡ true
+unfolding is_syllable_break tables ucd_breaks
+ends_facts =
+    Stepped-everywhere _
+    (zip_stepped (λ inside is. not inside || is) (λ c. in_ranges syllables c || in_ranges lone_ranges c) (λ c. is_syllable_break (grapheme_cluster_break c) || is_other (grapheme_cluster_break c))
+    (zip_stepped (λ a b. a || b) (in_ranges syllables) (in_ranges lone_ranges) (of_ranges syllables refl) (of_ranges lone_ranges refl))
+    (map_stepped (λ g. is_syllable_break g || is_other g) grapheme_cluster_break grapheme_cluster_break_stepped))
+    refl
+
+syllable_breaks : (left right : GraphemeClusterBreak) → is_syllable_break left ≡ true → (is_syllable_break right || is_other right) ≡ true
+    → (unwrap_or (break_by_pair true left right) true ≡ true) × (is_zwj left ≡ false) × (is_regional left ≡ false)
+unfolding is_syllable_break
+syllable_breaks Lv Other l r = (refl, refl, refl)
+syllable_breaks Lv Lv l r = (refl, refl, refl)
+syllable_breaks Lv Lvt l r = (refl, refl, refl)
+syllable_breaks Lvt Other l r = (refl, refl, refl)
+syllable_breaks Lvt Lv l r = (refl, refl, refl)
+syllable_breaks Lvt Lvt l r = (refl, refl, refl)
+syllable_breaks Lv _ l r = absurd (false≢true r)
+syllable_breaks Lvt _ l r = absurd (false≢true r)
+syllable_breaks _ _ l r = absurd (false≢true l)
+
+cut_syllable : (c : ℕ) (ds : List ℕ) → in_ranges syllables c ≡ true → ends_syllable ds ≡ true → Cut [] (c ∷ []) ds
+unfolding cut is_grapheme_break ends_in_half_flag
+cut_syllable c [] is ends = record { others = []; cuts = refl }
+cut_syllable c (d ∷ ds) is ends =
+    let facts = and_parts (is_syllable_break (grapheme_cluster_break c)) (not (is_linking (indic_conjunct_break c))) (rw is at (syllable_facts c)) in
+    let pair = syllable_breaks (grapheme_cluster_break c) (grapheme_cluster_break d) facts.0 (rw ends at (ends_facts d)) in
+    let others = cut (is_grapheme_break true) (c ∷ []) (d ∷ ds) [] in
+    let breaks : is_grapheme_break true (c ∷ []) (d ∷ ds ++ []) ≡ true =
+    rw (ends_in_linker-not (indic_conjunct_break c) [] (not-true _ facts.1), pair.1, pair.2) pair.0 in
+    record { others = others; cuts = ap (λ b. if b then (c ∷ []) ∷ others else prepend (c ∷ []) others) breaks }
+
+pub first_syllable : (text rest : List ℕ) (c : ℕ) → IsUtf8 text → IsUtf8 rest → text ≡ encode_utf8 c ++ rest → in_ranges syllables c ≡ true
+    → ends_syllable (chars rest) ≡ true → IsFirstCluster text (length text - length rest)
+first_syllable text rest c u v whole is ends = first_cut text rest (c ∷ []) u v (one text rest c whole) (cut_syllable c (chars rest) is ends)
 
 -- ---- the first marks
 

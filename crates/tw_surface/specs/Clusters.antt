@@ -9,7 +9,7 @@ use Rattle.ucd_derived.specs.IndicConjunctBreak.{indic_conjunct_break}
 use Rattle.ucd_emoji.specs.Binary.{is_extended_pictographic}
 use Rattle.ucd_derived.specs.declared.IndicConjunctBreak.{IndicConjunctBreak}
 use Rattle.ucd_derived.specs.declared.IndicConjunctBreak.TheVariants as conjuncts
-use Rattle.unicode_segmentation.specs.Grapheme.{graphemes}
+use Rattle.unicode_segmentation.specs.Grapheme.{graphemes, is_extend}
 use Rattle.tw_surface.specs.Characters.{is_printable}
 
 -- the bytes of a character that begins with this byte, where all such characters are a cluster each in a row of
@@ -34,11 +34,13 @@ IsFlag text =
     (c : ℕ) × (d : ℕ) × (text ≡ encode_utf8 c ++ encode_utf8 d)
     × (in_ranges flag_letters c ≡ true) × (in_ranges flag_letters d ≡ true)
 
--- characters of one column that are a cluster each before any that does not join them: letters of Hebrew and Arabic,
--- accented Latin and Greek, punctuation, arrows, mathematics, box drawing, Braille, private use, halfwidth kana
+-- characters of one column that are a cluster each before any that does not join them: letters of Hebrew, Arabic,
+-- Devanagari, Tamil and Thai, accented Latin and Greek, punctuation, arrows, mathematics, box drawing, Braille, private
+-- use, halfwidth kana
 abbrev pub narrow_blocks : List Range
 narrow_blocks =
-    (0x05D0, 0x05DB) ∷ (0x05DD, 0x05FF) ∷ (0x0628, 0x064A) ∷ (0x0676, 0x06D5) ∷ (0x1E00, 0x200A) ∷ (0x2010, 0x2027)
+    (0x05D0, 0x05DB) ∷ (0x05DD, 0x05FF) ∷ (0x0628, 0x064A) ∷ (0x0676, 0x06D5) ∷ (0x0904, 0x0939) ∷ (0x0B83, 0x0BB9)
+    ∷ (0x0E01, 0x0E30) ∷ (0x0E40, 0x0E46) ∷ (0x1E00, 0x200A) ∷ (0x2010, 0x2027)
     ∷ (0x2070, 0x20CF) ∷ (0x20F1, 0x2319) ∷ (0x232B, 0x23E8) ∷ (0x23F4, 0x25FC) ∷ (0x27C0, 0x2B1A) ∷ (0xE000, 0xF8FF)
     ∷ (0xFF61, 0xFF9D) ∷ []
 
@@ -53,6 +55,15 @@ abbrev pub wide_blocks : List Range
 wide_blocks =
     (0x3000, 0x3029) ∷ (0x3041, 0x3096) ∷ (0x309B, 0x30FF) ∷ (0x3250, 0xA48C) ∷ (0xF900, 0xFAFF) ∷ (0xFF01, 0xFF60)
     ∷ picture_blocks
+
+-- Hangul
+abbrev pub syllables : List Range
+syllables = (0xAC00, 0xD7A3) ∷ []
+
+-- nothing joins a syllable there
+abbrev pub ends_syllable : List ℕ → Bool
+ends_syllable [] = true
+ends_syllable (c ∷ cs) = in_ranges syllables c || in_ranges lone_ranges c
 
 -- the columns of such a character. Else 0
 abbrev pub lone_columns : ℕ → ℕ
@@ -92,13 +103,9 @@ is_mark_break _ = false
 abbrev pub is_plain_mark : ℕ → Bool
 is_plain_mark c = is_mark_break (grapheme_cluster_break c) && not (is_linker (indic_conjunct_break c))
 
-abbrev pub is_extend_break : GraphemeClusterBreak → Bool
-is_extend_break Extend = true
-is_extend_break _ = false
-
 -- such a character that may stand between a pictograph and a joiner
 abbrev pub is_plain_extend : ℕ → Bool
-is_plain_extend c = is_extend_break (grapheme_cluster_break c) && not (is_linker (indic_conjunct_break c))
+is_plain_extend c = is_extend (grapheme_cluster_break c) && not (is_linker (indic_conjunct_break c))
 
 -- a pictograph that is a base
 abbrev pub is_picture : ℕ → Bool

@@ -4,7 +4,7 @@ ghost use Rattle.std.specs.Prelude.{◌≡◌, ◌<◌, ◌≤◌, [], length, t
 ghost use Rattle.std.specs.Str.{chars};
 ghost use Rattle.unicode_segmentation.specs.Grapheme.{graphemes};
 ghost use Rattle.ucd_table.specs.Rows.{in_ranges};
-ghost use Rattle.tw_surface.specs.Clusters.{flag_letters, picture_blocks, is_picture, is_plain_extend, is_plain_mark, lone_columns, lone_len, lone_ranges, narrow_blocks, stands_alone, starts_apart, wide_blocks, IsFirstCluster, IsSplit};
+ghost use Rattle.tw_surface.specs.Clusters.{flag_letters, picture_blocks, is_picture, is_plain_extend, is_plain_mark, lone_columns, lone_len, lone_ranges, ends_syllable, syllables, narrow_blocks, stands_alone, starts_apart, wide_blocks, IsFirstCluster, IsSplit};
 ghost use Rattle.tw_surface.specs.Places.{IsWideSplit};
 ghost use Rattle.tw_surface.specs.Openings.{ArePastMarks, ArePictures, GoesOn, IsPastMark, IsPastPictograph, BeginsOpen};
 
@@ -50,6 +50,10 @@ fn is_in_narrow_block(c: char) -> bool
             | '\u{05DD}'..='\u{05FF}'
             | '\u{0628}'..='\u{064A}'
             | '\u{0676}'..='\u{06D5}'
+            | '\u{0904}'..='\u{0939}'
+            | '\u{0B83}'..='\u{0BB9}'
+            | '\u{0E01}'..='\u{0E30}'
+            | '\u{0E40}'..='\u{0E46}'
             | '\u{1E00}'..='\u{200A}'
             | '\u{2010}'..='\u{2027}'
             | '\u{2070}'..='\u{20CF}'
@@ -385,7 +389,8 @@ pub fn split_block(text: &str) -> Option<(usize, &str)>
 {
     match text.as_bytes().first() {
         // (the first bytes of the characters of blocks)
-        Some(0xD7..=0xDB | 0xE1..=0xE3 | 0xEE..=0xF0) => split_lone(text),
+        Some(0xD7..=0xDB | 0xE0..=0xE3 | 0xEE..=0xF0) => split_lone(text),
+        Some(0xEA..=0xED) => split_syllable(text),
         _ => None,
     }
 }
@@ -407,6 +412,39 @@ fn split_lone(text: &str) -> Option<(usize, &str)>
     let rest = chars.as_str();
     if columns > 0 && starts_apart(rest) {
         Some((columns, rest))
+    } else {
+        None
+    }
+}
+
+/// Returns true if the character is a syllable of Hangul.
+#[tactic(auto, unfolding(ucd_table::specs::Rows::in_ranges))]
+fn is_syllable(c: char) -> bool
+    ensures { result ≡ in_ranges syllables c }
+{
+    ('\u{AC00}'..='\u{D7A3}').contains(&c)
+}
+
+/// Returns true if the text is empty or begins with a character that does not join a syllable.
+fn ends_syllable(text: &str) -> bool
+    ensures { result ≡ ends_syllable (chars text.now) }
+{
+    match text.chars().next() {
+        Some(next) => is_syllable(next) || is_in_lone_range(next),
+        None => true,
+    }
+}
+
+/// Returns the same as [`split_lone`] for a syllable of Hangul.
+#[inline(never)]
+fn split_syllable(text: &str) -> Option<(usize, &str)>
+    ensures { IfSome result (λ (columns, rest). IsWideSplit text.now columns rest.now) }
+{
+    let mut chars = text.chars();
+    let first = chars.next()?;
+    let rest = chars.as_str();
+    if is_syllable(first) && ends_syllable(rest) {
+        Some((2, rest))
     } else {
         None
     }
