@@ -9,7 +9,7 @@ use Rattle.laws_screens.proofs.LineOfCells.{same_cell, next_row, behind_cell, st
 use Rattle.tw_surface.specs.declared.cell.CellAttributes.{CellAttributes}
 use Rattle.laws_screens.specs.StyledCells.{StyledCell}
 use Rattle.tw_changed.specs.declared.cell.ScreenCell.{ScreenCell}
-use Rattle.tw_changed.specs.StyledScreens.{StyledView, ShowsStyled, AreDrawn, styled_cell}
+use Rattle.tw_changed.specs.StyledScreens.{StyledView, ShowsStyled, ShowsSame, IsPutAt, AreDrawn, styled_at, styled_cell}
 
 -- ---- lists of cells
 
@@ -30,6 +30,22 @@ cut_there (suc k) [] i d h = refl
 cut_there (suc k) (x ∷ cells) zero d h = absurd (omega arith)
 cut_there (suc k) (x ∷ cells) (suc i) d h = cut_there k cells i d (omega arith)
 
+push_at : (cells : List ScreenCell) (i : ℕ) (x d : ScreenCell) → slice_index_or (cells ++ x ∷ []) i d ≡ (if eqb i (length cells) then x else slice_index_or cells i d)
+push_at cells i x d = elim (cases_eq i (length cells)) [
+  | inl e ↦ rw (eq-eqb i (length cells) e, e) (last_of cells x d)
+  | inr n ↦ rw (ne_eqb i (length cells) n) (others cells i x d n)
+]
+  where
+    last_of : (cells : List ScreenCell) (x d : ScreenCell) → slice_index_or (cells ++ x ∷ []) (length cells) d ≡ x
+    last_of [] x d = refl
+    last_of (y ∷ cells) x d = last_of cells x d
+
+    others : (cells : List ScreenCell) (i : ℕ) (x d : ScreenCell) → (i ≡ length cells → ⊥) → slice_index_or (cells ++ x ∷ []) i d ≡ slice_index_or cells i d
+    others [] zero x d n = absurd (n refl)
+    others [] (suc i) x d n = refl
+    others (y ∷ cells) zero x d n = refl
+    others (y ∷ cells) (suc i) x d n = others cells i x d (λ e. n (ap suc e))
+
 take_at : (k : ℕ) (cells : List ScreenCell) (i : ℕ) (d rest : ScreenCell) → k ≤ length cells → slice_index_or (take k cells) i rest ≡ (if leb k i then rest else slice_index_or cells i d)
 take_at k cells i d rest h = elim (cases_lt i k) [
   | inl before ↦ rw (lt-leb k i before) (get_or-take k cells i rest before ∙ same_inside cells i rest d (omega (arith, before, h)))
@@ -38,39 +54,67 @@ take_at k cells i d rest h = elim (cases_lt i k) [
 
 -- ---- one stroke
 
--- a character is put in the next cell
-pub put_shows : (width row col place new_row new_col : ℕ) (kept : CellAttributes) (cells : List ScreenCell) (rest x : ScreenCell) (s : PictureOf StyledCell)
-    → 0 < width → col ≤ width → place ≡ row * width + col → place < length cells
-    → new_row ≡ (if eqb col width then row + 1 else row) → new_col ≡ (if eqb col width then 0 else col)
-    → ShowsStyled (record { width = width; row = row; col = col; kept = kept; cells = cells; rest = rest }) s
-    → ShowsStyled (record { width = width; row = new_row; col = new_col + 1; kept = kept; cells = slice_set cells place x; rest = rest }) (put width (styled_cell x) s)
-put_shows width row col place new_row new_col kept cells rest x s some most at inside is_row is_col h = rw (ap (λ i. eqb i width) h.col) (by_wrap (eqb col width) refl is_row is_col)
-  where
-    written : (i j : ℕ) → j < width → i * width + j ≡ place → (r c : ℕ) → c < width
-        → put_in s.cell i j (styled_cell x) r c ≡ styled_cell (slice_index_or (slice_set cells place x) (r * width + c) rest)
-    written i j low e r c k =
-        rw (same_cell width r c i j k low, e, h.cell r c k) (by_place (eqb (r * width + c) place))
-        ∙ ap styled_cell (sym (set_at cells place (r * width + c) x rest inside))
-      where
-        by_place : (b : Bool) → (if b then styled_cell x else styled_cell (slice_index_or cells (r * width + c) rest)) ≡ styled_cell (if b then x else slice_index_or cells (r * width + c) rest)
-        by_place true = refl
-        by_place false = refl
+-- what shows the same shows the same picture
+pub same_shows : (old new : StyledView) (s : PictureOf StyledCell) → new.width ≡ old.width → ShowsSame old new → ShowsStyled old s → ShowsStyled new s
+same_shows old new s width same h = record {
+  cell = λ r c low. h.cell r c (omega (arith, low, width)) ∙ sym (rw width (same.cells (r * old.width + c)));
+  row = h.row ∙ sym same.row;
+  col = h.col ∙ sym same.col;
+}
 
-    by_wrap : (b : Bool) → eqb col width ≡ b → new_row ≡ (if b then row + 1 else row) → new_col ≡ (if b then 0 else col)
-        → ShowsStyled (record { width = width; row = new_row; col = new_col + 1; kept = kept; cells = slice_set cells place x; rest = rest })
-        (if b then record { cell = put_in s.cell (s.row + 1) 0 (styled_cell x); row = s.row + 1; col = 1 }
-        else record { cell = put_in s.cell s.row s.col (styled_cell x); row = s.row; col = s.col + 1 })
+-- a cell that stands there is replaced
+pub set_puts : (old : StyledView) (place : ℕ) (x : ScreenCell) → place < length old.cells → IsPutAt place (styled_cell x) old (record old { cells = slice_set old.cells place x })
+set_puts old place x inside = record {
+  cells = λ i. ap styled_cell (set_at old.cells place i x old.rest inside) ∙ by_place (eqb i place) i;
+  row = refl;
+  col = refl;
+}
+  where
+    by_place : (b : Bool) (i : ℕ) → styled_cell (if b then x else slice_index_or old.cells i old.rest) ≡ (if b then styled_cell x else styled_at old i)
+    by_place true i = refl
+    by_place false i = refl
+
+-- a cell is added
+pub push_puts : (old mid : StyledView) (place : ℕ) (x : ScreenCell) → length mid.cells ≡ place → ShowsSame old mid → IsPutAt place (styled_cell x) old (record mid { cells = mid.cells ++ x ∷ [] })
+push_puts old mid place x len same = record {
+  cells = λ i. ap styled_cell (rw len at (push_at mid.cells i x mid.rest)) ∙ by_place (eqb i place) i;
+  row = same.row;
+  col = same.col;
+}
+  where
+    by_place : (b : Bool) (i : ℕ) → styled_cell (if b then x else slice_index_or mid.cells i mid.rest) ≡ (if b then styled_cell x else styled_at old i)
+    by_place true i = refl
+    by_place false i = same.cells i
+
+-- a character is put in the next cell
+pub put_shows : (old mid : StyledView) (place new_row new_col : ℕ) (x : StyledCell) (s : PictureOf StyledCell)
+    → 0 < old.width → old.col ≤ old.width → place ≡ old.row * old.width + old.col
+    → new_row ≡ (if eqb old.col old.width then old.row + 1 else old.row) → new_col ≡ (if eqb old.col old.width then 0 else old.col)
+    → mid.width ≡ old.width → IsPutAt place x old mid → ShowsStyled old s
+    → ShowsStyled (record mid { row = new_row; col = new_col + 1 }) (put old.width x s)
+put_shows old mid place new_row new_col x s some most at is_row is_col width written h = rw (ap (λ i. eqb i old.width) h.col) (by_wrap (eqb old.col old.width) refl is_row is_col)
+  where
+    put_there : (i j : ℕ) → j < old.width → i * old.width + j ≡ place → (r c : ℕ) → c < mid.width
+        → put_in s.cell i j x r c ≡ styled_at mid (r * mid.width + c)
+    put_there i j low e r c k =
+        let here : c < old.width = omega (arith, k, width) in
+        rw (same_cell old.width r c i j here low, e, h.cell r c here, width) (sym (written.cells (r * old.width + c)))
+
+    by_wrap : (b : Bool) → eqb old.col old.width ≡ b → new_row ≡ (if b then old.row + 1 else old.row) → new_col ≡ (if b then 0 else old.col)
+        → ShowsStyled (record mid { row = new_row; col = new_col + 1 })
+        (if b then record { cell = put_in s.cell (s.row + 1) 0 x; row = s.row + 1; col = 1 }
+        else record { cell = put_in s.cell s.row s.col x; row = s.row; col = s.col + 1 })
     by_wrap true e is_row is_col =
-        let edge : col ≡ width = eqb-true col width e in
+        let edge : old.col ≡ old.width = eqb-true old.col old.width e in
         record {
-          cell = written (s.row + 1) 0 some (omega (arith, next_row s.row width 0, ap (λ i. i * width) h.row, at, edge));
+          cell = put_there (s.row + 1) 0 some (omega (arith, next_row s.row old.width 0, ap (λ i. i * old.width) h.row, at, edge));
           row = omega (arith, h.row, is_row);
           col = omega (arith, is_col);
         }
     by_wrap false e is_row is_col =
-        let inner : col ≡ width → ⊥ = eqb-false col width e in
+        let inner : old.col ≡ old.width → ⊥ = eqb-false old.col old.width e in
         record {
-          cell = written s.row s.col (omega (arith, h.col, most, inner)) (omega (arith, ap (λ i. i * width) h.row, h.col, at));
+          cell = put_there s.row s.col (omega (arith, h.col, most, inner)) (omega (arith, ap (λ i. i * old.width) h.row, h.col, at));
           row = omega (arith, h.row, is_row);
           col = omega (arith, h.col, is_col);
         }

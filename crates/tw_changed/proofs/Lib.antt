@@ -1,7 +1,9 @@
 pub mod DrawnCells
+pub mod PlainCells
 pub mod FoundColumns
 pub mod DrawnRows
 pub mod TypedCells
+pub mod TypedOn
 pub mod DrawnScreens
 pub mod DrawnEnds
 pub mod DrawnChangedScreens

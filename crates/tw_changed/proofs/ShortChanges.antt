@@ -1,14 +1,13 @@
 -- What does not differ is not sent.
 use Rattle.std.proofs.Common.{◌≡◌, ◌<◌, ◌≤◌, ◌+◌, ◌*◌, ◌-◌, ◌/◌, ◌%◌, ℕ, zero, suc, Bool, true, false, not, max, cond, Option, Some, None, [], ap, ◌∙◌, refl, arith}
 use Rattle.std.proofs.Math.Nat.{mod-lt, div-lt_iff_lt-mul}
-use Rattle.std.proofs.lemmas.Bool.{and_from, eq-eqb, le-leb, le-ltb}
+use Rattle.std.proofs.lemmas.Bool.{eq-eqb, le-leb, le-ltb}
 use Rattle.tw_surface.proofs.EqualityLemmas.{attributes_equal}
 use Rattle.tw_surface.specs.declared.cell.CellAttributes.{CellAttributes}
 use Rattle.tw_line.specs.Extremes.{greatest_below}
-use Rattle.tw_line.proofs.ExtremesLemmas.{least_from-none}
 use Rattle.laws_screens.specs.StyledCells.{StyledCell}
 use Rattle.tw_changed.specs.declared.hand.Hand.{Hand}
-use Rattle.tw_changed.specs.Differences.{is_same_cell, differ_in, first_changed, is_used, end_of, blank_cell, behind_index}
+use Rattle.tw_changed.specs.Differences.{is_same_cell, is_used, end_of, blank_cell, behind_index}
 use Rattle.tw_changed.specs.Redrawings.{Redrawing, at_ease, redraw_then, led_to, under, row_redrawn, rows_redrawn, handed_to, rest_of, rest_emptied, left_of, lowest_reached, sunk_to, lowered, rows_drawn_on, hand_index, cells_redrawn, goes_onward, gone_onward}
 use Rattle.tw_changed.specs.Shortness.{NothingIsSentForNothing}
 use Rattle.tw_changed.proofs.FoundColumns.{no_change}

@@ -1,5 +1,5 @@
 -- What a screen of characters and attributes holds, and the pictures that it shows.
-use Rattle.std.specs.Prelude.{ℕ, ◌≡◌, ◌+◌, ◌-◌, ◌*◌, drop, ◌<◌, ◌≤◌, List, [], ◌++◌, chars, map, slice_index_or}
+use Rattle.std.specs.Prelude.{ℕ, ◌≡◌, ◌+◌, ◌-◌, ◌*◌, drop, ◌<◌, ◌≤◌, eqb, if◌then◌else◌, Bool, true, max, Option, IfSome, option_map, List, [], ◌++◌, chars, map, slice_index_or}
 use Rattle.laws_screens.specs.Strokes.{PictureOf, Stroke, steps}
 use Rattle.tw_surface.specs.declared.cell.CellAttributes.{CellAttributes}
 use Rattle.tw_surface.specs.declared.color.ColorAttribute.{ColorAttribute}
@@ -14,6 +14,10 @@ use Rattle.tw_changed.specs.declared.cell.ScreenCell.{ScreenCell}
 -- a cell of the screen, as one of a picture
 abbrev pub styled_cell : ScreenCell → StyledCell
 styled_cell cell = record { ch = cell.character; attributes = cell.attributes }
+
+-- a character under attributes
+abbrev pub cell_under : CellAttributes → ℕ → ScreenCell
+cell_under attributes ch = record { character = ch; attributes = attributes }
 
 -- what a clearing to a colour leaves
 abbrev pub paper_cell : ColorAttribute → ScreenCell
@@ -47,11 +51,37 @@ pub record IsInReach (screen : StyledView) : Type 0 where
 abbrev pub styled_at : StyledView → ℕ → StyledCell
 styled_at screen place = styled_cell (slice_index_or screen.cells place screen.rest)
 
+-- all cells have the default attributes from a place on
+abbrev pub IsPlainFrom : ℕ → StyledView → Type 0
+IsPlainFrom from screen = (place : ℕ) → from ≤ place → (styled_at screen place).attributes ≡ default_attributes
+
+-- from where on they have these once cells up to a last one are written, under these where that is said
+abbrev pub plain_behind : Bool → ℕ → Option ℕ → Option ℕ
+plain_behind is_plain last plain_from = option_map (λ from. if is_plain then from else max from (last + 1)) plain_from
+
+-- what a screen keeps beside what it shows: it is in reach, and, where it says so, text is typed under the default attributes, and from a place on all cells have these
+pub record IsKept (is_plain : Bool) (plain_from : Option ℕ) (screen : StyledView) : Type 0 where
+  pub reach : IsInReach screen
+  pub plain : is_plain ≡ true → screen.kept ≡ default_attributes
+  pub cells : IfSome plain_from (λ from. IsPlainFrom from screen)
+
 -- the screen shows a picture: its cells in each column that it has, and its cursor
 pub record ShowsStyled (screen : StyledView) (s : PictureOf StyledCell) : Type 0 where
   pub cell : (r c : ℕ) → c < screen.width → s.cell r c ≡ styled_at screen (r * screen.width + c)
   pub row : s.row ≡ screen.row
   pub col : s.col ≡ screen.col
+
+-- a screen shows what another one shows
+pub record ShowsSame (old new : StyledView) : Type 0 where
+  pub cells : (place : ℕ) → styled_at new place ≡ styled_at old place
+  pub row : new.row ≡ old.row
+  pub col : new.col ≡ old.col
+
+-- a cell was put at a place of the line of all rows
+pub record IsPutAt (place : ℕ) (cell : StyledCell) (old new : StyledView) : Type 0 where
+  pub cells : (i : ℕ) → styled_at new i ≡ (if eqb i place then cell else styled_at old i)
+  pub row : new.row ≡ old.row
+  pub col : new.col ≡ old.col
 
 -- strokes lead from one screen to another: whatever picture the first one shows, the other shows what they draw on it
 abbrev pub AreDrawn : StyledView → List (Stroke StyledCell) → StyledView → Type 0

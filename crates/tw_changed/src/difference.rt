@@ -1,9 +1,9 @@
 //! Where two screens differ.
 
-ghost use Rattle.std.specs.Prelude.{◌≡◌, ℕ, ◌<◌, ◌≤◌, ◌+◌, ◌-◌, ◌*◌, IfSome, Some, None, is_none, ltb, true, false, if◌then◌else◌};
+ghost use Rattle.std.specs.Prelude.{◌≡◌, ℕ, ◌<◌, ◌≤◌, ◌+◌, ◌-◌, ◌*◌, IfSome, Some, None, is_none, ltb, true, false, if◌then◌else◌, not};
 ghost use Rattle.tw_changed.specs.StyledScreens.{styled_cell};
 ghost use Rattle.tw_changed.specs.ChangedScreens.{AreByBytes, AreAllByBytes};
-ghost use Rattle.tw_changed.specs.Differences.{differ_in, first_changed, last_changed, is_used, end_of};
+ghost use Rattle.tw_changed.specs.Differences.{differ_in, is_same_cell, first_changed, last_changed, is_used, end_of};
 ghost use Rattle.tw_line.specs.Extremes.{greatest_below, least_from};
 ghost use Rattle.tw_changed.specs.Redrawings.{ends_blank, goes_onward, indexed, left_of};
 ghost use Rattle.tw_changed.specs.Sending.{ArePrintable, IsPrintable, screen_cells};
@@ -13,17 +13,6 @@ use crate::hand::Hand;
 use crate::laws::colors;
 use crate::screen::StyledScreen;
 use tw_surface::ColorAttribute;
-
-/// Returns what stands at a row and a column.
-pub fn cell_at(screen: &StyledScreen, row: usize, col: usize) -> ScreenCell
-    requires { col < screen.now.width }
-    ensures { styled_cell result ≡ screen_cells screen.now row col }
-{
-    match screen.cell(row, col) {
-        Some(cell) => cell,
-        None => ScreenCell::blank(ColorAttribute::Default),
-    }
-}
 
 /// Returns what stands at a row and a column of a screen that was emptied from an index on, counted along the rows.
 fn left_at(screen: &StyledScreen, from: Option<usize>, row: usize, col: usize) -> ScreenCell
@@ -35,7 +24,7 @@ fn left_at(screen: &StyledScreen, from: Option<usize>, row: usize, col: usize) -
         Some(from) if from / width < row || (from / width == row && from % width <= col) => {
             ScreenCell::blank(ColorAttribute::Default)
         }
-        _ => cell_at(screen, row, col),
+        _ => *screen.at(row, col),
     }
 }
 
@@ -52,7 +41,34 @@ fn differ_at(
     ensures { result ≡ differ_in (left_of old.now.width from (screen_cells old.now) row)
         (screen_cells new.now row) col }
 {
-    left_at(old, from, row, col) != cell_at(new, row, col)
+    left_at(old, from, row, col) != *new.at(row, col)
+}
+
+/// Returns true if two cells differ. If `is_plain`, it is known that both have the same attributes.
+fn is_other(old: &ScreenCell, new: &ScreenCell, is_plain: bool) -> bool
+    requires { is_plain ≡ true → old.now.attributes ≡ new.now.attributes }
+    ensures { result ≡ not (is_same_cell (styled_cell old.now) (styled_cell new.now)) }
+{
+    old.character != new.character || !is_plain && old.attributes != new.attributes
+}
+
+/// Returns true if two screens of one width show the same in the first `cols` columns of a row.
+pub fn is_same_in_row(old: &StyledScreen, new: &StyledScreen, row: usize, cols: usize) -> bool
+    requires width { old.now.width ≡ new.now.width }
+    requires cols { cols ≤ new.now.width }
+    ensures { result
+        ≡ is_none (least_from (differ_in (screen_cells old.now row)
+        (screen_cells new.now row)) 0 cols) }
+{
+    let is_plain = old.is_plain_row(row) && new.is_plain_row(row);
+    let before = old.cells_from(row);
+    let after = new.cells_from(row);
+    for col in 0..cols {
+        if is_other(old.cell_of(before, col), new.cell_of(after, col), is_plain) {
+            return false;
+        }
+    }
+    true
 }
 
 /// Returns the first column of a row in which two screens differ, the old one being emptied from an index on.
@@ -67,6 +83,9 @@ pub fn first_changed(
         (left_of old.now.width from (screen_cells old.now) row) (screen_cells new.now row) }
     ensures bound { IfSome result (λ col. col < new.now.width) }
 {
+    if from.is_none() && is_same_in_row(old, new, row, new.width()) {
+        return None;
+    }
     for col in 0..new.width() {
         if differ_at(old, from, new, row, col) {
             return Some(col);
@@ -102,7 +121,7 @@ fn is_used(screen: &StyledScreen, index: usize) -> bool
     ensures { result ≡ is_used screen.now.width (screen_cells screen.now) index }
 {
     let width = screen.width();
-    cell_at(screen, index / width, index % width) != ScreenCell::blank(ColorAttribute::Default)
+    *screen.at(index / width, index % width) != ScreenCell::blank(ColorAttribute::Default)
 }
 
 /// Returns where the cells of some rows end: the index after the last one that is not blank.
@@ -135,22 +154,6 @@ pub fn rest_of(old: &StyledScreen, rows: usize, end: usize) -> Option<usize>
     None
 }
 
-/// Returns true if two screens of one width show the same in the first `cols` columns of a row.
-pub fn is_same_in_row(old: &StyledScreen, new: &StyledScreen, row: usize, cols: usize) -> bool
-    requires width { old.now.width ≡ new.now.width }
-    requires cols { cols ≤ new.now.width }
-    ensures { result
-        ≡ is_none (least_from (differ_in (screen_cells old.now row)
-        (screen_cells new.now row)) 0 cols) }
-{
-    for col in 0..cols {
-        if differ_at(old, None, new, row, col) {
-            return false;
-        }
-    }
-    true
-}
-
 /// Returns true if two screens show the same before an index, counted along the rows.
 fn is_same_before(old: &StyledScreen, new: &StyledScreen, end: usize) -> bool
     requires { old.now.width ≡ new.now.width }
@@ -171,7 +174,7 @@ fn is_same_before(old: &StyledScreen, new: &StyledScreen, end: usize) -> bool
 fn ends_blank(screen: &StyledScreen, row: usize) -> bool
     ensures { result ≡ ends_blank screen.now.width (screen_cells screen.now) row }
 {
-    cell_at(screen, row, screen.width() - 1) == ScreenCell::blank(ColorAttribute::Default)
+    *screen.at(row, screen.width() - 1) == ScreenCell::blank(ColorAttribute::Default)
 }
 
 /// Returns true if none of the rows from one to before another ends in a blank.
@@ -223,8 +226,9 @@ fn is_printable_row(screen: &StyledScreen, row: usize) -> bool
     ensures colors { result ≡ true → (j : ℕ) → j < screen.now.width
         → AreByBytes (screen_cells screen.now row j).attributes }
 {
+    let cells = screen.cells_from(row);
     for col in 0..screen.width() {
-        let cell = cell_at(screen, row, col);
+        let cell = screen.cell_of(cells, col);
         if !(' '..='~').contains(&cell.character) {
             return false;
         }

@@ -14,7 +14,7 @@ mod redrawer;
 mod screen;
 
 pub use cell::ScreenCell;
-pub use difference::{cell_at, is_printable, is_same_in_row};
+pub use difference::{is_printable, is_same_in_row};
 pub use hand::Hand;
 pub use redrawer::send_changed;
 pub use screen::StyledScreen;

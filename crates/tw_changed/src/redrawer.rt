@@ -6,7 +6,7 @@ ghost use Rattle.tw_ansi.specs.Encoding.{ExtendsBytes, terse_batch};
 ghost use Rattle.tw_changed.specs.Redrawings.{led_to, under, row_redrawn, rows_redrawn, handed_to, emptied_here, rest_emptied, rest_of, left_of, fed, sunk_to, lowered, hand_index, indexed, cell_redrawn, cells_redrawn, redraw_then, redrawn};
 ghost use Rattle.tw_changed.specs.Sending.{IsAdded, IsPrintable, screen_cells, changes_between, hand_of};
 
-use crate::difference::{cell_at, end_of, first_changed, goes_onward, last_changed, rest_of};
+use crate::difference::{end_of, first_changed, goes_onward, last_changed, rest_of};
 use crate::hand::Hand;
 use crate::screen::StyledScreen;
 use std::alloc::AllocError;
@@ -79,7 +79,7 @@ impl Redrawer {
         ensures err { OnErr result (ExtendsBytes (string_bytes out.old) (string_bytes out.new)) }
     {
         let width = screen.width();
-        let cell = cell_at(screen, index / width, index % width);
+        let cell = *screen.at(index / width, index % width);
         self.select(cell.attributes, out)?;
         self.encoder.encode_byte(cell.character as u8, out)?;
         self.hand.row = index / width;

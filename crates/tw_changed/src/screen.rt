@@ -1,13 +1,15 @@
 //! The screen.
 
-ghost use Rattle.std.specs.Prelude.{◌≡◌, ℕ, ◌+◌, ◌*◌, ◌<◌, ◌≤◌, ◌↔◌, [], ◌∷◌, chars, map, length, Ok, Err, IfOk, OnOk, OnErr, slice_index_or, eqb, if◌then◌else◌, List};
+ghost use Rattle.std.specs.Prelude.{◌≡◌, ℕ, ◌+◌, ◌*◌, ◌<◌, ◌≤◌, ◌↔◌, [], ◌∷◌, ◌++◌, chars, map, max, length, Ok, Err, IfOk, OnOk, OnErr, slice_index_or, eqb, if◌then◌else◌, true, List};
+ghost use Rattle.std.specs.List.{list_all};
+ghost use Rattle.tw_surface.specs.Characters.{is_printable};
 ghost use Rattle.tw_surface.specs.ChangeView.{change_view};
 ghost use Rattle.tw_surface.specs.Simple.{spelled_change};
 ghost use Rattle.tw_surface.specs.Positions.{at_least_0, position_after};
 ghost use Rattle.laws_screens.specs.Strokes.Stroke.{Clear, ClearBehind, Move, Put};
 ghost use Rattle.laws_screens.specs.Pens.{change_strokes, char_stroke, kept_after, led};
 ghost use Rattle.laws_screens.specs.StyledCells.{styled};
-ghost use Rattle.tw_changed.specs.StyledScreens.{AreDrawn, IsRefusedAt, IsSameBut, IsSure, WritesBeginning, blank_styled, paper_cell, styled_cell, without_rows};
+ghost use Rattle.tw_changed.specs.StyledScreens.{AreDrawn, IsPlainFrom, IsPutAt, IsRefusedAt, IsSameBut, IsSure, ShowsSame, WritesBeginning, blank_styled, cell_under, paper_cell, plain_behind, styled_cell, without_rows};
 
 use crate::cell::ScreenCell;
 use std::alloc::{AllocError, Global};
@@ -22,7 +24,8 @@ const LAST_ROW: usize = 4_294_967_295;
 
 /// A screen without a bottom: a character under its attributes in each cell, and a cursor. Rows and columns are
 /// numbered from 0, and the cursor's column is the width where it waits after the last column. It keeps the cells of
-/// all rows down to the last one that was written, and each character takes one of them.
+/// all rows down to the last one that was written, and each character takes one of them. If it `is_plain`, text is typed
+/// under the default attributes. All cells have these from the place `plain_from` on, if it is known.
 #[derive(Debug, Drop)]
 pub struct StyledScreen {
     width: usize,
@@ -31,16 +34,18 @@ pub struct StyledScreen {
     kept: CellAttributes,
     cells: Vec<ScreenCell>,
     rest: ScreenCell,
+    is_plain: bool,
+    plain_from: Option<usize>,
 }
 
 impl Model for StyledScreen {
-    ghost use Rattle.tw_changed.specs.StyledScreens.{StyledView, IsInReach};
+    ghost use Rattle.tw_changed.specs.StyledScreens.{StyledView, IsKept};
 
     ghost Value = { StyledView };
 
     ghost view = { λ s. record { width = s.width; row = s.row; col = s.col; kept = s.kept; cells = s.cells.items; rest = s.rest } };
 
-    ghost invariant = { λ s. IsInReach
+    ghost invariant = { λ s. IsKept s.is_plain s.plain_from
         (record { width = s.width; row = s.row; col = s.col; kept = s.kept; cells = s.cells.items; rest = s.rest }) };
 }
 
@@ -64,6 +69,8 @@ impl StyledScreen {
             kept: CellAttributes::default(),
             cells: Vec::new(alloc),
             rest: ScreenCell::blank(ColorAttribute::Default),
+            is_plain: true,
+            plain_from: Some(0),
         })
     }
 
@@ -80,6 +87,8 @@ impl StyledScreen {
             kept: self.kept,
             cells: Vec::from_slice(alloc, &self.cells[from..])?,
             rest: self.rest,
+            is_plain: self.is_plain,
+            plain_from: self.plain_from,
         })
     }
 
@@ -90,7 +99,42 @@ impl StyledScreen {
         self.without_rows(alloc, 0)
     }
 
-    /// Returns what stands at a row and a column of the screen.
+    /// Returns the cells that are kept, from the first one of a row on. Those behind them are all alike.
+    pub(crate) fn cells_from(&self, row: usize) -> &[ScreenCell]
+        ensures { (col : ℕ) → slice_index_or result.now col self.now.rest
+            ≡ slice_index_or self.now.cells (row * self.now.width + col) self.now.rest }
+    {
+        let start = row.saturating_mul(self.width).min(self.cells.len());
+        &self.cells[start..]
+    }
+
+    /// Returns what stands at an index of the cells from the first one of a row on.
+    pub(crate) fn cell_of<'a>(&'a self, cells: &'a [ScreenCell], index: usize) -> &'a ScreenCell
+        ensures { result.now ≡ slice_index_or cells.now index self.now.rest }
+    {
+        cells.get(index).unwrap_or(&self.rest)
+    }
+
+    /// Returns what stands at a row and a column, which the screen has.
+    pub fn at(&self, row: usize, col: usize) -> &ScreenCell
+        requires { col < self.now.width }
+        ensures { result.now
+            ≡ slice_index_or self.now.cells (row * self.now.width + col) self.now.rest }
+    {
+        self.cell_of(self.cells_from(row), col)
+    }
+
+    /// Returns true if it is known that all cells of a row have the default attributes.
+    pub(crate) fn is_plain_row(&self, row: usize) -> bool
+        ensures { result ≡ true → IsPlainFrom (row * self.now.width) self.now }
+    {
+        match self.plain_from {
+            Some(from) => from <= row.saturating_mul(self.width),
+            None => false,
+        }
+    }
+
+    /// Returns what stands at a row and a column of the screen, or `None` if it has no such column.
     pub fn cell(&self, row: usize, col: usize) -> Option<ScreenCell>
         ensures inside { col < self.now.width → result
             ≡ Some (slice_index_or self.now.cells (row * self.now.width + col) self.now.rest) }
@@ -99,8 +143,7 @@ impl StyledScreen {
         if col >= self.width {
             return None;
         }
-        let place = row.saturating_mul(self.width).saturating_add(col);
-        Some(*self.cells.get(place).unwrap_or(&self.rest))
+        Some(*self.at(row, col))
     }
 
     /// Returns the cursor's row and column. The column is the width where the cursor waits after the last.
@@ -144,10 +187,12 @@ impl StyledScreen {
         match change {
             Change::Attribute(change) => {
                 self.kept.apply_change(change);
+                self.is_plain = self.kept == CellAttributes::default();
                 Ok(())
             }
             Change::AllAttributes(attributes) => {
                 self.kept = *attributes;
+                self.is_plain = self.kept == CellAttributes::default();
                 Ok(())
             }
             Change::Text(text) => self.write(text.as_str()),
@@ -184,14 +229,31 @@ impl StyledScreen {
     /// Adds cells up to a place, each as the one after all others: nothing else is shown then.
     fn fill_to(&mut self, place: usize) -> Result<(), ScreenFault>
         ensures same { IsSameBut self.old self.new }
-        ensures shown { AreDrawn self.old [] self.new }
-        ensures cursor { (self.new.row ≡ self.old.row) × (self.new.col ≡ self.old.col) }
-        ensures len { OnOk result (place ≤ length self.new.cells) }
+        ensures shown { ShowsSame self.old self.new }
+        ensures len { OnOk result (length self.new.cells ≡ max (length self.old.cells) place) }
         ensures err { OnErr result (result ≡ Err ScreenFault.Memory) }
     {
         if self.cells.len() < place && self.cells.resize(place, self.rest).is_err() {
             return Err(ScreenFault::Memory);
         }
+        Ok(())
+    }
+
+    /// Puts a character at a place, under the attributes that are selected.
+    fn put_at(&mut self, place: usize, character: char) -> Result<(), ScreenFault>
+        requires { place < 281474976710656 }
+        ensures same { IsSameBut self.old self.new }
+        ensures put { OnOk result (IsPutAt place
+            (styled_cell record { character = character; attributes = self.old.kept })
+            self.old self.new) }
+        ensures refused { OnErr result (ShowsSame self.old self.new) }
+    {
+        self.fill_to(place + 1)?;
+        self.plain_from = plain_behind(self.plain_from, self.is_plain, place);
+        self.cells[place] = ScreenCell {
+            character,
+            attributes: self.kept,
+        };
         Ok(())
     }
 
@@ -203,16 +265,12 @@ impl StyledScreen {
             self.new) }
         ensures refused { OnErr result (AreDrawn self.old [] self.new) }
     {
-        let place = self.place();
         let (row, col) = self.next_cell();
         if row > LAST_ROW {
             return Err(ScreenFault::OutOfRange);
         }
-        self.fill_to(place + 1)?;
-        self.cells[place] = ScreenCell {
-            character,
-            attributes: self.kept,
-        };
+        let place = self.place();
+        self.put_at(place, character)?;
         self.row = row;
         self.col = col + 1;
         Ok(())
@@ -238,8 +296,54 @@ impl StyledScreen {
         Ok(())
     }
 
+    /// Returns true if a text is typed behind all cells: printable characters of ASCII, for whose rows there is room.
+    fn goes_on(&self, text: &[u8]) -> bool
+        ensures printable { result ≡ true → list_all is_printable text.now ≡ true }
+        ensures some { result ≡ true → 0 < length text.now }
+        ensures end { result ≡ true → length self.now.cells
+            ≡ self.now.row * self.now.width + self.now.col }
+        ensures room { result ≡ true → length self.now.cells + length text.now ≤ 4294967295 }
+    {
+        !text.is_empty()
+            && self.place() == self.cells.len()
+            && self.cells.len().saturating_add(text.len()) <= LAST_ROW
+            && is_typed(text)
+    }
+
+    /// Types printable characters behind all cells.
+    fn type_on(&mut self, text: &[u8]) -> Result<(), ScreenFault>
+        requires printable { list_all is_printable text.now ≡ true }
+        requires some { 0 < length text.now }
+        requires end { length self.old.cells ≡ self.old.row * self.old.width + self.old.col }
+        requires room { length self.old.cells + length text.now ≤ 4294967295 }
+        ensures same { IsSameBut self.old self.new }
+        ensures shown { OnOk result (AreDrawn self.old
+            (map (char_stroke styled self.old.kept) text.now) self.new) }
+        ensures refused { OnErr result (ShowsSame self.old self.new) }
+    {
+        push_cells(&mut self.cells, text, self.kept)?;
+        let last = self.cells.len() - 1;
+        self.plain_from = plain_behind(self.plain_from, self.is_plain, last);
+        self.row = last / self.width;
+        self.col = last % self.width + 1;
+        Ok(())
+    }
+
     /// Plays the characters of a text.
     fn write(&mut self, text: &str) -> Result<(), ScreenFault>
+        ensures same { IsSameBut self.old self.new }
+        ensures shown { OnOk result (AreDrawn self.old
+            (map (char_stroke styled self.old.kept) (chars text.now)) self.new) }
+        ensures refused { OnErr result (WritesBeginning text.now self.old self.new) }
+    {
+        if self.goes_on(text.as_bytes()) {
+            return self.type_on(text.as_bytes());
+        }
+        self.write_apart(text)
+    }
+
+    /// Plays the characters of a text one by one.
+    fn write_apart(&mut self, text: &str) -> Result<(), ScreenFault>
         ensures same { IsSameBut self.old self.new }
         ensures shown { OnOk result (AreDrawn self.old
             (map (char_stroke styled self.old.kept) (chars text.now)) self.new) }
@@ -257,6 +361,7 @@ impl StyledScreen {
     {
         self.cells.clear();
         self.rest = ScreenCell::blank(color);
+        self.plain_from = (color == ColorAttribute::Default).then_some(0);
         self.row = 0;
         self.col = 0;
     }
@@ -271,6 +376,7 @@ impl StyledScreen {
         self.fill_to(place)?;
         self.cells.truncate(place);
         self.rest = ScreenCell::blank(color);
+        self.plain_from = (color == ColorAttribute::Default).then_some(place);
         Ok(())
     }
 
@@ -297,5 +403,48 @@ fn led_to(position: Position, at: usize) -> usize
     match position {
         Position::Absolute(to) => to,
         Position::Relative(by) => at.saturating_add_signed(by),
+    }
+}
+
+/// Returns true if all bytes of a text are printable characters of ASCII.
+fn is_typed(text: &[u8]) -> bool
+    ensures { result ≡ list_all is_printable text.now }
+{
+    text.iter().all(|byte| matches!(byte, b' '..=b'~'))
+}
+
+/// Adds a cell for each byte of a text. A refusal leaves them as they were.
+fn push_cells(
+    cells: &mut Vec<ScreenCell>,
+    text: &[u8],
+    attributes: CellAttributes,
+) -> Result<(), ScreenFault>
+    ensures ok { OnOk result (cells.new.items
+        ≡ cells.old.items ++ map (cell_under attributes) text.now) }
+    ensures err { OnErr result (cells.new.items ≡ cells.old.items) }
+{
+    let count = cells.len();
+    for byte in text {
+        let cell = ScreenCell {
+            character: *byte as char,
+            attributes,
+        };
+        if cells.push(cell).is_err() {
+            cells.truncate(count);
+            return Err(ScreenFault::Memory);
+        }
+    }
+    Ok(())
+}
+
+/// Returns the place from which on all cells have the default attributes, once those up to `last` are written: under
+/// these attributes if `is_plain`.
+fn plain_behind(from: Option<usize>, is_plain: bool, last: usize) -> Option<usize>
+    requires { last < 281474976710656 }
+    ensures { result ≡ plain_behind is_plain last from }
+{
+    match from {
+        Some(from) if !is_plain => Some(from.max(last + 1)),
+        _ => from,
     }
 }

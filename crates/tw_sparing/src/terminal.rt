@@ -1,7 +1,7 @@
 //! A terminal over a writer that is sent what differs.
 
 ghost use Rattle.std.specs.Io.KnownBytes.{Appends, Keeps};
-ghost use Rattle.std.specs.Prelude.{◌≡◌, ◌++◌, [], Ok, None, IfErr, OnOk, OnErr, false, refl};
+ghost use Rattle.std.specs.Prelude.{◌≡◌, ◌++◌, [], Ok, None, IfErr, OnOk, OnErr, true, false, refl};
 ghost use Rattle.tw_surface.specs.ChangeView.{batch_view};
 ghost use Rattle.tw_surface.specs.Defaults.{default_attributes};
 ghost use Rattle.tw_terminal.specs.TerminalState.{fresh_terminal, Fails, Flushes, RenderFails, Renders};
@@ -114,6 +114,13 @@ impl<W: Write> SparingTerminal<W> {
         }
     }
 
+    /// Returns true if it is known that the cursor stands in column 0, under the default attributes.
+    fn is_at_start(&self) -> bool
+        ensures { result ≡ true → self.now.encoder.x ≡ 0 }
+    {
+        self.at_start && self.encoder == Encoder::new(self.size.cols)
+    }
+
     /// Sends a batch. After a refusal it is not known what the terminal shows.
     fn put(&mut self, changes: &[Change]) -> Result<(), TerminalFault>
         ensures sent { let sent = sent_for self.old.size.rows (batch_view changes.now)
@@ -135,8 +142,13 @@ impl<W: Write> SparingTerminal<W> {
         ensures unsent { IfErr result (λ fault. fault ≡ Memory → self.new.writer
             ≡ self.old.writer) }
     {
-        let at_start = self.at_start && self.encoder == Encoder::new(self.size.cols);
-        let next = shown_after(self.alloc, self.size, &self.shown, at_start, changes);
+        let next = shown_after(
+            self.alloc,
+            self.size,
+            &self.shown,
+            self.is_at_start(),
+            changes,
+        );
         let mut text = String::new(self.alloc);
         let encoded = send_for(
             self.alloc,

@@ -1,18 +1,20 @@
-use Rattle.std.proofs.Common.{◌≡◌, ◌<◌, length, sym, ap, ◌∙◌, subst, arith}
-use Rattle.tw_changed.specs.StyledScreens.{ShowsStyled}
+use Rattle.std.proofs.Common.{◌≡◌, ◌<◌, ◌≤◌, ap, sym, ◌∙◌, subst, arith}
+use Rattle.laws_screens.specs.StyledCells.{StyledCell}
+use Rattle.tw_changed.specs.StyledScreens.{StyledView, IsPutAt}
 use Rattle.tw_changed.proofs.DrawnCells.{put_shows}
 use Rattle.tw_changed.proofs.screen.StyledScreen.put.Goals as goal
 
 pub returns-clause-shown : goal.returns-clause-shown
 returns-clause-shown c s h =
-    let filled = c.in_ok-fill_to.ensures in
+    let written = c.in_ok-put_at.ensures in
+    let old = c.args.self.now in
     let now = c.self.inside in
-    let width : c.args.self.now.width ≡ now.width = sym (ap (λ v. v.width) c.self.view_is ∙ filled.same.width) in
-    let kept : c.args.self.now.kept ≡ now.kept = sym (ap (λ v. v.kept) c.self.view_is ∙ filled.same.kept) in
-    let row : c.args.self.now.row ≡ now.row = sym (ap (λ v. v.row) c.self.view_is ∙ filled.cursor.0) in
-    let col : c.args.self.now.col ≡ now.col = sym (ap (λ v. v.col) c.self.view_is ∙ filled.cursor.1) in
-    let inside : c.place-place.result < length now.cells.items = omega (arith, filled.len, ap (λ v. length v.cells) c.self.view_is) in
-    rw (width, kept) (put_shows now.width now.row now.col c.place-place.result c.next_cell-row.result.0 c.next_cell-row.result.1 now.kept now.cells.items now.rest _ s
-    c.self.invariant.width_above c.self.invariant.col_most (rw (row, col, width) at c.place-place.ensures.place) inside
-    (rw (row, col, width) at c.next_cell-row.ensures.row) (rw (col, width) at c.next_cell-row.ensures.col)
-    (subst (λ v. ShowsStyled v s) (sym c.self.view_is) (filled.shown s h)))
+    let mid : StyledView = record { width = now.width; row = now.row; col = now.col; kept = now.kept; cells = now.cells.items; rest = now.rest } in
+    let x : StyledCell = record { ch = c.args.character; attributes = old.kept } in
+    let width : now.width ≡ old.width = ap (λ v. v.width) c.self.view_is ∙ written.same.width in
+    let col : now.col ≡ old.col = ap (λ v. v.col) c.self.view_is ∙ written.put.col in
+    let above : 0 < old.width = omega (arith, c.self.invariant.reach.width_above, width) in
+    let most : old.col ≤ old.width = omega (arith, c.self.invariant.reach.col_most, width, col) in
+    put_shows old mid c.place-place.result c.next_cell-row.result.0 c.next_cell-row.result.1 x s
+    above most c.place-place.ensures.place c.next_cell-row.ensures.row c.next_cell-row.ensures.col width
+    (subst (λ v. IsPutAt c.place-place.result x old v) (sym c.self.view_is) written.put) h

@@ -1,51 +1,28 @@
-use Rattle.std.proofs.Common.{◌++◌, ◌∷◌, [], map, sym, ap, ◌∙◌, append_assoc, append-nil, subst, Result, Ok, Err, OnErr}
-use Rattle.std.proofs.lemmas.List.{map-append, nil_from_length}
-use Rattle.std.proofs.lemmas.Str.{IsUtf8-past_char, chars_past_char, chars-nil}
-use Rattle.std.specs.Str.{chars}
-use Rattle.std.specs.Str.Iter.{chars_rest}
+use Rattle.std.proofs.Common.{◌≡◌, true, [], map, chars, refl, sym, ◌∙◌, subst, Result, Ok, Err, OnErr, OnOk}
+use Rattle.std.specs.List.{list_all}
+use Rattle.tw_surface.specs.Characters.{is_printable}
 use Rattle.laws_screens.specs.Pens.{char_stroke}
 use Rattle.laws_screens.specs.StyledCells.{styled}
-use Rattle.tw_changed.specs.StyledScreens.{AreDrawn}
-use Rattle.tw_changed.proofs.DrawnCells.{draws_more}
+use Rattle.tw_changed.specs.StyledScreens.{AreDrawn, ShowsSame, WritesBeginning}
+use Rattle.tw_changed.proofs.DrawnCells.{same_shows}
+use Rattle.tw_changed.proofs.TypedOn.{printable_chars}
 use Rattle.tw_changed.proofs.screen.StyledScreen.write.Goals as goal
 
-pub loop-character-preserved : goal.loop-character-preserved
-loop-character-preserved c =
-    let inv = c.loop-character.invariant in
-    let split = c.in-Some.ensures.steps.0 in
-    let rest = chars_rest c.next.new.self in
-    let done = inv.written.0 in
-    let stroke = char_stroke styled c.args.self.now.kept in
-    let same = c.play.ensures.same in
-    record {
-      utf8 = IsUtf8-past_char _ rest _ inv.utf8 split;
-      same = record { width = same.width ∙ inv.same.width; kept = same.kept ∙ inv.same.kept };
-      written = (
-        done ++ c.in-Some.character ∷ [],
-        inv.written.1 ∙ ap (λ l. done ++ l) (chars_past_char _ rest _ inv.utf8 split) ∙ sym (append_assoc done (c.in-Some.character ∷ []) (chars rest)),
-        rw (map-append stroke done (c.in-Some.character ∷ []))
-            (draws_more c.args.self.now c.loop-character.self c.play.new.self (map stroke done) (stroke c.in-Some.character ∷ []) inv.same.width inv.written.2
-            (subst (λ k. AreDrawn c.loop-character.self (char_stroke styled k c.in-Some.character ∷ []) c.play.new.self) inv.same.kept c.in_ok-play.ensures.shown)),
-      );
-    }
+pub returns-then-goes_on-clause-shown : goal.returns-then-goes_on-clause-shown
+returns-then-goes_on-clause-shown c =
+    let old = c.args.self.now in
+    let bytes = c.as_bytes-then-goes_on.ensures.value in
+    let printable : list_all is_printable c.args.text.now ≡ true = subst (λ t. list_all is_printable t ≡ true) c.as_bytes.ensures.value (c.goes_on.ensures.printable c.if-goes_on.true) in
+    subst (λ t. OnOk c.type_on.result (AreDrawn old (map (char_stroke styled old.kept) t) c.type_on.new.self)) (bytes ∙ sym (printable_chars c.args.text.now printable)) c.type_on.ensures.shown
 
-pub returns-in_err-play-clause-refused : goal.returns-in_err-play-clause-refused
-returns-in_err-play-clause-refused c =
-    let inv = c.loop-character.invariant in
-    given c.from_residual.result (record {
-      written = inv.written.0;
-      left = chars (chars_rest c.loop-character.character-iterator);
-      parts = inv.written.1;
-      draws = λ s h. c.in_err-play.ensures.refused _ (inv.written.2 s h);
-    })
+pub returns-then-goes_on-clause-refused : goal.returns-then-goes_on-clause-refused
+returns-then-goes_on-clause-refused c = refused c.type_on.result c.type_on.ensures.refused
   where
-    given : {X E P : Type 0} (r : Result X E) → P → OnErr r P
-    given (Ok x) p = tt
-    given (Err e) p = p
-
-pub returns-clause-shown : goal.returns-clause-shown
-returns-clause-shown c =
-    let inv = c.loop-character.invariant in
-    let none = ap chars (nil_from_length _ c.in-None.ensures.steps.0.0) ∙ chars-nil in
-    let all = inv.written.1 ∙ ap (λ l. inv.written.0 ++ l) none ∙ append-nil inv.written.0 in
-    rw all inv.written.2
+    refused : {X E : Type 0} (r : Result X E) → OnErr r (ShowsSame c.args.self.now c.type_on.new.self) → OnErr r (WritesBeginning c.args.text.now c.args.self.now c.type_on.new.self)
+    refused (Ok x) h = tt
+    refused (Err e) h = record {
+      written = [];
+      left = chars c.args.text.now;
+      parts = refl;
+      draws = λ s shows. same_shows c.args.self.now c.type_on.new.self s c.type_on.ensures.same.width h shows;
+    }
