@@ -29,6 +29,23 @@ def want(holds, what):
         raise Differs(what)
 
 
+def waiting_at(descriptor):
+    """Returns how many bytes can be read from a terminal."""
+    return struct.unpack("i", fcntl.ioctl(descriptor, termios.FIONREAD, bytes(4)))[0]
+
+
+def wait_for_state(process, state):
+    """Waits until a process is in a state, as the kernel tells it."""
+    until = time.monotonic() + LIMIT
+    while True:
+        with open(f"/proc/{process}/stat", encoding="utf-8") as file:
+            found = file.read().rpartition(")")[2].split()[0]
+        if found == state:
+            return
+        want(time.monotonic() < until, f"the process is in state {found}")
+        time.sleep(0.02)
+
+
 class Session:
     """A program at a terminal of its own, which `words` start."""
 
@@ -87,6 +104,18 @@ class Session:
         """Types bytes."""
         os.write(self.master, keys)
 
+    def type_ahead(self, keys):
+        """Types bytes while the program is stopped, which then finds all of them at hand."""
+        until = time.monotonic() + LIMIT
+        (program,) = self.left()
+        os.kill(program, signal.SIGSTOP)
+        wait_for_state(program, "T")
+        self.type(keys)
+        while waiting_at(self.slave) < len(keys):
+            want(time.monotonic() < until, f"only {waiting_at(self.slave)} bytes come to the terminal")
+            time.sleep(0.001)
+        os.kill(program, signal.SIGCONT)
+
     def look(self, seconds):
         """Takes what is sent within this time, and answers where the terminal is asked for its size."""
         if not select.select([self.master], [], [], seconds)[0]:
@@ -101,8 +130,11 @@ class Session:
         until = time.monotonic() + LIMIT
         while text not in self.shown[since:]:
             want(time.monotonic() < until, f"{text} is not shown, but {self.shown[since:]}")
-            want(not self.has_ended(), f"it ended with status {self.status}, and showed {self.shown[since:]}")
+            # what was sent before the end is read first
+            has_ended, length = self.has_ended(), len(self.shown)
             self.look(0.02)
+            if has_ended and len(self.shown) == length:
+                raise Differs(f"it ended with status {self.status}, and showed {self.shown[since:]}")
 
     def wait_for_size(self):
         """Waits until the size is asked for once more, and told."""
