@@ -1,15 +1,18 @@
 -- What a screen shows once its cells or its cursor have changed.
-use Rattle.std.proofs.Common.{◌≡◌, ℕ, zero, suc, ◌+◌, ◌*◌, ◌<◌, ◌≤◌, Bool, true, false, ◌&&◌, ◌||◌, eqb, ltb, leb, List, [], ◌∷◌, ◌++◌, length, take, refl, sym, ap, ◌∙◌, arith, inl, inr, if◌then◌else◌}
+use Rattle.std.proofs.Common.{◌≡◌, ℕ, zero, suc, ◌+◌, ◌*◌, ◌<◌, ◌≤◌, Bool, true, false, ◌&&◌, ◌||◌, eqb, ltb, leb, List, [], ◌∷◌, ◌++◌, length, min, take, refl, sym, ap, ◌∙◌, arith, inl, inr, if◌then◌else◌}
 use Rattle.std.specs.Prelude.{slice_index_or, slice_set}
-use Rattle.std.proofs.lemmas.Bool.{cases_eq, cases_lt, eq-eqb, ne_eqb, eqb-true, eqb-false, le-leb, lt-leb, lt-ltb, le-ltb, and_right}
+use Rattle.std.proofs.lemmas.Bool.{cases_eq, cases_lt, eq-eqb, ne_eqb, eqb-true, eqb-false, le-leb, leb-false, lt-leb, lt-ltb, le-ltb, and_right}
 use Rattle.std.proofs.lemmas.List.{get_or-set_same, get_or-set_other, get_or-take}
+use Rattle.std.proofs.Math.ListN.{get_or-eq_default}
+use Rattle.std.proofs.Math.Seq.{get_or-append_seam}
 use Rattle.std.proofs.lemmas.Nat.{mul-le}
 use Rattle.laws_screens.specs.Strokes.{PictureOf, Stroke, put_in, cleared_in, put, steps}
+use Rattle.laws_screens.specs.Strokes.Stroke.{ClearBehind}
 use Rattle.laws_screens.proofs.LineOfCells.{same_cell, next_row, behind_cell, steps-append}
 use Rattle.tw_surface.specs.declared.cell.CellAttributes.{CellAttributes}
 use Rattle.laws_screens.specs.StyledCells.{StyledCell}
 use Rattle.tw_changed.specs.declared.cell.ScreenCell.{ScreenCell}
-use Rattle.tw_changed.specs.StyledScreens.{StyledView, ShowsStyled, ShowsSame, IsPutAt, AreDrawn, styled_at, styled_cell}
+use Rattle.tw_changed.specs.StyledScreens.{StyledView, ShowsStyled, ShowsSame, IsPutAt, AreDrawn, at_row, styled_at, styled_cell}
 
 -- ---- lists of cells
 
@@ -32,14 +35,10 @@ cut_there (suc k) (x ∷ cells) (suc i) d h = cut_there k cells i d (omega arith
 
 push_at : (cells : List ScreenCell) (i : ℕ) (x d : ScreenCell) → slice_index_or (cells ++ x ∷ []) i d ≡ (if eqb i (length cells) then x else slice_index_or cells i d)
 push_at cells i x d = elim (cases_eq i (length cells)) [
-  | inl e ↦ rw (eq-eqb i (length cells) e, e) (last_of cells x d)
+  | inl e ↦ rw (eq-eqb i (length cells) e, e) (get_or-append_seam cells x [] d)
   | inr n ↦ rw (ne_eqb i (length cells) n) (others cells i x d n)
 ]
   where
-    last_of : (cells : List ScreenCell) (x d : ScreenCell) → slice_index_or (cells ++ x ∷ []) (length cells) d ≡ x
-    last_of [] x d = refl
-    last_of (y ∷ cells) x d = last_of cells x d
-
     others : (cells : List ScreenCell) (i : ℕ) (x d : ScreenCell) → (i ≡ length cells → ⊥) → slice_index_or (cells ++ x ∷ []) i d ≡ slice_index_or cells i d
     others [] zero x d n = absurd (n refl)
     others [] (suc i) x d n = refl
@@ -50,6 +49,13 @@ take_at : (k : ℕ) (cells : List ScreenCell) (i : ℕ) (d rest : ScreenCell) �
 take_at k cells i d rest h = elim (cases_lt i k) [
   | inl before ↦ rw (lt-leb k i before) (get_or-take k cells i rest before ∙ same_inside cells i rest d (omega (arith, before, h)))
   | inr behind ↦ rw (le-leb k i behind) (cut_there k cells i rest behind)
+]
+
+-- cells up to a place are those of a beginning that reaches it, or that has all cells
+pub cut_same : (k n : ℕ) (cells : List ScreenCell) (i : ℕ) (rest : ScreenCell) → k ≡ min (length cells) n → i < n → slice_index_or (take k cells) i rest ≡ slice_index_or cells i rest
+cut_same k n cells i rest is low = elim (cases_lt i k) [
+  | inl before ↦ get_or-take k cells i rest before
+  | inr behind ↦ cut_there k cells i rest behind ∙ sym (get_or-eq_default cells rest (omega (arith, is, low, behind)))
 ]
 
 -- ---- one stroke
@@ -154,6 +160,27 @@ clear_shows width row col place kept cells rest paper s most at inside h = recor
     cleared : (r c : ℕ) → c < width → cleared_in s.cell s.row s.col (styled_cell paper) r c ≡ styled_cell (if leb place (r * width + c) then paper else slice_index_or cells (r * width + c) rest)
     cleared r c low =
         rw (h.row, h.col, behind_cursor width row col r c most low, ← at, h.cell r c low) (by_behind (leb place (r * width + c)) (r * width + c))
+
+-- a clearing looks at no cell from its place on
+pub clears_cut : (old cut new : StyledView) (row : ℕ) (paper : StyledCell) → cut.width ≡ old.width → new.width ≡ old.width → ((i : ℕ) → i < row * old.width → styled_at cut i ≡ styled_at old i)
+    → AreDrawn (at_row row cut) (ClearBehind paper ∷ []) new → AreDrawn (at_row row old) (ClearBehind paper ∷ []) new
+clears_cut old cut new row paper width wide same drawn s h = record {
+  cell = λ r c low. as_cleared r c (omega (arith, low, wide)) ∙ shown.cell r c low;
+  row = h.row ∙ shown.row;
+  col = h.col ∙ shown.col;
+}
+  where
+    shown : ShowsStyled new (record { cell = cleared_in (λ r c. styled_at cut (r * cut.width + c)) row 0 paper; row = row; col = 0 })
+    shown = drawn (record { cell = λ r c. styled_at cut (r * cut.width + c); row = row; col = 0 }) (record { cell = λ r c low. refl; row = refl; col = refl })
+
+    by_place : (i : ℕ) (b : Bool) (x : StyledCell) → leb (row * old.width + 0) i ≡ b → x ≡ styled_at old i → (if b then paper else x) ≡ (if b then paper else styled_at cut i)
+    by_place i true x e is = refl
+    by_place i false x e is = is ∙ sym (same i (omega (arith, leb-false (row * old.width + 0) i e)))
+
+    as_cleared : (r c : ℕ) → c < old.width → cleared_in s.cell s.row s.col paper r c ≡ cleared_in (λ i j. styled_at cut (i * cut.width + j)) row 0 paper r c
+    as_cleared r c low =
+        rw (h.row, h.col, width, behind_cursor old.width row 0 r c (omega arith) low)
+        (by_place (r * old.width + c) (leb (row * old.width + 0) (r * old.width + c)) (s.cell r c) refl (h.cell r c low))
 
 -- ---- strokes one after the other
 

@@ -40,6 +40,10 @@ blank_styled width = record { width = width; row = 0; col = 0; kept = default_at
 abbrev pub without_rows : ℕ → StyledView → StyledView
 without_rows count screen = record screen { row = screen.row - count; cells = drop (count * screen.width) screen.cells }
 
+-- a screen with its cursor in column 0 of a row
+abbrev pub at_row : ℕ → StyledView → StyledView
+at_row row screen = record screen { row = row; col = 0 }
+
 -- the width is one to 65,535, the cursor is in a row up to 4,294,967,295, and its column within the width or after it
 pub record IsInReach (screen : StyledView) : Type 0 where
   pub width_above : 0 < screen.width

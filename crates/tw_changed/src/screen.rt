@@ -5,11 +5,12 @@ ghost use Rattle.std.specs.List.{list_all};
 ghost use Rattle.tw_surface.specs.Characters.{is_printable};
 ghost use Rattle.tw_surface.specs.ChangeView.{change_view};
 ghost use Rattle.tw_surface.specs.Simple.{spelled_change};
+ghost use Rattle.tw_surface.specs.Defaults.{default_color};
 ghost use Rattle.tw_surface.specs.Positions.{at_least_0, position_after};
 ghost use Rattle.laws_screens.specs.Strokes.Stroke.{Clear, ClearBehind, Move, Put};
 ghost use Rattle.laws_screens.specs.Pens.{change_strokes, char_stroke, kept_after, led};
 ghost use Rattle.laws_screens.specs.StyledCells.{styled};
-ghost use Rattle.tw_changed.specs.StyledScreens.{AreDrawn, IsPlainFrom, IsPutAt, IsRefusedAt, IsSameBut, IsSure, ShowsSame, WritesBeginning, blank_styled, cell_under, paper_cell, plain_behind, styled_cell, without_rows};
+ghost use Rattle.tw_changed.specs.StyledScreens.{AreDrawn, IsPlainFrom, IsPutAt, IsRefusedAt, IsSameBut, IsSure, ShowsSame, WritesBeginning, at_row, blank_styled, cell_under, paper_cell, plain_behind, styled_cell, without_rows};
 
 use crate::cell::ScreenCell;
 use std::alloc::{AllocError, Global};
@@ -99,6 +100,36 @@ impl StyledScreen {
         self.without_rows(alloc, 0)
     }
 
+    /// Returns the screen once its cursor is led to column 0 of the row `y`, and all is blank from there on. Only the
+    /// cells before that place are copied. Fails with `OutOfRange` if the screen does not reach the row.
+    pub fn emptied_from(&self, alloc: Global, y: Position) -> Result<Self, ScreenFault>
+        ensures same { IfOk result (IsSameBut self.now) }
+        ensures above { IfOk result (λ screen. 0 < screen.width) }
+        ensures drawn { IfOk result (AreDrawn (at_row (led y self.now.row) self.now)
+            (ClearBehind (styled_cell (paper_cell default_color)) ∷ [])) }
+    {
+        let row = led_to(y, self.row);
+        if row > LAST_ROW {
+            return Err(ScreenFault::OutOfRange);
+        }
+        let before = self.cells.len().min(row * self.width);
+        let Ok(cells) = Vec::from_slice(alloc, &self.cells[..before]) else {
+            return Err(ScreenFault::Memory);
+        };
+        let mut screen = StyledScreen {
+            width: self.width,
+            row,
+            col: 0,
+            kept: self.kept,
+            cells,
+            rest: self.rest,
+            is_plain: self.is_plain,
+            plain_from: None,
+        };
+        screen.clear_to_end(ColorAttribute::Default)?;
+        Ok(screen)
+    }
+
     /// Returns the cells that are kept, from the first one of a row on. Those behind them are all alike.
     pub(crate) fn cells_from(&self, row: usize) -> &[ScreenCell]
         ensures { (col : ℕ) → slice_index_or result.now col self.now.rest
@@ -124,7 +155,7 @@ impl StyledScreen {
         self.cell_of(self.cells_from(row), col)
     }
 
-    /// Returns true if it is known that all cells of a row have the default attributes.
+    /// Returns true if it is known that all cells have the default attributes, from the first one of a row on.
     pub(crate) fn is_plain_row(&self, row: usize) -> bool
         ensures { result ≡ true → IsPlainFrom (row * self.now.width) self.now }
     {
@@ -423,14 +454,15 @@ fn push_cells(
         ≡ cells.old.items ++ map (cell_under attributes) text.now) }
     ensures err { OnErr result (cells.new.items ≡ cells.old.items) }
 {
-    let count = cells.len();
+    if cells.reserve(text.len()).is_err() {
+        return Err(ScreenFault::Memory);
+    }
     for byte in text {
         let cell = ScreenCell {
             character: *byte as char,
             attributes,
         };
         if cells.push(cell).is_err() {
-            cells.truncate(count);
             return Err(ScreenFault::Memory);
         }
     }

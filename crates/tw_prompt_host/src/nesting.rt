@@ -109,12 +109,10 @@ pub fn nesting_in(alloc: Global, pairs: &[MarkPair], text: &str) -> Result<Nesti
 {
     let letters = mark_no_letter(pairs);
     let mut opens = Vec::new(alloc);
-    let mut at = 0;
-    for c in text.chars() {
+    for (at, c) in text.char_indices() {
         if !take_in(pairs, letters, &mut opens, at, c)? {
             return Ok(Nesting::Wrong(c, at));
         }
-        at += c.len_utf8();
     }
     Ok(Nesting::Open(opens))
 }

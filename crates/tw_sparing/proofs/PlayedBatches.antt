@@ -1,15 +1,18 @@
 -- Batches that are played one after the other.
-use Rattle.std.proofs.Common.{◌≡◌, ◌+◌, ◌<◌, ◌≤◌, ℕ, zero, suc, pos, negsuc, max, cond, leb, not, Bool, true, false, Option, Some, List, [], ◌∷◌, ◌++◌, length, take, get_or, ap, subst, ◌∙◌, sym, refl, arith}
+use Rattle.std.proofs.Common.{◌≡◌, ◌+◌, ◌*◌, ◌<◌, ◌≤◌, ℕ, zero, suc, pos, negsuc, max, cond, leb, not, Bool, true, false, Option, Some, List, [], ◌∷◌, ◌++◌, ◌-◌, length, drop, take, get_or, ap, subst, ◌∙◌, sym, refl, arith}
 use Rattle.std.proofs.Math.Seq.{take-suc}
 use Rattle.std.proofs.lemmas.Bool.{le-leb, leb-true, lt-ltb}
-use Rattle.std.proofs.lemmas.List.{map-append}
+use Rattle.std.proofs.lemmas.List.{map-append, take_rest}
 use Rattle.tw_surface.specs.declared.change.Change.{Change}
 use Rattle.tw_surface.specs.ChangeView.{ChangeView, Batch, batch_view, change_view}
 use Rattle.tw_sparing.specs.declared.shown.Shown.{Shown}
+use Rattle.tw_surface.specs.declared.change.Position.{Position}
+use Rattle.laws_screens.specs.Pens.{led}
+use Rattle.tw_changed.specs.StyledScreens.{at_row, styled_at}
 use Rattle.tw_surface.specs.declared.change.Position.TheVariants.{Absolute, Relative}
 use Rattle.tw_surface.specs.ChangeView.{Attribute, AllAttributes, Text, ClearScreen, ClearToEndOfScreen, CursorPosition}
 use Rattle.tw_surface.specs.Defaults.{default_color}
-use Rattle.tw_sparing.specs.Shown.{first_shown, goes_out_of_sight, gone_rows, left_behind, rows_above, Empties, FitsTerminal, SetsAttributes, IsDrawnAfter, IsKnownAfter, IsKnownBy, IsPlayed, IsPlayedOnce}
+use Rattle.tw_sparing.specs.Shown.{first_shown, goes_out_of_sight, gone_rows, left_behind, rows_above, Empties, FitsTerminal, SetsAttributes, IsDrawnAfter, IsEmptiedFrom, IsInSight, IsKnownAfter, IsKnownBy, IsPlayed, IsPlayedOnce}
 
 played_last : (rows : ℕ) (xs : Batch) (x : ChangeView) (a b c : Shown) → IsPlayed rows xs a b → IsPlayedOnce rows x b c → IsPlayed rows (xs ++ x ∷ []) a c
 played_last rows [] x a b c first last = (c, subst (λ (k : Shown). IsPlayedOnce rows x k c) first last, refl)
@@ -30,6 +33,46 @@ played_more rows changes i x a b c less item first last =
 pub played_width : (rows : ℕ) (xs : Batch) (a b : Shown) → IsPlayed rows xs a b → b.screen.width ≡ a.screen.width
 played_width rows [] a b is = ap (λ (k : Shown). k.screen.width) is
 played_width rows (x ∷ xs) a b is = played_width rows xs is.0 b is.2 ∙ is.1.drawn.width
+
+-- the row that a screen's cursor was led to
+led-there : (y : Position) (old mid : Shown) → IsEmptiedFrom y old mid → mid.screen.row ≡ led y old.screen.row
+led-there y old mid emptied =
+    sym (emptied.drawn (record { cell = λ r c. styled_at old.screen (r * old.screen.width + c); row = led y old.screen.row; col = 0 }) (record { cell = λ r c low. refl; row = refl; col = refl })).row
+
+-- a move to column 0 of a row in sight, and an emptying from there on
+pub emptied_played : (rows : ℕ) (y : Position) (old new : Shown) → IsInSight (rows_above rows old) y → IsEmptiedFrom y old new
+    → IsPlayed rows (CursorPosition (Absolute 0) y ∷ ClearToEndOfScreen default_color ∷ []) old new
+emptied_played rows y old new inside emptied =
+    let row = led y old.screen.row in
+    let moved : Shown = record { screen = at_row row old.screen; reached = max old.reached (row + 1) } in (
+      moved,
+      record {
+        playable = inside;
+        drawn = record { width = refl; drawn = λ s h. record { cell = h.cell; row = ap (led y) h.row; col = omega arith }; kept = refl };
+        reached = refl;
+      },
+      (
+        new,
+        record {
+          playable = (refl, omega (arith, emptied.above, emptied.same.width));
+          drawn = record { width = emptied.same.width; drawn = emptied.drawn; kept = emptied.same.kept };
+          reached = emptied.reached ∙ omega (arith, led-there y old new emptied);
+        },
+        refl,
+      ),
+    )
+
+-- what is left of a batch is played behind its first two changes
+pub played_behind : (rows : ℕ) (changes : List Change) (x y : Change) (a b c : Shown) → 2 ≤ length changes → x ≡ get_or changes 0 x → y ≡ get_or changes 1 y
+    → IsPlayed rows (change_view x ∷ change_view y ∷ []) a b → IsPlayed rows (batch_view (take (length changes - 2) (drop 2 changes))) b c → IsPlayed rows (batch_view changes) a c
+played_behind rows changes x y a b c two first second begun rest =
+    by_two changes two first second (subst (λ l. IsPlayed rows (batch_view l) b c) (take_rest changes 2) rest)
+  where
+    by_two : (changes : List Change) → 2 ≤ length changes → x ≡ get_or changes 0 x → y ≡ get_or changes 1 y → IsPlayed rows (batch_view (drop 2 changes)) b c → IsPlayed rows (batch_view changes) a c
+    by_two [] two first second left = absurd (omega arith)
+    by_two (z ∷ []) two first second left = absurd (omega arith)
+    by_two (x' ∷ y' ∷ more) two first second left =
+        rw (sym (ap change_view first), sym (ap change_view second)) (begun.0, begun.1, (begun.2.0, begun.2.1, subst (λ k. IsPlayed rows (batch_view more) k c) begun.2.2 left))
 
 -- a batch that is played does not go out of sight
 pub stays_in_sight : (rows : ℕ) (xs : Batch) (a b : Shown) → IsPlayed rows xs a b → goes_out_of_sight (rows_above rows a) xs ≡ false

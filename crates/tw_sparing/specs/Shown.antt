@@ -8,13 +8,14 @@ use Rattle.tw_surface.specs.Defaults.{default_color}
 use Rattle.tw_surface.specs.ChangeView.{ChangeView, Batch}
 use Rattle.tw_surface.specs.ChangeView.{Attribute, AllAttributes, Text, ClearScreen, ClearToEndOfScreen, CursorPosition}
 use Rattle.tw_surface.specs.Simple.{spelled_all}
-use Rattle.laws_screens.specs.Pens.{strokes_of, kept_after_all}
+use Rattle.laws_screens.specs.Pens.{led, strokes_of, kept_after_all}
+use Rattle.laws_screens.specs.Strokes.Stroke.{ClearBehind}
 use Rattle.laws_screens.specs.StyledCells.{styled}
 use Rattle.tw_ansi.specs.declared.encode.Encoder.{Encoder}
 use Rattle.tw_ansi.specs.EcmaLaws.{IsAttribute}
 use Rattle.tw_ansi.specs.Encoding.{Sent, sent_batch, terse_batch}
 use Rattle.tw_ansi.specs.Sequences.{most_rows}
-use Rattle.tw_changed.specs.StyledScreens.{StyledView, AreDrawn, blank_styled, without_rows}
+use Rattle.tw_changed.specs.StyledScreens.{StyledView, AreDrawn, IsSameBut, at_row, blank_styled, paper_cell, styled_cell, without_rows}
 use Rattle.tw_changed.specs.ChangedScreens.{AreByBytes, AreAllByBytes}
 use Rattle.tw_changed.specs.Sending.{IsPrintable, screen_cells, changes_between}
 use Rattle.tw_sparing.specs.declared.shown.Shown.{Shown}
@@ -79,6 +80,13 @@ pub record IsPlayedOnce (rows : ℕ) (change : ChangeView) (old new : Shown) : T
 abbrev pub IsPlayed : ℕ → Batch → Shown → Shown → Type 0
 IsPlayed rows [] old new = new ≡ old
 IsPlayed rows (change ∷ changes) old new = (between : Shown) × IsPlayedOnce rows change old between × IsPlayed rows changes between new
+
+-- the cursor was led to column 0 of a row, from which on all is blank
+pub record IsEmptiedFrom (y : Position) (old new : Shown) : Type 0 where
+  pub same : IsSameBut old.screen new.screen
+  pub above : 0 < new.screen.width
+  pub drawn : AreDrawn (at_row (led y old.screen.row) old.screen) (ClearBehind (styled_cell (paper_cell default_color)) ∷ []) new.screen
+  pub reached : new.reached ≡ max old.reached (new.screen.row + 1)
 
 -- the first rows of two screens show the same, and the cursor of the old one is after them
 pub record KeepsAbove (top : ℕ) (old new : StyledView) : Type 0 where

@@ -15,7 +15,7 @@ ghost use Rattle.tw_sparing.specs.Shown.{IsKnownAfter};
 ghost use Rattle.tw_sparing.specs.SparingRuns.{AreKnownSince};
 
 use crate::ahead::Ahead;
-use crate::shown::{Shown, ends_at_start};
+use crate::shown::{Shown, ends_at_start, is_at_start};
 use std::alloc::Global;
 use std::io::Write;
 use std::snapshot::Snapshot;
@@ -239,7 +239,7 @@ impl<W: Write> PatientTerminal<W> {
         ensures unsent { IfErr result (λ fault. fault ≡ Memory → self.new.writer
             ≡ self.old.writer) }
     {
-        let at_start = self.at_start && self.encoder == Encoder::new(self.ahead.size().cols);
+        let at_start = is_at_start(self.at_start, self.encoder, self.ahead.size().cols);
         let (next, is_joined) = self.ahead.known_after(self.alloc, at_start, changes);
         if is_joined && self.is_more {
             self.ahead.keep(changes, next);

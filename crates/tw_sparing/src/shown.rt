@@ -1,11 +1,12 @@
 //! What a terminal shows, as far as it is known.
 
-ghost use Rattle.std.specs.Prelude.{◌≡◌, ◌≤◌, ◌<◌, ◌++◌, ◌⊎◌, ℕ, true, IfOk, IfSome, OnOk, Some, string_bytes};
+ghost use Rattle.std.specs.Prelude.{◌≡◌, ◌≤◌, ◌<◌, ◌++◌, ◌⊎◌, ℕ, [], ◌∷◌, true, IfOk, IfSome, OnOk, Some, string_bytes};
 ghost use Rattle.tw_ansi.specs.Encoding.{terse_batch};
-ghost use Rattle.tw_surface.specs.ChangeView.{ClearToEndOfScreen, batch_view, change_view};
+ghost use Rattle.tw_surface.specs.ChangeView.{ClearToEndOfScreen, CursorPosition, batch_view, change_view};
+ghost use Rattle.tw_surface.specs.declared.change.Position.TheVariants.{Absolute};
 ghost use Rattle.tw_surface.specs.Defaults.{default_color};
 ghost use Rattle.tw_changed.specs.Sending.{IsPrintable, screen_cells};
-ghost use Rattle.tw_sparing.specs.Shown.{changes_below, first_shown, goes_out_of_sight, left_behind, rows_above, Empties, IsBegunBy, FitsTerminal, IsDrawnAfter, IsFromStart, IsInSight, IsKnownAfter, IsKnownBy, IsMovedBy, IsRefilled, IsShortMove, IsPlayable, IsPlayed, IsPlayedOnce, KeepsAbove, LeadsToStart, SetsAttributes};
+ghost use Rattle.tw_sparing.specs.Shown.{changes_below, first_shown, goes_out_of_sight, left_behind, rows_above, Empties, IsBegunBy, FitsTerminal, IsDrawnAfter, IsEmptiedFrom, IsFromStart, IsInSight, IsKnownAfter, IsKnownBy, IsMovedBy, IsRefilled, IsShortMove, IsPlayable, IsPlayed, IsPlayedOnce, KeepsAbove, LeadsToStart, SetsAttributes};
 
 use std::alloc::{AllocError, Global};
 use tw_ansi::Encoder;
@@ -135,18 +136,79 @@ impl Shown {
         goes_out_of_sight(changes, self.rows_above(rows))
     }
 
-    /// Returns what is shown once a batch is drawn on it, on a terminal of `rows` rows.
-    fn drawn(&self, alloc: Global, changes: &[Change], rows: usize) -> Option<Self>
-        ensures { IfSome result (λ new. IsDrawnAfter rows (batch_view changes.now) self.now new) }
+    /// Returns what is shown once the cursor is led to column 0 of a row in sight, and all is blank from there on.
+    fn emptied_from(&self, alloc: Global, y: Position) -> Option<Self>
+        ensures { IfSome result (IsEmptiedFrom y self.now) }
+    {
+        let Ok(screen) = self.screen.emptied_from(alloc, y) else {
+            return None;
+        };
+        let (row, _) = screen.cursor();
+        Some(Shown {
+            screen,
+            reached: self.reached.max(row + 1),
+        })
+    }
+
+    /// Returns what is shown once two changes are played, on a terminal of `rows` rows, if the first one leads to column 0
+    /// of a row in sight, and the second one empties all from there on.
+    fn emptied_by(
+        &self,
+        alloc: Global,
+        first: &Change,
+        second: &Change,
+        rows: usize,
+    ) -> Option<Self>
+        ensures { IfSome result (λ next. IsPlayed rows
+            (change_view first.now ∷ change_view second.now ∷ []) self.now next) }
+    {
+        match row_of_start(first) {
+            Some(y) if is_emptying(second) && is_in_sight(y, self.rows_above(rows)) => {
+                self.emptied_from(alloc, y)
+            }
+            _ => None,
+        }
+    }
+
+    /// Returns the same once more.
+    fn copy(&self, alloc: Global) -> Option<Self>
+        ensures { IfSome result (λ copy. copy ≡ self.now) }
     {
         let Ok(screen) = self.screen.copy(alloc) else {
             return None;
         };
-        let mut next = Shown {
+        Some(Shown {
             screen,
             reached: self.reached,
-        };
-        if !next.play_all(changes, rows) || !next.is_fit(rows) {
+        })
+    }
+
+    /// Returns what is shown once a beginning of a batch is played on it, on a terminal of `rows` rows, and what is left
+    /// of the batch. The cells that a painting empties first are not copied.
+    fn begun<'a>(
+        &self,
+        alloc: Global,
+        changes: &'a [Change],
+        rows: usize,
+    ) -> Option<(Self, &'a [Change])>
+        ensures { IfSome result (λ begun. (new : Shown)
+            → IsPlayed rows (batch_view begun.1.now) begun.0 new
+            → IsPlayed rows (batch_view changes.now) self.now new) }
+    {
+        if let [first, second, rest @ ..] = changes {
+            if let Some(next) = self.emptied_by(alloc, first, second, rows) {
+                return Some((next, rest));
+            }
+        }
+        Some((self.copy(alloc)?, changes))
+    }
+
+    /// Returns what is shown once a batch is drawn on it, on a terminal of `rows` rows.
+    fn drawn(&self, alloc: Global, changes: &[Change], rows: usize) -> Option<Self>
+        ensures { IfSome result (λ new. IsDrawnAfter rows (batch_view changes.now) self.now new) }
+    {
+        let (mut next, rest) = self.begun(alloc, changes, rows)?;
+        if !next.play_all(rest, rows) || !next.is_fit(rows) {
             return None;
         }
         if is_same_above(&self.screen, &next.screen, next.left_behind(rows)) {
@@ -230,6 +292,19 @@ fn goes_out_of_sight(changes: &[Change], above: usize) -> bool
     }
 }
 
+/// Returns the row that a change leads to, if it leads to column 0.
+fn row_of_start(change: &Change) -> Option<Position>
+    ensures { IfSome result (λ y. change_view change.now ≡ CursorPosition (Absolute 0) y) }
+{
+    match change {
+        Change::CursorPosition {
+            x: Position::Absolute(0),
+            y,
+        } => Some(*y),
+        _ => None,
+    }
+}
+
 /// Returns true if a change empties what stands from the cursor on.
 fn is_emptying(change: &Change) -> bool
     ensures { result ≡ true → change_view change.now ≡ ClearToEndOfScreen default_color }
@@ -288,7 +363,7 @@ fn behind_move(changes: &[Change]) -> Option<&[Change]>
 
 /// Returns what is left of a batch that empties the terminal from column 0 on: where it begins there, or after its
 /// move.
-fn begun(changes: &[Change], at_start: bool) -> Option<&[Change]>
+fn emptying(changes: &[Change], at_start: bool) -> Option<&[Change]>
     ensures begun { IfSome result (λ rest. IsBegunBy (batch_view changes.now)
         (batch_view rest.now)) }
     ensures start { IfSome result (λ rest. (at_start ≡ true)
@@ -315,8 +390,16 @@ pub fn shown_after(
 {
     match shown {
         Some(shown) => shown.known_after(alloc, changes, size.rows),
-        None => Shown::fresh(alloc, size.cols, begun(changes, at_start)?, size.rows),
+        None => Shown::fresh(alloc, size.cols, emptying(changes, at_start)?, size.rows),
     }
+}
+
+/// Returns true if it is known that the cursor stands in column 0 of a terminal of `cols` columns, under the default
+/// attributes: so the encoder says, and `at_start` that no refusal has put it elsewhere.
+pub fn is_at_start(at_start: bool, encoder: Encoder, cols: usize) -> bool
+    ensures { result ≡ true → encoder.x ≡ 0 }
+{
+    at_start && encoder == Encoder::new(cols)
 }
 
 /// Returns true if a batch leaves the cursor in column 0 of a terminal.

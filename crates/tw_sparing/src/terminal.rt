@@ -15,7 +15,7 @@ ghost use Rattle.tw_sparing.specs.SparingDeeds.{DoesSparingly};
 ghost use Rattle.tw_sparing.specs.Terminal.{sparing_state};
 
 use crate::sending::send_for;
-use crate::shown::{Shown, ends_at_start, shown_after};
+use crate::shown::{Shown, ends_at_start, is_at_start, shown_after};
 use std::alloc::Global;
 use std::io::Write;
 use std::snapshot::Snapshot;
@@ -114,13 +114,6 @@ impl<W: Write> SparingTerminal<W> {
         }
     }
 
-    /// Returns true if it is known that the cursor stands in column 0, under the default attributes.
-    fn is_at_start(&self) -> bool
-        ensures { result ≡ true → self.now.encoder.x ≡ 0 }
-    {
-        self.at_start && self.encoder == Encoder::new(self.size.cols)
-    }
-
     /// Sends a batch. After a refusal it is not known what the terminal shows.
     fn put(&mut self, changes: &[Change]) -> Result<(), TerminalFault>
         ensures sent { let sent = sent_for self.old.size.rows (batch_view changes.now)
@@ -142,13 +135,8 @@ impl<W: Write> SparingTerminal<W> {
         ensures unsent { IfErr result (λ fault. fault ≡ Memory → self.new.writer
             ≡ self.old.writer) }
     {
-        let next = shown_after(
-            self.alloc,
-            self.size,
-            &self.shown,
-            self.is_at_start(),
-            changes,
-        );
+        let at_start = is_at_start(self.at_start, self.encoder, self.size.cols);
+        let next = shown_after(self.alloc, self.size, &self.shown, at_start, changes);
         let mut text = String::new(self.alloc);
         let encoded = send_for(
             self.alloc,
