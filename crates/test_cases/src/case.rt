@@ -1,6 +1,6 @@
 //! What an editor is to do, as text, and how it does it.
 
-use crate::events::events_named;
+use crate::events::terminal_sized;
 use crate::told::answer_text;
 use script_player::ScriptHost;
 use std::alloc::{AllocError, Global};
@@ -56,31 +56,42 @@ pub fn case_of(alloc: Global, lines: &str) -> Result<Case<'_>, Fail> {
         steps: Vec::new(alloc),
         fault: None,
     };
-    for line in lines.lines() {
-        let (word, text) = line.split_once(' ').unwrap_or((line, ""));
-        match word {
-            "size" => {
-                let (rows, cols) = pair_of(text)?;
-                case.size = ScreenSize { rows, cols };
-            }
-            "history" => case.history.push(text)?,
-            "preview" => case.preview = text,
-            "cand" => case.candidates.push(candidate_of(text)?)?,
-            "prompt" => case.prompt = text,
-            "initial" => case.initial = Some(text),
-            "events" => case.events = text,
-            "readings" => case.readings = text.parse()?,
-            "host" => case.host = text,
-            "show" => case.shows = text,
-            "line" | "set" | "ask" | "remember" | "act" | "do" | "actions" | "read" => {
-                case.steps.push(line)?;
-            }
-            "#" => {}
-            "fail" => case.fault = Some(pair_of(text)?),
-            _ => return Err(Fail::from("no such word")),
-        }
-    }
+    take_lines(&mut case, lines)?;
     Ok(case)
+}
+
+fn take_lines<'a>(case: &mut Case<'a>, lines: &'a str) -> Result<(), Fail> {
+    for line in lines.lines() {
+        take_line(case, line)?;
+    }
+    Ok(())
+}
+
+/// Notes a line of a case.
+fn take_line<'a>(case: &mut Case<'a>, line: &'a str) -> Result<(), Fail> {
+    let (word, text) = line.split_once(' ').unwrap_or((line, ""));
+    match word {
+        "size" => {
+            let (rows, cols) = pair_of(text)?;
+            case.size = ScreenSize { rows, cols };
+        }
+        "history" => case.history.push(text)?,
+        "preview" => case.preview = text,
+        "cand" => case.candidates.push(candidate_of(text)?)?,
+        "prompt" => case.prompt = text,
+        "initial" => case.initial = Some(text),
+        "events" => case.events = text,
+        "readings" => case.readings = text.parse()?,
+        "host" => case.host = text,
+        "show" => case.shows = text,
+        "line" | "set" | "ask" | "remember" | "act" | "do" | "actions" | "read" => {
+            case.steps.push(line)?;
+        }
+        "#" => {}
+        "fail" => case.fault = Some(pair_of(text)?),
+        _ => return Err(Fail::from("no such word")),
+    }
+    Ok(())
 }
 
 /// Adds the lines to the host's history.
@@ -98,14 +109,40 @@ pub fn host_of<L: History + Drop>(
     case: &Case<'_>,
 ) -> Result<ScriptHost<L>, AllocError> {
     let mut host = ScriptHost::new(alloc, history);
-    remember_all(&mut host, case.history.as_slice())?;
+    prepare_host(alloc, &mut host, case)?;
+    Ok(host)
+}
+
+/// Gives a host the history, the preview and the candidates of a case.
+fn prepare_host<L: History>(
+    alloc: Global,
+    host: &mut ScriptHost<L>,
+    case: &Case<'_>,
+) -> Result<(), AllocError> {
+    remember_all(host, case.history.as_slice())?;
     let preview = case.preview.replace(alloc, "\\n", "\r\n")?;
     host.set_preview(preview.as_str())?;
-    for candidate in &case.candidates {
-        let (start, end, text) = *candidate;
+    offer_all(host, case.candidates.as_slice())
+}
+
+/// Lets a host offer the candidates.
+fn offer_all<L: History>(
+    host: &mut ScriptHost<L>,
+    candidates: &[(usize, usize, &str)],
+) -> Result<(), AllocError> {
+    for &(start, end, text) in candidates {
         host.offer(start..end, text)?;
     }
-    Ok(host)
+    Ok(())
+}
+
+/// Returns the terminal of a case, with its events and its fault.
+pub(crate) fn case_terminal(alloc: Global, case: &Case<'_>) -> Result<ScriptTerminal, Fail> {
+    let mut terminal = terminal_sized(alloc, case.size, case.events)?;
+    if let Some((call, taken)) = case.fault {
+        terminal.fail_at(call, taken);
+    }
+    Ok(terminal)
 }
 
 /// Reads the lines of a case with one editor, and gives the answers as text and the terminal.
@@ -114,21 +151,36 @@ pub fn readings_of<H: LineEditorHost>(
     case: &Case<'_>,
     host: &mut H,
 ) -> Result<(String, ScriptTerminal), Fail> {
-    let events = events_named(alloc, case.events)?;
-    let mut terminal = ScriptTerminal::new(alloc, case.size, events);
-    if let Some((call, taken)) = case.fault {
-        terminal.fail_at(call, taken);
-    }
-    let mut answers = String::new(alloc);
-    {
-        let mut editor = LineEditor::new(alloc, &mut terminal)?;
-        editor.set_prompt(case.prompt)?;
-        for number in 0..case.readings {
-            let answer = editor.read_line_with_optional_initial_value(host, case.initial);
-            let answer = answer_text(alloc, &answer)?;
-            let parting = if number == 0 { "" } else { ", " };
-            write!(answers, "{parting}{answer}")?;
-        }
-    }
+    let mut terminal = case_terminal(alloc, case)?;
+    let answers = read_lines(alloc, case, host, &mut terminal)?;
     Ok((answers, terminal))
+}
+
+/// Reads the lines of a case with one editor on this terminal, and returns the answers as text.
+pub(crate) fn read_lines<H: LineEditorHost>(
+    alloc: Global,
+    case: &Case<'_>,
+    host: &mut H,
+    terminal: &mut ScriptTerminal,
+) -> Result<String, Fail> {
+    let mut editor = LineEditor::new(alloc, terminal)?;
+    editor.set_prompt(case.prompt)?;
+    answers_of(alloc, case, host, &mut editor)
+}
+
+/// Reads the lines of a case with this editor, and returns the answers as text.
+fn answers_of<H: LineEditorHost>(
+    alloc: Global,
+    case: &Case<'_>,
+    host: &mut H,
+    editor: &mut LineEditor<'_, ScriptTerminal>,
+) -> Result<String, Fail> {
+    let mut answers = String::new(alloc);
+    for number in 0..case.readings {
+        let answer = editor.read_line_with_optional_initial_value(host, case.initial);
+        let answer = answer_text(alloc, &answer)?;
+        let parting = if number == 0 { "" } else { ", " };
+        write!(answers, "{parting}{answer}")?;
+    }
+    Ok(answers)
 }

@@ -184,18 +184,19 @@ fn fed_line<H: LineEditorHost>(
     host: &mut H,
     count: usize,
     marked: Option<Call>,
-) -> Result<FedLine, Fail> {
+) -> Result<Box<FedLine>, Fail> {
     let mut events = events_named(alloc, case.events)?;
     events.truncate(count);
     let script = ScriptTerminal::new(alloc, case.size, Vec::new(alloc));
     let mut terminal = Watched::new(alloc, script)?;
     let (end, is_closed) = end_of(alloc, case, host, events.as_slice(), marked, &mut terminal)?;
     let terminal = terminal.into_script();
-    Ok(FedLine {
+    let line = FedLine {
         end,
         is_closed,
         terminal,
-    })
+    };
+    Ok(Box::new(alloc, line)?)
 }
 
 /// Returns true if a refused line painted what one paints that is finished after the events that it was fed, and closed
@@ -232,6 +233,34 @@ fn hold_refusal(alloc: Global, events: &str, refused: &FedLine, cut: &FedLine) -
     hold(stops_at(refused, cut), events, shown.as_str())
 }
 
+/// Tests that a line between marks came to the same as one without them.
+fn hold_same(events: &str, outcome: &FedLine, cut: &FedLine) -> Result<(), Fail> {
+    let is_same = outcome.batches() == cut.batches()
+        && outcome.end.seen == cut.end.seen
+        && outcome.end.line == cut.end.line;
+    hold(is_same, events, "another line")
+}
+
+/// Tests a line between marks beside the one with memory, and beside one that is cut where it was refused. Returns what
+/// the one with memory answers.
+fn held_answer(
+    alloc: Global,
+    events: &str,
+    whole: &FedLine,
+    outcome: &FedLine,
+    cut: &FedLine,
+) -> Result<String, Fail> {
+    let is_closed = outcome.is_closed && cut.is_closed && whole.is_closed;
+    hold(is_closed, events, "a line is open")?;
+    let wanted = answer_text(alloc, &whole.end.answer)?;
+    if answer_text(alloc, &outcome.end.answer)? == wanted {
+        hold_same(events, outcome, cut)?;
+    } else {
+        hold_refusal(alloc, events, outcome, cut)?;
+    }
+    Ok(wanted)
+}
+
 /// Feeds a line the events of a case, with marks round the calls of one kind, and returns what it answers with memory.
 /// If one of them is refused, what the terminal took is what it takes if the line is finished before that event. No line
 /// is open then, and another one can be begun.
@@ -244,16 +273,5 @@ pub fn refused_feeding<H: LineEditorHost>(
     let whole = fed_line(alloc, case, host, usize::MAX, None)?;
     let outcome = fed_line(alloc, case, host, usize::MAX, Some(marked))?;
     let cut = fed_line(alloc, case, host, outcome.end.fed.unwrap_or(0), None)?;
-    let is_closed = outcome.is_closed && cut.is_closed && whole.is_closed;
-    hold(is_closed, case.events, "a line is open")?;
-    let wanted = answer_text(alloc, &whole.end.answer)?;
-    if answer_text(alloc, &outcome.end.answer)? != wanted {
-        hold_refusal(alloc, case.events, &outcome, &cut)?;
-        return Ok(wanted);
-    }
-    let is_same = outcome.batches() == cut.batches()
-        && outcome.end.seen == cut.end.seen
-        && outcome.end.line == cut.end.line;
-    hold(is_same, case.events, "another line")?;
-    Ok(wanted)
+    held_answer(alloc, case.events, &whole, &outcome, &cut)
 }

@@ -1,13 +1,14 @@
 //! What comes of a case.
 
-use crate::case::{Case, readings_of};
-use crate::steps::steps_of;
+use crate::case::{Case, case_terminal, read_lines};
+use crate::steps::take_steps;
 use crate::told::{terminal_text, write_batch};
 use script_player::{play_all, show_screen};
 use std::alloc::Global;
 use std::test::Fail;
 use tw_lineedit::LineEditorHost;
 use tw_surface::{Change, Screen};
+use tw_terminal::ScriptTerminal;
 
 /// Returns what comes of a case: the answers of its readings, or what comes of its steps. If it shows `batches`, what
 /// the terminal has taken follows; if it shows `screen`, `painting` with the last painting, `closing` with the closing
@@ -17,15 +18,26 @@ pub fn told_of<H: LineEditorHost>(
     case: &Case<'_>,
     host: &mut H,
 ) -> Result<String, Fail> {
-    let (outcome, terminal) = if case.steps.is_empty() {
-        readings_of(alloc, case, host)?
+    let mut terminal = case_terminal(alloc, case)?;
+    told_on(alloc, case, host, &mut terminal)
+}
+
+/// Plays a case on its terminal, and returns what comes of it.
+fn told_on<H: LineEditorHost>(
+    alloc: Global,
+    case: &Case<'_>,
+    host: &mut H,
+    terminal: &mut ScriptTerminal,
+) -> Result<String, Fail> {
+    let outcome = if case.steps.is_empty() {
+        read_lines(alloc, case, host, terminal)?
     } else {
-        steps_of(alloc, case, host)?
+        take_steps(alloc, case, host, terminal)?
     };
     match case.shows {
         "" => Ok(outcome),
         "batches" => {
-            let taken = terminal_text(alloc, &terminal)?;
+            let taken = terminal_text(alloc, terminal)?;
             Ok(format!(in alloc; "{}, {taken}", outcome.as_str().trim_end())?)
         }
         _ => {

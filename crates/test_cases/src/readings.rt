@@ -115,17 +115,22 @@ fn last_reading<H: LineEditorHost>(
     case: &Case<'_>,
     host: &mut H,
     play: Play,
-) -> Result<LastReading, Fail> {
+) -> Result<Box<LastReading>, Fail> {
+    let mut terminal = watched_terminal(alloc, case, play)?;
+    let end = end_of(alloc, case, host, play.marked, &mut terminal)?;
+    let terminal = terminal.into_script();
+    Ok(Box::new(alloc, LastReading { end, terminal })?)
+}
+
+/// Returns the terminal on which a case is played.
+fn watched_terminal(alloc: Global, case: &Case<'_>, play: Play) -> Result<Watched, Fail> {
     let mut events = events_named(alloc, case.events)?;
     events.truncate(play.events);
     let mut script = ScriptTerminal::new(alloc, case.size, events);
     if let Some((call, taken)) = play.fault {
         script.fail_at(call, taken);
     }
-    let mut terminal = Watched::new(alloc, script)?;
-    let end = end_of(alloc, case, host, play.marked, &mut terminal)?;
-    let terminal = terminal.into_script();
-    Ok(LastReading { end, terminal })
+    Ok(Watched::new(alloc, script)?)
 }
 
 /// Returns the batches without a clearing of the screen after them.
@@ -218,14 +223,14 @@ fn hold_line(case: &Case<'_>, refused: &LastReading) -> Result<(), Fail> {
     )
 }
 
-/// Tests that a refused reading was stopped where a reading with memory ends that has `all` of the events or fewer.
+/// Tests that a refused reading was stopped where a reading with memory ends that has all of the events or fewer.
 fn hold_stop<H: LineEditorHost>(
     alloc: Global,
     case: &Case<'_>,
     host: &mut H,
     refused: &LastReading,
-    all: usize,
 ) -> Result<(), Fail> {
+    let all = events_named(alloc, case.events)?.len();
     let mut is_found = false;
     for events in 0..=all {
         let play = Play {
@@ -240,6 +245,23 @@ fn hold_stop<H: LineEditorHost>(
     hold(is_found, case.events, shown.as_str())
 }
 
+/// Tests a refused reading beside the one with memory.
+fn hold_refused<H: LineEditorHost>(
+    alloc: Global,
+    case: &Case<'_>,
+    host: &mut H,
+    refused: &LastReading,
+    with_memory: &LastReading,
+) -> Result<(), Fail> {
+    hold_refusal(alloc, case, refused)?;
+    hold_beginning(case, refused, with_memory)?;
+    hold_line(case, refused)?;
+    if parts_of(refused).0.is_empty() {
+        return Ok(());
+    }
+    hold_stop(alloc, case, host, refused)
+}
+
 /// Reads the last line of a case between marks, and returns what it answers with memory. If it is refused, what the
 /// terminal took is a beginning of what it takes with memory, and the closing batch of the last painting follows; the
 /// editor can read again.
@@ -248,9 +270,8 @@ pub fn refused_reading<H: LineEditorHost>(
     case: &Case<'_>,
     host: &mut H,
 ) -> Result<String, Fail> {
-    let all = events_named(alloc, case.events)?.len();
     let whole = Play {
-        events: all,
+        events: usize::MAX,
         fault: case.fault,
         marked: false,
     };
@@ -261,12 +282,7 @@ pub fn refused_reading<H: LineEditorHost>(
     };
     let reading = last_reading(alloc, case, host, marked)?;
     if !reading.is_as(alloc, &with_memory)? {
-        hold_refusal(alloc, case, &reading)?;
-        hold_beginning(case, &reading, &with_memory)?;
-        hold_line(case, &reading)?;
-        if !parts_of(&reading).0.is_empty() {
-            hold_stop(alloc, case, host, &reading, all)?;
-        }
+        hold_refused(alloc, case, host, &reading, &with_memory)?;
     }
     Ok(answer_text(alloc, &with_memory.end.answer)?)
 }

@@ -7,7 +7,7 @@ use crate::history_calls::lines_of;
 use crate::marks::mark_if;
 use crate::told::answer_text;
 use crate::watched::{Seen, Watched};
-use std::alloc::Global;
+use std::alloc::{AllocError, Global};
 use std::test::Fail;
 use tw_lineedit::{BasicHistory, Error, LineEditor, LineEditorHost};
 use tw_surface::Change;
@@ -70,18 +70,28 @@ fn end_of<H: LineEditorHost>(
 }
 
 /// Reads the line of a case, which the host then has in its history.
-fn reading_of(alloc: Global, case: &Case<'_>, marked: bool) -> Result<Remembered, Fail> {
+fn reading_of(alloc: Global, case: &Case<'_>, marked: bool) -> Result<Box<Remembered>, Fail> {
     let mut host = host_of(alloc, BasicHistory::new(alloc), case)?;
+    remembered_by(alloc, case, &mut host, marked)
+}
+
+/// Reads the line of a case with this host.
+fn remembered_by<H: LineEditorHost>(
+    alloc: Global,
+    case: &Case<'_>,
+    host: &mut H,
+    marked: bool,
+) -> Result<Box<Remembered>, Fail> {
     let script = terminal_sized(alloc, case.size, case.events)?;
     let mut terminal = Watched::new(alloc, script)?;
-    let end = end_of(alloc, &mut host, marked, &mut terminal)?;
+    let end = end_of(alloc, host, marked, &mut terminal)?;
     let lines = lines_of(alloc, host.history())?;
-    let terminal = terminal.into_script();
-    Ok(Remembered {
+    let reading = Remembered {
         end,
         lines,
-        terminal,
-    })
+        terminal: terminal.into_script(),
+    };
+    Ok(Box::new(alloc, reading)?)
 }
 
 /// Tests a refused reading: the history's lines stay, and what the terminal took before the closing batch is a beginning
@@ -110,24 +120,46 @@ fn hold_refusal(
     hold(!is_read || is_same, events, "another line")
 }
 
-/// Reads the line of a case between marks, which the host then has in its history. Returns what the reading answers with
-/// memory, and the lines of the history after it, a bar after each. If it is refused, the history is as before.
-pub fn refused_remembering(alloc: Global, case: &Case<'_>) -> Result<String, Fail> {
+/// Returns the lines of the history of a case, each with a bar after it.
+fn lines_before(alloc: Global, case: &Case<'_>) -> Result<String, AllocError> {
     let mut before = String::new(alloc);
     for line in &case.history {
         write!(before, "{line}|")?;
     }
+    Ok(before)
+}
+
+/// Tests that a reading between marks came to the same as one without them.
+fn hold_same(events: &str, outcome: &Remembered, with_memory: &Remembered) -> Result<(), Fail> {
+    let is_same = outcome.batches() == with_memory.batches()
+        && outcome.end.seen == with_memory.end.seen
+        && outcome.lines == with_memory.lines;
+    hold(is_same, events, "another reading")
+}
+
+/// Tests a reading between marks beside the one with memory, and returns what that one answers.
+fn held_answer(
+    alloc: Global,
+    case: &Case<'_>,
+    outcome: &Remembered,
+    with_memory: &Remembered,
+) -> Result<String, Fail> {
+    let wanted = answer_text(alloc, &with_memory.end.answer)?;
+    if answer_text(alloc, &outcome.end.answer)? == wanted {
+        hold_same(case.events, outcome, with_memory)?;
+    } else {
+        let before = lines_before(alloc, case)?;
+        hold_refusal(case.events, outcome, with_memory, before.as_str())?;
+    }
+    Ok(wanted)
+}
+
+/// Reads the line of a case between marks, which the host then has in its history. Returns what the reading answers with
+/// memory, and the lines of the history after it, a bar after each. If it is refused, the history is as before.
+pub fn refused_remembering(alloc: Global, case: &Case<'_>) -> Result<String, Fail> {
     let with_memory = reading_of(alloc, case, false)?;
     let outcome = reading_of(alloc, case, true)?;
     hold(outcome.end.reads_again, case.events, "the mode is left")?;
-    let wanted = answer_text(alloc, &with_memory.end.answer)?;
-    if answer_text(alloc, &outcome.end.answer)? == wanted {
-        let is_same = outcome.batches() == with_memory.batches()
-            && outcome.end.seen == with_memory.end.seen
-            && outcome.lines == with_memory.lines;
-        hold(is_same, case.events, "another reading")?;
-    } else {
-        hold_refusal(case.events, &outcome, &with_memory, before.as_str())?;
-    }
+    let wanted = held_answer(alloc, case, &outcome, &with_memory)?;
     Ok(format!(in alloc; "{wanted}\n{}", with_memory.lines)?)
 }

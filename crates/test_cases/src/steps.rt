@@ -1,9 +1,8 @@
 //! Steps of an editor outside a reading.
 
 use crate::actions::action_named;
-use crate::case::Case;
+use crate::case::{Case, case_terminal};
 use crate::cases::hold;
-use crate::events::terminal_sized;
 use crate::marks::{mark, mark_if};
 use crate::told::answer_text;
 use std::alloc::{AllocError, Global};
@@ -94,6 +93,52 @@ fn apply_all<H: LineEditorHost>(
     Ok(())
 }
 
+/// Adds the line and its cursor.
+fn tell_line(alloc: Global, editor: &mut Editor<'_>, outcome: &mut String) -> Result<(), Fail> {
+    let line = line_text(alloc, editor)?;
+    Ok(write!(outcome, "{line}\n")?)
+}
+
+/// Reads a line, and adds what was answered.
+fn read<H: LineEditorHost>(
+    alloc: Global,
+    editor: &mut Editor<'_>,
+    host: &mut H,
+    outcome: &mut String,
+) -> Result<(), Fail> {
+    let answer = editor.read_line(host);
+    let answer = answer_text(alloc, &answer)?;
+    Ok(write!(outcome, "{answer}\n")?)
+}
+
+/// Applies an action between marks, and adds its refusal, if it is refused, and the line.
+fn apply_one<H: LineEditorHost>(
+    alloc: Global,
+    editor: &mut Editor<'_>,
+    host: &mut H,
+    name: &str,
+    outcome: &mut String,
+) -> Result<(), Fail> {
+    if let Err(error) = apply(alloc, editor, host, name)? {
+        write!(outcome, "refusal {}, ", error.number())?;
+    }
+    tell_line(alloc, editor, outcome)
+}
+
+/// Applies the actions of these names, each between marks, and adds the line.
+fn apply_each<H: LineEditorHost>(
+    alloc: Global,
+    editor: &mut Editor<'_>,
+    host: &mut H,
+    names: &str,
+    outcome: &mut String,
+) -> Result<(), Fail> {
+    for name in names.split_whitespace() {
+        apply(alloc, editor, host, name)??;
+    }
+    tell_line(alloc, editor, outcome)
+}
+
 /// Takes a step, and adds what came of it.
 fn take_step<H: LineEditorHost>(
     alloc: Global,
@@ -104,32 +149,15 @@ fn take_step<H: LineEditorHost>(
 ) -> Result<(), Fail> {
     let (word, text) = step.split_once(' ').unwrap_or((step, ""));
     match word {
-        "line" => set(alloc, editor, text, false)?,
-        "set" => set(alloc, editor, text, true)?,
-        "ask" => ask(alloc, editor, text)?,
-        "remember" => host.history().add(text)?,
-        "read" => {
-            let answer = editor.read_line(host);
-            let answer = answer_text(alloc, &answer)?;
-            write!(outcome, "{answer}\n")?;
-        }
-        "act" => apply_all(alloc, editor, host, text)?,
-        "do" => {
-            if let Err(error) = apply(alloc, editor, host, text)? {
-                write!(outcome, "refusal {}, ", error.number())?;
-            }
-            let line = line_text(alloc, editor)?;
-            write!(outcome, "{line}\n")?;
-        }
-        _ => {
-            for name in text.split_whitespace() {
-                apply(alloc, editor, host, name)??;
-            }
-            let line = line_text(alloc, editor)?;
-            write!(outcome, "{line}\n")?;
-        }
+        "line" => set(alloc, editor, text, false),
+        "set" => set(alloc, editor, text, true),
+        "ask" => ask(alloc, editor, text),
+        "remember" => Ok(host.history().add(text)?),
+        "read" => read(alloc, editor, host, outcome),
+        "act" => apply_all(alloc, editor, host, text),
+        "do" => apply_one(alloc, editor, host, text, outcome),
+        _ => apply_each(alloc, editor, host, text, outcome),
     }
-    Ok(())
 }
 
 /// Takes the steps of a case with a new editor. Returns what came of them and the terminal. `line CURSOR TEXT` sets the
@@ -141,16 +169,22 @@ pub fn steps_of<H: LineEditorHost>(
     case: &Case<'_>,
     host: &mut H,
 ) -> Result<(String, ScriptTerminal), Fail> {
-    let mut terminal = terminal_sized(alloc, case.size, case.events)?;
-    if let Some((call, taken)) = case.fault {
-        terminal.fail_at(call, taken);
-    }
-    let mut outcome = String::new(alloc);
-    {
-        let mut editor = LineEditor::new(alloc, &mut terminal)?;
-        for step in &case.steps {
-            take_step(alloc, &mut editor, host, step, &mut outcome)?;
-        }
-    }
+    let mut terminal = case_terminal(alloc, case)?;
+    let outcome = take_steps(alloc, case, host, &mut terminal)?;
     Ok((outcome, terminal))
+}
+
+/// Takes the steps of a case with a new editor on this terminal, and returns what came of them.
+pub(crate) fn take_steps<H: LineEditorHost>(
+    alloc: Global,
+    case: &Case<'_>,
+    host: &mut H,
+    terminal: &mut ScriptTerminal,
+) -> Result<String, Fail> {
+    let mut editor = LineEditor::new(alloc, terminal)?;
+    let mut outcome = String::new(alloc);
+    for step in &case.steps {
+        take_step(alloc, &mut editor, host, step, &mut outcome)?;
+    }
+    Ok(outcome)
 }
