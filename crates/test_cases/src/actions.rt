@@ -32,33 +32,60 @@ pub fn movements_named(text: &str) -> Result<(Movement, Movement), Fail> {
 pub fn action_named(alloc: Global, text: &str) -> Result<Action, Fail> {
     let (name, rest) = text.split_once(' ').unwrap_or((text, ""));
     match name {
-        "AcceptLine" => Ok(Action::AcceptLine),
-        "Cancel" => Ok(Action::Cancel),
-        "EndOfFile" => Ok(Action::EndOfFile),
-        "Repaint" => Ok(Action::Repaint),
-        "HistoryPrevious" => Ok(Action::HistoryPrevious),
-        "HistoryNext" => Ok(Action::HistoryNext),
-        "HistoryIncSearchBackwards" => Ok(Action::HistoryIncSearchBackwards),
-        "HistoryIncSearchForwards" => Ok(Action::HistoryIncSearchForwards),
-        "Complete" => Ok(Action::Complete),
-        "NoAction" => Ok(Action::NoAction),
-        "Move" => Ok(Action::Move(movement_named(rest)?)),
-        "Kill" => Ok(Action::Kill(movement_named(rest)?)),
-        "KillAndMove" => {
-            let (kill, movement) = movements_named(rest)?;
-            Ok(Action::KillAndMove(kill, movement))
-        }
+        "Move" | "Kill" | "KillAndMove" => moving_action(name, rest),
         "InsertChar" | "InsertText" => insertion_named(alloc, name, rest),
-        _ => {
-            let event = event_named(alloc, text)?.ok_or("no action of this name")?;
-            Ok(default_action(alloc, &event)?.ok_or("no action")?)
-        }
+        _ => match plain_action(name) {
+            Some(action) => Ok(action),
+            None => action_of_event(alloc, text),
+        },
     }
 }
 
-fn insertion_named(alloc: Global, name: &str, text: &str) -> Result<Action, Fail> {
+/// Returns the action of a name that says all of it.
+fn plain_action(name: &str) -> Option<Action> {
+    match name {
+        "AcceptLine" => Some(Action::AcceptLine),
+        "Cancel" => Some(Action::Cancel),
+        "EndOfFile" => Some(Action::EndOfFile),
+        "Repaint" => Some(Action::Repaint),
+        "HistoryPrevious" => Some(Action::HistoryPrevious),
+        "HistoryNext" => Some(Action::HistoryNext),
+        "HistoryIncSearchBackwards" => Some(Action::HistoryIncSearchBackwards),
+        "HistoryIncSearchForwards" => Some(Action::HistoryIncSearchForwards),
+        "Complete" => Some(Action::Complete),
+        "NoAction" => Some(Action::NoAction),
+        _ => None,
+    }
+}
+
+/// Returns the action that the key table gives for the event of this name.
+fn action_of_event(alloc: Global, name: &str) -> Result<Action, Fail> {
+    let event = event_named(alloc, name)?.ok_or("no action of this name")?;
+    Ok(default_action(alloc, &event)?.ok_or("no action")?)
+}
+
+/// Returns the action of a movement, or `KillAndMove` of two.
+fn moving_action(name: &str, text: &str) -> Result<Action, Fail> {
+    if name == "KillAndMove" {
+        let (kill, movement) = movements_named(text)?;
+        return Ok(Action::KillAndMove(kill, movement));
+    }
+    let movement = movement_named(text)?;
+    Ok(if name == "Move" {
+        Action::Move(movement)
+    } else {
+        Action::Kill(movement)
+    })
+}
+
+/// Parses `COUNT TEXT`.
+fn counted_text(text: &str) -> Result<(usize, &str), Fail> {
     let (count, text) = text.split_once(' ').ok_or("no text")?;
-    let count = count.parse()?;
+    Ok((count.parse()?, text))
+}
+
+fn insertion_named(alloc: Global, name: &str, text: &str) -> Result<Action, Fail> {
+    let (count, text) = counted_text(text)?;
     if name == "InsertChar" {
         return Ok(Action::InsertChar(count, text.parse()?));
     }

@@ -71,26 +71,54 @@ fn take_lines<'a>(case: &mut Case<'a>, lines: &'a str) -> Result<(), Fail> {
 fn take_line<'a>(case: &mut Case<'a>, line: &'a str) -> Result<(), Fail> {
     let (word, text) = line.split_once(' ').unwrap_or((line, ""));
     match word {
-        "size" => {
-            let (rows, cols) = pair_of(text)?;
-            case.size = ScreenSize { rows, cols };
+        "line" | "set" | "ask" | "remember" | "act" | "do" | "actions" | "read" => {
+            Ok(case.steps.push(line)?)
         }
-        "history" => case.history.push(text)?,
+        "history" => Ok(case.history.push(text)?),
+        "cand" => add_candidate(&mut case.candidates, text),
+        "size" => set_size(&mut case.size, text),
+        "readings" => set_count(&mut case.readings, text),
+        "fail" => set_fault(&mut case.fault, text),
+        "#" => Ok(()),
+        _ => take_text(case, word, text),
+    }
+}
+
+/// Notes a line of a case that is a word and a text.
+fn take_text<'a>(case: &mut Case<'a>, word: &str, text: &'a str) -> Result<(), Fail> {
+    match word {
         "preview" => case.preview = text,
-        "cand" => case.candidates.push(candidate_of(text)?)?,
         "prompt" => case.prompt = text,
         "initial" => case.initial = Some(text),
         "events" => case.events = text,
-        "readings" => case.readings = text.parse()?,
         "host" => case.host = text,
         "show" => case.shows = text,
-        "line" | "set" | "ask" | "remember" | "act" | "do" | "actions" | "read" => {
-            case.steps.push(line)?;
-        }
-        "#" => {}
-        "fail" => case.fault = Some(pair_of(text)?),
         _ => return Err(Fail::from("no such word")),
     }
+    Ok(())
+}
+
+fn set_size(size: &mut ScreenSize, text: &str) -> Result<(), Fail> {
+    let (rows, cols) = pair_of(text)?;
+    *size = ScreenSize { rows, cols };
+    Ok(())
+}
+
+fn set_count(count: &mut usize, text: &str) -> Result<(), Fail> {
+    *count = text.parse()?;
+    Ok(())
+}
+
+fn set_fault(fault: &mut Option<(usize, usize)>, text: &str) -> Result<(), Fail> {
+    *fault = Some(pair_of(text)?);
+    Ok(())
+}
+
+fn add_candidate<'a>(
+    candidates: &mut Vec<(usize, usize, &'a str)>,
+    text: &'a str,
+) -> Result<(), Fail> {
+    candidates.push(candidate_of(text)?)?;
     Ok(())
 }
 
@@ -168,6 +196,17 @@ pub(crate) fn read_lines<H: LineEditorHost>(
     answers_of(alloc, case, host, &mut editor)
 }
 
+/// Reads a line of a case, and returns the answer as text.
+fn answer_of<H: LineEditorHost>(
+    alloc: Global,
+    case: &Case<'_>,
+    host: &mut H,
+    editor: &mut LineEditor<'_, ScriptTerminal>,
+) -> Result<String, AllocError> {
+    let answer = editor.read_line_with_optional_initial_value(host, case.initial);
+    answer_text(alloc, &answer)
+}
+
 /// Reads the lines of a case with this editor, and returns the answers as text.
 fn answers_of<H: LineEditorHost>(
     alloc: Global,
@@ -177,8 +216,7 @@ fn answers_of<H: LineEditorHost>(
 ) -> Result<String, Fail> {
     let mut answers = String::new(alloc);
     for number in 0..case.readings {
-        let answer = editor.read_line_with_optional_initial_value(host, case.initial);
-        let answer = answer_text(alloc, &answer)?;
+        let answer = answer_of(alloc, case, host, editor)?;
         let parting = if number == 0 { "" } else { ", " };
         write!(answers, "{parting}{answer}")?;
     }

@@ -46,12 +46,23 @@ fn unlike_cases<F: Fn(Global, &str) -> Result<String, Fail>>(
             continue;
         }
         let (done, wanted) = case.split_once("--\n").ok_or("a case without `--`")?;
-        let came = play(alloc, done)?;
-        if !is_wanted(came.as_str(), wanted) {
-            write!(unlike, "{done}-- came:\n{came}\n==\n")?;
-        }
+        add_unlike(&mut unlike, done, wanted, play(alloc, done))?;
     }
     Ok(unlike)
+}
+
+/// Appends a case and what comes of it if that is not what is wanted.
+fn add_unlike(
+    unlike: &mut String,
+    done: &str,
+    wanted: &str,
+    played: Result<String, Fail>,
+) -> Result<(), Fail> {
+    let came = played?;
+    if !is_wanted(came.as_str(), wanted) {
+        write!(unlike, "{done}-- came:\n{came}\n==\n")?;
+    }
+    Ok(())
 }
 
 /// Plays cases and fails with those from which something else comes than is wanted. A case has the lines of what is done,

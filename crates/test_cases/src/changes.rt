@@ -22,18 +22,21 @@ fn color_of(text: &str) -> Result<ColorAttribute, Fail> {
     })
 }
 
+/// Parses `ROW COL`: a move of the cursor.
+fn move_of(text: &str) -> Result<Change, Fail> {
+    let (row, col) = text.split_once(' ').ok_or("no column")?;
+    let x = position_of(col)?;
+    let y = position_of(row)?;
+    Ok(Change::CursorPosition { x, y })
+}
+
 /// Parses a change: `text TEXT`, `at ROW COL` (relative with a sign), `clear` and `clear_below`, each with a palette
 /// index or without, `plain`, `bold` or `reverse`.
 pub fn change_of(alloc: Global, name: &str) -> Result<Change, Fail> {
     let (word, rest) = name.split_once(' ').unwrap_or((name, ""));
     Ok(match word {
         "text" => Change::Text(String::from_str(alloc, rest)?),
-        "at" => {
-            let (row, col) = rest.split_once(' ').ok_or("no column")?;
-            let x = position_of(col)?;
-            let y = position_of(row)?;
-            Change::CursorPosition { x, y }
-        }
+        "at" => move_of(rest)?,
         "clear" => Change::ClearScreen(color_of(rest)?),
         "clear_below" => Change::ClearToEndOfScreen(color_of(rest)?),
         "plain" => Change::AllAttributes(CellAttributes::default()),

@@ -16,15 +16,20 @@ fn push_copies(long: &mut String, copies: &str) -> Result<(), Fail> {
     Ok(())
 }
 
+/// Appends the copies of `COUNT|TEXT}`, and the text behind them.
+fn push_part(long: &mut String, part: &str) -> Result<(), Fail> {
+    let (copies, after) = part.split_once('}').ok_or("no end of copies")?;
+    push_copies(long, copies)?;
+    Ok(long.push_str(after)?)
+}
+
 /// Returns the text with each `{COUNT|TEXT}` replaced by COUNT copies of TEXT, each with its number, counted from 0, in
 /// the place of `#`.
 pub fn expanded(alloc: Global, text: &str) -> Result<String, Fail> {
     let (first, rest) = text.split_once('{').unwrap_or((text, "0|}"));
     let mut long = String::from_str(alloc, first)?;
     for part in rest.split('{') {
-        let (copies, after) = part.split_once('}').ok_or("no end of copies")?;
-        push_copies(&mut long, copies)?;
-        long.push_str(after)?;
+        push_part(&mut long, part)?;
     }
     Ok(long)
 }

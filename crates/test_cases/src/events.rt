@@ -67,6 +67,13 @@ pub fn terminal_sized(
 /// `CS-Left`.
 fn other_key(name: &str) -> Option<KeyEvent> {
     let (marks, key) = name.rsplit_once('-').unwrap_or(("", name));
+    let key = key_named(key)?;
+    let modifiers = modifiers_of(marks);
+    Some(KeyEvent { key, modifiers })
+}
+
+/// Returns the modifiers of these letters.
+fn modifiers_of(marks: &str) -> Modifiers {
     let mut modifiers = Modifiers::NONE;
     for mark in marks.chars() {
         modifiers = match mark {
@@ -77,7 +84,12 @@ fn other_key(name: &str) -> Option<KeyEvent> {
             _ => modifiers,
         };
     }
-    let key = match key {
+    modifiers
+}
+
+/// Returns the key of a name, or of the character that it is.
+fn key_named(name: &str) -> Option<KeyCode> {
+    Some(match name {
         "Enter" => KeyCode::Enter,
         "Backspace" => KeyCode::Backspace,
         "Left" => KeyCode::LeftArrow,
@@ -86,9 +98,8 @@ fn other_key(name: &str) -> Option<KeyEvent> {
         "Insert" => KeyCode::Insert,
         "PageUp" => KeyCode::PageUp,
         "PageDown" => KeyCode::PageDown,
-        _ => KeyCode::Char(key.parse().ok()?),
-    };
-    Some(KeyEvent { key, modifiers })
+        _ => KeyCode::Char(name.parse().ok()?),
+    })
 }
 
 /// Parses the lines of a script (docs/SCRIPTS.md): `type TEXT`, `paste TEXT` and `key NAME`, also with the name of
@@ -96,18 +107,24 @@ fn other_key(name: &str) -> Option<KeyEvent> {
 pub fn script_events(alloc: Global, script: &str) -> Result<Vec<InputEvent>, Fail> {
     let mut events = Vec::new(alloc);
     for line in script.lines() {
-        match parse_line(line.as_bytes()) {
-            Some(directive @ (Directive::Type(_) | Directive::Paste(_) | Directive::Key(_))) => {
-                push_events(alloc, &directive, &mut events)?;
-            }
-            Some(_) => return Err(Fail::from("no line with events")),
-            None => {
-                let name = line.strip_prefix("key ").ok_or("no line of a script")?;
-                events.push(InputEvent::Key(other_key(name).ok_or("no key of this name")?))?;
-            }
-        }
+        push_line(alloc, line, &mut events)?;
     }
     Ok(events)
+}
+
+/// Appends the events of a line of a script.
+fn push_line(alloc: Global, line: &str, events: &mut Vec<InputEvent>) -> Result<(), Fail> {
+    match parse_line(line.as_bytes()) {
+        Some(directive @ (Directive::Type(_) | Directive::Paste(_) | Directive::Key(_))) => {
+            Ok(push_events(alloc, &directive, events)?)
+        }
+        Some(_) => Err(Fail::from("no line with events")),
+        None => {
+            let name = line.strip_prefix("key ").ok_or("no line of a script")?;
+            let key = other_key(name).ok_or("no key of this name")?;
+            Ok(events.push(InputEvent::Key(key))?)
+        }
+    }
 }
 
 /// Returns a terminal of 24 rows and 80 columns with the events of a script.

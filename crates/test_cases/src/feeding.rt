@@ -9,6 +9,8 @@ use crate::steps::is_memory;
 use crate::told::{answer_text, batches_text};
 use crate::watched::{Seen, Watched};
 use std::alloc::Global;
+use std::cell::Cell;
+use std::rc::Rc;
 use std::test::Fail;
 use tw_input::InputEvent;
 use tw_lineedit::{Error, LineEditor, LineEditorHost, LineStatus};
@@ -164,17 +166,29 @@ fn end_of<H: LineEditorHost>(
     let seen = terminal.seen()?;
     let mut editor = LineEditor::new(alloc, terminal)?;
     editor.set_prompt(case.prompt)?;
-    let (answer, fed) = answer_of(alloc, case, &mut editor, host, events, marked)?;
+    let end = fed_end(alloc, case, &mut editor, host, events, marked, &seen)?;
+    Ok((end, is_closed(alloc, &mut editor, host)?))
+}
+
+/// Feeds a line the events with this editor.
+fn fed_end<H: LineEditorHost>(
+    alloc: Global,
+    case: &Case<'_>,
+    editor: &mut LineEditor<'_, Watched>,
+    host: &mut H,
+    events: &[InputEvent],
+    marked: Option<Call>,
+    seen: &Rc<Cell<Seen>>,
+) -> Result<End, Fail> {
+    let (answer, fed) = answer_of(alloc, case, editor, host, events, marked)?;
     let seen = seen.get();
     let line = String::from_str(alloc, editor.get_line_and_cursor().0)?;
-    let is_closed = is_closed(alloc, &mut editor, host)?;
-    let end = End {
+    Ok(End {
         answer,
         fed,
         line,
         seen,
-    };
-    Ok((end, is_closed))
+    })
 }
 
 /// Returns a line of a case that is fed the first `count` of its events.

@@ -4,7 +4,7 @@ use crate::cases::hold;
 use crate::marks::mark;
 use std::alloc::{AllocError, Global};
 use std::test::Fail;
-use tw_lineedit::{History, SearchDirection, SearchStyle};
+use tw_lineedit::{History, SearchDirection, SearchResult, SearchStyle};
 
 /// Returns the lines of a history, each with a bar after it.
 pub fn lines_of<L: History>(alloc: Global, history: &L) -> Result<String, AllocError> {
@@ -45,14 +45,18 @@ fn search<L: History>(
     mark(alloc)?;
     let found = history.search(alloc, idx, SearchStyle::Substring, direction, pattern);
     mark(alloc)?;
-    match found? {
+    Ok(tell_found(found?, outcome)?)
+}
+
+/// Adds the index, the offset and the text of a line that is found.
+fn tell_found(found: Option<SearchResult<'_>>, outcome: &mut String) -> Result<(), AllocError> {
+    match found {
         Some(found) => {
             let line: &str = &found.line;
-            write!(outcome, "{} {} {line:?}\n", found.idx, found.cursor)?;
+            write!(outcome, "{} {} {line:?}\n", found.idx, found.cursor)
         }
-        None => outcome.push_str("None\n")?,
+        None => outcome.push_str("None\n"),
     }
-    Ok(())
 }
 
 fn get<L: History>(
@@ -85,33 +89,36 @@ pub fn play_history<L: History>(
 ) -> Result<String, Fail> {
     let mut outcome = String::new(alloc);
     for call in calls.lines() {
-        let (word, text) = call.split_once(' ').unwrap_or((call, ""));
-        match word {
-            "have" => history.add(text)?,
-            "add" => {
-                add(alloc, history, text)?;
-                let lines = lines_of(alloc, history)?;
-                write!(outcome, "{lines}\n")?;
-            }
-            "last" => write!(outcome, "{:?}\n", history.last())?,
-            "get" => get(alloc, history, text, &mut outcome)?,
-            "back" => search(
-                alloc,
-                history,
-                SearchDirection::Backwards,
-                text,
-                &mut outcome,
-            )?,
-            "forth" => search(
-                alloc,
-                history,
-                SearchDirection::Forwards,
-                text,
-                &mut outcome,
-            )?,
-            "#" => {}
-            _ => return Err(Fail::from("no call of a history")),
-        }
+        make_call(alloc, history, call, &mut outcome)?;
     }
     Ok(outcome)
+}
+
+/// Makes the call of a line, and adds what comes of it.
+fn make_call<L: History>(
+    alloc: Global,
+    history: &mut L,
+    call: &str,
+    outcome: &mut String,
+) -> Result<(), Fail> {
+    let (word, text) = call.split_once(' ').unwrap_or((call, ""));
+    match word {
+        "have" => Ok(history.add(text)?),
+        "add" => {
+            add(alloc, history, text)?;
+            tell_lines(alloc, history, outcome)
+        }
+        "last" => Ok(write!(outcome, "{:?}\n", history.last())?),
+        "get" => get(alloc, history, text, outcome),
+        "back" => search(alloc, history, SearchDirection::Backwards, text, outcome),
+        "forth" => search(alloc, history, SearchDirection::Forwards, text, outcome),
+        "#" => Ok(()),
+        _ => Err(Fail::from("no call of a history")),
+    }
+}
+
+/// Adds the lines of a history.
+fn tell_lines<L: History>(alloc: Global, history: &L, outcome: &mut String) -> Result<(), Fail> {
+    let lines = lines_of(alloc, history)?;
+    Ok(write!(outcome, "{lines}\n")?)
 }

@@ -4,7 +4,7 @@ use crate::case::{Case, case_terminal, read_lines};
 use crate::steps::take_steps;
 use crate::told::{terminal_text, write_batch};
 use script_player::{play_all, show_screen};
-use std::alloc::Global;
+use std::alloc::{AllocError, Global};
 use std::test::Fail;
 use tw_lineedit::LineEditorHost;
 use tw_surface::{Change, Screen};
@@ -50,16 +50,24 @@ fn told_on<H: LineEditorHost>(
 fn shown_text(alloc: Global, cols: usize, batches: &[Vec<Change>]) -> Result<String, Fail> {
     let (closing, paintings) = batches.split_last().ok_or("no batch")?;
     let mut outcome = String::new(alloc);
+    write_last(&mut outcome, paintings, closing.as_slice())?;
+    let screen = screen_text(alloc, cols, paintings, closing.as_slice())?;
+    write!(outcome, "\nscreen {screen}")?;
+    Ok(outcome)
+}
+
+/// Names the changes of the last painting and of the closing batch.
+fn write_last(
+    outcome: &mut String,
+    paintings: &[Vec<Change>],
+    closing: &[Change],
+) -> Result<(), AllocError> {
     if let Some(painting) = paintings.last() {
         outcome.push_str("painting ")?;
-        write_batch(&mut outcome, painting.as_slice())?;
+        write_batch(outcome, painting.as_slice())?;
     }
     outcome.push_str("\nclosing ")?;
-    write_batch(&mut outcome, closing.as_slice())?;
-    let screen = screen_text(alloc, cols, paintings, closing.as_slice())?;
-    outcome.push_str("\nscreen ")?;
-    outcome.push_str(screen.as_str())?;
-    Ok(outcome)
+    write_batch(outcome, closing)
 }
 
 /// Returns the rows that a screen shows of batches, and below them where the cursor was before the last one.

@@ -7,6 +7,8 @@ use crate::marks::mark_if;
 use crate::told::{answer_text, batches_text};
 use crate::watched::{Seen, Watched};
 use std::alloc::{AllocError, Global};
+use std::cell::Cell;
+use std::rc::Rc;
 use std::test::Fail;
 use tw_lineedit::{Error, LineEditor, LineEditorHost};
 use tw_surface::{Change, ColorAttribute};
@@ -79,6 +81,20 @@ impl LastReading {
     }
 }
 
+/// Reads a line of a case, with marks round the call where these are wanted.
+fn answer_of<H: LineEditorHost>(
+    alloc: Global,
+    case: &Case<'_>,
+    host: &mut H,
+    marked: bool,
+    editor: &mut LineEditor<'_, Watched>,
+) -> Result<Result<Option<String>, Error>, AllocError> {
+    mark_if(alloc, marked)?;
+    let answer = editor.read_line_with_optional_initial_value(host, case.initial);
+    mark_if(alloc, marked)?;
+    Ok(answer)
+}
+
 /// Plays a case with one editor on the terminal.
 fn end_of<H: LineEditorHost>(
     alloc: Global,
@@ -93,10 +109,20 @@ fn end_of<H: LineEditorHost>(
     for _ in 1..case.readings {
         let _ = editor.read_line(host);
     }
+    last_end(alloc, case, host, marked, &mut editor, &seen)
+}
+
+/// Plays the last reading of a case, and one more.
+fn last_end<H: LineEditorHost>(
+    alloc: Global,
+    case: &Case<'_>,
+    host: &mut H,
+    marked: bool,
+    editor: &mut LineEditor<'_, Watched>,
+    seen: &Rc<Cell<Seen>>,
+) -> Result<End, Fail> {
     let before = seen.get();
-    mark_if(alloc, marked)?;
-    let answer = editor.read_line_with_optional_initial_value(host, case.initial);
-    mark_if(alloc, marked)?;
+    let answer = answer_of(alloc, case, host, marked, editor)?;
     let after = seen.get();
     let line = String::from_str(alloc, editor.get_line_and_cursor().0)?;
     let next = editor.read_line(host).err().map(|error| error.number());
@@ -124,13 +150,18 @@ fn last_reading<H: LineEditorHost>(
 
 /// Returns the terminal on which a case is played.
 fn watched_terminal(alloc: Global, case: &Case<'_>, play: Play) -> Result<Watched, Fail> {
+    Ok(Watched::new(alloc, played_terminal(alloc, case, play)?)?)
+}
+
+/// Returns the terminal of a case, with the events that come and the fault.
+fn played_terminal(alloc: Global, case: &Case<'_>, play: Play) -> Result<ScriptTerminal, Fail> {
     let mut events = events_named(alloc, case.events)?;
     events.truncate(play.events);
     let mut script = ScriptTerminal::new(alloc, case.size, events);
     if let Some((call, taken)) = play.fault {
         script.fail_at(call, taken);
     }
-    Ok(Watched::new(alloc, script)?)
+    Ok(script)
 }
 
 /// Returns the batches without a clearing of the screen after them.

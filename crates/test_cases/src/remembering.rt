@@ -8,6 +8,8 @@ use crate::marks::mark_if;
 use crate::told::answer_text;
 use crate::watched::{Seen, Watched};
 use std::alloc::{AllocError, Global};
+use std::cell::Cell;
+use std::rc::Rc;
 use std::test::Fail;
 use tw_lineedit::{BasicHistory, Error, LineEditor, LineEditorHost};
 use tw_surface::Change;
@@ -55,12 +57,23 @@ fn end_of<H: LineEditorHost>(
 ) -> Result<End, Fail> {
     let seen = terminal.seen()?;
     let mut editor = LineEditor::new(alloc, terminal)?;
+    remembered_end(alloc, host, marked, &mut editor, &seen)
+}
+
+/// Reads a line with this editor, with marks round the call where these are wanted.
+fn remembered_end<H: LineEditorHost>(
+    alloc: Global,
+    host: &mut H,
+    marked: bool,
+    editor: &mut LineEditor<'_, Watched>,
+    seen: &Rc<Cell<Seen>>,
+) -> Result<End, Fail> {
     mark_if(alloc, marked)?;
     let answer = editor.read_line_and_remember(host);
     mark_if(alloc, marked)?;
     let seen = seen.get();
     let line = String::from_str(alloc, editor.get_line_and_cursor().0)?;
-    let reads_again = reads(&mut editor, host);
+    let reads_again = reads(editor, host);
     Ok(End {
         answer,
         line,

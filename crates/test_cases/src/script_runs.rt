@@ -3,7 +3,7 @@
 use crate::cases::hold;
 use crate::marks::mark;
 use script_player::{RunFault, run};
-use std::alloc::Global;
+use std::alloc::{AllocError, Global};
 use std::test::Fail;
 
 /// Returns true if a text says that the terminal refused, and what a screen shows then.
@@ -44,11 +44,25 @@ pub fn play_script(alloc: Global, script: &[u8]) -> Result<String, Fail> {
     let end = run(alloc, &mut &script[..], &mut output);
     let written = std::str::from_utf8(written.as_slice())?;
     let output = std::str::from_utf8(output.as_slice())?;
-    let is_in_place = is_in_place((written, &ended), (output, &end));
+    held_run(alloc, (written, &ended), (output, &end))
+}
+
+/// Tests what a run between marks wrote beside what the run with memory writes. Returns that, and how it ends.
+fn held_run(
+    alloc: Global,
+    (written, ended): (&str, &Result<(), RunFault>),
+    (output, end): (&str, &Result<(), RunFault>),
+) -> Result<String, Fail> {
+    let is_in_place = is_in_place((written, ended), (output, end));
     hold(is_in_place, written, output)?;
+    Ok(run_text(alloc, output, end)?)
+}
+
+/// Returns what a run writes, and behind `-- ` how it ends.
+fn run_text(alloc: Global, output: &str, end: &Result<(), RunFault>) -> Result<String, AllocError> {
     match end {
-        Ok(()) => Ok(format!(in alloc; "{output}-- ok")?),
-        Err(RunFault::BadLine(number)) => Ok(format!(in alloc; "{output}-- bad line {number}")?),
-        Err(fault) => Ok(format!(in alloc; "{output}-- {fault:?}")?),
+        Ok(()) => format!(in alloc; "{output}-- ok"),
+        Err(RunFault::BadLine(number)) => format!(in alloc; "{output}-- bad line {number}"),
+        Err(fault) => format!(in alloc; "{output}-- {fault:?}"),
     }
 }

@@ -26,6 +26,20 @@ fn line_text(alloc: Global, editor: &mut Editor<'_>) -> Result<String, AllocErro
     format!(in alloc; "{line:?} at {cursor}")
 }
 
+/// Applies an action between marks.
+fn apply_marked<H: LineEditorHost>(
+    alloc: Global,
+    editor: &mut Editor<'_>,
+    host: &mut H,
+    name: &str,
+) -> Result<Result<(), Error>, Fail> {
+    let action = action_named(alloc, name)?;
+    mark(alloc)?;
+    let applied = editor.apply_action(host, action);
+    mark(alloc)?;
+    Ok(applied)
+}
+
 /// Applies an action between marks. If it is refused, line and cursor are as before; if it is refused for memory, it is
 /// applied again.
 fn apply<H: LineEditorHost>(
@@ -35,30 +49,30 @@ fn apply<H: LineEditorHost>(
     name: &str,
 ) -> Result<Result<(), Error>, Fail> {
     let before = line_text(alloc, editor)?;
-    let action = action_named(alloc, name)?;
-    mark(alloc)?;
-    let applied = editor.apply_action(host, action);
-    mark(alloc)?;
-    let Err(error) = applied else {
+    let Err(error) = apply_marked(alloc, editor, host, name)? else {
         return Ok(Ok(()));
     };
     hold(line_text(alloc, editor)? == before, name, "another line")?;
     if is_memory(&error) {
-        let action = action_named(alloc, name)?;
-        return Ok(editor.apply_action(host, action));
+        return Ok(editor.apply_action(host, action_named(alloc, name)?));
     }
     Ok(Err(error))
+}
+
+/// Parses `CURSOR TEXT`: a cursor and a line.
+fn cursor_and_line(text: &str) -> Result<(usize, &str), Fail> {
+    let (cursor, line) = text.split_once(' ').ok_or("no line")?;
+    Ok((cursor.parse()?, line))
 }
 
 /// Sets the line of `CURSOR TEXT`, between marks if these are wanted. If it is refused, line and cursor are as before,
 /// and it is set again.
 fn set(alloc: Global, editor: &mut Editor<'_>, text: &str, marked: bool) -> Result<(), Fail> {
-    let before = line_text(alloc, editor)?;
-    let (cursor, line) = text.split_once(' ').ok_or("no line")?;
-    let cursor = cursor.parse()?;
+    let (cursor, line) = cursor_and_line(text)?;
     if !line.is_char_boundary(cursor) {
         return Err(Fail::from("no boundary"));
     }
+    let before = line_text(alloc, editor)?;
     mark_if(alloc, marked)?;
     let set = editor.set_line_and_cursor(line, cursor);
     mark_if(alloc, marked)?;
@@ -99,6 +113,15 @@ fn tell_line(alloc: Global, editor: &mut Editor<'_>, outcome: &mut String) -> Re
     Ok(write!(outcome, "{line}\n")?)
 }
 
+/// Reads a line, and returns what was answered as text.
+fn answer_of<H: LineEditorHost>(
+    alloc: Global,
+    editor: &mut Editor<'_>,
+    host: &mut H,
+) -> Result<String, AllocError> {
+    answer_text(alloc, &editor.read_line(host))
+}
+
 /// Reads a line, and adds what was answered.
 fn read<H: LineEditorHost>(
     alloc: Global,
@@ -106,8 +129,7 @@ fn read<H: LineEditorHost>(
     host: &mut H,
     outcome: &mut String,
 ) -> Result<(), Fail> {
-    let answer = editor.read_line(host);
-    let answer = answer_text(alloc, &answer)?;
+    let answer = answer_of(alloc, editor, host)?;
     Ok(write!(outcome, "{answer}\n")?)
 }
 

@@ -54,11 +54,16 @@ pub fn bytes_of(alloc: Global, text: &str) -> Result<Vec<u8>, Fail> {
     let mut parts = text.split("\\x");
     bytes.extend_from_slice(parts.next().unwrap_or("").as_bytes())?;
     for part in parts {
-        let (digits, rest) = part.split_at_checked(2).ok_or("no byte")?;
-        bytes.push(u8::from_str_radix(digits, 16)?)?;
-        bytes.extend_from_slice(rest.as_bytes())?;
+        push_part(&mut bytes, part)?;
     }
     Ok(bytes)
+}
+
+/// Appends the byte of two digits, and the bytes of the text behind them.
+fn push_part(bytes: &mut Vec<u8>, part: &str) -> Result<(), Fail> {
+    let (digits, rest) = part.split_at_checked(2).ok_or("no byte")?;
+    bytes.push(u8::from_str_radix(digits, 16)?)?;
+    Ok(bytes.extend_from_slice(rest.as_bytes())?)
 }
 
 /// Splits a text at a mark.
@@ -70,18 +75,32 @@ pub fn parted(alloc: Global, text: &str, mark: char) -> Result<Vec<String>, Allo
     Ok(parts)
 }
 
-/// Parses a row: its input and the wanted output. Returns `None` for an empty line or a `//` comment.
-fn parts_of_row(alloc: Global, row: &str) -> Result<Option<(String, String)>, Fail> {
-    if row.is_empty() || row.starts_with("//") {
-        return Ok(None);
-    }
-    let (done, wanted) = row.split_once(" =>").ok_or("no row")?;
-    let wanted = wanted.strip_prefix(' ').unwrap_or(wanted);
-    Ok(Some((unescaped(alloc, done)?, unescaped(alloc, wanted)?)))
+/// Returns true for an empty line or a `//` comment.
+fn is_no_row(row: &str) -> bool {
+    row.is_empty() || row.starts_with("//")
+}
+
+/// Returns the input of a row.
+fn input_of(alloc: Global, row: &str) -> Result<String, Fail> {
+    let (done, _) = row.split_once(" =>").ok_or("no row")?;
+    unescaped(alloc, done)
+}
+
+/// Returns the wanted output of a row.
+fn wanted_of(alloc: Global, row: &str) -> Result<String, Fail> {
+    let (_, wanted) = row.split_once(" =>").ok_or("no row")?;
+    unescaped(alloc, wanted.strip_prefix(' ').unwrap_or(wanted))
 }
 
 /// Appends the row and its output if the output differs from the wanted one.
-fn add_unlike(unlike: &mut String, row: &str, output: &str, wanted: &str) -> Result<(), Fail> {
+fn add_unlike(
+    alloc: Global,
+    unlike: &mut String,
+    row: &str,
+    played: Result<String, Fail>,
+) -> Result<(), Fail> {
+    let output = played?;
+    let wanted = wanted_of(alloc, row)?;
     if output != wanted {
         write!(unlike, "{row}\n    output: {output:?}\n")?;
     }
@@ -98,9 +117,9 @@ fn unlike_rows<F: FnMut(Global, &str) -> Result<String, Fail>>(
 {
     let mut unlike = String::new(alloc);
     for row in rows.lines() {
-        if let Some((done, wanted)) = parts_of_row(alloc, row)? {
-            let output = play(alloc, done.as_str())?;
-            add_unlike(&mut unlike, row, output.as_str(), wanted.as_str())?;
+        if !is_no_row(row) {
+            let done = input_of(alloc, row)?;
+            add_unlike(alloc, &mut unlike, row, play(alloc, done.as_str()))?;
         }
     }
     Ok(unlike)
@@ -116,13 +135,13 @@ fn unlike_runs<F: FnMut(Global, &str) -> Result<String, Fail>>(
 {
     let mut unlike = String::new(alloc);
     for row in rows.lines() {
-        if let Some((done, wanted)) = parts_of_row(alloc, row)? {
+        if !is_no_row(row) {
+            let done = input_of(alloc, row)?;
             let mut output = String::new(alloc);
             for command in done.split("; ") {
-                let answer = obey(alloc, command)?;
-                add_answer(&mut output, answer.as_str())?;
+                add_answer(&mut output, obey(alloc, command))?;
             }
-            add_unlike(&mut unlike, row, output.as_str(), wanted.as_str())?;
+            add_unlike(alloc, &mut unlike, row, Ok(output))?;
         }
     }
     Ok(unlike)
@@ -155,12 +174,12 @@ pub fn expect_runs<F: FnMut(Global, &str) -> Result<String, Fail>>(
 }
 
 /// Appends an answer, with a separator if it is needed.
-fn add_answer(output: &mut String, answer: &str) -> Result<(), Fail> {
+fn add_answer(output: &mut String, obeyed: Result<String, Fail>) -> Result<(), Fail> {
+    let answer = obeyed?;
     if !output.is_empty() && !answer.is_empty() {
         output.push_str("; ")?;
     }
-    output.push_str(answer)?;
-    Ok(())
+    Ok(output.push_str(answer.as_str())?)
 }
 
 /// Returns the fault of a failed call, or an empty text.
