@@ -82,21 +82,28 @@ impl LineEditorHost for AskedHost {
     ghost held_lines = { λ host. refl };
 }
 
-/// Returns how often a host is asked for prompt, line and preview by a reading of these events.
-fn play_asked(alloc: Global, events: &str) -> Result<String, Fail> {
-    let mut terminal = terminal_of(alloc, 80, events.trim_end())?;
-    let mut history = BasicHistory::new(alloc);
-    history.add("x")?;
-    let mut host = AskedHost {
-        history,
+/// Returns a host with an empty history, which was not asked yet.
+fn unasked_host(alloc: Global) -> AskedHost {
+    AskedHost {
+        history: BasicHistory::new(alloc),
         prompts: Cell::new(0),
         lines: Cell::new(0),
         previews: Cell::new(0),
-    };
-    {
-        let mut editor = LineEditor::new(alloc, &mut terminal)?;
-        let _ = editor.read_line(&mut host);
     }
+}
+
+/// Reads a line of these events with one line in the history.
+fn read_asked(alloc: Global, host: &mut AskedHost, events: &str) -> Result<(), Fail> {
+    host.history().add("x")?;
+    let mut terminal = terminal_of(alloc, 80, events)?;
+    let _ = LineEditor::new(alloc, &mut terminal)?.read_line(host);
+    Ok(())
+}
+
+/// Returns how often a host is asked for prompt, line and preview by a reading of these events.
+fn play_asked(alloc: Global, events: &str) -> Result<String, Fail> {
+    let mut host = unasked_host(alloc);
+    read_asked(alloc, &mut host, events.trim_end())?;
     let (prompts, lines, previews) = (host.prompts.get(), host.lines.get(), host.previews.get());
     Ok(format!(in alloc; "{prompts} {lines} {previews}")?)
 }

@@ -1,6 +1,6 @@
 //! The calls that the editor makes to its terminal.
 
-use std::alloc::Global;
+use std::alloc::{AllocError, Global};
 use std::test::Fail;
 use test_cases::{
     Case, action_named, answer_text, case_of, expect_cases, hold, remember_all, terminal_sized,
@@ -43,52 +43,104 @@ impl Terminal for Listing {
     }
 }
 
-/// Returns true if a refusal is another fault of the terminal than this one.
-fn is_other(error: &Error, wanted: TerminalFault) -> bool {
+type Editor<'term> = LineEditor<'term, Listing>;
+
+/// Fails if a refusal is another fault of the terminal than this one.
+fn hold_fault(error: &Error, wanted: TerminalFault, what: &str) -> Result<(), Fail> {
     match error {
-        Error::Terminal(fault) => *fault != wanted,
-        _ => false,
+        Error::Terminal(fault) => hold(*fault == wanted, what, "another fault"),
+        _ => Ok(()),
     }
 }
 
-/// Applies the actions of a case and reads its line on a terminal that answers this fault. Returns the answer, what the
-/// terminal was left with, each batch if these are shown, and the calls.
-fn called(alloc: Global, case: &Case<'_>, fault: TerminalFault) -> Result<String, Fail> {
+/// Applies the action of `do NAME`, and adds its refusal if it is refused.
+fn apply(
+    alloc: Global,
+    editor: &mut Editor<'_>,
+    host: &mut NopLineEditorHost,
+    step: &str,
+    fault: TerminalFault,
+    outcome: &mut String,
+) -> Result<(), Fail> {
+    let name = step.strip_prefix("do ").ok_or("no action")?;
+    if let Err(error) = editor.apply_action(host, action_named(alloc, name)?) {
+        hold_fault(&error, fault, name)?;
+        write!(outcome, "refusal {}, ", error.number())?;
+    }
+    Ok(())
+}
+
+/// Reads a line, and adds the answer.
+fn read(
+    alloc: Global,
+    editor: &mut Editor<'_>,
+    host: &mut NopLineEditorHost,
+    fault: TerminalFault,
+    outcome: &mut String,
+) -> Result<(), Fail> {
+    let answer = editor.read_line(host);
+    if let Err(error) = &answer {
+        hold_fault(error, fault, "a reading")?;
+    }
+    outcome.push_str(answer_text(alloc, &answer)?.as_str())?;
+    Ok(())
+}
+
+/// Applies the actions of a case, reads its line, and adds what comes of each.
+fn play_steps(
+    alloc: Global,
+    case: &Case<'_>,
+    terminal: &mut Listing,
+    host: &mut NopLineEditorHost,
+    outcome: &mut String,
+) -> Result<(), Fail> {
+    let fault = terminal.fault;
+    remember_all(host, case.history.as_slice())?;
+    let mut editor = LineEditor::new(alloc, terminal)?;
+    for step in &case.steps {
+        apply(alloc, &mut editor, host, step, fault, outcome)?;
+    }
+    read(alloc, &mut editor, host, fault, outcome)
+}
+
+/// Adds what a terminal was left with, each batch if these are shown, and its calls.
+fn add_calls(
+    alloc: Global,
+    terminal: &Listing,
+    shows: &str,
+    outcome: &mut String,
+) -> Result<(), AllocError> {
+    let calls = terminal.calls.as_str().trim_end();
+    if shows == "batches" {
+        let taken = terminal_text(alloc, &terminal.script)?;
+        return write!(outcome, ", {taken}{calls}");
+    }
+    write!(outcome, ", {} left, {calls}", terminal.script.events_left())
+}
+
+/// Returns a terminal for a case that answers this fault.
+fn listing_of(alloc: Global, case: &Case<'_>, fault: TerminalFault) -> Result<Listing, Fail> {
     let mut script = terminal_sized(alloc, case.size, case.events)?;
     if let Some((call, taken)) = case.fault {
         script.fail_at(call, taken);
     }
-    let mut terminal = Listing {
+    let calls = String::new(alloc);
+    Ok(Listing {
         script,
         fault,
-        calls: String::new(alloc),
-    };
+        calls,
+    })
+}
+
+/// Applies the actions of a case and reads its line on a terminal that answers this fault. Returns the answers, what the
+/// terminal was left with, each batch if these are shown, and the calls.
+fn called(alloc: Global, case: &Case<'_>, fault: TerminalFault) -> Result<String, Fail> {
     let mut outcome = String::new(alloc);
-    {
-        let mut host = NopLineEditorHost::new(alloc);
-        remember_all(&mut host, case.history.as_slice())?;
-        let mut editor = LineEditor::new(alloc, &mut terminal)?;
-        for step in &case.steps {
-            let name = step.strip_prefix("do ").ok_or("no action")?;
-            let applied = editor.apply_action(&mut host, action_named(alloc, name)?);
-            if let Err(error) = applied {
-                hold(!is_other(&error, fault), name, "another fault")?;
-                write!(outcome, "refusal {}, ", error.number())?;
-            }
-        }
-        let answer = editor.read_line(&mut host);
-        if let Err(error) = &answer {
-            hold(!is_other(error, fault), case.events, "another fault")?;
-        }
-        outcome.push_str(answer_text(alloc, &answer)?.as_str())?;
-    }
-    if case.shows == "batches" {
-        let taken = terminal_text(alloc, &terminal.script)?;
-        return Ok(format!(in alloc; "{outcome}, {taken}{}", terminal.calls.as_str().trim_end())?);
-    }
-    let left = terminal.script.events_left();
-    let calls = terminal.calls.as_str().trim_end();
-    Ok(format!(in alloc; "{outcome}, {left} left, {calls}")?)
+    let mut terminal = listing_of(alloc, case, fault)?;
+    let mut host = NopLineEditorHost::new(alloc);
+    play_steps(alloc, case, &mut terminal, &mut host, &mut outcome)?;
+    add_calls(alloc, &terminal, case.shows, &mut outcome)?;
+    Ok(outcome)
 }
 
 /// Plays a case on terminals of either fault.

@@ -1,23 +1,54 @@
 //! Lines of scripts that are no directives, and limits of scripts.
 
+use std::alloc::Global;
 use std::test::Fail;
-use test_cases::{expanded, play_script};
+use test_cases::{expanded, expect_cases, play_script};
+
+fn play(alloc: Global, script: &str) -> Result<String, Fail> {
+    play_script(alloc, script.as_bytes())
+}
+
+/// Plays a script without the line feed at its end.
+fn play_unended(alloc: Global, script: &str) -> Result<String, Fail> {
+    play(alloc, script.strip_suffix('\n').ok_or("no line feed")?)
+}
+
+const UNENDED: &str = "\
+cols 5
+read
+--
+line\x20
+|>    |
+cursor 0 2
+end 1 0
+-- ok
+==
+cols 5
+sing
+--
+bad line 2
+-- bad line 2
+==
+";
+
+const WIDE: &str = "\
+cols 65535
+read
+--
+line\x20
+|>{65534| }|
+cursor 0 2
+end 1 0
+-- ok
+==
+";
 
 /// A last line that ends without a line feed, and a screen of the greatest width, which is shown in full.
 #[test]
 fn ends_and_widths_are_no_limits(rt: HostRuntime) -> Result<(), Fail> {
-    let alloc = rt.alloc();
-    let shown = play_script(alloc, b"cols 5\nread")?;
-    assert_eq!(rt;
-        shown.as_str(),
-        "line \n|>    |\ncursor 0 2\nend 1 0\n-- ok"
-    );
-    let shown = play_script(alloc, b"cols 5\nsing")?;
-    assert_eq!(rt; shown.as_str(), "bad line 2\n-- bad line 2");
-    let wanted = expanded(alloc, "line \n|>{65534| }|\ncursor 0 2\nend 1 0\n-- ok")?;
-    let shown = play_script(alloc, b"cols 65535\nread\n")?;
-    assert!(rt; shown == wanted, "another screen");
-    Ok(())
+    expect_cases(rt.alloc(), UNENDED, play_unended)?;
+    let wide = expanded(rt.alloc(), WIDE)?;
+    expect_cases(rt.alloc(), wide.as_str(), play)
 }
 
 /// Lines that are no directives: unknown words, words without the text that they need, numbers that are no
@@ -93,28 +124,40 @@ cols 00000000000000000005
 cand 0 18446744073709551616 x
 ";
 
-#[test]
-fn a_line_that_is_no_directive_ends_the_run(rt: HostRuntime) -> Result<(), Fail> {
-    let alloc = rt.alloc();
-    let wanted = "bad line 2\n-- bad line 2";
+/// Scripts whose second line is no text.
+const BAD_BYTES: &[&[u8]] = &[
+    b"\n\xff\nread",
+    b"\ntype \xc3\n",
+    b"\nprompt \xed\xa0\x80",
+    b"\nhistory \xc0\xaf\nread",
+];
+
+/// Fails unless the second line of a script ends its run.
+fn hold_bad(alloc: Global, script: &[u8]) -> Result<(), Fail> {
+    let shown = play_script(alloc, script)?;
+    if shown.as_str() == "bad line 2\n-- bad line 2" {
+        return Ok(());
+    }
+    Err(Fail::new(format_args!("{script:?}: {shown}")))
+}
+
+/// Fails unless each of the lines ends a run, and returns how many these are.
+fn hold_all_bad(alloc: Global, lines: &str) -> Result<u32, Fail> {
     let mut count = 0u32;
-    for line in BAD_LINES.trim_end_matches('\n').split('\n') {
+    for line in lines.split('\n') {
         let script = format!(in alloc; "cols 5\n{line}\nread\n")?;
-        assert_eq!(rt;
-            play_script(alloc, script.as_bytes())?.as_str(),
-            wanted,
-            "{line:?}"
-        );
+        hold_bad(alloc, script.as_bytes())?;
         count = count.saturating_add(1);
     }
+    Ok(count)
+}
+
+#[test]
+fn a_line_that_is_no_directive_ends_the_run(rt: HostRuntime) -> Result<(), Fail> {
+    let count = hold_all_bad(rt.alloc(), BAD_LINES.trim_end_matches('\n'))?;
     assert_eq!(rt; count, 68);
-    for &script in &[
-        b"\n\xff\nread".as_slice(),
-        b"\ntype \xc3\n".as_slice(),
-        b"\nprompt \xed\xa0\x80".as_slice(),
-        b"\nhistory \xc0\xaf\nread".as_slice(),
-    ] {
-        assert_eq!(rt; play_script(alloc, script)?.as_str(), wanted, "{script:?}");
+    for &script in BAD_BYTES {
+        hold_bad(rt.alloc(), script)?;
     }
     Ok(())
 }

@@ -1,10 +1,11 @@
 //! A terminal that fails at one of its calls.
 
 use crate::calls::play_calls;
-use std::alloc::Global;
+use crate::idle::line_from;
+use std::alloc::{AllocError, Global};
 use std::test::Fail;
-use test_cases::{expect_cases, terminal_of, write_batch};
-use tw_lineedit::{LineEditor, NopLineEditorHost};
+use test_cases::{batches_text, expect_cases, hold, terminal_of, write_batch};
+use tw_surface::Change;
 
 const FAULTS: &str = "\
 events a Enter
@@ -141,15 +142,21 @@ size render poll size render render
 ==
 ";
 
+/// Fails if another answer than the fault of a call comes.
+fn hold_refusal_at(alloc: Global, call: usize) -> Result<(), Fail> {
+    let case = format!(in alloc; "events a C-L Enter\nfail {call} 0\n")?;
+    let outcome = play_calls(alloc, case.as_str())?;
+    let is_refused = outcome.as_str().starts_with("refusal 7, ");
+    hold(is_refused, case.as_str(), outcome.as_str())
+}
+
 /// The answer is the very fault, at each call, and no call is tried again. The painting before is closed, and all is
 /// flushed, unless the closing batch itself is refused.
 #[test]
 fn a_fault_ends_the_calls(rt: HostRuntime) -> Result<(), Fail> {
     expect_cases(rt.alloc(), FAULTS, play_calls)?;
     for call in 0..14 {
-        let case = format!(in rt.alloc(); "events a C-L Enter\nfail {call} 0\n")?;
-        let outcome = play_calls(rt.alloc(), case.as_str())?;
-        assert!(rt; outcome.as_str().starts_with("refusal 7, "), "{case}");
+        hold_refusal_at(rt.alloc(), call)?;
     }
     Ok(())
 }
@@ -163,35 +170,57 @@ fn batches_of(alloc: Global, call: usize, taken: usize) -> Result<String, Fail> 
     Ok(String::from_str(alloc, batches)?)
 }
 
+/// Adds a beginning of a batch, unless it is empty.
+fn add_beginning(text: &mut String, batch: &[Change]) -> Result<(), AllocError> {
+    if batch.is_empty() {
+        return Ok(());
+    }
+    write_batch(text, batch)?;
+    text.push('\n')
+}
+
+/// Fails unless of the last of the batches, which call `call` renders, the first changes are taken, behind the batches
+/// before it and above `behind`.
+fn hold_beginning(
+    alloc: Global,
+    batches: &[Vec<Change>],
+    (call, behind): (usize, &str),
+    taken: usize,
+) -> Result<(), Fail> {
+    let (batch, before) = batches.split_last().ok_or("no batch")?;
+    let mut wanted = batches_text(alloc, before)?;
+    add_beginning(&mut wanted, &batch[..taken.min(batch.len())])?;
+    wanted.push_str(behind)?;
+    let came = batches_of(alloc, call, taken)?;
+    let wanted = wanted.as_str().trim_end();
+    hold(came.as_str() == wanted, wanted, came.as_str())
+}
+
+/// What the first batches of the line of `a Enter` are rendered by, and what is rendered once one of them is refused.
+const CALLS: &[(usize, &str)] = &[
+    (1, ""),
+    (4, "CP(A(0), R(1)), ClearToEndOfScreen\n"),
+    (7, "CP(A(0), R(1)), ClearToEndOfScreen\n"),
+    (8, ""),
+];
+
+/// Fails unless of each batch each beginning is taken.
+fn hold_beginnings(alloc: Global, batches: &[Vec<Change>]) -> Result<(), Fail> {
+    for (index, &call) in CALLS.iter().enumerate() {
+        let batches = batches.get(..=index).ok_or("no batch")?;
+        for taken in 0..9 {
+            hold_beginning(alloc, batches, call, taken)?;
+        }
+    }
+    Ok(())
+}
+
 /// A refused batch is taken up to its fault, as a batch of its own if anything of it was taken. After it stands the
 /// closing batch of the painting before, if there was one.
 #[test]
 fn a_refused_batch_is_taken_up_to_its_fault(rt: HostRuntime) -> Result<(), Fail> {
     let alloc = rt.alloc();
     let mut terminal = terminal_of(alloc, 80, "a Enter")?;
-    let read = LineEditor::new(alloc, &mut terminal)?.read_line(&mut NopLineEditorHost::new(alloc));
-    assert!(rt; read.is_ok());
-    let mut before = String::new(alloc);
-    let closing = "CP(A(0), R(1)), ClearToEndOfScreen\n";
-    let calls = [(1, ""), (4, closing), (7, closing), (8, "")];
-    for (&(call, behind), batch) in calls.iter().zip(terminal.batches()) {
-        for taken in 0..9 {
-            let part = &batch[..taken.min(batch.len())];
-            let mut wanted = before.clone()?;
-            if !part.is_empty() {
-                write_batch(&mut wanted, part)?;
-                wanted.push('\n')?;
-            }
-            wanted.push_str(behind)?;
-            let outcome = batches_of(alloc, call, taken)?;
-            assert_eq!(rt;
-                outcome.as_str(),
-                wanted.as_str().trim_end(),
-                "{taken} at {call}"
-            );
-        }
-        write_batch(&mut before, batch.as_slice())?;
-        before.push('\n')?;
-    }
-    Ok(())
+    line_from(alloc, &mut terminal)?;
+    hold_beginnings(alloc, terminal.batches())
 }

@@ -147,27 +147,50 @@ fn paintings_leave_nothing_stale(rt: HostRuntime) -> Result<(), Fail> {
     expect_cases(rt.alloc(), SCREENS, play)
 }
 
+/// Adds the only text that some elements show.
+fn add_text(outcome: &mut String, elements: &[OutputElement]) -> Result<(), Fail> {
+    match elements {
+        [OutputElement::Text(text)] => Ok(outcome.push_str(text.as_str())?),
+        _ => Err(Fail::from("no text")),
+    }
+}
+
+/// Adds what a host shows of the line `CURSOR TEXT`, the column, and the number of its candidates.
+fn add_shown(
+    alloc: Global,
+    host: &NopLineEditorHost,
+    line: &str,
+    outcome: &mut String,
+) -> Result<(), Fail> {
+    let (cursor, line) = line.split_once(' ').ok_or("no line")?;
+    let cursor = cursor.parse()?;
+    if !line.is_char_boundary(cursor) {
+        return Err(Fail::from("no boundary"));
+    }
+    let candidates = host.complete(alloc, line, cursor)?.len();
+    let (elements, column) = host.highlight_line(alloc, line, cursor)?;
+    add_text(outcome, elements.as_slice())?;
+    write!(outcome, " {column} {candidates}\n")?;
+    Ok(())
+}
+
+/// Adds the name of a host.
+fn add_name(alloc: Global, host: &NopLineEditorHost, outcome: &mut String) -> Result<(), Fail> {
+    let shown = format!(in alloc; "{host:?}")?;
+    let (name, _) = shown.as_str().split_once('{').ok_or("no name")?;
+    outcome.push_str(name)?;
+    Ok(())
+}
+
 /// Returns what the default host shows of each line `CURSOR TEXT`, the column, and the number of its candidates; and
 /// its name.
 fn play_defaults(alloc: Global, lines: &str) -> Result<String, Fail> {
     let host = NopLineEditorHost::new(alloc);
     let mut outcome = String::new(alloc);
     for line in lines.lines() {
-        let (cursor, line) = line.split_once(' ').ok_or("no line")?;
-        let cursor = cursor.parse()?;
-        if !line.is_char_boundary(cursor) {
-            return Err(Fail::from("no boundary"));
-        }
-        let (elements, column) = host.highlight_line(alloc, line, cursor)?;
-        let [OutputElement::Text(text)] = elements.as_slice() else {
-            return Err(Fail::from("no text"));
-        };
-        let candidates = host.complete(alloc, line, cursor)?.len();
-        write!(outcome, "{text} {column} {candidates}\n")?;
+        add_shown(alloc, &host, line, &mut outcome)?;
     }
-    let shown = format!(in alloc; "{host:?}")?;
-    let (name, _) = shown.as_str().split_once('{').ok_or("no name")?;
-    outcome.push_str(name)?;
+    add_name(alloc, &host, &mut outcome)?;
     Ok(outcome)
 }
 

@@ -2,9 +2,9 @@
 
 use std::alloc::Global;
 use std::test::Fail;
-use test_cases::{events_named, hold};
+use test_cases::{event_of, events_named, hold};
 use tw_input::{InputEvent, KeyCode, KeyEvent, Modifiers};
-use tw_lineedit::{LineEditor, NopLineEditorHost};
+use tw_lineedit::{Error, LineEditor, NopLineEditorHost};
 use tw_terminal::{ScreenSize, ScriptTerminal};
 
 const SIZE: ScreenSize = ScreenSize { rows: 24, cols: 80 };
@@ -75,23 +75,35 @@ fn has_action(event: KeyEvent) -> bool {
     modifiers == Modifiers::CTRL && matches!(key, KeyCode::Char('A' | 'C' | 'D' | 'L'))
 }
 
+/// Returns a terminal on which an event comes between a character and Enter.
+fn terminal_between(alloc: Global, event: InputEvent) -> Result<ScriptTerminal, Fail> {
+    let mut events = events_named(alloc, "a")?;
+    events.push(event)?;
+    events.push(event_of(alloc, "Enter")?)?;
+    Ok(ScriptTerminal::new(alloc, SIZE, events))
+}
+
+/// Reads a line over the default host.
+pub fn line_from(alloc: Global, terminal: &mut ScriptTerminal) -> Result<Option<String>, Error> {
+    LineEditor::new(alloc, terminal)?.read_line(&mut NopLineEditorHost::new(alloc))
+}
+
+/// Returns true if the second of three events was painted as those round it.
+fn is_painted_alike(terminal: &ScriptTerminal) -> bool {
+    match terminal.batches() {
+        [_, typed, idle, entered, _] => typed == idle && typed == entered,
+        _ => false,
+    }
+}
+
 /// Between a character and Enter the event has one painting, which is that of the character once more, and
 /// the answer is the character.
 fn hold_idle(alloc: Global, event: InputEvent) -> Result<(), Fail> {
     let name = format!(in alloc; "{event:?}")?;
-    let mut events = events_named(alloc, "a")?;
-    events.push(event)?;
-    events.extend(events_named(alloc, "Enter")?)?;
-    let mut terminal = ScriptTerminal::new(alloc, SIZE, events);
-    let mut host = NopLineEditorHost::new(alloc);
-    let line = LineEditor::new(alloc, &mut terminal)?.read_line(&mut host)?;
-    let line = line.ok_or("no line")?;
-    let is_idle = match terminal.batches() {
-        [_, typed, idle, entered, _] => typed == idle && typed == entered,
-        _ => false,
-    };
+    let mut terminal = terminal_between(alloc, event)?;
+    let line = line_from(alloc, &mut terminal)?.ok_or("no line")?;
     hold(
-        is_idle && line.as_str() == "a",
+        line.as_str() == "a" && is_painted_alike(&terminal),
         name.as_str(),
         line.as_str(),
     )

@@ -1,6 +1,7 @@
 //! Lines that are read, with each change that the terminal is sent.
 
 use crate::support::play_with_batches;
+use std::alloc::Global;
 use std::test::Fail;
 use test_cases::expect_cases;
 
@@ -180,14 +181,6 @@ Some(\"\"), 0 left, 2 flushed, 1 failed
 ClearToEndOfScreen, AllAttributes, Text(\"> \"), AllAttributes, Text(\"\"), CP(R(0), R(0))
 CP(A(0), R(1)), ClearToEndOfScreen
 ==
-";
-
-#[test]
-fn lines_are_painted_at_each_event(rt: HostRuntime) -> Result<(), Fail> {
-    expect_cases(rt.alloc(), LINES, play_with_batches)
-}
-
-const SIZES: &str = "\
 # a size out of range is refused
 size 24 65535
 --
@@ -253,9 +246,10 @@ CP(A(0), R(1)), ClearToEndOfScreen
 ==
 ";
 
+/// Sizes are measured and refused, and all that is painted is shown.
 #[test]
-fn sizes_are_measured_and_refused(rt: HostRuntime) -> Result<(), Fail> {
-    expect_cases(rt.alloc(), SIZES, play_with_batches)
+fn lines_are_painted_at_each_event(rt: HostRuntime) -> Result<(), Fail> {
+    expect_cases(rt.alloc(), LINES, play_with_batches)
 }
 
 /// A size that comes while a line is read, and one that stands from the beginning on.
@@ -288,16 +282,20 @@ const BEYOND_SIZES: &str = "\
 18446744073709551615 18446744073709551615 4
 ";
 
+/// Returns the cases of a line `COLS ROWS NUMBER`.
+fn cases_beyond(alloc: Global, line: &str) -> Result<String, Fail> {
+    let (size, number) = line.rsplit_once(' ').ok_or("no number")?;
+    let (cols, rows) = size.split_once(' ').ok_or("no size")?;
+    let cases = BEYOND.replace(alloc, "COLS", cols)?;
+    let cases = cases.as_str().replace(alloc, "ROWS", rows)?;
+    Ok(cases.as_str().replace(alloc, "NUMBER", number)?)
+}
+
 #[test]
 fn a_size_beyond_the_limits_is_refused(rt: HostRuntime) -> Result<(), Fail> {
-    let alloc = rt.alloc();
     for line in BEYOND_SIZES.lines() {
-        let (size, number) = line.rsplit_once(' ').ok_or("no number")?;
-        let (cols, rows) = size.split_once(' ').ok_or("no size")?;
-        let cases = BEYOND.replace(alloc, "COLS", cols)?;
-        let cases = cases.as_str().replace(alloc, "ROWS", rows)?;
-        let cases = cases.as_str().replace(alloc, "NUMBER", number)?;
-        expect_cases(alloc, cases.as_str(), play_with_batches)?;
+        let cases = cases_beyond(rt.alloc(), line)?;
+        expect_cases(rt.alloc(), cases.as_str(), play_with_batches)?;
     }
     Ok(())
 }

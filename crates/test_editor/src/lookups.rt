@@ -6,23 +6,31 @@ use std::test::Fail;
 use test_cases::{expect_cases, hold, play_history};
 use tw_lineedit::{BasicHistory, BoundedHistory};
 
-/// Makes calls on a history of each kind, which keep all lines; or, if they begin with `keep LINES`, on one that forgets.
-fn play_lookups(alloc: Global, calls: &str) -> Result<String, Fail> {
-    if let Some(rest) = calls.strip_prefix("keep ") {
-        let (limit, calls) = rest.split_once('\n').ok_or("no calls")?;
-        let limit: usize = limit.parse()?;
-        if limit == 0 {
-            return Err(Fail::from("no limit"));
-        }
-        let mut history = BoundedHistory::with_limit(alloc, limit);
-        return play_history(alloc, &mut history, calls);
+/// Makes calls on a history that keeps so many lines.
+fn play_bounded(alloc: Global, limit: usize, calls: &str) -> Result<String, Fail> {
+    if limit == 0 {
+        return Err(Fail::from("no limit"));
     }
+    play_history(alloc, &mut BoundedHistory::with_limit(alloc, limit), calls)
+}
+
+/// Makes calls on a history of each kind, which keep all lines.
+fn play_all(alloc: Global, calls: &str) -> Result<String, Fail> {
     let basic = play_history(alloc, &mut BasicHistory::new(alloc), calls)?;
     let list = play_history(alloc, &mut ListHistory::new(alloc), calls)?;
-    let bounded = play_history(alloc, &mut BoundedHistory::with_limit(alloc, 5), calls)?;
     hold(list == basic, basic.as_str(), list.as_str())?;
+    let bounded = play_bounded(alloc, 5, calls)?;
     hold(bounded == basic, basic.as_str(), bounded.as_str())?;
     Ok(basic)
+}
+
+/// Makes calls on a history of each kind, which keep all lines; or, if they begin with `keep LINES`, on one that forgets.
+fn play_lookups(alloc: Global, calls: &str) -> Result<String, Fail> {
+    let Some(rest) = calls.strip_prefix("keep ") else {
+        return play_all(alloc, calls);
+    };
+    let (limit, calls) = rest.split_once('\n').ok_or("no calls")?;
+    play_bounded(alloc, limit.parse()?, calls)
 }
 
 const ADDED: &str = "\

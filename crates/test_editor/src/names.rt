@@ -4,7 +4,7 @@ use script_player::key_named;
 use std::alloc::Global;
 use std::test::Fail;
 use test_cases::expect_cases;
-use tw_input::Modifiers;
+use tw_input::{KeyEvent, Modifiers};
 
 fn modifier_name(modifiers: Modifiers) -> &'static str {
     match modifiers {
@@ -16,13 +16,20 @@ fn modifier_name(modifiers: Modifiers) -> &'static str {
     }
 }
 
+/// Adds the key and the modifier of a name.
+fn add_key(outcome: &mut String, name: &str) -> Result<(), Fail> {
+    let KeyEvent { key, modifiers } = key_named(name).ok_or("no key")?;
+    let modifier = modifier_name(modifiers);
+    write!(outcome, "{key:?} {modifier}\n")?;
+    Ok(())
+}
+
 /// Returns the key and the modifier of each name.
 fn play_names(alloc: Global, names: &str) -> Result<String, Fail> {
     let mut outcome = String::new(alloc);
     for line in names.lines() {
         for name in line.split(", ") {
-            let key = key_named(name).ok_or("no key")?;
-            write!(outcome, "{:?} {}\n", key.key, modifier_name(key.modifiers))?;
+            add_key(&mut outcome, name)?;
         }
     }
     Ok(outcome)

@@ -3,19 +3,16 @@
 ghost use Rattle.std.specs.Prelude.{map, string_bytes, refl};
 ghost use Rattle.test_editor.specs.PiecesHost.{Pieces, pieces_rules, preview_override, pieces_is_plain};
 
+use crate::support::play_with;
 use std::alloc::{AllocError, Global};
 use std::test::Fail;
-use test_cases::{case_of, expanded, expect_cases, host_of, told_of};
+use test_cases::{case_of, expanded, expect_cases, told_of};
 use tw_lineedit::{BasicHistory, LineEditorHost, OutputElement, Overrides};
 
 /// Plays a case over the host of a script.
 fn play(alloc: Global, lines: &str) -> Result<String, Fail> {
     let case = case_of(alloc, lines)?;
-    told_of(
-        alloc,
-        &case,
-        &mut host_of(alloc, BasicHistory::new(alloc), &case)?,
-    )
+    play_with(alloc, &case, BasicHistory::new(alloc))
 }
 
 /// Characters of many kinds, and how often each is repeated.
@@ -31,19 +28,23 @@ const KINDS: &str = "\
 2000|\u{1100}
 ";
 
+/// Returns the cases of the word of `COUNT|PIECE`.
+fn cases_of_word(alloc: Global, kind: &str) -> Result<String, Fail> {
+    let (count, piece) = kind.split_once('|').ok_or("no count")?;
+    let word = piece.repeat(alloc, count.parse()?)?;
+    Ok(format!(in alloc;
+        "initial {word}\nevents Home Right Right Left End Left A-b A-f Enter\n--\nSome({word:?})\n==\n\
+        initial {word}\nevents C-W\n--\nSome(\"\")\n==\n\
+        initial {word}\nevents Home C-K X\n--\nSome(\"X\")\n==\n"
+    )?)
+}
+
 /// Movements leave the line, and a line without a space is one word.
 #[test]
 fn long_lines_of_one_word_are_moved_through_and_killed(rt: HostRuntime) -> Result<(), Fail> {
-    let alloc = rt.alloc();
     for kind in KINDS.lines() {
-        let (count, piece) = kind.split_once('|').ok_or("no count")?;
-        let word = piece.repeat(alloc, count.parse()?)?;
-        let cases = format!(in alloc;
-            "initial {word}\nevents Home Right Right Left End Left A-b A-f Enter\n--\nSome({word:?})\n==\n\
-            initial {word}\nevents C-W\n--\nSome(\"\")\n==\n\
-            initial {word}\nevents Home C-K X\n--\nSome(\"X\")\n==\n"
-        )?;
-        expect_cases(alloc, cases.as_str(), play)?;
+        let cases = cases_of_word(rt.alloc(), kind)?;
+        expect_cases(rt.alloc(), cases.as_str(), play)?;
     }
     Ok(())
 }
@@ -149,15 +150,21 @@ impl LineEditorHost for PiecesHost {
     ghost held_lines = { λ host. refl };
 }
 
-/// Plays a case over a host with a preview of three thousand texts of three characters.
-fn play_pieces(alloc: Global, lines: &str) -> Result<String, Fail> {
+/// Returns three thousand texts of three characters.
+fn many_pieces(alloc: Global) -> Result<Vec<String>, AllocError> {
     let mut pieces = Vec::new(alloc);
     for _ in 0..3_000 {
         pieces.push(String::from_str(alloc, "ab ")?)?;
     }
+    Ok(pieces)
+}
+
+/// Plays a case over a host with a preview of three thousand texts.
+fn play_pieces(alloc: Global, lines: &str) -> Result<String, Fail> {
+    let case = case_of(alloc, lines)?;
+    let pieces = many_pieces(alloc)?;
     let history = BasicHistory::new(alloc);
-    let mut host = PiecesHost { history, pieces };
-    told_of(alloc, &case_of(alloc, lines)?, &mut host)
+    told_of(alloc, &case, &mut PiecesHost { history, pieces })
 }
 
 /// The preview fills nine hundred rows of ten columns.

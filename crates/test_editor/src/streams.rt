@@ -5,7 +5,7 @@ use std::alloc::Global;
 use std::io;
 use std::io::{ErrorKind, Read, Write};
 use std::test::Fail;
-use test_cases::{expect_cases, hold};
+use test_cases::{expect_cases, hold, pair_of};
 
 const SCRIPT: &str = "\
 cols 10
@@ -28,7 +28,7 @@ end 1 0
 struct Reader<'a> {
     rest: &'a [u8],
     most: usize,
-    reads: u64,
+    reads: usize,
 }
 
 impl Read for Reader<'_> {
@@ -69,7 +69,7 @@ impl Read for LineFeeds {
 /// flush may fail.
 #[derive(Drop)]
 struct Writer {
-    writes: u64,
+    writes: usize,
     room: usize,
     flushes: bool,
     taken: Vec<u8>,
@@ -95,24 +95,32 @@ impl Write for Writer {
     }
 }
 
+/// Fails unless a beginning of the output was written. Adds how the run ended and how much was written.
+fn add_end(outcome: &mut String, ended: &Result<(), RunFault>, written: &[u8]) -> Result<(), Fail> {
+    let is_beginning = OUTPUT.as_bytes().starts_with(written);
+    hold(is_beginning, outcome.as_str(), "another output")?;
+    write!(outcome, "{ended:?} {}\n", written.len())?;
+    Ok(())
+}
+
+/// Runs the script by a reader of `MOST READS`, and adds how the run ends and how much is then written.
+fn add_reads(alloc: Global, line: &str, outcome: &mut String) -> Result<(), Fail> {
+    let (most, reads) = pair_of(line)?;
+    let mut reader = Reader {
+        rest: SCRIPT.as_bytes(),
+        most,
+        reads,
+    };
+    let mut written = Vec::new(alloc);
+    let ended = run(alloc, &mut reader, &mut written);
+    add_end(outcome, &ended, written.as_slice())
+}
+
 /// Runs the script by a reader of each line `MOST READS`, and returns how each run ends and how much is then written.
 fn play_reads(alloc: Global, lines: &str) -> Result<String, Fail> {
     let mut outcome = String::new(alloc);
     for line in lines.lines() {
-        let (most, reads) = line.split_once(' ').ok_or("no reads")?;
-        let mut reader = Reader {
-            rest: SCRIPT.as_bytes(),
-            most: most.parse()?,
-            reads: reads.parse()?,
-        };
-        let mut written = Vec::new(alloc);
-        let ended = run(alloc, &mut reader, &mut written);
-        hold(
-            OUTPUT.as_bytes().starts_with(written.as_slice()),
-            line,
-            "another output",
-        )?;
-        write!(outcome, "{ended:?} {}\n", written.len())?;
+        add_reads(alloc, line, &mut outcome)?;
     }
     Ok(outcome)
 }
@@ -159,22 +167,25 @@ fn a_script_without_end_is_given_up(rt: HostRuntime) {
     assert_eq!(rt; (reader.reads, reader.widest), (1_048_576, 4096));
 }
 
-/// Runs the script by a writer of each line `ROOM WRITES`, which flushes unless the line ends with `!`, and returns how
-/// each run ends and how much is then written.
+/// Runs the script by a writer of `ROOM WRITES`, which flushes unless the line ends with `!`, and adds how the run ends
+/// and how much is then written.
+fn add_writes(alloc: Global, line: &str, outcome: &mut String) -> Result<(), Fail> {
+    let (room, writes) = pair_of(line.trim_end_matches('!'))?;
+    let mut writer = Writer {
+        writes,
+        room,
+        flushes: !line.ends_with('!'),
+        taken: Vec::new(alloc),
+    };
+    let ended = run(alloc, &mut SCRIPT.as_bytes(), &mut writer);
+    add_end(outcome, &ended, writer.taken.as_slice())
+}
+
+/// Runs the script by a writer of each line `ROOM WRITES`, and returns how each run ends and how much is then written.
 fn play_writes(alloc: Global, lines: &str) -> Result<String, Fail> {
     let mut outcome = String::new(alloc);
     for line in lines.lines() {
-        let (room, writes) = line.split_once(' ').ok_or("no writes")?;
-        let mut writer = Writer {
-            writes: writes.trim_end_matches('!').parse()?,
-            room: room.parse()?,
-            flushes: !writes.ends_with('!'),
-            taken: Vec::new(alloc),
-        };
-        let ended = run(alloc, &mut SCRIPT.as_bytes(), &mut writer);
-        let taken = writer.taken.as_slice();
-        hold(OUTPUT.as_bytes().starts_with(taken), line, "another output")?;
-        write!(outcome, "{ended:?} {}\n", taken.len())?;
+        add_writes(alloc, line, &mut outcome)?;
     }
     Ok(outcome)
 }

@@ -5,30 +5,32 @@ use script_player::ListHistory;
 use std::alloc::Global;
 use std::test::Fail;
 use test_cases::{Case, ColumnHost, ResolvingHost, case_of, hold, host_of, remember_all, told_of};
-use tw_lineedit::{BasicHistory, BoundedHistory, LineEditorHost, NopLineEditorHost};
+use tw_lineedit::{BasicHistory, BoundedHistory, History, LineEditorHost, NopLineEditorHost};
 
 /// Plays a case over a host with its lines in the history.
-fn play_over<H: LineEditorHost + Drop>(
+fn play_over<H: LineEditorHost>(
     alloc: Global,
     case: &Case<'_>,
-    mut host: H,
+    host: &mut H,
 ) -> Result<String, Fail> {
-    remember_all(&mut host, case.history.as_slice())?;
+    remember_all(host, case.history.as_slice())?;
+    told_of(alloc, case, host)
+}
+
+/// Plays a case over the host of a script with this history, which is empty.
+pub fn play_with<L: History + Drop>(
+    alloc: Global,
+    case: &Case<'_>,
+    history: L,
+) -> Result<String, Fail> {
+    let mut host = host_of(alloc, history, case)?;
     told_of(alloc, case, &mut host)
 }
 
 /// Plays a case over the host of a script, with a history of either kind.
-fn play_over_both(alloc: Global, case: &Case<'_>) -> Result<String, Fail> {
-    let outcome = told_of(
-        alloc,
-        case,
-        &mut host_of(alloc, BasicHistory::new(alloc), case)?,
-    )?;
-    let other = told_of(
-        alloc,
-        case,
-        &mut host_of(alloc, ListHistory::new(alloc), case)?,
-    )?;
+fn play_with_both(alloc: Global, case: &Case<'_>) -> Result<String, Fail> {
+    let outcome = play_with(alloc, case, BasicHistory::new(alloc))?;
+    let other = play_with(alloc, case, ListHistory::new(alloc))?;
     hold(outcome == other, outcome.as_str(), other.as_str())?;
     Ok(outcome)
 }
@@ -39,15 +41,12 @@ fn play_by(alloc: Global, case: &Case<'_>, host: &str) -> Result<String, Fail> {
     let (name, number) = host.split_once(' ').unwrap_or((host, "0"));
     let number: usize = number.parse()?;
     match name {
-        "plain" => play_over(alloc, case, NopLineEditorHost::new(alloc)),
-        "resolving" => play_over(alloc, case, ResolvingHost::new(alloc)),
-        "stray" => play_over(alloc, case, stray_host(alloc)),
-        "column" => play_over(alloc, case, ColumnHost::new(alloc, number)),
-        "kept" if number > 0 => {
-            let history = BoundedHistory::with_limit(alloc, number);
-            told_of(alloc, case, &mut host_of(alloc, history, case)?)
-        }
-        "" => play_over_both(alloc, case),
+        "plain" => play_over(alloc, case, &mut NopLineEditorHost::new(alloc)),
+        "resolving" => play_over(alloc, case, &mut ResolvingHost::new(alloc)),
+        "stray" => play_over(alloc, case, &mut stray_host(alloc)),
+        "column" => play_over(alloc, case, &mut ColumnHost::new(alloc, number)),
+        "kept" if number > 0 => play_with(alloc, case, BoundedHistory::with_limit(alloc, number)),
+        "" => play_with_both(alloc, case),
         _ => Err(Fail::from("no host of this name")),
     }
 }
@@ -62,10 +61,6 @@ pub fn play(alloc: Global, lines: &str) -> Result<String, Fail> {
 pub fn play_with_batches(alloc: Global, lines: &str) -> Result<String, Fail> {
     let mut case = case_of(alloc, lines)?;
     case.shows = "batches";
-    let host = if case.host.is_empty() {
-        "plain"
-    } else {
-        case.host
-    };
-    play_by(alloc, &case, host)
+    let is_plain = case.host.is_empty();
+    play_by(alloc, &case, if is_plain { "plain" } else { case.host })
 }
