@@ -49,7 +49,8 @@ fn play_part(
     let mut all = Count::default();
     for _ in 0..TRIALS {
         let trial = Trial::generate(rt.alloc(), numbers)?;
-        let count = replay(rt.alloc(), &trial)?;
+        let mut count = Count::default();
+        replay(rt.alloc(), &trial, &mut count)?;
         if count.differences > 0 {
             println!(rt; "{count}: {trial:?}")?;
         }

@@ -5,7 +5,6 @@ ghost use Rattle.tw_lineedit.specs.CandidateView.{candidate_view};
 ghost use Rattle.editor_checks.specs.MarkedHost.{Marked, marked_is_plain, marked_overrides, marked_rules};
 
 use std::alloc::{AllocError, Global};
-use std::ops::Range;
 use tw_lineedit::{
     CompletionCandidate, History, LineEditorHost, OutputElement, Overrides, copy_candidates,
 };
@@ -39,15 +38,21 @@ impl<L: History + Drop> MarkedHost<L> {
         })
     }
 
-    /// Adds a candidate after the others.
-    pub fn offer(
+    /// Adds lines to the history, and candidates after the others: two offsets and a text.
+    pub fn fill(
         &mut self,
         alloc: Global,
-        range: Range<usize>,
-        text: &str,
+        lines: &[&str],
+        candidates: &[(usize, usize, &str)],
     ) -> Result<(), AllocError> {
-        let text = String::from_str(alloc, text)?;
-        self.candidates.push(CompletionCandidate { range, text })?;
+        for line in lines {
+            self.history.add(line)?;
+        }
+        for (start, end, text) in candidates {
+            let text = String::from_str(alloc, text)?;
+            let range = *start..*end;
+            self.candidates.push(CompletionCandidate { range, text })?;
+        }
         Ok(())
     }
 }

@@ -10,6 +10,7 @@
 
 mod device;
 mod host;
+mod numbered;
 mod painted;
 mod paintings;
 mod picks;

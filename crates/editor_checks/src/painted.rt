@@ -3,7 +3,7 @@
 use tw_surface::Change;
 
 /// The texts of a painting.
-#[derive(Debug, Clone, Copy)]
+#[derive(Clone, Copy)]
 pub struct PaintedTexts<'a> {
     /// The prompt.
     pub prompt: &'a str,
@@ -16,7 +16,7 @@ pub struct PaintedTexts<'a> {
 }
 
 /// What a batch does.
-#[derive(Debug, Clone, Copy)]
+#[derive(Clone, Copy)]
 pub enum Batch<'a> {
     /// It clears the whole screen.
     Clears,

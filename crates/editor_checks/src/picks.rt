@@ -1,10 +1,10 @@
 //! What trials are made of. What stands more than once in a list is picked more often.
 
 /// Prompts.
-pub const PROMPTS: [&str; 5] = ["> ", "> ", "", "sh$ ", "a longer prompt: "];
+pub const PROMPTS: &[&str] = &["> ", "> ", "", "sh$ ", "a longer prompt: "];
 
 /// Lines under the line: printable ASCII, with CR LF between them.
-pub const PREVIEWS: [&str; 8] = [
+pub const PREVIEWS: &[&str] = &[
     "",
     "",
     "",
@@ -16,4 +16,4 @@ pub const PREVIEWS: [&str; 8] = [
 ];
 
 /// Columns that the host gives in place of the cursor's own.
-pub const COLUMNS: [Option<usize>; 8] = [None, None, None, None, None, None, Some(0), Some(19)];
+pub const COLUMNS: &[Option<usize>] = &[None, None, None, None, None, None, Some(0), Some(19)];

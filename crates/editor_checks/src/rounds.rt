@@ -14,6 +14,7 @@ mod texts;
 use crate::rounds::count::Count;
 use crate::rounds::generator::round_of;
 use crate::rounds::judge::judge;
+use crate::rounds::play::Played;
 use std::alloc::Global;
 
 /// The most findings that are shown in full.
@@ -27,23 +28,44 @@ pub fn check(
 ) -> Result<(), anyhow::Error> {
     let mut all = Count::default();
     for number in 0..rounds {
-        let count = play_one(rt, seed.wrapping_add(number), all.findings < SHOWN)?;
-        all.add(&count);
+        play_one(rt, seed.wrapping_add(number), &mut all)?;
     }
     println!(rt; "{all}")?;
     Ok(())
 }
 
-/// Plays the round of a seed, and shows it where it breaks a law.
+/// Plays the round of a seed.
 fn play_one(
     rt: &(impl Print + Alloc<A = Global>),
     seed: u64,
-    shows: bool,
-) -> Result<Count, anyhow::Error> {
-    let (count, findings) = judge(rt.alloc(), seed)?;
-    if shows && count.findings > 0 {
-        let round = round_of(rt.alloc(), seed)?;
-        println!(rt; "seed {seed}: {findings}: {round:?}")?;
+    all: &mut Count,
+) -> Result<(), anyhow::Error> {
+    let mut played = Played::new(rt.alloc(), seed)?;
+    judge_one(rt, seed, &mut played, all)
+}
+
+/// Judges a round, and shows it where it breaks a law.
+fn judge_one(
+    rt: &(impl Print + Alloc<A = Global>),
+    seed: u64,
+    played: &mut Played,
+    all: &mut Count,
+) -> Result<(), anyhow::Error> {
+    judge(rt.alloc(), seed, played)?;
+    if all.findings < SHOWN && played.notes.count.findings > 0 {
+        show(rt, seed, played.notes.findings.as_str())?;
     }
-    Ok(count)
+    all.add(&played.notes.count);
+    Ok(())
+}
+
+/// Shows what was found in the round of a seed, and the round.
+fn show(
+    rt: &(impl Print + Alloc<A = Global>),
+    seed: u64,
+    findings: &str,
+) -> Result<(), anyhow::Error> {
+    let round = round_of(rt.alloc(), seed)?;
+    println!(rt; "seed {seed}: {findings}: {round:?}")?;
+    Ok(())
 }

@@ -1,5 +1,6 @@
 //! What a model screen plays and shows.
 
+use crate::table::TableCell;
 use tw_changed::StyledScreen;
 use tw_surface::{Change, Screen, ScreenFault, ScrollingScreen};
 
@@ -9,10 +10,10 @@ pub trait Plays {
     fn apply(&mut self, change: &Change) -> Result<(), ScreenFault>;
 }
 
-/// A screen that shows characters and a cursor.
+/// A screen that shows cells and a cursor.
 pub trait Shows {
-    /// Returns the character at a row and a column.
-    fn char_at(&self, row: usize, col: usize) -> char;
+    /// Tells whether the cell at a row and a column holds what it is to hold.
+    fn holds(&self, row: usize, col: usize, cell: TableCell) -> bool;
 
     /// Returns the row and the column of the cursor.
     fn cursor(&self) -> (usize, usize);
@@ -37,8 +38,8 @@ impl Plays for StyledScreen {
 }
 
 impl Shows for Screen {
-    fn char_at(&self, row: usize, col: usize) -> char {
-        self.char_at(row, col)
+    fn holds(&self, row: usize, col: usize, cell: TableCell) -> bool {
+        self.char_at(row, col) == cell.character
     }
 
     fn cursor(&self) -> (usize, usize) {
@@ -47,8 +48,19 @@ impl Shows for Screen {
 }
 
 impl Shows for ScrollingScreen {
-    fn char_at(&self, row: usize, col: usize) -> char {
-        self.char_at(row, col)
+    fn holds(&self, row: usize, col: usize, cell: TableCell) -> bool {
+        self.char_at(row, col) == cell.character
+    }
+
+    fn cursor(&self) -> (usize, usize) {
+        self.cursor()
+    }
+}
+
+/// A character in other attributes is another cell.
+impl Shows for StyledScreen {
+    fn holds(&self, row: usize, col: usize, cell: TableCell) -> bool {
+        self.cell(row, col) == Some(cell.shown())
     }
 
     fn cursor(&self) -> (usize, usize) {

@@ -49,7 +49,7 @@ impl Stage {
             Batch::Unknown => return Ok(1),
         }
         let characters = self.table.differences(&self.screen);
-        Ok(characters.saturating_add(self.table.styled_differences(&self.styled)))
+        Ok(characters.saturating_add(self.table.differences(&self.styled)))
     }
 }
 

@@ -6,7 +6,7 @@ use crate::painted::PaintedTexts;
 use crate::random_numbers::RandomNumbers;
 use crate::shows::Shows;
 use std::alloc::{AllocError, Global};
-use tw_changed::{ScreenCell, StyledScreen};
+use tw_changed::ScreenCell;
 use tw_surface::CellAttributes;
 
 /// The rows that are compared on a screen without a bottom.
@@ -47,9 +47,10 @@ impl Entry {
 }
 
 /// What a cell is to hold: a character, in the mark of the line from its cursor on or in default attributes.
-#[derive(Debug, Clone, Copy)]
-struct TableCell {
-    character: char,
+#[derive(Clone, Copy)]
+pub struct TableCell {
+    /// The character.
+    pub character: char,
     is_marked: bool,
 }
 
@@ -63,7 +64,7 @@ impl TableCell {
     }
 
     /// Returns the character under its attributes. The mark is that of the host of this crate.
-    fn shown(self) -> ScreenCell {
+    pub fn shown(self) -> ScreenCell {
         ScreenCell {
             character: self.character,
             attributes: CellAttributes {
@@ -184,11 +185,6 @@ impl Table {
         self.cursor = (row, 0);
     }
 
-    /// Returns how many cells there are.
-    pub fn len(&self) -> usize {
-        self.cells.len()
-    }
-
     /// Returns where the cursor is to stand.
     pub fn cursor(&self) -> (usize, usize) {
         self.cursor
@@ -207,26 +203,12 @@ impl Table {
 
     /// Returns how many cells of the screen hold something else. A cursor that stands elsewhere counts as one more.
     pub fn differences(&self, screen: &impl Shows) -> usize {
-        let width = self.width;
-        let cells = self
-            .cells
-            .iter()
-            .enumerate()
-            .filter(|(at, cell)| screen.char_at(*at / width, *at % width) != cell.character)
-            .count();
-        cells.saturating_add(usize::from(screen.cursor() != self.cursor))
-    }
-
-    /// Returns the same of a screen that shows attributes: a character in other attributes is another cell.
-    pub fn styled_differences(&self, screen: &StyledScreen) -> usize {
-        let width = self.width;
-        let cells = self
-            .cells
-            .iter()
-            .enumerate()
-            .filter(|(at, cell)| screen.cell(*at / width, *at % width) != Some(cell.shown()))
-            .count();
-        cells.saturating_add(usize::from(screen.cursor() != self.cursor))
+        let mut differences = usize::from(screen.cursor() != self.cursor);
+        for (at, cell) in self.cells.iter().enumerate() {
+            let holds = screen.holds(at / self.width, at % self.width, *cell);
+            differences = differences.saturating_add(usize::from(!holds));
+        }
+        differences
     }
 
     /// Returns the place `characters` characters after the start of a row.

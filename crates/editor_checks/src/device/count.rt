@@ -1,9 +1,11 @@
 //! What was played.
 
+use crate::device::shown::Found;
+use crate::numbered::write_numbers;
 use std::fmt;
 
 /// What was played, and what was found.
-#[derive(Debug, Clone, Copy, Default)]
+#[derive(Clone, Copy, Default)]
 pub struct Count {
     /// The strings of bytes that came.
     pub strings: u64,
@@ -30,6 +32,18 @@ impl Count {
         self.differences = self.differences.saturating_add(u64::from(differs));
     }
 
+    /// Counts what was found after a batch.
+    pub fn add_found(&mut self, found: Found) {
+        match found {
+            Found::Compared { cells, differences } => {
+                self.cells = self.cells.saturating_add(cells as u64);
+                self.differences = self.differences.saturating_add(differences as u64);
+            }
+            Found::TooHigh => self.skipped = self.skipped.saturating_add(1),
+            Found::Unknown => self.note(true),
+        }
+    }
+
     /// Adds what another count holds.
     pub fn add(&mut self, other: Count) {
         self.strings = self.strings.saturating_add(other.strings);
@@ -45,15 +59,18 @@ impl Count {
 
 impl fmt::Display for Count {
     fn fmt<W: fmt::Write>(&self, f: &mut fmt::Formatter<W>) -> fmt::Result {
-        write!(
+        write_numbers(
             f,
-            "{} strings of {} bytes, {} readings, {} batches in {} bytes, ",
-            self.strings, self.typed, self.readings, self.batches, self.bytes
-        )?;
-        write!(
-            f,
-            "{} cells compared, {} batches too high, {} differences",
-            self.cells, self.skipped, self.differences
+            &[
+                (self.strings, " strings of "),
+                (self.typed, " bytes, "),
+                (self.readings, " readings, "),
+                (self.batches, " batches in "),
+                (self.bytes, " bytes, "),
+                (self.cells, " cells compared, "),
+                (self.skipped, " batches too high, "),
+                (self.differences, " differences"),
+            ],
         )
     }
 }

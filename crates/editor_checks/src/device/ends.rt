@@ -83,7 +83,11 @@ impl Writes {
     }
 
     /// Returns the bytes of a write, counted from 0, or none after the last one.
-    pub fn get(&self, index: usize) -> Option<&[u8]> {
+    pub fn bytes_of(&self, index: usize) -> &[u8] {
+        self.get(index).unwrap_or(b"")
+    }
+
+    fn get(&self, index: usize) -> Option<&[u8]> {
         let end = *self.ends.get(index)?;
         let start = match index.checked_sub(1) {
             Some(before) => *self.ends.get(before)?,

@@ -3,13 +3,13 @@
 use crate::random_numbers::RandomNumbers;
 use std::alloc::{AllocError, Global};
 
-const LETTERS: [&[u8]; 16] = [
+const LETTERS: &[&[u8]] = &[
     b"a", b"b", b"c", b"d", b"e", b"g", b"i", b"l", b"o", b"s", b"t", b" ", b" ", b"a", b"0", b"~",
 ];
 
 /// Keys as terminals send them: the arrows in their two modes, Home and End, Backspace and Delete, the keys of words,
 /// Tab, the searches, the history, and sequences that mean nothing.
-const COMMANDS: [&[u8]; 34] = [
+const COMMANDS: &[&[u8]] = &[
     b"\x1b[D",
     b"\x1b[D",
     b"\x1bOD",
@@ -47,7 +47,7 @@ const COMMANDS: [&[u8]; 34] = [
 ];
 
 /// Pasted texts between their marks. A control character in them is typed as a space.
-const PASTES: [&[u8]; 4] = [
+const PASTES: &[&[u8]] = &[
     b"\x1b[200~ab\x1b[201~",
     b"\x1b[200~a b c\x1b[201~",
     b"\x1b[200~log\r\nls\x1b[201~",
@@ -56,16 +56,16 @@ const PASTES: [&[u8]; 4] = [
 
 /// The keys that end a line: Enter in its two forms, the key that cancels it, and the one that ends the input where the
 /// line is empty.
-const ENDS: [&[u8]; 5] = [b"\r", b"\r", b"\n", b"\x03", b"\x04"];
+const ENDS: &[&[u8]] = &[b"\r", b"\r", b"\n", b"\x03", b"\x04"];
 
 /// Returns the bytes of one key, most often of a letter.
 fn keystroke(numbers: &mut RandomNumbers) -> &'static [u8] {
     match numbers.below(40) {
         0 => b"\x0c",
-        1..=2 => numbers.pick(&ENDS, b"\r"),
-        3 => numbers.pick(&PASTES, b" "),
-        4..=17 => numbers.pick(&COMMANDS, b"\x0b"),
-        _ => numbers.pick(&LETTERS, b" "),
+        1..=2 => numbers.pick(ENDS, b"\r"),
+        3 => numbers.pick(PASTES, b" "),
+        4..=17 => numbers.pick(COMMANDS, b"\x0b"),
+        _ => numbers.pick(LETTERS, b" "),
     }
 }
 

@@ -2,14 +2,15 @@
 
 use crate::device::ends::{Pieces, Recorder, Whole, Writes};
 use crate::device::trial::Trial;
+use crate::host::MarkedHost;
 use std::alloc::Global;
 use tw_device::{AnsiTerminal, Answer, Escape, EventSource, KeyReader, read_typed_line};
 use tw_input::InputEvent;
-use tw_lineedit::{Error, LineEditor};
+use tw_lineedit::{BasicHistory, Error, LineEditor};
 use tw_terminal::ScriptTerminal;
 
 /// How a reading ended.
-#[derive(Debug, Drop, PartialEq, Eq)]
+#[derive(Drop, PartialEq, Eq)]
 pub enum Ending {
     /// With this line, accepted or at the end of the input.
     Line(String),
@@ -35,13 +36,25 @@ pub fn read_bytes(
     trial: &Trial,
     writes: &mut Writes,
 ) -> Result<Vec<Ending>, anyhow::Error> {
+    let mut host = trial.host(alloc)?;
     let pieces = Pieces::new(trial.bytes.as_slice(), trial.cuts);
     let mut keys = KeyReader::with_escape(alloc, pieces, Escape::Waits);
     let mut terminal = AnsiTerminal::new(alloc, Recorder(writes), trial.size);
-    let mut host = trial.host(alloc)?;
+    read_typed_lines(alloc, trial, &mut keys, &mut terminal, &mut host)
+}
+
+/// Reads lines up to the end of the bytes.
+fn read_typed_lines(
+    alloc: Global,
+    trial: &Trial,
+    keys: &mut KeyReader<Pieces<'_>>,
+    terminal: &mut AnsiTerminal<Recorder<'_>>,
+    host: &mut MarkedHost<BasicHistory>,
+) -> Result<Vec<Ending>, anyhow::Error> {
+    trial.fill(alloc, host)?;
     let mut endings = Vec::new(alloc);
     for _ in 0..u64::MAX {
-        let answer = read_typed_line(alloc, &mut keys, &mut terminal, &mut host, trial.prompt)?;
+        let answer = read_typed_line(alloc, keys, terminal, host, trial.prompt)?;
         endings.push(ended_by(answer, keys.is_at_end()))?;
         if keys.is_at_end() {
             break;
@@ -54,6 +67,14 @@ pub fn read_bytes(
 pub fn keys_of(alloc: Global, trial: &Trial) -> Result<Vec<InputEvent>, anyhow::Error> {
     let whole = Whole::new(trial.bytes.as_slice());
     let mut keys = KeyReader::with_escape(alloc, whole, Escape::Waits);
+    all_events(alloc, &mut keys)
+}
+
+/// Returns the events up to the end of the bytes.
+fn all_events(
+    alloc: Global,
+    keys: &mut KeyReader<Whole<'_>>,
+) -> Result<Vec<InputEvent>, anyhow::Error> {
     let mut events = Vec::new(alloc);
     for _ in 0..u64::MAX {
         match keys.next_event()? {
@@ -72,17 +93,44 @@ pub fn read_keys(
     terminal: &mut ScriptTerminal,
 ) -> Result<Vec<Ending>, anyhow::Error> {
     let mut host = trial.host(alloc)?;
+    read_lines(alloc, trial, count, terminal, &mut host)
+}
+
+/// Reads `count` lines, each with an editor of its own.
+fn read_lines(
+    alloc: Global,
+    trial: &Trial,
+    count: usize,
+    terminal: &mut ScriptTerminal,
+    host: &mut MarkedHost<BasicHistory>,
+) -> Result<Vec<Ending>, anyhow::Error> {
+    trial.fill(alloc, host)?;
     let mut endings = Vec::new(alloc);
     for _ in 0..count {
         let mut editor = LineEditor::new(alloc, terminal)?;
-        editor.set_prompt(trial.prompt)?;
-        let ending = match editor.read_line(&mut host) {
-            Ok(Some(line)) => Ending::Line(line),
-            Ok(None) => Ending::Cancelled,
-            Err(Error::EndOfFile) => Ending::EndOfFile,
-            Err(other) => return Err(other.into()),
-        };
-        endings.push(ending)?;
+        let answer = read_line(&mut editor, host, trial.prompt);
+        endings.push(ended_with(answer)?)?;
     }
     Ok(endings)
+}
+
+/// Reads a line under a prompt.
+fn read_line(
+    editor: &mut LineEditor<'_, ScriptTerminal>,
+    host: &mut MarkedHost<BasicHistory>,
+    prompt: &str,
+) -> Result<Option<String>, Error> {
+    editor.set_prompt(prompt)?;
+    editor.read_line(host)
+}
+
+/// Returns how a reading ended, which was not refused for another reason.
+fn ended_with(answer: Result<Option<String>, Error>) -> Result<Ending, anyhow::Error> {
+    let ending = match answer {
+        Ok(Some(line)) => Ending::Line(line),
+        Ok(None) => Ending::Cancelled,
+        Err(Error::EndOfFile) => Ending::EndOfFile,
+        Err(other) => return Err(other.into()),
+    };
+    Ok(ending)
 }

@@ -18,7 +18,7 @@ pub struct Shown {
 }
 
 /// What was found after a batch.
-#[derive(Debug, Clone, Copy)]
+#[derive(Clone, Copy)]
 pub enum Found {
     /// So many cells were compared, and so many hold something else.
     Compared { cells: usize, differences: usize },
@@ -40,16 +40,21 @@ fn first_cell(entry: Entry) -> ScreenCell {
 }
 
 impl Shown {
-    /// Creates the screen of a trial, with the cursor in the row where it is entered.
+    /// Creates the screen of a trial, with the cursor in the first row.
     pub fn new(alloc: Global, trial: &Trial) -> Result<Self, anyhow::Error> {
         let rows = trial.size.rows;
         let cols = trial.size.cols;
-        let mut terminal = EcmaTerminal::new(alloc, rows, cols, first_cell(trial.entry))?;
-        for _ in 0..trial.entry.row(rows) {
-            terminal.receive(b'\n')?;
-        }
+        let terminal = EcmaTerminal::new(alloc, rows, cols, first_cell(trial.entry))?;
         let table = ScrollingTable::new(alloc, rows, cols, trial.entry)?;
         Ok(Shown { terminal, table })
+    }
+
+    /// Moves the cursor down to the row where the screen is entered.
+    pub fn enter(&mut self, entry: Entry) -> Result<(), anyhow::Error> {
+        for _ in 0..entry.row(self.terminal.rows()) {
+            self.terminal.receive(b'\n')?;
+        }
+        Ok(())
     }
 
     /// Has the terminal receive the bytes of a batch, and compares it with what it should hold then.

@@ -6,10 +6,10 @@ use crate::picks::{COLUMNS, PREVIEWS, PROMPTS};
 use crate::random_numbers::RandomNumbers;
 use crate::table::Entry;
 use std::alloc::{AllocError, Global};
-use tw_lineedit::{BasicHistory, History};
+use tw_lineedit::BasicHistory;
 use tw_terminal::ScreenSize;
 
-const LINES: [&str; 6] = [
+const LINES: &[&str] = &[
     "git log",
     "ls",
     "go",
@@ -17,6 +17,9 @@ const LINES: [&str; 6] = [
     "sed abc dog",
     "tail log -n 5 of a longer line",
 ];
+
+/// What the host offers.
+const CANDIDATES: &[(usize, usize, &str)] = &[(0, 0, "let "), (0, 0, "a longer candidate ")];
 
 /// The fewest rows and columns of a screen.
 const LEAST: u64 = 2;
@@ -61,24 +64,26 @@ impl Trial {
         Ok(Trial {
             size,
             entry: Entry::pick(numbers),
-            prompt: numbers.pick(&PROMPTS, ""),
-            column: numbers.pick(&COLUMNS, None),
+            prompt: numbers.pick(PROMPTS, ""),
+            column: numbers.pick(COLUMNS, None),
             bytes: keystrokes(alloc, numbers, count)?,
             cuts: RandomNumbers::new(numbers.number() | 1),
-            preview: numbers.pick(&PREVIEWS, ""),
-            history: numbers.pick_below(alloc, 6, &LINES)?,
+            preview: numbers.pick(PREVIEWS, ""),
+            history: numbers.pick_below(alloc, 6, LINES)?,
         })
     }
 
-    /// Returns the host of an editor, with two candidates.
+    /// Creates the host of an editor, which is yet to be filled.
     pub fn host(&self, alloc: Global) -> Result<MarkedHost<BasicHistory>, AllocError> {
-        let mut history = BasicHistory::new(alloc);
-        for line in &self.history {
-            history.add(line)?;
-        }
-        let mut host = MarkedHost::new(alloc, history, self.preview, self.column)?;
-        host.offer(alloc, 0..0, "let ")?;
-        host.offer(alloc, 0..0, "a longer candidate ")?;
-        Ok(host)
+        MarkedHost::new(alloc, BasicHistory::new(alloc), self.preview, self.column)
+    }
+
+    /// Gives a host the history and two candidates.
+    pub fn fill(
+        &self,
+        alloc: Global,
+        host: &mut MarkedHost<BasicHistory>,
+    ) -> Result<(), AllocError> {
+        host.fill(alloc, &self.history, CANDIDATES)
     }
 }

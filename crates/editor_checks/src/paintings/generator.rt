@@ -6,7 +6,7 @@ use crate::random_numbers::RandomNumbers;
 use crate::table::Entry;
 use std::alloc::{AllocError, Global};
 
-const LINES: [&str; 7] = [
+const LINES: &[&str] = &[
     "git log",
     "ls",
     "go",
@@ -16,18 +16,18 @@ const LINES: [&str; 7] = [
     "tail log",
 ];
 
-const PASTES: [&str; 4] = [
+const PASTES: &[&str] = &[
     "paste:ab",
     "paste:a b c",
     "paste:log",
     "paste:some pasted text",
 ];
 
-const LETTERS: [&str; 16] = [
+const LETTERS: &[&str] = &[
     "a", "b", "c", "d", "e", "g", "i", "l", "o", "s", "t", " ", " ", "a", "o", "l",
 ];
 
-const COMMANDS: [&str; 18] = [
+const COMMANDS: &[&str] = &[
     "Left",
     "Left",
     "Right",
@@ -53,9 +53,9 @@ fn name(numbers: &mut RandomNumbers) -> &'static str {
     match numbers.below(40) {
         0 => "C-L",
         1 => "Enter",
-        2 => numbers.pick(&PASTES, "paste:"),
-        3..=17 => numbers.pick(&COMMANDS, "C-K"),
-        _ => numbers.pick(&LETTERS, " "),
+        2 => numbers.pick(PASTES, "paste:"),
+        3..=17 => numbers.pick(COMMANDS, "C-K"),
+        _ => numbers.pick(LETTERS, " "),
     }
 }
 
@@ -71,17 +71,17 @@ fn names(alloc: Global, numbers: &mut RandomNumbers) -> Result<Vec<&'static str>
 pub fn generate(alloc: Global, numbers: &mut RandomNumbers) -> Result<GeneratedTrial, AllocError> {
     Ok(GeneratedTrial {
         entry: Entry::pick(numbers),
-        prompt: numbers.pick(&PROMPTS, ""),
-        preview: numbers.pick(&PREVIEWS, ""),
-        history: numbers.pick_below(alloc, 6, &LINES)?,
-        column: numbers.pick(&COLUMNS, None),
+        prompt: numbers.pick(PROMPTS, ""),
+        preview: numbers.pick(PREVIEWS, ""),
+        history: numbers.pick_below(alloc, 6, LINES)?,
+        column: numbers.pick(COLUMNS, None),
         names: names(alloc, numbers)?,
         readings: 1 + numbers.below(4) as usize / 3,
     })
 }
 
 /// A generated trial, and the screen that it is played on.
-#[derive(Debug, Drop)]
+#[derive(Drop)]
 pub struct GeneratedTrial {
     /// How the screen is at first.
     pub entry: Entry,

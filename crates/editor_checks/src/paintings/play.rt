@@ -1,20 +1,22 @@
 //! Plays a trial on an editor, and what the editor paints on a screen.
 
 use crate::host::MarkedHost;
+use crate::numbered::write_numbers;
 use crate::paintings::trial::Trial;
 use crate::stage::{ScrollingStage, Stage};
 use crate::table::Entry;
 use std::alloc::Global;
 use std::fmt;
 use std::ops::RangeInclusive;
-use tw_lineedit::{BasicHistory, History, LineEditor};
+use tw_lineedit::{BasicHistory, Error, LineEditor};
+use tw_surface::Change;
 use tw_terminal::{ScreenSize, ScriptTerminal};
 
 /// The rows that the terminal tells the editor.
 const SCREEN_ROWS: usize = 24;
 
 /// What was read and compared.
-#[derive(Debug, Clone, Copy, Default)]
+#[derive(Clone, Copy, Default)]
 pub struct Count {
     /// The lines read.
     pub readings: u64,
@@ -37,14 +39,53 @@ impl Count {
         self.skipped = self.skipped.saturating_add(other.skipped);
         self.differences = self.differences.saturating_add(other.differences);
     }
+
+    /// Plays batches on screens without a bottom, where the host gives this column of the cursor, if any.
+    fn play_unbounded(
+        &mut self,
+        stage: &mut Stage,
+        batches: &[Vec<Change>],
+        column: Option<usize>,
+    ) -> Result<(), anyhow::Error> {
+        for batch in batches {
+            let differences = stage.take(batch.as_slice(), column)?;
+            self.batches = self.batches.saturating_add(1);
+            self.differences = self.differences.saturating_add(differences as u64);
+        }
+        Ok(())
+    }
+
+    /// Plays batches on a screen with a bottom row.
+    fn play_scrolling(
+        &mut self,
+        stage: &mut ScrollingStage,
+        batches: &[Vec<Change>],
+        column: Option<usize>,
+    ) -> Result<(), anyhow::Error> {
+        for batch in batches {
+            match stage.take(batch.as_slice(), column)? {
+                None => self.skipped = self.skipped.saturating_add(1),
+                Some(differences) => {
+                    self.scrolled = self.scrolled.saturating_add(1);
+                    self.differences = self.differences.saturating_add(differences as u64);
+                }
+            }
+        }
+        Ok(())
+    }
 }
 
 impl fmt::Display for Count {
     fn fmt<W: fmt::Write>(&self, f: &mut fmt::Formatter<W>) -> fmt::Result {
-        write!(
+        write_numbers(
             f,
-            "{} readings, {} batches, {} with a bottom row, {} too high for it, {} cells differ",
-            self.readings, self.batches, self.scrolled, self.skipped, self.differences
+            &[
+                (self.readings, " readings, "),
+                (self.batches, " batches, "),
+                (self.scrolled, " with a bottom row, "),
+                (self.skipped, " too high for it, "),
+                (self.differences, " cells differ"),
+            ],
         )
     }
 }
@@ -62,58 +103,90 @@ pub fn play(
         cols: width,
     };
     let mut terminal = ScriptTerminal::new(alloc, size, trial.events(alloc)?);
-    read_lines(alloc, &mut terminal, trial)?;
+    play_at(alloc, &mut terminal, width, heights, entry, trial)
+}
+
+/// Has an editor read the lines of a trial at a terminal, and plays what it paints.
+fn play_at(
+    alloc: Global,
+    terminal: &mut ScriptTerminal,
+    width: usize,
+    heights: RangeInclusive<usize>,
+    entry: Entry,
+    trial: &Trial<'_>,
+) -> Result<Count, anyhow::Error> {
+    read_lines(alloc, terminal, trial)?;
     let mut count = Count {
         readings: trial.readings as u64,
         ..Count::default()
     };
-    let mut stage = Stage::new(alloc, width, entry)?;
-    for batch in terminal.batches() {
-        count.batches = count.batches.saturating_add(1);
-        let differences = stage.take(batch.as_slice(), trial.column)?;
-        count.differences = count.differences.saturating_add(differences as u64);
-    }
+    play_unbounded(alloc, width, entry, terminal, trial, &mut count)?;
     for rows in heights {
-        let stage = ScrollingStage::new(alloc, rows, width, entry)?;
-        count.add(play_scrolling(stage, &terminal, trial.column)?);
+        play_scrolling(alloc, rows, width, entry, terminal, trial, &mut count)?;
     }
     Ok(count)
+}
+
+/// Plays the batches of a terminal on screens without a bottom.
+fn play_unbounded(
+    alloc: Global,
+    width: usize,
+    entry: Entry,
+    terminal: &ScriptTerminal,
+    trial: &Trial<'_>,
+    count: &mut Count,
+) -> Result<(), anyhow::Error> {
+    let mut stage = Stage::new(alloc, width, entry)?;
+    count.play_unbounded(&mut stage, terminal.batches(), trial.column)
 }
 
 /// Plays the batches of a terminal on a screen with a bottom row.
 fn play_scrolling(
-    mut stage: ScrollingStage,
+    alloc: Global,
+    rows: usize,
+    width: usize,
+    entry: Entry,
     terminal: &ScriptTerminal,
-    column: Option<usize>,
-) -> Result<Count, anyhow::Error> {
-    let mut count = Count::default();
-    for batch in terminal.batches() {
-        match stage.take(batch.as_slice(), column)? {
-            None => count.skipped = count.skipped.saturating_add(1),
-            Some(differences) => {
-                count.scrolled = count.scrolled.saturating_add(1);
-                count.differences = count.differences.saturating_add(differences as u64);
-            }
-        }
-    }
-    Ok(count)
+    trial: &Trial<'_>,
+    count: &mut Count,
+) -> Result<(), anyhow::Error> {
+    let mut stage = ScrollingStage::new(alloc, rows, width, entry)?;
+    count.play_scrolling(&mut stage, terminal.batches(), trial.column)
 }
 
-/// Has one editor read the lines of a trial.
+/// Has an editor read the lines of a trial.
 fn read_lines(
     alloc: Global,
     terminal: &mut ScriptTerminal,
     trial: &Trial<'_>,
 ) -> Result<(), anyhow::Error> {
-    let mut history = BasicHistory::new(alloc);
-    for line in trial.history {
-        history.add(line)?;
-    }
+    let history = BasicHistory::new(alloc);
     let mut host = MarkedHost::new(alloc, history, trial.preview, trial.column)?;
+    read_with(alloc, terminal, &mut host, trial)
+}
+
+/// Fills the host, and has one editor read with it.
+fn read_with(
+    alloc: Global,
+    terminal: &mut ScriptTerminal,
+    host: &mut MarkedHost<BasicHistory>,
+    trial: &Trial<'_>,
+) -> Result<(), anyhow::Error> {
+    host.fill(alloc, trial.history, &[])?;
     let mut editor = LineEditor::new(alloc, terminal)?;
+    read_by(&mut editor, host, trial)?;
+    Ok(())
+}
+
+/// Reads the lines of a trial, one after the other.
+fn read_by(
+    editor: &mut LineEditor<'_, ScriptTerminal>,
+    host: &mut MarkedHost<BasicHistory>,
+    trial: &Trial<'_>,
+) -> Result<(), Error> {
     editor.set_prompt(trial.prompt)?;
     for _ in 0..trial.readings {
-        editor.read_line_with_optional_initial_value(&mut host, Some(trial.initial))?;
+        editor.read_line_with_optional_initial_value(host, Some(trial.initial))?;
     }
     Ok(())
 }

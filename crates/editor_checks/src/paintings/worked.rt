@@ -21,26 +21,26 @@ const PLAIN: Trial<'static> = Trial {
     readings: 1,
 };
 
-const HISTORY: [&str; 2] = ["git log", "ls"];
+const HISTORY: &[&str] = &["git log", "ls"];
 
-const SEARCH: [&str; 3] = ["C-R", "g", "Enter"];
+const SEARCH: &[&str] = &["C-R", "g", "Enter"];
 
-const CANCELLED_SEARCH: [&str; 3] = ["C-R", "g", "C-C"];
+const CANCELLED_SEARCH: &[&str] = &["C-R", "g", "C-C"];
 
-const UNENDED_SEARCH: [&str; 2] = ["C-R", "g"];
+const UNENDED_SEARCH: &[&str] = &["C-R", "g"];
 
-const SHORTENED: [&str; 8] = ["a", "b", "c", "d", "e", "f", "Home", "Delete"];
+const SHORTENED: &[&str] = &["a", "b", "c", "d", "e", "f", "Home", "Delete"];
 
-const CLEARED: [&str; 12] = [
+const CLEARED: &[&str] = &[
     "a", "b", "c", "d", "e", "f", "g", "h", "i", "j", "C-L", "Enter",
 ];
 
-const TWO_LINES: [&str; 4] = ["a", "Enter", "b", "Enter"];
+const TWO_LINES: &[&str] = &["a", "Enter", "b", "Enter"];
 
-const ONE_LETTER: [&str; 1] = ["x"];
+const ONE_LETTER: &[&str] = &["x"];
 
 /// The trials.
-pub const WORKED: [Worked; 11] = [
+pub const WORKED: &[Worked] = &[
     Worked {
         name: "a line at the edge",
         trial: Trial {
@@ -51,31 +51,31 @@ pub const WORKED: [Worked; 11] = [
     Worked {
         name: "a line that gets shorter",
         trial: Trial {
-            names: &SHORTENED,
+            names: SHORTENED,
             ..PLAIN
         },
     },
     Worked {
         name: "a search that is accepted",
         trial: Trial {
-            history: &HISTORY,
-            names: &SEARCH,
+            history: HISTORY,
+            names: SEARCH,
             ..PLAIN
         },
     },
     Worked {
         name: "a search that is cancelled",
         trial: Trial {
-            history: &HISTORY,
-            names: &CANCELLED_SEARCH,
+            history: HISTORY,
+            names: CANCELLED_SEARCH,
             ..PLAIN
         },
     },
     Worked {
         name: "a search at the end of the events",
         trial: Trial {
-            history: &HISTORY,
-            names: &UNENDED_SEARCH,
+            history: HISTORY,
+            names: UNENDED_SEARCH,
             ..PLAIN
         },
     },
@@ -89,7 +89,7 @@ pub const WORKED: [Worked; 11] = [
     Worked {
         name: "a screen that is cleared",
         trial: Trial {
-            names: &CLEARED,
+            names: CLEARED,
             ..PLAIN
         },
     },
@@ -104,7 +104,7 @@ pub const WORKED: [Worked; 11] = [
     Worked {
         name: "two readings",
         trial: Trial {
-            names: &TWO_LINES,
+            names: TWO_LINES,
             readings: 2,
             ..PLAIN
         },
@@ -113,7 +113,7 @@ pub const WORKED: [Worked; 11] = [
         name: "a preview of three lines",
         trial: Trial {
             preview: "abcde\r\n\r\nfg",
-            names: &ONE_LETTER,
+            names: ONE_LETTER,
             ..PLAIN
         },
     },
@@ -121,7 +121,7 @@ pub const WORKED: [Worked; 11] = [
         name: "a preview that ends in a line break",
         trial: Trial {
             preview: "abcdef\r\n",
-            names: &ONE_LETTER,
+            names: ONE_LETTER,
             ..PLAIN
         },
     },

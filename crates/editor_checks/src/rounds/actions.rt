@@ -5,7 +5,7 @@ use crate::rounds::events::{letter, text};
 use std::alloc::{AllocError, Global};
 use tw_lineedit::{Action, Movement};
 
-const COUNTS: [usize; 8] = [0, 1, 1, 1, 2, 3, 7, usize::MAX];
+const COUNTS: &[usize] = &[0, 1, 1, 1, 2, 3, 7, usize::MAX];
 
 /// Returns an action of any kind.
 pub fn action(
@@ -13,7 +13,7 @@ pub fn action(
     numbers: &mut RandomNumbers,
     plain: bool,
 ) -> Result<Action, AllocError> {
-    let count = numbers.pick(&COUNTS, 1);
+    let count = numbers.pick(COUNTS, 1);
     Ok(match numbers.below(18) {
         0 => Action::AcceptLine,
         1 => Action::Cancel,
@@ -37,7 +37,7 @@ pub fn action(
 }
 
 fn movement(numbers: &mut RandomNumbers) -> Movement {
-    let count = numbers.pick(&COUNTS, 1);
+    let count = numbers.pick(COUNTS, 1);
     match numbers.below(7) {
         0 => Movement::BackwardChar(count),
         1 => Movement::BackwardWord(count),

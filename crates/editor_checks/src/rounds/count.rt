@@ -1,9 +1,10 @@
 //! What was played.
 
+use crate::numbered::write_numbers;
 use std::fmt;
 
 /// What was played, and what was found.
-#[derive(Debug, Clone, Copy, Default)]
+#[derive(Clone, Copy, Default)]
 pub struct Count {
     /// The rounds, each of which was played over three kinds of histories.
     pub rounds: u64,
@@ -30,7 +31,7 @@ pub struct Count {
 }
 
 /// How many readings were refused by each number.
-#[derive(Debug, Clone, Copy, Default)]
+#[derive(Clone, Copy, Default)]
 pub struct Refusals {
     end: u64,
     recursive: u64,
@@ -103,20 +104,37 @@ impl Count {
 
 impl fmt::Display for Count {
     fn fmt<W: fmt::Write>(&self, f: &mut fmt::Formatter<W>) -> fmt::Result {
-        let (actions, refused) = self.actions;
-        write!(
+        write_numbers(
             f,
-            "{} rounds, {} readings: {} lines, {} cancelled, refused",
-            self.rounds, self.readings, self.lines, self.cancelled
+            &[
+                (self.rounds, " rounds, "),
+                (self.readings, " readings: "),
+                (self.lines, " lines, "),
+                (self.cancelled, " cancelled, refused"),
+            ],
         )?;
-        for number in 1..=7 {
-            let count = self.refused.by(number);
-            write!(f, " {count} by {number},")?;
-        }
-        write!(
+        self.refused.fmt(f)?;
+        write_numbers(
             f,
-            "\n{actions} actions, {refused} refused; {} faults, {} batches, {} screens compared; sum {}\n{} findings",
-            self.faults, self.batches, self.compared, self.sum, self.findings
+            &[
+                (self.actions.0, " actions, "),
+                (self.actions.1, " refused; "),
+                (self.faults, " faults, "),
+                (self.batches, " batches, "),
+                (self.compared, " screens compared; sum "),
+                (self.sum, "\n"),
+                (self.findings, " findings"),
+            ],
         )
+    }
+}
+
+impl fmt::Display for Refusals {
+    fn fmt<W: fmt::Write>(&self, f: &mut fmt::Formatter<W>) -> fmt::Result {
+        for number in 1..=7 {
+            f.write_str(" ")?;
+            write_numbers(f, &[(self.by(number), " by "), (u64::from(number), ",")])?;
+        }
+        f.write_str("\n")
     }
 }

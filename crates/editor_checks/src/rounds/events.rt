@@ -6,10 +6,13 @@ use std::alloc::{AllocError, Global};
 use tw_input::{InputEvent, KeyCode, KeyEvent, Modifiers};
 use tw_terminal::ScreenSize;
 
+/// The usual size.
+const USUAL: ScreenSize = ScreenSize { rows: 24, cols: 80 };
+
 /// Sizes at which something is decided, and usual ones.
-pub const SIZES: [ScreenSize; 18] = [
-    ScreenSize { rows: 24, cols: 80 },
-    ScreenSize { rows: 24, cols: 80 },
+const SIZES: &[ScreenSize] = &[
+    USUAL,
+    USUAL,
     ScreenSize { rows: 24, cols: 10 },
     ScreenSize { rows: 24, cols: 10 },
     ScreenSize { rows: 50, cols: 7 },
@@ -44,7 +47,7 @@ pub const SIZES: [ScreenSize; 18] = [
 ];
 
 /// Keys that the key table has without a modifier.
-const COMMANDS: [KeyCode; 18] = [
+const COMMANDS: &[KeyCode] = &[
     KeyCode::LeftArrow,
     KeyCode::LeftArrow,
     KeyCode::RightArrow,
@@ -66,7 +69,7 @@ const COMMANDS: [KeyCode; 18] = [
 ];
 
 /// All kinds of keys but characters.
-const KEYS: [KeyCode; 20] = [
+const KEYS: &[KeyCode] = &[
     KeyCode::Backspace,
     KeyCode::Tab,
     KeyCode::Enter,
@@ -90,11 +93,11 @@ const KEYS: [KeyCode; 20] = [
 ];
 
 /// Letters that the key table has with the control key.
-const CONTROLS: [char; 19] = [
+const CONTROLS: &[char] = &[
     'C', 'D', 'J', 'M', 'H', 'P', 'N', 'B', 'F', 'W', 'A', 'E', 'L', 'K', 'R', 'R', 'S', 'c', 'Q',
 ];
 
-const HELD: [Modifiers; 5] = [
+const HELD: &[Modifiers] = &[
     Modifiers::NONE,
     Modifiers::SHIFT,
     Modifiers::ALT,
@@ -102,22 +105,28 @@ const HELD: [Modifiers; 5] = [
     Modifiers::SUPER,
 ];
 
+/// Returns texts: of printable ASCII where they are to be plain.
+pub fn texts(plain: bool) -> &'static [&'static str] {
+    if plain { PLAIN } else { WILD }
+}
+
 /// Returns a text: of printable ASCII where it is to be plain.
 pub fn text(numbers: &mut RandomNumbers, plain: bool) -> &'static str {
-    if plain {
-        numbers.pick(&PLAIN, "")
-    } else {
-        numbers.pick(&WILD, "")
-    }
+    numbers.pick(texts(plain), "")
 }
 
 /// Returns a character: of printable ASCII where it is to be plain.
 pub fn letter(numbers: &mut RandomNumbers, plain: bool) -> char {
     if plain {
-        numbers.pick(&LETTERS, ' ')
+        numbers.pick(LETTERS, ' ')
     } else {
-        numbers.pick(&WILD_LETTERS, ' ')
+        numbers.pick(WILD_LETTERS, ' ')
     }
+}
+
+/// Returns a size of any kind.
+pub fn any_size(numbers: &mut RandomNumbers) -> ScreenSize {
+    numbers.pick(SIZES, USUAL)
 }
 
 /// Returns an event. Where it is to be plain it brings printable ASCII alone, and no size.
@@ -129,7 +138,7 @@ pub fn event(
     Ok(match numbers.below(60) {
         0 => InputEvent::Wake,
         1 if !plain => {
-            let size = numbers.pick(&SIZES, SIZES[0]);
+            let size = any_size(numbers);
             InputEvent::Resized {
                 cols: size.cols,
                 rows: size.rows,
@@ -143,20 +152,20 @@ pub fn event(
 /// Returns a key: most often a character.
 fn key(numbers: &mut RandomNumbers, plain: bool) -> KeyEvent {
     match numbers.below(60) {
-        0..=17 => pressed(numbers.pick(&COMMANDS, KeyCode::Tab), Modifiers::NONE),
+        0..=17 => pressed(numbers.pick(COMMANDS, KeyCode::Tab), Modifiers::NONE),
         18..=25 => {
-            let letter = numbers.pick(&CONTROLS, 'L');
+            let letter = numbers.pick(CONTROLS, 'L');
             pressed(KeyCode::Char(letter), Modifiers::CTRL)
         }
         26..=27 => pressed(KeyCode::Char('b'), Modifiers::ALT),
         28..=29 => pressed(KeyCode::Char('f'), Modifiers::ALT),
         30..=32 => {
-            let held = numbers.pick(&HELD, Modifiers::NONE);
-            let more = numbers.pick(&HELD, Modifiers::NONE);
-            pressed(numbers.pick(&KEYS, KeyCode::Tab), held | more)
+            let held = numbers.pick(HELD, Modifiers::NONE);
+            let more = numbers.pick(HELD, Modifiers::NONE);
+            pressed(numbers.pick(KEYS, KeyCode::Tab), held | more)
         }
         33..=34 => {
-            let held = numbers.pick(&HELD, Modifiers::NONE);
+            let held = numbers.pick(HELD, Modifiers::NONE);
             pressed(KeyCode::Char(letter(numbers, plain)), held)
         }
         _ => pressed(KeyCode::Char(letter(numbers, plain)), Modifiers::NONE),

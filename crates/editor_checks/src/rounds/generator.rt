@@ -3,14 +3,14 @@
 use crate::picks::PREVIEWS;
 use crate::random_numbers::RandomNumbers;
 use crate::rounds::actions::action;
-use crate::rounds::events::{SIZES, event, text};
+use crate::rounds::events::{any_size, event, text, texts};
 use crate::rounds::round::{Round, Step};
 use crate::table::Entry;
 use std::alloc::{AllocError, Global};
 use tw_input::InputEvent;
 use tw_terminal::ScreenSize;
 
-const COLUMNS: [Option<usize>; 9] = [
+const COLUMNS: &[Option<usize>] = &[
     None,
     None,
     None,
@@ -22,7 +22,7 @@ const COLUMNS: [Option<usize>; 9] = [
     Some(100),
 ];
 
-const WILD_COLUMNS: [Option<usize>; 12] = [
+const WILD_COLUMNS: &[Option<usize>] = &[
     None,
     None,
     None,
@@ -58,7 +58,7 @@ pub fn round_of(alloc: Global, seed: u64) -> Result<Round, AllocError> {
         preview: preview(numbers, plain),
         column: column(numbers, plain),
         candidates: candidates(alloc, numbers, plain)?,
-        history: history(alloc, numbers, plain)?,
+        history: numbers.pick_below(alloc, 7, texts(plain))?,
         events: events(alloc, numbers, plain)?,
         fault: fault(numbers, plain),
         steps: steps(alloc, numbers, plain)?,
@@ -67,7 +67,7 @@ pub fn round_of(alloc: Global, seed: u64) -> Result<Round, AllocError> {
 
 fn size(numbers: &mut RandomNumbers, plain: bool) -> ScreenSize {
     if !plain && numbers.below(2) == 0 {
-        return numbers.pick(&SIZES, SIZES[0]);
+        return any_size(numbers);
     }
     ScreenSize {
         rows: 24,
@@ -87,14 +87,14 @@ fn preview(numbers: &mut RandomNumbers, plain: bool) -> &'static str {
     if !plain && numbers.below(3) == 0 {
         return text(numbers, plain);
     }
-    numbers.pick(&PREVIEWS, "")
+    numbers.pick(PREVIEWS, "")
 }
 
 fn column(numbers: &mut RandomNumbers, plain: bool) -> Option<usize> {
     if plain {
-        numbers.pick(&COLUMNS, None)
+        numbers.pick(COLUMNS, None)
     } else {
-        numbers.pick(&WILD_COLUMNS, None)
+        numbers.pick(WILD_COLUMNS, None)
     }
 }
 
@@ -114,18 +114,6 @@ fn candidates(
         candidates.push((3, 1, ""))?;
     }
     Ok(candidates)
-}
-
-fn history(
-    alloc: Global,
-    numbers: &mut RandomNumbers,
-    plain: bool,
-) -> Result<Vec<&'static str>, AllocError> {
-    let mut lines = Vec::new(alloc);
-    for _ in 0..numbers.below(7) {
-        lines.push(text(numbers, plain))?;
-    }
-    Ok(lines)
 }
 
 fn events(

@@ -2,8 +2,11 @@
 
 use crate::host::MarkedHost;
 use crate::rounds::count::Count;
+use crate::rounds::generator::round_of;
 use crate::rounds::round::{Round, Step};
 use std::alloc::{AllocError, Global};
+use std::mem;
+use tw_input::InputEvent;
 use tw_lineedit::{Action, Error, History, LineEditor, LineEditorHost};
 use tw_terminal::ScriptTerminal;
 
@@ -44,7 +47,7 @@ impl Notes {
     }
 
     /// Notes a law that does not hold, by these words.
-    pub fn find(&mut self, broken: &str) -> Result<(), AllocError> {
+    fn find(&mut self, broken: &str) -> Result<(), AllocError> {
         self.count.findings = self.count.findings.saturating_add(1);
         write!(self.findings, "{broken}; ")
     }
@@ -52,6 +55,12 @@ impl Notes {
     /// Notes where a law does not hold.
     pub fn expect(&mut self, holds: bool, broken: &str) -> Result<(), AllocError> {
         if holds { Ok(()) } else { self.find(broken) }
+    }
+
+    /// Notes that so many cells of the screen differ after a batch.
+    pub fn find_cells(&mut self, cells: usize, batch: usize) -> Result<(), AllocError> {
+        self.count.findings = self.count.findings.saturating_add(1);
+        write!(self.findings, "{cells} cells differ after batch {batch}; ")
     }
 
     /// Notes what a reading answered.
@@ -130,67 +139,116 @@ impl Notes {
     }
 }
 
-/// Plays a round over a history, which is empty at first, and returns the terminal too.
-pub fn play<L: History + Drop>(
-    alloc: Global,
-    round: Round,
-    history: L,
-) -> Result<(Notes, ScriptTerminal), anyhow::Error> {
-    let mut host = host_of(alloc, &round, history)?;
-    let Round {
-        size,
-        prompt,
-        events,
-        fault,
-        steps,
-        ..
-    } = round;
-    let mut terminal = ScriptTerminal::new(alloc, size, events);
-    if let Some((call, taken)) = fault {
-        terminal.fail_at(call, taken);
-    }
-    let notes = play_steps(alloc, &mut terminal, &mut host, prompt, steps)?;
-    Ok((notes, terminal))
+/// A round, its terminal, and what came of it.
+#[derive(Drop)]
+pub struct Played {
+    /// What is played, but for the events, which the terminal has, and for the steps that were taken.
+    pub round: Round,
+    /// The terminal of the editor.
+    pub terminal: ScriptTerminal,
+    /// What came of it.
+    pub notes: Notes,
+    /// An event brings another size.
+    pub is_resized: bool,
 }
 
-/// Returns the host of a round.
-fn host_of<L: History + Drop>(
-    alloc: Global,
-    round: &Round,
-    history: L,
-) -> Result<MarkedHost<L>, AllocError> {
-    let mut host = MarkedHost::new(alloc, history, round.preview, round.column)?;
-    for line in &round.history {
-        host.remember(line)?;
+impl Played {
+    /// Creates the round of a seed, of which nothing was played.
+    pub fn new(alloc: Global, seed: u64) -> Result<Self, AllocError> {
+        let mut round = round_of(alloc, seed)?;
+        let is_resized = round.events.iter().any(is_size);
+        let events = mem::replace(&mut round.events, Vec::new(alloc));
+        let mut terminal = ScriptTerminal::new(alloc, round.size, events);
+        if let Some((call, taken)) = round.fault {
+            terminal.fail_at(call, taken);
+        }
+        Ok(Played {
+            round,
+            terminal,
+            notes: Notes::new(alloc),
+            is_resized,
+        })
     }
-    for (start, end, text) in &round.candidates {
-        host.offer(alloc, *start..*end, text)?;
+
+    /// Plays the round over a history, which is empty at first.
+    pub fn play<L: History + Drop>(
+        &mut self,
+        alloc: Global,
+        history: L,
+    ) -> Result<(), anyhow::Error> {
+        let mut host = MarkedHost::new(alloc, history, self.round.preview, self.round.column)?;
+        self.play_with(alloc, &mut host)
     }
-    Ok(host)
+
+    /// Fills the host, and takes the steps with it.
+    fn play_with<L: History + Drop>(
+        &mut self,
+        alloc: Global,
+        host: &mut MarkedHost<L>,
+    ) -> Result<(), anyhow::Error> {
+        self.round.fill(alloc, host)?;
+        let prompt = self.round.prompt;
+        let steps = mem::replace(&mut self.round.steps, Vec::new(alloc));
+        play_steps(
+            alloc,
+            &mut self.terminal,
+            host,
+            prompt,
+            steps,
+            &mut self.notes,
+        )
+    }
 }
 
-/// Takes the steps one after the other with one editor.
+fn is_size(event: &InputEvent) -> bool {
+    matches!(event, InputEvent::Resized { .. })
+}
+
+/// Takes the steps with one editor.
 fn play_steps<L: History>(
     alloc: Global,
     terminal: &mut ScriptTerminal,
     host: &mut MarkedHost<L>,
     prompt: &str,
     steps: Vec<Step>,
-) -> Result<Notes, anyhow::Error> {
-    let mut notes = Notes::new(alloc);
+    notes: &mut Notes,
+) -> Result<(), anyhow::Error> {
     let mut editor = LineEditor::new(alloc, terminal)?;
+    take_steps(alloc, &mut editor, host, prompt, steps, notes)
+}
+
+/// Takes steps one after the other, and notes the line after each.
+fn take_steps<L: History>(
+    alloc: Global,
+    editor: &mut Editor<'_>,
+    host: &mut MarkedHost<L>,
+    prompt: &str,
+    steps: Vec<Step>,
+    notes: &mut Notes,
+) -> Result<(), anyhow::Error> {
     editor.set_prompt(prompt)?;
     for step in steps {
-        match step {
-            Step::Read(initial) => read(&mut editor, host, initial, false, &mut notes)?,
-            Step::ReadAndRemember(initial) => read(&mut editor, host, initial, true, &mut notes)?,
-            Step::Act(action) => act(alloc, &mut editor, host, action, &mut notes)?,
-            Step::SetLine(line) => editor.set_line_and_cursor(line, line.len())?,
-        }
+        take_step(alloc, editor, host, step, notes)?;
         let (line, cursor) = editor.get_line_and_cursor();
         notes.line(line, cursor)?;
     }
-    Ok(notes)
+    Ok(())
+}
+
+fn take_step<L: History>(
+    alloc: Global,
+    editor: &mut Editor<'_>,
+    host: &mut MarkedHost<L>,
+    step: Step,
+    notes: &mut Notes,
+) -> Result<(), anyhow::Error> {
+    match step {
+        Step::Read(initial) => read(editor, host, initial, false, notes)?,
+        Step::ReadAndRemember(initial) => read(editor, host, initial, true, notes)?,
+        Step::Act(action) => act(alloc, editor, host, action, notes)?,
+        Step::SetLine(line) => editor.set_line_and_cursor(line, line.len())?,
+    }
+    Ok(())
 }
 
 /// Reads a line. Where one is answered, it is the editor's line; the host may remember it.

@@ -1,8 +1,10 @@
 //! What is played.
 
+use crate::host::MarkedHost;
 use crate::table::Entry;
+use std::alloc::{AllocError, Global};
 use tw_input::InputEvent;
-use tw_lineedit::Action;
+use tw_lineedit::{Action, History};
 use tw_terminal::ScreenSize;
 
 /// What the editor is asked to do.
@@ -43,4 +45,15 @@ pub struct Round {
     pub fault: Option<(usize, usize)>,
     /// What the editor is asked to do.
     pub steps: Vec<Step>,
+}
+
+impl Round {
+    /// Gives a host the history and the candidates.
+    pub fn fill<L: History + Drop>(
+        &self,
+        alloc: Global,
+        host: &mut MarkedHost<L>,
+    ) -> Result<(), AllocError> {
+        host.fill(alloc, &self.history, &self.candidates)
+    }
 }

@@ -1,7 +1,7 @@
 //! Texts from which rounds are made. What stands more than once in a list is picked more often.
 
 /// Texts of printable ASCII.
-pub const PLAIN: [&str; 9] = [
+pub const PLAIN: &[&str] = &[
     "",
     "a",
     "ab",
@@ -14,7 +14,7 @@ pub const PLAIN: [&str; 9] = [
 ];
 
 /// Texts of all kinds: characters of several bytes, of two columns and of none, clusters, and control characters.
-pub const WILD: [&str; 18] = [
+pub const WILD: &[&str] = &[
     "",
     "a",
     "a b c",
@@ -36,10 +36,10 @@ pub const WILD: [&str; 18] = [
 ];
 
 /// Characters of printable ASCII.
-pub const LETTERS: [char; 12] = ['a', 'b', 'c', 'g', 'i', 'l', 'o', 't', ' ', ' ', '~', '!'];
+pub const LETTERS: &[char] = &['a', 'b', 'c', 'g', 'i', 'l', 'o', 't', ' ', ' ', '~', '!'];
 
 /// Characters of all kinds.
-pub const WILD_LETTERS: [char; 14] = [
+pub const WILD_LETTERS: &[char] = &[
     'a',
     'g',
     ' ',
