@@ -6,7 +6,7 @@ use std::test::Fail;
 use test_cases::{expect_cases, hold, play_history};
 use tw_lineedit::{BasicHistory, BoundedHistory};
 
-/// Makes calls on a history that keeps so many lines.
+/// Makes calls on a history that keeps `limit` lines.
 fn play_bounded(alloc: Global, limit: usize, calls: &str) -> Result<String, Fail> {
     if limit == 0 {
         return Err(Fail::from("no limit"));

@@ -58,7 +58,7 @@ fn add_answer(
     }
 }
 
-/// Reads and remembers so many lines. Returns each answer, and what line the editor has once one is refused.
+/// Reads and remembers `count` lines. Returns each answer, and the line of the editor once one is refused.
 fn remember_lines<H: LineEditorHost>(
     alloc: Global,
     terminal: &mut ScriptTerminal,

@@ -10,8 +10,8 @@ use tw_ansi::Encoder;
 use tw_surface::Change;
 use tw_terminal::ScriptTerminal;
 
-/// Plays a trial: what is written for its bytes is compared with what the editor paints that is told its keys. It adds
-/// to the count what was played and found.
+/// Plays a trial, and adds to the count what was played and found: what is written for its bytes is compared with what
+/// the editor paints that is told its keys.
 pub fn replay(alloc: Global, trial: &Trial, count: &mut Count) -> Result<(), anyhow::Error> {
     let mut writes = Writes::new(alloc);
     let endings = read_bytes(alloc, trial, &mut writes)?;

@@ -57,7 +57,7 @@ impl Notes {
         if holds { Ok(()) } else { self.find(broken) }
     }
 
-    /// Notes that so many cells of the screen differ after a batch.
+    /// Notes how many cells of the screen differ after a batch.
     pub fn find_cells(&mut self, cells: usize, batch: usize) -> Result<(), AllocError> {
         self.count.findings = self.count.findings.saturating_add(1);
         write!(self.findings, "{cells} cells differ after batch {batch}; ")
