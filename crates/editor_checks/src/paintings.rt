@@ -1,8 +1,8 @@
 //! Compares each painting of the line editor with a fresh one. An editor paints over what it painted before, by moves
 //! from where it left the cursor, and the screen should show what one painting of its state shows. Trials are played at
-//! widths from 2 to 17, on a blank screen and on a full one, without a bottom row and with one, at heights from 1 to 30.
-//! After each batch the screen is compared with a table whose cells are found by division; with a bottom row only while
-//! no painting has more rows.
+//! widths from 2 to 17, on a blank screen and on a full one, without a bottom row and with one, at heights from 1 to
+//! 30. After each batch the screen is compared with a table whose cells are found by division; with a bottom row only
+//! while no painting has more rows.
 
 mod generator;
 mod play;

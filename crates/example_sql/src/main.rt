@@ -1,5 +1,5 @@
-//! A prompt of a database: `example_sql [-bail] [-history FILE] FILE` runs the statements that it reads on the database in
-//! FILE, or on a new one in memory if that is `:memory:`. `tools/at_terminal` starts it at a terminal.
+//! A prompt of a database: `example_sql [-bail] [-history FILE] FILE` runs the statements that it reads on the database
+//! in FILE, or on a new one in memory if that is `:memory:`. `tools/at_terminal` starts it at a terminal.
 //! docs/SQL_PROMPT.md is for its users.
 //!
 //! `session` has what a line does, `language` what is known of a line while it is typed, `catalog` the names of the

@@ -107,8 +107,8 @@ impl<'a> Session<'a> {
         })
     }
 
-    /// Takes lines up to the end of the session. Returns true if a statement of a script failed, or if an error ended the
-    /// session.
+    /// Takes lines up to the end of the session. Returns true if a statement of a script failed, or if an error ended
+    /// the session.
     pub fn run<S: Alter>(mut self, connection: &mut Connection<S>) -> Result<bool, anyhow::Error> {
         if let Some(unread) = self.prompt.host.history().unread() {
             let told = format!(in self.rt.alloc(); "the history: {unread}")?;
@@ -151,8 +151,8 @@ impl<'a> Session<'a> {
         }
     }
 
-    /// Takes a line: a command if no statement has begun and a point stands first, or else a part of statements, of which
-    /// those run that are whole.
+    /// Takes a line: a command if no statement has begun and a point stands first, or else a part of statements, of
+    /// which those run that are whole.
     fn take_line<S: Alter>(
         &mut self,
         connection: &mut Connection<S>,

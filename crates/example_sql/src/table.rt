@@ -126,8 +126,8 @@ fn push_line(table: &mut String, line: &str, most: usize) -> Result<(), AllocErr
     table.push_str("…\n")
 }
 
-/// Returns rows as a table: the names of the columns, a line under them, the rows, and how many these are. Numbers stand
-/// at the right, and no line takes more than `most` columns of a terminal.
+/// Returns rows as a table: the names of the columns, a line under them, the rows, and how many these are. Numbers
+/// stand at the right, and no line takes more than `most` columns of a terminal.
 pub fn table_text(
     alloc: Global,
     names: &[Bytes],

@@ -46,8 +46,8 @@ pub fn row_stations<A, C>()
 /// Lines of printable rows have rows, whatever their colours are. So have lines that are shown by the text with CR LF
 /// and a continuation prompt for each line feed, as by a host that answers the prompt, that text and the settled column
 /// in it; so answers a prompt that shows in rows what a host shows of a printable line, in whatever colours. In a fresh
-/// painting of them the prompts, each character and the cursor stand in the cells that division gives. With nothing under
-/// the line its last row is that of the cell after the line.
+/// painting of them the prompts, each character and the cursor stand in the cells that division gives. With nothing
+/// under the line its last row is that of the cell after the line.
 pub fn row_cells<A, C>()
     ensures plain { (pen : Pen A C) → PlainRowsAreRows pen }
     ensures rows { RowsAnswerLine }
@@ -85,31 +85,31 @@ pub fn sent_rows<H: LineEditorHost, A, C>()
     ensures healed_closings { (pen : Pen A C) → HealedRowClosingsAreShown H.rules pen }
 {}
 
-/// A watch that follows the actions of a host says at each event of a run whether the editor searches, if it does at the
-/// beginning; so it does in each reading that begins while it is off, and after a line that was accepted or cancelled it
-/// is off again.
+/// A watch that follows the actions of a host says at each event of a run whether the editor searches, if it does at
+/// the beginning; so it does in each reading that begins while it is off, and after a line that was accepted or
+/// cancelled it is off again.
 pub fn watch<H: LineEditorHost>()
     ensures runs { (watch : H.Value → Bool) → TellsRuns H.rules watch }
     ensures readings { (watch : H.Value → Bool) → TellsReadings H.rules watch }
     ensures off { (watch : H.Value → Bool) → IsOffBehindLines H.rules watch }
 {}
 
-/// A prompt knows at each event of a reading whether the editor searches, and is out of any search after a line that was
-/// accepted or cancelled.
+/// A prompt knows at each event of a reading whether the editor searches, and is out of any search after a line that
+/// was accepted or cancelled.
 pub fn searches<H: LineEditorHost, K: KeyPart>()
     ensures known { KnowsSearches K.keys H.rules }
     ensures left { LeavesSearches K.keys H.rules }
 {}
 
-/// No action gives back the line before a search in its place: where the line is edited after one that ends a search, it
-/// is the line that was found, or a completion of it, whose cursor stands as far from the end as in that line.
+/// No action gives back the line before a search in its place: where the line is edited after one that ends a search,
+/// it is the line that was found, or a completion of it, whose cursor stands as far from the end as in that line.
 pub fn search_ends<H: LineEditorHost>()
     ensures brought { BringsFound H.rules }
     ensures completed { CompletesFound H.rules }
 {}
 
-/// At each event of a reading that begins at rest the line under an open menu is the line before the completion with the
-/// candidate that the menu marks. After a line that was accepted or cancelled there is no menu.
+/// At each event of a reading that begins at rest the line under an open menu is the line before the completion with
+/// the candidate that the menu marks. After a line that was accepted or cancelled there is no menu.
 pub fn menus<H: LineEditorHost, K: KeyPart>()
     ensures told { TellsLines K.keys H.rules }
     ensures closed { ClosesAfterLines K.keys H.rules }

@@ -1,11 +1,11 @@
 //! A small command prompt at a terminal in raw mode; `prompt.sh` starts it. It keeps the last lines, with hints from
 //! them, completes commands and their arguments by a menu, shows them in bold, has a hint under a line that begins with
-//! a question mark, and begins a row in a line in which a bracket or a quotation is open. It ends at `quit`, at Ctrl-D on
-//! an empty line, and at the end of what is typed. With the argument `sparing` the terminal is sent what
-//! differs, with `patient` also nothing while more keys are at hand, and else all that is painted.
+//! a question mark, and begins a row in a line in which a bracket or a quotation is open. It ends at `quit`, at Ctrl-D
+//! on an empty line, and at the end of what is typed. With the argument `sparing` the terminal is sent what differs,
+//! with `patient` also nothing while more keys are at hand, and else all that is painted.
 //!
-//! `tables` has what the prompt knows, `completers` what completes the arguments of commands, and `host` the host, which
-//! is made of ready parts.
+//! `tables` has what the prompt knows, `completers` what completes the arguments of commands, and `host` the host,
+//! which is made of ready parts.
 #![tactic(auto)]
 
 mod completers;
@@ -44,7 +44,8 @@ fn obey<T: DeviceTerminal + Drop>(
     Ok(true)
 }
 
-/// Reads a line and obeys it. Returns false if there is to be no other. File names are those that the directory has now.
+/// Reads a line and obeys it. Returns false if there is to be no other. File names are those that the directory has
+/// now.
 fn read_and_obey<T: DeviceTerminal + Drop>(
     rt: HostRuntime,
     prompt: &mut DemoPrompt<T>,

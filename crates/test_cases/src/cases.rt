@@ -65,9 +65,9 @@ fn add_unlike(
     Ok(())
 }
 
-/// Plays cases and fails with those from which something else comes than is wanted. A case has the lines of what is done,
-/// below `--` the lines that are wanted, and ends with `==`. Below a line `..` of these stand ends of some of the lines
-/// that come.
+/// Plays cases and fails with those from which something else comes than is wanted. A case has the lines of what is
+/// done, below `--` the lines that are wanted, and ends with `==`. Below a line `..` of these stand ends of some of the
+/// lines that come.
 pub fn expect_cases<F: Fn(Global, &str) -> Result<String, Fail>>(
     alloc: Global,
     cases: &str,

@@ -276,8 +276,8 @@ fn held_answer(
 }
 
 /// Feeds a line the events of a case, with marks round the calls of one kind, and returns what it answers with memory.
-/// If one of them is refused, what the terminal took is what it takes if the line is finished before that event. No line
-/// is open then, and another one can be begun.
+/// If one of them is refused, what the terminal took is what it takes if the line is finished before that event. No
+/// line is open then, and another one can be begun.
 pub fn refused_feeding<H: LineEditorHost>(
     alloc: Global,
     case: &Case<'_>,

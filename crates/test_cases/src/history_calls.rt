@@ -79,9 +79,9 @@ fn get<L: History>(
     Ok(())
 }
 
-/// Makes the calls of these lines on a history, and returns what comes of them. `have TEXT` adds a line; `add TEXT` does
-/// so between marks, and shows all lines; `last` shows the last index, `get INDEX` a line, and `back INDEX PATTERN` and
-/// `forth INDEX PATTERN` what a search finds.
+/// Makes the calls of these lines on a history, and returns what comes of them. `have TEXT` adds a line; `add TEXT`
+/// does so between marks, and shows all lines; `last` shows the last index, `get INDEX` a line, and `back INDEX
+/// PATTERN` and `forth INDEX PATTERN` what a search finds.
 pub fn play_history<L: History>(
     alloc: Global,
     history: &mut L,

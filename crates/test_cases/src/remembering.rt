@@ -107,8 +107,8 @@ fn remembered_by<H: LineEditorHost>(
     Ok(Box::new(alloc, reading)?)
 }
 
-/// Tests a refused reading: the history's lines stay, and what the terminal took before the closing batch is a beginning
-/// of what it takes with memory. If the line was read, only the history lacks it.
+/// Tests a refused reading: the history's lines stay, and what the terminal took before the closing batch is a
+/// beginning of what it takes with memory. If the line was read, only the history lacks it.
 fn hold_refusal(
     events: &str,
     refused: &Remembered,
@@ -167,8 +167,8 @@ fn held_answer(
     Ok(wanted)
 }
 
-/// Reads the line of a case between marks, which the host then has in its history. Returns what the reading answers with
-/// memory, and the lines of the history after it, a bar after each. If it is refused, the history is as before.
+/// Reads the line of a case between marks, which the host then has in its history. Returns what the reading answers
+/// with memory, and the lines of the history after it, a bar after each. If it is refused, the history is as before.
 pub fn refused_remembering(alloc: Global, case: &Case<'_>) -> Result<String, Fail> {
     let with_memory = reading_of(alloc, case, false)?;
     let outcome = reading_of(alloc, case, true)?;

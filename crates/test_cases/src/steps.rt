@@ -183,9 +183,10 @@ fn take_step<H: LineEditorHost>(
 }
 
 /// Takes the steps of a case with a new editor. Returns what came of them and the terminal. `line CURSOR TEXT` sets the
-/// line, `set CURSOR TEXT` too, between marks; `ask TEXT` sets the prompt; `remember TEXT` adds to the history; `act NAMES` applies the actions of
-/// these names; `do NAME` applies one between marks, and shows line and cursor, with its refusal if it is refused;
-/// `actions NAMES` applies each between marks, and shows line and cursor; `read` shows the answer of a reading.
+/// line, `set CURSOR TEXT` too, between marks; `ask TEXT` sets the prompt; `remember TEXT` adds to the history; `act
+/// NAMES` applies the actions of these names; `do NAME` applies one between marks, and shows line and cursor, with its
+/// refusal if it is refused; `actions NAMES` applies each between marks, and shows line and cursor; `read` shows the
+/// answer of a reading.
 pub fn steps_of<H: LineEditorHost>(
     alloc: Global,
     case: &Case<'_>,

@@ -147,8 +147,8 @@ fn unlike_runs<F: FnMut(Global, &str) -> Result<String, Fail>>(
     Ok(unlike)
 }
 
-/// Plays rows and fails with those that have another output. A row is a line `INPUT => OUTPUT`, with escapes; empty lines
-/// and `//` comments are skipped.
+/// Plays rows and fails with those that have another output. A row is a line `INPUT => OUTPUT`, with escapes; empty
+/// lines and `//` comments are skipped.
 pub fn expect_rows<F: FnMut(Global, &str) -> Result<String, Fail>>(
     alloc: Global,
     rows: &str,

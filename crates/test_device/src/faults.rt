@@ -13,7 +13,8 @@ use tw_terminal::ScreenSize;
 /// The size of the screen.
 const SIZE: ScreenSize = ScreenSize { rows: 8, cols: 12 };
 
-/// A writer that keeps what it takes. The write or the flush of one number, from 1, fails; the write takes its first half.
+/// A writer that keeps what it takes. The write or the flush of one number, from 1, fails; the write takes its first
+/// half.
 #[derive(Drop)]
 struct Flaky<'a> {
     taken: &'a mut Vec<u8>,
@@ -106,8 +107,9 @@ where
     Ok([first, second, third])
 }
 
-/// Reads three lines at the terminal of a row, `KIND write` or `KIND flush`, once for each of the first calls that fails.
-/// Returns how often a reading was refused, and the first screen on which a reading after it does not stand as it should.
+/// Reads three lines at the terminal of a row, `KIND write` or `KIND flush`, once for each of the first calls that
+/// fails. Returns how often a reading was refused, and the first screen on which a reading after it does not stand as
+/// it should.
 fn play(alloc: Global, row: &str) -> Result<String, Fail> {
     let (kind, call) = row.split_once(' ').ok_or("no call")?;
     let mut refused: usize = 0;

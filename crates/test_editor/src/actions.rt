@@ -170,8 +170,8 @@ fn play_completions(alloc: Global, lines: &str) -> Result<String, Fail> {
     Ok(all)
 }
 
-/// A candidate misfits whose range ends after the line, is reversed or cuts a character, or after which the cursor would
-/// come before the line or into a character.
+/// A candidate misfits whose range ends after the line, is reversed or cuts a character, or after which the cursor
+/// would come before the line or into a character.
 const CANDIDATES: &str = "\
 6 why he; 4 6 hello
 0 ab; 0 2 

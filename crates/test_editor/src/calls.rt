@@ -132,8 +132,8 @@ fn listing_of(alloc: Global, case: &Case<'_>, fault: TerminalFault) -> Result<Li
     })
 }
 
-/// Applies the actions of a case and reads its line on a terminal that answers this fault. Returns the answers, what the
-/// terminal was left with, each batch if these are shown, and the calls.
+/// Applies the actions of a case and reads its line on a terminal that answers this fault. Returns the answers, what
+/// the terminal was left with, each batch if these are shown, and the calls.
 fn called(alloc: Global, case: &Case<'_>, fault: TerminalFault) -> Result<String, Fail> {
     let mut outcome = String::new(alloc);
     let mut terminal = listing_of(alloc, case, fault)?;

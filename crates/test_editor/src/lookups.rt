@@ -24,7 +24,8 @@ fn play_all(alloc: Global, calls: &str) -> Result<String, Fail> {
     Ok(basic)
 }
 
-/// Makes calls on a history of each kind, which keep all lines; or, if they begin with `keep LINES`, on one that forgets.
+/// Makes calls on a history of each kind, which keep all lines; or, if they begin with `keep LINES`, on one that
+/// forgets.
 fn play_lookups(alloc: Global, calls: &str) -> Result<String, Fail> {
     let Some(rest) = calls.strip_prefix("keep ") else {
         return play_all(alloc, calls);

@@ -132,8 +132,8 @@ fn is_setup(alloc: Global, prompt: &mut Prompt, command: &str) -> Result<bool, F
     Ok(true)
 }
 
-/// Runs commands, separated by `; `, on a new prompt, and returns their answers: a script (its line), `ends TEXT` (`yes`
-/// if the last painting ends with the text, and else the painting), or those of `is_setup`.
+/// Runs commands, separated by `; `, on a new prompt, and returns their answers: a script (its line), `ends TEXT`
+/// (`yes` if the last painting ends with the text, and else the painting), or those of `is_setup`.
 pub fn read_all(alloc: Global, commands: &str) -> Result<String, Fail> {
     let mut prompt = new_prompt(alloc)?;
     read_with(alloc, &mut prompt, commands)

@@ -26,8 +26,8 @@ impl Shape<'_> {
         Ok((row.saturating_add(down), col))
     }
 
-    /// Returns the row of the screen in which the last row of a text begins, and the columns before it and in it. Each row
-    /// before it takes one row of the screen, and one more for each time that its columns fill one.
+    /// Returns the row of the screen in which the last row of a text begins, and the columns before it and in it. Each
+    /// row before it takes one row of the screen, and one more for each time that its columns fill one.
     fn last_row(self, text: &str) -> Result<(usize, usize), Fail> {
         let mut start: usize = 0;
         let mut count = self.prompt.len();

@@ -148,8 +148,8 @@ fn screen_text(alloc: Global, screen: &Screen) -> Result<String, AllocError> {
     Ok(text)
 }
 
-/// Applies changes to a screen of 5 columns between marks. A refused one leaves every cell and the cursor, and is applied
-/// again. Returns what each shows.
+/// Applies changes to a screen of 5 columns between marks. A refused one leaves every cell and the cursor, and is
+/// applied again. Returns what each shows.
 fn play_screen(alloc: Global, lines: &str) -> Result<String, Fail> {
     let mut screen = Screen::new(alloc, 5)?;
     let mut outcome = String::new(alloc);

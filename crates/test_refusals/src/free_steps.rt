@@ -100,8 +100,8 @@ fn actions_with_nothing_to_do_without_memory(rt: HostRuntime) -> Result<(), Fail
     expect_cases(rt.alloc(), NOTHING_TO_DO, play_steps)
 }
 
-/// A new editor and its line, calls of a line that is fed its events while none is open, and readings in a mode that was
-/// left.
+/// A new editor and its line, calls of a line that is fed its events while none is open, and readings in a mode that
+/// was left.
 #[test]
 fn calls_of_a_new_editor_without_memory(rt: HostRuntime) -> Result<(), Fail> {
     let alloc = rt.alloc();

@@ -15,8 +15,8 @@ pub fn changed()
     ensures { ChangedIsShown }
 {}
 
-/// Where nothing differs nothing is sent, and of printable characters that were typed at the cursor, under the attributes
-/// that are selected, these alone: in its row, or through the rows where the screen ends with them.
+/// Where nothing differs nothing is sent, and of printable characters that were typed at the cursor, under the
+/// attributes that are selected, these alone: in its row, or through the rows where the screen ends with them.
 pub fn shortness()
     ensures nothing { NothingIsSentForNothing }
     ensures typed { TypedIsSentAlone }

@@ -299,8 +299,8 @@ impl Redrawer {
         self.hand_over(reached, to, out)
     }
 
-    /// Makes one screen of another. What goes on at the cursor is typed. Else the last row comes into sight, what stands
-    /// after the end of the new screen is emptied, and the rows that differ are typed.
+    /// Makes one screen of another. What goes on at the cursor is typed. Else the last row comes into sight, what
+    /// stands after the end of the new screen is emptied, and the rows that differ are typed.
     fn redraw(
         &mut self,
         old: &StyledScreen,

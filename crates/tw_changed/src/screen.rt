@@ -25,8 +25,8 @@ const LAST_ROW: usize = 4_294_967_295;
 
 /// A screen without a bottom: a character under its attributes in each cell, and a cursor. Rows and columns are
 /// numbered from 0, and the cursor's column is the width where it waits after the last column. It keeps the cells of
-/// all rows down to the last one that was written, and each character takes one of them. If it `is_plain`, text is typed
-/// under the default attributes. All cells have these from the place `plain_from` on, if it is known.
+/// all rows down to the last one that was written, and each character takes one of them. If it `is_plain`, text is
+/// typed under the default attributes. All cells have these from the place `plain_from` on, if it is known.
 #[derive(Debug, Drop)]
 pub struct StyledScreen {
     width: usize,

@@ -27,8 +27,8 @@ pub trait Application {
         Ok(Vec::new(alloc))
     }
 
-    /// Returns the parts of a line with its cursor at the byte offset `cursor` that are shown in attributes of their own:
-    /// none by default.
+    /// Returns the parts of a line with its cursor at the byte offset `cursor` that are shown in attributes of their
+    /// own: none by default.
     fn colours(
         &self,
         alloc: Global,
@@ -38,8 +38,8 @@ pub trait Application {
         Ok(Vec::new(alloc))
     }
 
-    /// Returns what a line lacks, or `None`, the default, if it may be accepted. In a prompt that shows rows Enter begins
-    /// a row in a line that lacks something, and in others the text is shown under the line.
+    /// Returns what a line lacks, or `None`, the default, if it may be accepted. In a prompt that shows rows Enter
+    /// begins a row in a line that lacks something, and in others the text is shown under the line.
     fn lack(&self, _alloc: Global, _line: &str) -> Result<Option<String>, AllocError> {
         Ok(None)
     }
@@ -175,10 +175,10 @@ fn take_events<
     Err(Error::Terminal(TerminalFault::Device))
 }
 
-/// Reads a line with a new editor, as `read_line_from` of `tw_device` does, and asks the application between two events:
-/// for what completes the line before a Tab, and after each event for the colours of the line, for what it lacks, and for
-/// news to print above it. The line is painted twice then: give it a `PatientTerminal`, which sends only the second
-/// painting.
+/// Reads a line with a new editor, as `read_line_from` of `tw_device` does, and asks the application between two
+/// events: for what completes the line before a Tab, and after each event for the colours of the line, for what it
+/// lacks, and for news to print above it. The line is painted twice then: give it a `PatientTerminal`, which sends only
+/// the second painting.
 pub fn read_with<
     A: Application,
     S: EventSource,

@@ -1,8 +1,8 @@
 //! What a prompt at a terminal in raw mode needs beside a host: what is typed, as events, and what the terminal is sent
 //! at first and in the end.
 //!
-//! `TypedEvents::new` has the events of standard input, `usable` the size that a terminal tells, `BEGIN` and `END` what it
-//! is sent at first and in the end, and `read_listing` the names in a directory.
+//! `TypedEvents::new` has the events of standard input, `usable` the size that a terminal tells, `BEGIN` and `END` what
+//! it is sent at first and in the end, and `read_listing` the names in a directory.
 #![tactic(auto)]
 
 mod application;

@@ -37,8 +37,8 @@ pub type PromptTerminal = PatientTerminal<TerminalOutput>;
 /// A prompt in a program that `tools/at_terminal` starts. At a pipe it reads plain lines and shows no prompt.
 #[derive(Drop)]
 pub struct Prompt<T, H, L, K, V> {
-    /// The host: what shows and completes the line, the history, the keys. It is boxed, since a program that owns all of
-    /// its fields takes minutes to prove.
+    /// The host: what shows and completes the line, the history, the keys. It is boxed, since a program that owns all
+    /// of its fields takes minutes to prove.
     pub host: Box<PromptHost<H, L, K, V>>,
     /// True if accepted lines that are not empty go into the history.
     pub remembers: bool,
@@ -188,7 +188,8 @@ impl<
         }
     }
 
-    /// Prints lines, which end with CR LF at a terminal. An unfinished last line is ended, and of no line nothing is sent.
+    /// Prints lines, which end with CR LF at a terminal. An unfinished last line is ended, and of no line nothing is
+    /// sent.
     pub fn print(&mut self, text: &str) -> Result<(), Error> {
         let end = match &*self.place {
             Place::Pipe => "\n",

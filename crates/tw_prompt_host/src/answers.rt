@@ -100,8 +100,8 @@ pub fn done<'a>(
     }
 }
 
-/// Replaces an action, or else the key table's, that would accept a line which is kept: it begins a row, or does nothing.
-/// Returns true if it is held back.
+/// Replaces an action, or else the key table's, that would accept a line which is kept: it begins a row, or does
+/// nothing. Returns true if it is held back.
 pub fn judged(
     keeps: bool,
     opens: bool,
@@ -125,8 +125,8 @@ pub fn judged(
     }
 }
 
-/// Returns true if the prompt says that a search fails: accepting the line was held back, or nothing was answered and it
-/// fails by the key table's action.
+/// Returns true if the prompt says that a search fails: accepting the line was held back, or nothing was answered and
+/// it fails by the key table's action.
 pub fn says_failing(back: bool, action: Option<&Action>, fails: bool) -> bool
     ensures { result ≡ says_failing back (lent_action action.entry) fails }
 {

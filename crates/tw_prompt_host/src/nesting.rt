@@ -13,8 +13,8 @@ use std::alloc::{AllocError, Global};
 /// The marks that a text leaves open, or its first wrong one.
 #[derive(Debug, Drop)]
 pub enum Nesting {
-    /// The marks that are open at the end of the text, the outermost first. If there are none the text is whole. An escape
-    /// character at the end is open too.
+    /// The marks that are open at the end of the text, the outermost first. If there are none the text is whole. An
+    /// escape character at the end is open too.
     Open(Vec<OpenMark>),
     /// The first mark that closes what is not open, and its byte offset.
     Wrong(char, usize),
@@ -27,8 +27,8 @@ fn innermost(opens: &[OpenMark]) -> Option<OpenMark>
     opens.last().copied()
 }
 
-/// Takes in a character outside of quotations that does not close the innermost open mark. Returns false if it is wrong.
-/// `letters` is true if no letter is a mark.
+/// Takes in a character outside of quotations that does not close the innermost open mark. Returns false if it is
+/// wrong. `letters` is true if no letter is a mark.
 fn take_opening(
     pairs: &[MarkPair],
     letters: bool,

@@ -65,8 +65,8 @@ fn show_range<'line>(
     Ok((shown, after))
 }
 
-/// Shows a line with ranges in their attributes. What no range has is plain. Each range is cut to whole characters of the
-/// line that no range before it has, so that the text that is shown is the line whatever the ranges are.
+/// Shows a line with ranges in their attributes. What no range has is plain. Each range is cut to whole characters of
+/// the line that no range before it has, so that the text that is shown is the line whatever the ranges are.
 pub fn styled_ranges(
     alloc: Global,
     ranges: &[StyledRange],

@@ -69,8 +69,8 @@ pub struct PromptHost<H, L, K, V> {
     pub menu: MenuStyle,
     /// The screen and the prompt, for the column of the cursor.
     pub screen: PromptScreen,
-    /// How a line of several rows is shown. If it is shown in rows, accepting a line that is not whole begins a row. Put
-    /// `RowKeys` before other parts then.
+    /// How a line of several rows is shown. If it is shown in rows, accepting a line that is not whole begins a row.
+    /// Put `RowKeys` before other parts then.
     pub rows: Rows,
     /// The state of the current line.
     pub going: Going,
@@ -329,8 +329,8 @@ impl<H: LineEditorHost, L: History + LentLines, K: KeyPart, V: Validator> Prompt
         Ok(action)
     }
 
-    /// Answers an event at a line, which `editor` holds unless the line comes back, with what a part keeps of it and where
-    /// it turns the menu. Makes the parts ready to follow.
+    /// Answers an event at a line, which `editor` holds unless the line comes back, with what a part keeps of it and
+    /// where it turns the menu. Makes the parts ready to follow.
     fn answer(
         &mut self,
         alloc: Global,

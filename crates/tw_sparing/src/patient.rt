@@ -80,9 +80,9 @@ impl<W: Write> PatientTerminal<W> {
         self.is_more = is_more;
     }
 
-    /// Sets the size, which nothing else changes. What is kept back is sent first, as one difference. If that is refused,
-    /// the batches that were kept back are lost, and a beginning of it may have been sent. It is not counted as a
-    /// failure, since no call of `Terminal` has failed. What the terminal shows is not known afterwards.
+    /// Sets the size, which nothing else changes. What is kept back is sent first, as one difference. If that is
+    /// refused, the batches that were kept back are lost, and a beginning of it may have been sent. It is not counted
+    /// as a failure, since no call of `Terminal` has failed. What the terminal shows is not known afterwards.
     pub fn set_screen_size(&mut self, size: ScreenSize)
         ensures state { patient_state self.new ≡ record (patient_state self.old) { size = size } }
         ensures ahead { self.new.ahead ≡ settled_at size None }
@@ -122,8 +122,8 @@ impl<W: Write> PatientTerminal<W> {
         Ok(())
     }
 
-    /// Sends what is kept back, and returns what is then known, which it does not yet keep. What is refused is lost. What
-    /// the terminal shows is not known afterwards.
+    /// Sends what is kept back, and returns what is then known, which it does not yet keep. What is refused is lost.
+    /// What the terminal shows is not known afterwards.
     fn catch_up(&mut self) -> Result<Encoder, TerminalFault>
         ensures state { patient_state self.new ≡ patient_state self.old }
         ensures encoder { self.new.encoder ≡ self.old.encoder }
@@ -273,11 +273,11 @@ impl<W: Write> Terminal for PatientTerminal<W> {
         Ok(None)
     }
 
-    /// Keeps the batch back if more is at hand and one difference takes it with all that is kept back. Else sends both at
-    /// once, in one write: as one difference, or one after the other, each as what differs or by its changes. If memory is
-    /// refused nothing is sent, and if the writer refuses a beginning may have been. The batch and those that were kept
-    /// back are lost then, and it is not known what the terminal shows. The next batch is sent, unless it is said once
-    /// more that more is at hand.
+    /// Keeps the batch back if more is at hand and one difference takes it with all that is kept back. Else sends both
+    /// at once, in one write: as one difference, or one after the other, each as what differs or by its changes. If
+    /// memory is refused nothing is sent, and if the writer refuses a beginning may have been. The batch and those that
+    /// were kept back are lost then, and it is not known what the terminal shows. The next batch is sent, unless it is
+    /// said once more that more is at hand.
     fn render(&mut self, changes: &[Change]) -> Result<(), TerminalFault>
         ensures ok { OnOk result (Renders (batch_view changes.now) (patient_state self.old)
             (patient_state self.new)) }
@@ -298,8 +298,8 @@ impl<W: Write> Terminal for PatientTerminal<W> {
         }
     }
 
-    /// Flushes the writer, to which it adds no byte. If something is kept back it does nothing, and is not refused: what is
-    /// kept back is flushed with what is sent next.
+    /// Flushes the writer, to which it adds no byte. If something is kept back it does nothing, and is not refused:
+    /// what is kept back is flushed with what is sent next.
     fn flush(&mut self) -> Result<(), TerminalFault>
         ensures ok { OnOk result (Flushes (patient_state self.old) (patient_state self.new)) }
         ensures err { OnErr result (Fails (patient_state self.old) (patient_state self.new)) }

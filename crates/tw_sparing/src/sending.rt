@@ -38,7 +38,8 @@ fn gone_rows(rows: usize, old: &Shown, new: &Shown) -> usize
     }
 }
 
-/// Adds what differs of two screens in the rows that have not left a terminal of `rows` rows, and returns what is then known.
+/// Adds what differs of two screens in the rows that have not left a terminal of `rows` rows, and returns what is then
+/// known.
 pub fn send_known(
     alloc: Global,
     rows: usize,

@@ -150,8 +150,8 @@ impl Shown {
         })
     }
 
-    /// Returns what is shown once two changes are played, on a terminal of `rows` rows, if the first one leads to column 0
-    /// of a row in sight, and the second one empties all from there on.
+    /// Returns what is shown once two changes are played, on a terminal of `rows` rows, if the first one leads to
+    /// column 0 of a row in sight, and the second one empties all from there on.
     fn emptied_by(
         &self,
         alloc: Global,
@@ -183,8 +183,8 @@ impl Shown {
         })
     }
 
-    /// Returns what is shown once a beginning of a batch is played on it, on a terminal of `rows` rows, and what is left
-    /// of the batch. The cells that a painting empties first are not copied.
+    /// Returns what is shown once a beginning of a batch is played on it, on a terminal of `rows` rows, and what is
+    /// left of the batch. The cells that a painting empties first are not copied.
     fn begun<'a>(
         &self,
         alloc: Global,

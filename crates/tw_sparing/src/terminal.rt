@@ -186,9 +186,9 @@ impl<W: Write> Terminal for SparingTerminal<W> {
         Ok(None)
     }
 
-    /// Sends at once what differs, or the bytes of the changes if it is not known what the terminal shows. If the writer
-    /// refuses, a beginning of them may have been sent, and if memory is refused none. What the terminal shows is not
-    /// known then.
+    /// Sends at once what differs, or the bytes of the changes if it is not known what the terminal shows. If the
+    /// writer refuses, a beginning of them may have been sent, and if memory is refused none. What the terminal shows
+    /// is not known then.
     fn render(&mut self, changes: &[Change]) -> Result<(), TerminalFault>
         ensures ok { OnOk result (Renders (batch_view changes.now) (sparing_state self.old)
             (sparing_state self.new)) }
