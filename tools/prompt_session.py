@@ -29,11 +29,6 @@ def want(holds, what):
         raise Differs(what)
 
 
-def waiting_at(descriptor):
-    """Returns how many bytes can be read from a terminal."""
-    return struct.unpack("i", fcntl.ioctl(descriptor, termios.FIONREAD, bytes(4)))[0]
-
-
 def wait_for_state(process, state):
     """Waits until a process is in a state, as the kernel tells it."""
     until = time.monotonic() + LIMIT
@@ -103,18 +98,6 @@ class Session:
     def type(self, keys):
         """Types bytes."""
         os.write(self.master, keys)
-
-    def type_ahead(self, keys):
-        """Types bytes while the program is stopped, which then finds all of them at hand."""
-        until = time.monotonic() + LIMIT
-        (program,) = self.left()
-        os.kill(program, signal.SIGSTOP)
-        wait_for_state(program, "T")
-        self.type(keys)
-        while waiting_at(self.slave) < len(keys):
-            want(time.monotonic() < until, f"only {waiting_at(self.slave)} bytes come to the terminal")
-            time.sleep(0.001)
-        os.kill(program, signal.SIGCONT)
 
     def look(self, seconds):
         """Takes what is sent within this time, and answers where the terminal is asked for its size."""
