@@ -16,7 +16,9 @@ use crate::sequence::{
     send_attributes,
 };
 use std::alloc::AllocError;
-use tw_surface::{AttributeChange, CellAttributes, Change, ColorAttribute, Position};
+use tw_surface::{
+    AttributeChange, CellAttributes, Change, ColorAttribute, Position, is_plain_text,
+};
 use unicode_segmentation::UnicodeSegmentation;
 use unicode_width::UnicodeWidthStr;
 
@@ -363,13 +365,6 @@ impl Encoder {
         };
         to.min(self.cols.saturating_sub(1))
     }
-}
-
-/// Returns true if each character of a text is printable ASCII, CR or LF.
-fn is_plain_text(text: &[u8]) -> bool
-    ensures { result ≡ list_all is_plain text.now }
-{
-    text.iter().all(|byte| *byte == b'\r' || *byte == b'\n' || (0x20..=0x7e).contains(byte))
 }
 
 /// Returns true if a control character is in a text.

@@ -15,7 +15,9 @@ ghost use Rattle.tw_changed.specs.StyledScreens.{AreDrawn, IsPlainFrom, IsPutAt,
 use crate::cell::ScreenCell;
 use std::alloc::{AllocError, Global};
 use std::marker::Model;
-use tw_surface::{CellAttributes, Change, ColorAttribute, Position, ScreenFault, SizeFault};
+use tw_surface::{
+    CellAttributes, Change, ColorAttribute, Position, ScreenFault, SizeFault, is_printable_text,
+};
 
 /// The greatest width.
 const MAX_WIDTH: usize = 65_535;
@@ -338,7 +340,7 @@ impl StyledScreen {
         !text.is_empty()
             && self.place() == self.cells.len()
             && self.cells.len().saturating_add(text.len()) <= LAST_ROW
-            && is_typed(text)
+            && is_printable_text(text)
     }
 
     /// Types printable characters behind all cells.
@@ -435,13 +437,6 @@ fn led_to(position: Position, at: usize) -> usize
         Position::Absolute(to) => to,
         Position::Relative(by) => at.saturating_add_signed(by),
     }
-}
-
-/// Returns true if all bytes of a text are printable characters of ASCII.
-fn is_typed(text: &[u8]) -> bool
-    ensures { result ≡ list_all is_printable text.now }
-{
-    text.iter().all(|byte| matches!(byte, b' '..=b'~'))
 }
 
 /// Adds a cell for each byte of a text. A refusal leaves them as they were.

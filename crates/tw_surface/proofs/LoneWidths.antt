@@ -1,11 +1,13 @@
 -- The columns of characters that are a cluster each in a row of them.
-use Rattle.std.proofs.Common.{◌≡◌, ℕ, ◌<◌, ◌≤◌, Bool, true, false, not, ◌&&◌, ◌||◌, ◌-◌, eqb, leb, nat_lt, List, [], ◌∷◌, ◌++◌, length, length-append, get_or, take, take_at, drop, drop_at, refl, sym, ap, ap₂, subst, ◌∙◌, arith, append-nil, ⊎_elim}
+use Rattle.std.proofs.Common.{◌≡◌, ℕ, ◌<◌, ◌≤◌, Bool, true, false, not, ◌&&◌, ◌||◌, ◌-◌, eqb, leb, nat_lt, List, [], ◌∷◌, ◌++◌, length, length-append, get_or, take, take_at, drop, drop_at, refl, sym, ap, ap₂, subst, ◌∙◌, arith, append-nil, ⊎_elim, ◌+◌}
 use Rattle.std.proofs.lemmas.Bool.{false≢true, and_from, and_parts, leb-true, cases_Bool, cases_lt, cases_eq}
 use Rattle.std.proofs.lemmas.Bool.Decides.{nat_tests}
-use Rattle.std.proofs.lemmas.Str.{chars_past_char, scalars-chars, IsUtf8-encode, IsUtf8-past_char}
+use Rattle.std.proofs.lemmas.Str.{chars-nil, chars_past_char, scalars-chars, IsUtf8-encode, IsUtf8-past_char}
 use Rattle.std.proofs.Math.Utf8.{scalar, scalars}
 use Rattle.std.specs.Char.{encode_utf8}
+use Rattle.std.specs.Prelude.{encode_utf8_all}
 use Rattle.std.specs.Str.{chars, IsUtf8}
+use Rattle.std.specs.List.{list_all}
 use Rattle.ucd_table.specs.Rows.{Range, in_ranges}
 use Rattle.ucd_table.proofs.Computing.{tables}
 use Rattle.ucd_table.proofs.Facts.{Stepped-everywhere}
@@ -14,10 +16,12 @@ use Rattle.unicode_segmentation.specs.Grapheme.{graphemes}
 use Rattle.unicode_width.specs.declared.kind.Kind.{Kind}
 use Rattle.unicode_width.specs.declared.kind.Kind.TheVariants as kinds
 use Rattle.unicode_width.specs.Kind.{kind}
-use Rattle.unicode_width.specs.Width.{of_kind, alone, in_context, joins, past_emoji, past_selectors, step, str_width}
+use Rattle.unicode_width.specs.declared.state.After.TheVariants.{Emoji}
+use Rattle.unicode_width.specs.Width.{before, is_emoji_variation_base, plain, of_kind, alone, in_context, joins, past_emoji, past_selectors, step, str_width}
 use Rattle.unicode_width.proofs.KindLemmas.{kind_stepped}
-use Rattle.unicode_width.proofs.Rules.{str_width-printable}
-use Rattle.tw_surface.specs.Clusters.{ends_syllable, syllables, IsFirstCluster, flag_letters, lone_columns, lone_len, narrow_blocks, starts_apart, wide_blocks, IsFlag}
+use Rattle.unicode_width.proofs.Rules.{is_simple, str_width-append_simple, str_width-printable}
+use Rattle.tw_surface.specs.Characters.{is_printable}
+use Rattle.tw_surface.specs.Clusters.{accents, IsEmoji, ends_syllable, letters, IsAccented, syllables, IsFirstCluster, flag_letters, lone_columns, lone_len, narrow_blocks, starts_apart, wide_blocks, IsFlag}
 use Rattle.tw_surface.specs.Width.{cluster_width}
 use Rattle.tw_surface.specs.Places.{cluster_piece, IsWideSplit}
 use Rattle.tw_surface.specs.declared.measure.Piece.TheVariants.{Wide}
@@ -155,6 +159,112 @@ syllable_split text rest c u v whole is ends =
     let high = block_above syllables c refl is in
     wide_first text rest c 2 u whole high (omega arith) (width_of_one c 2 high (wide-is c (kind c) (rw is at (syllable_kinds c))))
     (first_syllable text rest c u v whole is ends)
+
+-- a letter and an accent take one
+is_zero : Kind → Bool
+is_zero kinds.Zero = true
+is_zero _ = false
+
+accent_kinds : (c : ℕ) → (not (in_ranges accents c) || is_zero (kind c)) ≡ true
+unfolding is_zero tables kind_stepped
+accent_kinds = Stepped-everywhere _ (zip_stepped (λ inside k. not inside || is_zero k) (in_ranges accents) kind (of_ranges accents refl) kind_stepped) refl
+
+zero-is : (k : Kind) → is_zero k ≡ true → k ≡ kinds.Zero
+unfolding is_zero
+zero-is kinds.Zero h = refl
+zero-is _ h = absurd (false≢true h)
+
+accent_columns : (c : ℕ) → in_ranges accents c ≡ true → (str_width false (c ∷ []) ≡ 0) × (list_all is_simple (c ∷ []) ≡ true)
+accent_columns c inside =
+    let is : kind c ≡ kinds.Zero = zero-is (kind c) (rw inside at (accent_kinds c)) in
+    let high = block_above accents c refl inside in
+    (width_of_one c 0 high (ap (λ k. (of_kind false c k).0) is), grind (arith, nat_tests, high, is))
+
+letter_columns : (c : ℕ) → in_ranges letters c ≡ true → str_width false (c ∷ []) ≡ 1
+unfolding in_ranges
+letter_columns c inside =
+    ⊎_elim (λ ascii. str_width-printable false (c ∷ []) (and_from _ _ ascii refl))
+    (λ other.
+    let high : in_ranges two_bytes c ≡ true = grind (arith, nat_tests, inside, other) in
+    width_of_one c 1 (block_above two_bytes c refl high) (narrow-is c (kind c) (rw high at (narrow_kinds c))))
+    (cases_Bool (is_printable c))
+
+pub accented_width : (text : List ℕ) → IsUtf8 text → IsAccented text → 1 ≡ cluster_width text
+accented_width text u (c, d, whole, letter, accent) =
+    let rest = encode_utf8 d in
+    let v = IsUtf8-past_char text rest c u whole in
+    let end = only_character rest [] d v (sym (append-nil rest)) (omega arith) in
+    let is : chars text ≡ c ∷ d ∷ [] = chars_past_char text rest c u whole ∙ ap (λ t. c ∷ t) end in
+    let mark = accent_columns d accent in
+    sym (ap (str_width false) is ∙ str_width-append_simple false (c ∷ []) (d ∷ []) mark.1 ∙ ap₂ (λ m n. m + n) (letter_columns c letter) mark.0)
+
+-- an emoji before U+FE0F takes two, and so does its keycap
+is_single : Kind → Bool
+is_single kinds.Single = true
+is_single _ = false
+
+single-is : (k : Kind) → is_single k ≡ true → k ≡ kinds.Single
+unfolding is_single
+single-is kinds.Single h = refl
+single-is _ h = absurd (false≢true h)
+
+selectors : List Range
+selectors = (0xFE0F, 0xFE0F) ∷ []
+
+selector_kinds : (c : ℕ) → (not (in_ranges selectors c) || is_single (kind c)) ≡ true
+unfolding selectors is_single tables kind_stepped
+selector_kinds = Stepped-everywhere _ (zip_stepped (λ inside k. not inside || is_single k) (in_ranges selectors) kind (of_ranges selectors refl) kind_stepped) refl
+
+selector_kind : kind 0xFE0F ≡ kinds.Single
+unfolding in_ranges selectors
+selector_kind = single-is (kind 0xFE0F) (selector_kinds 0xFE0F)
+
+caps : List Range
+caps = (0x20E3, 0x20E3) ∷ []
+
+cap_kinds : (c : ℕ) → (not (in_ranges caps c) || is_zero (kind c)) ≡ true
+unfolding caps is_zero tables kind_stepped
+cap_kinds = Stepped-everywhere _ (zip_stepped (λ inside k. not inside || is_zero k) (in_ranges caps) kind (of_ranges caps refl) kind_stepped) refl
+
+cap_kind : kind 0x20E3 ≡ kinds.Zero
+unfolding in_ranges caps
+cap_kind = zero-is (kind 0x20E3) (cap_kinds 0x20E3)
+
+last_alone : (c : ℕ) → 0xA0 < c → step false c (0, plain) ≡ alone false c
+unfolding step past_emoji
+last_alone c high = grind (arith, nat_tests)
+
+selector_alone : alone false 0xFE0F ≡ (0, record plain { emoji = true })
+unfolding alone
+selector_alone = ap (λ k. of_kind false 0xFE0F k) selector_kind
+
+cap_alone : alone false 0x20E3 ≡ (0, plain)
+unfolding alone
+cap_alone = ap (λ k. of_kind false 0x20E3 k) cap_kind
+
+before_selector : (c : ℕ) → is_emoji_variation_base c ≡ true → step false c (0, record plain { emoji = true }) ≡ (2, before Emoji)
+unfolding step
+before_selector c base = rw base refl
+
+emoji_columns : (c : ℕ) → is_emoji_variation_base c ≡ true → (str_width false (c ∷ 0xFE0F ∷ []) ≡ 2) × (str_width false (c ∷ 0xFE0F ∷ 0x20E3 ∷ []) ≡ 2)
+unfolding str_width
+emoji_columns c base =
+    let selected = last_alone 0xFE0F (omega arith) ∙ selector_alone in
+    let capped = ap (step false 0xFE0F) (last_alone 0x20E3 (omega arith) ∙ cap_alone) ∙ selected in
+    (ap (λ r. (step false c r).0) selected ∙ ap (λ r. r.0) (before_selector c base), ap (λ r. (step false c r).0) capped ∙ ap (λ r. r.0) (before_selector c base))
+
+chars_of : (text cs : List ℕ) → IsUtf8 text → text ≡ encode_utf8_all cs → chars text ≡ cs
+chars_of text [] u is = ap chars is ∙ chars-nil
+chars_of text (c ∷ cs) u is =
+    let rest = encode_utf8_all cs in
+    chars_past_char text rest c u is ∙ ap (λ t. c ∷ t) (chars_of rest cs (IsUtf8-past_char text rest c u is) refl)
+
+pub emoji_width : (text : List ℕ) → IsUtf8 text → IsEmoji text → 2 ≡ cluster_width text
+emoji_width text u (c, base, is) =
+    let columns = emoji_columns c base in
+    ⊎_elim (λ two. sym (ap (str_width false) (chars_of text _ u two) ∙ columns.0))
+    (λ three. sym (ap (str_width false) (chars_of text _ u three) ∙ columns.1))
+    is
 
 -- a flag takes two
 

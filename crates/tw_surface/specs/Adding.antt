@@ -6,7 +6,8 @@ use Rattle.tw_surface.specs.ChangeView.{ChangeView}
 use Rattle.tw_surface.specs.Places.{Place, move_between, stays_in_range}
 use Rattle.tw_surface.specs.Drawings.{Drawing, place}
 
--- a change goes last, or is refused: out of range exactly where it reaches a place that is, and a refusal changes nothing
+-- a change goes last, or is refused: out of range exactly where it reaches a place that is, and a refusal changes
+-- nothing
 pub record Adds (change : ChangeView) (old new : Drawing) (result : Result Unit AddFault) : Type 0 where
   pub added : OnOk result (new ≡ record old { changes = old.changes ++ change ∷ [] })
   pub refused : OnErr result (new ≡ old)

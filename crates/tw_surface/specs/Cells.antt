@@ -10,7 +10,8 @@ abbrev pub cell_in : List Cell → ℕ → ℕ → ℕ
 cell_in [] row col = blank
 cell_in (cell ∷ cells) row col = if eqb cell.row row && eqb cell.col col then cell.ch else cell_in cells row col
 
--- the character at a row and a column: in the width from the near cells, row after row, as far as they go, and else from the far ones
+-- the character at a row and a column: in the width from the near cells, row after row, as far as they go, and else
+-- from the far ones
 abbrev pub shown_at : ℕ → List ℕ → List Cell → ℕ → ℕ → ℕ
 shown_at width near far row col =
     if ltb col width && ltb (row * width + col) (length near) then slice_index near (row * width + col) else cell_in far row col
@@ -74,7 +75,8 @@ pub record IsCountBefore (cells : List Cell) (row col i : ℕ) : Type 0 where
   pub before : (k : ℕ) → k < i → IsBefore (cell_at cells k).row (cell_at cells k).col row col
   pub from : (k : ℕ) → i ≤ k → k < length cells → IsBefore (cell_at cells k).row (cell_at cells k).col row col → ⊥
 
--- the far cells that a screen of a width may hold: in order, inside the width, all of ASCII, and none in the first places
+-- the far cells that a screen of a width may hold: in order, inside the width, all of ASCII, and none in the first
+-- places
 pub record IsSparse (width first : ℕ) (cells : List Cell) : Type 0 where
   pub ordered : IsInOrder cells
   pub inside : All (λ x. x.col < width) cells

@@ -1,12 +1,12 @@
 -- A text cut after its first extended grapheme cluster.
-use Rattle.std.specs.Prelude.{ℕ, ◌<◌, ◌≡◌, Bool, true, false, not, ◌&&◌, ◌||◌, leb, List, [], ◌∷◌, ◌++◌, encode_utf8, length, take, drop, if◌then◌else◌}
+use Rattle.std.specs.Prelude.{encode_utf8_all, ◌⊎◌, ℕ, ◌<◌, ◌≡◌, Bool, true, false, not, ◌&&◌, ◌||◌, leb, List, [], ◌∷◌, ◌++◌, encode_utf8, length, take, drop, if◌then◌else◌}
 use Rattle.std.specs.Str.{IsCharBoundary}
 use Rattle.ucd_table.specs.Rows.{Range, in_ranges}
 use Rattle.ucd_breaks.specs.GraphemeClusterBreak.{grapheme_cluster_break}
 use Rattle.ucd_breaks.specs.declared.GraphemeClusterBreak.{GraphemeClusterBreak}
 use Rattle.ucd_breaks.specs.declared.GraphemeClusterBreak.TheVariants.{Extend, Other, SpacingMark, Zwj}
 use Rattle.ucd_derived.specs.IndicConjunctBreak.{indic_conjunct_break}
-use Rattle.ucd_emoji.specs.Binary.{is_extended_pictographic}
+use Rattle.ucd_emoji.specs.Binary.{is_emoji_variation_base, is_extended_pictographic}
 use Rattle.ucd_derived.specs.declared.IndicConjunctBreak.{IndicConjunctBreak}
 use Rattle.ucd_derived.specs.declared.IndicConjunctBreak.TheVariants as conjuncts
 use Rattle.unicode_segmentation.specs.Grapheme.{graphemes, is_extend}
@@ -25,6 +25,20 @@ lone_len lead =
 abbrev pub lone_ranges : List Range
 lone_ranges = (0x20, 0x7E) ∷ (0xC0, 0x2FF) ∷ (0x380, 0x47F) ∷ (0x4000, 0x9FFF) ∷ []
 
+-- those of one column
+abbrev pub letters : List Range
+letters = (0x20, 0x7E) ∷ (0xC0, 0x2FF) ∷ (0x380, 0x47F) ∷ []
+
+-- marks of no columns, whatever stands before them
+abbrev pub accents : List Range
+accents = (0x300, 0x337) ∷ (0x339, 0x36F) ∷ []
+
+-- a letter and an accent
+abbrev pub IsAccented : List ℕ → Type 0
+IsAccented text =
+    (c : ℕ) × (d : ℕ) × (text ≡ encode_utf8 c ++ encode_utf8 d)
+    × (in_ranges letters c ≡ true) × (in_ranges accents d ≡ true)
+
 -- two of these are a flag
 abbrev pub flag_letters : List Range
 flag_letters = (0x1F1E6, 0x1F1FF) ∷ []
@@ -33,6 +47,12 @@ abbrev pub IsFlag : List ℕ → Type 0
 IsFlag text =
     (c : ℕ) × (d : ℕ) × (text ≡ encode_utf8 c ++ encode_utf8 d)
     × (in_ranges flag_letters c ≡ true) × (in_ranges flag_letters d ≡ true)
+
+-- a character that is shown as an emoji before U+FE0F, and that, or a keycap of the two
+abbrev pub IsEmoji : List ℕ → Type 0
+IsEmoji text =
+    (c : ℕ) × (is_emoji_variation_base c ≡ true)
+    × ((text ≡ encode_utf8_all (c ∷ 0xFE0F ∷ [])) ⊎ (text ≡ encode_utf8_all (c ∷ 0xFE0F ∷ 0x20E3 ∷ [])))
 
 -- characters of one column that are a cluster each before any that does not join them: letters of Hebrew, Arabic,
 -- Devanagari, Tamil and Thai, accented Latin and Greek, punctuation, arrows, mathematics, box drawing, Braille, private

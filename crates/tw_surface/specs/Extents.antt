@@ -1,4 +1,5 @@
--- What the measure remembers of the places that a sequence of changes has reached: the last one, and the least and the greatest row.
+-- What the measure remembers of the places that a sequence of changes has reached: the last one, and the least and the
+-- greatest row.
 use Rattle.std.specs.Prelude.{ℕ, pos, ◌≤ℤ◌, ◌≡◌, ◌<◌, ◌≤◌, nat_abs, true, false, Option, MatchOption, List, [], ◌∷◌}
 use Rattle.std.specs.List.{list_all}
 use Rattle.std.specs.Int.{int_min, int_max}

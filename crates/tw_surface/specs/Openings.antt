@@ -38,7 +38,8 @@ ArePastMarks text rest = (cs : List ℕ) × (text ≡ encode_utf8_all cs ++ rest
 abbrev pub IsPastPictograph : List ℕ → List ℕ → Type 0
 IsPastPictograph text rest = (c : ℕ) × (text ≡ encode_utf8 c ++ rest) × (is_picture c ≡ true)
 
--- a text begins with what goes on a cluster that ends in a pictograph and its marks: a mark, or a joiner and a pictograph
+-- a text begins with what goes on a cluster that ends in a pictograph and its marks: a mark, or a joiner and a
+-- pictograph
 abbrev pub GoesOn : List ℕ → List ℕ → Type 0
 GoesOn text rest =
     ((c : ℕ) × (text ≡ encode_utf8 c ++ rest) × (is_plain_extend c ≡ true))

@@ -6,7 +6,8 @@ use Rattle.tw_surface.specs.ChangeView.{Attribute, AllAttributes, Text, ClearScr
 use Rattle.tw_surface.specs.Characters.{is_plain, cr, lf}
 use Rattle.tw_surface.specs.Positions.{position_after, at_least_0}
 
--- a screen without a bottom: the character at each row and column, and the cursor, which waits after the last column at col = width
+-- a screen without a bottom: the character at each row and column, and the cursor, which waits after the last column at
+-- col = width
 pub record Picture : Type 0 where
   pub cell : ℕ → ℕ → ℕ
   pub row : ℕ

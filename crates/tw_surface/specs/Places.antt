@@ -61,7 +61,8 @@ LeadsTo cols Lf p q = (q.x ≡ p.x) × (q.y ≡ p.y +ℤ pos 1)
 LeadsTo cols CrLf p q = (q.x ≡ 0) × (q.y ≡ p.y +ℤ pos 1)
 LeadsTo cols (Wide v) p q = FitsAt cols v p q ⊎ Wraps cols v p q
 
--- the places of a list of pieces: one more than the pieces, and each piece leads from the place before it to the place after it
+-- the places of a list of pieces: one more than the pieces, and each piece leads from the place before it to the place
+-- after it
 abbrev pub ArePlaces : ℕ → List Piece → List Place → Type 0
 ArePlaces cols [] (p ∷ []) = Unit {0}
 ArePlaces cols (piece ∷ more) (p ∷ q ∷ rest) = LeadsTo cols piece p q × ArePlaces cols more (q ∷ rest)

@@ -46,7 +46,8 @@ lower_lines NoLower = []
 lower_lines (Preview elements) = lines_of (typed_text elements)
 lower_lines (Search text) = text ∷ []
 
--- what one painting shows: the changes of the prompt and of the line, the cursor's column in the line and what stands under it, and whether the screen is cleared just before
+-- what one painting shows: the changes of the prompt and of the line, the cursor's column in the line and what stands
+-- under it, and whether the screen is cleared just before
 pub record Scene : Type 0 where
   pub prompt : Batch
   pub line : Batch

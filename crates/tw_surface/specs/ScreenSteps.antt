@@ -46,7 +46,8 @@ IsBehind byte near place = is_printable byte ≡ true → near ≤ place
 abbrev pub played_at : ℕ → List ℕ → List ℕ → List Cell → ℕ → ℕ → Picture
 played_at width text near far row col = play_text width text (picture_of width near far row col)
 
--- a character is played from a cursor on over far cells, and leaves others and the cursor elsewhere, whatever near cells stand before it
+-- a character is played from a cursor on over far cells, and leaves others and the cursor elsewhere, whatever near
+-- cells stand before it
 abbrev pub IsPlayedFar : ℕ → ℕ → List Cell → ℕ → ℕ → List Cell → ℕ → ℕ → Type 0
 IsPlayedFar width byte old row col new new_row new_col = (near : List ℕ) → IsBehind byte (length near) (row * width + col)
     → picture_of width near new new_row new_col ≡ play_char width byte (picture_of width near old row col)

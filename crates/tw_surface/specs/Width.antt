@@ -10,6 +10,7 @@ use Rattle.std.specs.Prelude.{true}
 abbrev pub cluster_width : List ℕ → ℕ
 cluster_width cluster = str_width false (chars cluster)
 
--- the columns of a text: its characters where all are printable ASCII, else the widths of its extended grapheme clusters
+-- the columns of a text: its characters where all are printable ASCII, else the widths of its extended grapheme
+-- clusters
 unfoldable pub column_width : List ℕ → ℕ
 column_width text = if list_all is_printable text then length text else sum_by cluster_width (graphemes true text)

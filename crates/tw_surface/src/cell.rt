@@ -4,12 +4,14 @@ ghost use Rattle.std.specs.Prelude.{◌≡◌, ◌+◌, ◌*◌, ◌<◌, ◌≤
 ghost use Rattle.std.specs.List.{sum_by};
 ghost use Rattle.unicode_segmentation.specs.Grapheme.{graphemes};
 ghost use Rattle.tw_surface.specs.Attributes.{with_attribute};
-ghost use Rattle.tw_surface.specs.Clusters.{IsFlag};
+ghost use Rattle.tw_surface.specs.Clusters.{accents, letters, IsAccented, IsEmoji, IsFlag};
+ghost use Rattle.ucd_table.specs.Rows.{in_ranges};
 ghost use Rattle.tw_surface.specs.Width.{cluster_width, column_width};
 
 use crate::characters::is_printable_text;
 use crate::clusters::{is_flag_letter, lone_len, split_block, split_cluster};
 use crate::color::ColorAttribute;
+use ucd_emoji::is_emoji_variation_base;
 use unicode_width::UnicodeWidthStr;
 
 /// How strong a text is.
@@ -164,22 +166,71 @@ pub fn cluster_width(cluster: &str) -> usize
     let bytes = cluster.as_bytes();
     match bytes.first() {
         Some(lead) if lone_len(*lead) == bytes.len() => { if bytes.len() == 3 { 2 } else { 1 } }
-        Some(0xF0) if is_flag(cluster) => 2,
-        _ => ruled_width(cluster),
+        _ => other_width(cluster),
     }
 }
 
-/// Returns the same by the rules. It is a function of its own, so that the one above stays short.
+/// Returns the same of any other cluster. It is a function of its own, so that the one above stays short.
 #[inline(never)]
-fn ruled_width(cluster: &str) -> usize
+fn other_width(cluster: &str) -> usize
     ensures value { result ≡ cluster_width cluster.now }
     ensures bound { result ≤ 2 * length cluster.now }
 {
-    cluster.width()
+    match cluster.len() {
+        3..=4 if is_accented(cluster) => 1,
+        6..=7 if is_emoji(cluster) => 2,
+        8 if is_flag(cluster) => 2,
+        _ => cluster.width(),
+    }
 }
 
-/// Returns true if the text is a flag, and nothing else. It is a function of its own, so that `cluster_width` stays short.
-#[inline(never)]
+/// Returns true if the character is one of a column that [`lone_len`] knows by its first byte.
+#[tactic(auto, unfolding(ucd_table::specs::Rows::in_ranges))]
+fn is_letter(c: char) -> bool
+    ensures { result ≡ in_ranges letters c }
+{
+    matches!(c, ' '..='~' | '\u{C0}'..='\u{2FF}' | '\u{380}'..='\u{47F}')
+}
+
+/// Returns true if the character is a mark of no columns, whatever stands before it.
+#[tactic(auto, unfolding(ucd_table::specs::Rows::in_ranges))]
+fn is_accent(c: char) -> bool
+    ensures { result ≡ in_ranges accents c }
+{
+    matches!(c, '\u{300}'..='\u{337}' | '\u{339}'..='\u{36F}')
+}
+
+/// Returns true if the text is a letter and an accent, and nothing else.
+fn is_accented(text: &str) -> bool
+    ensures { result ≡ true → IsAccented text.now }
+{
+    let mut chars = text.chars();
+    match (chars.next(), chars.next()) {
+        (Some(letter), Some(accent)) => {
+            is_letter(letter) && is_accent(accent) && chars.as_str().is_empty()
+        }
+        _ => false,
+    }
+}
+
+/// Returns true if the text is a character that is shown as an emoji before U+FE0F, and that, or a keycap of the two.
+fn is_emoji(text: &str) -> bool
+    ensures { result ≡ true → IsEmoji text.now }
+{
+    // (the last bytes of U+FE0F and U+20E3)
+    if !matches!(text.as_bytes(), [.., 0x8F | 0xA3]) {
+        return false;
+    }
+    let mut chars = text.chars();
+    match (chars.next(), chars.next(), chars.next()) {
+        (Some(base), Some('\u{FE0F}'), None | Some('\u{20E3}')) => {
+            is_emoji_variation_base(base) && chars.as_str().is_empty()
+        }
+        _ => false,
+    }
+}
+
+/// Returns true if the text is a flag, and nothing else.
 fn is_flag(text: &str) -> bool
     ensures { result ≡ true → IsFlag text.now }
 {

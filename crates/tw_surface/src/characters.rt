@@ -1,4 +1,7 @@
 //! Printable ASCII, CR and LF.
+//!
+//! The loops over texts go on after a byte that is none of these: a loop that does not end early is compiled to one
+//! that takes many bytes at once.
 
 ghost use Rattle.std.specs.Prelude.{◌≡◌};
 ghost use Rattle.std.specs.List.{list_all};
@@ -15,12 +18,20 @@ pub fn is_printable(byte: u8) -> bool
 pub fn is_printable_text(text: &[u8]) -> bool
     ensures { result ≡ list_all is_printable text.now }
 {
-    text.iter().all(|byte| is_printable(*byte))
+    let mut all = true;
+    for byte in text {
+        all &= is_printable(*byte);
+    }
+    all
 }
 
 /// Returns true if each character of a text is printable ASCII, CR or LF.
 pub fn is_plain_text(text: &[u8]) -> bool
     ensures { result ≡ list_all is_plain text.now }
 {
-    text.iter().all(|byte| *byte == b'\r' || *byte == b'\n' || is_printable(*byte))
+    let mut all = true;
+    for byte in text {
+        all &= *byte == b'\r' || *byte == b'\n' || is_printable(*byte);
+    }
+    all
 }

@@ -25,7 +25,7 @@ pub use cell::{
     unicode_column_width,
 };
 pub use change::{Change, Position};
-pub use characters::is_plain_text;
+pub use characters::{is_plain_text, is_printable_text};
 pub use clusters::split_cluster;
 pub use color::ColorAttribute;
 pub use measure::{Extent, Piece, measure_text};

@@ -1,6 +1,6 @@
 use Rattle.std.proofs.Common.{◌≡◌, ◌≤◌, length, get_or, sym, ◌∙◌}
 use Rattle.tw_surface.specs.Clusters.{lone_len}
-use Rattle.tw_surface.proofs.LoneWidths.{flag_width, han_width, narrow_width}
+use Rattle.tw_surface.proofs.LoneWidths.{han_width, narrow_width}
 use Rattle.tw_surface.proofs.cell.cluster_width.Goals as goal
 
 pub returns-then-bytes-eq3-clause-value : goal.returns-then-bytes-eq3-clause-value
@@ -19,6 +19,3 @@ returns-else-bytes-eq3-clause-value c =
     rw (← bytes, ← (found.1 0)) (sym (sym c.lone_len.ensures.value ∙ c.if-lone_len-bytes.true)) in
     let few : length c.args.cluster.now ≤ 3 = rw (← bytes, ← c.if-lone_len-bytes.true) c.lone_len.ensures.bound in
     narrow_width c.args.cluster.now c.utf8.cluster (rw (← bytes) found.0) lead few (rw (← bytes) c.if-bytes-eq3.false)
-
-pub returns-in-Some-eq240-clause-value : goal.returns-in-Some-eq240-clause-value
-returns-in-Some-eq240-clause-value c = flag_width c.args.cluster.now c.utf8.cluster (c.is_flag.ensures c.if-is_flag.true)
