@@ -60,7 +60,8 @@ write_wrapped h w blank x t = by_waits t.waits
 pub led_there : (t : EcmaScreen StyledCell) (row col r c : ℕ) → row ≡ r → col ≡ c → record t { row = row; col = col; waits = false } ≡ record t { row = r; col = c; waits = false }
 led_there t row col r c e f = ap (λ x. record t { row = x; col = col; waits = false }) e ∙ ap (λ y. record t { row = r; col = y; waits = false }) f
 
--- what a sequence does, by where it leads up, down, to the right and to the left, by which row has the number, and by whether no number or a 2 is written
+-- what a sequence does, by where it leads up, down, to the right and to the left, by which row has the number, and by
+-- whether no number or a 2 is written
 abbrev acted : ℕ → ℕ → EcmaScreen StyledCell → ℕ → ℕ → ℕ → ℕ → ℕ → Bool → Bool → EcmaScreen StyledCell
 acted w letter t up down right left there none two =
     let paper = styled.paper t.rendition.background in

@@ -10,7 +10,8 @@ use Rattle.ecma_terminal.specs.declared.fault.EcmaFault.TheVariants.{Color, Memo
 use Rattle.ecma_terminal.specs.Grids.{GridView, IsFilledWith, ShowsCells}
 use Rattle.ecma_terminal.specs.Colors.{ends_in_large}
 
--- its cells, its cursor, whether it waits after the last column, the attributes that are selected, and how far a sequence was read
+-- its cells, its cursor, whether it waits after the last column, the attributes that are selected, and how far a
+-- sequence was read
 pub record TerminalView : Type 0 where
   pub grid : GridView
   pub row : ℕ

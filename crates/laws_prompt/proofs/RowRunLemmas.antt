@@ -47,7 +47,8 @@ module _ {V A C : Type 0} (rules : HostRules V) (pen : Pen A C) where
         shown = rw scenes (shows_row_stations pen rows cuts v a (map (sized_scene rules) earlier) (sized_scene rules station) before h.at_start h.in_sight are.before_it are.it h.low);
       }
 
-  -- the closing batch of a run whose last painting is that of a station, on a screen whose cursor stands where it left it
+  -- the closing batch of a run whose last painting is that of a station, on a screen whose cursor stands where it left
+  -- it
   closes : (f : Frame V) (rows : Option ℕ) (cuts : Bool) (w s : ℕ) (kept : A) (station : Station V) (it : IsRowStation pen (sized_scene rules station)) (shown : PictureOf C)
       → closing_if (run_of rules f).mark ≡ closing (mark_of (painting station.size.cols (sized_scene rules station).scene)) ∷ []
       → 2 ≤ w → InSight rows 0 → shown.row ≡ s + sheet_cursor_row station.size.cols (painted_with_rows rules pen station it).sheet

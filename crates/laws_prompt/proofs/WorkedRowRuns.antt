@@ -1,4 +1,5 @@
--- Worked runs of a host that shows rows, by computation and by the clauses: on a screen that scrolls, and on one that cuts its rows.
+-- Worked runs of a host that shows rows, by computation and by the clauses: on a screen that scrolls, and on one that
+-- cuts its rows.
 use Rattle.std.proofs.Common.{◌≡◌, ℕ, zero, suc, ◌+◌, ◌≤◌, pos, List, [], ◌∷◌, take, drop, true, false, refl, sym, subst, None, Some, Option, Ok, Err, Result, arith}
 use Rattle.std.specs.List.{All}
 use Rattle.std.proofs.lemmas.List.Elements.{All-nil, All-cons}
@@ -157,7 +158,8 @@ low_closed_by_computing : (low_closed.row ≡ 4) × (low_closed.col ≡ 0) × (l
 unfolding pieces column_width painted_on apply destination searched_again search_step boundary_below is_boundary iterate greatest_below least_from settled_pieces needed_by_text unicode_segmentation
 low_closed_by_computing = (refl, refl, refl, refl, refl)
 
--- the host answers the line, so the scene shows it, and each of its characters stands in its cell: "f" at the edge, "g" after the continuation prompt, "." before "ij", and the cursor after it
+-- the host answers the line, so the scene shows it, and each of its characters stands in its cell: "f" at the edge, "g"
+-- after the continuation prompt, "." before "ij", and the cursor after it
 low_answers : AnswersShownLine 8 (62 ∷ 32 ∷ []) (46 ∷ 32 ∷ []) low_text [] (low_at 1).scene
 unfolding pieces column_width painted_on apply destination searched_again search_step boundary_below is_boundary iterate greatest_below least_from settled_pieces needed_by_text unicode_segmentation
 low_answers = record {

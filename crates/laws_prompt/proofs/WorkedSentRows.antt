@@ -1,4 +1,5 @@
--- A worked run with rows from bytes to cells: the premises hold, the bytes show what the law says, and a conclusion that is a little off does not hold.
+-- A worked run with rows from bytes to cells: the premises hold, the bytes show what the law says, and a conclusion
+-- that is a little off does not hold.
 use Rattle.std.proofs.Common.{◌≡◌, ℕ, ◌+◌, ◌≤◌, [], ◌∷◌, false, refl, ap, Some, map, min, ◌∙◌, arith}
 use Rattle.std.specs.List.{AllByRecursion}
 use Rattle.std.proofs.lemmas.List.Elements.{All-nil, All-cons}

@@ -12,7 +12,8 @@ use Rattle.tw_prompt_host.specs.Rows.{highlight_in_rows}
 use Rattle.laws_prompt.specs.Rows.{is_row_character, shown_cut}
 use Rattle.laws_prompt.specs.RowCells.{AnswersShownLine}
 
--- A host shows a printable line itself, after printable prompts, and the scene has the prompt and what shows the line in rows.
+-- A host shows a printable line itself, after printable prompts, and the scene has the prompt and what shows the line
+-- in rows.
 pub record ShowsInRows (screen : PromptScreenView) (continuation : List ℕ) (cut : Cut) (shown : Highlight) (scene : Scene) : Type 0 where
   pub wide : 2 ≤ screen.cols
   pub narrow : screen.cols ≤ 65535

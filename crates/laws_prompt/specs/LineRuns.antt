@@ -38,7 +38,8 @@ module _ {V : Type 0} (rules : HostRules V) where
   abbrev pub line_paintings : List (Station V) → List (SheetPainting ℕ)
   line_paintings stations = map (painting_of characters) (line_stations stations)
 
-  -- The run from a frame comes to a station that shows this line, and paints it. So far every station showed some line, and was low enough; a screen is entered at column 0 of a row in sight.
+  -- The run from a frame comes to a station that shows this line, and paints it. So far every station showed some line,
+  -- and was low enough; a screen is entered at column 0 of a row in sight.
   pub record ComesToLine (rows : Option ℕ) (f : Frame V) (earlier : List (Station V)) (station : Station V) (later : List (Station V))
       (prompt continuation left right : List ℕ) (screen : PictureOf ℕ) : Type 0 where
     pub comes : Comes rules f earlier station later
@@ -48,7 +49,8 @@ module _ {V : Type 0} (rules : HostRules V) where
     pub at_start : screen.col ≡ 0
     pub in_sight : InSight rows screen.row
 
-  -- Then the cursor, the prompts and each character of the line stand in their cells, from the row on to which the paintings so far have gone up.
+  -- Then the cursor, the prompts and each character of the line stand in their cells, from the row on to which the
+  -- paintings so far have gone up.
   abbrev pub LinesStandInRows : Type 0
   LinesStandInRows = (f : Frame V) (rows : Option ℕ) (cuts : Bool) (v : ℕ) (earlier : List (Station V)) (station : Station V) (later : List (Station V))
       (prompt continuation left right : List ℕ) (screen : PictureOf ℕ)
@@ -56,7 +58,8 @@ module _ {V : Type 0} (rules : HostRules V) where
       → let top = top_row rows screen.row (line_paintings (earlier ++ station ∷ [])) in
       StandInRows station.size.cols top prompt continuation left right (play_stations rules characters rows cuts v tt (earlier ++ station ∷ []) screen)
 
-  -- With nothing under the last line that is painted, the closing batch leaves the cursor in the row below that of the cell after the line.
+  -- With nothing under the last line that is painted, the closing batch leaves the cursor in the row below that of the
+  -- cell after the line.
   abbrev pub LinesCloseBelow : Type 0
   LinesCloseBelow = (f : Frame V) (rows : Option ℕ) (cuts : Bool) (v w : ℕ) (earlier : List (Station V)) (station : Station V) (later : List (Station V))
       (prompt continuation left right : List ℕ) (screen : PictureOf ℕ)

@@ -14,7 +14,8 @@ use Rattle.tw_prompt_host.specs.Going.{going_at_rest}
 use Rattle.tw_prompt_host.specs.MenuState.{MenuView, Closed, Unseen, Few, Open, Shown}
 use Rattle.tw_prompt_host.specs.PromptRules.{Prompted, prompt_rules}
 
--- the line is the one before the completion with the candidate that is marked, one of two or more; the editor goes through none by itself
+-- the line is the one before the completion with the candidate that is marked, one of two or more; the editor goes
+-- through none by itself
 pub record IsMarked (m : Shown) (s : EditState) : Type 0 where
   pub none : s.cycle ≡ None
   pub more : 1 < length m.candidates

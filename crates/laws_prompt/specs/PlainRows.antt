@@ -58,7 +58,8 @@ other_rows (ClearScreen color ∷ more) = other_rows more
 other_rows (ClearToEndOfScreen color ∷ more) = other_rows more
 other_rows (CursorPosition x y ∷ more) = other_rows more
 
--- A scene of attributes and printable characters, whose line has rows too, the first of which does not fill its last column.
+-- A scene of attributes and printable characters, whose line has rows too, the first of which does not fill its last
+-- column.
 pub record HasPlainRows (cols : ℕ) (scene : Scene) : Type 0 where
   pub wide : 2 ≤ cols
   pub prompt : list_all is_typing scene.prompt ≡ true

@@ -20,7 +20,8 @@ use Rattle.laws_prompt.specs.RowColumns.{ArePrintableRows}
 use Rattle.laws_prompt.specs.RowStations.{IsRowStation, simple_at}
 use Rattle.laws_prompt.specs.PlainRows.{is_row_typing, plain_folded}
 
--- A scene shows a line, in whatever colours: its texts are the prompt and the text that shows the line, and its cursor stands in its row.
+-- A scene shows a line, in whatever colours: its texts are the prompt and the text that shows the line, and its cursor
+-- stands in its row.
 pub record ShowsLine (cols : ℕ) (prompt continuation before rest : List ℕ) (scene : Scene) : Type 0 where
   pub wide : 2 ≤ cols
   pub printable : ArePrintableRows prompt continuation before rest
@@ -54,7 +55,8 @@ ShownLinesAreRowStations pen = (cols : ℕ) (prompt continuation before rest : L
     → let station : SizedScene = record { scene = scene; cols = cols } in
     (it : IsRowStation pen station) × (simple_at pen station it ≡ record { scene = plain_folded cols scene; cols = cols })
 
--- From row s on, the prompt, the continuation prompt after each line feed, and each character of a line stand in their cells, and so does the cursor.
+-- From row s on, the prompt, the continuation prompt after each line feed, and each character of a line stand in their
+-- cells, and so does the cursor.
 pub record StandInRows (cols s : ℕ) (prompt continuation before rest : List ℕ) (shown : PictureOf ℕ) : Type 0 where
   pub row : shown.row ≡ s + rows_down cols (length prompt) (length continuation) (rows_of_text before)
   pub col : shown.col ≡ column_after cols (length prompt) (length continuation) (rows_of_text before)

@@ -1,4 +1,5 @@
--- What a screen of any kind of cells shows while the batches of a run are played on it whose stations are simple or have rows.
+-- What a screen of any kind of cells shows while the batches of a run are played on it whose stations are simple or
+-- have rows.
 use Rattle.std.specs.Prelude.{◌≡◌, ℕ, ◌+◌, ◌≤◌, Bool, true, List, [], ◌∷◌, ◌++◌, map, Option}
 use Rattle.std.specs.List.{All, AllByRecursion}
 use Rattle.laws_screens.specs.Strokes.{PictureOf, InSight, narrowest, resized}
@@ -34,14 +35,16 @@ module _ {V A C : Type 0} (rules : HostRules V) (pen : Pen A C) where
   abbrev pub painted_with_rows : (station : Station V) → IsRowStation pen (sized_scene rules station) → SheetPainting C
   painted_with_rows station it = painting_of pen (simple_at pen (sized_scene rules station) it)
 
-  -- The run from a frame comes to a station and paints it. So far every station was simple or had rows, and was low enough; a screen is entered at column 0 of a row in sight.
+  -- The run from a frame comes to a station and paints it. So far every station was simple or had rows, and was low
+  -- enough; a screen is entered at column 0 of a row in sight.
   pub record ComesWithRows (rows : Option ℕ) (f : Frame V) (earlier : List (Station V)) (station : Station V) (later : List (Station V)) (are : AreRowStations earlier station) (before : PictureOf C) : Type 0 where
     pub comes : Comes rules f earlier station later
     pub low : All (HasRoom rows pen) (simple_stations earlier station are)
     pub at_start : before.col ≡ 0
     pub in_sight : InSight rows before.row
 
-  -- The batches up to the station's painting are the first of the run, and they leave its fresh painting; above it all is as it was, moved up, in the columns that the screen had all along.
+  -- The batches up to the station's painting are the first of the run, and they leave its fresh painting; above it all
+  -- is as it was, moved up, in the columns that the screen had all along.
   pub record ShowsWithRows (rows : Option ℕ) (cuts : Bool) (v : ℕ) (a : A) (f : Frame V) (earlier : List (Station V)) (station : Station V) (are : AreRowStations earlier station) (before : PictureOf C) : Type 0 where
     pub batches : map (λ sized. sized.batch) (sized_batches (map (sized_scene rules) (earlier ++ station ∷ []))) ≡ batches_of rules (earlier ++ station ∷ [])
     pub beginning : (rest : List Batch) × ((run_of rules f).taken ≡ f.terminal.batches ++ (batches_of rules (earlier ++ station ∷ []) ++ rest))
@@ -54,7 +57,8 @@ module _ {V A C : Type 0} (rules : HostRules V) (pen : Pen A C) where
   RowPaintings = (f : Frame V) (rows : Option ℕ) (cuts : Bool) (v : ℕ) (a : A) (earlier : List (Station V)) (station : Station V) (later : List (Station V)) (are : AreRowStations earlier station) (before : PictureOf C)
       → ComesWithRows rows f earlier station later are before → ShowsWithRows rows cuts v a f earlier station are before
 
-  -- The closing batch after the last station that is painted leaves the cursor in the row below its last row, at whatever columns the screen then has.
+  -- The closing batch after the last station that is painted leaves the cursor in the row below its last row, at
+  -- whatever columns the screen then has.
   abbrev pub RowClosings : Type 0
   RowClosings = (f : Frame V) (rows : Option ℕ) (cuts : Bool) (v w : ℕ) (a kept : A) (earlier : List (Station V)) (station : Station V) (later : List (Station V)) (are : AreRowStations earlier station) (before : PictureOf C)
       → ComesWithRows rows f earlier station later are before → All (RendersNothing rules) later → 2 ≤ w
@@ -64,14 +68,16 @@ module _ {V A C : Type 0} (rules : HostRules V) (pen : Pen A C) where
       ((run_of rules f).taken ≡ f.terminal.batches ++ batches_of rules (earlier ++ station ∷ []))
       × IsClosedSheet rows w (blank_of pen) last (resized cuts (blank_of pen) cols w shown) (closed_by rules pen rows cuts cols w kept f shown)
 
-  -- The run from a frame comes to a station and paints it. The screen was cleared before the first of the stations since then, and these are simple or have rows, and are low enough; those before may be anything.
+  -- The run from a frame comes to a station and paints it. The screen was cleared before the first of the stations
+  -- since then, and these are simple or have rows, and are low enough; those before may be anything.
   pub record HealsWithRows (rows : Option ℕ) (f : Frame V) (earlier since : List (Station V)) (station : Station V) (later : List (Station V)) (are : AreRowStations since station) : Type 0 where
     pub comes : Comes rules f (earlier ++ since) station later
     pub cleared : begins_cleared (map (sized_scene rules) (since ++ station ∷ [])) ≡ true
     pub low : All (HasRoom rows pen) (simple_stations since station are)
     pub in_sight : InSight rows 0
 
-  -- The batches from the clearing to the station's painting, played on any screen, leave its fresh painting from row 0 on.
+  -- The batches from the clearing to the station's painting, played on any screen, leave its fresh painting from row 0
+  -- on.
   pub record ShowsHealedRows (rows : Option ℕ) (f : Frame V) (earlier since : List (Station V)) (station : Station V) (it : IsRowStation pen (sized_scene rules station)) : Type 0 where
     pub batches : batches_of rules (earlier ++ (since ++ station ∷ [])) ≡ batches_of rules earlier ++ map (λ sized. sized.batch) (since_batches rules earlier (since ++ station ∷ []))
     pub beginning : (rest : List Batch) × ((run_of rules f).taken ≡ f.terminal.batches ++ (batches_of rules (earlier ++ (since ++ station ∷ [])) ++ rest))

@@ -15,12 +15,14 @@ use Rattle.laws_screens.specs.Pens.{Pen, kept_after_all, strokes_of}
 abbrev pub place_behind : ℕ → Scene → Batch → Place
 place_behind cols scene changes = place_after_all cols (before_line scene.prompt ++ changes) origin
 
--- The scene with the first row as its line, and with a preview of the others, the space at the edge, and what stands under the line.
+-- The scene with the first row as its line, and with a preview of the others, the space at the edge, and what stands
+-- under the line.
 abbrev pub folded : ℕ → Scene → Batch → Batch → Scene
 folded cols scene first others =
     record scene { line = first; lower = Preview (others ++ (edge_space cols (place_behind cols scene scene.line) ++ lower_changes scene.lower)) }
 
--- A scene has rows where its line draws a first one, and under it others; the first one does not end after the last column, and the scene is simple as it is folded.
+-- A scene has rows where its line draws a first one, and under it others; the first one does not end after the last
+-- column, and the scene is simple as it is folded.
 pub record HasRows {A C : Type 0} (pen : Pen A C) (cols : ℕ) (scene : Scene) (first others : Batch) : Type 0 where
   pub wide : 2 ≤ cols
   pub line : AreCounted scene.line
@@ -31,7 +33,8 @@ pub record HasRows {A C : Type 0} (pen : Pen A C) (cols : ℕ) (scene : Scene) (
   pub off_edge : (place_behind cols scene first).x ≢ cols
   pub simple : IsSimple (folded cols scene first others)
 
--- Two scenes are painted alike: their paintings draw the same, whatever is kept of attributes where each begins, and leave the same mark.
+-- Two scenes are painted alike: their paintings draw the same, whatever is kept of attributes where each begins, and
+-- leave the same mark.
 pub record ArePaintedAlike {A C : Type 0} (pen : Pen A C) (cols : ℕ) (scene other : Scene) : Type 0 where
   pub strokes : (a c : A) (before : Option Mark)
       → strokes_of pen a (spelled_all (start_of before ++ (painting cols scene).changes)) ≡ strokes_of pen c (spelled_all (start_of before ++ (painting cols other).changes))

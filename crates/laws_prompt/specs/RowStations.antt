@@ -42,7 +42,8 @@ module _ {A C : Type 0} (pen : Pen A C) where
   abbrev pub RowStationsPlayAsSimple : Type 0
   RowStationsPlayAsSimple = (stations : List SizedScene) (all : AllByRecursion (IsRowStation pen) stations) → PlaysAsSimple stations all
 
-  -- After the last of some stations the screen shows its sheet fresh, and what stood above is as it was, moved up, in the columns that the screen had all along.
+  -- After the last of some stations the screen shows its sheet fresh, and what stood above is as it was, moved up, in
+  -- the columns that the screen had all along.
   abbrev pub ShowsRowStations : Type 0
   ShowsRowStations = (rows : Option ℕ) (cuts : Bool) (v : ℕ) (a : A) (earlier : List SizedScene) (station : SizedScene) (before : PictureOf C)
       → before.col ≡ 0 → InSight rows before.row
@@ -53,7 +54,8 @@ module _ {A C : Type 0} (pen : Pen A C) where
       AreShownOver cuts (blank_of pen) (narrowest v (cols_of paintings)) before.row (top_row rows before.row paintings) (painting_of pen (simple_at station last)) before
       (play_after rows cuts v a None (earlier ++ station ∷ []) before)
 
-  -- So it is, whatever was painted and shown before, where the screen is cleared before the first of them: the last one stands from row 0 on.
+  -- So it is, whatever was painted and shown before, where the screen is cleared before the first of them: the last one
+  -- stands from row 0 on.
   abbrev pub HealsRowStations : Type 0
   HealsRowStations = (rows : Option ℕ) (cuts : Bool) (v : ℕ) (a : A) (earlier : List SizedScene) (first : SizedScene) (more : List SizedScene) (before : PictureOf C)
       → InSight rows 0 → All HasTextPrompt earlier → first.scene.cleared ≡ true
@@ -62,7 +64,8 @@ module _ {A C : Type 0} (pen : Pen A C) where
       → let last = last_painting (painting_of pen (simple_at first one)) (map (painting_of pen) (simple_all more all)) in
       IsFreshSheet last.cols 0 (blank_of pen) last.sheet (play_after rows cuts v a (mark_after None (map shot_of earlier)) (first ∷ more) before)
 
-  -- The closing batch of a station leaves the cursor in the row under the last one, blank from there on, and the rows above as they were, moved up.
+  -- The closing batch of a station leaves the cursor in the row under the last one, blank from there on, and the rows
+  -- above as they were, moved up.
   abbrev pub ClosesRowStations : Type 0
   ClosesRowStations = (rows : Option ℕ) (w s : ℕ) (a : A) (station : SizedScene) (before : PictureOf C)
       → 2 ≤ w → InSight rows 0 → (last : IsRowStation pen station)

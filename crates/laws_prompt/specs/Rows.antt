@@ -7,7 +7,8 @@ pub use Rattle.tw_prompt_host.specs.Rows.{is_row_character, before_rows, rows_of
 abbrev pub rows_taken : ℕ → ℕ → ℕ
 rows_taken cols n = 1 + n / cols
 
--- How many rows down the cell after some rows is: before the first row stand the columns of a prompt, before each other one those of a continuation prompt.
+-- How many rows down the cell after some rows is: before the first row stand the columns of a prompt, before each other
+-- one those of a continuation prompt.
 abbrev pub rows_down : ℕ → ℕ → ℕ → List (List ℕ) → ℕ
 rows_down cols prompt continuation [] = prompt / cols
 rows_down cols prompt continuation (row ∷ []) = (prompt + length row) / cols

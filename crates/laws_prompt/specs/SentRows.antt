@@ -26,7 +26,8 @@ use Rattle.laws_runs.specs.SentRuns.{IsSentAt, sent_paintings, sent_run, shown_b
 use Rattle.laws_prompt.specs.RowRuns.{AreRowStations, paintings_with_rows, painted_with_rows, ComesWithRows, HealsWithRows, ShowsWithRows}
 
 module _ {V A C : Type 0} (rules : HostRules V) (pen : Pen A C) where
-  -- A run comes with rows to a station, each station so far being sent at w columns to a terminal of h rows that shows a picture; the colour that is known after its text is by bytes.
+  -- A run comes with rows to a station, each station so far being sent at w columns to a terminal of h rows that shows
+  -- a picture; the colour that is known after its text is by bytes.
   pub record ComesSentWithRows (h w : ℕ) (f : Frame V) (earlier : List (Station V)) (station : Station V) (later : List (Station V))
       (are : AreRowStations rules pen earlier station) (e : Encoder) (t : EcmaScreen C) (before : PictureOf C) : Type 0 where
     pub comes : ComesWithRows rules pen (Some h) f earlier station later are before
@@ -35,7 +36,8 @@ module _ {V A C : Type 0} (rules : HostRules V) (pen : Pen A C) where
     pub color : IsColor e.attributes.background
     pub shows : ShowsPicture pen h w e t before
 
-  -- The terminal that is sent the bytes up to the station shows the picture on which the batches were played, and there its painting is fresh.
+  -- The terminal that is sent the bytes up to the station shows the picture on which the batches were played, and there
+  -- its painting is fresh.
   abbrev pub RowPaintingsAreShown : Type 0
   RowPaintingsAreShown = (f : Frame V) (h w : ℕ) (earlier : List (Station V)) (station : Station V) (later : List (Station V))
       (are : AreRowStations rules pen earlier station) (e : Encoder) (t : EcmaScreen C) (before : PictureOf C)
@@ -45,7 +47,8 @@ module _ {V A C : Type 0} (rules : HostRules V) (pen : Pen A C) where
       ShowsPicture pen h w sent.next (receive_all pen h w sent.bytes t) (shown_by rules pen h w e stations before)
       × ShowsWithRows rules pen (Some h) false w (pen.attributes e.attributes) f earlier station are before
 
-  -- After the last painting of a run it shows what the closing batch left: the cursor in the row below its last row, and blanks from there on.
+  -- After the last painting of a run it shows what the closing batch left: the cursor in the row below its last row,
+  -- and blanks from there on.
   abbrev pub RowClosingsAreShown : Type 0
   RowClosingsAreShown = (f : Frame V) (h w : ℕ) (earlier : List (Station V)) (station : Station V) (later : List (Station V))
       (are : AreRowStations rules pen earlier station) (e : Encoder) (t : EcmaScreen C) (before : PictureOf C)
@@ -62,9 +65,10 @@ module _ {V A C : Type 0} (rules : HostRules V) (pen : Pen A C) where
 
   -- ---- after a clearing
 
-  -- The run from a frame comes to a station and paints it. The screen was cleared before the first of the stations since then, which are simple or have
-  -- rows and are sent at w columns; a move back from the painting before them leads no further than a move can. Of the terminal it is known that it has
-  -- read no part of a sequence, and which attributes are selected; it may show anything, its cursor anywhere.
+  -- The run from a frame comes to a station and paints it. The screen was cleared before the first of the stations
+  -- since then, which are simple or have rows and are sent at w columns; a move back from the painting before them
+  -- leads no further than a move can. Of the terminal it is known that it has read no part of a sequence, and which
+  -- attributes are selected; it may show anything, its cursor anywhere.
   pub record HealsSentWithRows (h w : ℕ) (f : Frame V) (earlier since : List (Station V)) (station : Station V) (later : List (Station V))
       (are : AreRowStations rules pen since station) (e : Encoder) (t : EcmaScreen C) : Type 0 where
     pub comes : HealsWithRows rules pen (Some h) f earlier since station later are
@@ -85,8 +89,8 @@ module _ {V A C : Type 0} (rules : HostRules V) (pen : Pen A C) where
       (picture : PictureOf C) × ShowsPicture pen h w sent.next (receive_all pen h w sent.bytes t) picture
       × IsFreshSheet w 0 (blank_of pen) (painted_with_rows rules pen station are.it).sheet picture
 
-  -- Where nothing is rendered after that station, the bytes of the closing batch too leave the cursor in column 0 of the row below its last row, and blanks from
-  -- there on.
+  -- Where nothing is rendered after that station, the bytes of the closing batch too leave the cursor in column 0 of
+  -- the row below its last row, and blanks from there on.
   abbrev pub HealedRowClosingsAreShown : Type 0
   HealedRowClosingsAreShown = (f : Frame V) (h w : ℕ) (earlier since : List (Station V)) (station : Station V) (later : List (Station V))
       (are : AreRowStations rules pen since station) (e : Encoder) (t : EcmaScreen C)

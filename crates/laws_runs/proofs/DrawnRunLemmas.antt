@@ -71,7 +71,8 @@ module _ {V A C : Type 0} (rules : HostRules V) (pen : Pen A C) where
   some-rows None r h = tt
   some-rows (Some h) r low = omega (arith, low)
 
-  -- the closing batch of a run whose last painting is that of a station, on a screen whose cursor stands where it left it
+  -- the closing batch of a run whose last painting is that of a station, on a screen whose cursor stands where it left
+  -- it
   closes : (f : Frame V) (rows : Option ℕ) (cuts : Bool) (w s : ℕ) (kept : A) (station : Station V) (shown : PictureOf C)
       → closing_if (run_of rules f).mark ≡ closing (mark_of (painting station.size.cols (sized_scene rules station).scene)) ∷ []
       → 2 ≤ w → InSight rows 0 → IsSimpleWide (sized_scene rules station) → shown.row ≡ s + sheet_cursor_row station.size.cols (painted_at rules pen station).sheet

@@ -1,4 +1,5 @@
--- A terminal that is sent paintings stays at rest under the attributes that are known, whatever size it has and whatever it shows.
+-- A terminal that is sent paintings stays at rest under the attributes that are known, whatever size it has and
+-- whatever it shows.
 use Rattle.std.proofs.Common.{◌≡◌, ◌<◌, ◌+◌, ◌-◌, ◌^◌, ◌&&◌, not, ℕ, zero, suc, pos, negsuc, true, false, Bool, cond, eqb, leb, min, replicate, codes, List, [], ◌∷◌, ◌++◌, ap, subst, sym, refl, arith}
 use Rattle.std.specs.Fmt.{decimal}
 use Rattle.std.specs.List.{list_all}

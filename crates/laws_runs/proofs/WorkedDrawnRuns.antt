@@ -1,4 +1,5 @@
--- Worked runs on a screen of characters that scrolls, on one that is cleared, and on one that is cut, by computation and by the clauses.
+-- Worked runs on a screen of characters that scrolls, on one that is cleared, and on one that is cut, by computation
+-- and by the clauses.
 use Rattle.std.proofs.Common.{◌≡◌, ℕ, zero, suc, ◌+◌, ◌≤◌, pos, List, [], ◌∷◌, length, true, false, refl, sym, subst, None, Some, Option, Ok, Err, Result, eqb, if◌then◌else◌, arith}
 use Rattle.std.specs.List.{All}
 use Rattle.std.proofs.lemmas.List.Elements.{All-nil, All-cons}
@@ -151,7 +152,8 @@ refused_by_computing : ((run_of rules refused_run).answer ≡ Err ZeroSize) × (
 unfolding pieces column_width painted_on apply destination searched_again search_step boundary_below is_boundary iterate greatest_below least_from unicode_segmentation
 refused_by_computing = (refl, refl, refl, refl, refl)
 
--- ---- a preview with a lone CR under a line of three characters at ten columns, then five columns, the line is killed, the screen cleared by a Repaint, and "ab" is pasted
+-- ---- a preview with a lone CR under a line of three characters at ten columns, then five columns, the line is killed,
+-- the screen cleared by a Repaint, and "ab" is pasted
 
 abbrev wild_rules : HostRules Lines
 wild_rules = record rules { preview = λ v line. if eqb (length line) 3 then element.Text (13 ∷ []) ∷ [] else [] }

@@ -1,4 +1,5 @@
--- A worked reading whose events tell no other number of columns: "ab" is pasted and the line is cancelled, at four rows of five columns.
+-- A worked reading whose events tell no other number of columns: "ab" is pasted and the line is cancelled, at four rows
+-- of five columns.
 use Rattle.std.proofs.Common.{◌≡◌, ℕ, ◌+◌, List, [], ◌∷◌, ◌++◌, false, refl, sym, ap, min, codes, None, Some, ◌∙◌, arith}
 use Rattle.std.proofs.lemmas.Bool.{false≢true}
 use Rattle.std.proofs.lemmas.List.Elements.{All-nil, All-cons}

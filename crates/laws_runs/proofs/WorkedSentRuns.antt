@@ -1,4 +1,5 @@
--- Worked runs from bytes to cells: the premises hold, the bytes are these to the last one, and this is what is shown; a conclusion that is a little off does not hold.
+-- Worked runs from bytes to cells: the premises hold, the bytes are these to the last one, and this is what is shown; a
+-- conclusion that is a little off does not hold.
 use Rattle.std.proofs.Common.{◌≡◌, ℕ, ◌+◌, List, [], ◌∷◌, ◌++◌, length, false, refl, ap, None, Some, map, min, codes, ◌∙◌, arith}
 use Rattle.std.specs.List.{AllByRecursion}
 use Rattle.std.proofs.lemmas.List.Elements.{All-nil, All-cons}

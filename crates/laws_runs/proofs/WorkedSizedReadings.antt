@@ -1,4 +1,5 @@
--- A worked reading whose events tell another number of columns: what it has written, to the last byte, and what a terminal shows of it that may have shown anything.
+-- A worked reading whose events tell another number of columns: what it has written, to the last byte, and what a
+-- terminal shows of it that may have shown anything.
 use Rattle.std.proofs.Common.{false, ◌+◌, ◌≡◌, ◌≢◌, ℕ, List, [], ◌∷◌, ◌++◌, length, refl, sym, ap, subst, None, Some, Option, Bool, map, min, codes, get_or, neg_ℤ, ◌∙◌, arith}
 use Rattle.std.specs.List.{AllByRecursion}
 use Rattle.std.proofs.lemmas.Bool.{false≢true}
@@ -79,7 +80,8 @@ last_calls first second t =
     let two = with_batch second one in
     (Took first ∷ Took second ∷ Other ∷ [], (one, takes first t, (two, takes second one, (flushed_now two, flushes two, refl))))
 
--- ---- "abcd" is pasted at five columns; then there are ten, the screen is cleared by a Repaint, and the line is cancelled
+-- ---- "abcd" is pasted at five columns; then there are ten, the screen is cleared by a Repaint, and the line is
+-- cancelled
 
 abbrev prompt : List ℕ
 prompt = 62 ∷ 32 ∷ []
@@ -338,7 +340,8 @@ module _ (it : AnsiTerminal Wrote) where
     ended_is_below : (ended (clearing_on ++ cancelled_on)).row ≡ 0 → ⊥
     ended_is_below stays = let no : 1 ≡ 0 = stays in omega (arith, no)
 
-    -- ---- so it is where the terminal was at rest at five columns, and takes any shape before the painting at ten columns and again after it
+    -- ---- so it is where the terminal was at rest at five columns, and takes any shape before the painting at ten
+    -- columns and again after it
 
     abbrev fresh : EcmaScreen ℕ
     fresh = record { cell = λ r c. 65 + r; row = 1; col = 0; waits = false; rendition = default_attributes; reading = terminal.Text }

@@ -1,4 +1,5 @@
--- What a screen of any kind of cells shows while the batches of a run are played on it: without a bottom or on some rows, at one number of columns or at changing ones.
+-- What a screen of any kind of cells shows while the batches of a run are played on it: without a bottom or on some
+-- rows, at one number of columns or at changing ones.
 use Rattle.std.specs.Prelude.{◌≡◌, ℕ, ◌+◌, ◌-◌, ◌<◌, ◌≤◌, Bool, true, false, List, [], ◌∷◌, ◌++◌, map, None, Option, Ok}
 use Rattle.std.specs.List.{All}
 use Rattle.laws_screens.specs.Strokes.{PictureOf, InSight, narrowest, resized}
@@ -26,7 +27,8 @@ begins_cleared [] = false
 begins_cleared (station ∷ more) = station.scene.cleared
 
 module _ {A C : Type 0} (pen : Pen A C) where
-  -- Calls stack: over the picture that a closing batch left, a painting leaves what the batch was played on as it was, moved up, in the columns that the screen had since then.
+  -- Calls stack: over the picture that a closing batch left, a painting leaves what the batch was played on as it was,
+  -- moved up, in the columns that the screen had since then.
   abbrev pub DrawnCallsStack : Type 0
   DrawnCallsStack = (rows : Option ℕ) (cuts : Bool) (w last : ℕ) (shown entered after : PictureOf C) (painting : drawn.SheetPainting C) (paintings : List (drawn.SheetPainting C))
       → IsClosedSheet rows w (blank_of pen) last shown entered
@@ -55,7 +57,8 @@ module _ {V A C : Type 0} (rules : HostRules V) (pen : Pen A C) where
   abbrev pub closed_by : Option ℕ → Bool → ℕ → ℕ → A → Frame V → PictureOf C → PictureOf C
   closed_by rows cuts cols w kept f t = play_sized rows cuts pen cols kept (spelled_sized (sized_at w (closing_if (run_of rules f).mark))) t
 
-  -- The run from a frame comes to a station and paints it. So far every station was simple, for two columns or more, and low enough; a screen is entered at column 0 of a row in sight.
+  -- The run from a frame comes to a station and paints it. So far every station was simple, for two columns or more,
+  -- and low enough; a screen is entered at column 0 of a row in sight.
   pub record ComesSimply (rows : Option ℕ) (f : Frame V) (earlier : List (Station V)) (station : Station V) (later : List (Station V)) (before : PictureOf C) : Type 0 where
     pub nothing_painted : f.mark ≡ None
     pub stations : stations_of rules f ≡ earlier ++ station ∷ later
@@ -66,7 +69,8 @@ module _ {V A C : Type 0} (rules : HostRules V) (pen : Pen A C) where
     pub at_start : before.col ≡ 0
     pub in_sight : InSight rows before.row
 
-  -- The batches up to the station's painting are the first of the run, and they leave its fresh painting; above it all is as it was, moved up, in the columns that the screen had all along.
+  -- The batches up to the station's painting are the first of the run, and they leave its fresh painting; above it all
+  -- is as it was, moved up, in the columns that the screen had all along.
   pub record ShowsDrawn (rows : Option ℕ) (cuts : Bool) (v : ℕ) (a : A) (f : Frame V) (earlier : List (Station V)) (station : Station V) (before : PictureOf C) : Type 0 where
     pub batches : map (λ sized. sized.batch) (sized_batches (map (sized_scene rules) (earlier ++ station ∷ []))) ≡ batches_of rules (earlier ++ station ∷ [])
     pub beginning : (rest : List Batch) × ((run_of rules f).taken ≡ f.terminal.batches ++ (batches_of rules (earlier ++ station ∷ []) ++ rest))
@@ -79,7 +83,9 @@ module _ {V A C : Type 0} (rules : HostRules V) (pen : Pen A C) where
   DrawnPaintings = (f : Frame V) (rows : Option ℕ) (cuts : Bool) (v : ℕ) (a : A) (earlier : List (Station V)) (station : Station V) (later : List (Station V)) (before : PictureOf C)
       → ComesSimply rows f earlier station later before → ShowsDrawn rows cuts v a f earlier station before
 
-  -- The closing batch after the last station that is painted leaves the cursor in the row below, at whatever columns the screen then has and whatever is kept of attributes; also where the run then ends with the refusal of a painting.
+  -- The closing batch after the last station that is painted leaves the cursor in the row below, at whatever columns
+  -- the screen then has and whatever is kept of attributes; also where the run then ends with the refusal of a
+  -- painting.
   abbrev pub DrawnClosings : Type 0
   DrawnClosings = (f : Frame V) (rows : Option ℕ) (cuts : Bool) (v w : ℕ) (a kept : A) (earlier : List (Station V)) (station : Station V) (later : List (Station V)) (before : PictureOf C)
       → ComesSimply rows f earlier station later before → All (RendersNothing rules) later → 2 ≤ w
@@ -89,7 +95,8 @@ module _ {V A C : Type 0} (rules : HostRules V) (pen : Pen A C) where
       ((run_of rules f).taken ≡ f.terminal.batches ++ batches_of rules (earlier ++ station ∷ []))
       × IsClosedSheet rows w (blank_of pen) last (resized cuts (blank_of pen) cols w shown) (closed_by rows cuts cols w kept f shown)
 
-  -- The run from a frame comes to a station and paints it. The screen was cleared before the first of the stations since then, and these are simple and low enough; those before may be anything.
+  -- The run from a frame comes to a station and paints it. The screen was cleared before the first of the stations
+  -- since then, and these are simple and low enough; those before may be anything.
   pub record ComesHealed (rows : Option ℕ) (f : Frame V) (earlier since : List (Station V)) (station : Station V) (later : List (Station V)) : Type 0 where
     pub nothing_painted : f.mark ≡ None
     pub stations : stations_of rules f ≡ earlier ++ (since ++ station ∷ later)
@@ -104,7 +111,8 @@ module _ {V A C : Type 0} (rules : HostRules V) (pen : Pen A C) where
   abbrev pub play_since : Option ℕ → Bool → ℕ → A → List (Station V) → List (Station V) → PictureOf C → PictureOf C
   play_since rows cuts v a earlier since t = play_sized rows cuts pen v a (spelled_sized (since_batches rules earlier since)) t
 
-  -- The batches from the clearing to the station's painting, played on any screen, leave its fresh painting from row 0 on.
+  -- The batches from the clearing to the station's painting, played on any screen, leave its fresh painting from row 0
+  -- on.
   pub record ShowsHealed (rows : Option ℕ) (f : Frame V) (earlier since : List (Station V)) (station : Station V) : Type 0 where
     pub batches : batches_of rules (earlier ++ (since ++ station ∷ [])) ≡ batches_of rules earlier ++ map (λ sized. sized.batch) (since_batches rules earlier (since ++ station ∷ []))
     pub beginning : (rest : List Batch) × ((run_of rules f).taken ≡ f.terminal.batches ++ (batches_of rules (earlier ++ (since ++ station ∷ [])) ++ rest))

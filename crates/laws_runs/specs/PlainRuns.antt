@@ -19,7 +19,8 @@ abbrev pub whole : {A : Type 0} → A → Result A Error
 whole it = Ok it
 
 module _ {V : Type 0} (rules : HostRules V) where
-  -- The batches up to the station's painting are the first of the run, and after them the screen shows its fresh painting from a row on; the rows above are as they were.
+  -- The batches up to the station's painting are the first of the run, and after them the screen shows its fresh
+  -- painting from a row on; the rows above are as they were.
   pub record RunShowsFresh (f : Frame V) (w s : ℕ) (earlier : List (Station V)) (station : Station V) (before : Picture) : Type 0 where
     pub beginning : (rest : List Batch) × ((run_of rules f).taken ≡ f.terminal.batches ++ (batches_of rules (earlier ++ station ∷ []) ++ rest))
     pub fresh : IsFresh w s (sized_scene rules station).scene (play_batches w (batches_of rules (earlier ++ station ∷ [])) before)
@@ -31,7 +32,9 @@ module _ {V : Type 0} (rules : HostRules V) where
       → ReachesPlainly rules f w earlier station later before
       → RunShowsFresh f w (first_row rules before.row (earlier ++ station ∷ [])) earlier station before
 
-  -- The closing batch after the last station that is painted leaves the cursor at column 0 of the row below its fresh painting, all from there on blank, and what is above as it was; also where the run then ends with the refusal of a painting, at a station at which nothing is rendered.
+  -- The closing batch after the last station that is painted leaves the cursor at column 0 of the row below its fresh
+  -- painting, all from there on blank, and what is above as it was; also where the run then ends with the refusal of a
+  -- painting, at a station at which nothing is rendered.
   abbrev pub RunClosesBelow : Frame V → Type 0
   RunClosesBelow f = (w : ℕ) (earlier : List (Station V)) (station : Station V) (later : List (Station V)) (before : Picture)
       → ReachesPlainly rules f w earlier station later before → All (RendersNothing rules) later
@@ -40,7 +43,8 @@ module _ {V : Type 0} (rules : HostRules V) where
       × IsClosed w (last_row w (first_row rules before.row (earlier ++ station ∷ [])) (sized_scene rules station).scene) after
       (play_batches w (closing_if (run_of rules f).mark) after)
 
-  -- Two calls stack: a second run that clears nothing and enters the screen where the closing batch of a first one left it is fresh under that one's last painting, of which nothing is changed.
+  -- Two calls stack: a second run that clears nothing and enters the screen where the closing batch of a first one left
+  -- it is fresh under that one's last painting, of which nothing is changed.
   abbrev pub CallsStack : Type 0
   CallsStack = (f g : Frame V) (w : ℕ) (earlier : List (Station V)) (station : Station V) (none : List (Station V)) (others : List (Station V)) (second : Station V) (later : List (Station V)) (before : Picture)
       → ReachesPlainly rules f w earlier station none before → All (RendersNothing rules) none

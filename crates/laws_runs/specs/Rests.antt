@@ -1,4 +1,5 @@
--- A terminal whose size changes between the batches that it is sent stays at rest, and the attributes that are known stay those that are selected.
+-- A terminal whose size changes between the batches that it is sent stays at rest, and the attributes that are known
+-- stay those that are selected.
 use Rattle.std.specs.Prelude.{◌≡◌, ◌<◌, ◌^◌, neg_ℤ, ℕ, Some, None, List, [], ◌∷◌, ◌++◌, map}
 use Rattle.std.specs.List.{AllByRecursion}
 use Rattle.tw_surface.specs.declared.cell.CellAttributes.{CellAttributes}
@@ -41,15 +42,16 @@ pub record IsTypedStation (station : SizedScene) : Type 0 where
   pub narrow : station.cols < 2 ^ 64
 
 module _ {V A C : Type 0} (rules : HostRules V) (pen : Pen A C) where
-  -- What is sent of such stations leaves it at rest under the attributes that are known then, and the colour after its text is by bytes.
+  -- What is sent of such stations leaves it at rest under the attributes that are known then, and the colour after its
+  -- text is by bytes.
   abbrev pub RestIsKept : Type 0
   RestIsKept = (stations : List (Station V)) (e : Encoder) (t u : EcmaScreen C) → AllByRecursion IsTypedStation (map (sized_scene rules) stations)
       → IsColor e.attributes.background → Rests e.attributes t → Receives pen (stations_sized rules stations) e t u
       → Rests (sent_sized (stations_sized rules stations) e).next.attributes u
       × IsColor (sent_sized (stations_sized rules stations) e).next.attributes.background
 
-  -- As in `HealsSent`, and what is known of the terminal is known where the run begins: it is at rest there, and receives what is sent up to the clearing,
-  -- whatever becomes of its size meanwhile.
+  -- As in `HealsSent`, and what is known of the terminal is known where the run begins: it is at rest there, and
+  -- receives what is sent up to the clearing, whatever becomes of its size meanwhile.
   pub record HealsResized (h w : ℕ) (f : Frame V) (earlier since : List (Station V)) (station : Station V) (later : List (Station V)) (e : Encoder) (first t : EcmaScreen C) : Type 0 where
     pub comes : ComesHealed rules pen (Some h) f earlier since station later
     pub sent : AllByRecursion (IsSentAt h w) (map (sized_scene rules) (since ++ station ∷ []))

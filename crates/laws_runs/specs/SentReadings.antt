@@ -25,8 +25,8 @@ abbrev pub reading_frame : {V W : Type 0} → List ℕ → V → AnsiTerminal W 
 reading_frame prompt value old events = with_events events (fresh_frame prompt value (terminal_state old))
 
 module _ {V W : Type 0} (rules : HostRules V) (contents : W → Option (List ℕ)) where
-  -- A reading was answered over exactly these events, none of which tells another number of columns, at a terminal over a writer that holds these bytes; a
-  -- failure could have been counted.
+  -- A reading was answered over exactly these events, none of which tells another number of columns, at a terminal over
+  -- a writer that holds these bytes; a failure could have been counted.
   pub record IsSentReading (prompt : List ℕ) (value : V) (old new : AnsiTerminal W) (events : List EventView) (held : List ℕ) : Type 0 where
     pub before : List EventView
     pub after : List EventView
@@ -40,8 +40,8 @@ module _ {V W : Type 0} (rules : HostRules V) (contents : W → Option (List ℕ
     pub cols : AllByRecursion (λ size. size.cols ≡ old.encoder.cols) (sizes_in events)
     pub holds : contents old.writer ≡ Some held
 
-  -- Where its run takes these batches, all that it has written are their bytes and those of the closing batch, and what is known of the terminal is known after
-  -- them: so it shows what a terminal shows of the run.
+  -- Where its run takes these batches, all that it has written are their bytes and those of the closing batch, and what
+  -- is known of the terminal is known after them: so it shows what a terminal shows of the run.
   abbrev pub ReadingsAreSent : Type 0
   ReadingsAreSent = (prompt : List ℕ) (value : V) (old new : AnsiTerminal W) (events : List EventView) (held : List ℕ) (batches : List Batch)
       → IsSentReading prompt value old new events held

@@ -39,8 +39,8 @@ module _ {V : Type 0} (rules : HostRules V) where
   sent_run f stations e = sent_batches (batches_of rules stations ++ closing_if (run_of rules f).mark) e
 
 module _ {V A C : Type 0} (rules : HostRules V) (pen : Pen A C) where
-  -- The run from a frame comes to a station and paints it, and so far every station was such a one. A terminal of h rows
-  -- and w columns shows a picture, and the colour that is known after its text is by bytes.
+  -- The run from a frame comes to a station and paints it, and so far every station was such a one. A terminal of h
+  -- rows and w columns shows a picture, and the colour that is known after its text is by bytes.
   pub record ComesSent (h w : ℕ) (f : Frame V) (earlier : List (Station V)) (station : Station V) (later : List (Station V)) (e : Encoder) (t : EcmaScreen C) (before : PictureOf C) : Type 0 where
     pub comes : ComesSimply rules pen (Some h) f earlier station later before
     pub sent : AllByRecursion (IsSentAt h w) (map (sized_scene rules) (earlier ++ station ∷ []))
@@ -52,7 +52,8 @@ module _ {V A C : Type 0} (rules : HostRules V) (pen : Pen A C) where
   abbrev pub shown_by : ℕ → ℕ → Encoder → List (Station V) → PictureOf C → PictureOf C
   shown_by h w e stations before = play_stations rules pen (Some h) false w (pen.attributes e.attributes) stations before
 
-  -- The terminal that is sent these bytes shows the picture on which the batches were played, and there the last station's painting is fresh.
+  -- The terminal that is sent these bytes shows the picture on which the batches were played, and there the last
+  -- station's painting is fresh.
   abbrev pub PaintingsAreShown : Type 0
   PaintingsAreShown = (f : Frame V) (h w : ℕ) (earlier : List (Station V)) (station : Station V) (later : List (Station V)) (e : Encoder) (t : EcmaScreen C) (before : PictureOf C)
       → CarriesAttributes pen → ComesSent h w f earlier station later e t before
@@ -61,8 +62,8 @@ module _ {V A C : Type 0} (rules : HostRules V) (pen : Pen A C) where
       ShowsPicture pen h w sent.next (receive_all pen h w sent.bytes t) (shown_by h w e stations before)
       × ShowsDrawn rules pen (Some h) false w (pen.attributes e.attributes) f earlier station before
 
-  -- After the last painting of a run it shows what the closing batch left: the cursor in the row below, and blanks from there on. The colour that is
-  -- known is by bytes, so that another run can follow.
+  -- After the last painting of a run it shows what the closing batch left: the cursor in the row below, and blanks from
+  -- there on. The colour that is known is by bytes, so that another run can follow.
   abbrev pub ClosingsAreShown : Type 0
   ClosingsAreShown = (f : Frame V) (h w : ℕ) (earlier : List (Station V)) (station : Station V) (later : List (Station V)) (e : Encoder) (t : EcmaScreen C) (before : PictureOf C)
       → CarriesAttributes pen → ComesSent h w f earlier station later e t before → All (RendersNothing rules) later
@@ -78,9 +79,10 @@ module _ {V A C : Type 0} (rules : HostRules V) (pen : Pen A C) where
 
   -- ---- after a clearing
 
-  -- The run from a frame comes to a station and paints it. The screen was cleared before the first of the stations since then, and these are sent at w columns; a
-  -- move back from the painting before them leads no further than a move can. Of the terminal it is known that it has read no part of a sequence, and
-  -- which attributes are selected; it may show anything, its cursor anywhere.
+  -- The run from a frame comes to a station and paints it. The screen was cleared before the first of the stations
+  -- since then, and these are sent at w columns; a move back from the painting before them leads no further than a move
+  -- can. Of the terminal it is known that it has read no part of a sequence, and which attributes are selected; it may
+  -- show anything, its cursor anywhere.
   pub record HealsSent (h w : ℕ) (f : Frame V) (earlier since : List (Station V)) (station : Station V) (later : List (Station V)) (e : Encoder) (t : EcmaScreen C) : Type 0 where
     pub comes : ComesHealed rules pen (Some h) f earlier since station later
     pub sent : AllByRecursion (IsSentAt h w) (map (sized_scene rules) (since ++ station ∷ []))
@@ -99,8 +101,8 @@ module _ {V A C : Type 0} (rules : HostRules V) (pen : Pen A C) where
       (picture : PictureOf C) × ShowsPicture pen h w sent.next (receive_all pen h w sent.bytes t) picture
       × IsFreshSheet w 0 (blank_of pen) (painted_at rules pen station).sheet picture
 
-  -- Where nothing is rendered after that station, the bytes of the closing batch too leave the cursor in column 0 of the row below it, and blanks from there
-  -- on. The colour that is known is by bytes, so that another run can follow.
+  -- Where nothing is rendered after that station, the bytes of the closing batch too leave the cursor in column 0 of
+  -- the row below it, and blanks from there on. The colour that is known is by bytes, so that another run can follow.
   abbrev pub HealedClosingsAreShown : Type 0
   HealedClosingsAreShown = (f : Frame V) (h w : ℕ) (earlier since : List (Station V)) (station : Station V) (later : List (Station V)) (e : Encoder) (t : EcmaScreen C)
       → CarriesAttributes pen → HealsSent h w f earlier since station later e t → All (RendersNothing rules) later

@@ -43,8 +43,8 @@ module _ {V : Type 0} (rules : HostRules V) where
   run_sized f = stations_sized (stations_of rules f) ++ sized_at (run_of rules f).size.cols (closing_if (run_of rules f).mark)
 
 module _ {V W : Type 0} (rules : HostRules V) (contents : W → Option (List ℕ)) where
-  -- A reading was answered over exactly these events, whatever sizes they tell, at a terminal over a writer that holds these bytes; its columns were known,
-  -- and a failure could have been counted.
+  -- A reading was answered over exactly these events, whatever sizes they tell, at a terminal over a writer that holds
+  -- these bytes; its columns were known, and a failure could have been counted.
   pub record IsSizedReading (prompt : List ℕ) (value : V) (old new : AnsiTerminal W) (events : List EventView) (held : List ℕ) : Type 0 where
     pub before : List EventView
     pub after : List EventView
@@ -58,16 +58,17 @@ module _ {V W : Type 0} (rules : HostRules V) (contents : W → Option (List ℕ
     pub cols : old.encoder.cols ≡ old.size.cols
     pub holds : contents old.writer ≡ Some held
 
-  -- What it has written is what was there, and then the batches of its run, each sent for the columns of its station; what is known is what is known after
-  -- them, and the columns are known again.
+  -- What it has written is what was there, and then the batches of its run, each sent for the columns of its station;
+  -- what is known is what is known after them, and the columns are known again.
   abbrev pub ReadingsAreSized : Type 0
   ReadingsAreSized = (prompt : List ℕ) (value : V) (old new : AnsiTerminal W) (events : List EventView) (held : List ℕ)
       → IsSizedReading prompt value old new events held
       → let sent = sent_sized (run_sized rules (reading_frame prompt value old events)) old.encoder in
       (contents new.writer ≡ Some (held ++ sent.bytes)) × (new.encoder ≡ sent.next) × (new.encoder.cols ≡ new.size.cols)
 
-  -- A changed size is followed from the next clearing on: the bytes of the stations since then, which are sent at w columns, come after those of the earlier
-  -- ones, whatever columns these were sent at. Without earlier ones they are the first bytes.
+  -- A changed size is followed from the next clearing on: the bytes of the stations since then, which are sent at w
+  -- columns, come after those of the earlier ones, whatever columns these were sent at. Without earlier ones they are
+  -- the first bytes.
   abbrev pub SinceIsSent : Type 0
   SinceIsSent = (prompt : List ℕ) (value : V) (old new : AnsiTerminal W) (events : List EventView) (held : List ℕ)
       (h w : ℕ) (earlier since : List (Station V)) (station : Station V) (later : List (Station V))
@@ -78,7 +79,8 @@ module _ {V W : Type 0} (rules : HostRules V) (contents : W → Option (List ℕ
       let sent = sent_batches (map (λ sized. sized.batch) (since_batches rules earlier (since ++ station ∷ []))) (record before.next { cols = w }) in
       (rest : List ℕ) × (contents new.writer ≡ Some (held ++ (before.bytes ++ (sent.bytes ++ rest))))
 
-  -- Where that station is the last one, only those of the closing batch come after them, and what is known of the terminal is known after those.
+  -- Where that station is the last one, only those of the closing batch come after them, and what is known of the
+  -- terminal is known after those.
   abbrev pub SinceIsSentWhole : Type 0
   SinceIsSentWhole = (prompt : List ℕ) (value : V) (old new : AnsiTerminal W) (events : List EventView) (held : List ℕ)
       (h w : ℕ) (earlier since : List (Station V)) (station : Station V)

@@ -1,7 +1,7 @@
 //! What screens show while the batches of a run of the editor are played on them: characters alone or under their
-//! attributes, on a screen without a bottom, one of some rows, which scrolls, one that was cleared, and one that cuts its
-//! rows to its columns. And what a terminal shows that is sent the bytes of a run, or of a reading: that of `tw_ansi`, of
-//! some rows and columns.
+//! attributes, on a screen without a bottom, one of some rows, which scrolls, one that was cleared, and one that cuts
+//! its rows to its columns. And what a terminal shows that is sent the bytes of a run, or of a reading: that of
+//! `tw_ansi`, of some rows and columns.
 //!
 //! Each law is the contract of a function that does nothing. It holds for the run from every frame; that a call took
 //! the batches of its run is what `read_line` of `tw_lineedit` says.
@@ -27,8 +27,8 @@ pub fn plain_runs<H: LineEditorHost>()
 {}
 
 /// What `shows` of `read_line` says of a call that was answered, with the batches of its run, gives these two for its
-/// run. And a call that took no batch breaks it, where its run begins plainly: if it was answered, and also if memory or
-/// the terminal stopped it after its first event.
+/// run. And a call that took no batch breaks it, where its run begins plainly: if it was answered, and also if memory
+/// or the terminal stopped it after its first event.
 pub fn shown_calls<H: LineEditorHost>()
     ensures runs { ShownRuns H.rules (Option (List ℕ)) }
     ensures nothing { PaintsNothing H.rules (Option (List ℕ)) }
@@ -63,8 +63,8 @@ pub fn sent_runs<H: LineEditorHost, A, C>()
     ensures healed_closings { (pen : Pen A C) → HealedClosingsAreShown H.rules pen }
 {}
 
-/// The bytes that `read_line_from` has written, if it was answered and no event told another number of columns, are those
-/// of its run's batches: so a terminal shows what `sent_runs` says of the run, or `sent_rows` of `laws_prompt`.
+/// The bytes that `read_line_from` has written, if it was answered and no event told another number of columns, are
+/// those of its run's batches: so a terminal shows what `sent_runs` says of the run, or `sent_rows` of `laws_prompt`.
 pub fn sent_readings<H: LineEditorHost, W: Write>()
     ensures { ReadingsAreSent H.rules W.contents }
 {}
@@ -79,9 +79,9 @@ pub fn sized_readings<H: LineEditorHost, W: Write>()
     ensures whole { SinceIsSentWhole H.rules W.contents }
 {}
 
-/// What is sent of stations of plain texts and of colours by bytes leaves a terminal at rest under the attributes that are
-/// known then, whatever becomes of its size, its cells and its cursor between the batches. So a terminal that was at rest
-/// where a reading began, and has changed its size since, is one that the next clearing heals.
+/// What is sent of stations of plain texts and of colours by bytes leaves a terminal at rest under the attributes that
+/// are known then, whatever becomes of its size, its cells and its cursor between the batches. So a terminal that was
+/// at rest where a reading began, and has changed its size since, is one that the next clearing heals.
 pub fn rested<H: LineEditorHost, A, C>()
     ensures kept { (pen : Pen A C) → RestIsKept H.rules pen }
     ensures heals { (pen : Pen A C) → ResizedHeals H.rules pen }

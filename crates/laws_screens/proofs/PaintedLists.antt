@@ -28,7 +28,8 @@ module _ {C : Type 0} where
 
   -- ---- where a painting begins
 
-  -- the cursor is at column 0 of row s, or where the move of the painting before leads it back to row s; after a clearing that move leads to row 0
+  -- the cursor is at column 0 of row s, or where the move of the painting before leads it back to row s; after a
+  -- clearing that move leads to row 0
   abbrev pub IsBefore : Bool → ℕ → Option (ℕ → ℕ) → PictureOf C → Type 0
   IsBefore true s None t = Unit {0}
   IsBefore true s (Some back) t = back 0 ≡ 0

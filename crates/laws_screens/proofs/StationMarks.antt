@@ -1,4 +1,5 @@
--- What a list of stations leaves for what is painted after it: the cursor in the first row of a painting or below, and the batch that closes it.
+-- What a list of stations leaves for what is painted after it: the cursor in the first row of a painting or below, and
+-- the batch that closes it.
 use Rattle.std.proofs.Common.{◌≡◌, ℕ, suc, ℤ, pos, negsuc, ◌+ℤ◌, ◌≤ℤ◌, ◌+◌, Bool, true, false, Option, Some, None, List, [], ◌∷◌, ◌++◌, map, refl, sym, ap, ◌∙◌, subst, arith, leb, if◌then◌else◌}
 use Rattle.std.specs.List.{list_all, All}
 use Rattle.std.proofs.lemmas.Bool.{false≢true}

@@ -24,14 +24,16 @@ rows_in s = map (λ r. map (λ c. s.cell r c) (0 ∷ 1 ∷ 2 ∷ 3 ∷ 4 ∷ [])
 abbrev a_to_f : Scene
 a_to_f = scene_of (97 ∷ 98 ∷ 99 ∷ 100 ∷ 101 ∷ 102 ∷ []) 6 NoLower false
 
--- five columns, three, and five again: the row above has lost its last two columns, and nothing of the paintings before is left
+-- five columns, three, and five again: the row above has lost its last two columns, and nothing of the paintings before
+-- is left
 changes_width : let after = play_sized None true characters 5 tt (sized_batches (record { scene = a_to_f; cols = 5 } ∷ record { scene = a_to_f; cols = 3 } ∷ record { scene = a_to_f; cols = 5 } ∷ [])) (cells_of full) in
     (rows_in after ≡ (65 ∷ 65 ∷ 65 ∷ 32 ∷ 32 ∷ []) ∷ (62 ∷ 32 ∷ 97 ∷ 98 ∷ 99 ∷ []) ∷ (100 ∷ 101 ∷ 102 ∷ 32 ∷ 32 ∷ []) ∷ (32 ∷ 32 ∷ 32 ∷ 32 ∷ 32 ∷ []) ∷ [])
     × (after.row ≡ 2) × (after.col ≡ 3)
 unfolding pieces
 changes_width = (refl, refl, refl)
 
--- A terminal that breaks its rows anew at three columns shows "> ab" in two of them, and the cursor in the second one. The next painting begins there, and the first row stays.
+-- A terminal that breaks its rows anew at three columns shows "> ab" in two of them, and the cursor in the second one.
+-- The next painting begins there, and the first row stays.
 abbrev a_to_b : Scene
 a_to_b = scene_of (97 ∷ 98 ∷ []) 2 NoLower false
 

@@ -38,7 +38,8 @@ under a ch = record { ch = ch; attributes = a }
 abbrev empty : StyledCell
 empty = under plain 32
 
--- a green prompt that sets no attributes back, an accent in red at the end of a line that fills its row, and a preview of two lines that turns red after its first one
+-- a green prompt that sets no attributes back, an accent in red at the end of a line that fills its row, and a preview
+-- of two lines that turns red after its first one
 abbrev first : SizedScene
 first = record {
   scene = record {

@@ -4,7 +4,9 @@ use Rattle.laws_screens.specs.Strokes.{PictureOf, Stroke, filled, steps_on, resi
 use Rattle.laws_screens.specs.Strokes.Stroke.{ClearBehind, Move}
 use Rattle.laws_screens.specs.Sheets.{Sheet, sheet_last_row, sheet_cursor_row, end_col, drawing, IsFreshSheet, IsLow, raised_row}
 
--- a painting of a sheet at cols columns, whether the screen is cleared just before, and its moves: the last one from where the sheet ends to the cursor, by row and by column, and from there the one back to its first row and the one to the row under it
+-- a painting of a sheet at cols columns, whether the screen is cleared just before, and its moves: the last one from
+-- where the sheet ends to the cursor, by row and by column, and from there the one back to its first row and the one to
+-- the row under it
 pub record SheetPainting (C : Type 0) : Type 0 where
   pub sheet : Sheet C
   pub cols : ℕ
@@ -59,7 +61,8 @@ pub record IsFit {C : Type 0} (rows : Option ℕ) (p : SheetPainting C) : Type 0
   pub led : IsLed p
   pub low : IsLow rows p.cols p.sheet
 
--- After the last painting of a list the screen shows it fresh from row s on. Above it, what stood from row e on up is moved up, in the columns that the screen had all along; the others are b where the screen cuts its rows.
+-- After the last painting of a list the screen shows it fresh from row s on. Above it, what stood from row e on up is
+-- moved up, in the columns that the screen had all along; the others are b where the screen cuts its rows.
 pub record AreShownOver {C : Type 0} (cuts : Bool) (b : C) (least e s : ℕ) (last : SheetPainting C) (before after : PictureOf C) : Type 0 where
   pub fresh : IsFreshSheet last.cols s b last.sheet after
   pub above : (r c : ℕ) → r < s → c < last.cols → c < least → after.cell r c ≡ before.cell (r + (e - s)) c
@@ -76,7 +79,8 @@ abbrev pub seen_row : Option ℕ → ℕ → ℕ
 seen_row None r = r
 seen_row (Some h) r = min r (h - 1)
 
--- the cursor at column 0 of the row under the last one, scrolled into sight; all from there on is b, and the rows above are as they were, moved up
+-- the cursor at column 0 of the row under the last one, scrolled into sight; all from there on is b, and the rows above
+-- are as they were, moved up
 pub record IsClosedSheet {C : Type 0} (rows : Option ℕ) (width : ℕ) (b : C) (last : ℕ) (before after : PictureOf C) : Type 0 where
   pub row : after.row ≡ seen_row rows (last + 1)
   pub col : after.col ≡ 0

@@ -11,7 +11,8 @@ use Rattle.tw_surface.specs.ChangeView.{Attribute, AllAttributes, Text, ClearScr
 use Rattle.tw_surface.specs.Characters.{cr, lf}
 use Rattle.tw_surface.specs.Positions.{position_after, at_least_0}
 
--- what a screen keeps of attributes, and the cells that it makes: of a character under them, and of a clearing in a colour
+-- what a screen keeps of attributes, and the cells that it makes: of a character under them, and of a clearing in a
+-- colour
 pub record Pen (A C : Type 0) : Type 0 where
   pub attributes : CellAttributes → A
   pub attribute : AttributeChange → A → A

@@ -11,7 +11,8 @@ use Rattle.tw_surface.specs.Fresh.{IsFresh, IsSameAbove, IsClosed, last_row, cur
 use Rattle.tw_surface.specs.Simple.{IsSimple, spelled_scene}
 use Rattle.tw_surface.specs.PaintingBatches.{Shot, SizedScene, IsPlainAt, shot_of, scenes_of, batches, closing_batch, last_of, shown_batches, closing_of, run_batches, play_batches, start_row}
 
--- the first painting of a run that enters at column 0 of row e is fresh from row e on, and the rows above are as they were
+-- the first painting of a run that enters at column 0 of row e is fresh from row e on, and the rows above are as they
+-- were
 abbrev pub FirstPainting : Type 0
 FirstPainting = (w e : ℕ) (scene : Scene) (before : Picture) → 2 ≤ w → before.row ≡ e → before.col ≡ 0 → IsPlain scene → scene.cleared ≡ false
     → let after = play_batches w (shown_batches w (scene ∷ [])) before in IsFresh w e scene after × IsSameAbove w e before after
@@ -29,7 +30,8 @@ ClearedPainting = (w e : ℕ) (first : Scene) (more : List Scene) (before : Pict
     → 2 ≤ w → before.row ≡ e → before.col ≡ 0 → All IsPlain (first ∷ more) → list_any (λ scene. scene.cleared) (first ∷ more) ≡ true
     → IsFresh w 0 (last_of first more) (play_batches w (shown_batches w (first ∷ more)) before)
 
--- every painting of a run that enters at column 0 of row e leaves the fresh painting of its scene, and the rows above as they were at entry
+-- every painting of a run that enters at column 0 of row e leaves the fresh painting of its scene, and the rows above
+-- as they were at entry
 abbrev pub IncrementalEqualsFresh : Type 0
 IncrementalEqualsFresh = (w e : ℕ) (first : Scene) (more : List Scene) (before : Picture)
     → 2 ≤ w → before.row ≡ e → before.col ≡ 0 → All IsPlain (first ∷ more)
@@ -37,7 +39,8 @@ IncrementalEqualsFresh = (w e : ℕ) (first : Scene) (more : List Scene) (before
     let after = play_batches w (shown_batches w (first ∷ more)) before in
     IsFresh w s (last_of first more) after × IsSameAbove w s before after
 
--- the batches up to a painting are a beginning of those of the whole list, whatever is painted later and at whatever size
+-- the batches up to a painting are a beginning of those of the whole list, whatever is painted later and at whatever
+-- size
 abbrev pub Beginning : Type 0
 Beginning = (first later : List Shot) → (rest : List Batch) × (batches (first ++ later) ≡ batches first ++ rest)
 
@@ -66,7 +69,8 @@ abbrev pub CountedRows : Type 0
 CountedRows = (w s : ℕ) (scene : Scene) → 2 ≤ w → IsPlain scene
     → ((painting w scene).row ≡ pos (cursor_row w scene)) × (s + (painting w scene).height ≡ last_row w s scene)
 
--- a text is its lines with CR LF between each two; a printable text is one line, and printable lines with CR LF between each two are cut into themselves
+-- a text is its lines with CR LF between each two; a printable text is one line, and printable lines with CR LF between
+-- each two are cut into themselves
 abbrev pub LinesOfText : Type 0
 LinesOfText = ((text : List ℕ) → text_of_lines (lines_of text) ≡ text)
     × ((text : List ℕ) → list_all is_printable text ≡ true → lines_of text ≡ text ∷ [])
@@ -81,7 +85,8 @@ abbrev pub OneFreshPainting : Type 0
 OneFreshPainting = (w s : ℕ) (scene : Scene) (a b : Picture) → 2 ≤ w → IsFresh w s scene a → IsFresh w s scene b
     → ((r c : ℕ) → s ≤ r → c < w → a.cell r c ≡ b.cell r c) × (a.row ≡ b.row) × (a.col ≡ b.col)
 
--- of any list of stations: the batches up to a painting are a beginning of all of them, and where each station so far is plain and for w columns, they leave its fresh painting
+-- of any list of stations: the batches up to a painting are a beginning of all of them, and where each station so far
+-- is plain and for w columns, they leave its fresh painting
 abbrev pub EveryPainting : Type 0
 EveryPainting = (w e : ℕ) (earlier : List SizedScene) (station : SizedScene) (later : List SizedScene) (before : Picture)
     → 2 ≤ w → before.row ≡ e → before.col ≡ 0 → All (IsPlainAt w) (earlier ++ station ∷ [])

@@ -14,7 +14,8 @@ pub record SizedBatch : Type 0 where
 abbrev pub sized_at : ℕ → List Batch → List SizedBatch
 sized_at w played = map (λ batch. record { cols = w; batch = batch }) played
 
--- the batches of a list of stations, after an earlier painting, if there was one: each comes at the columns of its station
+-- the batches of a list of stations, after an earlier painting, if there was one: each comes at the columns of its
+-- station
 abbrev pub sized_after : Option Mark → List SizedScene → List SizedBatch
 sized_after mark [] = []
 sized_after mark (station ∷ more) =

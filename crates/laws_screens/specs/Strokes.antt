@@ -7,7 +7,8 @@ pub record PictureOf (C : Type 0) : Type 0 where
   pub row : ℕ
   pub col : ℕ
 
--- a cell is put at the cursor; the cursor goes to column 0, or a row down; every cell becomes one cell, or every cell from the cursor on; or the cursor moves, its row by one rule and its column by another
+-- a cell is put at the cursor; the cursor goes to column 0, or a row down; every cell becomes one cell, or every cell
+-- from the cursor on; or the cursor moves, its row by one rule and its column by another
 pub data Stroke (C : Type 0) : Type 0 where
   Put : C → Stroke C
   Return : Stroke C
@@ -76,7 +77,8 @@ InSight (Some h) r = r < h
 
 -- ---- a screen whose number of columns changes
 
--- a screen of v columns has w from now on: the columns that it had and has are as they were, the others are b, and a cursor after the last column stands in it
+-- a screen of v columns has w from now on: the columns that it had and has are as they were, the others are b, and a
+-- cursor after the last column stands in it
 abbrev pub cut_to : {C : Type 0} → C → ℕ → ℕ → PictureOf C → PictureOf C
 cut_to b v w s = record {
   cell = λ r c. if ltb c (min v w) then s.cell r c else b;

@@ -15,7 +15,8 @@ pub record StyledCell : Type 0 where
   pub ch : ℕ
   pub attributes : CellAttributes
 
--- characters under their attributes: a clearing leaves blanks with its colour as background, and default attributes else
+-- characters under their attributes: a clearing leaves blanks with its colour as background, and default attributes
+-- else
 abbrev pub styled : Pen CellAttributes StyledCell
 styled = record {
   attributes = λ x. x;

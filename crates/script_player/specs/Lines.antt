@@ -24,6 +24,7 @@ IsBad line = (line ≢ []) × ¬ (IsDirective line)
 abbrev pub IsBadAt : List (List ℕ) → ℕ → Type 0
 IsBadAt lines i = (line : List ℕ) × (slice_get lines i ≡ Some line) × IsBad line
 
--- the number of the first bad line, counted from 1: the line at the index before it is bad, and none at a lesser index is
+-- the number of the first bad line, counted from 1: the line at the index before it is bad, and none at a lesser index
+-- is
 abbrev pub IsFirstBad : List (List ℕ) → ℕ → Type 0
 IsFirstBad lines n = (i : ℕ) × (n ≡ i + 1) × IsBadAt lines i × ((k : ℕ) → k < i → ¬ (IsBadAt lines k))

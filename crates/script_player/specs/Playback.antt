@@ -58,7 +58,8 @@ obeyed (Candidate range text) s = record s { host = with_last_candidate (scripte
 obeyed Read s = record s { events = [] }
 obeyed directive s = record s { events = s.events ++ directive_events directive }
 
--- an editor with the prompt, on a new terminal of so many columns, over the events, with the host, answers this, and leaves the host's value
+-- an editor with the prompt, on a new terminal over the events, with the host, answers this, and leaves the host's
+-- value
 abbrev pub Answers : Stage → Outcome → Type 0
 Answers s answer =
     (after : TerminalState) × ReadsLine script_rules s.prompt s.host s.host (fresh_terminal (record { rows = 24; cols = s.cols }) s.events) after answer
@@ -67,12 +68,14 @@ Answers s answer =
 abbrev pub Tells : Stage → List ℕ → Type 0
 Tells s told = (answer : Outcome) × (shown : List ℕ) × Answers s answer × (told ≡ (answer_text answer ++ (10 ∷ [])) ++ shown)
 
--- A directive is obeyed: what is kept is as it makes it, and a reading has told its answer and may leave another screen. No other directive writes.
+-- A directive is obeyed: what is kept is as it makes it, and a reading has told its answer and may leave another
+-- screen. No other directive writes.
 abbrev pub Obeys : Directive → Stage → Stage → Contents → Contents → Type 0
 Obeys Read s t old new = (t ≡ record s { events = []; screen = t.screen }) × ((told : List ℕ) × Tells s told × Appends old new told)
 Obeys directive s t old new = (t ≡ obeyed directive s) × (new ≡ old)
 
--- what is kept where a directive is refused: all, but the events of some keys may have been added, and a reading has taken them all
+-- what is kept where a directive is refused: all, but the events of some keys may have been added, and a reading has
+-- taken them all
 abbrev pub Stays : Directive → Stage → Stage → Type 0
 Stays («Type» text) s t = t ≡ record s { events = t.events }
 Stays (Paste text) s t = t ≡ record s { events = t.events }
@@ -80,7 +83,8 @@ Stays (Key key) s t = t ≡ record s { events = t.events }
 Stays Read s t = t ≡ record s { events = []; screen = t.screen }
 Stays directive s t = t ≡ s
 
--- A directive is refused: for want of memory, and nothing is written; or since a write failed, and a beginning of what a reading tells is written.
+-- A directive is refused: for want of memory, and nothing is written; or since a write failed, and a beginning of what
+-- a reading tells is written.
 abbrev pub FailsToObey : Directive → Stage → Stage → Contents → Contents → RunFault → Type 0
 FailsToObey directive s t old new (BadLine n) = ⊥
 FailsToObey directive s t old new Memory = Stays directive s t × (new ≡ old)

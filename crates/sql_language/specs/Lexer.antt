@@ -1,4 +1,5 @@
--- What each byte of an SQL text stands in: white space, a word, a number, a mark, a comment, or quotes. A byte from 128 on is a letter.
+-- What each byte of an SQL text stands in: white space, a word, a number, a mark, a comment, or quotes. A byte from 128
+-- on is a letter.
 use Rattle.std.specs.Prelude.{ℕ, ◌==◌, Bool, true, false, ◌&&◌, ◌||◌, not, Option, Some, None, nat_le, if◌then◌else◌}
 use Rattle.sql_language.specs.declared.lexer.Quote.{Quote}
 use Rattle.sql_language.specs.declared.lexer.Quote.TheVariants.{Single, Double, Grave, Square}

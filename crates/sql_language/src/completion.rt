@@ -5,8 +5,8 @@ use crate::tokens::{TokenKind, tokenize};
 use crate::words::is_start_of;
 use std::alloc::{AllocError, Global};
 
-/// Returns the word that is completed behind a text: its last token if that is a word, or an empty one behind white space
-/// and marks. Behind a number, and within quotes and comments or right behind them, nothing is completed: `None`.
+/// Returns the word that is completed behind a text: its last token if that is a word, or an empty one behind white
+/// space and marks. Behind a number, and within quotes and comments or right behind them, nothing is completed: `None`.
 pub fn begun_word<'a>(alloc: Global, text: &'a str) -> Result<Option<&'a str>, AllocError> {
     let tokens = tokenize(alloc, text)?;
     let Some(last) = tokens.as_slice().last() else {

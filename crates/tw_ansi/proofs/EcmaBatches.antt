@@ -219,7 +219,8 @@ module _ {A C : Type 0} (pen : Pen A C) where
   abbrev Then : ℕ → ℕ → EcmaScreen C → Sent → PictureOf C → Type 0
   Then h w t x s = ShowsPicture pen h w x.next (receive_all pen h w x.bytes t) s
 
-  -- what is sent for a clearing, where that colour is set after the text: by rows, from the cursor on, and from the next row on
+  -- what is sent for a clearing, where that colour is set after the text: by rows, from the cursor on, and from the
+  -- next row on
   abbrev by_rows : ColorAttribute → ColorAttribute → Encoder → Sent
   by_rows color set e = record { bytes = clear_with clear_rows color set; next = e }
 

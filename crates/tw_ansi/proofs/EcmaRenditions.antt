@@ -71,7 +71,8 @@ three_more xs r g b p q s =
 byte_value : (n : ℕ) → n < 256 → value_after 0 (decimal n) ≡ n
 byte_value n small = decimal_value n (omega (arith, small))
 
--- a colour of a kind is selected by its parameters, where the digit before them and what stands after it lead to that kind
+-- a colour of a kind is selected by its parameters, where the digit before them and what stands after it lead to that
+-- kind
 color_selected : (kind : ColorAttribute → AttributeChange) (digit : ℕ) (a : CellAttributes)
     → selected (digit ∷ codes "9") a ≡ with_attribute (kind Default) a
     → ((index : List ℕ) → (selected_by (fields (digit ∷ codes "8;5") ++ index ∷ []) (selects a)).attributes ≡ with_attribute (kind (PaletteIndex (value_after 0 index))) a)

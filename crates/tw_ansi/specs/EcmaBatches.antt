@@ -32,9 +32,10 @@ IsReached h (Absolute row) = (row < h) × (row ≤ most_rows)
 IsReached h (Relative (pos n)) = n ≤ most_rows
 IsReached h (Relative (negsuc n)) = n < most_rows
 
--- a change whose bytes do at a terminal of h rows and w columns what the change draws: any but a text that is not plain, a move to a row that is not
--- reached, and a clearing from after the last column of the last row on; the colours, and the one that is known to be set after the text where it
--- clears, are by bytes, and a clearing leaves blanks
+-- a change whose bytes do at a terminal of h rows and w columns what the change draws: any but a text that is not
+-- plain, a move to a row that is not reached, and a clearing from after the last column of the last row on; the
+-- colours, and the one that is known to be set after the text where it clears, are by bytes, and a clearing leaves
+-- blanks
 abbrev pub IsSendable : {A C : Type 0} → Pen A C → ℕ → ℕ → Encoder → ChangeView → PictureOf C → Type 0
 IsSendable pen h w e (Text text) s = list_all is_plain text ≡ true
 IsSendable pen h w e (Attribute change) s = IsAttribute change
@@ -48,7 +49,8 @@ IsSendable pen h w e (CursorPosition x y) s = IsReached h y
 abbrev pub first_picture : {A C : Type 0} → Pen A C → ℕ → EcmaScreen C → PictureOf C
 first_picture pen h t = record { cell = λ r c. if ltb r h then t.cell r c else blank_of pen; row = t.row; col = 0 }
 
--- a terminal with default attributes whose cursor stands in column 0 shows its own cells, whatever they are, to a new encoder
+-- a terminal with default attributes whose cursor stands in column 0 shows its own cells, whatever they are, to a new
+-- encoder
 abbrev pub FirstIsShown : {A C : Type 0} → Pen A C → Type 0
 FirstIsShown {A} {C} pen = (h w : ℕ) (t : EcmaScreen C)
     → 0 < w → t.row < h → t.col ≡ 0 → t.waits ≡ false → t.reading ≡ terminal.Text → t.rendition ≡ default_attributes

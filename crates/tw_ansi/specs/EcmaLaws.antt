@@ -44,7 +44,8 @@ abbrev pub ColumnsAreReached : {A C : Type 0} → Pen A C → Type 0
 ColumnsAreReached {A} {C} pen = (h w col : ℕ) (t : EcmaScreen C) → col < w → col < 2 ^ 64
     → receive_all pen h w (to_column col) (at_rest t) ≡ record t { col = col; waits = false; reading = terminal.Text }
 
--- going from the cursor's column to another one of the screen leads there, where the cursor does not wait, and shows nothing
+-- going from the cursor's column to another one of the screen leads there, where the cursor does not wait, and shows
+-- nothing
 abbrev pub AlongRowsAreReached : {A C : Type 0} → Pen A C → Type 0
 AlongRowsAreReached {A} {C} pen = (h w col : ℕ) (t : EcmaScreen C) → t.col < w → col < w → w < 2 ^ 64
     → receive_all pen h w (along_row t.col col) (record t { waits = false; reading = terminal.Text })

@@ -88,13 +88,15 @@ pub record IsShowable (h w : ℕ) (scene : Scene) : Type 0 where
   pub back : IsReached h (Relative (neg_ℤ (painting w scene).row))
   pub under : IsReached h (Relative (pos (1 + (painting w scene).height) -ℤ (painting w scene).row))
 
--- all batches of a run that paints such scenes are sendable, where the cursor does not stand after the last column at first
+-- all batches of a run that paints such scenes are sendable, where the cursor does not stand after the last column at
+-- first
 abbrev pub RunIsSendable : {A C : Type 0} → Pen A C → Type 0
 RunIsSendable {A} {C} pen = (h w : ℕ) (scenes : List Scene) (e : Encoder) (s : PictureOf C)
     → 0 < w → AllByRecursion (IsShowable h w) scenes → IsColor e.attributes.background → s.col < w
     → AreAllSendable pen h w e (run_batches w scenes) s
 
--- a terminal that shows a picture, and is sent the bytes of sendable batches, shows the picture on which they were drawn
+-- a terminal that shows a picture, and is sent the bytes of sendable batches, shows the picture on which they were
+-- drawn
 abbrev pub BatchesAreShown : {A C : Type 0} → Pen A C → Type 0
 BatchesAreShown {A} {C} pen = (h w : ℕ) (batches : List Batch) (e : Encoder) (t : EcmaScreen C) (s : PictureOf C)
     → CarriesAttributes pen → 0 < w → w < 2 ^ 64 → AreAllSendable pen h w e batches s → ShowsPicture pen h w e t s

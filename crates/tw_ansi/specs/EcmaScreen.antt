@@ -16,7 +16,8 @@ pub data Reading : Type 0 where
   Escaped : Reading
   Parameters : List ℕ → Reading
 
--- the cells shown, the cursor, whether it waits after the last column, the attributes that are selected, and how far a sequence was read
+-- the cells shown, the cursor, whether it waits after the last column, the attributes that are selected, and how far a
+-- sequence was read
 pub record EcmaScreen (C : Type 0) : Type 0 where
   pub cell : ℕ → ℕ → C
   pub row : ℕ
@@ -59,8 +60,9 @@ row_cleared cell row col x r c = if eqb row r && leb col c then x else cell r c
 abbrev pub told_steps : ℕ → ℕ
 told_steps n = if eqb n 0 then 1 else n
 
--- what a sequence of one number does: CUU, CUD, CUF and CUB stop at the edge, VPA and CUP count from 1, ED clears from the cursor on or all,
--- EL the row from the cursor on, and any other does nothing; what is cleared is under the colour that is selected
+-- what a sequence of one number does: CUU, CUD, CUF and CUB stop at the edge, VPA and CUP count from 1, ED clears from
+-- the cursor on or all, EL the row from the cursor on, and any other does nothing; what is cleared is under the colour
+-- that is selected
 abbrev pub act_by : {A C : Type 0} → Pen A C → ℕ → ℕ → ℕ → ℕ → EcmaScreen C → EcmaScreen C
 act_by pen h w n letter t =
     let paper = pen.paper t.rendition.background in

@@ -15,8 +15,9 @@ pub record IsOfRows {C : Type 0} (blank : C) (h : ℕ) (s : PictureOf C) : Type 
   pub row : s.row < h
   pub below : (r c : ℕ) → h ≤ r → s.cell r c ≡ blank
 
--- the terminal shows the picture of a screen of h rows and w columns: the same cells and the same row; after the last column it waits there, or
--- stands in it without waiting and the encoder knows that; and those attributes are selected that the encoder knows
+-- the terminal shows the picture of a screen of h rows and w columns: the same cells and the same row; after the last
+-- column it waits there, or stands in it without waiting and the encoder knows that; and those attributes are selected
+-- that the encoder knows
 pub record ShowsPicture {A C : Type 0} (pen : Pen A C) (h w : ℕ) (e : Encoder) (t : EcmaScreen C) (s : PictureOf C) : Type 0 where
   pub within : IsOfRows (blank_of pen) h s
   pub edge : s.col ≤ w
@@ -30,8 +31,8 @@ pub record ShowsPicture {A C : Type 0} (pen : Pen A C) (h w : ℕ) (e : Encoder)
   pub cols : e.cols ≡ w
   pub x : e.x ≡ s.col
 
--- a terminal that shows a picture, and is sent the bytes of a plain text, shows the picture on which the text was drawn under the attributes that
--- the encoder knows
+-- a terminal that shows a picture, and is sent the bytes of a plain text, shows the picture on which the text was drawn
+-- under the attributes that the encoder knows
 abbrev pub PlainTextIsShown : {A C : Type 0} → Pen A C → Type 0
 PlainTextIsShown {A} {C} pen = (h w : ℕ) (text : List ℕ) (e : Encoder) (t : EcmaScreen C) (s : PictureOf C)
     → 0 < w → w < 2 ^ 64 → list_all is_plain text ≡ true → ShowsPicture pen h w e t s

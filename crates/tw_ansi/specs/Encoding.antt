@@ -106,8 +106,8 @@ sent_clusters (cluster ∷ more) e = sent_then (sent_cluster e cluster) (sent_cl
 abbrev pub sent_text : List ℕ → Encoder → Sent
 sent_text text e = if list_all is_plain text then sent_plain text e else sent_clusters (graphemes true text) e
 
--- clearing from the cursor on: from column 0 on by rows, and where the last column is written it is kept, by clearing from the next
--- row on
+-- clearing from the cursor on: from column 0 on by rows, and where the last column is written it is kept, by clearing
+-- from the next row on
 abbrev pub sent_clear : ColorAttribute → Encoder → Sent
 sent_clear color e =
     let clear = clear_with clear_below color e.attributes.background in
@@ -137,8 +137,8 @@ abbrev pub sent_batch : Batch → Encoder → Sent
 sent_batch [] e = sends [] e
 sent_batch (change ∷ changes) e = sent_then (sent_change change e) (sent_batch changes)
 
--- what leads to a row of the terminal and to a column by few bytes: steps from where the cursor stands, and where it stands after the last column the way
--- from the start of the row
+-- what leads to a row of the terminal and to a column by few bytes: steps from where the cursor stands, and where it
+-- stands after the last column the way from the start of the row
 abbrev pub terse_move : Position → Position → Encoder → List ℕ
 terse_move x y e = along_column y ++ (if ltb e.x e.cols then along_row e.x (column_of x e) else to_column (column_of x e))
 

@@ -123,7 +123,8 @@ abbrev pub CursorReports : Type 0
 CursorReports = (row col : ℕ) → 1 < row → row < 2 ^ 64 → 0 < col → col < 2 ^ 64
     → IsTaken (sequence (decimal row ++ 59 ∷ decimal col) (82 ∷ [])) (Size (min col most) (min row most))
 
--- a size that a terminal tells by itself: ESC [ 48, its rows and its columns after a semicolon each, and more numbers before t
+-- a size that a terminal tells by itself: ESC [ 48, its rows and its columns after a semicolon each, and more numbers
+-- before t
 abbrev pub SizeReports : Type 0
 SizeReports = (rows cols : ℕ) (more : List ℕ) → 0 < rows → rows < 2 ^ 64 → 0 < cols → cols < 2 ^ 64 → list_all is_numeric more ≡ true
     → IsTaken (sequence (codes "48;" ++ decimal rows ++ 59 ∷ (decimal cols ++ 59 ∷ more)) (116 ∷ [])) (Size (min cols most) (min rows most))

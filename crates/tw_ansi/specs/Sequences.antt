@@ -38,8 +38,8 @@ to_column col = cr ∷ (if eqb col 0 then [] else sequence (decimal col) (codes 
 abbrev pub step_count : ℕ → List ℕ
 step_count n = if eqb n 1 then [] else decimal n
 
--- from a column to another one of the row: nothing where it is the same, to the first one by CR, to the right by CUF, and to the left by BS, or by CUB
--- where that is shorter
+-- from a column to another one of the row: nothing where it is the same, to the first one by CR, to the right by CUF,
+-- and to the left by BS, or by CUB where that is shorter
 abbrev pub along_row : ℕ → ℕ → List ℕ
 along_row from to =
     if eqb from to then []
@@ -58,7 +58,8 @@ to_row (Relative (negsuc n)) = sequence (decimal (min (n + 1) most_rows)) (codes
 abbrev pub up_a_row : List ℕ
 up_a_row = sequence [] (codes "A")
 
--- to a row of the terminal, by few bytes: down by up to three line feeds, and further by CUD; up by one without a number
+-- to a row of the terminal, by few bytes: down by up to three line feeds, and further by CUD; up by one without a
+-- number
 abbrev pub along_column : Position → List ℕ
 along_column (Relative (pos n)) = if leb n 3 then replicate n lf else sequence (decimal (min n most_rows)) (codes "B")
 along_column (Relative (negsuc zero)) = up_a_row
@@ -68,8 +69,9 @@ along_column y = to_row y
 abbrev pub clear_below : List ℕ
 clear_below = sequence [] (codes "J")
 
--- from column 0 on all is cleared: the row first, then what stands from the next column on, and back. From the first cell on, a
--- terminal that keeps what scrolls off may take the clearing of its rows for the clearing of its screen, and keep them all.
+-- from column 0 on all is cleared: the row first, then what stands from the next column on, and back. From the first
+-- cell on, a terminal that keeps what scrolls off may take the clearing of its rows for the clearing of its screen, and
+-- keep them all.
 abbrev pub clear_rows : List ℕ
 clear_rows = sequence [] (codes "K") ++ sequence [] (codes "C") ++ clear_below ++ cr ∷ []
 

@@ -59,8 +59,9 @@ pub fn keys()
     ensures held_numbers { HeldNumberKeys }
 {}
 
-/// A report of the cursor's place is a size, and so is one that the terminal makes by itself in mode 2048. A text between
-/// the marks of a paste is that text. A mouse's report in three bytes is taken whole. So it is whatever bytes follow.
+/// A report of the cursor's place is a size, and so is one that the terminal makes by itself in mode 2048. A text
+/// between the marks of a paste is that text. A mouse's report in three bytes is taken whole. So it is whatever bytes
+/// follow.
 #[tactic(auto, using(crate::proofs::Reports::cursor_reports, crate::proofs::Reports::size_reports, crate::proofs::Reports::pasted_texts))]
 pub fn reports()
     ensures cursor { CursorReports }
@@ -79,8 +80,8 @@ pub fn strings()
 {}
 
 /// Bytes that say nothing swallow no key: what is not known is one control sequence, one control string or one mouse's
-/// report, and a byte that is no part of a character is U+FFFD and takes no byte but itself. More bytes are wanted for a
-/// character only where those that are there can follow its first one.
+/// report, and a byte that is no part of a character is U+FFFD and takes no byte but itself. More bytes are wanted for
+/// a character only where those that are there can follow its first one.
 #[tactic(auto, using(crate::proofs::Unknowns::unknown_sequences, crate::proofs::LostBytes::lost_bytes, crate::proofs::LostBytes::lone_bytes, crate::proofs::LostBytes::cut_characters))]
 pub fn malformed()
     ensures sequences { UnknownSequences }
@@ -130,9 +131,10 @@ pub fn pens()
     ensures styled { CarriesAttributes styled }
 {}
 
-/// A painting of plain texts and of colours by bytes is one whose bytes do what it does, alone where the cursor does not
-/// stand after the last column, and else after the move to its first row; so is the closing batch. So are all batches
-/// of a run that paints such scenes, and a terminal that is sent their bytes shows what they leave on the model screen.
+/// A painting of plain texts and of colours by bytes is one whose bytes do what it does, alone where the cursor does
+/// not stand after the last column, and else after the move to its first row; so is the closing batch. So are all
+/// batches of a run that paints such scenes, and a terminal that is sent their bytes shows what they leave on the model
+/// screen.
 #[tactic(auto, using(crate::proofs::EcmaPaintings::painting_is_sendable, crate::proofs::EcmaPaintings::repainting_is_sendable, crate::proofs::EcmaPaintings::closing_is_sendable, crate::proofs::EcmaPaintings::painting_knows_color, crate::proofs::EcmaPaintings::run_is_sendable, crate::proofs::EcmaPaintings::batches_are_shown))]
 pub fn paintings<A, C>()
     ensures first { (pen : Pen A C) → PaintingIsSendable pen }

@@ -54,7 +54,8 @@ module _ (h w : ℕ) where
 
   -- ---- all of it
 
-  -- from row t on the picture shows the new cells, with the cursor and the attributes of the new hand, and the rows above are as they were, moved up
+  -- from row t on the picture shows the new cells, with the cursor and the attributes of the new hand, and the rows
+  -- above are as they were, moved up
   pub record Becomes (s t : ℕ) (new : ℕ → ℕ → StyledCell) (to hand : Hand) (d : Redrawing) (p : PictureOf StyledCell) : Type 0 where
     pub kept : kept_after_all styled hand.attributes d.changes ≡ to.attributes
     pub row : (redrawn_on h w hand d p).row ≡ t + to.row

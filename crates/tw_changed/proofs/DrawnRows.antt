@@ -75,7 +75,8 @@ module _ (h w : ℕ) where
   abbrev pub redrawn_on : Hand → Redrawing → PictureOf StyledCell → PictureOf StyledCell
   redrawn_on hand d p = steps_on (Some h) w (strokes_of styled hand.attributes d.changes) p
 
-  -- it leaves the cursor and the attributes where it leaves the hand, and does not go down out of the rows of the terminal by a move
+  -- it leaves the cursor and the attributes where it leaves the hand, and does not go down out of the rows of the
+  -- terminal by a move
   pub record Leads (s : ℕ) (hand : Hand) (d : Redrawing) (p : PictureOf StyledCell) : Type 0 where
     pub kept : kept_after_all styled hand.attributes d.changes ≡ d.hand.attributes
     pub holds : Holds s d.hand (redrawn_on hand d p)

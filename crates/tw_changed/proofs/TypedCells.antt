@@ -126,7 +126,8 @@ module _ (h w : ℕ) (some : 0 < w) where
             ∙ ap (λ a. put_in p.cell (s + k / w) (k % w) (record { ch = x.ch; attributes = a }) (i + (s - top_after s (k / w))) j) u.attributes;
       }
 
-  -- n cells from index k on are shown, all other cells are as they were, and all of them have gone up as far as the cursor's row needs
+  -- n cells from index k on are shown, all other cells are as they were, and all of them have gone up as far as the
+  -- cursor's row needs
   pub record WentOn (s k n : ℕ) (cells : ℕ → ℕ → StyledCell) (hand : Hand) (d : Redrawing) (p : PictureOf StyledCell) : Type 0 where
     pub leads : Leads h w (top_after s d.hand.row) hand d p
     pub down : hand.row ≤ d.hand.row

@@ -51,8 +51,9 @@ pub record IsSeenFrom (w s : ℕ) (cells : ℕ → ℕ → StyledCell) (hand : H
 abbrev pub turned_to : ℕ → ℕ → (ℕ → ℕ → StyledCell) → Hand → PictureOf StyledCell → PictureOf StyledCell
 turned_to s t cells hand p = record { cell = λ i j. if ltb i t then p.cell (i + (s - t)) j else cells (i - t) j; row = t + hand.row; col = hand.col }
 
--- A terminal of h rows shows old cells from row s on, of which it has reached some rows. It is sent what makes new ones of them, whose rows have
--- room on it. Then it shows the new ones, from row s on or as far above as their rows need, with the new cursor and the new attributes.
+-- A terminal of h rows shows old cells from row s on, of which it has reached some rows. It is sent what makes new ones
+-- of them, whose rows have room on it. Then it shows the new ones, from row s on or as far above as their rows need,
+-- with the new cursor and the new attributes.
 abbrev pub ChangedIsShown : Type 0
 ChangedIsShown = (h w s reached rows : ℕ) (old new : ℕ → ℕ → StyledCell) (hand to : Hand) (e : Encoder) (t : EcmaScreen StyledCell) (p : PictureOf StyledCell)
     → 0 < w → w < 2 ^ 64 → h ≤ most_rows → rows ≤ h → s + reached ≤ h

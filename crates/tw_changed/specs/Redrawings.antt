@@ -106,7 +106,8 @@ fed (suc n) hand = redraw_then (fed_once hand) (fed n)
 abbrev pub lowest_reached : ℕ → Hand → ℕ
 lowest_reached reached hand = max (reached - 1) hand.row
 
--- the cursor goes to a row and a column: to a row that is not on the terminal yet by line feeds from the last one that is
+-- the cursor goes to a row and a column: to a row that is not on the terminal yet by line feeds from the last one that
+-- is
 abbrev pub sunk_to : ℕ → ℕ → ℕ → Hand → Redrawing
 sunk_to reached row col hand =
     if leb row (lowest_reached reached hand) then led_to row col hand
@@ -120,8 +121,8 @@ lowered reached rows hand = if leb rows reached then at_ease hand else sunk_to r
 abbrev pub handed_to : ℕ → Hand → Hand → Redrawing
 handed_to reached to hand = redraw_then (sunk_to reached to.row to.col hand) (under to.attributes)
 
--- Some rows are drawn: the last of them comes into sight, the rest is emptied, the rows that differ are typed, and then the cursor and the attributes are led
--- to.
+-- Some rows are drawn: the last of them comes into sight, the rest is emptied, the rows that differ are typed, and then
+-- the cursor and the attributes are led to.
 abbrev pub rows_drawn_on : ℕ → ℕ → ℕ → (ℕ → ℕ → StyledCell) → (ℕ → ℕ → StyledCell) → Hand → Hand → Redrawing
 rows_drawn_on w reached rows old new to hand =
     redraw_then (lowered reached rows hand) (λ low.
@@ -134,8 +135,8 @@ rows_drawn_on w reached rows old new to hand =
 abbrev pub ends_blank : ℕ → (ℕ → ℕ → StyledCell) → ℕ → Bool
 ends_blank w cells r = is_same_cell (cells r (w - 1)) blank_cell
 
--- All that differs comes where the cursor stands or after it, where the old screen shows nothing, in rows that are full but for the last one; and below these
--- no row is new but that of the new cursor.
+-- All that differs comes where the cursor stands or after it, where the old screen shows nothing, in rows that are full
+-- but for the last one; and below these no row is new but that of the new cursor.
 abbrev pub goes_onward : ℕ → ℕ → ℕ → (ℕ → ℕ → StyledCell) → (ℕ → ℕ → StyledCell) → Hand → Hand → Bool
 goes_onward w reached rows old new to hand =
     leb rows (max reached (to.row + 1)) && leb (end_of w rows old) (hand_index w hand)

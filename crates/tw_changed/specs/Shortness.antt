@@ -19,8 +19,9 @@ abbrev pub characters_from : (ℕ → StyledCell) → ℕ → ℕ → List ℕ
 characters_from line col zero = []
 characters_from line col (suc n) = (line col).ch ∷ characters_from line (suc col) n
 
--- the n cells at the cursor differ, the first and the last of them at least, and no others; those of the new screen are printable characters under the
--- attributes that are selected, it does not end before the old one, and its cursor stands after them
+-- the n cells at the cursor differ, the first and the last of them at least, and no others; those of the new screen are
+-- printable characters under the attributes that are selected, it does not end before the old one, and its cursor
+-- stands after them
 pub record IsTypedAt (w rows n : ℕ) (old new : ℕ → ℕ → StyledCell) (hand to : Hand) : Type 0 where
   pub some : 0 < n
   pub row : hand.row < rows
@@ -44,8 +45,8 @@ abbrev pub characters_by_index : ℕ → (ℕ → ℕ → StyledCell) → ℕ �
 characters_by_index w cells k zero = []
 characters_by_index w cells k (suc n) = (indexed w cells k).ch ∷ characters_by_index w cells (suc k) n
 
--- the new screen goes on at the cursor by n printable characters under the attributes that are selected, whatever rows that takes, and its cursor stands after
--- them
+-- the new screen goes on at the cursor by n printable characters under the attributes that are selected, whatever rows
+-- that takes, and its cursor stands after them
 pub record IsTypedOn (w reached rows n : ℕ) (old new : ℕ → ℕ → StyledCell) (hand to : Hand) : Type 0 where
   pub goes : goes_onward w reached rows old new to hand ≡ true
   pub end : end_of w rows new ≡ hand_index w hand + n

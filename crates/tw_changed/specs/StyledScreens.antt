@@ -23,7 +23,8 @@ cell_under attributes ch = record { character = ch; attributes = attributes }
 abbrev pub paper_cell : ColorAttribute → ScreenCell
 paper_cell color = record { character = blank; attributes = record default_attributes { background = color } }
 
--- what a screen holds: its width, its cursor, the attributes of the text that follows, the first cells, row after row, and the one that all others are
+-- what a screen holds: its width, its cursor, the attributes of the text that follows, the first cells, row after row,
+-- and the one that all others are
 pub record StyledView : Type 0 where
   pub width : ℕ
   pub row : ℕ
@@ -63,7 +64,8 @@ IsPlainFrom from screen = (place : ℕ) → from ≤ place → (styled_at screen
 abbrev pub plain_behind : Bool → ℕ → Option ℕ → Option ℕ
 plain_behind is_plain last plain_from = option_map (λ from. if is_plain then from else max from (last + 1)) plain_from
 
--- what a screen keeps beside what it shows: it is in reach, and, where it says so, text is typed under the default attributes, and from a place on all cells have these
+-- what a screen keeps beside what it shows: it is in reach, and, where it says so, text is typed under the default
+-- attributes, and from a place on all cells have these
 pub record IsKept (is_plain : Bool) (plain_from : Option ℕ) (screen : StyledView) : Type 0 where
   pub reach : IsInReach screen
   pub plain : is_plain ≡ true → screen.kept ≡ default_attributes

@@ -66,8 +66,8 @@ fn candidates_by(
     }
 }
 
-/// Returns the candidates of the first completer whose context has what stands before the cursor in its row, if there is
-/// one.
+/// Returns the candidates of the first completer whose context has what stands before the cursor in its row, if there
+/// is one.
 pub fn complete_in_context(
     alloc: Global,
     rows: &[ContextCompleter],

@@ -8,7 +8,8 @@ use Rattle.tw_device.specs.Deeds.{Deed, Called}
 use Rattle.tw_device.specs.Led.{IsLedByCalls, IsLedAlong, IsSizedBy}
 
 module _ {T : Type 0} (state : T → TerminalState) (Follows : T → T → Call → Type 0) (may_keep : T → Bool) (Leads : T → T → Deed → Type 0) where
-  -- Something that renders nothing leads to where it may keep nothing back, and from there calls of `Terminal` lead to the end.
+  -- Something that renders nothing leads to where it may keep nothing back, and from there calls of `Terminal` lead to
+  -- the end.
   abbrev pub IsCalledAtOnce : T → T → Type 0
   IsCalledAtOnce old new = (told : T) × Leads old told (Called Other) × (state told ≡ state old) × (may_keep told ≡ false) × IsUsed Follows told new
 
@@ -32,12 +33,13 @@ module _ {T : Type 0} (state : T → TerminalState) (Follows : T → T → Call 
       (events : List EventView) × (told_after ≡ told_before ++ events) × IsClosedAlong taken events old new
 
   module _ {S : Type 0} (at_hand : S → Bool) (Tells : S → S → List EventView → Type 0) where
-    -- A source is asked, and the events that it tells are fed. Where its next answer is not at hand then, so that it may wait, the terminal may keep nothing
-    -- of them back.
+    -- A source is asked, and the events that it tells are fed. Where its next answer is not at hand then, so that it
+    -- may wait, the terminal may keep nothing of them back.
     abbrev pub Asks : S × T → S × T → List EventView → Type 0
     Asks old new events = Tells old.0 new.0 events × IsFedWith (at_hand new.0) events old.1 new.1
 
-    -- Calls come first, with what is at hand at the source; then it is asked, so many times; and at last, if anything follows, nothing may be kept back.
+    -- Calls come first, with what is at hand at the source; then it is asked, once or more often; and at last, if
+    -- anything follows, nothing may be kept back.
     pub record IsAskedInTime (old_source new_source : S) (old new : T) : Type 0 where
       pub begun : T
       pub fed : T

@@ -107,8 +107,8 @@ module _ {W : Type 0} (contents : W → Option (List ℕ)) where
   Does old new (Sized size) = Sends (Sized size) old new
   Does old new (Said text) = Sends (Said text) old new
 
-  -- Where no batch was refused, what was written is what was there, and then the bytes of the deeds; what is known is what
-  -- is known after them; and the batches are those that were there, and then those that the deeds took.
+  -- Where no batch was refused, what was written is what was there, and then the bytes of the deeds; what is known is
+  -- what is known after them; and the batches are those that were there, and then those that the deeds took.
   abbrev pub DeedsAreSent : Type 0
   DeedsAreSent = (deeds : List Deed) (old new : AnsiTerminal W) → Uses Does deeds old new → none_refused deeds ≡ true
       → Appends (contents old.writer) (contents new.writer) (sent_by deeds old.encoder).bytes
@@ -120,8 +120,8 @@ module _ {W : Type 0} (contents : W → Option (List ℕ)) where
   FailuresAreCounted = (deeds : List Deed) (old new : AnsiTerminal W) → Uses Does deeds old new
       → new.failures ≡ old.failures → old.failures ≢ usize_max → none_refused deeds ≡ true
 
-  -- Where no failure was counted, and one could have been, and no event told another number of columns, what was written is
-  -- what was there, and then the bytes of the batches that were taken since.
+  -- Where no failure was counted, and one could have been, and no event told another number of columns, what was
+  -- written is what was there, and then the bytes of the batches that were taken since.
   abbrev pub LedIsSent : Type 0
   LedIsSent = (events : List EventView) (old new : AnsiTerminal W) → IsLedBy Does events old new
       → new.failures ≡ old.failures → old.failures ≢ usize_max

@@ -85,7 +85,8 @@ module _ {V : Type 0} (rules : HostRules V) where
   abbrev pub run_over : List EventView → Frame V → Ending V
   run_over events f = run rules events (progress_of f)
 
-  -- The events that were told, and no other, are those of the run: its answer, its batches with the closing one, all flushed, its size and the host's value are what is there; and whether an event ended it.
+  -- The events that were told, and no other, are those of the run: its answer, its batches with the closing one, all
+  -- flushed, its size and the host's value are what is there; and whether an event ended it.
   abbrev pub ReadsTold : List EventView → List EventView → Frame V → Frame V → Outcome → Bool → Type 0
   ReadsTold old new f g answer ended = (events : List EventView) × (new ≡ old ++ events)
       × (ended ≡ is_over (run_over events f).state.mode)
@@ -133,7 +134,8 @@ module _ {V : Type 0} (rules : HostRules V) (overrides : Overrides) where
   abbrev pub FailsTold : List EventView → List EventView → Frame V → Frame V → Error → Type 0
   FailsTold old new f g e = (events : List EventView) × (new ≡ old ++ events) × FailsOver events f g e
 
-  -- What a refusal leaves: that of the run over the events that were told; or the source refused, and the line that no event had ended is closed; or the prompt was not copied, and nothing was done.
+  -- What a refusal leaves: that of the run over the events that were told; or the source refused, and the line that no
+  -- event had ended is closed; or the prompt was not copied, and nothing was done.
   abbrev pub FailsToReadTold : List EventView → List EventView → SourceState → Frame V → V → TerminalState → Error → Type 0
   FailsToReadTold old new state f v t e = Left v t (λ g. FailsTold old new f g e)
       ⊎ ((IsCutShort old new state e × Left v t (λ g. (answer : Outcome) × ReadsTold rules old new f g answer false))

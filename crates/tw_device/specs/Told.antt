@@ -16,7 +16,8 @@ use Rattle.tw_device.specs.declared.pasted.Pasted.TheVariants.{OneRow, Rows}
 abbrev pub spaced : ℕ → ℕ
 spaced c = if is_control c then 32 else c
 
--- What a character of a pasted text is told as, behind another one. In rows a CR and an LF are each a line feed, but an LF behind a CR is nothing, since that CR is.
+-- What a character of a pasted text becomes, after another one. In rows a CR and an LF are each a line feed, but an LF
+-- after a CR is nothing, since that CR is one.
 abbrev pub pasted_character : Pasted → ℕ → ℕ → List ℕ
 pasted_character OneRow before c = spaced c ∷ []
 pasted_character Rows before c =

@@ -13,8 +13,9 @@ use Rattle.tw_device.specs.declared.escape.Escape.TheVariants.{Waits, AtOnce}
 use Rattle.tw_device.specs.declared.pasted.Pasted.{Pasted}
 use Rattle.tw_device.specs.Told.{token_events}
 
--- What a reader of keys has: what its owner chose for an ESC alone and for pasted texts, the bytes that were read and are not yet taken,
--- whether the last read gave as many as were asked for, and what is left to be read, where that is known.
+-- What a reader of keys has: what its owner chose for an ESC alone and for pasted texts, the bytes that were read and
+-- are not yet taken, whether the last read gave as many as were asked for, and what is left to be read, where that is
+-- known.
 pub record Held : Type 0 where
   pub escape : Escape
   pub pasted : Pasted

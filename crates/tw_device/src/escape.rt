@@ -6,8 +6,8 @@ ghost use Rattle.tw_device.specs.Typed.{escape_waits};
 /// What an ESC is after which no byte has come yet. Its owner chooses.
 #[derive(Debug, Clone, Copy, PartialEq, Eq)]
 pub enum Escape {
-    /// It waits for what follows it, so that the keys do not depend on how the bytes come. The key Escape alone comes with
-    /// the next key, or at the end.
+    /// It waits for what follows it: the keys are the same however the bytes come. The key Escape comes with the next
+    /// key, or at the end.
     Waits,
     /// It is the key Escape at once, unless it ends a read of as many bytes as were asked for: then it waits.
     AtOnce,

@@ -195,8 +195,8 @@ impl<R: Read> KeyReader<R> {
         Ok(count > 0)
     }
 
-    /// Takes a token and returns its event, or `None` if its bytes mean nothing. A refusal takes no byte, so that the next
-    /// call finds the token again.
+    /// Takes a token and returns its event, or `None` if its bytes mean nothing. A refusal takes no byte, so that the
+    /// next call finds the token again.
     fn take(&mut self, found: Scanned) -> Result<Option<InputEvent>, Refused>
         requires { found.used ≤ length self.old.unread }
         ensures told { self.new.told ≡ self.old.told }
@@ -238,9 +238,9 @@ impl<R: Read> EventSource for KeyReader<R> {
     ghost follows = { λ old new events. TellsTyped (held_by R.remaining old)
         (held_by R.remaining new) events };
 
-    /// Takes bytes at the front and tells what they are: no byte is lost, and none is told twice. There are no more events
-    /// only if the reader has no more bytes and all are taken. `held_up` says why a call fails. If an event is at hand,
-    /// the reader is not asked.
+    /// Takes bytes at the front and tells what they are, each of them once. There are no more events only if the
+    /// reader has no more bytes and all are taken. `held_up` says why a call fails. If an event is
+    /// at hand, the reader is not asked.
     fn next_event(&mut self) -> Result<Option<InputEvent>, TerminalFault>
         ensures ok { IfOk result (λ event. MatchOption event
             ((self.new.told ≡ self.old.told) × (self.new.state ≡ AtEnd))
@@ -276,8 +276,8 @@ impl<R: Read> EventSource for KeyReader<R> {
         }
     }
 
-    /// Returns true if a key or a pasted text stands whole at the front of what was read. A size does not count, since not
-    /// every size is one of a screen.
+    /// Returns true if a key or a pasted text stands whole at the front of what was read. A size does not count, since
+    /// not every size is one of a screen.
     fn has_at_hand(&self) -> bool
         ensures { result ≡ is_at_hand (held_by R.remaining self.now) }
     {

@@ -32,8 +32,8 @@ pub fn pieces()
 {}
 
 /// What is written is what was written before, and then the bytes of the deeds one after the other, where no batch was
-/// refused; none was where no failure was counted. So a reading whose events tell no other number of columns has written
-/// the bytes of the batches that it took. What is led along a run is led by its events.
+/// refused; none was where no failure was counted. So a reading whose events tell no other number of columns has
+/// written the bytes of the batches that it took. What is led along a run is led by its events.
 pub fn deeds<W: Write>()
     ensures sent { DeedsAreSent W.contents }
     ensures counted { FailuresAreCounted W.contents }

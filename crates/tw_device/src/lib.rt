@@ -2,9 +2,9 @@
 //!
 //! `device` says what a terminal at a device is, and `terminal` has the one over a writer; `keys` the source of events
 //! over a reader, with `unread`, the bytes that were read and are not yet taken, `escape`, what an ESC alone is, and
-//! `pasted`, what a pasted text is told as; `reading` the line that is read as the events come, and `typed` the same from
-//! the bytes of a reader. `refused` says why a call to a device is refused, and `event_log` has the events that a source
-//! told, for contracts alone.
+//! `pasted`, what a pasted text becomes; `reading` reads a line as the events come, and `typed` one from the bytes of a
+//! reader. `refused` says why a call to a device is refused, and `event_log` has the events that a source told, which
+//! only contracts name.
 #![tactic(auto)]
 
 mod device;

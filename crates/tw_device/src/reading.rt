@@ -30,8 +30,8 @@ pub enum Answer {
     Line(String),
     /// The line was cancelled.
     Cancelled,
-    /// The input ended: the source had no more events, with this line typed so far; or a key asked for the end, as Ctrl-D
-    /// does, with an empty line.
+    /// The input ended: the source had no more events, with this line typed so far; or a key asked for the end, as
+    /// Ctrl-D does, with an empty line.
     End(String),
 }
 
@@ -244,8 +244,9 @@ fn read_events<S: EventSource, T: DeviceTerminal, H: LineEditorHost>(
 
 /// Reads a line with a new editor from the events of a source, up to the event that ends the line or the end of the
 /// source. The answer, the batches, the screen's size and the host's value are those of the abstract editor's run over
-/// exactly the events that the source told by calls of `next_event` (`called`). The action `EndOfFile`, as Ctrl-D of the
-/// key table, is answered by `Answer::End` with an empty line, as is the end of the source with the line typed so far. A
+/// exactly the events that the source told by calls of `next_event` (`called`). The action `EndOfFile`, as Ctrl-D of
+/// the key table, is answered by `Answer::End` with an empty line, as is the end of the source with the line typed so
+/// far. A
 /// `Resized` sets the terminal's size, before the batches of its own and after those of the events before it (`along`).
 /// Before the last batches that come before the source may wait, the terminal learns that nothing more is at hand
 /// (`asked`), and so it does before the batch that closes an answered line (`ok`).

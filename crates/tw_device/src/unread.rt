@@ -142,8 +142,8 @@ fn read_refusal(error: &io::Error) -> Refused {
     }
 }
 
-/// Reads what there is behind the first bytes of a buffer, and returns the number of bytes that came. The buffer gets room
-/// for a piece before the reader is asked: mostly it has it, and nothing is written.
+/// Reads what there is behind the first bytes of a buffer, and returns the number of bytes that came. The buffer gets
+/// room for a piece before the reader is asked: mostly it has it, and nothing is written.
 fn read_more<R: Read>(reader: &mut R, buffer: &mut Vec<u8>, held: usize) -> Result<usize, Refused>
     requires { held ≤ length buffer.old.items }
     ensures ok { IfOk result (λ count. (more : List ℕ) × (held + count ≤ length buffer.new.items)

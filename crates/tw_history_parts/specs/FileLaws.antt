@@ -13,7 +13,7 @@ AreTexts lines = All (λ line. is_utf8 line ≡ true) lines
 abbrev pub WrittenAreRead : Type 0
 WrittenAreRead = (lines : List (List ℕ)) → AreTexts lines → lines_in (written_lines lines) ≡ lines
 
--- Of a beginning of what was written those lines are read that are whole in it: so many of the first ones that one more is longer than it.
+-- Of a beginning of what was written those lines are read that are whole in it: with one more it would be longer.
 abbrev pub BeginningIsRead : Type 0
 BeginningIsRead = (lines : List (List ℕ)) (bytes more : List ℕ) → AreTexts lines → written_lines lines ≡ bytes ++ more
     → (count : ℕ) × (lines_in bytes ≡ take count lines)

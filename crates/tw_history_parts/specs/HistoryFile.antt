@@ -40,7 +40,8 @@ unescaped_behind false (b ∷ text) = if b == 92 then unescaped_behind true text
 abbrev pub unescaped : List ℕ → Option (List ℕ)
 unescaped text = unescaped_behind false text
 
--- the bytes that were understood so far, and then what the text after them stands for, after a backslash or not; none where a backslash stood before another byte
+-- the bytes that were understood so far, and then what the text after them stands for, after a backslash or not; none
+-- where a backslash stood before another byte
 abbrev pub understood : List ℕ → Option Bool → List ℕ → Option (List ℕ)
 understood bytes None text = None
 understood bytes (Some behind) text = option_map (λ rest. bytes ++ rest) (unescaped_behind behind text)

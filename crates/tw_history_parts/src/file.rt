@@ -38,9 +38,9 @@ pub fn is_cut_off(bytes: &[u8]) -> bool
     }
 }
 
-/// Adds the lines of a file to a history, the oldest first, and returns how many of its texts are no lines: the last one
-/// if no line feed ends it, those with a backslash before another byte than a backslash or an `n`, and those that are not
-/// UTF-8. They are passed over. If memory is lacking, the first lines may have been added.
+/// Adds the lines of a file to a history, the oldest first, and returns how many of its texts are no lines: the last
+/// one if no line feed ends it, those with a backslash before another byte than a backslash or an `n`, and those that
+/// are not UTF-8. They are passed over. If memory is lacking, the first lines may have been added.
 #[tactic(auto, using(crate::proofs::ReadingLemmas::passes_nothing, crate::proofs::ReadingLemmas::counts_nothing, crate::proofs::ReadingLemmas::counts_text, crate::proofs::ReadingLemmas::counts_line, crate::proofs::ReadingLemmas::counts_all, crate::proofs::ReadingLemmas::counts_cut_off, crate::proofs::ReadingLemmas::passes_text, crate::proofs::ReadingLemmas::passes_line, crate::proofs::ReadingLemmas::passes_all, crate::proofs::ReadingLemmas::passes_some))]
 pub fn read_lines<L: History>(
     alloc: Global,

@@ -16,8 +16,8 @@ use tw_line::{
     History, HistoryIndex, LentLines, SearchDirection, SearchResult, SearchStyle, nearest_line,
 };
 
-/// A history in memory that keeps the newest lines, and no line twice if it is unique: a line that is added again goes to
-/// the end then. It lends its lines and copies none of them.
+/// A history in memory that keeps the newest lines, and no line twice if it is unique: a line that is added again goes
+/// to the end then. It lends its lines and copies none of them.
 #[derive(Debug, Drop)]
 pub struct RecentHistory {
     entries: VecDeque<String>,
@@ -181,8 +181,8 @@ impl History for RecentHistory {
         self.entries.len().checked_sub(1)
     }
 
-    /// Adds a line at the end, unless it is the last line already. The same line goes away if none is to stand twice, or
-    /// else the oldest one if there are too many then. If memory is lacking, the lines stay as they were.
+    /// Adds a line at the end, unless it is the last line already. The same line goes away if none is to stand twice,
+    /// or else the oldest one if there are too many then. If memory is lacking, the lines stay as they were.
     #[tactic(auto, using(crate::proofs::RecentLemmas::last_is_added))]
     fn add(&mut self, line: &str) -> Result<(), AllocError>
         ensures last { OnOk result (last_line self.new.lines ≡ Some line.now) }

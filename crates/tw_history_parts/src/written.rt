@@ -52,8 +52,8 @@ impl<L: History, W: Write + Drop> WrittenHistory<L, W> {
     }
 
     /// Adds the lines that were written before to a history, the oldest first, and writes its lines after them from now
-    /// on. If the last one was cut off, a line feed is written at once, so that the next one is a line by itself. Having
-    /// no writer is a failure.
+    /// on. If the last one was cut off, a line feed is written at once, so that the next one is a line by itself.
+    /// Having no writer is a failure.
     pub fn resume(
         alloc: Global,
         history: L,
@@ -140,8 +140,8 @@ fn open_end(rt: HostRuntime, path: &str) -> io::Result<File> {
 }
 
 impl WrittenHistory<RecentHistory, File> {
-    /// Opens the history in a file, of which the newest `limit` lines are kept in memory, at least one. The file is made
-    /// if there is none, and is never cut: each line that is added is written at its end.
+    /// Opens the history in a file, of which the newest `limit` lines are kept in memory, at least one. The file is
+    /// made if there is none, and is never cut: each line that is added is written at its end.
     ///
     /// A file that can't be read is not written either. `unread` returns what was not read, and `take_failure` whether
     /// lines can't be written: they are kept in memory then.
@@ -153,8 +153,8 @@ impl WrittenHistory<RecentHistory, File> {
         FileHistory::open_over(rt, path, RecentHistory::new(rt.alloc(), limit))
     }
 
-    /// Opens the history in a file as `open` does, but keeps no line twice in memory: one that is added again goes to the
-    /// end.
+    /// Opens the history in a file as `open` does, but keeps no line twice in memory: one that is added again goes to
+    /// the end.
     pub fn open_unique(rt: HostRuntime, path: &str, limit: usize) -> Result<Self, AllocError>
         ensures kept { IfOk result (λ it. (it.history.limit ≡ at_least_one limit)
             × (it.history.is_unique ≡ true)) }

@@ -25,7 +25,8 @@ abbrev pub character_pieces : List ℕ → List Piece
 character_pieces [] = []
 character_pieces (c ∷ cs) = if_some_columns (char_columns c) (character_pieces cs)
 
--- a cluster in which several characters take columns, and together as many as it: a terminal can begin a row between them
+-- a cluster in which several characters take columns, and together as many as it: a terminal can begin a row between
+-- them
 abbrev pub is_parted : List ℕ → Bool
 is_parted cluster =
     (sum_by char_columns (chars cluster) == cluster_width cluster)
@@ -56,7 +57,8 @@ needed_by_first (cluster ∷ more) = needed (cell_pieces cluster)
 unfoldable pub needed_by_text : List ℕ → ℕ
 needed_by_text text = if list_all is_plain text then 1 else needed_by_first (graphemes true text)
 
--- the cell in which something of so many columns begins after a place: there, or where it does not fit the first cell of the next row
+-- the cell in which a character of this width begins after a place: there, or where it does not fit the first cell of
+-- the next row
 abbrev pub begins_at : ℕ → ℕ → Place → Place
 begins_at cols width p = if leb (p.x + width) cols then p else record { x = 0; y = p.y +ℤ pos 1 }
 
@@ -87,7 +89,8 @@ is_measured cols prompt before =
     && (list_all is_in_range (places_after cols (pieces prompt) origin)
     && list_all is_in_range (places_after cols (settled_pieces before) (line_start cols prompt)))
 
--- some column leads to the cell of the cursor: all is measured, the prompt ends within the screen, and the cell is not before the line
+-- some column leads to the cell of the cursor: all is measured, the prompt ends within the screen, and the cell is not
+-- before the line
 abbrev pub is_settled : ℕ → List ℕ → Cut → Bool
 is_settled cols prompt cut =
     is_measured cols prompt (take cut.cursor cut.line)

@@ -51,7 +51,8 @@ abbrev pub PrintableIsPlain : Type 0
 PrintableIsPlain = (cols : ℕ) (prompt : List ℕ) (cut : Cut) → list_all is_printable cut.line ≡ true
     → settled_column cols prompt cut ≡ column_width (take cut.cursor cut.line)
 
--- where no cluster is parted, as where one character of each takes all its columns, the text leads where the editor measures it
+-- where no cluster is parted, as where one character of each takes all its columns, the text leads where the editor
+-- measures it
 abbrev pub WholeIsMeasured : Type 0
 WholeIsMeasured = (cols : ℕ) (prompt before : List ℕ)
     → list_all (λ cluster. not (is_parted cluster)) (graphemes true before) ≡ true

@@ -1,4 +1,5 @@
--- How a line is cut into tokens, and how each is shown. A token is a quoted text, a space, or what stands up to one of them.
+-- How a line is cut into tokens, and how each is shown. A token is a quoted text, a space, or what stands up to one of
+-- them.
 use Rattle.std.specs.Prelude.{ℕ, zero, suc, ◌==◌, ◌+◌, Bool, false, List, [], ◌∷◌, ◌++◌, length, take, drop, min, Option, Some, None, if◌then◌else◌}
 use Rattle.std.specs.List.{position_or_len}
 use Rattle.tw_surface.specs.Defaults.{default_attributes}

@@ -34,7 +34,8 @@ pub record KillsInPlace (event : EventView) (action : ActionView) (m : Movement)
   pub line : new.line ≡ remove_range old.line (min old.cursor (destination m old)) (max old.cursor (destination m old))
   pub cursor : new.cursor ≡ min old.cursor (destination m old)
 
--- a kill keeps the line before the kills that were done last: so one kill or many in a row give the line before the first
+-- a kill keeps the line before the kills that were done last: so one kill or many in a row give the line before the
+-- first
 abbrev pub KillsKeepLine : Type 0
 KillsKeepLine = (event : EventView) (action : ActionView) (m : Movement) (old new : Cut) (r : Ring)
     → KillsInPlace event action m old new → given_back (ring_behind event action old r) new ≡ given_back r old

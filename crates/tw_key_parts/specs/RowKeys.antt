@@ -213,7 +213,8 @@ brings_rows (Key key) = false
 brings_rows (Resized cols rows) = false
 brings_rows Wake = false
 
--- a line without a line feed is left to the other keys, but for the key that begins a row and a pasted text of several rows
+-- a line without a line feed is left to the other keys, but for the key that begins a row and a pasted text of several
+-- rows
 abbrev pub OneRowIsLeft : Type 0
 OneRowIsLeft = (goal : Option ℕ) (asked : Asked) → has_rows asked.cut.line ≡ false → brings_rows asked.event ≡ false
     → row_key asked.event ≢ Some Break → row_key_edit goal asked ≡ None

@@ -7,7 +7,8 @@ abbrev pub has_lines : List (List ℕ) → Bool
 has_lines [] = false
 has_lines (line ∷ lines) = true
 
--- whether the editor searches after an action, if there is one, in a history that has lines or none: a search begins where there are lines; a movement, a completion and what ends the reading leave it; all else lets it be as it was
+-- whether the editor searches after an action, if there is one, in a history that has lines or none: a search begins
+-- where there are lines; a movement, a completion and what ends the reading leave it; all else lets it be as it was
 abbrev pub searches_after : Bool → Option ActionView → Bool → Bool
 searches_after lines (Some HistoryIncSearchBackwards) before = before || lines
 searches_after lines (Some HistoryIncSearchForwards) before = before || lines

@@ -10,7 +10,8 @@ use Rattle.tw_key_parts.specs.KeyRules.{Asked, Edited, KeyRules, KeyStep}
 use Rattle.tw_key_parts.specs.Keys.{is_key, prefixed_undo_key, undo_key, undo_prefix}
 use Rattle.tw_key_parts.specs.declared.undo.UndoSteps.{UndoSteps}
 
--- the cut texts before the steps, the oldest first, whether the last step is typing that goes on, and whether the last event was the prefix of the undo key
+-- the cut texts before the steps, the oldest first, whether the last step is typing that goes on, and whether the last
+-- event was the prefix of the undo key
 pub record Undo : Type 0 where
   pub before : List Cut
   pub typing : Bool
@@ -72,7 +73,8 @@ is_step action cut new = if_any is_edit action || not (is_same_line cut new)
 abbrev pub steps_with : Option ActionView → Cut → Cut → Undo → List Cut
 steps_with action cut new u = if is_step action cut new && not (typing_goes_on action cut new u.typing) then u.before ++ cut ∷ [] else u.before
 
--- whether the last step is typing that goes on: where a character was typed it is, and where nothing is done it is as before
+-- whether the last step is typing that goes on: where a character was typed it is, and where nothing is done it is as
+-- before
 abbrev pub typing_after : Option ActionView → Bool → Bool
 typing_after None typing = typing
 typing_after (Some NoAction) typing = typing

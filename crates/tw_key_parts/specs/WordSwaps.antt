@@ -26,7 +26,8 @@ before_last_word text = take (final_word_start text) text
 abbrev pub final_word : List ℕ → List ℕ
 final_word text = drop (final_word_start text) text
 
--- a text before two words with whitespace between them, the words in each other's place; there is none without a first word
+-- a text before two words with whitespace between them, the words in each other's place; there is none without a first
+-- word
 abbrev pub swapped_after : List ℕ → List ℕ → List ℕ → Option (List ℕ)
 swapped_after [] blanks second = None
 swapped_after (byte ∷ bytes) blanks second =
@@ -45,7 +46,8 @@ past_blanks (byte ∷ bytes) c = c
 abbrev pub past_word : Cut → Cut
 past_word c = past_blanks (before_blanks (passed_text (movement.ForwardWord 1) c)) (after_move (movement.ForwardWord 1) c)
 
--- a line whose words were changed up to the cursor: the cursor stands after them, and before the whitespace that follows
+-- a line whose words were changed up to the cursor: the cursor stands after them, and before the whitespace that
+-- follows
 abbrev pub with_words : Cut → Option (List ℕ) → Cut → Cut
 with_words c None past = c
 with_words c (Some words) past = cut_at (words ++ after_blanks (take past.cursor past.line) ++ drop past.cursor past.line) (length words)

@@ -3,8 +3,8 @@
 //! `part` has what a part is, `pair` two parts as one, and `plain_keys` parts that hold nothing; `readline_keys`,
 //! `letter_keys`, `word_keys`, `row_keys`, `ring`, `undo`, `last_words` and `prefix_search` the parts; `watch` whether
 //! the editor searches; `keys` which key an event is; `laws` what follows from the definitions. What they do to a line:
-//! `cases` the case of words, `swaps` characters that change places, `word_swaps` words that do, `passed` the text that a
-//! movement goes over, `letters` how many grapheme clusters lead over a word of letters and digits.
+//! `cases` the case of words, `swaps` characters that change places, `word_swaps` words that do, `passed` the text that
+//! a movement goes over, `letters` how many grapheme clusters lead over a word of letters and digits.
 #![tactic(auto)]
 
 mod cases;

@@ -58,7 +58,8 @@ abbrev pub HasNoMatch : List (List ℕ) → ℕ → SearchDirection → List ℕ
 HasNoMatch lines idx Backwards pattern = NonePasses (matches lines pattern) 0 (idx + 1)
 HasNoMatch lines idx Forwards pattern = NonePasses (matches lines pattern) idx (length lines)
 
--- the answer is the nearest line on the side that contains the pattern, with the pattern's first offset in it; none where there is no such line, or idx is not the index of a line
+-- the answer is the nearest line on the side that contains the pattern, with the pattern's first offset in it; none
+-- where there is no such line, or idx is not the index of a line
 pub record IsMatch (lines : List (List ℕ)) (idx : ℕ) (direction : SearchDirection) (pattern : List ℕ) (m : MatchView) : Type 0 where
   pub start : idx < length lines
   pub nearest : IsNearestIndex lines idx direction pattern m.idx

@@ -4,7 +4,8 @@ use Rattle.std.specs.List.{range_with_len}
 use Rattle.std.specs.Str.{chars}
 use Rattle.tw_line.specs.Extremes.{least_from}
 
--- the offsets at which these characters start where they stand one after the other from `at` on: each stands after those before it
+-- the offsets at which these characters start where they stand one after the other from `at` on: each stands after
+-- those before it
 unfoldable pub starts_from : ℕ → List ℕ → List ℕ
 starts_from at cs = map (λ k. at + length (encode_utf8_all (take k cs))) (range_with_len 0 (length cs))
 
@@ -12,7 +13,8 @@ starts_from at cs = map (λ k. at + length (encode_utf8_all (take k cs))) (range
 abbrev pub starts_of : List ℕ → List ℕ
 starts_of text = starts_from 0 (chars text)
 
--- the starts with those of a text put in at an index, where the text stands from the offset `at` on: what starts later is raised
+-- the starts with those of a text put in at an index, where the text stands from the offset `at` on: what starts later
+-- is raised
 abbrev pub with_starts : ℕ → ℕ → List ℕ → List ℕ → List ℕ
 with_starts index at text starts =
     take index starts ++ (starts_from at (chars text) ++ map (λ n. n + length text) (drop index starts))

@@ -140,8 +140,8 @@ impl LineEditBuffer {
         Ok(())
     }
 
-    /// Inserts the character `count` times. Fails before anything is inserted if the line would pass `isize::MAX` bytes.
-    /// If it is refused, the buffer is as it was.
+    /// Inserts the character `count` times. Fails before anything is inserted if the line would pass `isize::MAX`
+    /// bytes. If it is refused, the buffer is as it was.
     pub fn insert_char_times(&mut self, count: RepeatCount, c: char) -> Result<(), AllocError>
         ensures ok { OnOk result (self.new ≡ iterate (with_char c) count self.old) }
         ensures err { OnErr result (self.new ≡ self.old) }
@@ -168,8 +168,8 @@ impl LineEditBuffer {
         Ok(())
     }
 
-    /// Inserts the text `count` times. Fails before anything is inserted if the line would pass `isize::MAX` bytes. If it
-    /// is refused, the buffer is as it was.
+    /// Inserts the text `count` times. Fails before anything is inserted if the line would pass `isize::MAX` bytes. If
+    /// it is refused, the buffer is as it was.
     pub fn insert_text_times(&mut self, count: RepeatCount, text: &str) -> Result<(), AllocError>
         ensures ok { OnOk result (self.new ≡ iterate (with_text text.now) count self.old) }
         ensures err { OnErr result (self.new ≡ self.old) }

@@ -53,7 +53,8 @@ rendered-is mark (Ok q) p h = (q, refl, sym (ap (rendering_in p) h))
 rendered-is mark (Err r) p h = absurd (subst IsErrRendered h tt)
 
 module _ {V : Type 0} (rules : HostRules V) where
-  -- The stations that were painted before a run was stopped, and what was taken: their batches, and maybe a clearing. Each event that was taken came after one of them.
+  -- The stations that were painted before a run was stopped, and what was taken: their batches, and maybe a clearing.
+  -- Each event that was taken came after one of them.
   pub record Stopped (es : List EventView) (cleared : Bool) (s : Progress V) (base : List Batch) (m : Moment V) : Type 0 where
     pub painted : List (Station V)
     pub others : List (Station V)

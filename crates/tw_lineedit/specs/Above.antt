@@ -17,7 +17,8 @@ use Rattle.tw_lineedit.specs.EditorSteps.{Keeps}
 use Rattle.tw_lineedit.specs.Frame.{Frame}
 use Rattle.tw_lineedit.specs.Run.{progress_of, painting_at}
 
--- the changes that go back to the first row of the painting before, if there was one, clear from there on, and show a text without attributes
+-- the changes that go back to the first row of the painting before, if there was one, clear from there on, and show a
+-- text without attributes
 abbrev pub text_above : Option Mark → List ℕ → Batch
 text_above mark text = start_of mark ++ ClearToEndOfScreen default_color ∷ AllAttributes default_attributes ∷ Text text ∷ []
 
@@ -50,7 +51,8 @@ module _ {V : Type 0} (rules : HostRules V) (text : List ℕ) where
       ⊎ ((p : Rendering) × (batch : Batch) × IsBelow p batch f × RenderFails batch f.terminal g.terminal))
   FailsToPrint f g e = (g ≡ f) × (painting_at rules (progress_of (record f { mark = None })) ≡ Err (refusal_of e))
 
-  -- What a screen of the terminal's columns shows of it, where the text leaves the cursor in column 0: the text from the first row of the painting before on, below it the painting, fresh, and above it all as it was.
+  -- What a screen of the terminal's columns shows of it, where the text leaves the cursor in column 0: the text from
+  -- the first row of the painting before on, below it the painting, fresh, and above it all as it was.
   pub record StandsAbove (w s : ℕ) (batch : Batch) (f : Frame V) (before : Picture) : Type 0 where
     pub fresh : IsFresh w (printed_from w s text before).row (scene_of rules f.value f.state false) (play_all w batch before)
     pub below_text : IsSameAbove w (printed_from w s text before).row (printed_from w s text before) (play_all w batch before)

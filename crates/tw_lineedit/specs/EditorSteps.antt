@@ -105,7 +105,8 @@ module _ {V : Type 0} (rules : HostRules V) (overrides : Overrides) where
   FailsToHandleOrPaint e f g x = FailsToHandle e f g x ⊎ ((h : Frame V) × Handles rules e f h × FailsToPaint rules h g x)
 
 module _ {V : Type 0} where
-  -- the editor is closed: its mode is Inactive, nothing is painted any more, and the closing batch is rendered and flushed
+  -- the editor is closed: its mode is Inactive, nothing is painted any more, and the closing batch is rendered and
+  -- flushed
   pub record Closes (f g : Frame V) : Type 0 where
     pub state : g.state ≡ record f.state { mode = Inactive }
     pub value : g.value ≡ f.value

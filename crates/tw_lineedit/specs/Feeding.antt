@@ -81,7 +81,8 @@ module _ {V : Type 0} (rules : HostRules V) (overrides : Overrides) where
     pub quiet : Quiet f g
     pub left : g.terminal.events ≡ f.terminal.events
 
-  -- The event was handled and painted: whatever comes later, the run over it and what comes later goes on from g over what comes later.
+  -- The event was handled and painted: whatever comes later, the run over it and what comes later goes on from g over
+  -- what comes later.
   pub record IsFed (e : EventView) (f g : Frame V) : Type 0 where
     pub advances : HandlesAndPaints rules e f g
     pub run : (es : List EventView) → run_on rules (e ∷ es) (progress_of f) ≡ run_on rules es (progress_of g)

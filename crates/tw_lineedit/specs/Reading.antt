@@ -73,7 +73,8 @@ module _ {V : Type 0} where
   abbrev pub ClosesBadly : Moment V → Frame V → Frame V → Type 0
   ClosesBadly m f g = ClosesInPart m f g ⊎ ClosesUnflushed m f g
 
--- where no call of the terminal was refused before the closing, in a run with this ending that memory can stop at these moments
+-- where no call of the terminal was refused before the closing, in a run with this ending that memory can stop at these
+-- moments
 abbrev pub HaltsIn : {V : Type 0} → Ending V → (Moment V → Type 0) → Moment V → Type 0
 HaltsIn run Starves m = (m ≡ final_moment run) ⊎ (Starves m × (m.rendering ≡ None))
 
@@ -81,7 +82,8 @@ HaltsIn run Starves m = (m ≡ final_moment run) ⊎ (Starves m × (m.rendering 
 abbrev pub HaltsRefused : {V : Type 0} → Ending V → (Moment V → Type 0) → Moment V → Type 0
 HaltsRefused run Starves m = (IsRefusal run.answer × (m ≡ final_moment run)) ⊎ (Starves m × (m.rendering ≡ None))
 
--- A run from f with this ending, which memory and the terminal can stop at these moments; at the last ones no call of the terminal was refused before the closing.
+-- A run from f with this ending, which memory and the terminal can stop at these moments; at the last ones no call of
+-- the terminal was refused before the closing.
 module _ {V : Type 0} (run : Ending V) (Starves Faults Halts : Moment V → Type 0) (f : Frame V) where
   -- what a refusal of the run leaves, once it is closed
   abbrev pub FailsIn : Frame V → Error → Type 0

@@ -21,7 +21,8 @@ use Rattle.tw_session.specs.DrawSteps.{IsSized}
 use Rattle.tw_session.specs.declared.error.Error.{Error}
 use Rattle.tw_session.specs.declared.error.Error.TheVariants.{Memory, Terminal}
 
--- how far a run has come: the state, the host's value and the screen's size, the mark of the painting before, and the batches so far
+-- how far a run has come: the state, the host's value and the screen's size, the mark of the painting before, and the
+-- batches so far
 pub record Progress (V : Type 0) : Type 0 where
   pub state : EditState
   pub value : V
@@ -209,7 +210,8 @@ module _ {V : Type 0} where
     pub flushed : g.terminal.flushed ≡ f.terminal.flushed
     pub failures : g.terminal.failures ≡ count_up f.terminal.failures
 
-  -- What a refusal of a run leaves, before the closing: the run has this ending, and memory and the terminal can stop it at these moments.
+  -- What a refusal of a run leaves, before the closing: the run has this ending, and memory and the terminal can stop
+  -- it at these moments.
   module _ (run : Ending V) (Starves Faults : Moment V → Type 0) (f : Frame V) where
     abbrev pub IsRefusedIn : Frame V → Error → Type 0
     IsRefusedIn g (Memory e) = ((m : Moment V) × Starves m × (m.rendering ≡ None) × StandsAt m g) × Quiet f g

@@ -34,7 +34,8 @@ module _ {V : Type 0} (rules : HostRules V) where
   abbrev pub is_cleared : List (Station V) → Bool
   is_cleared stations = list_any (λ s. s.cleared) stations
 
-  -- The run from a frame comes to a station and paints it. So far every station was plain and for w columns; a screen of this width is entered at column 0.
+  -- The run from a frame comes to a station and paints it. So far every station was plain and for w columns; a screen
+  -- of this width is entered at column 0.
   pub record ReachesPlainly (f : Frame V) (w : ℕ) (earlier : List (Station V)) (station : Station V) (later : List (Station V)) (before : Picture) : Type 0 where
     pub nothing_painted : f.mark ≡ None
     pub stations : stations_of rules f ≡ earlier ++ station ∷ later
@@ -44,7 +45,8 @@ module _ {V : Type 0} (rules : HostRules V) where
     pub two_columns : 2 ≤ w
     pub at_start : before.col ≡ 0
 
-  -- the row from which a station is painted on a screen that is entered in a row: that row, or row 0 once it was cleared
+  -- the row from which a station is painted on a screen that is entered in a row: that row, or row 0 once it was
+  -- cleared
   abbrev pub first_row : ℕ → List (Station V) → ℕ
   first_row entry stations = start_row entry (scenes_of (map sized_scene stations))
 
@@ -66,7 +68,8 @@ module _ {V : Type 0} (rules : HostRules V) where
     pub painting : Painting
     pub painted : station_painting rules station ≡ Ok painting
 
-  -- The batches up to the station's painting are those that show the scenes so far, and the first of the run. Where nothing is rendered after it they are all, and the run's closing batch is theirs.
+  -- The batches up to the station's painting are those that show the scenes so far, and the first of the run. Where
+  -- nothing is rendered after it they are all, and the run's closing batch is theirs.
   pub record TellsScenes (f : Frame V) (earlier : List (Station V)) (station : Station V) (later : List (Station V)) : Type 0 where
     pub scenes : batches_of (earlier ++ station ∷ []) ≡ batches (shots_at (earlier ++ station ∷ []))
     pub beginning : (rest : List Batch) × ((run_of rules f).taken ≡ f.terminal.batches ++ (batches_of (earlier ++ station ∷ []) ++ rest))
@@ -80,7 +83,8 @@ module _ {V : Type 0} (rules : HostRules V) where
 
   -- ---- a call
 
-  -- On the way from f to g the terminal took the batches up to the station's painting first, and after them the screen shows its fresh painting from a row on; the rows above are as they were.
+  -- On the way from f to g the terminal took the batches up to the station's painting first, and after them the screen
+  -- shows its fresh painting from a row on; the rows above are as they were.
   pub record ShowsFresh (f g : Frame V) (w s : ℕ) (earlier : List (Station V)) (station : Station V) (before : Picture) : Type 0 where
     pub beginning : (rest : List Batch) × (g.terminal.batches ≡ f.terminal.batches ++ (batches_of (earlier ++ station ∷ []) ++ rest))
     pub fresh : IsFresh w s (sized_scene station).scene (play_batches w (batches_of (earlier ++ station ∷ [])) before)
@@ -90,7 +94,8 @@ module _ {V : Type 0} (rules : HostRules V) where
   abbrev pub ShowsFirst : Frame V → Frame V → Type 0
   ShowsFirst f g = (w : ℕ) (station : Station V) (later : List (Station V)) (before : Picture) → ReachesPlainly f w [] station later before → ShowsFresh f g w before.row [] station before
 
-  -- What it took after them leaves the cursor at column 0 of the row below the fresh painting, all from there on blank, and what is above as it was.
+  -- What it took after them leaves the cursor at column 0 of the row below the fresh painting, all from there on blank,
+  -- and what is above as it was.
   pub record ClosesBelow (f g : Frame V) (w : ℕ) (earlier : List (Station V)) (station : Station V) (before : Picture) : Type 0 where
     pub end : List Batch
     pub taken : g.terminal.batches ≡ f.terminal.batches ++ (batches_of (earlier ++ station ∷ []) ++ end)
@@ -102,7 +107,9 @@ module _ {V : Type 0} (rules : HostRules V) where
     abbrev pub HasPainted : List (Station V) → Type 0
     HasPainted earlier = IsStopped result → length earlier + length g.terminal.events < length f.terminal.events
 
-    -- What a screen shows of a call whose run begins at f, and which left g with this answer: the fresh painting of each station that the run reaches plainly. Where nothing stopped the call, and nothing is rendered after a station, the call ends below it.
+    -- What a screen shows of a call whose run begins at f, and which left g with this answer: the fresh painting of
+    -- each station that the run reaches plainly. Where nothing stopped the call, and nothing is rendered after a
+    -- station, the call ends below it.
     pub record Shows : Type 0 where
       pub painting : (w : ℕ) (earlier : List (Station V)) (station : Station V) (later : List (Station V)) (before : Picture)
           → ReachesPlainly f w earlier station later before → HasPainted earlier

@@ -55,7 +55,8 @@ module _ {V : Type 0} (rules : HostRules V) where
   refused_clearing [] = []
   refused_clearing (s ∷ stations) = clearing_by s.cleared (refused_clearing stations) (station_painting s)
 
-  -- the batches of stations after an earlier painting, if there was one: those of what is painted, and then the clearing before a painting that is refused
+  -- the batches of stations after an earlier painting, if there was one: those of what is painted, and then the
+  -- clearing before a painting that is refused
   abbrev pub station_batches : Option Mark → List (Station V) → List Batch
   station_batches mark stations = batches_after mark (painted_shots stations) ++ refused_clearing stations
 

@@ -53,8 +53,8 @@ impl<T: Terminal, S: Drop> Drop for EditorOver<'_, T, S> {
 }
 
 impl<'term, T: Terminal> LineEditor<'term, T> {
-    /// Creates an editor with the prompt `> ` and an empty line. Takes no memory and calls nothing of the terminal, so it
-    /// always succeeds.
+    /// Creates an editor with the prompt `> ` and an empty line. Takes no memory and calls nothing of the terminal, so
+    /// it always succeeds.
     pub fn new(alloc: Global, terminal: &'term mut T) -> Result<Self, Error>
         ensures succeeds { IsOk result }
         ensures same_reference { IfOk result (λ editor. editor.terminal.ghost_name
@@ -79,8 +79,8 @@ impl<'term, T: Terminal> LineEditor<'term, T> {
         Ok(())
     }
 
-    /// Returns the line and the byte offset of its cursor, a character boundary. Takes no memory, and changes neither the
-    /// editor nor its terminal.
+    /// Returns the line and the byte offset of its cursor, a character boundary. Takes no memory, and changes neither
+    /// the editor nor its terminal.
     pub fn get_line_and_cursor(&mut self) -> (&str, usize)
         ensures* same { sem 𝓛 (EndsAs (editor_row T.row) self.entry self.old) }
         ensures line { result.0.now ≡ self.old.session.state.cut.line }
@@ -90,8 +90,8 @@ impl<'term, T: Terminal> LineEditor<'term, T> {
         self.session.get_line_and_cursor()
     }
 
-    /// Sets the line and its cursor, a byte offset at a character boundary. A refusal changes nothing. The empty line takes
-    /// no memory.
+    /// Sets the line and its cursor, a byte offset at a character boundary. A refusal changes nothing. The empty line
+    /// needs no memory.
     pub fn set_line_and_cursor(&mut self, line: &str, cursor: usize) -> Result<(), Error>
         requires { IsCharBoundary line.now cursor }
         ensures same_reference { self.new.terminal.ghost_name ≡ self.old.terminal.ghost_name }
@@ -122,8 +122,9 @@ impl<'term, T: Terminal> LineEditor<'term, T> {
         Ok(())
     }
 
-    /// Applies an action to the line and the mode, whatever the mode is. `Repaint` clears the screen, and no other action
-    /// calls the terminal. A refusal changes nothing, but the terminal may have taken a beginning of the clearing.
+    /// Applies an action to the line and the mode, whatever the mode is. `Repaint` clears the screen, and no other
+    /// action calls the terminal. A refusal changes nothing, but the terminal may have taken a beginning of the
+    /// clearing.
     #[tactic(auto, unfolding(tw_session::specs::Steps::apply))]
     pub fn apply_action<H: LineEditorHost>(
         &mut self,
@@ -356,12 +357,12 @@ impl<'term, T: Terminal> LineEditor<'term, T> {
         }
     }
 
-    /// Reads a line that begins with the initial value, its cursor at the end. Returns the line if it was accepted or no
-    /// event is left, and `None` if it was cancelled. Events after the one that ended it are left.
+    /// Reads a line that begins with the initial value, its cursor at the end. Returns the line if it was accepted or
+    /// no event is left, and `None` if it was cancelled. Events after the one that ended it are left.
     ///
-    /// `Recursive` leaves all as it was. Every other refusal leaves the mode Inactive and the line as it was when the call
-    /// was refused; the closing batch is rendered and flushed, unless the terminal refuses that too: then that refusal is
-    /// returned.
+    /// `Recursive` leaves all as it was. Every other refusal leaves the mode Inactive and the line as it was when the
+    /// call was refused; the closing batch is rendered and flushed, unless the terminal refuses that too: then that
+    /// refusal is returned.
     pub fn read_line_with_optional_initial_value<H: LineEditorHost>(
         &mut self,
         host: &mut H,

@@ -16,8 +16,8 @@ use tw_terminal::Terminal;
 impl<'term, T: Terminal> LineEditor<'term, T> {
     /// Reads a line as `read_line` does, and adds it to the host's history. A cancelled line is not added.
     ///
-    /// A refused reading leaves what a refused `read_line` leaves, and adds nothing. If there is no memory to add the line,
-    /// the reading is over, and the history is as it was.
+    /// A refused reading leaves what a refused `read_line` leaves, and adds nothing. If there is no memory to add the
+    /// line, the reading is over, and the history is as it was.
     pub fn read_line_and_remember<H: LineEditorHost>(
         &mut self,
         host: &mut H,

@@ -106,7 +106,8 @@ is_pending (Event event) = true
 is_pending (Fault fault) = true
 
 module _ {S : Type 0} (told : S → List EventView) (Follows : S → S → List EventView → Type 0) where
-  -- Calls of the source lead from one to the other. What was held back and what it told since is what was taken, and then what is held back now.
+  -- Calls of the source lead from one to the other. What was held back and what it told since is what was taken, and
+  -- then what is held back now.
   abbrev pub Moves : S → List EventView → S → List EventView → List EventView → Type 0
   Moves old held new left taken = (calls : IsCalled told Follows old new) × (held ++ all_events calls.0 ≡ taken ++ left)
 

@@ -22,7 +22,8 @@ abbrev pub prompt_column : ℕ → List ℕ → Option ℕ
 prompt_column cols prompt =
     if (leb 1 cols && leb cols 65535) && list_all is_in_range (places_after cols (pieces prompt) origin) then Some (line_start cols prompt).x else None
 
--- the columns after the cell in which the editor shows the cursor at the end of a row, but for the last one, which stays empty; there are none after a row with a control character
+-- the columns after the cell in which the editor shows the cursor at the end of a row, but for the last one, which
+-- stays empty; there are none after a row with a control character
 abbrev pub room_from : Option ℕ → ℕ → List ℕ → List ℕ → ℕ
 room_from None cols before row = 0
 room_from (Some start) cols before row =

@@ -18,7 +18,8 @@ use Rattle.tw_prompt_host.specs.declared.going.Going.{Going}
 abbrev pub give_up_key : KeyEvent
 give_up_key = key_press ctrl (letter (codes "G"))
 
--- whether the editor searches, whether the search fails, the line before it, a line that comes back with the next event, whether the line was kept from being accepted, whether it is over, and the menu
+-- whether the editor searches, whether the search fails, the line before it, a line that comes back with the next
+-- event, whether the line was kept from being accepted, whether it is over, and the menu
 pub record GoingView : Type 0 where
   pub searching : Bool
   pub fails : Bool
@@ -71,7 +72,8 @@ is_last (Some Cancel) = true
 is_last (Some EndOfFile) = true
 is_last _ = false
 
--- an event, the line before and after it, the action that follows if there is one, whether one was kept back, whether a search fails, and where it turns the menu
+-- an event, the line before and after it, the action that follows if there is one, whether one was kept back, whether a
+-- search fails, and where it turns the menu
 pub record Came : Type 0 where
   pub event : EventView
   pub before : Cut

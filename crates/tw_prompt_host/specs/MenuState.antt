@@ -16,7 +16,8 @@ pub record Shown : Type 0 where
   pub chosen : ℕ
   pub line : Cut
 
--- no completion; one whose candidates are not known; one with fewer than two of them, which is over at once; or a menu of more
+-- no completion; one whose candidates are not known; one with fewer than two of them, which is over at once; or a menu
+-- of more
 pub data MenuView : Type 0 where
   Closed : MenuView
   Unseen : MenuView

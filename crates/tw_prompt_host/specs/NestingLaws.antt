@@ -26,7 +26,8 @@ pub record IsQuotation (pairs : List MarkPair) (pair : MarkPair) (escape : Optio
   pub quotation : pair.kind ≡ Quotation escape
   pub character : IsScalar pair.closing
 
--- whether characters, behind an escape character or not, have no closing mark that is not escaped, and end with no escape
+-- whether characters, behind an escape character or not, have no closing mark that is not escaped, and end with no
+-- escape
 abbrev pub is_quoted : ℕ → Option ℕ → Bool → List ℕ → Bool
 is_quoted closing escape escaped [] = not escaped
 is_quoted closing escape true (c ∷ rest) = is_quoted closing escape false rest

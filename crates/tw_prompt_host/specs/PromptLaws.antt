@@ -28,7 +28,8 @@ module _ {V S K : Type 0} (keys : KeyRules S K) (rules : HostRules V) where
     pub kept : (v : Prompted V S) (event : EventView) (cut : Cut) → let after = (prompt_rules keys rules).resolve v event cut in
         v.going.searching ≡ true → after.value.going.searching ≡ true → after.value.going.before_search ≡ v.going.before_search
 
-  -- the key that gives a search up leaves it, unless the application's host has another action, and the line before it stands at the next event
+  -- the key that gives a search up leaves it, unless the application's host has another action, and the line before it
+  -- stands at the next event
   pub record GivesLineBack : Type 0 where
     pub left : (v : Prompted V S) (cut : Cut) → v.going.searching ≡ true → (rules.resolve v.host (Key give_up_key) (event_line v.going cut)).action ≡ None
         → let after = (prompt_rules keys rules).resolve v (Key give_up_key) cut in

@@ -31,7 +31,10 @@ use Rattle.tw_prompt_host.specs.declared.hint.Hints.{Hints}
 use Rattle.tw_prompt_host.specs.declared.hint.Hints.TheVariants.{After}
 use Rattle.tw_prompt_host.specs.declared.layout.MenuStyle.{MenuStyle}
 
--- what the application's host holds, the lines of the history and those of them that are lent, the completers with listings of directories, what the keys hold, how hints are shown, whether a search that fails is not accepted, what lines lack, how the menu is shown, the screen, the prompt before other rows of a line if it is shown in rows, and what belongs to one line
+-- what the application's host holds, the lines of the history and those of them that are lent, the completers with
+-- listings of directories, what the keys hold, how hints are shown, whether a search that fails is not accepted, what
+-- lines lack, how the menu is shown, the screen, the prompt before other rows of a line if it is shown in rows, and
+-- what belongs to one line
 pub record Prompted (V S : Type 0) : Type 0 where
   pub host : V
   pub lines : List (List ℕ)
@@ -89,7 +92,8 @@ abbrev pub said : Bool → Bool → Option ActionView → Option ActionView
 said true opens action = Some (instead opens)
 said false opens action = action
 
--- a prompt says that a search fails: accepting its line was held back, or nothing is answered and it fails by the key table
+-- a prompt says that a search fails: accepting its line was held back, or nothing is answered and it fails by the key
+-- table
 abbrev pub says_failing : Bool → Option ActionView → Bool → Bool
 says_failing back action fails = back || (is_none action && fails)
 

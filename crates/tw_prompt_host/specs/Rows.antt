@@ -118,7 +118,8 @@ module _ (screen : PromptScreenView) (continuation : List ℕ) where
 
   -- ---- the elements
 
-  -- a break between two rows; where the line has set attributes, it has the default ones, and they are set again after it
+  -- a break between two rows; where the line has set attributes, it has the default ones, and they are set again after
+  -- it
   abbrev pub break_elements : Option CellAttributes → RowView → List ElementView
   break_elements None row = Text (row_break row) ∷ []
   break_elements (Some attributes) row = AllAttributes default_attributes ∷ Text (row_break row) ∷ AllAttributes attributes ∷ []

@@ -19,7 +19,8 @@ pub data ModeView : Type 0 where
   Accepted : ModeView
   Searching : SearchStyle → SearchDirection → Cut → ModeView
 
--- the prompt, the cut text, the index of the history's line that came in last, the line that was typed before it, the candidates that come in in turn, and the mode; while searching, the cut text is the pattern
+-- the prompt, the cut text, the index of the history's line that came in last, the line that was typed before it, the
+-- candidates that come in in turn, and the mode; while searching, the cut text is the pattern
 pub record EditState : Type 0 where
   pub prompt : List ℕ
   pub cut : Cut

@@ -9,7 +9,8 @@ use Rattle.tw_host.specs.HostRules.{HostRules}
 use Rattle.tw_session.specs.EditState.{EditState}
 use Rattle.tw_session.specs.Painting.{scene_of, shown_in}
 
--- The prompt and the line stand on the screen from row s on, each character in its cell, and the cursor after the columns before it.
+-- The prompt and the line stand on the screen from row s on, each character in its cell, and the cursor after the
+-- columns before it.
 pub record IsSeen (width s : ℕ) (prompt : List ℕ) (cut : Cut) (after : Picture) : Type 0 where
   pub shown : IsShown width s (prompt ++ cut.line) after
   pub row : after.row ≡ s + (length prompt + column_width (take cut.cursor cut.line)) / width

@@ -38,7 +38,8 @@ module _ {V : Type 0} (rules : HostRules V) (v : V) where
   apply_all [] s = Ok s
   apply_all (a ∷ actions) s = and_then (apply_all actions) (apply rules v a s)
 
-  -- k steps back through the history and k steps forth, which there are lines for, give the typed line with the cursor at its end
+  -- k steps back through the history and k steps forth, which there are lines for, give the typed line with the cursor
+  -- at its end
   abbrev pub WalksBack : Type 0
   WalksBack = (s : EditState) (k : ℕ) → s.history_index ≡ None → ¬ (IsSearching s.mode) → 1 ≤ k → k ≤ length (rules.lines v)
       → IsOkAnd (apply_all (replicate k HistoryPrevious ++ replicate k HistoryNext) s) (λ t. t.cut ≡ at_end s.cut.line)
@@ -49,7 +50,8 @@ module _ {V : Type 0} (rules : HostRules V) (v : V) where
       → IsOkAnd (apply_all (replicate k HistoryPrevious ++ replicate k HistoryNext) s) (λ t.
       (t.history_index ≡ None) × (t.typed_line ≡ None) × IsOkAnd (apply rules v HistoryPrevious t) (λ u. Some u.cut.line ≡ last_line (rules.lines v)))
 
-  -- an insertion while searching backwards, whose pattern some line contains, and k backward searches show the matching lines from the newest on, and then the oldest
+  -- an insertion while searching backwards, whose pattern some line contains, and k backward searches show the matching
+  -- lines from the newest on, and then the oldest
   abbrev pub Enumerates : Type 0
   Enumerates = (s t : EditState) (style : SearchStyle) (matching : Cut) (a : ActionView) (k : ℕ)
       → s.mode ≡ Searching style Backwards matching → IsInsertion a → apply rules v a s ≡ Ok t

@@ -32,7 +32,8 @@ abbrev pub typed_cut : Option (List ℕ) → Cut
 typed_cut None = empty_cut
 typed_cut (Some line) = at_end line
 
--- after the last line the history is left: the typed line comes back, or the line is cleared; then nothing is kept, and there is no index
+-- after the last line the history is left: the typed line comes back, or the line is cleared; then nothing is kept, and
+-- there is no index
 abbrev pub with_typed_line : EditState → EditState
 with_typed_line s = record s { cut = typed_cut s.typed_line; history_index = None; typed_line = None }
 

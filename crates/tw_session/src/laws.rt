@@ -24,8 +24,8 @@ pub fn cycle<H: LineEditorHost>()
     ensures { (v : H.Value) → GoesRound H.rules v }
 {}
 
-/// A host whose texts are the prompt and the line is seen so: if a painting of it is fresh, each character of the prompt
-/// and of the line stands in its cell, and the cursor after the columns before it.
+/// A host whose texts are the prompt and the line is seen so: if a painting of it is fresh, each character of the
+/// prompt and of the line stands in its cell, and the cursor after the columns before it.
 pub fn faithful<H: LineEditorHost>()
     ensures { ShowsTheLine H.rules }
 {}

@@ -18,7 +18,8 @@ played_both : (rows : ℕ) (xs ys : Batch) (a b c : Shown) → IsPlayed rows xs 
 played_both rows [] ys a b c first then = subst (λ (k : Shown). IsPlayed rows ys k c) first then
 played_both rows (x ∷ xs) ys a b c first then = (first.0, first.1, played_both rows xs ys first.0 b c first.2 then)
 
--- what is drawn on a screen, and then on what it left, is drawn by both batches as one, where the rows that left the terminal show what they showed at first
+-- what is drawn on a screen, and then on what it left, is drawn by both batches as one, where the rows that left the
+-- terminal show what they showed at first
 pub drawn_both : (rows : ℕ) (xs ys : Batch) (first drawn next : Shown) → IsDrawnAfter rows xs first drawn → IsDrawnAfter rows ys drawn next
     → KeepsAbove (left_behind rows next) first.screen next.screen → IsDrawnAfter rows (xs ++ ys) first next
 drawn_both rows xs ys first drawn next one two above = (two.0, played_both rows xs ys first drawn next one.1 two.1, above)

@@ -114,7 +114,8 @@ pub played_reached : (rows : ℕ) (xs : Batch) (a b : Shown) → IsPlayed rows x
 played_reached rows [] a b is = omega (arith, ap (λ (k : Shown). k.reached) is)
 played_reached rows (x ∷ xs) a b is = omega (arith, is.1.reached, played_reached rows xs is.0 b is.2)
 
--- the rows of an old screen that have left the terminal: at least those that had left it before, above the old cursor, and no more than those of either screen
+-- the rows of an old screen that have left the terminal: at least those that had left it before, above the old cursor,
+-- and no more than those of either screen
 pub gone_within : (rows : ℕ) (old new : Shown) → left_behind rows old ≤ old.screen.row
     → (left_behind rows old ≤ gone_rows rows old new) × (gone_rows rows old new ≤ old.screen.row) × (gone_rows rows old new ≤ max (left_behind rows old) (left_behind rows new))
 gone_within rows old new inside = by_row (leb (left_behind rows new) old.screen.row) refl

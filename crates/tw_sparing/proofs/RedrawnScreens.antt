@@ -40,8 +40,8 @@ same_picture h w e t p q within cell row col a = record {
   x = a.x ∙ col;
 }
 
--- An old screen without its first rows stands in a picture from a row on, and a new one stands in another picture, which shows above it what the first picture
--- shows there, moved up.
+-- An old screen without its first rows is seen in a picture from a row on, and a new one in another picture, which
+-- shows above it what the first picture shows there, moved up.
 module _ (h w old_top old_row s : ℕ) (old new : Shown) (e : Encoder) (t : EcmaScreen StyledCell) (p first drawn : PictureOf StyledCell)
     (some : 0 < w) (small : w < 2 ^ 64) (fits : FitsTerminal h new) (a : IsShownBy h w e t p old) (spans : IsSpanned h w s first new drawn)
     (old_seen : IsSeenFrom w old_row (screen_cells (without_rows old_top old.screen)) (hand_of (without_rows old_top old.screen)) p)

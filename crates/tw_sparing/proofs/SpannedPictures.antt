@@ -1,4 +1,5 @@
--- What is known of a terminal and what the terminal shows are parts of one picture without a bottom, and stay so while changes are played.
+-- What is known of a terminal and what the terminal shows are parts of one picture without a bottom, and stay so while
+-- changes are played.
 use Rattle.std.proofs.Common.{◌≡◌, ◌<◌, ◌≤◌, ◌+◌, ◌-◌, ◌&&◌, ◌||◌, ℕ, ℤ, pos, negsuc, ◌+ℤ◌, max, min, Bool, true, false, cond, eqb, ltb, leb, None, Some, List, map, inl, inr, ap, subst, ◌∙◌, sym, refl, arith}
 use Rattle.std.specs.List.{list_all}
 use Rattle.std.proofs.lemmas.Bool.{ne_eqb, le-ltb}
@@ -19,8 +20,8 @@ use Rattle.tw_sparing.proofs.TypedPictures.{typing_keeps, steps_on-none, text_ty
 abbrev pub seen_row : ℕ → ℕ → Shown → ℕ
 seen_row h s shown = s + shown.reached - h
 
--- The whole picture shows what is known from row s on, and from another row on what the terminal shows. Above row s it is as at first, and below what
--- was reached it is blank.
+-- The whole picture shows what is known from row s on, and from another row on what the terminal shows. Above row s it
+-- is as at first, and below what was reached it is blank.
 pub record IsSpanned (h w s : ℕ) (first : PictureOf StyledCell) (shown : Shown) (p : PictureOf StyledCell) : Type 0 where
   pub part : PictureOf StyledCell
   pub whole : PictureOf StyledCell

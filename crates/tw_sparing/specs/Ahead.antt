@@ -17,7 +17,8 @@ all_changes (batch ∷ more) = batch ++ all_changes more
 abbrev pub changes_among : List KnownBatch → Batch
 changes_among groups = all_changes (batches_among groups)
 
--- a terminal of a size: what it shows, and what is kept back, the batches that were drawn since as one group, and what is known after them
+-- a terminal of a size: what it shows, and what is kept back, the batches that were drawn since as one group, and what
+-- is known after them
 pub record AheadView : Type 0 where
   pub size : ScreenSize
   pub shown : Option Shown
@@ -40,7 +41,8 @@ group_kept (Some drawn) batch = record { batch = batch; known = Some drawn } ∷
 abbrev pub ahead_view : ScreenSize → Option Shown → Option Shown → Batch → AheadView
 ahead_view size shown drawn batch = record { size = size; shown = shown; kept = group_kept drawn batch }
 
--- either nothing is drawn ahead, and no batch is kept back, or what is drawn is known after what is shown by the batches that are kept back
+-- either nothing is drawn ahead, and no batch is kept back, or what is drawn is known after what is shown by the
+-- batches that are kept back
 abbrev pub AreAhead : ScreenSize → Option Shown → Option Shown → Batch → Type 0
 AreAhead size shown None batch = batch ≡ []
 AreAhead size None (Some drawn) batch = ⊥
@@ -70,8 +72,9 @@ IsDrawnBetween rows batch None known = ⊥
 IsDrawnBetween rows batch (Some old) None = ⊥
 IsDrawnBetween rows batch (Some old) (Some new) = IsDrawnAfter rows batch old new
 
--- All is known that one difference takes: the batch does not go out of sight, and what is known then is what is shown once all that is kept back, and the
--- batch, are drawn on what is shown. So the rows that have left the terminal then are the same in both.
+-- All is known that one difference takes: the batch does not go out of sight, and what is known then is what is shown
+-- once all that is kept back, and the batch, are drawn on what is shown. So the rows that have left the terminal then
+-- are the same in both.
 abbrev pub IsJoined : Batch → AheadView → Option Shown → Type 0
 IsJoined batch ahead known =
     (leaves_sight ahead.size.rows (latest_known ahead) batch ≡ false)

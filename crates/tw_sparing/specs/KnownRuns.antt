@@ -41,8 +41,8 @@ abbrev pub IsShownAs : ℕ → ℕ → Encoder → EcmaScreen StyledCell → Pic
 IsShownAs h w e t p None = ShowsPicture styled h w e t p
 IsShownAs h w e t p (Some shown) = IsShownBy h w e t p shown
 
--- a batch that is sent as it is can be sent so: it begins in column 0 where something is known from it on, the known colour being by bytes, and else
--- its bytes do what it draws
+-- a batch that is sent as it is can be sent so: it begins in column 0 where something is known from it on, the known
+-- colour being by bytes, and else its bytes do what it draws
 abbrev pub CanBeSent : ℕ → ℕ → Encoder → PictureOf StyledCell → Batch → Option Shown → Option Shown → Type 0
 CanBeSent h w e p batch old None = AreSendable styled h w e batch p
 CanBeSent h w e p batch None (Some new) = IsFromStart e.x batch None (Some new) × IsColor e.attributes.background
@@ -56,22 +56,24 @@ AreKnown h w e p old (call ∷ more) =
     × CanBeSent h w e p call.batch old call.known
     × AreKnown h w (sent_for h call.batch old call.known e).next (steps_on (Some h) w (strokes_of styled e.attributes call.batch) p) call.known more
 
--- A terminal that shows a picture, and is sent what is sent for batches, one after the other, shows the picture on which all of them were drawn; and what
--- is known at the end stands in it.
+-- A terminal that shows a picture, and is sent what is sent for batches, one after the other, shows the picture on
+-- which all of them were drawn; and what is known at the end stands in it.
 abbrev pub RunsAreShown : Type 0
 RunsAreShown = (h w : ℕ) (calls : List KnownBatch) (old : Option Shown) (e : Encoder) (t : EcmaScreen StyledCell) (p : PictureOf StyledCell)
     → 0 < w → w < 2 ^ 64 → AreKnown h w e p old calls → IsShownAs h w e t p old
     → let sent = sent_for_all h old calls e in
     IsShownAs h w sent.next (receive_all styled h w sent.bytes t) (play_sized (Some h) false styled w e.attributes (sized_at w (batches_among calls)) p) (last_known old calls)
 
--- two terminals of h rows and w columns show the same cells, with the cursor in the same place, and the same attributes are selected
+-- two terminals of h rows and w columns show the same cells, with the cursor in the same place, and the same attributes
+-- are selected
 pub record IsAlike (h w : ℕ) (a b : EcmaScreen StyledCell) : Type 0 where
   pub cell : (r c : ℕ) → r < h → c < w → a.cell r c ≡ b.cell r c
   pub row : a.row ≡ b.row
   pub col : a.col ≡ b.col
   pub rendition : a.rendition ≡ b.rendition
 
--- Of two terminals that show one picture, one is sent what is sent for batches, and the other one the batches themselves. Then they look the same.
+-- Of two terminals that show one picture, one is sent what is sent for batches, and the other one the batches
+-- themselves. Then they look the same.
 abbrev pub LooksTheSame : Type 0
 LooksTheSame = (h w : ℕ) (calls : List KnownBatch) (old : Option Shown) (e f : Encoder) (t u : EcmaScreen StyledCell) (p : PictureOf StyledCell)
     → 0 < w → w < 2 ^ 64 → AreKnown h w e p old calls → IsShownAs h w e t p old

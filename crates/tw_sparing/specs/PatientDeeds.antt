@@ -15,8 +15,8 @@ use Rattle.tw_sparing.specs.Ahead.{IsJoined, groups_with, joined_group, latest_k
 use Rattle.tw_sparing.specs.Patient.{patient_state}
 
 module _ {W : Type 0} (contents : W → Option (List ℕ)) where
-  -- More is at hand, and a batch is kept back: nothing is written. What is drawn then is known after the latest picture by this batch, and after what is
-  -- shown by all that is kept back.
+  -- More is at hand, and a batch is kept back: nothing is written. What is drawn then is known after the latest picture
+  -- by this batch, and after what is shown by all that is kept back.
   pub record KeepsBack (batch : Batch) (old new : PatientTerminal W) : Type 0 where
     pub more : old.is_more ≡ true
     pub writer : new.writer ≡ old.writer
@@ -32,7 +32,8 @@ module _ {W : Type 0} (contents : W → Option (List ℕ)) where
     pub encoder : new.encoder ≡ (sent_for_all old.ahead.size.rows old.ahead.shown groups old.encoder).next
     pub ahead : new.ahead ≡ settled_at old.ahead.size (last_known old.ahead.shown groups)
 
-  -- A batch is sent: in one group with what was kept back, or after it. No more is at hand, or no difference takes all of it.
+  -- A batch is sent: in one group with what was kept back, or after it. No more is at hand, or no difference takes all
+  -- of it.
   pub record SendsBatch (batch : Batch) (old new : PatientTerminal W) : Type 0 where
     pub due : old.is_more ≡ true → IsJoined batch old.ahead new.ahead.shown → ⊥
     pub is_joined : Bool
@@ -49,8 +50,8 @@ module _ {W : Type 0} (contents : W → Option (List ℕ)) where
     pub batches : (patient_state new).batches ≡ (patient_state old).batches ++ batch ∷ []
     pub failures : new.failures ≡ old.failures
 
-  -- A batch is refused, which is counted. What is written is not told, it is not known what is shown and in which column the cursor stands, what
-  -- was kept back is lost, and the next batch is sent.
+  -- A batch is refused, which is counted. What is written is not told, it is not known what is shown and in which
+  -- column the cursor stands, what was kept back is lost, and the next batch is sent.
   pub record FailsPatiently (old new : PatientTerminal W) : Type 0 where
     pub encoder : new.encoder ≡ old.encoder
     pub ahead : new.ahead ≡ settled_at old.ahead.size None

@@ -21,8 +21,9 @@ use Rattle.tw_sparing.specs.PatientDeeds.{DoesPatiently, FollowsPatiently}
 use Rattle.tw_sparing.specs.Patient.{patient_state}
 
 module _ {W : Type 0} (contents : W → Option (List ℕ)) where
-  -- These batches were taken since. What was written is what was there, and then what is sent for these groups, each known after the one before it. And
-  -- what was kept back before and the batches after it are the changes of the groups and what is kept back now.
+  -- These batches were taken since. What was written is what was there, and then what is sent for these groups, each
+  -- known after the one before it. And what was kept back before and the batches after it are the changes of the groups
+  -- and what is kept back now.
   pub record IsSentPatiently (groups : List KnownBatch) (batches : List Batch) (old new : PatientTerminal W) : Type 0 where
     pub taken : (patient_state new).batches ≡ (patient_state old).batches ++ batches
     pub changes : changes_among old.ahead.kept ++ all_changes batches ≡ changes_among groups ++ changes_among new.ahead.kept
@@ -37,7 +38,8 @@ module _ {W : Type 0} (contents : W → Option (List ℕ)) where
       → new.failures ≡ old.failures → old.failures ≢ usize_max → sizes_in events ≡ []
       → (groups : List KnownBatch) × (batches : List Batch) × IsSentPatiently groups batches old new
 
-  -- Where nothing is kept back before it and after it, the groups have the changes of the batches that were taken in it, and no other.
+  -- Where nothing is kept back before it and after it, the groups have the changes of the batches that were taken in
+  -- it, and no other.
   abbrev pub SettledIsSent : Type 0
   SettledIsSent = (events : List EventView) (old new : PatientTerminal W) → IsLedBy (DoesPatiently contents) events old new
       → new.failures ≡ old.failures → old.failures ≢ usize_max → sizes_in events ≡ [] → old.ahead.kept ≡ [] → new.ahead.kept ≡ []

@@ -18,7 +18,8 @@ cells_below top shown = screen_cells (without_rows top shown.screen)
 abbrev pub hand_below : ℕ → Shown → Hand
 hand_below top shown = hand_of (without_rows top shown.screen)
 
--- where a batch reaches no new row, and the cells in sight, the cursor and the attributes are as before, nothing is sent
+-- where a batch reaches no new row, and the cells in sight, the cursor and the attributes are as before, nothing is
+-- sent
 abbrev pub NoBatchIsSentForNothing : Type 0
 NoBatchIsSentForNothing = (rows cols : ℕ) (batch : Batch) (old new : Shown) → IsKnownAfter cols rows batch (Some old) (Some new) → new.reached ≡ old.reached
     → let top = left_behind rows new in

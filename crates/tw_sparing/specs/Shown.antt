@@ -34,8 +34,8 @@ left_behind rows shown = shown.reached - rows
 abbrev pub rows_above : ℕ → Shown → ℕ
 rows_above rows shown = shown.screen.row - left_behind rows shown
 
--- a screen of no more rows than can be told, on a terminal of no more, with its cursor in one of its columns and in one of the last rows that it has
--- reached, and printable characters under colours by bytes in its cells
+-- a screen of no more rows than can be told, on a terminal of no more, with its cursor in one of its columns and in one
+-- of the last rows that it has reached, and printable characters under colours by bytes in its cells
 pub record FitsTerminal (rows : ℕ) (shown : Shown) : Type 0 where
   pub tall : rows ≤ most_rows
   pub most : shown.reached ≤ 65535
@@ -60,8 +60,8 @@ IsInSight above (Absolute row) = ⊥
 IsInSight above (Relative (pos n)) = ⊤
 IsInSight above (Relative (negsuc n)) = n < above
 
--- a change that does on a terminal of so many rows what it does on a screen without a bottom: a plain text, attributes, a move in sight, and a
--- clearing to blanks from a cursor on that does not wait after the last column
+-- a change that does on a terminal what it does on a screen without a bottom: a plain text, attributes, a move in
+-- sight, and a clearing to blanks from a cursor on that does not wait after the last column
 abbrev pub IsPlayable : ℕ → Shown → ChangeView → Type 0
 IsPlayable rows shown (Text text) = list_all is_plain text ≡ true
 IsPlayable rows shown (Attribute change) = IsAttribute change
@@ -124,7 +124,8 @@ IsBegunBy batch rest = Empties rest × ((batch ≡ rest) ⊎ IsMovedBy batch res
 abbrev pub LeadsToStart : Batch → Type 0
 LeadsToStart batch = (rest : Batch) × IsMovedBy batch rest
 
--- where something is known after a batch, and nothing was before, the batch comes in column 0, the cursor being in column x, or leads there
+-- where something is known after a batch, and nothing was before, the batch comes in column 0, the cursor being in
+-- column x, or leads there
 abbrev pub IsFromStart : ℕ → Batch → Option Shown → Option Shown → Type 0
 IsFromStart x batch None (Some new) = (x ≡ 0) ⊎ LeadsToStart batch
 IsFromStart x batch None None = ⊤
@@ -136,13 +137,14 @@ IsFromStart x batch (Some old) new = ⊤
 abbrev pub IsDrawnAfter : ℕ → Batch → Shown → Shown → Type 0
 IsDrawnAfter rows batch old new = FitsTerminal rows new × IsPlayed rows batch old new × KeepsAbove (left_behind rows new) old.screen new.screen
 
--- a batch leads first to column 0 of a row out of sight, there being so many rows in sight above the cursor: so to the first row of the terminal
+-- a batch leads first to column 0 of a row out of sight, higher above the cursor than the rows in sight: so to the first
+-- row of the terminal
 abbrev pub goes_out_of_sight : ℕ → Batch → Bool
 goes_out_of_sight above (CursorPosition (Absolute zero) (Relative (negsuc n)) ∷ rest) = not (ltb n above)
 goes_out_of_sight above batch = false
 
--- A terminal whose rows are all reached was emptied from its first row on, and filled again: what is shown is what the rest of the batch leaves on an empty
--- screen.
+-- A terminal whose rows are all reached was emptied from its first row on, and filled again: what is shown is what the
+-- rest of the batch leaves on an empty screen.
 pub record IsRefilled (rows : ℕ) (batch : Batch) (old new : Shown) : Type 0 where
   pub fits : FitsTerminal rows new
   pub before : rows ≤ old.reached
@@ -170,13 +172,13 @@ IsKnownAfter cols rows batch None (Some new) = FitsTerminal rows new × ((rest :
 abbrev pub changes_below : ℕ → ℕ → Shown → Shown → Batch
 changes_below old_top top old new = changes_between (old.reached - old_top) (new.reached - top) (without_rows old_top old.screen) (without_rows top new.screen)
 
--- how many rows of the old screen have left the terminal once it shows the new one: those that had left it before, and those that leave it now, unless the old
--- cursor stands in one of these
+-- how many rows of the old screen have left the terminal once it shows the new one: those that had left it before, and
+-- those that leave it now, unless the old cursor stands in one of these
 abbrev pub gone_rows : ℕ → Shown → Shown → ℕ
 gone_rows rows old new = if leb (left_behind rows new) old.screen.row then max (left_behind rows old) (left_behind rows new) else left_behind rows old
 
--- what is sent for a batch: where it is known what is shown before it and after it, what differs of the rows that have not left the terminal, its moves by few
--- bytes; and else the batch itself
+-- what is sent for a batch: where it is known what is shown before it and after it, what differs of the rows that have
+-- not left the terminal, its moves by few bytes; and else the batch itself
 abbrev pub sent_for : ℕ → Batch → Option Shown → Option Shown → Encoder → Sent
 sent_for rows batch None new e = sent_batch batch e
 sent_for rows batch (Some old) None e = sent_batch batch e

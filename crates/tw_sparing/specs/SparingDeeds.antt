@@ -12,8 +12,8 @@ use Rattle.tw_sparing.specs.declared.terminal.SparingTerminal.{SparingTerminal}
 use Rattle.tw_sparing.specs.Shown.{IsFromStart, IsKnownAfter, sent_for}
 use Rattle.tw_sparing.specs.Terminal.{sparing_state}
 
--- what a deed sends, by what is known of what is shown before it and after it: a batch as what differs, and any other deed as at a terminal that keeps
--- nothing
+-- what a deed sends, by what is known of what is shown before it and after it: a batch as what differs, and any other
+-- deed as at a terminal that keeps nothing
 abbrev pub sent_sparingly : Deed → ℕ → Option Shown → Option Shown → Encoder → Sent
 sent_sparingly (Called (Took batch)) rows old new e = sent_for rows batch old new e
 sent_sparingly (Called Refused) rows old new e = sent_deed (Called Refused) e
@@ -21,8 +21,9 @@ sent_sparingly (Called Other) rows old new e = sent_deed (Called Other) e
 sent_sparingly (Sized size) rows old new e = sent_deed (Sized size) e
 sent_sparingly (Said text) rows old new e = sent_deed (Said text) e
 
--- What is known after a deed of a terminal of this size, whose cursor stood in column x where that was known: after a batch what follows from it; after a
--- size, a text or a refused batch nothing; and after another call what was known before.
+-- What is known after a deed of a terminal of this size, whose cursor stood in column x where that was known: after a
+-- batch what follows from it; after a size, a text or a refused batch nothing; and after another call what was known
+-- before.
 abbrev pub IsKnownSince : Deed → ScreenSize → ℕ → Option Shown → Option Shown → Type 0
 IsKnownSince (Called (Took batch)) size x old new = IsKnownAfter size.cols size.rows batch old new × IsFromStart x batch old new
 IsKnownSince (Called Refused) size x old new = new ≡ None
@@ -37,8 +38,8 @@ size_since (Sized to) size = to
 size_since (Said text) size = size
 
 module _ {W : Type 0} (contents : W → Option (List ℕ)) where
-  -- The bytes of the deed are appended to what is written, and no other; what is known is what is known after them, and of what is shown what is known
-  -- since; and its batch, if it has one, is the last one taken.
+  -- The bytes of the deed are appended to what is written, and no other; what is known is what is known after them, and
+  -- of what is shown what is known since; and its batch, if it has one, is the last one taken.
   pub record SendsSparingly (deed : Deed) (old new : SparingTerminal W) : Type 0 where
     pub bytes : Appends (contents old.writer) (contents new.writer) (sent_sparingly deed old.size.rows old.shown new.shown old.encoder).bytes
     pub known : new.encoder ≡ (sent_sparingly deed old.size.rows old.shown new.shown old.encoder).next
@@ -47,7 +48,8 @@ module _ {W : Type 0} (contents : W → Option (List ℕ)) where
     pub batches : (sparing_state new).batches ≡ (sparing_state old).batches ++ batches_by (deed ∷ [])
     pub failures : old.failures ≤ new.failures
 
-  -- A batch is refused, which is counted. What is written is not told, and it is not known what is shown and in which column the cursor stands.
+  -- A batch is refused, which is counted. What is written is not told, and it is not known what is shown and in which
+  -- column the cursor stands.
   pub record FailsSparingly (old new : SparingTerminal W) : Type 0 where
     pub known : new.encoder ≡ old.encoder
     pub shown : new.shown ≡ None

@@ -21,7 +21,8 @@ AreKnownSince size old e (call ∷ more) =
     × AreKnownSince size call.known (sent_for size.rows call.batch old call.known e).next more
 
 module _ {W : Type 0} (contents : W → Option (List ℕ)) where
-  -- These batches were taken since, each known after the one before it, and what was written is what was there, and then what is sent for them.
+  -- These batches were taken since, each known after the one before it, and what was written is what was there, and
+  -- then what is sent for them.
   pub record IsSentSparingly (calls : List KnownBatch) (old new : SparingTerminal W) : Type 0 where
     pub batches : (sparing_state new).batches ≡ (sparing_state old).batches ++ batches_among calls
     pub known : AreKnownSince old.size old.shown old.encoder calls

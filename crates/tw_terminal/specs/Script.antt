@@ -86,7 +86,8 @@ abbrev pub taken_with : Batch → Option ℕ → List Batch
 taken_with batch None = batch ∷ []
 taken_with batch (Some taken) = as_batch (take taken batch)
 
--- the batches that a `render` takes: its changes as one batch, or where it is due the beginning that it takes before it fails
+-- the batches that a `render` takes: its changes as one batch, or where it is due the beginning that it takes before it
+-- fails
 abbrev pub taken_of : Batch → Script → List Batch
 taken_of batch script = taken_with batch (part_due script)
 

@@ -40,9 +40,9 @@ fn below_text(
 }
 
 impl<'term, T: Terminal> LineEditor<'term, T> {
-    /// Prints a text above an open line: it begins in the first row of the line's painting, and the line is painted again
-    /// below it. Each line of the text has to end with CR LF, the last one too. If no line takes events, nothing is done,
-    /// and `Ended` is returned.
+    /// Prints a text above an open line: it begins in the first row of the line's painting, and the line is painted
+    /// again below it. Each line of the text has to end with CR LF, the last one too. If no line takes events, nothing
+    /// is done, and `Ended` is returned.
     ///
     /// The line and its host are not changed, and the line stays open if the call is refused: nothing of the text was
     /// shown then, or a beginning.

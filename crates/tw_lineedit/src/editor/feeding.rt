@@ -34,8 +34,8 @@ impl<'term, T: Terminal> LineEditor<'term, T> {
     /// line open: the closing batch is rendered and flushed, unless the terminal refuses that too: then that refusal is
     /// returned.
     ///
-    /// A screen shows the first painting as `read_line` says of it. What it shows of the later ones, whatever events the
-    /// line is fed, is a law on runs.
+    /// A screen shows the first painting as `read_line` says of it. What it shows of the later ones, whatever events
+    /// the line is fed, is a law on runs.
     pub fn begin_line<H: LineEditorHost>(
         &mut self,
         host: &H,
@@ -101,9 +101,9 @@ impl<'term, T: Terminal> LineEditor<'term, T> {
         Ok(self.status())
     }
 
-    /// Ends a line that was fed its events. Returns the line, as it stands if it takes more events, and `None` if it was
-    /// cancelled. The closing batch is rendered and flushed. No line is open then, whether the call is refused or not. If
-    /// no line was begun, nothing is done, and `None` is returned.
+    /// Ends a line that was fed its events. Returns the line, as it stands if it takes more events, and `None` if it
+    /// was cancelled. The closing batch is rendered and flushed. No line is open then, whether the call is refused or
+    /// not. If no line was begun, nothing is done, and `None` is returned.
     pub fn finish_line(&mut self) -> Result<Option<String>, Error>
         ensures terminal { KeepsTerminal T.follows self.old.terminal self.new.terminal }
         ensures inactive { self.old.session.state.mode ≡ Inactive → (result ≡ Ok None)
