@@ -40,25 +40,13 @@ pub fn show_screen(
     if let Some(last) = screen.last_row() {
         shown.push('|')?;
         for row in 0..last {
-            show_row(screen, cols, row, "|\n|", shown)?;
+            screen.push_row(row, cols, shown)?;
+            shown.push_str("|\n|")?;
         }
-        show_row(screen, cols, last, "|\n", shown)?;
+        screen.push_row(last, cols, shown)?;
+        shown.push_str("|\n")?;
     }
     let (row, col) = cursor;
     let (end_row, end_col) = screen.cursor();
     write!(shown, "cursor {row} {col}\nend {end_row} {end_col}\n")
-}
-
-/// Adds a row of the screen, and what ends it.
-fn show_row(
-    screen: &Screen,
-    cols: usize,
-    row: usize,
-    end: &str,
-    shown: &mut String,
-) -> Result<(), AllocError>
-    ensures { OnOk result (IsContinuation (string_bytes shown.old) (string_bytes shown.new)) }
-{
-    screen.push_row(row, cols, shown)?;
-    shown.push_str(end)
 }

@@ -10,8 +10,6 @@ mod completion;
 mod lexer;
 mod names;
 mod statements;
-#[cfg(test)]
-mod tests;
 mod tokens;
 mod words;
 

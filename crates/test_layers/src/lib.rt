@@ -1,4 +1,5 @@
-//! Tests of the layers below the editor: surfaces, screens, keys, lines, histories, terminals and paintings.
+//! Tests of the layers below the editor: surfaces, screens, keys, lines, histories, terminals and paintings; and of
+//! what is known of statements of SQL.
 #![tactic(auto)]
 
 #[cfg(test)]
@@ -21,5 +22,7 @@ mod screen;
 mod scrolling_screen;
 #[cfg(test)]
 mod sequence;
+#[cfg(test)]
+mod statements;
 #[cfg(test)]
 mod terminal;

@@ -2,10 +2,10 @@
 use Rattle.std.proofs.Common.{◌≡◌, ℕ, ◌<◌, ◌≤◌, ◌+◌, ◌-◌, ◌/◌, true, false, not, ◌⊎◌, ◌&&◌, ◌||◌, List, [], ◌∷◌, ◌++◌, length, length-append, drop, drop_at, get_or, leb, refl, sym, ap, subst, ◌∙◌, arith, ⊎_elim}
 use Rattle.std.proofs.lemmas.Bool.{cases_Bool, cases_lt, and_parts, leb-true}
 use Rattle.std.proofs.lemmas.Bool.Decides.{nat_tests}
-use Rattle.std.proofs.lemmas.Str.{chars-nil, encodes-chars, chars_past_char, length-encode, encode_ascii, IsUtf8-past_char}
+use Rattle.std.proofs.lemmas.Str.{chars-nil, encodes-chars, chars_past_char, length-encode, encode_ascii, IsCharBoundary-at_seam, IsUtf8-past_char}
 use Rattle.std.specs.Char.{encode_utf8}
 use Rattle.std.specs.Prelude.{encode_utf8_all}
-use Rattle.std.specs.Str.{chars, IsUtf8}
+use Rattle.std.specs.Str.{chars, IsCharBoundary, IsUtf8}
 use Rattle.ucd_table.specs.Rows.{Range, in_ranges}
 use Rattle.ucd_table.proofs.Computing.{tables}
 use Rattle.ucd_table.proofs.Facts.{Stepped-everywhere}
@@ -122,7 +122,7 @@ pub record BeginsLone (text : List ℕ) : Type 0 where
   pub whole : text ≡ encode_utf8 character ++ rest
   pub utf8 : IsUtf8 rest
 
-get_or-front : (xs ys : List ℕ) → 0 < length xs → get_or xs 0 0 ≡ get_or (xs ++ ys) 0 0
+pub get_or-front : (xs ys : List ℕ) → 0 < length xs → get_or xs 0 0 ≡ get_or (xs ++ ys) 0 0
 get_or-front [] ys some = absurd (omega arith)
 get_or-front (x ∷ xs) ys some = refl
 
@@ -203,12 +203,15 @@ alone_in_block c some =
     (cases_Bool (in_ranges wide_blocks c)))
     (cases_Bool (in_ranges narrow_blocks c))
 
-lone_len-few : (b : ℕ) → lone_len b ≤ 3
+pub lone_len-few : (b : ℕ) → lone_len b ≤ 3
 lone_len-few b = grind (arith, nat_tests)
 
 -- a character that its first byte tells
 pub alone_by_byte : (text : List ℕ) → 0 < lone_len (get_or text 0 0) → (first : BeginsLone text) → stands_alone first.character ≡ true
 alone_by_byte text lone first = alone_in_range first.character (in_lone_ranges first.character _ first.lone lone (lone_len-few (get_or text 0 0)))
+
+pub some_of : (n : ℕ) → (n ≡ 0 → ⊥) → 0 < n
+some_of n not_none = ⊎_elim (λ none. absurd (not_none (omega (arith, none)))) (λ more. omega (arith, more)) (cases_lt n 1)
 
 -- a text that is one character
 pub only_character : (text rest : List ℕ) (c : ℕ) → IsUtf8 text → text ≡ encode_utf8 c ++ rest → length text ≤ length (encode_utf8 c) → chars text ≡ c ∷ []
@@ -226,6 +229,11 @@ only_character text rest c u whole end =
 pub lone_starts_apart : (text : List ℕ) → IsUtf8 text → 0 < length text → 0 < lone_len (get_or text 0 0) → starts_apart (chars text) ≡ true
 lone_starts_apart text u some lone =
     let first = BeginsLone-from text u some lone in starts_alone text first.rest first.character u first.whole (alone_by_byte text lone first)
+
+pub lone_boundary : (text : List ℕ) (len : ℕ) → IsUtf8 text → 0 < length text → len ≡ lone_len (get_or text 0 0) → 0 < len → IsCharBoundary text len
+lone_boundary text len u some is lone =
+    let first = BeginsLone-from text u some (rw (← is) lone) in
+    subst (IsCharBoundary text) (first.lone.bytes ∙ sym is) (IsCharBoundary-at_seam text (encode_utf8 first.character) first.rest first.whole first.utf8)
 
 pub nothing_starts_apart : (text : List ℕ) → length text ≡ 0 → starts_apart (chars text) ≡ true
 nothing_starts_apart [] none = ap starts_apart chars-nil

@@ -1,9 +1,8 @@
 -- The columns of characters that are a cluster each in a row of them.
-use Rattle.std.proofs.Common.{◌≡◌, ℕ, ◌<◌, ◌≤◌, Bool, true, false, not, ◌&&◌, ◌||◌, ◌-◌, eqb, leb, nat_lt, List, [], ◌∷◌, ◌++◌, length, length-append, get_or, take, take_at, drop, drop_at, refl, sym, ap, ap₂, subst, ◌∙◌, arith, append-nil, ⊎_elim, ◌+◌}
-use Rattle.std.proofs.lemmas.Bool.{false≢true, and_from, and_parts, leb-true, cases_Bool, cases_lt, cases_eq}
+use Rattle.std.proofs.Common.{◌≡◌, inl, inr, if◌then◌else◌, append_assoc, Option, Some, None, IfSome, ℕ, ◌<◌, ◌≤◌, Bool, true, false, not, ◌&&◌, ◌||◌, ◌-◌, eqb, leb, nat_lt, List, [], ◌∷◌, ◌++◌, length, length-append, get_or, take, take_at, drop, drop_at, refl, sym, ap, ap₂, subst, ◌∙◌, arith, append-nil, ⊎_elim, ◌+◌}
+use Rattle.std.proofs.lemmas.Bool.{false≢true, or_cases, and_from, and_parts, leb-true, cases_Bool, cases_lt, cases_eq}
 use Rattle.std.proofs.lemmas.Bool.Decides.{nat_tests}
-use Rattle.std.proofs.lemmas.Str.{chars-nil, chars_past_char, scalars-chars, IsUtf8-encode, IsUtf8-past_char}
-use Rattle.std.proofs.Math.Utf8.{scalar, scalars}
+use Rattle.std.proofs.lemmas.Str.{chars_from_encodes, IsCharBoundary-at_seam, IsUtf8-past_char, IsUtf8-take}
 use Rattle.std.specs.Char.{encode_utf8}
 use Rattle.std.specs.Prelude.{encode_utf8_all}
 use Rattle.std.specs.Str.{chars, IsUtf8}
@@ -12,6 +11,12 @@ use Rattle.ucd_table.specs.Rows.{Range, in_ranges}
 use Rattle.ucd_table.proofs.Computing.{tables}
 use Rattle.ucd_table.proofs.Facts.{Stepped-everywhere}
 use Rattle.ucd_table.proofs.Stepped.{of_ranges, zip_stepped}
+use Rattle.ucd_breaks.specs.GraphemeClusterBreak.{grapheme_cluster_break}
+use Rattle.ucd_breaks.proofs.Computing.{ucd_breaks}
+use Rattle.ucd_breaks.proofs.GraphemeClusterBreakLemmas.{grapheme_cluster_break_stepped}
+use Rattle.ucd_derived.specs.IndicConjunctBreak.{indic_conjunct_break}
+use Rattle.ucd_derived.proofs.Computing.{ucd_derived}
+use Rattle.ucd_derived.proofs.IndicConjunctBreakLemmas.{indic_conjunct_break_stepped}
 use Rattle.unicode_segmentation.specs.Grapheme.{graphemes}
 use Rattle.unicode_width.specs.declared.kind.Kind.{Kind}
 use Rattle.unicode_width.specs.declared.kind.Kind.TheVariants as kinds
@@ -19,18 +24,19 @@ use Rattle.unicode_width.specs.Kind.{kind}
 use Rattle.unicode_width.specs.declared.state.After.TheVariants.{Emoji}
 use Rattle.unicode_width.specs.Width.{before, is_emoji_variation_base, plain, of_kind, alone, in_context, joins, past_emoji, past_selectors, step, str_width}
 use Rattle.unicode_width.proofs.KindLemmas.{kind_stepped}
-use Rattle.unicode_width.proofs.Rules.{is_simple, str_width-append_simple, str_width-printable}
-use Rattle.tw_surface.specs.Characters.{is_printable}
-use Rattle.tw_surface.specs.Clusters.{accents, IsEmoji, ends_syllable, letters, IsAccented, syllables, IsFirstCluster, flag_letters, lone_columns, lone_len, narrow_blocks, starts_apart, wide_blocks, IsFlag}
+use Rattle.unicode_width.proofs.Rules.{is_simple, is_simple_kind, str_width-append_simple, str_width-printable}
+use Rattle.tw_surface.specs.Clusters.{accents, is_linker, is_mark_break, is_plain_mark, mark_columns, vowel_signs, IsEmoji, ends_syllable, stands_alone, syllables, IsFirstCluster, flag_letters, lone_columns, lone_len, narrow_blocks, wide_blocks, IsFlag}
 use Rattle.tw_surface.specs.Width.{cluster_width}
+use Rattle.tw_surface.specs.Openings.{IsWithMark}
 use Rattle.tw_surface.specs.Places.{cluster_piece, IsWideSplit}
 use Rattle.tw_surface.specs.declared.measure.Piece.TheVariants.{Wide}
-use Rattle.tw_surface.proofs.OpeningLemmas.{first_opened, first_syllable, opens_alone}
-use Rattle.tw_surface.proofs.LoneCharacters.{two_bytes, three_bytes, alone_in_block, first_high, some_bytes, BeginsLone, BeginsLone-from, IsLone, no_columns, only_character}
+use Rattle.tw_surface.proofs.OpeningLemmas.{first_opened, first_syllable, opens_alone, opens_marks}
+use Rattle.tw_surface.proofs.LoneCharacters.{two_bytes, three_bytes, alone_by_byte, alone_in_block, first_high, get_or-front, lone_len-few, some_bytes, BeginsLone, BeginsLone-from, IsLone, no_columns, only_character}
 
 is_narrow : Kind → Bool
 is_narrow kinds.Narrow = true
 is_narrow kinds.Ambiguous = true
+is_narrow kinds.Alef = true
 is_narrow _ = false
 
 is_wide : Kind → Bool
@@ -46,9 +52,22 @@ wide_kinds : (c : ℕ) → (not (in_ranges three_bytes c) || is_wide (kind c)) �
 unfolding is_wide tables kind_stepped
 wide_kinds = Stepped-everywhere _ (zip_stepped (λ inside k. not inside || is_wide k) (in_ranges three_bytes) kind (of_ranges three_bytes refl) kind_stepped) refl
 
-narrow_block_kinds : (c : ℕ) → (not (in_ranges narrow_blocks c) || is_narrow (kind c)) ≡ true
-unfolding is_narrow tables kind_stepped
-narrow_block_kinds = Stepped-everywhere _ (zip_stepped (λ inside k. not inside || is_narrow k) (in_ranges narrow_blocks) kind (of_ranges narrow_blocks refl) kind_stepped) refl
+is_single : Kind → Bool
+is_single kinds.Single = true
+is_single _ = false
+
+-- the Hebrew letter that a joiner may stand behind
+lamed : List Range
+lamed = (0x05DC, 0x05DC) ∷ []
+
+narrow_block_kinds : (c : ℕ) → (not (in_ranges narrow_blocks c) || (is_narrow (kind c) || (in_ranges lamed c && is_single (kind c)))) ≡ true
+unfolding is_narrow is_single lamed tables kind_stepped
+narrow_block_kinds =
+    Stepped-everywhere _
+    (zip_stepped (λ inside fits. not inside || fits) (in_ranges narrow_blocks) (λ c. is_narrow (kind c) || (in_ranges lamed c && is_single (kind c)))
+    (of_ranges narrow_blocks refl)
+    (zip_stepped (λ is k. is_narrow k || (is && is_single k)) (in_ranges lamed) kind (of_ranges lamed refl) kind_stepped))
+    refl
 
 wide_block_kinds : (c : ℕ) → (not (in_ranges wide_blocks c) || is_wide (kind c)) ≡ true
 unfolding is_wide tables kind_stepped
@@ -59,6 +78,7 @@ narrow-is : (c : ℕ) (k : Kind) → is_narrow k ≡ true → (of_kind false c k
 unfolding is_narrow
 narrow-is c kinds.Narrow h = refl
 narrow-is c kinds.Ambiguous h = refl
+narrow-is c kinds.Alef h = refl
 narrow-is c _ h = absurd (false≢true h)
 
 wide-is : (c : ℕ) (k : Kind) → is_wide k ≡ true → (of_kind false c k).0 ≡ 2
@@ -66,6 +86,22 @@ unfolding is_wide
 wide-is c kinds.Wide h = refl
 wide-is c kinds.Emoji h = refl
 wide-is c _ h = absurd (false≢true h)
+
+single-is : (k : Kind) → is_single k ≡ true → k ≡ kinds.Single
+unfolding is_single
+single-is kinds.Single h = refl
+single-is _ h = absurd (false≢true h)
+
+block_is : (c : ℕ) → in_ranges narrow_blocks c ≡ true → (of_kind false c (kind c)).0 ≡ 1
+unfolding lamed in_ranges
+block_is c inside = ⊎_elim (narrow-is c (kind c)) lamed_is (or_cases (is_narrow (kind c)) (in_ranges lamed c && is_single (kind c)) (rw inside at (narrow_block_kinds c)))
+  where
+    lamed_is : (in_ranges lamed c && is_single (kind c)) ≡ true → (of_kind false c (kind c)).0 ≡ 1
+    lamed_is both =
+        let parts = and_parts (in_ranges lamed c) (is_single (kind c)) both in
+        let here = parts.0 in
+        let is : kind c ≡ kinds.Single = single-is (kind c) parts.1 in
+        rw is (grind (arith, nat_tests, here))
 
 -- every block lies above Latin's control characters
 abbrev above_latin : (ranges : List Range) → Bool
@@ -99,7 +135,7 @@ wide_columns c other wide = rw (other, wide) refl
 block_columns : (c : ℕ) → 0 < lone_columns c → str_width false (c ∷ []) ≡ lone_columns c
 block_columns c some =
     ⊎_elim
-    (λ narrow. width_of_one c 1 (block_above narrow_blocks c refl narrow) (narrow-is c (kind c) (rw narrow at (narrow_block_kinds c))) ∙ narrow_columns c narrow)
+    (λ narrow. width_of_one c 1 (block_above narrow_blocks c refl narrow) (block_is c narrow) ∙ narrow_columns c narrow)
     (λ other. ⊎_elim
     (λ wide. width_of_one c 2 (block_above wide_blocks c refl wide) (wide-is c (kind c) (rw wide at (wide_block_kinds c))) ∙ wide_columns c other wide)
     (λ none. absurd (omega (arith, some, no_columns c other none)))
@@ -121,32 +157,35 @@ no_line_end (b ∷ bs) low =
     let no_lf : eqb b 10 ≡ false = grind (arith, nat_tests) in
     rw (no_cr, no_lf) refl
 
--- a character that is the first cluster of a text
-wide_first : (text rest : List ℕ) (c columns : ℕ) → IsUtf8 text → text ≡ encode_utf8 c ++ rest → 0xA0 < c → columns ≤ 2
-    → str_width false (c ∷ []) ≡ columns → IsFirstCluster text (length text - length rest) → IsWideSplit text columns rest
-wide_first text rest c columns u whole high few wide first =
-    let cluster = encode_utf8 c in
-    let all : scalars (c ∷ chars rest) ≡ true = ap scalars (sym (chars_past_char text rest c u whole)) ∙ scalars-chars text u in
-    let own : chars cluster ≡ c ∷ [] = only_character cluster [] c (IsUtf8-encode c (and_parts (scalar c) (scalars (chars rest)) all).0) (sym (append-nil cluster)) (omega arith) in
+some_from : (cluster : List ℕ) → 14 ≤ get_or cluster 0 0 → 0 < length cluster
+some_from [] low = absurd (omega arith)
+some_from (b ∷ bs) low = omega arith
+
+-- a cluster that a text begins with
+split_first : (text cluster rest : List ℕ) (columns : ℕ) → IsUtf8 text → IsUtf8 rest → text ≡ cluster ++ rest → 14 ≤ get_or cluster 0 0 → columns ≤ 2
+    → (IsUtf8 cluster → cluster_width cluster ≡ columns) → IsFirstCluster text (length text - length rest) → IsWideSplit text columns rest
+split_first text cluster rest columns u v whole high few wide first =
     let parts = ap length whole ∙ length-append cluster rest in
     let end : length cluster ≡ length text - length rest = omega (arith, parts) in
-    let front : take (length text - length rest) text ≡ cluster = rw (← end) (ap (take (length cluster)) whole ∙ take_at cluster rest (length cluster) refl) in
-    let behind : drop (length text - length rest) text ≡ rest = rw (← end) (ap (drop (length cluster)) whole ∙ drop_at cluster rest (length cluster) refl) in
-    let width : cluster_width cluster ≡ columns = ap (str_width false) own ∙ wide in
+    let front : take (length cluster) text ≡ cluster = ap (take (length cluster)) whole ∙ take_at cluster rest (length cluster) refl in
+    let behind : drop (length cluster) text ≡ rest = ap (drop (length cluster)) whole ∙ drop_at cluster rest (length cluster) refl in
+    let utf8 : IsUtf8 cluster = subst IsUtf8 front (IsUtf8-take text (length cluster) u (IsCharBoundary-at_seam text cluster rest whole v)) in
+    let cut = subst (IsFirstCluster text) (sym end) first in
     record {
       cluster = cluster;
-      split = (whole, some_bytes c, first.first ∙ ap₂ (λ t d. t ∷ graphemes true d) front behind);
-      width = width;
-      piece = no_line_end cluster (first_high c high) ∙ ap Wide width;
+      split = (whole, some_from cluster high, cut.first ∙ ap₂ (λ t d. t ∷ graphemes true d) front behind);
+      width = wide utf8;
+      piece = no_line_end cluster high ∙ ap Wide (wide utf8);
       bound = few;
     }
 
--- one of a block before what does not join it
-pub wide_split : (text rest : List ℕ) (c : ℕ) → IsUtf8 text → IsUtf8 rest → text ≡ encode_utf8 c ++ rest → 0 < lone_columns c
-    → starts_apart (chars rest) ≡ true → IsWideSplit text (lone_columns c) rest
-wide_split text rest c u v whole some apart =
-    wide_first text rest c (lone_columns c) u whole (block_low c some) (grind (arith, nat_tests)) (block_columns c some)
-    (first_opened text rest u v (opens_alone text rest c whole (alone_in_block c some)) apart)
+-- a character that is the first cluster of a text
+wide_first : (text rest : List ℕ) (c columns : ℕ) → IsUtf8 text → IsUtf8 rest → text ≡ encode_utf8 c ++ rest → 0xA0 < c → columns ≤ 2
+    → str_width false (c ∷ []) ≡ columns → IsFirstCluster text (length text - length rest) → IsWideSplit text columns rest
+wide_first text rest c columns u v whole high few wide =
+    let cluster = encode_utf8 c in
+    split_first text cluster rest columns u v whole (first_high c high) few
+    (λ w. ap (str_width false) (only_character cluster [] c w (sym (append-nil cluster)) (omega arith)) ∙ wide)
 
 syllable_kinds : (c : ℕ) → (not (in_ranges syllables c) || is_wide (kind c)) ≡ true
 unfolding is_wide tables kind_stepped
@@ -157,7 +196,7 @@ pub syllable_split : (text rest : List ℕ) (c : ℕ) → IsUtf8 text → IsUtf8
     → ends_syllable (chars rest) ≡ true → IsWideSplit text 2 rest
 syllable_split text rest c u v whole is ends =
     let high = block_above syllables c refl is in
-    wide_first text rest c 2 u whole high (omega arith) (width_of_one c 2 high (wide-is c (kind c) (rw is at (syllable_kinds c))))
+    wide_first text rest c 2 u v whole high (omega arith) (width_of_one c 2 high (wide-is c (kind c) (rw is at (syllable_kinds c))))
     (first_syllable text rest c u v whole is ends)
 
 -- a letter and an accent take one
@@ -180,34 +219,91 @@ accent_columns c inside =
     let high = block_above accents c refl inside in
     (width_of_one c 0 high (ap (λ k. (of_kind false c k).0) is), grind (arith, nat_tests, high, is))
 
-letter_columns : (c : ℕ) → in_ranges letters c ≡ true → str_width false (c ∷ []) ≡ 1
-unfolding in_ranges
-letter_columns c inside =
-    ⊎_elim (λ ascii. str_width-printable false (c ∷ []) (and_from _ _ ascii refl))
-    (λ other.
-    let high : in_ranges two_bytes c ≡ true = grind (arith, nat_tests, inside, other) in
-    width_of_one c 1 (block_above two_bytes c refl high) (narrow-is c (kind c) (rw high at (narrow_kinds c))))
-    (cases_Bool (is_printable c))
+chars_of : (text cs : List ℕ) → IsUtf8 text → text ≡ encode_utf8_all cs → chars text ≡ cs
+chars_of text cs u is = sym (chars_from_encodes cs text u (sym is))
 
-pub accented_width : (text : List ℕ) → IsUtf8 text → IsAccented text → 1 ≡ cluster_width text
-accented_width text u (c, d, whole, letter, accent) =
-    let rest = encode_utf8 d in
-    let v = IsUtf8-past_char text rest c u whole in
-    let end = only_character rest [] d v (sym (append-nil rest)) (omega arith) in
-    let is : chars text ≡ c ∷ d ∷ [] = chars_past_char text rest c u whole ∙ ap (λ t. c ∷ t) end in
-    let mark = accent_columns d accent in
-    sym (ap (str_width false) is ∙ str_width-append_simple false (c ∷ []) (d ∷ []) mark.1 ∙ ap₂ (λ m n. m + n) (letter_columns c letter) mark.0)
+vowel_kinds : (c : ℕ) → (not (in_ranges vowel_signs c) || (is_narrow (kind c) && is_simple_kind (kind c))) ≡ true
+unfolding is_narrow tables kind_stepped
+vowel_kinds = Stepped-everywhere _ (zip_stepped (λ inside k. not inside || (is_narrow k && is_simple_kind k)) (in_ranges vowel_signs) kind (of_ranges vowel_signs refl) kind_stepped) refl
+
+vowel_columns : (c : ℕ) → in_ranges vowel_signs c ≡ true → (str_width false (c ∷ []) ≡ 1) × (list_all is_simple (c ∷ []) ≡ true)
+vowel_columns c inside =
+    let is = and_parts (is_narrow (kind c)) (is_simple_kind (kind c)) (rw inside at (vowel_kinds c)) in
+    let high = block_above vowel_signs c refl inside in
+    let simple = is.1 in
+    (width_of_one c 1 high (narrow-is c (kind c) is.0), grind (arith, nat_tests, high, simple))
+
+mark_facts : (c : ℕ) → (not (in_ranges accents c || in_ranges vowel_signs c) || is_plain_mark c) ≡ true
+unfolding tables ucd_breaks ucd_derived
+mark_facts =
+    Stepped-everywhere _
+    (zip_stepped (λ inside is. not inside || is) (λ c. in_ranges accents c || in_ranges vowel_signs c) is_plain_mark
+    (zip_stepped (λ a b. a || b) (in_ranges accents) (in_ranges vowel_signs) (of_ranges accents refl) (of_ranges vowel_signs refl))
+    (zip_stepped (λ g v. is_mark_break g && not (is_linker v)) grapheme_cluster_break indic_conjunct_break grapheme_cluster_break_stepped indic_conjunct_break_stepped))
+    refl
+
+record IsMark (c columns : ℕ) : Type 0 where
+  width : str_width false (c ∷ []) ≡ columns
+  simple : list_all is_simple (c ∷ []) ≡ true
+  plain : is_plain_mark c ≡ true
+  few : columns ≤ 1
+
+some_is : (m n : ℕ) → Some m ≡ Some n → m ≡ n
+some_is m n same = cc
+
+accent_mark : (c columns : ℕ) → Some columns ≡ mark_columns c → in_ranges accents c ≡ true → IsMark c columns
+accent_mark c columns is inside =
+    let none : columns ≡ 0 = some_is columns 0 (is ∙ ap (λ b. if b then Some 0 else if in_ranges vowel_signs c then Some 1 else None) inside) in
+    let own = accent_columns c inside in
+    record { width = own.0 ∙ sym none; simple = own.1; plain = rw inside at (mark_facts c); few = omega (arith, none) }
+
+vowel_mark : (c columns : ℕ) → Some columns ≡ mark_columns c → in_ranges accents c ≡ false → in_ranges vowel_signs c ≡ true → IsMark c columns
+vowel_mark c columns is other inside =
+    let one : columns ≡ 1 = some_is columns 1 (is ∙ ap₂ (λ a b. if a then Some 0 else if b then Some 1 else None) other inside) in
+    let own = vowel_columns c inside in
+    record { width = own.0 ∙ sym one; simple = own.1; plain = rw (other, inside) at (mark_facts c); few = omega (arith, one) }
+
+no_mark : (c columns : ℕ) → Some columns ≡ mark_columns c → in_ranges accents c ≡ false → in_ranges vowel_signs c ≡ false → ⊥
+no_mark c columns is other outside =
+    let none : Some columns ≡ None = is ∙ ap₂ (λ a b. if a then Some 0 else if b then Some 1 else None) other outside in cc
+
+mark_from : (c columns : ℕ) → Some columns ≡ mark_columns c → IsMark c columns
+mark_from c columns is =
+    ⊎_elim (accent_mark c columns is)
+    (λ other. ⊎_elim (vowel_mark c columns is other) (λ outside. absurd (no_mark c columns is other outside)) (cases_Bool (in_ranges vowel_signs c)))
+    (cases_Bool (in_ranges accents c))
+
+pub some_with : {A : Type 0} → {P Q : A → Type 0} → (found : Option A) → ((value : A) → P value → Q value) → IfSome found P → IfSome found Q
+some_with (Some value) step holds = step value holds
+some_with None step holds = tt
+
+-- a base with a mark, or with none
+base_split : (text behind rest : List ℕ) (c columns sum : ℕ) → IsUtf8 text → text ≡ encode_utf8 c ++ behind → stands_alone c ≡ true
+    → 14 ≤ get_or (encode_utf8 c) 0 0 → columns ≤ 2 → str_width false (c ∷ []) ≡ columns → IsWithMark columns behind sum rest → IsWideSplit text sum rest
+base_split text behind rest c columns sum u whole alone high few own (inl (same, all, apart)) =
+    let cluster = encode_utf8 c in
+    let v = IsUtf8-past_char text rest c u (whole ∙ ap (λ t. cluster ++ t) all) in
+    split_first text cluster rest sum u v (whole ∙ ap (λ t. cluster ++ t) all) high (omega (arith, same))
+    (λ w. ap (str_width false) (only_character cluster [] c w (sym (append-nil cluster)) (omega arith)) ∙ own ∙ sym same)
+    (first_opened text rest u v (opens_alone text rest c (whole ∙ ap (λ t. cluster ++ t) all) alone) apart)
+base_split text behind rest c columns sum u whole alone high few own (inr (d, more, next, is, sums, most, apart)) =
+    let v = IsUtf8-past_char behind rest d (IsUtf8-past_char text behind c u whole) next in
+    let last = encode_utf8_all (d ∷ []) in
+    let cluster = encode_utf8_all (c ∷ d ∷ []) in
+    let mark = mark_from d more is in
+    let marked : behind ≡ last ++ rest = next ∙ ap (λ t. t ++ rest) (sym (append-nil (encode_utf8 d))) in
+    let all : text ≡ cluster ++ rest = whole ∙ ap (λ t. encode_utf8 c ++ t) marked ∙ sym (append_assoc (encode_utf8 c) last rest) in
+    let lead : 14 ≤ get_or cluster 0 0 = subst (λ b. 14 ≤ b) (get_or-front (encode_utf8 c) last (some_bytes c)) high in
+    split_first text cluster rest sum u v all lead most
+    (λ w. ap (str_width false) (chars_of cluster (c ∷ d ∷ []) w refl) ∙ str_width-append_simple false (c ∷ []) (d ∷ []) mark.simple ∙ ap₂ (λ m n. m + n) own mark.width ∙ sym sums)
+    (first_opened text rest u v (opens_marks text behind rest (opens_alone text behind c whole alone) (d ∷ [], marked, (mark.plain, tt))) apart)
+
+pub block_split : (text behind rest : List ℕ) (c sum : ℕ) → IsUtf8 text → text ≡ encode_utf8 c ++ behind → 0 < lone_columns c
+    → IsWithMark (lone_columns c) behind sum rest → IsWideSplit text sum rest
+block_split text behind rest c sum u whole some =
+    base_split text behind rest c (lone_columns c) sum u whole (alone_in_block c some) (first_high c (block_low c some)) (grind (arith, nat_tests)) (block_columns c some)
 
 -- an emoji before U+FE0F takes two, and so does its keycap
-is_single : Kind → Bool
-is_single kinds.Single = true
-is_single _ = false
-
-single-is : (k : Kind) → is_single k ≡ true → k ≡ kinds.Single
-unfolding is_single
-single-is kinds.Single h = refl
-single-is _ h = absurd (false≢true h)
-
 selectors : List Range
 selectors = (0xFE0F, 0xFE0F) ∷ []
 
@@ -253,12 +349,6 @@ emoji_columns c base =
     let capped = ap (step false 0xFE0F) (last_alone 0x20E3 (omega arith) ∙ cap_alone) ∙ selected in
     (ap (λ r. (step false c r).0) selected ∙ ap (λ r. r.0) (before_selector c base), ap (λ r. (step false c r).0) capped ∙ ap (λ r. r.0) (before_selector c base))
 
-chars_of : (text cs : List ℕ) → IsUtf8 text → text ≡ encode_utf8_all cs → chars text ≡ cs
-chars_of text [] u is = ap chars is ∙ chars-nil
-chars_of text (c ∷ cs) u is =
-    let rest = encode_utf8_all cs in
-    chars_past_char text rest c u is ∙ ap (λ t. c ∷ t) (chars_of rest cs (IsUtf8-past_char text rest c u is) refl)
-
 pub emoji_width : (text : List ℕ) → IsUtf8 text → IsEmoji text → 2 ≡ cluster_width text
 emoji_width text u (c, base, is) =
     let columns = emoji_columns c base in
@@ -294,12 +384,7 @@ flag_columns c d first second =
     grind (arith, nat_tests, left.0, left.1, right.0, right.1, last)
 
 pub flag_width : (text : List ℕ) → IsUtf8 text → IsFlag text → 2 ≡ cluster_width text
-flag_width text u (c, d, whole, first, second) =
-    let rest = encode_utf8 d in
-    let v = IsUtf8-past_char text rest c u whole in
-    let end = only_character rest [] d v (sym (append-nil rest)) (omega arith) in
-    let is : chars text ≡ c ∷ d ∷ [] = chars_past_char text rest c u whole ∙ ap (λ t. c ∷ t) end in
-    sym (ap (str_width false) is ∙ flag_columns c d first second)
+flag_width text u (c, d, is, first, second) = sym (ap (str_width false) (chars_of text _ u is) ∙ flag_columns c d first second)
 
 -- the columns of a text that is one character which its first byte tells
 module _ (text : List ℕ) (u : IsUtf8 text) (some : 0 < length text) (whole : length text ≡ lone_len (get_or text 0 0)) where
@@ -336,3 +421,30 @@ module _ (text : List ℕ) (u : IsUtf8 text) (some : 0 < length text) (whole : l
     where
       by_cases : 2 ≤ length text → length text ≡ 2
       by_cases two = ⊎_elim (λ three. absurd (other three)) (λ no. omega arith) (cases_eq (length text) 3)
+
+lone_high : (b : ℕ) → 0 < lone_len b → 14 ≤ b
+lone_high b some = grind (arith, nat_tests)
+
+pub byte_split : (text behind rest : List ℕ) (len sum : ℕ) → IsUtf8 text → 0 < length text → len ≡ lone_len (get_or text 0 0) → 0 < len
+    → behind ≡ drop len text → IsWithMark (if eqb len 3 then 2 else 1) behind sum rest → IsWideSplit text sum rest
+byte_split text behind rest len sum u some told_len more from joined =
+    let lead : 0 < lone_len (get_or text 0 0) = rw (← told_len) more in
+    let first = BeginsLone-from text u some lead in
+    let c = first.character in
+    let cluster = encode_utf8 c in
+    let bytes : length cluster ≡ len = first.lone.bytes ∙ sym told_len in
+    let back : drop len text ≡ first.rest = ap (drop len) first.whole ∙ drop_at cluster first.rest len bytes in
+    let whole : text ≡ cluster ++ behind = first.whole ∙ ap (λ t. cluster ++ t) (sym (from ∙ back)) in
+    let utf8 : IsUtf8 cluster =
+    subst IsUtf8 (ap (take (length cluster)) first.whole ∙ take_at cluster first.rest (length cluster) refl)
+    (IsUtf8-take text (length cluster) u (IsCharBoundary-at_seam text cluster first.rest first.whole first.utf8)) in
+    let front = some_bytes c in
+    let same : get_or text 0 0 ≡ get_or cluster 0 0 = ap (λ t. get_or t 0 0) whole ∙ sym (get_or-front cluster behind front) in
+    let told : length cluster ≡ lone_len (get_or cluster 0 0) = bytes ∙ told_len ∙ ap lone_len same in
+    let few : length cluster ≤ 3 = subst (λ n. n ≤ 3) (sym told) (lone_len-few (get_or cluster 0 0)) in
+    let own : cluster_width cluster ≡ (if eqb len 3 then 2 else 1) =
+    ⊎_elim (λ three. sym (han_width cluster utf8 front told (bytes ∙ three)) ∙ grind (arith, nat_tests))
+    (λ other. sym (narrow_width cluster utf8 front told few (λ three. other (sym bytes ∙ three))) ∙ grind (arith, nat_tests))
+    (cases_eq len 3) in
+    base_split text behind rest c _ sum u whole (alone_by_byte text lead first) (lone_high (get_or cluster 0 0) (subst (λ n. 0 < n) told front))
+    (grind (arith, nat_tests)) (sym (ap (str_width false) (only_character cluster [] c utf8 (sym (append-nil cluster)) (omega arith))) ∙ own) joined

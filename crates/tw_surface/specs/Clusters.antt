@@ -1,5 +1,5 @@
 -- A text cut after its first extended grapheme cluster.
-use Rattle.std.specs.Prelude.{encode_utf8_all, ◌⊎◌, ℕ, ◌<◌, ◌≡◌, Bool, true, false, not, ◌&&◌, ◌||◌, leb, List, [], ◌∷◌, ◌++◌, encode_utf8, length, take, drop, if◌then◌else◌}
+use Rattle.std.specs.Prelude.{encode_utf8_all, ◌⊎◌, ℕ, ◌<◌, ◌≡◌, Bool, true, false, not, ◌&&◌, ◌||◌, leb, List, [], ◌∷◌, ◌++◌, length, take, drop, if◌then◌else◌, Option, Some, None}
 use Rattle.std.specs.Str.{IsCharBoundary}
 use Rattle.ucd_table.specs.Rows.{Range, in_ranges}
 use Rattle.ucd_breaks.specs.GraphemeClusterBreak.{grapheme_cluster_break}
@@ -25,19 +25,20 @@ lone_len lead =
 abbrev pub lone_ranges : List Range
 lone_ranges = (0x20, 0x7E) ∷ (0xC0, 0x2FF) ∷ (0x380, 0x47F) ∷ (0x4000, 0x9FFF) ∷ []
 
--- those of one column
-abbrev pub letters : List Range
-letters = (0x20, 0x7E) ∷ (0xC0, 0x2FF) ∷ (0x380, 0x47F) ∷ []
-
 -- marks of no columns, whatever stands before them
 abbrev pub accents : List Range
-accents = (0x300, 0x337) ∷ (0x339, 0x36F) ∷ []
+accents =
+    (0x300, 0x337) ∷ (0x339, 0x36F) ∷ (0x591, 0x5BD) ∷ (0x64B, 0x65F) ∷ (0x900, 0x902) ∷ (0x93C, 0x93C) ∷ (0x941, 0x948)
+    ∷ (0xBC0, 0xBC0) ∷ (0xBCD, 0xBCD) ∷ (0xE31, 0xE31) ∷ (0xE34, 0xE3A) ∷ (0xE47, 0xE4E) ∷ []
 
--- a letter and an accent
-abbrev pub IsAccented : List ℕ → Type 0
-IsAccented text =
-    (c : ℕ) × (d : ℕ) × (text ≡ encode_utf8 c ++ encode_utf8 d)
-    × (in_ranges letters c ≡ true) × (in_ranges accents d ≡ true)
+-- vowel signs of Devanagari, Tamil and Thai of one column, behind the letter that they join
+abbrev pub vowel_signs : List Range
+vowel_signs =
+    (0x93E, 0x940) ∷ (0x949, 0x94C) ∷ (0xBBF, 0xBBF) ∷ (0xBC1, 0xBC2) ∷ (0xBC6, 0xBC8) ∷ (0xBCA, 0xBCC) ∷ (0xE33, 0xE33) ∷ []
+
+-- the columns that such a mark adds to its cluster
+abbrev pub mark_columns : ℕ → Option ℕ
+mark_columns c = if in_ranges accents c then Some 0 else if in_ranges vowel_signs c then Some 1 else None
 
 -- two of these are a flag
 abbrev pub flag_letters : List Range
@@ -45,7 +46,7 @@ flag_letters = (0x1F1E6, 0x1F1FF) ∷ []
 
 abbrev pub IsFlag : List ℕ → Type 0
 IsFlag text =
-    (c : ℕ) × (d : ℕ) × (text ≡ encode_utf8 c ++ encode_utf8 d)
+    (c : ℕ) × (d : ℕ) × (text ≡ encode_utf8_all (c ∷ d ∷ []))
     × (in_ranges flag_letters c ≡ true) × (in_ranges flag_letters d ≡ true)
 
 -- a character that is shown as an emoji before U+FE0F, and that, or a keycap of the two
@@ -59,7 +60,7 @@ IsEmoji text =
 -- use, halfwidth kana
 abbrev pub narrow_blocks : List Range
 narrow_blocks =
-    (0x05D0, 0x05DB) ∷ (0x05DD, 0x05FF) ∷ (0x0628, 0x064A) ∷ (0x0676, 0x06D5) ∷ (0x0904, 0x0939) ∷ (0x0B83, 0x0BB9)
+    (0x05D0, 0x05FF) ∷ (0x0620, 0x064A) ∷ (0x0676, 0x06D5) ∷ (0x0904, 0x0939) ∷ (0x0B83, 0x0BB9)
     ∷ (0x0E01, 0x0E30) ∷ (0x0E40, 0x0E46) ∷ (0x1E00, 0x200A) ∷ (0x2010, 0x2027)
     ∷ (0x2070, 0x20CF) ∷ (0x20F1, 0x2319) ∷ (0x232B, 0x23E8) ∷ (0x23F4, 0x25FC) ∷ (0x27C0, 0x2B1A) ∷ (0xE000, 0xF8FF)
     ∷ (0xFF61, 0xFF9D) ∷ []

@@ -1,9 +1,10 @@
 -- What the first cluster of a text begins with, where no rule looks further back than to its last character.
-use Rattle.std.specs.Prelude.{ℕ, ◌≡◌, ◌⊎◌, ⊤, true, false, List, [], ◌∷◌, ◌++◌, map, encode_utf8, encode_utf8_all}
+use Rattle.std.specs.Prelude.{ℕ, ◌≡◌, ◌≤◌, ◌+◌, ◌⊎◌, ⊤, true, false, List, [], ◌∷◌, ◌++◌, map, encode_utf8, encode_utf8_all, Some}
+use Rattle.std.specs.Str.{chars}
 use Rattle.ucd_breaks.specs.GraphemeClusterBreak.{grapheme_cluster_break}
 use Rattle.ucd_derived.specs.IndicConjunctBreak.{indic_conjunct_break}
 use Rattle.unicode_segmentation.specs.Grapheme.{ends_in_linker, ends_in_pictograph, is_grapheme_break}
-use Rattle.tw_surface.specs.Clusters.{is_joined, is_picture, is_plain_extend, is_plain_mark}
+use Rattle.tw_surface.specs.Clusters.{is_joined, is_picture, is_plain_extend, is_plain_mark, mark_columns, starts_apart}
 
 -- behind these characters, nearest first, what joins whatever stands before it goes on, and all else begins anew
 pub record IsPlainEnd (before : List ℕ) : Type 0 where
@@ -53,3 +54,11 @@ nearest before (c ∷ cs) = nearest (c ∷ before) cs
 -- a text begins with characters of one cluster that end in a pictograph and its marks
 abbrev pub ArePictures : List ℕ → List ℕ → Type 0
 ArePictures text rest = (cs : List ℕ) × (text ≡ encode_utf8_all cs ++ rest) × IsOpen [] cs × (ends_in_pictograph (nearest [] cs) ≡ true)
+
+-- a base of these columns stands before a text: the columns of its cluster and what follows that, if at most a mark joins
+-- the base
+abbrev pub IsWithMark : ℕ → List ℕ → ℕ → List ℕ → Type 0
+IsWithMark columns behind sum rest =
+    ((sum ≡ columns) × (behind ≡ rest) × (starts_apart (chars rest) ≡ true))
+    ⊎ ((c : ℕ) × (more : ℕ) × (behind ≡ encode_utf8 c ++ rest) × (Some more ≡ mark_columns c) × (sum ≡ columns + more) × (sum ≤ 2)
+    × (starts_apart (chars rest) ≡ true))

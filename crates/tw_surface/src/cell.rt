@@ -4,12 +4,12 @@ ghost use Rattle.std.specs.Prelude.{◌≡◌, ◌+◌, ◌*◌, ◌<◌, ◌≤
 ghost use Rattle.std.specs.List.{sum_by};
 ghost use Rattle.unicode_segmentation.specs.Grapheme.{graphemes};
 ghost use Rattle.tw_surface.specs.Attributes.{with_attribute};
-ghost use Rattle.tw_surface.specs.Clusters.{accents, letters, IsAccented, IsEmoji, IsFlag};
-ghost use Rattle.ucd_table.specs.Rows.{in_ranges};
+ghost use Rattle.tw_surface.specs.Clusters.{IsEmoji, IsFlag};
 ghost use Rattle.tw_surface.specs.Width.{cluster_width, column_width};
 
+use crate::blocks::is_flag_letter;
 use crate::characters::is_printable_text;
-use crate::clusters::{is_flag_letter, lone_len, split_block, split_cluster};
+use crate::clusters::{lone_len, split_block, split_by_byte, split_cluster};
 use crate::color::ColorAttribute;
 use ucd_emoji::is_emoji_variation_base;
 use unicode_width::UnicodeWidthStr;
@@ -177,39 +177,9 @@ fn other_width(cluster: &str) -> usize
     ensures bound { result ≤ 2 * length cluster.now }
 {
     match cluster.len() {
-        3..=4 if is_accented(cluster) => 1,
         6..=7 if is_emoji(cluster) => 2,
         8 if is_flag(cluster) => 2,
         _ => cluster.width(),
-    }
-}
-
-/// Returns true if the character is one of a column that [`lone_len`] knows by its first byte.
-#[tactic(auto, unfolding(ucd_table::specs::Rows::in_ranges))]
-fn is_letter(c: char) -> bool
-    ensures { result ≡ in_ranges letters c }
-{
-    matches!(c, ' '..='~' | '\u{C0}'..='\u{2FF}' | '\u{380}'..='\u{47F}')
-}
-
-/// Returns true if the character is a mark of no columns, whatever stands before it.
-#[tactic(auto, unfolding(ucd_table::specs::Rows::in_ranges))]
-fn is_accent(c: char) -> bool
-    ensures { result ≡ in_ranges accents c }
-{
-    matches!(c, '\u{300}'..='\u{337}' | '\u{339}'..='\u{36F}')
-}
-
-/// Returns true if the text is a letter and an accent, and nothing else.
-fn is_accented(text: &str) -> bool
-    ensures { result ≡ true → IsAccented text.now }
-{
-    let mut chars = text.chars();
-    match (chars.next(), chars.next()) {
-        (Some(letter), Some(accent)) => {
-            is_letter(letter) && is_accent(accent) && chars.as_str().is_empty()
-        }
-        _ => false,
     }
 }
 
@@ -254,9 +224,26 @@ fn split_columns(text: &str) -> Option<(usize, &str)>
         columns + 2 * length rest.now ≤ 2 * length text.now) }
     ensures shorter { IfSome result (λ (columns, rest). length rest.now < length text.now) }
 {
+    if let Some(split) = split_by_byte(text) {
+        return Some(split);
+    }
     if let Some(split) = split_block(text) {
         return Some(split);
     }
+    split_ruled_columns(text)
+}
+
+/// Returns the same of any other text. It is a function of its own, so that the one above stays short.
+#[inline(never)]
+fn split_ruled_columns(text: &str) -> Option<(usize, &str)>
+    ensures sums { MatchOption result
+        (graphemes true text.now ≡ [])
+        (λ (columns, rest). columns + sum_by cluster_width (graphemes true rest.now)
+        ≡ sum_by cluster_width (graphemes true text.now)) }
+    ensures bound { IfSome result (λ (columns, rest).
+        columns + 2 * length rest.now ≤ 2 * length text.now) }
+    ensures shorter { IfSome result (λ (columns, rest). length rest.now < length text.now) }
+{
     let (cluster, rest) = split_cluster(text)?;
     Some((cluster_width(cluster), rest))
 }

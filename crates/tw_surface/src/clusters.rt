@@ -1,23 +1,20 @@
 //! Texts cut after their first extended grapheme cluster.
 
-ghost use Rattle.std.specs.Prelude.{◌≡◌, ◌<◌, ◌≤◌, [], length, true, IfSome, MatchOption};
+ghost use Rattle.std.specs.Prelude.{◌≡◌, eqb, ◌<◌, ◌≤◌, [], length, true, if◌then◌else◌, IfSome, MatchOption};
 ghost use Rattle.std.specs.Str.{chars};
 ghost use Rattle.unicode_segmentation.specs.Grapheme.{graphemes};
-ghost use Rattle.ucd_table.specs.Rows.{in_ranges};
-ghost use Rattle.tw_surface.specs.Clusters.{flag_letters, picture_blocks, is_picture, is_plain_extend, is_plain_mark, lone_columns, lone_len, lone_ranges, ends_syllable, syllables, narrow_blocks, stands_alone, starts_apart, wide_blocks, IsFirstCluster, IsSplit};
+ghost use Rattle.tw_surface.specs.Clusters.{is_picture, is_plain_extend, is_plain_mark, lone_len, ends_syllable, stands_alone, starts_apart, IsFirstCluster, IsSplit};
 ghost use Rattle.tw_surface.specs.Places.{IsWideSplit};
-ghost use Rattle.tw_surface.specs.Openings.{ArePastMarks, ArePictures, GoesOn, IsPastMark, IsPastPictograph, BeginsOpen};
+ghost use Rattle.tw_surface.specs.Openings.{ArePastMarks, ArePictures, GoesOn, IsPastMark, IsPastPictograph, IsWithMark, BeginsOpen};
 
+use crate::blocks::{
+    FIRST_MARK, is_flag_letter, is_in_lone_range, is_in_picture_block, is_syllable, lone_columns,
+    mark_columns,
+};
 use ucd_breaks::GraphemeClusterBreak;
 use ucd_derived::IndicConjunctBreak;
 use ucd_emoji::is_extended_pictographic;
 use unicode_segmentation::UnicodeSegmentation;
-
-/// No character before it joins what stands before.
-const FIRST_MARK: char = '\u{300}';
-
-/// The last character of the blocks of one column.
-const LAST_NARROW: char = '\u{FF9D}';
 
 /// The zero width joiner, which makes one cluster of two pictographs.
 const JOINER: char = '\u{200D}';
@@ -36,101 +33,6 @@ pub fn lone_len(lead: u8) -> usize
         0xE4..=0xE9 => 3,
         _ => 0,
     }
-}
-
-/// Returns true if the character stands in a block of characters of one column.
-#[tactic(auto, unfolding(ucd_table::specs::Rows::in_ranges))]
-fn is_in_narrow_block(c: char) -> bool
-    ensures { result ≡ in_ranges narrow_blocks c }
-{
-    c <= LAST_NARROW
-        && matches!(
-        c,
-        '\u{05D0}'..='\u{05DB}'
-            | '\u{05DD}'..='\u{05FF}'
-            | '\u{0628}'..='\u{064A}'
-            | '\u{0676}'..='\u{06D5}'
-            | '\u{0904}'..='\u{0939}'
-            | '\u{0B83}'..='\u{0BB9}'
-            | '\u{0E01}'..='\u{0E30}'
-            | '\u{0E40}'..='\u{0E46}'
-            | '\u{1E00}'..='\u{200A}'
-            | '\u{2010}'..='\u{2027}'
-            | '\u{2070}'..='\u{20CF}'
-            | '\u{20F1}'..='\u{2319}'
-            | '\u{232B}'..='\u{23E8}'
-            | '\u{23F4}'..='\u{25FC}'
-            | '\u{27C0}'..='\u{2B1A}'
-            | '\u{E000}'..='\u{F8FF}'
-            | '\u{FF61}'..='\u{FF9D}'
-    )
-}
-
-/// Returns true if the character stands in a block of emoji.
-#[tactic(auto, unfolding(ucd_table::specs::Rows::in_ranges))]
-fn is_in_picture_block(c: char) -> bool
-    ensures { result ≡ in_ranges picture_blocks c }
-{
-    matches!(
-        c,
-        '\u{1F300}'..='\u{1F320}'
-            | '\u{1F337}'..='\u{1F37C}'
-            | '\u{1F3A0}'..='\u{1F3CA}'
-            | '\u{1F400}'..='\u{1F43E}'
-            | '\u{1F442}'..='\u{1F4FC}'
-            | '\u{1F4FF}'..='\u{1F53D}'
-            | '\u{1F5FB}'..='\u{1F64F}'
-            | '\u{1F680}'..='\u{1F6C5}'
-            | '\u{1F90C}'..='\u{1F93A}'
-            | '\u{1F947}'..='\u{1F9FF}'
-    )
-}
-
-/// Returns true if the character stands in a block of characters of two columns.
-#[tactic(auto, unfolding(ucd_table::specs::Rows::in_ranges))]
-fn is_in_wide_block(c: char) -> bool
-    ensures { result ≡ in_ranges wide_blocks c }
-{
-    matches!(
-        c,
-        '\u{3000}'..='\u{3029}'
-            | '\u{3041}'..='\u{3096}'
-            | '\u{309B}'..='\u{30FF}'
-            | '\u{3250}'..='\u{A48C}'
-            | '\u{F900}'..='\u{FAFF}'
-            | '\u{FF01}'..='\u{FF60}'
-    ) || is_in_picture_block(c)
-}
-
-/// Returns the columns of a character that is a cluster of its own before any character that does not join it, if it
-/// stands in one of these blocks. Else 0.
-fn lone_columns(c: char) -> usize
-    ensures value { result ≡ lone_columns c }
-    ensures bound { result ≤ 2 }
-{
-    if is_in_narrow_block(c) {
-        1
-    } else if is_in_wide_block(c) {
-        2
-    } else {
-        0
-    }
-}
-
-/// Returns true if the character stands in a range that [`lone_len`] knows by its first byte.
-#[tactic(auto, unfolding(ucd_table::specs::Rows::in_ranges))]
-fn is_in_lone_range(c: char) -> bool
-    ensures { result ≡ in_ranges lone_ranges c }
-{
-    matches!(c, ' '..='~' | '\u{C0}'..='\u{2FF}' | '\u{380}'..='\u{47F}' | '\u{4000}'..='\u{9FFF}')
-}
-
-/// Returns true if the character is half a flag.
-#[tactic(auto, unfolding(ucd_table::specs::Rows::in_ranges))]
-pub fn is_flag_letter(c: char) -> bool
-    ensures { result ≡ in_ranges flag_letters c }
-{
-    matches!(c, '\u{1F1E6}'..='\u{1F1FF}')
 }
 
 /// Returns true if the character is a base: nothing follows it in its cluster but what joins whatever stands before it.
@@ -381,16 +283,55 @@ fn ruled_len(text: &str) -> usize
     }
 }
 
-/// Returns the columns of the first cluster of a text and what follows it, if the cluster is a character of a block and
-/// the next one does not join it.
+/// Returns the columns of a character that begins with such a byte.
+#[inline]
+fn lone_width(len: usize) -> usize
+    ensures { result ≡ (if eqb len 3 then 2 else 1) }
+{
+    if len == 3 { 2 } else { 1 }
+}
+
+/// Returns true if the text is empty or begins with a character that [`lone_len`] knows by its first byte.
+#[inline]
+fn begins_lone(text: &str) -> bool
+    ensures { result ≡ true → starts_apart (chars text.now) ≡ true }
+{
+    match text.as_bytes().first() {
+        Some(lead) => lone_len(*lead) > 0,
+        None => true,
+    }
+}
+
+/// Returns the columns of the first cluster of a text and what follows it, if the first byte tells its first character,
+/// and nothing but one mark joins that.
+#[inline]
+pub fn split_by_byte(text: &str) -> Option<(usize, &str)>
+    ensures { IfSome result (λ (columns, rest). IsWideSplit text.now columns rest.now) }
+{
+    let len = lone_len(*text.as_bytes().first()?);
+    if len == 0 {
+        return None;
+    }
+    let (_, rest) = text.split_at(len);
+    let columns = lone_width(len);
+    if begins_lone(rest) {
+        Some((columns, rest))
+    } else {
+        split_joined(columns, rest)
+    }
+}
+
+/// Returns the columns of the first cluster of a text and what follows it, if its first character stands in a block, and
+/// nothing but one mark joins that.
 #[inline]
 pub fn split_block(text: &str) -> Option<(usize, &str)>
     ensures { IfSome result (λ (columns, rest). IsWideSplit text.now columns rest.now) }
 {
     match text.as_bytes().first() {
         // (the first bytes of the characters of blocks)
-        Some(0xD7..=0xDB | 0xE0..=0xE3 | 0xEE..=0xF0) => split_lone(text),
+        Some(0xD7..=0xDB | 0xE0..=0xE3 | 0xEE..=0xEF) => split_lone(text),
         Some(0xEA..=0xED) => split_syllable(text),
+        Some(0xF0) => split_picture(text),
         _ => None,
     }
 }
@@ -401,28 +342,62 @@ fn split_lone(text: &str) -> Option<(usize, &str)>
     ensures { IfSome result (λ (columns, rest). IsWideSplit text.now columns rest.now) }
 {
     match text.as_bytes() {
-        // (Jamo, symbols that may be emoji, and emoji before a selector, a joiner or a colour of the skin)
+        // (Jamo, and symbols that may be emoji)
         [0xE1, 0x80..=0xB7, ..] | [0xE2, 0x98..=0x9E, ..] => return None,
-        [0xF0, _, _, _, 0xEF, 0xB8, ..] | [0xF0, _, _, _, 0xE2, 0x80, ..] => return None,
-        [0xF0, _, _, _, 0xF0, 0x9F, 0x8F, ..] => return None,
         _ => {}
     }
     let mut chars = text.chars();
     let columns = lone_columns(chars.next()?);
-    let rest = chars.as_str();
-    if columns > 0 && starts_apart(rest) {
-        Some((columns, rest))
+    if columns > 0 {
+        split_joined(columns, chars.as_str())
     } else {
         None
     }
 }
 
-/// Returns true if the character is a syllable of Hangul.
-#[tactic(auto, unfolding(ucd_table::specs::Rows::in_ranges))]
-fn is_syllable(c: char) -> bool
-    ensures { result ≡ in_ranges syllables c }
+/// Returns the same for a text that may begin with an emoji.
+#[inline(never)]
+fn split_picture(text: &str) -> Option<(usize, &str)>
+    ensures { IfSome result (λ (columns, rest). IsWideSplit text.now columns rest.now) }
 {
-    ('\u{AC00}'..='\u{D7A3}').contains(&c)
+    match text.as_bytes() {
+        // (halves of flags, and emoji before a selector, a joiner or a colour of the skin)
+        [_, 0x9F, 0x87, ..]
+        | [_, _, _, _, 0xEF, 0xB8, ..]
+        | [_, _, _, _, 0xE2, 0x80, ..]
+        | [_, _, _, _, 0xF0, 0x9F, 0x8F, ..] => None,
+        _ => split_lone(text),
+    }
+}
+
+/// Returns the columns of a cluster and what follows it, if it begins with a base of `columns`, what is behind the base
+/// is `behind`, and nothing but one mark joins that.
+#[inline]
+fn split_joined(columns: usize, behind: &str) -> Option<(usize, &str)>
+    requires { columns ≤ 2 }
+    ensures { IfSome result (λ (sum, rest). IsWithMark columns behind.now sum rest.now) }
+{
+    if starts_apart(behind) {
+        Some((columns, behind))
+    } else {
+        split_marked(columns, behind)
+    }
+}
+
+/// Returns the same if one mark joins the base.
+#[inline(never)]
+fn split_marked(columns: usize, behind: &str) -> Option<(usize, &str)>
+    requires { columns ≤ 2 }
+    ensures { IfSome result (λ (sum, rest). IsWithMark columns behind.now sum rest.now) }
+{
+    let mut chars = behind.chars();
+    let sum = columns + mark_columns(chars.next()?)?;
+    let rest = chars.as_str();
+    if sum <= 2 && starts_apart(rest) {
+        Some((sum, rest))
+    } else {
+        None
+    }
 }
 
 /// Returns true if the text is empty or begins with a character that does not join a syllable.

@@ -8,6 +8,7 @@
 //! them.
 #![tactic(auto)]
 
+mod blocks;
 mod cell;
 mod change;
 mod characters;

@@ -8,7 +8,7 @@ ghost use Rattle.tw_surface.specs.Extents.{place_of, Measures, start_extent};
 
 use crate::cell::cluster_width;
 use crate::characters::{is_plain_text, is_printable_text};
-use crate::clusters::{split_block, split_cluster};
+use crate::clusters::{split_block, split_by_byte, split_cluster};
 use crate::size::MAX_REACH;
 
 /// A piece of a text, by what it does to the cursor.
@@ -152,9 +152,24 @@ fn split_piece(text: &str) -> Option<(Piece, &str)>
         ≡ piece ∷ map cluster_piece (graphemes true rest.now)) }
     ensures shorter { IfSome result (λ (piece, rest). length rest.now < length text.now) }
 {
+    if let Some((columns, rest)) = split_by_byte(text) {
+        return Some((Piece::Wide(columns), rest));
+    }
     if let Some((columns, rest)) = split_block(text) {
         return Some((Piece::Wide(columns), rest));
     }
+    split_ruled_piece(text)
+}
+
+/// Returns the same of any other text. It is a function of its own, so that the one above stays short.
+#[inline(never)]
+fn split_ruled_piece(text: &str) -> Option<(Piece, &str)>
+    ensures pieces { MatchOption result
+        (graphemes true text.now ≡ [])
+        (λ (piece, rest). map cluster_piece (graphemes true text.now)
+        ≡ piece ∷ map cluster_piece (graphemes true rest.now)) }
+    ensures shorter { IfSome result (λ (piece, rest). length rest.now < length text.now) }
+{
     let (cluster, rest) = split_cluster(text)?;
     Some((Piece::of_cluster(cluster), rest))
 }

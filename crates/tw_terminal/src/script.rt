@@ -275,6 +275,3 @@ impl Terminal for ScriptTerminal {
         Ok(())
     }
 }
-
-#[cfg(test)]
-mod tests;

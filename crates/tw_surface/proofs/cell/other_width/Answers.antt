@@ -1,8 +1,5 @@
-use Rattle.tw_surface.proofs.LoneWidths.{accented_width, emoji_width, flag_width}
+use Rattle.tw_surface.proofs.LoneWidths.{emoji_width, flag_width}
 use Rattle.tw_surface.proofs.cell.other_width.Goals as goal
-
-pub returns-in-3-to-4-clause-value : goal.returns-in-3-to-4-clause-value
-returns-in-3-to-4-clause-value c = accented_width c.args.cluster.now c.utf8.cluster (c.is_accented.ensures c.if-is_accented.true)
 
 pub returns-in-6-to-7-clause-value : goal.returns-in-6-to-7-clause-value
 returns-in-6-to-7-clause-value c = emoji_width c.args.cluster.now c.utf8.cluster (c.is_emoji.ensures c.if-is_emoji.true)

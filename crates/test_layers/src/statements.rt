@@ -1,6 +1,8 @@
-//! Statements, with what is known of them.
+//! Statements of SQL, with what is known of them.
 
-use crate::{Catalog, SqlTable, begun_word, completions, quoted_name, statement_len, tokenize};
+use sql_language::{
+    Catalog, SqlTable, begun_word, completions, quoted_name, statement_len, tokenize,
+};
 use std::alloc::{AllocError, Global};
 use std::test::Fail;
 

@@ -1,0 +1,177 @@
+//! Characters by the blocks in which they stand.
+
+ghost use Rattle.std.specs.Prelude.{◌≡◌, ◌≤◌, true};
+ghost use Rattle.ucd_table.specs.Rows.{in_ranges};
+ghost use Rattle.tw_surface.specs.Clusters.{accents, flag_letters, lone_columns, lone_ranges, mark_columns, narrow_blocks, picture_blocks, syllables, vowel_signs, wide_blocks};
+
+/// No character before it joins what stands before.
+pub const FIRST_MARK: char = '\u{300}';
+
+/// Characters from here up to [`FIRST_PRIVATE`] stand in no block of one column.
+const FIRST_KANA: char = '\u{3000}';
+
+/// The first character for private use.
+const FIRST_PRIVATE: char = '\u{E000}';
+
+/// No character behind it is one of [`mark_columns`].
+const LAST_MARK: char = '\u{E4E}';
+
+/// The last character of the blocks of one column.
+const LAST_NARROW: char = '\u{FF9D}';
+
+/// Returns true if the character stands in a block of characters of one column.
+#[tactic(auto, unfolding(ucd_table::specs::Rows::in_ranges))]
+fn is_in_narrow_block(c: char) -> bool
+    ensures { result ≡ in_ranges narrow_blocks c }
+{
+    (c < FIRST_KANA || (FIRST_PRIVATE <= c && c <= LAST_NARROW))
+        && matches!(
+        c,
+        '\u{05D0}'..='\u{05FF}'
+            | '\u{0620}'..='\u{064A}'
+            | '\u{0676}'..='\u{06D5}'
+            | '\u{0904}'..='\u{0939}'
+            | '\u{0B83}'..='\u{0BB9}'
+            | '\u{0E01}'..='\u{0E30}'
+            | '\u{0E40}'..='\u{0E46}'
+            | '\u{1E00}'..='\u{200A}'
+            | '\u{2010}'..='\u{2027}'
+            | '\u{2070}'..='\u{20CF}'
+            | '\u{20F1}'..='\u{2319}'
+            | '\u{232B}'..='\u{23E8}'
+            | '\u{23F4}'..='\u{25FC}'
+            | '\u{27C0}'..='\u{2B1A}'
+            | '\u{E000}'..='\u{F8FF}'
+            | '\u{FF61}'..='\u{FF9D}'
+    )
+}
+
+/// Returns true if the character stands in a block of emoji.
+#[tactic(auto, unfolding(ucd_table::specs::Rows::in_ranges))]
+pub fn is_in_picture_block(c: char) -> bool
+    ensures { result ≡ in_ranges picture_blocks c }
+{
+    matches!(
+        c,
+        '\u{1F300}'..='\u{1F320}'
+            | '\u{1F337}'..='\u{1F37C}'
+            | '\u{1F3A0}'..='\u{1F3CA}'
+            | '\u{1F400}'..='\u{1F43E}'
+            | '\u{1F442}'..='\u{1F4FC}'
+            | '\u{1F4FF}'..='\u{1F53D}'
+            | '\u{1F5FB}'..='\u{1F64F}'
+            | '\u{1F680}'..='\u{1F6C5}'
+            | '\u{1F90C}'..='\u{1F93A}'
+            | '\u{1F947}'..='\u{1F9FF}'
+    )
+}
+
+/// Returns true if the character stands in a block of characters of two columns.
+#[tactic(auto, unfolding(ucd_table::specs::Rows::in_ranges))]
+fn is_in_wide_block(c: char) -> bool
+    ensures { result ≡ in_ranges wide_blocks c }
+{
+    matches!(
+        c,
+        '\u{3000}'..='\u{3029}'
+            | '\u{3041}'..='\u{3096}'
+            | '\u{309B}'..='\u{30FF}'
+            | '\u{3250}'..='\u{A48C}'
+            | '\u{F900}'..='\u{FAFF}'
+            | '\u{FF01}'..='\u{FF60}'
+    ) || is_in_picture_block(c)
+}
+
+/// Returns the columns of a character that is a cluster of its own before any character that does not join it, if it
+/// stands in one of these blocks. Else 0.
+pub fn lone_columns(c: char) -> usize
+    ensures value { result ≡ lone_columns c }
+    ensures bound { result ≤ 2 }
+{
+    if is_in_narrow_block(c) {
+        1
+    } else if is_in_wide_block(c) {
+        2
+    } else {
+        0
+    }
+}
+
+/// Returns true if the character is a mark of no columns, whatever stands before it.
+#[tactic(auto, unfolding(ucd_table::specs::Rows::in_ranges))]
+fn is_accent(c: char) -> bool
+    ensures { result ≡ in_ranges accents c }
+{
+    FIRST_MARK <= c
+        && c <= LAST_MARK
+        && matches!(
+        c,
+        '\u{300}'..='\u{337}'
+            | '\u{339}'..='\u{36F}'
+            | '\u{591}'..='\u{5BD}'
+            | '\u{64B}'..='\u{65F}'
+            | '\u{900}'..='\u{902}'
+            | '\u{93C}'
+            | '\u{941}'..='\u{948}'
+            | '\u{BC0}'
+            | '\u{BCD}'
+            | '\u{E31}'
+            | '\u{E34}'..='\u{E3A}'
+            | '\u{E47}'..='\u{E4E}'
+    )
+}
+
+/// Returns true if the character is a vowel sign that takes a column behind the letter that it joins.
+#[tactic(auto, unfolding(ucd_table::specs::Rows::in_ranges))]
+fn is_vowel_sign(c: char) -> bool
+    ensures { result ≡ in_ranges vowel_signs c }
+{
+    c <= LAST_MARK
+        && matches!(
+        c,
+        '\u{93E}'..='\u{940}'
+            | '\u{949}'..='\u{94C}'
+            | '\u{BBF}'
+            | '\u{BC1}'..='\u{BC2}'
+            | '\u{BC6}'..='\u{BC8}'
+            | '\u{BCA}'..='\u{BCC}'
+            | '\u{E33}'
+    )
+}
+
+/// Returns the columns that such a mark adds to its cluster, or `None` for any other character.
+pub fn mark_columns(c: char) -> Option<usize>
+    ensures { result ≡ mark_columns c }
+{
+    if is_accent(c) {
+        Some(0)
+    } else if is_vowel_sign(c) {
+        Some(1)
+    } else {
+        None
+    }
+}
+
+/// Returns true if the character stands in a range that [`lone_len`] knows by its first byte.
+#[tactic(auto, unfolding(ucd_table::specs::Rows::in_ranges))]
+pub fn is_in_lone_range(c: char) -> bool
+    ensures { result ≡ in_ranges lone_ranges c }
+{
+    matches!(c, ' '..='~' | '\u{C0}'..='\u{2FF}' | '\u{380}'..='\u{47F}' | '\u{4000}'..='\u{9FFF}')
+}
+
+/// Returns true if the character is half a flag.
+#[tactic(auto, unfolding(ucd_table::specs::Rows::in_ranges))]
+pub fn is_flag_letter(c: char) -> bool
+    ensures { result ≡ in_ranges flag_letters c }
+{
+    matches!(c, '\u{1F1E6}'..='\u{1F1FF}')
+}
+
+/// Returns true if the character is a syllable of Hangul.
+#[tactic(auto, unfolding(ucd_table::specs::Rows::in_ranges))]
+pub fn is_syllable(c: char) -> bool
+    ensures { result ≡ in_ranges syllables c }
+{
+    ('\u{AC00}'..='\u{D7A3}').contains(&c)
+}
