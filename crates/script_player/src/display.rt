@@ -28,7 +28,8 @@ pub fn play(screen: &mut Screen, batch: &[Change]) -> Result<(), ScreenFault> {
     Ok(())
 }
 
-/// Adds the rows of the screen, each between two bars, the cursor while the line was edited, and the cursor now.
+/// Appends the rows of the screen, which has `cols` columns, each between two bars, the cursor while the line was
+/// edited, and the cursor now.
 pub fn show_screen(
     screen: &Screen,
     cols: usize,
@@ -39,10 +40,7 @@ pub fn show_screen(
 {
     if let Some(last) = screen.last_row() {
         shown.push('|')?;
-        for row in 0..last {
-            screen.push_row(row, cols, shown)?;
-            shown.push_str("|\n|")?;
-        }
+        screen.push_rows(last, "|\n|", shown)?;
         screen.push_row(last, cols, shown)?;
         shown.push_str("|\n")?;
     }

@@ -25,6 +25,9 @@ use tw_terminal::ScreenSize;
 /// The rows of each terminal.
 const ROWS: usize = 24;
 
+/// The bytes for which there is room at first in what a reading shows.
+const ROOM: usize = 1_024;
+
 /// The columns of a terminal, where the script names none.
 const COLS: usize = 80;
 
@@ -123,7 +126,8 @@ impl Playback {
         let after = terminal.into_shown();
         self.screen = after.screen;
         let answer = Answer::new(outcome)?;
-        let mut shown = format!(in self.alloc; "{answer}\n")?;
+        let mut shown = String::with_capacity(self.alloc, ROOM)?;
+        write!(shown, "{answer}\n")?;
         self.show(after.played, &mut shown)?;
         Ok(shown)
     }

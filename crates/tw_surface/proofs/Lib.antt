@@ -15,6 +15,7 @@ pub mod NearCells
 pub mod SettledCells
 pub mod RowLemmas
 pub mod ClusterSeams
+pub mod TableFacts
 pub mod ClusterCuts
 pub mod OpeningLemmas
 pub mod LoneCharacters

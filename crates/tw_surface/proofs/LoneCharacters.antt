@@ -1,5 +1,5 @@
 -- Characters that are a cluster each in a row of them, as their first bytes tell.
-use Rattle.std.proofs.Common.{◌≡◌, ℕ, ◌<◌, ◌≤◌, ◌+◌, ◌-◌, ◌/◌, true, false, not, ◌⊎◌, ◌&&◌, ◌||◌, List, [], ◌∷◌, ◌++◌, length, length-append, drop, drop_at, get_or, leb, refl, sym, ap, subst, ◌∙◌, arith, ⊎_elim}
+use Rattle.std.proofs.Common.{◌≡◌, ℕ, ◌<◌, ◌≤◌, ◌+◌, ◌-◌, ◌/◌, true, false, not, ◌⊎◌, ◌&&◌, List, [], ◌∷◌, ◌++◌, length, length-append, drop, drop_at, get_or, leb, refl, sym, ap, subst, ◌∙◌, arith, ⊎_elim}
 use Rattle.std.proofs.lemmas.Bool.{cases_Bool, cases_lt, and_parts, leb-true}
 use Rattle.std.proofs.lemmas.Bool.Decides.{nat_tests}
 use Rattle.std.proofs.lemmas.Str.{chars-nil, encodes-chars, chars_past_char, length-encode, encode_ascii, IsCharBoundary-at_seam, IsUtf8-past_char}
@@ -8,8 +8,7 @@ use Rattle.std.specs.Prelude.{encode_utf8_all}
 use Rattle.std.specs.Str.{chars, IsCharBoundary, IsUtf8}
 use Rattle.ucd_table.specs.Rows.{Range, in_ranges}
 use Rattle.ucd_table.proofs.Computing.{tables}
-use Rattle.ucd_table.proofs.Facts.{Stepped-everywhere}
-use Rattle.ucd_table.proofs.Stepped.{of_ranges, zip_stepped, Stepped}
+use Rattle.ucd_table.proofs.Stepped.{zip_stepped, Stepped}
 use Rattle.ucd_breaks.specs.GraphemeClusterBreak.{grapheme_cluster_break}
 use Rattle.ucd_breaks.proofs.Computing.{ucd_breaks}
 use Rattle.ucd_breaks.proofs.GraphemeClusterBreakLemmas.{grapheme_cluster_break_stepped}
@@ -21,6 +20,7 @@ use Rattle.ucd_emoji.proofs.BinaryLemmas.{is_extended_pictographic_stepped}
 use Rattle.ucd_emoji.proofs.Computing.{ucd_emoji}
 use Rattle.tw_surface.specs.Characters.{is_printable}
 use Rattle.tw_surface.specs.Clusters.{is_linking, is_other, is_picture, picture_blocks, lone_columns, lone_len, lone_ranges, narrow_blocks, stands_alone, starts_apart, wide_blocks, IsFirstCluster}
+use Rattle.tw_surface.proofs.TableFacts.{throughout}
 use Rattle.tw_surface.proofs.OpeningLemmas.{first_opened, opens_alone, starts_alone}
 
 -- Latin, Greek and Cyrillic of two bytes
@@ -151,25 +151,23 @@ BeginsLone-from text u some lone = by (chars text) refl
 abbrev alone_stepped : Stepped stands_alone
 alone_stepped = zip_stepped (λ g v. is_other g && not (is_linking v)) grapheme_cluster_break indic_conjunct_break grapheme_cluster_break_stepped indic_conjunct_break_stepped
 
-lone_facts : (c : ℕ) → (not (in_ranges lone_ranges c) || stands_alone c) ≡ true
+pub alone_in_range : (c : ℕ) → in_ranges lone_ranges c ≡ true → stands_alone c ≡ true
 unfolding tables ucd_breaks ucd_derived
-lone_facts = Stepped-everywhere _ (zip_stepped (λ inside alone. not inside || alone) (in_ranges lone_ranges) stands_alone (of_ranges lone_ranges refl) alone_stepped) refl
+alone_in_range = throughout (λ is. is) stands_alone alone_stepped lone_ranges refl refl
 
-narrow_facts : (c : ℕ) → (not (in_ranges narrow_blocks c) || stands_alone c) ≡ true
+narrow_facts : (c : ℕ) → in_ranges narrow_blocks c ≡ true → stands_alone c ≡ true
 unfolding tables ucd_breaks ucd_derived
-narrow_facts = Stepped-everywhere _ (zip_stepped (λ inside alone. not inside || alone) (in_ranges narrow_blocks) stands_alone (of_ranges narrow_blocks refl) alone_stepped) refl
+narrow_facts = throughout (λ is. is) stands_alone alone_stepped narrow_blocks refl refl
 
-wide_facts : (c : ℕ) → (not (in_ranges wide_blocks c) || stands_alone c) ≡ true
+wide_facts : (c : ℕ) → in_ranges wide_blocks c ≡ true → stands_alone c ≡ true
 unfolding tables ucd_breaks ucd_derived
-wide_facts = Stepped-everywhere _ (zip_stepped (λ inside alone. not inside || alone) (in_ranges wide_blocks) stands_alone (of_ranges wide_blocks refl) alone_stepped) refl
+wide_facts = throughout (λ is. is) stands_alone alone_stepped wide_blocks refl refl
 
-picture_facts : (c : ℕ) → (not (in_ranges picture_blocks c) || is_picture c) ≡ true
+pub picture_in_block : (c : ℕ) → in_ranges picture_blocks c ≡ true → is_picture c ≡ true
 unfolding tables ucd_breaks ucd_derived ucd_emoji
-picture_facts =
-    Stepped-everywhere _
-    (zip_stepped (λ inside is. not inside || is) (in_ranges picture_blocks) is_picture (of_ranges picture_blocks refl)
-    (zip_stepped (λ alone extended. alone && extended) stands_alone is_extended_pictographic alone_stepped is_extended_pictographic_stepped))
-    refl
+picture_in_block =
+    throughout (λ is. is) is_picture (zip_stepped (λ alone extended. alone && extended) stands_alone is_extended_pictographic alone_stepped is_extended_pictographic_stepped)
+    picture_blocks refl refl
 
 in_lone_ranges : (c width : ℕ) → IsLone c width → 0 < width → width ≤ 3 → in_ranges lone_ranges c ≡ true
 unfolding in_ranges
@@ -185,20 +183,14 @@ in_lone_ranges c width lone some few =
     (cases_lt width 3))
     (cases_lt width 2)
 
-pub picture_in_block : (c : ℕ) → in_ranges picture_blocks c ≡ true → is_picture c ≡ true
-picture_in_block c inside = rw inside at (picture_facts c)
-
-pub alone_in_range : (c : ℕ) → in_ranges lone_ranges c ≡ true → stands_alone c ≡ true
-alone_in_range c inside = rw inside at (lone_facts c)
-
 -- what is in no block has no columns there
 pub no_columns : (c : ℕ) → in_ranges narrow_blocks c ≡ false → in_ranges wide_blocks c ≡ false → lone_columns c ≡ 0
 no_columns c narrow wide = rw (narrow, wide) refl
 
 pub alone_in_block : (c : ℕ) → 0 < lone_columns c → stands_alone c ≡ true
 alone_in_block c some =
-    ⊎_elim (λ narrow. rw narrow at (narrow_facts c))
-    (λ other. ⊎_elim (λ wide. rw wide at (wide_facts c))
+    ⊎_elim (narrow_facts c)
+    (λ other. ⊎_elim (wide_facts c)
     (λ none. absurd (omega (arith, some, no_columns c other none)))
     (cases_Bool (in_ranges wide_blocks c)))
     (cases_Bool (in_ranges narrow_blocks c))
@@ -240,7 +232,7 @@ nothing_starts_apart [] none = ap starts_apart chars-nil
 nothing_starts_apart (b ∷ bs) none = absurd (omega arith)
 
 pub first_by_byte : (text : List ℕ) → IsUtf8 text → 0 < length text → (len : ℕ) → len ≡ lone_len (get_or text 0 0) → 0 < len
-    → ((rest : List ℕ) → IsUtf8 rest → rest ≡ drop len text → starts_apart (chars rest) ≡ true) → IsFirstCluster text len
+    → starts_apart (chars (drop len text)) ≡ true → IsFirstCluster text len
 first_by_byte text u some len is lone apart =
     let first = BeginsLone-from text u some (rw (← is) lone) in
     let c = first.character in
@@ -250,4 +242,4 @@ first_by_byte text u some len is lone apart =
     let size : length text - length first.rest ≡ len = omega (arith, parts, bytes) in
     subst (IsFirstCluster text) size
     (first_opened text first.rest u first.utf8 (opens_alone text first.rest c first.whole (alone_by_byte text (rw (← is) lone) first))
-    (apart first.rest first.utf8 (sym from)))
+    (subst (λ t. starts_apart (chars t) ≡ true) from apart))

@@ -1,5 +1,5 @@
 -- The columns of characters that are a cluster each in a row of them.
-use Rattle.std.proofs.Common.{◌≡◌, inl, inr, if◌then◌else◌, append_assoc, Option, Some, None, IfSome, ℕ, ◌<◌, ◌≤◌, Bool, true, false, not, ◌&&◌, ◌||◌, ◌-◌, eqb, leb, nat_lt, List, [], ◌∷◌, ◌++◌, length, length-append, get_or, take, take_at, drop, drop_at, refl, sym, ap, ap₂, subst, ◌∙◌, arith, append-nil, ⊎_elim, ◌+◌}
+use Rattle.std.proofs.Common.{◌≡◌, if◌then◌else◌, append_assoc, Option, Some, None, IfSome, ℕ, ◌<◌, ◌≤◌, Bool, true, false, not, ◌&&◌, ◌||◌, ◌-◌, eqb, leb, nat_lt, List, [], ◌∷◌, ◌++◌, length, length-append, get_or, take, take_at, drop, drop_at, refl, sym, ap, ap₂, subst, ◌∙◌, arith, append-nil, ⊎_elim, ◌+◌}
 use Rattle.std.proofs.lemmas.Bool.{false≢true, or_cases, and_from, and_parts, leb-true, cases_Bool, cases_lt, cases_eq}
 use Rattle.std.proofs.lemmas.Bool.Decides.{nat_tests}
 use Rattle.std.proofs.lemmas.Str.{chars_from_encodes, IsCharBoundary-at_seam, IsUtf8-past_char, IsUtf8-take}
@@ -9,8 +9,7 @@ use Rattle.std.specs.Str.{chars, IsUtf8}
 use Rattle.std.specs.List.{list_all}
 use Rattle.ucd_table.specs.Rows.{Range, in_ranges}
 use Rattle.ucd_table.proofs.Computing.{tables}
-use Rattle.ucd_table.proofs.Facts.{Stepped-everywhere}
-use Rattle.ucd_table.proofs.Stepped.{of_ranges, zip_stepped}
+use Rattle.ucd_table.proofs.Stepped.{of_ranges, zip_stepped, Stepped}
 use Rattle.ucd_breaks.specs.GraphemeClusterBreak.{grapheme_cluster_break}
 use Rattle.ucd_breaks.proofs.Computing.{ucd_breaks}
 use Rattle.ucd_breaks.proofs.GraphemeClusterBreakLemmas.{grapheme_cluster_break_stepped}
@@ -22,16 +21,17 @@ use Rattle.unicode_width.specs.declared.kind.Kind.{Kind}
 use Rattle.unicode_width.specs.declared.kind.Kind.TheVariants as kinds
 use Rattle.unicode_width.specs.Kind.{kind}
 use Rattle.unicode_width.specs.declared.state.After.TheVariants.{Emoji}
-use Rattle.unicode_width.specs.Width.{before, is_emoji_variation_base, plain, of_kind, alone, in_context, joins, past_emoji, past_selectors, step, str_width}
+use Rattle.unicode_width.specs.Width.{before, is_emoji_modifier_base, is_emoji_variation_base, plain, of_kind, alone, in_context, joins, past_emoji, past_selectors, step, str_width}
 use Rattle.unicode_width.proofs.KindLemmas.{kind_stepped}
 use Rattle.unicode_width.proofs.Rules.{is_simple, is_simple_kind, str_width-append_simple, str_width-printable}
-use Rattle.tw_surface.specs.Clusters.{accents, is_linker, is_mark_break, is_plain_mark, mark_columns, vowel_signs, IsEmoji, ends_syllable, stands_alone, syllables, IsFirstCluster, flag_letters, lone_columns, lone_len, narrow_blocks, wide_blocks, IsFlag}
+use Rattle.tw_surface.specs.Clusters.{accents, is_linker, is_mark_break, is_plain_mark, mark_columns, vowel_signs, IsEmoji, ends_syllable, stands_alone, starts_apart, skin_tones, syllables, IsFirstCluster, flag_letters, lone_columns, lone_len, narrow_blocks, picture_blocks, wide_blocks, IsFlag}
 use Rattle.tw_surface.specs.Width.{cluster_width}
-use Rattle.tw_surface.specs.Openings.{IsWithMark}
+use Rattle.tw_surface.specs.Openings.{AreMarks, AreMarksOf, IsWithMarks}
 use Rattle.tw_surface.specs.Places.{cluster_piece, IsWideSplit}
 use Rattle.tw_surface.specs.declared.measure.Piece.TheVariants.{Wide}
-use Rattle.tw_surface.proofs.OpeningLemmas.{first_opened, first_syllable, opens_alone, opens_marks}
-use Rattle.tw_surface.proofs.LoneCharacters.{two_bytes, three_bytes, alone_by_byte, alone_in_block, first_high, get_or-front, lone_len-few, some_bytes, BeginsLone, BeginsLone-from, IsLone, no_columns, only_character}
+use Rattle.tw_surface.proofs.OpeningLemmas.{first_opened, first_syllable, opens_alone, opens_marks, picture_parts}
+use Rattle.tw_surface.proofs.TableFacts.{throughout}
+use Rattle.tw_surface.proofs.LoneCharacters.{two_bytes, three_bytes, alone_by_byte, alone_in_block, first_high, get_or-front, lone_len-few, some_bytes, BeginsLone, BeginsLone-from, IsLone, no_columns, only_character, picture_in_block}
 
 is_narrow : Kind → Bool
 is_narrow kinds.Narrow = true
@@ -44,13 +44,13 @@ is_wide kinds.Wide = true
 is_wide kinds.Emoji = true
 is_wide _ = false
 
-narrow_kinds : (c : ℕ) → (not (in_ranges two_bytes c) || is_narrow (kind c)) ≡ true
+narrow_kinds : (c : ℕ) → in_ranges two_bytes c ≡ true → is_narrow (kind c) ≡ true
 unfolding is_narrow tables kind_stepped
-narrow_kinds = Stepped-everywhere _ (zip_stepped (λ inside k. not inside || is_narrow k) (in_ranges two_bytes) kind (of_ranges two_bytes refl) kind_stepped) refl
+narrow_kinds = throughout is_narrow kind kind_stepped two_bytes refl refl
 
-wide_kinds : (c : ℕ) → (not (in_ranges three_bytes c) || is_wide (kind c)) ≡ true
+wide_kinds : (c : ℕ) → in_ranges three_bytes c ≡ true → is_wide (kind c) ≡ true
 unfolding is_wide tables kind_stepped
-wide_kinds = Stepped-everywhere _ (zip_stepped (λ inside k. not inside || is_wide k) (in_ranges three_bytes) kind (of_ranges three_bytes refl) kind_stepped) refl
+wide_kinds = throughout is_wide kind kind_stepped three_bytes refl refl
 
 is_single : Kind → Bool
 is_single kinds.Single = true
@@ -60,18 +60,15 @@ is_single _ = false
 lamed : List Range
 lamed = (0x05DC, 0x05DC) ∷ []
 
-narrow_block_kinds : (c : ℕ) → (not (in_ranges narrow_blocks c) || (is_narrow (kind c) || (in_ranges lamed c && is_single (kind c)))) ≡ true
+narrow_block_kinds : (c : ℕ) → in_ranges narrow_blocks c ≡ true → (is_narrow (kind c) || (in_ranges lamed c && is_single (kind c))) ≡ true
 unfolding is_narrow is_single lamed tables kind_stepped
 narrow_block_kinds =
-    Stepped-everywhere _
-    (zip_stepped (λ inside fits. not inside || fits) (in_ranges narrow_blocks) (λ c. is_narrow (kind c) || (in_ranges lamed c && is_single (kind c)))
-    (of_ranges narrow_blocks refl)
-    (zip_stepped (λ is k. is_narrow k || (is && is_single k)) (in_ranges lamed) kind (of_ranges lamed refl) kind_stepped))
-    refl
+    throughout (λ is. is) (λ c. is_narrow (kind c) || (in_ranges lamed c && is_single (kind c)))
+    (zip_stepped (λ is k. is_narrow k || (is && is_single k)) (in_ranges lamed) kind (of_ranges lamed refl) kind_stepped) narrow_blocks refl refl
 
-wide_block_kinds : (c : ℕ) → (not (in_ranges wide_blocks c) || is_wide (kind c)) ≡ true
+wide_block_kinds : (c : ℕ) → in_ranges wide_blocks c ≡ true → is_wide (kind c) ≡ true
 unfolding is_wide tables kind_stepped
-wide_block_kinds = Stepped-everywhere _ (zip_stepped (λ inside k. not inside || is_wide k) (in_ranges wide_blocks) kind (of_ranges wide_blocks refl) kind_stepped) refl
+wide_block_kinds = throughout is_wide kind kind_stepped wide_blocks refl refl
 
 -- such kinds say the columns
 narrow-is : (c : ℕ) (k : Kind) → is_narrow k ≡ true → (of_kind false c k).0 ≡ 1
@@ -94,7 +91,7 @@ single-is _ h = absurd (false≢true h)
 
 block_is : (c : ℕ) → in_ranges narrow_blocks c ≡ true → (of_kind false c (kind c)).0 ≡ 1
 unfolding lamed in_ranges
-block_is c inside = ⊎_elim (narrow-is c (kind c)) lamed_is (or_cases (is_narrow (kind c)) (in_ranges lamed c && is_single (kind c)) (rw inside at (narrow_block_kinds c)))
+block_is c inside = ⊎_elim (narrow-is c (kind c)) lamed_is (or_cases (is_narrow (kind c)) (in_ranges lamed c && is_single (kind c)) (narrow_block_kinds c inside))
   where
     lamed_is : (in_ranges lamed c && is_single (kind c)) ≡ true → (of_kind false c (kind c)).0 ≡ 1
     lamed_is both =
@@ -137,7 +134,7 @@ block_columns c some =
     ⊎_elim
     (λ narrow. width_of_one c 1 (block_above narrow_blocks c refl narrow) (block_is c narrow) ∙ narrow_columns c narrow)
     (λ other. ⊎_elim
-    (λ wide. width_of_one c 2 (block_above wide_blocks c refl wide) (wide-is c (kind c) (rw wide at (wide_block_kinds c))) ∙ wide_columns c other wide)
+    (λ wide. width_of_one c 2 (block_above wide_blocks c refl wide) (wide-is c (kind c) (wide_block_kinds c wide)) ∙ wide_columns c other wide)
     (λ none. absurd (omega (arith, some, no_columns c other none)))
     (cases_Bool (in_ranges wide_blocks c)))
     (cases_Bool (in_ranges narrow_blocks c))
@@ -187,16 +184,16 @@ wide_first text rest c columns u v whole high few wide =
     split_first text cluster rest columns u v whole (first_high c high) few
     (λ w. ap (str_width false) (only_character cluster [] c w (sym (append-nil cluster)) (omega arith)) ∙ wide)
 
-syllable_kinds : (c : ℕ) → (not (in_ranges syllables c) || is_wide (kind c)) ≡ true
+syllable_kinds : (c : ℕ) → in_ranges syllables c ≡ true → is_wide (kind c) ≡ true
 unfolding is_wide tables kind_stepped
-syllable_kinds = Stepped-everywhere _ (zip_stepped (λ inside k. not inside || is_wide k) (in_ranges syllables) kind (of_ranges syllables refl) kind_stepped) refl
+syllable_kinds = throughout is_wide kind kind_stepped syllables refl refl
 
 -- a syllable of Hangul before what does not join it
 pub syllable_split : (text rest : List ℕ) (c : ℕ) → IsUtf8 text → IsUtf8 rest → text ≡ encode_utf8 c ++ rest → in_ranges syllables c ≡ true
     → ends_syllable (chars rest) ≡ true → IsWideSplit text 2 rest
 syllable_split text rest c u v whole is ends =
     let high = block_above syllables c refl is in
-    wide_first text rest c 2 u v whole high (omega arith) (width_of_one c 2 high (wide-is c (kind c) (rw is at (syllable_kinds c))))
+    wide_first text rest c 2 u v whole high (omega arith) (width_of_one c 2 high (wide-is c (kind c) (syllable_kinds c is)))
     (first_syllable text rest c u v whole is ends)
 
 -- a letter and an accent take one
@@ -204,9 +201,9 @@ is_zero : Kind → Bool
 is_zero kinds.Zero = true
 is_zero _ = false
 
-accent_kinds : (c : ℕ) → (not (in_ranges accents c) || is_zero (kind c)) ≡ true
+accent_kinds : (c : ℕ) → in_ranges accents c ≡ true → is_zero (kind c) ≡ true
 unfolding is_zero tables kind_stepped
-accent_kinds = Stepped-everywhere _ (zip_stepped (λ inside k. not inside || is_zero k) (in_ranges accents) kind (of_ranges accents refl) kind_stepped) refl
+accent_kinds = throughout is_zero kind kind_stepped accents refl refl
 
 zero-is : (k : Kind) → is_zero k ≡ true → k ≡ kinds.Zero
 unfolding is_zero
@@ -215,32 +212,37 @@ zero-is _ h = absurd (false≢true h)
 
 accent_columns : (c : ℕ) → in_ranges accents c ≡ true → (str_width false (c ∷ []) ≡ 0) × (list_all is_simple (c ∷ []) ≡ true)
 accent_columns c inside =
-    let is : kind c ≡ kinds.Zero = zero-is (kind c) (rw inside at (accent_kinds c)) in
+    let is : kind c ≡ kinds.Zero = zero-is (kind c) (accent_kinds c inside) in
     let high = block_above accents c refl inside in
     (width_of_one c 0 high (ap (λ k. (of_kind false c k).0) is), grind (arith, nat_tests, high, is))
 
 chars_of : (text cs : List ℕ) → IsUtf8 text → text ≡ encode_utf8_all cs → chars text ≡ cs
 chars_of text cs u is = sym (chars_from_encodes cs text u (sym is))
 
-vowel_kinds : (c : ℕ) → (not (in_ranges vowel_signs c) || (is_narrow (kind c) && is_simple_kind (kind c))) ≡ true
+abbrev is_vowel_kind : Kind → Bool
+is_vowel_kind k = is_narrow k && is_simple_kind k
+
+vowel_kinds : (c : ℕ) → in_ranges vowel_signs c ≡ true → is_vowel_kind (kind c) ≡ true
 unfolding is_narrow tables kind_stepped
-vowel_kinds = Stepped-everywhere _ (zip_stepped (λ inside k. not inside || (is_narrow k && is_simple_kind k)) (in_ranges vowel_signs) kind (of_ranges vowel_signs refl) kind_stepped) refl
+vowel_kinds = throughout is_vowel_kind kind kind_stepped vowel_signs refl refl
 
 vowel_columns : (c : ℕ) → in_ranges vowel_signs c ≡ true → (str_width false (c ∷ []) ≡ 1) × (list_all is_simple (c ∷ []) ≡ true)
 vowel_columns c inside =
-    let is = and_parts (is_narrow (kind c)) (is_simple_kind (kind c)) (rw inside at (vowel_kinds c)) in
+    let is = and_parts (is_narrow (kind c)) (is_simple_kind (kind c)) (vowel_kinds c inside) in
     let high = block_above vowel_signs c refl inside in
     let simple = is.1 in
     (width_of_one c 1 high (narrow-is c (kind c) is.0), grind (arith, nat_tests, high, simple))
 
-mark_facts : (c : ℕ) → (not (in_ranges accents c || in_ranges vowel_signs c) || is_plain_mark c) ≡ true
-unfolding tables ucd_breaks ucd_derived
-mark_facts =
-    Stepped-everywhere _
-    (zip_stepped (λ inside is. not inside || is) (λ c. in_ranges accents c || in_ranges vowel_signs c) is_plain_mark
-    (zip_stepped (λ a b. a || b) (in_ranges accents) (in_ranges vowel_signs) (of_ranges accents refl) (of_ranges vowel_signs refl))
-    (zip_stepped (λ g v. is_mark_break g && not (is_linker v)) grapheme_cluster_break indic_conjunct_break grapheme_cluster_break_stepped indic_conjunct_break_stepped))
-    refl
+plain_stepped : Stepped is_plain_mark
+plain_stepped = zip_stepped (λ g v. is_mark_break g && not (is_linker v)) grapheme_cluster_break indic_conjunct_break grapheme_cluster_break_stepped indic_conjunct_break_stepped
+
+accent_facts : (c : ℕ) → in_ranges accents c ≡ true → is_plain_mark c ≡ true
+unfolding plain_stepped tables ucd_breaks ucd_derived
+accent_facts = throughout (λ is. is) is_plain_mark plain_stepped accents refl refl
+
+vowel_facts : (c : ℕ) → in_ranges vowel_signs c ≡ true → is_plain_mark c ≡ true
+unfolding plain_stepped tables ucd_breaks ucd_derived
+vowel_facts = throughout (λ is. is) is_plain_mark plain_stepped vowel_signs refl refl
 
 record IsMark (c columns : ℕ) : Type 0 where
   width : str_width false (c ∷ []) ≡ columns
@@ -255,13 +257,13 @@ accent_mark : (c columns : ℕ) → Some columns ≡ mark_columns c → in_range
 accent_mark c columns is inside =
     let none : columns ≡ 0 = some_is columns 0 (is ∙ ap (λ b. if b then Some 0 else if in_ranges vowel_signs c then Some 1 else None) inside) in
     let own = accent_columns c inside in
-    record { width = own.0 ∙ sym none; simple = own.1; plain = rw inside at (mark_facts c); few = omega (arith, none) }
+    record { width = own.0 ∙ sym none; simple = own.1; plain = accent_facts c inside; few = omega (arith, none) }
 
 vowel_mark : (c columns : ℕ) → Some columns ≡ mark_columns c → in_ranges accents c ≡ false → in_ranges vowel_signs c ≡ true → IsMark c columns
 vowel_mark c columns is other inside =
     let one : columns ≡ 1 = some_is columns 1 (is ∙ ap₂ (λ a b. if a then Some 0 else if b then Some 1 else None) other inside) in
     let own = vowel_columns c inside in
-    record { width = own.0 ∙ sym one; simple = own.1; plain = rw (other, inside) at (mark_facts c); few = omega (arith, one) }
+    record { width = own.0 ∙ sym one; simple = own.1; plain = vowel_facts c inside; few = omega (arith, one) }
 
 no_mark : (c columns : ℕ) → Some columns ≡ mark_columns c → in_ranges accents c ≡ false → in_ranges vowel_signs c ≡ false → ⊥
 no_mark c columns is other outside =
@@ -277,54 +279,113 @@ pub some_with : {A : Type 0} → {P Q : A → Type 0} → (found : Option A) →
 some_with (Some value) step holds = step value holds
 some_with None step holds = tt
 
--- a base with a mark, or with none
-base_split : (text behind rest : List ℕ) (c columns sum : ℕ) → IsUtf8 text → text ≡ encode_utf8 c ++ behind → stands_alone c ≡ true
-    → 14 ≤ get_or (encode_utf8 c) 0 0 → columns ≤ 2 → str_width false (c ∷ []) ≡ columns → IsWithMark columns behind sum rest → IsWideSplit text sum rest
-base_split text behind rest c columns sum u whole alone high few own (inl (same, all, apart)) =
-    let cluster = encode_utf8 c in
-    let v = IsUtf8-past_char text rest c u (whole ∙ ap (λ t. cluster ++ t) all) in
-    split_first text cluster rest sum u v (whole ∙ ap (λ t. cluster ++ t) all) high (omega (arith, same))
-    (λ w. ap (str_width false) (only_character cluster [] c w (sym (append-nil cluster)) (omega arith)) ∙ own ∙ sym same)
-    (first_opened text rest u v (opens_alone text rest c (whole ∙ ap (λ t. cluster ++ t) all) alone) apart)
-base_split text behind rest c columns sum u whole alone high few own (inr (d, more, next, is, sums, most, apart)) =
-    let v = IsUtf8-past_char behind rest d (IsUtf8-past_char text behind c u whole) next in
-    let last = encode_utf8_all (d ∷ []) in
-    let cluster = encode_utf8_all (c ∷ d ∷ []) in
-    let mark = mark_from d more is in
-    let marked : behind ≡ last ++ rest = next ∙ ap (λ t. t ++ rest) (sym (append-nil (encode_utf8 d))) in
-    let all : text ≡ cluster ++ rest = whole ∙ ap (λ t. encode_utf8 c ++ t) marked ∙ sym (append_assoc (encode_utf8 c) last rest) in
+past_all : (behind rest cs : List ℕ) → IsUtf8 behind → behind ≡ encode_utf8_all cs ++ rest → IsUtf8 rest
+past_all behind rest [] u is = subst IsUtf8 is u
+past_all behind rest (c ∷ cs) u is =
+    let more = encode_utf8_all cs ++ rest in
+    past_all more rest cs (IsUtf8-past_char behind more c u (is ∙ append_assoc (encode_utf8 c) (encode_utf8_all cs) rest)) refl
+
+-- a base and marks
+marks_split : (text behind rest : List ℕ) (c columns : ℕ) (cs : List ℕ) → IsUtf8 text → text ≡ encode_utf8 c ++ behind → behind ≡ encode_utf8_all cs ++ rest → stands_alone c ≡ true
+    → AreMarks cs → 14 ≤ get_or (encode_utf8 c) 0 0 → columns ≤ 2 → str_width false (c ∷ cs) ≡ columns → starts_apart (chars rest) ≡ true → IsWideSplit text columns rest
+marks_split text behind rest c columns cs u whole next alone are high few own apart =
+    let v = past_all behind rest cs (IsUtf8-past_char text behind c u whole) next in
+    let last = encode_utf8_all cs in
+    let cluster = encode_utf8_all (c ∷ cs) in
+    let all : text ≡ cluster ++ rest = whole ∙ ap (λ t. encode_utf8 c ++ t) next ∙ sym (append_assoc (encode_utf8 c) last rest) in
     let lead : 14 ≤ get_or cluster 0 0 = subst (λ b. 14 ≤ b) (get_or-front (encode_utf8 c) last (some_bytes c)) high in
-    split_first text cluster rest sum u v all lead most
-    (λ w. ap (str_width false) (chars_of cluster (c ∷ d ∷ []) w refl) ∙ str_width-append_simple false (c ∷ []) (d ∷ []) mark.simple ∙ ap₂ (λ m n. m + n) own mark.width ∙ sym sums)
-    (first_opened text rest u v (opens_marks text behind rest (opens_alone text behind c whole alone) (d ∷ [], marked, (mark.plain, tt))) apart)
+    split_first text cluster rest columns u v all lead few (λ w. ap (str_width false) (chars_of cluster (c ∷ cs) w refl) ∙ own)
+    (first_opened text rest u v (opens_marks text behind rest (opens_alone text behind c whole alone) (cs, next, are)) apart)
+
+marks_of : (cs : List ℕ) (sum : ℕ) → AreMarksOf cs sum → (str_width false cs ≡ sum) × (list_all is_simple cs ≡ true) × AreMarks cs
+unfolding str_width
+marks_of [] sum none = (sym none, refl, tt)
+marks_of (c ∷ cs) sum (first, more, is, are, sums) =
+    let mark = mark_from c first is in
+    let others = marks_of cs more are in (
+      str_width-append_simple false (c ∷ []) cs others.1 ∙ ap₂ (λ m n. m + n) mark.width others.0 ∙ sym sums,
+      and_from _ _ (and_parts _ _ mark.simple).0 others.1,
+      (mark.plain, others.2),
+    )
+
+base_split : (text behind rest : List ℕ) (c columns sum : ℕ) → IsUtf8 text → text ≡ encode_utf8 c ++ behind → stands_alone c ≡ true
+    → 14 ≤ get_or (encode_utf8 c) 0 0 → str_width false (c ∷ []) ≡ columns → IsWithMarks columns behind sum rest → IsWideSplit text sum rest
+base_split text behind rest c columns sum u whole is_base high own ((cs, more, next, are, sums, most), apart) =
+    let marks = marks_of cs more are in
+    marks_split text behind rest c sum cs u whole next is_base marks.2 high most
+    (str_width-append_simple false (c ∷ []) cs marks.1 ∙ ap₂ (λ m n. m + n) own marks.0 ∙ sym sums) apart
 
 pub block_split : (text behind rest : List ℕ) (c sum : ℕ) → IsUtf8 text → text ≡ encode_utf8 c ++ behind → 0 < lone_columns c
-    → IsWithMark (lone_columns c) behind sum rest → IsWideSplit text sum rest
+    → IsWithMarks (lone_columns c) behind sum rest → IsWideSplit text sum rest
 block_split text behind rest c sum u whole some =
-    base_split text behind rest c (lone_columns c) sum u whole (alone_in_block c some) (first_high c (block_low c some)) (grind (arith, nat_tests)) (block_columns c some)
+    base_split text behind rest c (lone_columns c) sum u whole (alone_in_block c some) (first_high c (block_low c some)) (block_columns c some)
+
+-- an emoji takes two
+picture_kinds : (c : ℕ) → in_ranges picture_blocks c ≡ true → is_wide (kind c) ≡ true
+unfolding is_wide tables kind_stepped
+picture_kinds = throughout is_wide kind kind_stepped picture_blocks refl refl
+
+pub picture_split : (text behind rest : List ℕ) (c sum : ℕ) → IsUtf8 text → text ≡ encode_utf8 c ++ behind → in_ranges picture_blocks c ≡ true
+    → IsWithMarks 2 behind sum rest → IsWideSplit text sum rest
+picture_split text behind rest c sum u whole picture =
+    let high = block_above picture_blocks c refl picture in
+    base_split text behind rest c 2 sum u whole (picture_parts c (picture_in_block c picture)).0 (first_high c high)
+    (width_of_one c 2 high (wide-is c (kind c) (picture_kinds c picture)))
+
+-- and so with a skin tone
+is_modifier : Kind → Bool
+is_modifier kinds.EmojiModifier = true
+is_modifier _ = false
+
+tone_kinds : (c : ℕ) → in_ranges skin_tones c ≡ true → is_modifier (kind c) ≡ true
+unfolding is_modifier tables kind_stepped
+tone_kinds = throughout is_modifier kind kind_stepped skin_tones refl refl
+
+modifier-is : (k : Kind) → is_modifier k ≡ true → k ≡ kinds.EmojiModifier
+unfolding is_modifier
+modifier-is kinds.EmojiModifier h = refl
+modifier-is _ h = absurd (false≢true h)
+
+tone_facts : (c : ℕ) → in_ranges skin_tones c ≡ true → is_plain_mark c ≡ true
+unfolding plain_stepped tables ucd_breaks ucd_derived
+tone_facts = throughout (λ is. is) is_plain_mark plain_stepped skin_tones refl refl
+
+toned_columns : (c d : ℕ) → in_ranges picture_blocks c ≡ true → is_emoji_modifier_base c ≡ true → in_ranges skin_tones d ≡ true → str_width false (c ∷ d ∷ []) ≡ 2
+unfolding str_width step past_emoji alone in_context past_selectors joins
+toned_columns c d picture base tone =
+    let high = block_above picture_blocks c refl picture in
+    let above = block_above skin_tones d refl tone in
+    let last : kind d ≡ kinds.EmojiModifier = modifier-is (kind d) (tone_kinds d tone) in
+    grind (arith, nat_tests, high, above, last, base)
+
+pub toned_split : (text behind rest : List ℕ) (c d : ℕ) → IsUtf8 text → text ≡ encode_utf8 c ++ behind → behind ≡ encode_utf8 d ++ rest
+    → in_ranges picture_blocks c ≡ true → is_emoji_modifier_base c ≡ true → in_ranges skin_tones d ≡ true → starts_apart (chars rest) ≡ true → IsWideSplit text 2 rest
+toned_split text behind rest c d u whole next picture base tone =
+    marks_split text behind rest c 2 (d ∷ []) u whole (next ∙ ap (λ t. t ++ rest) (sym (append-nil (encode_utf8 d)))) (picture_parts c (picture_in_block c picture)).0
+    (tone_facts d tone, tt) (first_high c (block_above picture_blocks c refl picture)) (omega arith) (toned_columns c d picture base tone)
 
 -- an emoji before U+FE0F takes two, and so does its keycap
 selectors : List Range
 selectors = (0xFE0F, 0xFE0F) ∷ []
 
-selector_kinds : (c : ℕ) → (not (in_ranges selectors c) || is_single (kind c)) ≡ true
+selector_kinds : (c : ℕ) → in_ranges selectors c ≡ true → is_single (kind c) ≡ true
 unfolding selectors is_single tables kind_stepped
-selector_kinds = Stepped-everywhere _ (zip_stepped (λ inside k. not inside || is_single k) (in_ranges selectors) kind (of_ranges selectors refl) kind_stepped) refl
+selector_kinds = throughout is_single kind kind_stepped selectors refl refl
 
 selector_kind : kind 0xFE0F ≡ kinds.Single
 unfolding in_ranges selectors
-selector_kind = single-is (kind 0xFE0F) (selector_kinds 0xFE0F)
+selector_kind = single-is (kind 0xFE0F) (selector_kinds 0xFE0F refl)
 
 caps : List Range
 caps = (0x20E3, 0x20E3) ∷ []
 
-cap_kinds : (c : ℕ) → (not (in_ranges caps c) || is_zero (kind c)) ≡ true
+cap_kinds : (c : ℕ) → in_ranges caps c ≡ true → is_zero (kind c) ≡ true
 unfolding caps is_zero tables kind_stepped
-cap_kinds = Stepped-everywhere _ (zip_stepped (λ inside k. not inside || is_zero k) (in_ranges caps) kind (of_ranges caps refl) kind_stepped) refl
+cap_kinds = throughout is_zero kind kind_stepped caps refl refl
 
 cap_kind : kind 0x20E3 ≡ kinds.Zero
 unfolding in_ranges caps
-cap_kind = zero-is (kind 0x20E3) (cap_kinds 0x20E3)
+cap_kind = zero-is (kind 0x20E3) (cap_kinds 0x20E3 refl)
 
 last_alone : (c : ℕ) → 0xA0 < c → step false c (0, plain) ≡ alone false c
 unfolding step past_emoji
@@ -362,9 +423,9 @@ is_half : Kind → Bool
 is_half kinds.RegionalIndicator = true
 is_half _ = false
 
-half_kinds : (c : ℕ) → (not (in_ranges flag_letters c) || is_half (kind c)) ≡ true
+half_kinds : (c : ℕ) → in_ranges flag_letters c ≡ true → is_half (kind c) ≡ true
 unfolding is_half tables kind_stepped
-half_kinds = Stepped-everywhere _ (zip_stepped (λ inside k. not inside || is_half k) (in_ranges flag_letters) kind (of_ranges flag_letters refl) kind_stepped) refl
+half_kinds = throughout is_half kind kind_stepped flag_letters refl refl
 
 half-is : (k : Kind) → is_half k ≡ true → k ≡ kinds.RegionalIndicator
 unfolding is_half
@@ -380,7 +441,7 @@ unfolding str_width step past_emoji alone in_context past_selectors joins
 flag_columns c d first second =
     let left = half_range c first in
     let right = half_range d second in
-    let last : kind d ≡ kinds.RegionalIndicator = half-is (kind d) (rw second at (half_kinds d)) in
+    let last : kind d ≡ kinds.RegionalIndicator = half-is (kind d) (half_kinds d second) in
     grind (arith, nat_tests, left.0, left.1, right.0, right.1, last)
 
 pub flag_width : (text : List ℕ) → IsUtf8 text → IsFlag text → 2 ≡ cluster_width text
@@ -400,33 +461,36 @@ module _ (text : List ℕ) (u : IsUtf8 text) (some : 0 < length text) (whole : l
   is : chars text ≡ character ∷ []
   is = only_character text begins.rest character u begins.whole (omega (arith, whole, begins.lone.bytes))
 
-  pub ascii_width : length text ≡ 1 → 1 ≡ cluster_width text
+  ascii_width : length text ≡ 1 → 1 ≡ cluster_width text
   ascii_width one = sym (ap (str_width false) is ∙ str_width-printable false (character ∷ []) (and_from _ _ (lone.ascii one) refl))
 
-  pub two_bytes_width : length text ≡ 2 → 1 ≡ cluster_width text
+  two_bytes_width : length text ≡ 2 → 1 ≡ cluster_width text
   two_bytes_width two =
       let inside = lone.two two in
-      let is_kind = narrow-is character (kind character) (rw inside at (narrow_kinds character)) in
+      let is_kind = narrow-is character (kind character) (narrow_kinds character inside) in
       sym (ap (str_width false) is ∙ width_of_one character 1 (block_above two_bytes character refl inside) is_kind)
 
-  pub han_width : length text ≡ 3 → 2 ≡ cluster_width text
+  han_width : length text ≡ 3 → 2 ≡ cluster_width text
   han_width three =
       let inside = lone.three three in
-      let is_kind = wide-is character (kind character) (rw inside at (wide_kinds character)) in
+      let is_kind = wide-is character (kind character) (wide_kinds character inside) in
       sym (ap (str_width false) is ∙ width_of_one character 2 (block_above three_bytes character refl inside) is_kind)
 
-  pub narrow_width : length text ≤ 3 → (length text ≡ 3 → ⊥) → 1 ≡ cluster_width text
-  narrow_width few other =
-      ⊎_elim (λ one. ascii_width (omega (arith, some))) (λ two. two_bytes_width (by_cases two)) (cases_lt (length text) 2)
+  pub byte_width : (if eqb (length text) 3 then 2 else 1) ≡ cluster_width text
+  byte_width =
+      let few : length text ≤ 3 = subst (λ n. n ≤ 3) (sym whole) (lone_len-few (get_or text 0 0)) in
+      ⊎_elim (λ one. grind (arith, nat_tests) ∙ ascii_width (omega (arith, some)))
+      (λ two. ⊎_elim (λ three. grind (arith, nat_tests) ∙ han_width three) (λ other. grind (arith, nat_tests) ∙ two_bytes_width (length_two two few other)) (cases_eq (length text) 3))
+      (cases_lt (length text) 2)
     where
-      by_cases : 2 ≤ length text → length text ≡ 2
-      by_cases two = ⊎_elim (λ three. absurd (other three)) (λ no. omega arith) (cases_eq (length text) 3)
+      length_two : 2 ≤ length text → length text ≤ 3 → (length text ≡ 3 → ⊥) → length text ≡ 2
+      length_two two few other = ⊎_elim (λ three. absurd (other three)) (λ no. omega arith) (cases_eq (length text) 3)
 
 lone_high : (b : ℕ) → 0 < lone_len b → 14 ≤ b
 lone_high b some = grind (arith, nat_tests)
 
 pub byte_split : (text behind rest : List ℕ) (len sum : ℕ) → IsUtf8 text → 0 < length text → len ≡ lone_len (get_or text 0 0) → 0 < len
-    → behind ≡ drop len text → IsWithMark (if eqb len 3 then 2 else 1) behind sum rest → IsWideSplit text sum rest
+    → behind ≡ drop len text → IsWithMarks (if eqb len 3 then 2 else 1) behind sum rest → IsWideSplit text sum rest
 byte_split text behind rest len sum u some told_len more from joined =
     let lead : 0 < lone_len (get_or text 0 0) = rw (← told_len) more in
     let first = BeginsLone-from text u some lead in
@@ -441,10 +505,6 @@ byte_split text behind rest len sum u some told_len more from joined =
     let front = some_bytes c in
     let same : get_or text 0 0 ≡ get_or cluster 0 0 = ap (λ t. get_or t 0 0) whole ∙ sym (get_or-front cluster behind front) in
     let told : length cluster ≡ lone_len (get_or cluster 0 0) = bytes ∙ told_len ∙ ap lone_len same in
-    let few : length cluster ≤ 3 = subst (λ n. n ≤ 3) (sym told) (lone_len-few (get_or cluster 0 0)) in
-    let own : cluster_width cluster ≡ (if eqb len 3 then 2 else 1) =
-    ⊎_elim (λ three. sym (han_width cluster utf8 front told (bytes ∙ three)) ∙ grind (arith, nat_tests))
-    (λ other. sym (narrow_width cluster utf8 front told few (λ three. other (sym bytes ∙ three))) ∙ grind (arith, nat_tests))
-    (cases_eq len 3) in
+    let own : cluster_width cluster ≡ (if eqb len 3 then 2 else 1) = sym (byte_width cluster utf8 front told) ∙ ap (λ n. if eqb n 3 then 2 else 1) bytes in
     base_split text behind rest c _ sum u whole (alone_by_byte text lead first) (lone_high (get_or cluster 0 0) (subst (λ n. 0 < n) told front))
-    (grind (arith, nat_tests)) (sym (ap (str_width false) (only_character cluster [] c utf8 (sym (append-nil cluster)) (omega arith))) ∙ own) joined
+    (sym (ap (str_width false) (only_character cluster [] c utf8 (sym (append-nil cluster)) (omega arith))) ∙ own) joined

@@ -1,6 +1,6 @@
 -- What near and far cells show together, and what writing, clearing and more room do to it.
 use Rattle.std.specs.List.{All}
-use Rattle.std.proofs.Common.{add-zero, zero, suc, ◌≡◌, ℕ, ◌+◌, ◌*◌, ◌-◌, ◌/◌, ◌%◌, min, Some, false, if◌then◌else◌, ◌<◌, ◌≤◌, ◌&&◌, ◌||◌, eqb, ltb, leb, List, [], ◌∷◌, ◌++◌, length, set, take, drop, get_or, replicate, refl, sym, ap, ◌∙◌, arith, inl, inr}
+use Rattle.std.proofs.Common.{add-zero, zero, suc, ◌≡◌, ◌⊎◌, ℕ, ◌+◌, ◌*◌, ◌-◌, ◌/◌, ◌%◌, min, Some, false, if◌then◌else◌, ◌<◌, ◌≤◌, ◌&&◌, ◌||◌, eqb, ltb, leb, List, [], ◌∷◌, ◌++◌, length, set, take, drop, get_or, replicate, refl, sym, ap, ap₂, ◌∙◌, arith, inl, inr}
 use Rattle.std.proofs.Math.Path.{fun_ext}
 use Rattle.std.proofs.lemmas.Bool.{cases_eq, cases_lt, eq-eqb, ne_eqb, lt-ltb, le-ltb, le-leb, lt-leb, and_right}
 use Rattle.std.proofs.lemmas.List.{get_or-set_same, get_or-set_other, length-set, length-append, length-replicate, get_or_append_left, get_or-append_right, get_or-replicate, get_or-take, get_or-drop, take_all, length-take, length-drop, take-append-drop, ext_get_or, append-nil, append_assoc, replicate-append-replicate}
@@ -10,7 +10,7 @@ use Rattle.std.proofs.lemmas.Nat.{mod_below, div-add-mod'}
 use Rattle.std.proofs.Math.Nat.{min-eq_left, min-eq_right, min-le_left, min-le_right, le-min}
 use Rattle.tw_surface.specs.declared.screen.far.Cell.{Cell}
 use Rattle.tw_surface.specs.Pictures.{blank, cells_with, cells_cleared_from}
-use Rattle.tw_surface.specs.Cells.{cell_in, cell_at, shown_at, row_of, IsSparse, AreSoundCells, IsGrown, IsLastRow, AreEnded}
+use Rattle.tw_surface.specs.Cells.{cell_in, cell_at, ended_rows, shown_at, row_of, AddsPart, IsSparse, AreSoundCells, IsGrown, IsLastRow, AreEnded}
 use Rattle.tw_surface.specs.ScreenSteps.{AreNearFrom}
 use Rattle.tw_surface.proofs.LineOfCells.{same_cell, behind, next_row, below_row}
 use Rattle.tw_surface.proofs.CellLookups.{cell_in-none, cell_in_at, cell_ascii}
@@ -337,3 +337,68 @@ row_blanks cell row col (suc more) blanks =
     ∙ ap (λ ch. (row_of cell row col ++ replicate more blank) ++ ch ∷ []) (blanks (col + more) (omega arith) (omega arith))
     ∙ append_assoc (row_of cell row col) (replicate more blank) (blank ∷ [])
     ∙ ap (λ l. row_of cell row col ++ l) (replicate-append-replicate more 1 blank ∙ ap (λ n. replicate n blank) one)
+
+-- ---- rows one after another
+
+-- near cells are left from a row on, or too few for a row
+abbrev pub AreLeft : (width row : ℕ) (near rest : List ℕ) → Type 0
+AreLeft width row near rest = (length rest < width) ⊎ ((front : List ℕ) × (near ≡ front ++ rest) × (length front ≡ row * width))
+
+pub none_passed : (width : ℕ) (near : List ℕ) → AreLeft width 0 near near
+none_passed width near = inr ([], refl, omega arith)
+
+module _ (width row : ℕ) (near rest cells more : List ℕ) (left : AreLeft width row near rest) (cut : rest ≡ cells ++ more) (len : length cells ≡ width) where
+  parts : length rest ≡ width + length more
+  parts = ap length cut ∙ length-append cells more ∙ ap (λ n. n + length more) len
+
+  pub next_near : AreNearFrom (row * width) near cells
+  next_near = elim left [
+    | inl few ↦ absurd (omega (arith, few, parts))
+    | inr (front, whole, size) ↦ λ k below.
+        let inside = ap length whole ∙ length-append front rest in
+        let here : get_or near (row * width + k) 0 ≡ get_or rest k 0 =
+        ap (λ t. get_or t (row * width + k) 0) whole ∙ get_or-append_right front rest (row * width) (row * width + k) 0 size (omega arith) ∙ ap (λ n. get_or rest n 0) (omega arith) in
+        (omega (arith, inside, size, parts, len), sym (here ∙ ap (λ t. get_or t k 0) cut ∙ get_or_append_left cells more 0 k below))
+  ]
+
+  pub next_left : AreLeft width (row + 1) near more
+  next_left = elim left [
+    | inl few ↦ absurd (omega (arith, few, parts))
+    | inr (front, whole, size) ↦ inr (front ++ cells, whole ∙ ap (λ t. front ++ t) cut ∙ sym (append_assoc front cells more), length-append front cells ∙ ap₂ (λ m n. m + n) size len ∙ omega arith)
+  ]
+
+-- ended rows, one after another
+module _ (cell : ℕ → ℕ → ℕ) (cols : ℕ) (end : List ℕ) where
+  first_rows : (row more : ℕ) → (rest : List ℕ) × (ended_rows cell cols end (row + more) ≡ ended_rows cell cols end row ++ rest)
+  first_rows row zero = ([], ap (ended_rows cell cols end) (add-zero row) ∙ sym (append-nil (ended_rows cell cols end row)))
+  first_rows row (suc more) =
+      let before = first_rows row more in
+      let next : row + suc more ≡ suc (row + more) = omega arith in
+      let last = row_of cell (row + more) cols in (
+        (before.0 ++ last) ++ end,
+        ap (ended_rows cell cols end) next ∙ ap (λ t. (t ++ last) ++ end) before.1 ∙ joined (ended_rows cell cols end row) before.0 last end,
+      )
+    where
+      joined : (a b c d : List ℕ) → ((a ++ b) ++ c) ++ d ≡ a ++ ((b ++ c) ++ d)
+      joined a b c d = ap (λ t. t ++ d) (append_assoc a b c) ∙ append_assoc a (b ++ c) d
+
+  module _ (old : List ℕ) (row : ℕ) where
+    pub row_added : (new : List ℕ) → new ≡ ((old ++ ended_rows cell cols end row) ++ row_of cell row cols) ++ end → new ≡ old ++ ended_rows cell cols end (row + 1)
+    row_added new is =
+        let one : row + 1 ≡ suc row = omega arith in
+        let before = ended_rows cell cols end row in
+        let last = row_of cell row cols in
+        is ∙ ap (λ t. t ++ end) (append_assoc old before last) ∙ append_assoc old (before ++ last) end ∙ ap (λ n. old ++ ended_rows cell cols end n) (sym one)
+
+    pub part_added : (rows : ℕ) (new : List ℕ) → row ≤ rows → new ≡ old ++ ended_rows cell cols end row → AddsPart old (ended_rows cell cols end rows) new
+    part_added rows new most is =
+        let all : rows ≡ row + (rows - row) = omega arith in
+        let more = first_rows row (rows - row) in
+        let before = ended_rows cell cols end row in
+        (more.0, ap (λ n. old ++ ended_rows cell cols end n) all ∙ ap (λ t. old ++ t) more.1 ∙ sym (append_assoc old before more.0) ∙ ap (λ t. t ++ more.0) (sym is))
+
+  pub part_of_row : (old : List ℕ) (row rows : ℕ) (new : List ℕ) → row < rows → new ≡ (old ++ ended_rows cell cols end row) ++ row_of cell row cols
+      → AddsPart old (ended_rows cell cols end rows) new
+  part_of_row old row rows new below is =
+      let next = part_added old (row + 1) rows _ (omega arith) (row_added old row (new ++ end) (ap (λ t. t ++ end) is)) in
+      (end ++ next.0, next.1 ∙ append_assoc new end next.0)

@@ -1,5 +1,5 @@
 -- First clusters of which a base and its marks decide.
-use Rattle.std.proofs.Common.{◌≡◌, inl, inr, ℕ, ◌-◌, ◌<◌, ◌≤◌, Bool, true, false, not, ◌&&◌, ◌||◌, List, [], ◌∷◌, ◌++◌, map, length, length-append, append_assoc, append-nil, unwrap_or, refl, sym, ap, ap₂, subst, ◌∙◌, arith}
+use Rattle.std.proofs.Common.{◌≡◌, inl, inr, ℕ, Some, ◌+◌, ◌-◌, ◌<◌, ◌≤◌, Bool, true, false, not, ◌&&◌, ◌||◌, List, [], ◌∷◌, ◌++◌, map, length, length-append, append_assoc, append-nil, unwrap_or, refl, sym, ap, ap₂, subst, ◌∙◌, arith}
 use Rattle.std.proofs.lemmas.Bool.{and_from, or_left, or_right, and_parts, not-true, true≢false, false≢true}
 use Rattle.std.proofs.lemmas.Bool.Decides.{nat_tests}
 use Rattle.std.proofs.lemmas.Str.{chars_past_char, encodes-chars, encodes-append, chars_from_encodes, length-encode}
@@ -22,8 +22,9 @@ use Rattle.ucd_derived.proofs.IndicConjunctBreakLemmas.{indic_conjunct_break_ste
 use Rattle.ucd_emoji.specs.Binary.{is_extended_pictographic}
 use Rattle.unicode_segmentation.specs.Grapheme.{break_by_pair, ends_in_half_flag, ends_in_linker, ends_in_pictograph, is_extend, is_grapheme_break, is_regional, is_zwj}
 use Rattle.unicode_segmentation.specs.Segments.{cut, prepend}
-use Rattle.tw_surface.specs.Clusters.{ends_syllable, flag_letters, lone_ranges, syllables, is_picture, is_plain_extend, is_joined, is_linker, is_linking, is_mark_break, is_other, is_plain_mark, stands_alone, starts_apart, IsFirstCluster}
-use Rattle.tw_surface.specs.Openings.{IsOpen, IsPlainEnd, BeginsOpen, IsPastMark, IsPastPictograph, GoesOn, nearest, ArePictures, AreMarks, ArePastMarks}
+use Rattle.tw_surface.specs.Clusters.{ends_syllable, flag_letters, mark_columns, lone_ranges, syllables, is_picture, is_plain_extend, is_joined, is_linker, is_linking, is_mark_break, is_other, is_plain_mark, stands_alone, starts_apart, IsFirstCluster}
+use Rattle.tw_surface.specs.Openings.{AreMarksOf, IsPastMarksOf, IsOpen, IsPlainEnd, BeginsOpen, IsPastMark, IsPastPictograph, GoesOn, nearest, ArePictures, AreMarks, ArePastMarks}
+use Rattle.tw_surface.proofs.TableFacts.{throughout}
 use Rattle.tw_surface.proofs.ClusterSeams.{ends_in_linker-not}
 use Rattle.tw_surface.proofs.ClusterCuts.{clusters_of, IsFirstCluster-from}
 
@@ -112,14 +113,12 @@ settled_mark before mark settled is =
 
 -- the halves of a flag join
 
-flag_facts : (c : ℕ) → (not (in_ranges flag_letters c) || (is_regional (grapheme_cluster_break c) && not (is_linking (indic_conjunct_break c)))) ≡ true
+flag_facts : (c : ℕ) → in_ranges flag_letters c ≡ true → (is_regional (grapheme_cluster_break c) && not (is_linking (indic_conjunct_break c))) ≡ true
 unfolding tables ucd_breaks ucd_derived
 flag_facts =
-    Stepped-everywhere _
-    (zip_stepped (λ inside half. not inside || half) (in_ranges flag_letters) (λ c. is_regional (grapheme_cluster_break c) && not (is_linking (indic_conjunct_break c)))
-    (of_ranges flag_letters refl)
-    (zip_stepped (λ g v. is_regional g && not (is_linking v)) grapheme_cluster_break indic_conjunct_break grapheme_cluster_break_stepped indic_conjunct_break_stepped))
-    refl
+    throughout (λ is. is) (λ c. is_regional (grapheme_cluster_break c) && not (is_linking (indic_conjunct_break c)))
+    (zip_stepped (λ g v. is_regional g && not (is_linking v)) grapheme_cluster_break indic_conjunct_break grapheme_cluster_break_stepped indic_conjunct_break_stepped)
+    flag_letters refl refl
 
 regional-is : (g : GraphemeClusterBreak) → is_regional g ≡ true → g ≡ RegionalIndicator
 regional-is RegionalIndicator h = refl
@@ -131,7 +130,7 @@ record IsHalf (c : ℕ) : Type 0 where
 
 half_of : (c : ℕ) → in_ranges flag_letters c ≡ true → IsHalf c
 half_of c inside =
-    let facts = and_parts (is_regional (grapheme_cluster_break c)) (not (is_linking (indic_conjunct_break c))) (rw inside at (flag_facts c)) in
+    let facts = and_parts (is_regional (grapheme_cluster_break c)) (not (is_linking (indic_conjunct_break c))) (flag_facts c inside) in
     record { regional = regional-is (grapheme_cluster_break c) facts.0; no_linker = not-true _ facts.1 }
 
 open_flag : (c d : ℕ) → in_ranges flag_letters c ≡ true → in_ranges flag_letters d ≡ true → IsOpen [] (c ∷ d ∷ [])
@@ -175,6 +174,19 @@ one text rest c whole = whole ∙ ap (λ t. t ++ rest) (sym (append-nil (encode_
 pub no_marks : (text : List ℕ) → ArePastMarks text text
 no_marks text = ([], refl, tt)
 
+-- marks that add columns
+pub no_more : (columns sum : ℕ) (text : List ℕ) → sum ≡ columns → columns ≤ 2 → IsPastMarksOf columns text sum text
+no_more columns sum text same few = ([], 0, refl, refl, omega (arith, same), omega (arith, same))
+
+sum_of : (cs : List ℕ) (sum mark : ℕ) (added : ℕ) → AreMarksOf cs sum → Some added ≡ mark_columns mark → AreMarksOf (cs ++ mark ∷ []) (sum + added)
+sum_of [] sum mark added none is = (added, 0, is, refl, omega (arith, none))
+sum_of (c ∷ cs) sum mark added (first, more, told, are, sums) is = (first, more + added, told, sum_of cs more mark added are is, omega (arith, sums))
+
+pub mark_added : (columns sum added : ℕ) (behind here rest : List ℕ) (mark : ℕ) → IsPastMarksOf columns behind sum here → here ≡ encode_utf8 mark ++ rest
+    → Some added ≡ mark_columns mark → sum + added ≤ 2 → IsPastMarksOf columns behind (sum + added) rest
+mark_added columns sum added behind here rest mark (cs, more, whole, are, sums, most) next is few =
+    (cs ++ mark ∷ [], more + added, joined behind here rest cs (mark ∷ []) whole (one here rest mark next), sum_of cs more mark added are is, omega (arith, sums), few)
+
 pub more_marks : (text behind rest : List ℕ) → ArePastMarks text behind → IsPastMark behind rest → ArePastMarks text rest
 more_marks text behind rest (marks, whole, are) (mark, front, is) =
     (marks ++ mark ∷ [], joined text behind rest marks (mark ∷ []) whole (one behind rest mark front), are_marks_and marks mark are is)
@@ -209,7 +221,7 @@ pictured_mark before [] mark ends is =
     or_right (is_extended_pictographic mark) _ (and_from _ _ extends ends)
 pictured_mark before (c ∷ cs) mark ends is = pictured_mark (c ∷ before) cs mark ends is
 
-picture_parts : (c : ℕ) → is_picture c ≡ true → (stands_alone c ≡ true) × (is_extended_pictographic c ≡ true)
+pub picture_parts : (c : ℕ) → is_picture c ≡ true → (stands_alone c ≡ true) × (is_extended_pictographic c ≡ true)
 picture_parts c is = and_parts (stands_alone c) (is_extended_pictographic c) is
 
 pictured_last : (before cs : List ℕ) (c : ℕ) → is_picture c ≡ true → ends_in_pictograph (nearest before (cs ++ 0x200D ∷ c ∷ [])) ≡ true
@@ -302,14 +314,12 @@ is_syllable_break Lv = true
 is_syllable_break Lvt = true
 is_syllable_break _ = false
 
-syllable_facts : (c : ℕ) → (not (in_ranges syllables c) || (is_syllable_break (grapheme_cluster_break c) && not (is_linking (indic_conjunct_break c)))) ≡ true
+syllable_facts : (c : ℕ) → in_ranges syllables c ≡ true → (is_syllable_break (grapheme_cluster_break c) && not (is_linking (indic_conjunct_break c))) ≡ true
 unfolding is_syllable_break tables ucd_breaks ucd_derived
 syllable_facts =
-    Stepped-everywhere _
-    (zip_stepped (λ inside is. not inside || is) (in_ranges syllables) (λ c. is_syllable_break (grapheme_cluster_break c) && not (is_linking (indic_conjunct_break c)))
-    (of_ranges syllables refl)
-    (zip_stepped (λ g v. is_syllable_break g && not (is_linking v)) grapheme_cluster_break indic_conjunct_break grapheme_cluster_break_stepped indic_conjunct_break_stepped))
-    refl
+    throughout (λ is. is) (λ c. is_syllable_break (grapheme_cluster_break c) && not (is_linking (indic_conjunct_break c)))
+    (zip_stepped (λ g v. is_syllable_break g && not (is_linking v)) grapheme_cluster_break indic_conjunct_break grapheme_cluster_break_stepped indic_conjunct_break_stepped)
+    syllables refl refl
 
 ends_facts : (c : ℕ) → (not (in_ranges syllables c || in_ranges lone_ranges c) || (is_syllable_break (grapheme_cluster_break c) || is_other (grapheme_cluster_break c))) ≡ true
 unfolding is_syllable_break tables ucd_breaks
@@ -337,7 +347,7 @@ cut_syllable : (c : ℕ) (ds : List ℕ) → in_ranges syllables c ≡ true → 
 unfolding cut is_grapheme_break ends_in_half_flag
 cut_syllable c [] is ends = record { others = []; cuts = refl }
 cut_syllable c (d ∷ ds) is ends =
-    let facts = and_parts (is_syllable_break (grapheme_cluster_break c)) (not (is_linking (indic_conjunct_break c))) (rw is at (syllable_facts c)) in
+    let facts = and_parts (is_syllable_break (grapheme_cluster_break c)) (not (is_linking (indic_conjunct_break c))) (syllable_facts c is) in
     let pair = syllable_breaks (grapheme_cluster_break c) (grapheme_cluster_break d) facts.0 (rw ends at (ends_facts d)) in
     let others = cut (is_grapheme_break true) (c ∷ []) (d ∷ ds) [] in
     let breaks : is_grapheme_break true (c ∷ []) (d ∷ ds ++ []) ≡ true =
@@ -350,17 +360,14 @@ first_syllable text rest c u v whole is ends = first_cut text rest (c ∷ []) u 
 
 -- ---- the first marks
 
-low_facts : (c : ℕ) → (not (in_ranges ((0, 0x2FF) ∷ []) c) || not (is_joined (grapheme_cluster_break c))) ≡ true
+low_facts : (c : ℕ) → in_ranges ((0, 0x2FF) ∷ []) c ≡ true → not (is_joined (grapheme_cluster_break c)) ≡ true
 unfolding tables ucd_breaks
-low_facts =
-    Stepped-everywhere _
-    (zip_stepped (λ low g. not low || not (is_joined g)) (in_ranges ((0, 0x2FF) ∷ [])) grapheme_cluster_break (of_ranges ((0, 0x2FF) ∷ []) refl) grapheme_cluster_break_stepped)
-    refl
+low_facts = throughout (λ g. not (is_joined g)) grapheme_cluster_break grapheme_cluster_break_stepped ((0, 0x2FF) ∷ []) refl refl
 
 low_apart : (c : ℕ) → c < 768 → is_joined (grapheme_cluster_break c) ≡ false
 unfolding in_ranges
 low_apart c low =
-    let inside : in_ranges ((0, 0x2FF) ∷ []) c ≡ true = grind (arith, nat_tests) in not-true _ (rw inside at (low_facts c))
+    let inside : in_ranges ((0, 0x2FF) ∷ []) c ≡ true = grind (arith, nat_tests) in not-true _ (low_facts c inside)
 
 mark_is_joined : (g : GraphemeClusterBreak) → is_joined g ≡ false → is_mark_break g ≡ false
 mark_is_joined Extend apart = absurd (true≢false apart)
@@ -396,3 +403,16 @@ shorter_behind text rest (inr (c, whole, is)) =
   where
     joiner_bytes : 1 ≤ length (encode_utf8 0x200D)
     joiner_bytes = rw (length-encode 0x200D) (grind (arith, nat_tests))
+
+-- ---- the selector of emoji
+
+selector_joins : is_joined (grapheme_cluster_break 0xFE0F) ≡ true
+unfolding grapheme_cluster_break ucd_breaks tables
+selector_joins = refl
+
+pub selector_is_mark : is_plain_mark 0xFE0F ≡ true
+unfolding grapheme_cluster_break indic_conjunct_break ucd_breaks ucd_derived tables
+selector_is_mark = refl
+
+pub starts_selected : (text rest : List ℕ) (c : ℕ) → IsUtf8 text → text ≡ encode_utf8 c ++ rest → c ≡ 0xFE0F → starts_apart (chars text) ≡ false
+starts_selected text rest c u whole is = ap starts_apart (chars_past_char text rest c u whole) ∙ ap (λ d. not (is_joined (grapheme_cluster_break d))) is ∙ ap not selector_joins

@@ -1,5 +1,5 @@
 -- What a screen holds: the near cells in one line, and of the far ones those that were written, in order.
-use Rattle.std.specs.Prelude.{ℕ, ◌≡◌, ◌≢◌, ◌+◌, ◌-◌, ◌*◌, ◌<◌, ◌≤◌, ◌&&◌, eqb, ltb, if◌then◌else◌, Option, Some, None, List, [], ◌∷◌, ◌++◌, length, map, count_by, replicate, slice_index, slice_index_or}
+use Rattle.std.specs.Prelude.{ℕ, zero, suc, ◌≡◌, ◌≢◌, ◌+◌, ◌-◌, ◌*◌, ◌<◌, ◌≤◌, ◌&&◌, eqb, ltb, if◌then◌else◌, Option, Some, None, List, [], ◌∷◌, ◌++◌, length, map, count_by, replicate, slice_index, slice_index_or}
 use Rattle.std.specs.List.{All, AllPairs, range_with_len}
 use Rattle.tw_surface.specs.declared.screen.far.Cell.{Cell}
 use Rattle.tw_surface.specs.Characters.{lf}
@@ -35,6 +35,15 @@ picture screen = picture_of screen.width screen.near screen.far screen.row scree
 -- the characters in the first columns of a row
 abbrev pub row_of : (ℕ → ℕ → ℕ) → ℕ → ℕ → List ℕ
 row_of cell row cols = map (cell row) (range_with_len 0 cols)
+
+-- the characters in the first rows, each row with a text behind it
+abbrev pub ended_rows : (ℕ → ℕ → ℕ) → ℕ → List ℕ → ℕ → List ℕ
+ended_rows cell cols end zero = []
+ended_rows cell cols end (suc rows) = ended_rows cell cols end rows ++ row_of cell rows cols ++ end
+
+-- of a text that was to be appended its first part was
+abbrev pub AddsPart : List ℕ → List ℕ → List ℕ → Type 0
+AddsPart old more new = (rest : List ℕ) × (old ++ more ≡ new ++ rest)
 
 -- a screen of a width, at first
 abbrev pub blank_screen : ℕ → ScreenView

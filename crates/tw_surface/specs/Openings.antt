@@ -55,10 +55,16 @@ nearest before (c ∷ cs) = nearest (c ∷ before) cs
 abbrev pub ArePictures : List ℕ → List ℕ → Type 0
 ArePictures text rest = (cs : List ℕ) × (text ≡ encode_utf8_all cs ++ rest) × IsOpen [] cs × (ends_in_pictograph (nearest [] cs) ≡ true)
 
--- a base of these columns stands before a text: the columns of its cluster and what follows that, if at most a mark joins
--- the base
-abbrev pub IsWithMark : ℕ → List ℕ → ℕ → List ℕ → Type 0
-IsWithMark columns behind sum rest =
-    ((sum ≡ columns) × (behind ≡ rest) × (starts_apart (chars rest) ≡ true))
-    ⊎ ((c : ℕ) × (more : ℕ) × (behind ≡ encode_utf8 c ++ rest) × (Some more ≡ mark_columns c) × (sum ≡ columns + more) × (sum ≤ 2)
-    × (starts_apart (chars rest) ≡ true))
+-- marks that add `sum` columns to their cluster
+abbrev pub AreMarksOf : List ℕ → ℕ → Type 0
+AreMarksOf [] sum = sum ≡ 0
+AreMarksOf (c ∷ cs) sum = (first : ℕ) × (more : ℕ) × (Some first ≡ mark_columns c) × AreMarksOf cs more × (sum ≡ first + more)
+
+-- a base of these columns stands before a text that begins with such marks: the columns of both, and what follows
+abbrev pub IsPastMarksOf : ℕ → List ℕ → ℕ → List ℕ → Type 0
+IsPastMarksOf columns behind sum rest =
+    (cs : List ℕ) × (more : ℕ) × (behind ≡ encode_utf8_all cs ++ rest) × AreMarksOf cs more × (sum ≡ columns + more) × (sum ≤ 2)
+
+-- and nothing else joins the base
+abbrev pub IsWithMarks : ℕ → List ℕ → ℕ → List ℕ → Type 0
+IsWithMarks columns behind sum rest = IsPastMarksOf columns behind sum rest × (starts_apart (chars rest) ≡ true)

@@ -1,6 +1,6 @@
 -- Where texts and changes lead.
-use Rattle.std.specs.Prelude.{ℕ, ℤ, pos, ◌+ℤ◌, ◌-ℤ◌, ◌+◌, ◌-◌, ◌<◌, ◌≤◌, ◌≡◌, ◌⊎◌, Bool, true, ◌&&◌, eqb, leb, min, nat_abs, if◌then◌else◌, List, [], ◌∷◌, ◌++◌, map}
-use Rattle.std.specs.List.{list_all}
+use Rattle.std.specs.Prelude.{ℕ, ℤ, pos, ◌+ℤ◌, ◌-ℤ◌, ◌+◌, ◌-◌, ◌*◌, ◌<◌, ◌≤◌, ◌≡◌, ◌⊎◌, Bool, true, ◌&&◌, eqb, leb, min, nat_abs, if◌then◌else◌, List, [], ◌∷◌, ◌++◌, length, map}
+use Rattle.std.specs.List.{list_all, sum_by}
 use Rattle.std.specs.Cmp.Lexicographic.{pointwise}
 use Rattle.unicode_segmentation.specs.Grapheme.{graphemes}
 use Rattle.tw_surface.specs.declared.measure.Piece.{Piece}
@@ -37,6 +37,17 @@ pub record IsWideSplit (text : List ℕ) (columns : ℕ) (rest : List ℕ) : Typ
   pub width : cluster_width cluster ≡ columns
   pub piece : cluster_piece cluster ≡ Wide columns
   pub bound : columns ≤ 2
+
+-- a text begins with clusters of these columns, and a rest follows them
+pub record BeginsWithColumns (text : List ℕ) (columns : ℕ) (rest : List ℕ) : Type 0 where
+  pub sums : columns + sum_by cluster_width (graphemes true rest) ≡ sum_by cluster_width (graphemes true text)
+  pub bound : columns + 2 * length rest ≤ 2 * length text
+  pub shorter : length rest < length text
+
+-- the first cluster of a text is this piece, and a rest follows it
+pub record BeginsWithPiece (text : List ℕ) (piece : Piece) (rest : List ℕ) : Type 0 where
+  pub pieces : map cluster_piece (graphemes true text) ≡ piece ∷ map cluster_piece (graphemes true rest)
+  pub shorter : length rest < length text
 
 -- a plain text is cut into its characters, every other text into its extended grapheme clusters
 unfoldable pub pieces : List ℕ → List Piece

@@ -2,7 +2,7 @@
 
 ghost use Rattle.std.specs.Prelude.{◌≡◌, ◌≤◌, true};
 ghost use Rattle.ucd_table.specs.Rows.{in_ranges};
-ghost use Rattle.tw_surface.specs.Clusters.{accents, flag_letters, lone_columns, lone_ranges, mark_columns, narrow_blocks, picture_blocks, syllables, vowel_signs, wide_blocks};
+ghost use Rattle.tw_surface.specs.Clusters.{accents, flag_letters, lone_columns, lone_ranges, mark_columns, narrow_blocks, picture_blocks, skin_tones, syllables, vowel_signs, wide_blocks};
 
 /// No character before it joins what stands before.
 pub const FIRST_MARK: char = '\u{300}';
@@ -79,7 +79,7 @@ fn is_in_wide_block(c: char) -> bool
             | '\u{3250}'..='\u{A48C}'
             | '\u{F900}'..='\u{FAFF}'
             | '\u{FF01}'..='\u{FF60}'
-    ) || is_in_picture_block(c)
+    )
 }
 
 /// Returns the columns of a character that is a cluster of its own before any character that does not join it, if it
@@ -174,4 +174,12 @@ pub fn is_syllable(c: char) -> bool
     ensures { result ≡ in_ranges syllables c }
 {
     ('\u{AC00}'..='\u{D7A3}').contains(&c)
+}
+
+/// Returns true if the character is a skin tone of emoji.
+#[tactic(auto, unfolding(ucd_table::specs::Rows::in_ranges))]
+pub fn is_skin_tone(c: char) -> bool
+    ensures { result ≡ in_ranges skin_tones c }
+{
+    ('\u{1F3FB}'..='\u{1F3FF}').contains(&c)
 }

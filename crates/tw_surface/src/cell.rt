@@ -5,11 +5,12 @@ ghost use Rattle.std.specs.List.{sum_by};
 ghost use Rattle.unicode_segmentation.specs.Grapheme.{graphemes};
 ghost use Rattle.tw_surface.specs.Attributes.{with_attribute};
 ghost use Rattle.tw_surface.specs.Clusters.{IsEmoji, IsFlag};
+ghost use Rattle.tw_surface.specs.Places.{BeginsWithColumns};
 ghost use Rattle.tw_surface.specs.Width.{cluster_width, column_width};
 
 use crate::blocks::is_flag_letter;
 use crate::characters::is_printable_text;
-use crate::clusters::{lone_len, split_block, split_by_byte, split_cluster};
+use crate::clusters::{lone_len, lone_width, split_block, split_by_byte, split_cluster};
 use crate::color::ColorAttribute;
 use ucd_emoji::is_emoji_variation_base;
 use unicode_width::UnicodeWidthStr;
@@ -165,7 +166,7 @@ pub fn cluster_width(cluster: &str) -> usize
 {
     let bytes = cluster.as_bytes();
     match bytes.first() {
-        Some(lead) if lone_len(*lead) == bytes.len() => { if bytes.len() == 3 { 2 } else { 1 } }
+        Some(lead) if lone_len(*lead) == bytes.len() => lone_width(bytes.len()),
         _ => other_width(cluster),
     }
 }
@@ -216,13 +217,9 @@ fn is_flag(text: &str) -> bool
 /// Returns the columns of the first cluster of a text and what follows it, or `None` if the text is empty.
 #[inline]
 fn split_columns(text: &str) -> Option<(usize, &str)>
-    ensures sums { MatchOption result
+    ensures { MatchOption result
         (graphemes true text.now ≡ [])
-        (λ (columns, rest). columns + sum_by cluster_width (graphemes true rest.now)
-        ≡ sum_by cluster_width (graphemes true text.now)) }
-    ensures bound { IfSome result (λ (columns, rest).
-        columns + 2 * length rest.now ≤ 2 * length text.now) }
-    ensures shorter { IfSome result (λ (columns, rest). length rest.now < length text.now) }
+        (λ (columns, rest). BeginsWithColumns text.now columns rest.now) }
 {
     if let Some(split) = split_by_byte(text) {
         return Some(split);
@@ -236,13 +233,9 @@ fn split_columns(text: &str) -> Option<(usize, &str)>
 /// Returns the same of any other text. It is a function of its own, so that the one above stays short.
 #[inline(never)]
 fn split_ruled_columns(text: &str) -> Option<(usize, &str)>
-    ensures sums { MatchOption result
+    ensures { MatchOption result
         (graphemes true text.now ≡ [])
-        (λ (columns, rest). columns + sum_by cluster_width (graphemes true rest.now)
-        ≡ sum_by cluster_width (graphemes true text.now)) }
-    ensures bound { IfSome result (λ (columns, rest).
-        columns + 2 * length rest.now ≤ 2 * length text.now) }
-    ensures shorter { IfSome result (λ (columns, rest). length rest.now < length text.now) }
+        (λ (columns, rest). BeginsWithColumns text.now columns rest.now) }
 {
     let (cluster, rest) = split_cluster(text)?;
     Some((cluster_width(cluster), rest))

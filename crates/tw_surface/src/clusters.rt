@@ -5,19 +5,22 @@ ghost use Rattle.std.specs.Str.{chars};
 ghost use Rattle.unicode_segmentation.specs.Grapheme.{graphemes};
 ghost use Rattle.tw_surface.specs.Clusters.{is_picture, is_plain_extend, is_plain_mark, lone_len, ends_syllable, stands_alone, starts_apart, IsFirstCluster, IsSplit};
 ghost use Rattle.tw_surface.specs.Places.{IsWideSplit};
-ghost use Rattle.tw_surface.specs.Openings.{ArePastMarks, ArePictures, GoesOn, IsPastMark, IsPastPictograph, IsWithMark, BeginsOpen};
+ghost use Rattle.tw_surface.specs.Openings.{ArePastMarks, GoesOn, IsPastMark, IsPastPictograph, IsWithMarks, BeginsOpen};
 
 use crate::blocks::{
-    FIRST_MARK, is_flag_letter, is_in_lone_range, is_in_picture_block, is_syllable, lone_columns,
-    mark_columns,
+    FIRST_MARK, is_flag_letter, is_in_lone_range, is_in_picture_block, is_skin_tone, is_syllable,
+    lone_columns, mark_columns,
 };
 use ucd_breaks::GraphemeClusterBreak;
 use ucd_derived::IndicConjunctBreak;
-use ucd_emoji::is_extended_pictographic;
+use ucd_emoji::{is_emoji_modifier_base, is_extended_pictographic};
 use unicode_segmentation::UnicodeSegmentation;
 
 /// The zero width joiner, which makes one cluster of two pictographs.
 const JOINER: char = '\u{200D}';
+
+/// The selector by which the character before it is shown as an emoji.
+const SELECTOR: char = '\u{FE0F}';
 
 /// Returns the bytes of a character that begins with this byte, where it tells that the character is a cluster of its
 /// own before another one like it: printable ASCII, Latin (U+00C0 to U+02FF), Greek and Cyrillic (U+0380 to U+047F) and
@@ -58,6 +61,9 @@ fn is_plain_mark(c: char) -> bool
     if c < FIRST_MARK {
         return false;
     }
+    if c == SELECTOR {
+        return true;
+    }
     matches!(
         GraphemeClusterBreak::for_char(c),
         GraphemeClusterBreak::Extend | GraphemeClusterBreak::SpacingMark
@@ -80,6 +86,7 @@ fn starts_apart(text: &str) -> bool
 {
     match text.chars().next() {
         Some(first) if first < FIRST_MARK => true,
+        Some(first) if first == SELECTOR => false,
         Some(first) => !matches!(
             GraphemeClusterBreak::for_char(first),
             GraphemeClusterBreak::Extend
@@ -137,6 +144,17 @@ fn past_flag(text: &str) -> Option<&str>
     }
 }
 
+/// Returns true if the text is empty or begins with a character that [`lone_len`] knows by its first byte.
+#[inline]
+fn begins_lone(text: &str) -> bool
+    ensures { result ≡ true → starts_apart (chars text.now) ≡ true }
+{
+    match text.as_bytes().first() {
+        Some(lead) => lone_len(*lead) > 0,
+        None => true,
+    }
+}
+
 /// Returns the bytes of the first cluster of a text that is not empty. Such a character at its start tells them, if
 /// another one follows.
 #[inline]
@@ -144,19 +162,12 @@ fn first_len(text: &str) -> usize
     requires { 0 < length text.now }
     ensures { IsFirstCluster text.now result }
 {
-    let bytes = text.as_bytes();
-    let len = lone_len(bytes[0]);
-    if len > 0 {
-        match bytes.get(len) {
-            Some(next) => {
-                if lone_len(*next) > 0 {
-                    return len;
-                }
-            }
-            None => return len,
-        }
+    let lead = text.as_bytes()[0];
+    let len = lone_len(lead);
+    if len > 0 && begins_lone(text.split_at(len).1) {
+        return len;
     }
-    match bytes[0] {
+    match lead {
         0xE0..=0xE3 | 0xEA..=0xEF => ruled_len(text),
         _ => other_len(text),
     }
@@ -169,8 +180,8 @@ fn other_len(text: &str) -> usize
     ensures { IsFirstCluster text.now result }
 {
     match text.as_bytes() {
-        [0xF0, 0x9F, 0x87, ..] => flag_len(text),
-        [0xF0, _, _, _, 0xE2, 0x80, 0x8D, ..] => pictures_len(text),
+        [0xF0, 0x9F, 0x87, ..] => open_len(text, past_flag(text)),
+        [0xF0, _, _, _, 0xE2, 0x80, 0x8D, ..] => open_len(text, past_pictures(text)),
         [0xF0, ..] => ruled_len(text),
         _ => settled_len(text),
     }
@@ -213,7 +224,7 @@ fn past_link(text: &str) -> Option<&str>
 
 /// Returns what follows a pictograph and others behind joiners, each with its marks.
 fn past_pictures(text: &str) -> Option<&str>
-    ensures { IfSome result (λ rest. ArePictures text.now rest.now) }
+    ensures { IfSome result (λ rest. BeginsOpen text.now rest.now) }
 {
     let mut rest = past_picture(text)?;
     while let Some(behind) = past_link(rest) {
@@ -229,42 +240,18 @@ fn settled_len(text: &str) -> usize
 {
     match past_base(text) {
         Some(rest) if starts_apart(rest) => text.len() - rest.len(),
-        Some(rest) => marked_len(text, rest),
+        Some(rest) => open_len(text, Some(past_marks(rest))),
         None => ruled_len(text),
     }
 }
 
-/// Returns the same for a base that is not all of its cluster.
-fn marked_len(text: &str, behind: &str) -> usize
+/// Returns the same if `past` is what follows some characters of the cluster, and they are all of it.
+fn open_len(text: &str, past: Option<&str>) -> usize
     requires some { 0 < length text.now }
-    requires base { BeginsOpen text.now behind.now }
+    requires opened { IfSome past (λ rest. BeginsOpen text.now rest.now) }
     ensures { IsFirstCluster text.now result }
 {
-    let rest = past_marks(behind);
-    if starts_apart(rest) {
-        text.len() - rest.len()
-    } else {
-        ruled_len(text)
-    }
-}
-
-/// Returns the same where a flag tells it.
-fn flag_len(text: &str) -> usize
-    requires { 0 < length text.now }
-    ensures { IsFirstCluster text.now result }
-{
-    match past_flag(text) {
-        Some(rest) if starts_apart(rest) => text.len() - rest.len(),
-        _ => ruled_len(text),
-    }
-}
-
-/// Returns the same for a pictograph that a joiner follows.
-fn pictures_len(text: &str) -> usize
-    requires { 0 < length text.now }
-    ensures { IsFirstCluster text.now result }
-{
-    match past_pictures(text) {
+    match past {
         Some(rest) if starts_apart(rest) => text.len() - rest.len(),
         _ => ruled_len(text),
     }
@@ -285,25 +272,14 @@ fn ruled_len(text: &str) -> usize
 
 /// Returns the columns of a character that begins with such a byte.
 #[inline]
-fn lone_width(len: usize) -> usize
+pub fn lone_width(len: usize) -> usize
     ensures { result ≡ (if eqb len 3 then 2 else 1) }
 {
     if len == 3 { 2 } else { 1 }
 }
 
-/// Returns true if the text is empty or begins with a character that [`lone_len`] knows by its first byte.
-#[inline]
-fn begins_lone(text: &str) -> bool
-    ensures { result ≡ true → starts_apart (chars text.now) ≡ true }
-{
-    match text.as_bytes().first() {
-        Some(lead) => lone_len(*lead) > 0,
-        None => true,
-    }
-}
-
 /// Returns the columns of the first cluster of a text and what follows it, if the first byte tells its first character,
-/// and nothing but one mark joins that.
+/// and nothing but accents and vowel signs joins that.
 #[inline]
 pub fn split_by_byte(text: &str) -> Option<(usize, &str)>
     ensures { IfSome result (λ (columns, rest). IsWideSplit text.now columns rest.now) }
@@ -322,7 +298,7 @@ pub fn split_by_byte(text: &str) -> Option<(usize, &str)>
 }
 
 /// Returns the columns of the first cluster of a text and what follows it, if its first character stands in a block, and
-/// nothing but one mark joins that.
+/// nothing but accents and vowel signs joins that.
 #[inline]
 pub fn split_block(text: &str) -> Option<(usize, &str)>
     ensures { IfSome result (λ (columns, rest). IsWideSplit text.now columns rest.now) }
@@ -361,21 +337,45 @@ fn split_picture(text: &str) -> Option<(usize, &str)>
     ensures { IfSome result (λ (columns, rest). IsWideSplit text.now columns rest.now) }
 {
     match text.as_bytes() {
-        // (halves of flags, and emoji before a selector, a joiner or a colour of the skin)
-        [_, 0x9F, 0x87, ..]
-        | [_, _, _, _, 0xEF, 0xB8, ..]
-        | [_, _, _, _, 0xE2, 0x80, ..]
-        | [_, _, _, _, 0xF0, 0x9F, 0x8F, ..] => None,
-        _ => split_lone(text),
+        // (halves of flags, and emoji before a selector or a joiner)
+        [_, 0x9F, 0x87, ..] | [_, _, _, _, 0xEF, 0xB8, ..] | [_, _, _, _, 0xE2, 0x80, ..] =>
+            return None,
+        [_, _, _, _, 0xF0, 0x9F, 0x8F, 0xBB..=0xBF, ..] => return split_toned(text),
+        _ => {}
+    }
+    let mut chars = text.chars();
+    if is_in_picture_block(chars.next()?) {
+        split_joined(2, chars.as_str())
+    } else {
+        None
+    }
+}
+
+/// Returns the same for an emoji with a skin tone.
+fn split_toned(text: &str) -> Option<(usize, &str)>
+    ensures { IfSome result (λ (columns, rest). IsWideSplit text.now columns rest.now) }
+{
+    let mut chars = text.chars();
+    let base = chars.next()?;
+    let tone = chars.next()?;
+    let rest = chars.as_str();
+    if is_in_picture_block(base)
+        && is_emoji_modifier_base(base)
+        && is_skin_tone(tone)
+        && starts_apart(rest)
+    {
+        Some((2, rest))
+    } else {
+        None
     }
 }
 
 /// Returns the columns of a cluster and what follows it, if it begins with a base of `columns`, what is behind the base
-/// is `behind`, and nothing but one mark joins that.
+/// is `behind`, and nothing but accents and vowel signs joins that.
 #[inline]
 fn split_joined(columns: usize, behind: &str) -> Option<(usize, &str)>
     requires { columns ≤ 2 }
-    ensures { IfSome result (λ (sum, rest). IsWithMark columns behind.now sum rest.now) }
+    ensures { IfSome result (λ (sum, rest). IsWithMarks columns behind.now sum rest.now) }
 {
     if starts_apart(behind) {
         Some((columns, behind))
@@ -384,20 +384,25 @@ fn split_joined(columns: usize, behind: &str) -> Option<(usize, &str)>
     }
 }
 
-/// Returns the same if one mark joins the base.
+/// Returns the same if some of these join the base.
 #[inline(never)]
 fn split_marked(columns: usize, behind: &str) -> Option<(usize, &str)>
     requires { columns ≤ 2 }
-    ensures { IfSome result (λ (sum, rest). IsWithMark columns behind.now sum rest.now) }
+    ensures { IfSome result (λ (sum, rest). IsWithMarks columns behind.now sum rest.now) }
 {
+    let mut sum = columns;
     let mut chars = behind.chars();
-    let sum = columns + mark_columns(chars.next()?)?;
-    let rest = chars.as_str();
-    if sum <= 2 && starts_apart(rest) {
-        Some((sum, rest))
-    } else {
-        None
+    while let Some(mark) = chars.next() {
+        sum += mark_columns(mark)?;
+        if sum > 2 {
+            return None;
+        }
+        let rest = chars.as_str();
+        if starts_apart(rest) {
+            return Some((sum, rest));
+        }
     }
+    None
 }
 
 /// Returns true if the text is empty or begins with a character that does not join a syllable.

@@ -3,7 +3,7 @@
 ghost use Rattle.std.specs.Prelude.{◌≡◌, ◌<◌, ◌≤◌, [], ◌∷◌, length, map, replicate, true, IfSome, MatchOption};
 ghost use Rattle.unicode_segmentation.specs.Grapheme.{graphemes};
 ghost use Rattle.tw_surface.specs.declared.measure.Piece.TheVariants.{Wide};
-ghost use Rattle.tw_surface.specs.Places.{plain_piece, cluster_piece, pieces, next_place, places_after, is_in_range};
+ghost use Rattle.tw_surface.specs.Places.{BeginsWithPiece, plain_piece, cluster_piece, pieces, next_place, places_after, is_in_range};
 ghost use Rattle.tw_surface.specs.Extents.{place_of, Measures, start_extent};
 
 use crate::cell::cluster_width;
@@ -146,11 +146,9 @@ fn measure_plain(cols: usize, start: Extent, text: &[u8]) -> Option<Extent>
 /// Returns the piece of the first cluster of a text and what follows it, or `None` if the text is empty.
 #[inline]
 fn split_piece(text: &str) -> Option<(Piece, &str)>
-    ensures pieces { MatchOption result
+    ensures { MatchOption result
         (graphemes true text.now ≡ [])
-        (λ (piece, rest). map cluster_piece (graphemes true text.now)
-        ≡ piece ∷ map cluster_piece (graphemes true rest.now)) }
-    ensures shorter { IfSome result (λ (piece, rest). length rest.now < length text.now) }
+        (λ (piece, rest). BeginsWithPiece text.now piece rest.now) }
 {
     if let Some((columns, rest)) = split_by_byte(text) {
         return Some((Piece::Wide(columns), rest));
@@ -164,11 +162,9 @@ fn split_piece(text: &str) -> Option<(Piece, &str)>
 /// Returns the same of any other text. It is a function of its own, so that the one above stays short.
 #[inline(never)]
 fn split_ruled_piece(text: &str) -> Option<(Piece, &str)>
-    ensures pieces { MatchOption result
+    ensures { MatchOption result
         (graphemes true text.now ≡ [])
-        (λ (piece, rest). map cluster_piece (graphemes true text.now)
-        ≡ piece ∷ map cluster_piece (graphemes true rest.now)) }
-    ensures shorter { IfSome result (λ (piece, rest). length rest.now < length text.now) }
+        (λ (piece, rest). BeginsWithPiece text.now piece rest.now) }
 {
     let (cluster, rest) = split_cluster(text)?;
     Some((Piece::of_cluster(cluster), rest))

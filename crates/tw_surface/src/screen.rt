@@ -5,7 +5,7 @@ ghost use Rattle.std.specs.List.{list_all};
 ghost use Rattle.tw_surface.specs.ChangeView.{change_view, Text as TextView};
 ghost use Rattle.tw_surface.specs.Characters.{is_plain};
 ghost use Rattle.tw_surface.specs.Pictures.{blank, cells_cleared_from, play, play_text, can_play};
-ghost use Rattle.tw_surface.specs.Cells.{shown_at, picture, blank_screen, row_of, IsInOrder, IsSparse, IsTrimmed, AreEnded, IsLastRow};
+ghost use Rattle.tw_surface.specs.Cells.{shown_at, picture, blank_screen, ended_rows, row_of, AddsPart, IsInOrder, IsSparse, IsTrimmed, AreEnded, IsLastRow};
 ghost use Rattle.tw_surface.specs.ScreenSteps.{moved_from, with_cursor_moved, IsPastLimit, RefusesPastLimit};
 
 mod far;
@@ -129,7 +129,28 @@ impl Screen {
         shown_char(&self.near, &self.far, self.width, row, col)
     }
 
-    /// Adds the characters in the first columns of a row to a text, or nothing where there is no memory.
+    /// Appends the first `rows` rows to a text, each with `end` behind it, or some of that if there is no memory.
+    #[inline(always)]
+    pub fn push_rows(&self, rows: usize, end: &str, shown: &mut String) -> Result<(), AllocError>
+        ensures added { OnOk result (string_bytes shown.new ≡ string_bytes shown.old
+            ++ ended_rows (picture self.now).cell self.now.width end.now rows) }
+        ensures refused { OnErr result (AddsPart (string_bytes shown.old)
+            (ended_rows (picture self.now).cell self.now.width end.now rows)
+            (string_bytes shown.new)) }
+    {
+        let mut near = self.near.chunks_exact(self.width);
+        for row in 0..rows {
+            match near.next() {
+                Some(cells) => push_ascii(shown, cells)?,
+                None => self.push_row(row, self.width, shown)?,
+            }
+            shown.push_str(end)?;
+        }
+        Ok(())
+    }
+
+    /// Appends the characters in the first `cols` columns of a row to a text, or nothing if there is no memory.
+    #[inline(never)]
     pub fn push_row(&self, row: usize, cols: usize, shown: &mut String) -> Result<(), AllocError>
         ensures added { OnOk result (string_bytes shown.new
             ≡ string_bytes shown.old ++ row_of (picture self.now).cell row cols) }

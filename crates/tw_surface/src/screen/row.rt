@@ -10,6 +10,7 @@ use std::str;
 const BLANKS: [u8; 64] = [b' '; 64];
 
 // Adds characters of ASCII to a text.
+#[inline]
 pub fn push_ascii(shown: &mut String, characters: &[u8]) -> Result<(), AllocError>
     requires { All (λ b. b < 128) characters.now }
     ensures bytes { let before = string_bytes shown.old in

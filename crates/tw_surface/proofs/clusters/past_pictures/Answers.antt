@@ -1,5 +1,5 @@
 use Rattle.std.proofs.Common.{rules}
-use Rattle.tw_surface.proofs.OpeningLemmas.{first_picture, more_pictures, shorter_behind}
+use Rattle.tw_surface.proofs.OpeningLemmas.{first_picture, more_pictures, opens_pictures, shorter_behind}
 use Rattle.tw_surface.proofs.clusters.past_pictures.Goals as goal
 
 pub loop-behind-init : goal.loop-behind-init
@@ -16,3 +16,6 @@ loop-behind-preserved c = record {
   utf8 = search rules;
   past = more_pictures c.args.text.now c.loop-behind.rest.now c.in-Some.behind.now c.loop-behind.invariant.past c.in-Some.ensures;
 }
+
+pub returns : goal.returns
+returns c = opens_pictures c.args.text.now c.loop-behind.rest.now c.loop-behind.invariant.past

@@ -1,0 +1,6 @@
+use Rattle.std.specs.Str.Iter.{chars_rest}
+use Rattle.tw_surface.specs.Openings.{IsPastMarksOf}
+use Rattle.tw_surface.proofs.clusters.split_marked.Given as goal
+
+abbrev pub invariant-loop-mark : goal.invariant-loop-mark
+invariant-loop-mark l = IsPastMarksOf l.columns l.behind l.sum (chars_rest l.chars)
