@@ -21,12 +21,12 @@ use Rattle.unicode_width.specs.declared.kind.Kind.{Kind}
 use Rattle.unicode_width.specs.declared.kind.Kind.TheVariants as kinds
 use Rattle.unicode_width.specs.Kind.{kind}
 use Rattle.unicode_width.specs.declared.state.After.TheVariants.{Emoji}
-use Rattle.unicode_width.specs.Width.{before, is_emoji_modifier_base, is_emoji_variation_base, plain, of_kind, alone, in_context, joins, past_emoji, past_selectors, step, str_width}
+use Rattle.unicode_width.specs.Width.{before, char_width, is_emoji_modifier_base, is_emoji_variation_base, plain, of_kind, alone, in_context, joins, past_emoji, past_selectors, step, str_width}
 use Rattle.unicode_width.proofs.KindLemmas.{kind_stepped}
 use Rattle.unicode_width.proofs.Rules.{is_simple, is_simple_kind, str_width-append_simple, str_width-printable}
 use Rattle.tw_surface.specs.Clusters.{accents, is_linker, is_mark_break, is_plain_mark, mark_columns, vowel_signs, IsEmoji, ends_syllable, stands_alone, starts_apart, skin_tones, syllables, IsFirstCluster, flag_letters, lone_columns, lone_len, narrow_blocks, picture_blocks, wide_blocks, IsFlag}
 use Rattle.tw_surface.specs.Width.{cluster_width}
-use Rattle.tw_surface.specs.Openings.{AreMarks, AreMarksOf, IsWithMarks}
+use Rattle.tw_surface.specs.Openings.{AreMarks, AreMarksOf, IsBase, IsWithMarks}
 use Rattle.tw_surface.specs.Places.{cluster_piece, IsWideSplit}
 use Rattle.tw_surface.specs.declared.measure.Piece.TheVariants.{Wide}
 use Rattle.tw_surface.proofs.OpeningLemmas.{first_opened, first_syllable, opens_alone, opens_marks, picture_parts}
@@ -315,24 +315,20 @@ base_split text behind rest c columns sum u whole is_base high own ((cs, more, n
     marks_split text behind rest c sum cs u whole next is_base marks.2 high most
     (str_width-append_simple false (c ∷ []) cs marks.1 ∙ ap₂ (λ m n. m + n) own marks.0 ∙ sym sums) apart
 
-pub block_split : (text behind rest : List ℕ) (c sum : ℕ) → IsUtf8 text → text ≡ encode_utf8 c ++ behind → 0 < lone_columns c
-    → IsWithMarks (lone_columns c) behind sum rest → IsWideSplit text sum rest
-block_split text behind rest c sum u whole some =
-    base_split text behind rest c (lone_columns c) sum u whole (alone_in_block c some) (first_high c (block_low c some)) (block_columns c some)
+pub base_in_block : (c : ℕ) → 0 < lone_columns c → IsBase c (lone_columns c)
+base_in_block c some = record { alone = alone_in_block c some; high = block_low c some; few = grind (arith, nat_tests); width = block_columns c some }
 
--- an emoji takes two
-picture_kinds : (c : ℕ) → in_ranges picture_blocks c ≡ true → is_wide (kind c) ≡ true
-unfolding is_wide tables kind_stepped
-picture_kinds = throughout is_wide kind kind_stepped picture_blocks refl refl
+pub base_by_table : (c columns : ℕ) → 0xA0 < c → stands_alone c ≡ true → columns ≤ 2 → Some columns ≡ char_width false c → IsBase c columns
+unfolding char_width alone
+base_by_table c columns high is_base few is =
+    let own : Some columns ≡ Some (of_kind false c (kind c)).0 = is ∙ grind (arith, nat_tests) in
+    record { alone = is_base; high = high; few = few; width = width_of_one c columns high (sym (some_is columns _ own)) }
 
-pub picture_split : (text behind rest : List ℕ) (c sum : ℕ) → IsUtf8 text → text ≡ encode_utf8 c ++ behind → in_ranges picture_blocks c ≡ true
-    → IsWithMarks 2 behind sum rest → IsWideSplit text sum rest
-picture_split text behind rest c sum u whole picture =
-    let high = block_above picture_blocks c refl picture in
-    base_split text behind rest c 2 sum u whole (picture_parts c (picture_in_block c picture)).0 (first_high c high)
-    (width_of_one c 2 high (wide-is c (kind c) (picture_kinds c picture)))
+pub found_split : (text behind rest : List ℕ) (c columns sum : ℕ) → IsUtf8 text → text ≡ encode_utf8 c ++ behind → IsBase c columns
+    → IsWithMarks columns behind sum rest → IsWideSplit text sum rest
+found_split text behind rest c columns sum u whole is = base_split text behind rest c columns sum u whole is.alone (first_high c is.high) is.width
 
--- and so with a skin tone
+-- an emoji with a skin tone takes two
 is_modifier : Kind → Bool
 is_modifier kinds.EmojiModifier = true
 is_modifier _ = false

@@ -1,10 +1,11 @@
 -- What the first cluster of a text begins with, where no rule looks further back than to its last character.
-use Rattle.std.specs.Prelude.{ℕ, ◌≡◌, ◌≤◌, ◌+◌, ◌⊎◌, ⊤, true, false, List, [], ◌∷◌, ◌++◌, map, encode_utf8, encode_utf8_all, Some}
+use Rattle.std.specs.Prelude.{ℕ, ◌≡◌, ◌<◌, ◌≤◌, ◌+◌, ◌⊎◌, ⊤, true, false, List, [], ◌∷◌, ◌++◌, map, encode_utf8, encode_utf8_all, Some}
 use Rattle.std.specs.Str.{chars}
 use Rattle.ucd_breaks.specs.GraphemeClusterBreak.{grapheme_cluster_break}
 use Rattle.ucd_derived.specs.IndicConjunctBreak.{indic_conjunct_break}
 use Rattle.unicode_segmentation.specs.Grapheme.{ends_in_linker, ends_in_pictograph, is_grapheme_break}
-use Rattle.tw_surface.specs.Clusters.{is_joined, is_picture, is_plain_extend, is_plain_mark, mark_columns, starts_apart}
+use Rattle.unicode_width.specs.Width.{str_width}
+use Rattle.tw_surface.specs.Clusters.{is_joined, is_picture, is_plain_extend, is_plain_mark, mark_columns, stands_alone, starts_apart}
 
 -- behind these characters, nearest first, what joins whatever stands before it goes on, and all else begins anew
 pub record IsPlainEnd (before : List ℕ) : Type 0 where
@@ -54,6 +55,13 @@ nearest before (c ∷ cs) = nearest (c ∷ before) cs
 -- a text begins with characters of one cluster that end in a pictograph and its marks
 abbrev pub ArePictures : List ℕ → List ℕ → Type 0
 ArePictures text rest = (cs : List ℕ) × (text ≡ encode_utf8_all cs ++ rest) × IsOpen [] cs × (ends_in_pictograph (nearest [] cs) ≡ true)
+
+-- a base of so many columns
+pub record IsBase (c columns : ℕ) : Type 0 where
+  pub alone : stands_alone c ≡ true
+  pub high : 0xA0 < c
+  pub few : columns ≤ 2
+  pub width : str_width false (c ∷ []) ≡ columns
 
 -- marks that add `sum` columns to their cluster
 abbrev pub AreMarksOf : List ℕ → ℕ → Type 0

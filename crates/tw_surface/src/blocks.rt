@@ -13,6 +13,9 @@ const FIRST_KANA: char = '\u{3000}';
 /// The first character for private use.
 const FIRST_PRIVATE: char = '\u{E000}';
 
+/// No block of two columns but those of emoji goes up to it.
+const FIRST_PICTURE: char = '\u{1F300}';
+
 /// No character behind it is one of [`mark_columns`].
 const LAST_MARK: char = '\u{E4E}';
 
@@ -71,6 +74,9 @@ pub fn is_in_picture_block(c: char) -> bool
 fn is_in_wide_block(c: char) -> bool
     ensures { result ≡ in_ranges wide_blocks c }
 {
+    if c >= FIRST_PICTURE {
+        return is_in_picture_block(c);
+    }
     matches!(
         c,
         '\u{3000}'..='\u{3029}'

@@ -5,7 +5,7 @@ ghost use Rattle.std.specs.Str.{chars};
 ghost use Rattle.unicode_segmentation.specs.Grapheme.{graphemes};
 ghost use Rattle.tw_surface.specs.Clusters.{is_picture, is_plain_extend, is_plain_mark, lone_len, ends_syllable, stands_alone, starts_apart, IsFirstCluster, IsSplit};
 ghost use Rattle.tw_surface.specs.Places.{IsWideSplit};
-ghost use Rattle.tw_surface.specs.Openings.{ArePastMarks, GoesOn, IsPastMark, IsPastPictograph, IsWithMarks, BeginsOpen};
+ghost use Rattle.tw_surface.specs.Openings.{ArePastMarks, GoesOn, IsPastMark, IsBase, IsPastPictograph, IsWithMarks, BeginsOpen};
 
 use crate::blocks::{
     FIRST_MARK, is_flag_letter, is_in_lone_range, is_in_picture_block, is_skin_tone, is_syllable,
@@ -15,9 +15,13 @@ use ucd_breaks::GraphemeClusterBreak;
 use ucd_derived::IndicConjunctBreak;
 use ucd_emoji::{is_emoji_modifier_base, is_extended_pictographic};
 use unicode_segmentation::UnicodeSegmentation;
+use unicode_width::UnicodeWidthChar;
 
 /// The zero width joiner, which makes one cluster of two pictographs.
 const JOINER: char = '\u{200D}';
+
+/// The last character before those whose columns a table tells.
+const LAST_ALONE: char = '\u{A0}';
 
 /// The selector by which the character before it is shown as an emoji.
 const SELECTOR: char = '\u{FE0F}';
@@ -305,9 +309,26 @@ pub fn split_block(text: &str) -> Option<(usize, &str)>
 {
     match text.as_bytes().first() {
         // (the first bytes of the characters of blocks)
-        Some(0xD7..=0xDB | 0xE0..=0xE3 | 0xEE..=0xEF) => split_lone(text),
+        Some(0xC2 | 0xD2..=0xDF | 0xE0..=0xE3 | 0xEE..=0xEF) => split_lone(text),
         Some(0xEA..=0xED) => split_syllable(text),
         Some(0xF0) => split_picture(text),
+        _ => None,
+    }
+}
+
+/// Returns the columns of a base above U+00A0, or `None` for any other character.
+fn base_columns(c: char) -> Option<usize>
+    ensures { IfSome result (IsBase c) }
+{
+    let columns = lone_columns(c);
+    if columns > 0 {
+        return Some(columns);
+    }
+    if c <= LAST_ALONE || !stands_alone(c) {
+        return None;
+    }
+    match c.width() {
+        Some(columns) if columns <= 2 => Some(columns),
         _ => None,
     }
 }
@@ -319,16 +340,12 @@ fn split_lone(text: &str) -> Option<(usize, &str)>
 {
     match text.as_bytes() {
         // (Jamo, and symbols that may be emoji)
-        [0xE1, 0x80..=0xB7, ..] | [0xE2, 0x98..=0x9E, ..] => return None,
+        [0xE1, 0x84..=0x87, ..] | [0xE2, 0x98..=0x9E, ..] => return None,
         _ => {}
     }
     let mut chars = text.chars();
-    let columns = lone_columns(chars.next()?);
-    if columns > 0 {
-        split_joined(columns, chars.as_str())
-    } else {
-        None
-    }
+    let columns = base_columns(chars.next()?)?;
+    split_joined(columns, chars.as_str())
 }
 
 /// Returns the same for a text that may begin with an emoji.
@@ -338,16 +355,9 @@ fn split_picture(text: &str) -> Option<(usize, &str)>
 {
     match text.as_bytes() {
         // (halves of flags, and emoji before a selector or a joiner)
-        [_, 0x9F, 0x87, ..] | [_, _, _, _, 0xEF, 0xB8, ..] | [_, _, _, _, 0xE2, 0x80, ..] =>
-            return None,
-        [_, _, _, _, 0xF0, 0x9F, 0x8F, 0xBB..=0xBF, ..] => return split_toned(text),
-        _ => {}
-    }
-    let mut chars = text.chars();
-    if is_in_picture_block(chars.next()?) {
-        split_joined(2, chars.as_str())
-    } else {
-        None
+        [_, 0x9F, 0x87, ..] | [_, _, _, _, 0xEF, 0xB8, ..] | [_, _, _, _, 0xE2, 0x80, ..] => None,
+        [_, _, _, _, 0xF0, 0x9F, 0x8F, 0xBB..=0xBF, ..] => split_toned(text),
+        _ => split_lone(text),
     }
 }
 
@@ -415,15 +425,17 @@ fn ends_syllable(text: &str) -> bool
     }
 }
 
-/// Returns the same as [`split_lone`] for a syllable of Hangul.
+/// Returns the same as [`split_lone`] for a text that may begin with a syllable of Hangul.
 #[inline(never)]
 fn split_syllable(text: &str) -> Option<(usize, &str)>
     ensures { IfSome result (λ (columns, rest). IsWideSplit text.now columns rest.now) }
 {
     let mut chars = text.chars();
-    let first = chars.next()?;
+    if !is_syllable(chars.next()?) {
+        return split_lone(text);
+    }
     let rest = chars.as_str();
-    if is_syllable(first) && ends_syllable(rest) {
+    if ends_syllable(rest) {
         Some((2, rest))
     } else {
         None
