@@ -24,7 +24,7 @@ use Rattle.unicode_width.specs.declared.state.After.TheVariants.{Emoji}
 use Rattle.unicode_width.specs.Width.{before, char_width, is_emoji_modifier_base, is_emoji_variation_base, plain, of_kind, alone, in_context, joins, past_emoji, past_selectors, step, str_width}
 use Rattle.unicode_width.proofs.KindLemmas.{kind_stepped}
 use Rattle.unicode_width.proofs.Rules.{is_simple, is_simple_kind, str_width-append_simple, str_width-printable}
-use Rattle.tw_surface.specs.Clusters.{accents, is_linker, is_mark_break, is_plain_mark, mark_columns, vowel_signs, IsEmoji, ends_syllable, stands_alone, starts_apart, skin_tones, syllables, IsFirstCluster, flag_letters, lone_columns, lone_len, narrow_blocks, picture_blocks, wide_blocks, IsFlag}
+use Rattle.tw_surface.specs.Clusters.{is_linker, is_mark_break, is_plain_mark, mark_blocks, mark_columns, IsEmoji, ends_syllable, stands_alone, starts_apart, skin_tones, syllables, IsFirstCluster, flag_letters, lone_columns, lone_len, narrow_blocks, picture_blocks, wide_blocks, IsFlag}
 use Rattle.tw_surface.specs.Width.{cluster_width}
 use Rattle.tw_surface.specs.Openings.{AreMarks, AreMarksOf, IsBase, IsWithMarks}
 use Rattle.tw_surface.specs.Places.{cluster_piece, IsWideSplit}
@@ -196,84 +196,51 @@ syllable_split text rest c u v whole is ends =
     wide_first text rest c 2 u v whole high (omega arith) (width_of_one c 2 high (wide-is c (kind c) (syllable_kinds c is)))
     (first_syllable text rest c u v whole is ends)
 
--- a letter and an accent take one
-is_zero : Kind → Bool
-is_zero kinds.Zero = true
-is_zero _ = false
-
-accent_kinds : (c : ℕ) → in_ranges accents c ≡ true → is_zero (kind c) ≡ true
-unfolding is_zero tables kind_stepped
-accent_kinds = throughout is_zero kind kind_stepped accents refl refl
-
-zero-is : (k : Kind) → is_zero k ≡ true → k ≡ kinds.Zero
-unfolding is_zero
-zero-is kinds.Zero h = refl
-zero-is _ h = absurd (false≢true h)
-
-accent_columns : (c : ℕ) → in_ranges accents c ≡ true → (str_width false (c ∷ []) ≡ 0) × (list_all is_simple (c ∷ []) ≡ true)
-accent_columns c inside =
-    let is : kind c ≡ kinds.Zero = zero-is (kind c) (accent_kinds c inside) in
-    let high = block_above accents c refl inside in
-    (width_of_one c 0 high (ap (λ k. (of_kind false c k).0) is), grind (arith, nat_tests, high, is))
-
 chars_of : (text cs : List ℕ) → IsUtf8 text → text ≡ encode_utf8_all cs → chars text ≡ cs
 chars_of text cs u is = sym (chars_from_encodes cs text u (sym is))
-
-abbrev is_vowel_kind : Kind → Bool
-is_vowel_kind k = is_narrow k && is_simple_kind k
-
-vowel_kinds : (c : ℕ) → in_ranges vowel_signs c ≡ true → is_vowel_kind (kind c) ≡ true
-unfolding is_narrow tables kind_stepped
-vowel_kinds = throughout is_vowel_kind kind kind_stepped vowel_signs refl refl
-
-vowel_columns : (c : ℕ) → in_ranges vowel_signs c ≡ true → (str_width false (c ∷ []) ≡ 1) × (list_all is_simple (c ∷ []) ≡ true)
-vowel_columns c inside =
-    let is = and_parts (is_narrow (kind c)) (is_simple_kind (kind c)) (vowel_kinds c inside) in
-    let high = block_above vowel_signs c refl inside in
-    let simple = is.1 in
-    (width_of_one c 1 high (narrow-is c (kind c) is.0), grind (arith, nat_tests, high, simple))
 
 plain_stepped : Stepped is_plain_mark
 plain_stepped = zip_stepped (λ g v. is_mark_break g && not (is_linker v)) grapheme_cluster_break indic_conjunct_break grapheme_cluster_break_stepped indic_conjunct_break_stepped
 
-accent_facts : (c : ℕ) → in_ranges accents c ≡ true → is_plain_mark c ≡ true
-unfolding plain_stepped tables ucd_breaks ucd_derived
-accent_facts = throughout (λ is. is) is_plain_mark plain_stepped accents refl refl
-
-vowel_facts : (c : ℕ) → in_ranges vowel_signs c ≡ true → is_plain_mark c ≡ true
-unfolding plain_stepped tables ucd_breaks ucd_derived
-vowel_facts = throughout (λ is. is) is_plain_mark plain_stepped vowel_signs refl refl
+mark_kinds : (c : ℕ) → in_ranges mark_blocks c ≡ true → (not (is_plain_mark c) || is_simple_kind (kind c)) ≡ true
+unfolding plain_stepped tables ucd_breaks ucd_derived kind_stepped
+mark_kinds =
+    throughout (λ is. is) (λ c. not (is_plain_mark c) || is_simple_kind (kind c))
+    (zip_stepped (λ plain k. not plain || is_simple_kind k) is_plain_mark kind plain_stepped kind_stepped) mark_blocks refl refl
 
 record IsMark (c columns : ℕ) : Type 0 where
   width : str_width false (c ∷ []) ≡ columns
   simple : list_all is_simple (c ∷ []) ≡ true
   plain : is_plain_mark c ≡ true
-  few : columns ≤ 1
 
 some_is : (m n : ℕ) → Some m ≡ Some n → m ≡ n
 some_is m n same = cc
 
-accent_mark : (c columns : ℕ) → Some columns ≡ mark_columns c → in_ranges accents c ≡ true → IsMark c columns
-accent_mark c columns is inside =
-    let none : columns ≡ 0 = some_is columns 0 (is ∙ ap (λ b. if b then Some 0 else if in_ranges vowel_signs c then Some 1 else None) inside) in
-    let own = accent_columns c inside in
-    record { width = own.0 ∙ sym none; simple = own.1; plain = accent_facts c inside; few = omega (arith, none) }
-
-vowel_mark : (c columns : ℕ) → Some columns ≡ mark_columns c → in_ranges accents c ≡ false → in_ranges vowel_signs c ≡ true → IsMark c columns
-vowel_mark c columns is other inside =
-    let one : columns ≡ 1 = some_is columns 1 (is ∙ ap₂ (λ a b. if a then Some 0 else if b then Some 1 else None) other inside) in
-    let own = vowel_columns c inside in
-    record { width = own.0 ∙ sym one; simple = own.1; plain = vowel_facts c inside; few = omega (arith, one) }
-
-no_mark : (c columns : ℕ) → Some columns ≡ mark_columns c → in_ranges accents c ≡ false → in_ranges vowel_signs c ≡ false → ⊥
-no_mark c columns is other outside =
-    let none : Some columns ≡ None = is ∙ ap₂ (λ a b. if a then Some 0 else if b then Some 1 else None) other outside in cc
+-- what a table says of a character by itself
+own_columns : (c columns : ℕ) → 0xA0 < c → Some columns ≡ char_width false c → str_width false (c ∷ []) ≡ columns
+unfolding char_width alone
+own_columns c columns high is =
+    let own : Some columns ≡ Some (of_kind false c (kind c)).0 = is ∙ grind (arith, nat_tests) in
+    width_of_one c columns high (sym (some_is columns _ own))
 
 mark_from : (c columns : ℕ) → Some columns ≡ mark_columns c → IsMark c columns
 mark_from c columns is =
-    ⊎_elim (accent_mark c columns is)
-    (λ other. ⊎_elim (vowel_mark c columns is other) (λ outside. absurd (no_mark c columns is other outside)) (cases_Bool (in_ranges vowel_signs c)))
-    (cases_Bool (in_ranges accents c))
+    ⊎_elim found (λ other. absurd (none other)) (cases_Bool (in_ranges mark_blocks c && is_plain_mark c))
+  where
+    none : (in_ranges mark_blocks c && is_plain_mark c) ≡ false → ⊥
+    none other = let nothing : Some columns ≡ None = is ∙ rw other refl in cc
+    found : (in_ranges mark_blocks c && is_plain_mark c) ≡ true → IsMark c columns
+    found both =
+        let parts = and_parts (in_ranges mark_blocks c) (is_plain_mark c) both in
+        let high = block_above mark_blocks c refl parts.0 in
+        let plain = parts.1 in
+        let kinds = mark_kinds c parts.0 in
+        let simple : is_simple_kind (kind c) ≡ true = grind (arith, plain, kinds) in
+        record {
+          width = own_columns c columns high (is ∙ rw both refl);
+          simple = grind (arith, nat_tests, high, simple);
+          plain = plain;
+        }
 
 pub some_with : {A : Type 0} → {P Q : A → Type 0} → (found : Option A) → ((value : A) → P value → Q value) → IfSome found P → IfSome found Q
 some_with (Some value) step holds = step value holds
@@ -319,10 +286,7 @@ pub base_in_block : (c : ℕ) → 0 < lone_columns c → IsBase c (lone_columns 
 base_in_block c some = record { alone = alone_in_block c some; high = block_low c some; few = grind (arith, nat_tests); width = block_columns c some }
 
 pub base_by_table : (c columns : ℕ) → 0xA0 < c → stands_alone c ≡ true → columns ≤ 2 → Some columns ≡ char_width false c → IsBase c columns
-unfolding char_width alone
-base_by_table c columns high is_base few is =
-    let own : Some columns ≡ Some (of_kind false c (kind c)).0 = is ∙ grind (arith, nat_tests) in
-    record { alone = is_base; high = high; few = few; width = width_of_one c columns high (sym (some_is columns _ own)) }
+base_by_table c columns high is_base few is = record { alone = is_base; high = high; few = few; width = own_columns c columns high is }
 
 pub found_split : (text behind rest : List ℕ) (c columns sum : ℕ) → IsUtf8 text → text ≡ encode_utf8 c ++ behind → IsBase c columns
     → IsWithMarks columns behind sum rest → IsWideSplit text sum rest
@@ -371,6 +335,15 @@ selector_kinds = throughout is_single kind kind_stepped selectors refl refl
 selector_kind : kind 0xFE0F ≡ kinds.Single
 unfolding in_ranges selectors
 selector_kind = single-is (kind 0xFE0F) (selector_kinds 0xFE0F refl)
+
+is_zero : Kind → Bool
+is_zero kinds.Zero = true
+is_zero _ = false
+
+zero-is : (k : Kind) → is_zero k ≡ true → k ≡ kinds.Zero
+unfolding is_zero
+zero-is kinds.Zero h = refl
+zero-is _ h = absurd (false≢true h)
 
 caps : List Range
 caps = (0x20E3, 0x20E3) ∷ []

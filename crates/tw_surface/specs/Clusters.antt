@@ -10,6 +10,7 @@ use Rattle.ucd_emoji.specs.Binary.{is_emoji_variation_base, is_extended_pictogra
 use Rattle.ucd_derived.specs.declared.IndicConjunctBreak.{IndicConjunctBreak}
 use Rattle.ucd_derived.specs.declared.IndicConjunctBreak.TheVariants as conjuncts
 use Rattle.unicode_segmentation.specs.Grapheme.{graphemes, is_extend}
+use Rattle.unicode_width.specs.Width.{char_width}
 use Rattle.tw_surface.specs.Characters.{is_printable}
 
 -- the bytes of a character that begins with this byte, where all such characters are a cluster each in a row of
@@ -24,21 +25,6 @@ lone_len lead =
 -- the characters that such bytes begin
 abbrev pub lone_ranges : List Range
 lone_ranges = (0x20, 0x7E) ∷ (0xC0, 0x2FF) ∷ (0x380, 0x47F) ∷ (0x4000, 0x9FFF) ∷ []
-
--- marks of no columns, whatever stands before them
-abbrev pub accents : List Range
-accents =
-    (0x300, 0x337) ∷ (0x339, 0x36F) ∷ (0x591, 0x5BD) ∷ (0x64B, 0x65F) ∷ (0x900, 0x902) ∷ (0x93C, 0x93C) ∷ (0x941, 0x948)
-    ∷ (0xBC0, 0xBC0) ∷ (0xBCD, 0xBCD) ∷ (0xE31, 0xE31) ∷ (0xE34, 0xE3A) ∷ (0xE47, 0xE4E) ∷ []
-
--- vowel signs of Devanagari, Tamil and Thai of one column, behind the letter that they join
-abbrev pub vowel_signs : List Range
-vowel_signs =
-    (0x93E, 0x940) ∷ (0x949, 0x94C) ∷ (0xBBF, 0xBBF) ∷ (0xBC1, 0xBC2) ∷ (0xBC6, 0xBC8) ∷ (0xBCA, 0xBCC) ∷ (0xE33, 0xE33) ∷ []
-
--- the columns that such a mark adds to its cluster
-abbrev pub mark_columns : ℕ → Option ℕ
-mark_columns c = if in_ranges accents c then Some 0 else if in_ranges vowel_signs c then Some 1 else None
 
 -- two of these are a flag
 abbrev pub flag_letters : List Range
@@ -127,6 +113,14 @@ is_mark_break _ = false
 -- a character that joins whatever stands before it, and that nothing else follows either
 abbrev pub is_plain_mark : ℕ → Bool
 is_plain_mark c = is_mark_break (grapheme_cluster_break c) && not (is_linker (indic_conjunct_break c))
+
+-- in these the columns of such a mark are its own, whatever stands before it
+abbrev pub mark_blocks : List Range
+mark_blocks = (0x300, 0x337) ∷ (0x339, 0x2CFF) ∷ []
+
+-- the columns that such a mark adds to its cluster
+abbrev pub mark_columns : ℕ → Option ℕ
+mark_columns c = if in_ranges mark_blocks c && is_plain_mark c then char_width false c else None
 
 -- such a character that may stand between a pictograph and a joiner
 abbrev pub is_plain_extend : ℕ → Bool

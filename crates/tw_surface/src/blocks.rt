@@ -2,7 +2,7 @@
 
 ghost use Rattle.std.specs.Prelude.{◌≡◌, ◌≤◌, true};
 ghost use Rattle.ucd_table.specs.Rows.{in_ranges};
-ghost use Rattle.tw_surface.specs.Clusters.{accents, flag_letters, lone_columns, lone_ranges, mark_columns, narrow_blocks, picture_blocks, skin_tones, syllables, vowel_signs, wide_blocks};
+ghost use Rattle.tw_surface.specs.Clusters.{flag_letters, lone_columns, lone_ranges, mark_blocks, narrow_blocks, picture_blocks, skin_tones, syllables, wide_blocks};
 
 /// No character before it joins what stands before.
 pub const FIRST_MARK: char = '\u{300}';
@@ -15,9 +15,6 @@ const FIRST_PRIVATE: char = '\u{E000}';
 
 /// No block of two columns but those of emoji goes up to it.
 const FIRST_PICTURE: char = '\u{1F300}';
-
-/// No character behind it is one of [`mark_columns`].
-const LAST_MARK: char = '\u{E4E}';
 
 /// The last character of the blocks of one column.
 const LAST_NARROW: char = '\u{FF9D}';
@@ -103,59 +100,12 @@ pub fn lone_columns(c: char) -> usize
     }
 }
 
-/// Returns true if the character is a mark of no columns, whatever stands before it.
+/// Returns true if the columns of a mark that is this character are its own, whatever stands before it.
 #[tactic(auto, unfolding(ucd_table::specs::Rows::in_ranges))]
-fn is_accent(c: char) -> bool
-    ensures { result ≡ in_ranges accents c }
+pub fn is_in_mark_block(c: char) -> bool
+    ensures { result ≡ in_ranges mark_blocks c }
 {
-    FIRST_MARK <= c
-        && c <= LAST_MARK
-        && matches!(
-        c,
-        '\u{300}'..='\u{337}'
-            | '\u{339}'..='\u{36F}'
-            | '\u{591}'..='\u{5BD}'
-            | '\u{64B}'..='\u{65F}'
-            | '\u{900}'..='\u{902}'
-            | '\u{93C}'
-            | '\u{941}'..='\u{948}'
-            | '\u{BC0}'
-            | '\u{BCD}'
-            | '\u{E31}'
-            | '\u{E34}'..='\u{E3A}'
-            | '\u{E47}'..='\u{E4E}'
-    )
-}
-
-/// Returns true if the character is a vowel sign that takes a column behind the letter that it joins.
-#[tactic(auto, unfolding(ucd_table::specs::Rows::in_ranges))]
-fn is_vowel_sign(c: char) -> bool
-    ensures { result ≡ in_ranges vowel_signs c }
-{
-    c <= LAST_MARK
-        && matches!(
-        c,
-        '\u{93E}'..='\u{940}'
-            | '\u{949}'..='\u{94C}'
-            | '\u{BBF}'
-            | '\u{BC1}'..='\u{BC2}'
-            | '\u{BC6}'..='\u{BC8}'
-            | '\u{BCA}'..='\u{BCC}'
-            | '\u{E33}'
-    )
-}
-
-/// Returns the columns that such a mark adds to its cluster, or `None` for any other character.
-pub fn mark_columns(c: char) -> Option<usize>
-    ensures { result ≡ mark_columns c }
-{
-    if is_accent(c) {
-        Some(0)
-    } else if is_vowel_sign(c) {
-        Some(1)
-    } else {
-        None
-    }
+    matches!(c, FIRST_MARK..='\u{337}' | '\u{339}'..='\u{2CFF}')
 }
 
 /// Returns true if the character stands in a range that [`lone_len`] knows by its first byte.

@@ -3,13 +3,13 @@
 ghost use Rattle.std.specs.Prelude.{◌≡◌, eqb, ◌<◌, ◌≤◌, [], length, true, if◌then◌else◌, IfSome, MatchOption};
 ghost use Rattle.std.specs.Str.{chars};
 ghost use Rattle.unicode_segmentation.specs.Grapheme.{graphemes};
-ghost use Rattle.tw_surface.specs.Clusters.{is_picture, is_plain_extend, is_plain_mark, lone_len, ends_syllable, stands_alone, starts_apart, IsFirstCluster, IsSplit};
+ghost use Rattle.tw_surface.specs.Clusters.{is_picture, is_plain_extend, is_plain_mark, lone_len, mark_columns, ends_syllable, stands_alone, starts_apart, IsFirstCluster, IsSplit};
 ghost use Rattle.tw_surface.specs.Places.{IsWideSplit};
 ghost use Rattle.tw_surface.specs.Openings.{ArePastMarks, GoesOn, IsPastMark, IsBase, IsPastPictograph, IsWithMarks, BeginsOpen};
 
 use crate::blocks::{
-    FIRST_MARK, is_flag_letter, is_in_lone_range, is_in_picture_block, is_skin_tone, is_syllable,
-    lone_columns, mark_columns,
+    FIRST_MARK, is_flag_letter, is_in_lone_range, is_in_mark_block, is_in_picture_block,
+    is_skin_tone, is_syllable, lone_columns,
 };
 use ucd_breaks::GraphemeClusterBreak;
 use ucd_derived::IndicConjunctBreak;
@@ -283,7 +283,7 @@ pub fn lone_width(len: usize) -> usize
 }
 
 /// Returns the columns of the first cluster of a text and what follows it, if the first byte tells its first character,
-/// and nothing but accents and vowel signs joins that.
+/// and nothing but such marks joins that.
 #[inline]
 pub fn split_by_byte(text: &str) -> Option<(usize, &str)>
     ensures { IfSome result (λ (columns, rest). IsWideSplit text.now columns rest.now) }
@@ -302,7 +302,7 @@ pub fn split_by_byte(text: &str) -> Option<(usize, &str)>
 }
 
 /// Returns the columns of the first cluster of a text and what follows it, if its first character stands in a block, and
-/// nothing but accents and vowel signs joins that.
+/// nothing but such marks joins that.
 #[inline]
 pub fn split_block(text: &str) -> Option<(usize, &str)>
     ensures { IfSome result (λ (columns, rest). IsWideSplit text.now columns rest.now) }
@@ -380,8 +380,20 @@ fn split_toned(text: &str) -> Option<(usize, &str)>
     }
 }
 
+/// Returns the columns that a mark adds to its cluster, or `None` for any other character.
+fn mark_columns(c: char) -> Option<usize>
+    ensures value { result ≡ mark_columns c }
+    ensures bound { IfSome result (λ columns. columns ≤ 3) }
+{
+    if is_in_mark_block(c) && is_plain_mark(c) {
+        c.width()
+    } else {
+        None
+    }
+}
+
 /// Returns the columns of a cluster and what follows it, if it begins with a base of `columns`, what is behind the base
-/// is `behind`, and nothing but accents and vowel signs joins that.
+/// is `behind`, and nothing but such marks joins that.
 #[inline]
 fn split_joined(columns: usize, behind: &str) -> Option<(usize, &str)>
     requires { columns ≤ 2 }

@@ -11,7 +11,7 @@ loop-mark-init c = subst (IsPastMarksOf c.args.columns c.args.behind.now c.args.
 past : (c : Else-sum-gt2) → IsPastMarksOf c.args.columns c.args.behind.now (c.loop-mark.sum + c.in_ok-sum.field-0) (chars_rest c.next.new.self)
 past c =
     let few : c.loop-mark.sum + c.in_ok-sum.field-0 ≤ 2 = omega arith in
-    mark_added c.args.columns c.loop-mark.sum c.in_ok-sum.field-0 c.args.behind.now _ _ c.in-Some.mark c.loop-mark.invariant c.in-Some.ensures.steps.0 c.in_ok-sum.ensures few
+    mark_added c.args.columns c.loop-mark.sum c.in_ok-sum.field-0 c.args.behind.now _ _ c.in-Some.mark c.loop-mark.invariant c.in-Some.ensures.steps.0 c.in_ok-sum.ensures.value few
 
 pub returns-then-starts_apart : goal.returns-then-starts_apart
 returns-then-starts_apart c = (
