@@ -151,6 +151,18 @@ BeginsLone-from text u some lone = by (chars text) refl
 abbrev alone_stepped : Stepped stands_alone
 alone_stepped = zip_stepped (λ g v. is_other g && not (is_linking v)) grapheme_cluster_break indic_conjunct_break grapheme_cluster_break_stepped indic_conjunct_break_stepped
 
+vedic_facts : (c : ℕ) → in_ranges ((0, 0x1CF4) ∷ []) c ≡ true → not (is_other (grapheme_cluster_break c) && is_linking (indic_conjunct_break c)) ≡ true
+unfolding tables ucd_breaks ucd_derived
+vedic_facts =
+    throughout (λ is. is) (λ c. not (is_other (grapheme_cluster_break c) && is_linking (indic_conjunct_break c)))
+    (zip_stepped (λ g v. not (is_other g && is_linking v)) grapheme_cluster_break indic_conjunct_break grapheme_cluster_break_stepped indic_conjunct_break_stepped)
+    ((0, 0x1CF4) ∷ []) refl refl
+
+pub alone_before_vedic : (c : ℕ) → c < 0x1CF5 → is_other (grapheme_cluster_break c) ≡ true → stands_alone c ≡ true
+unfolding in_ranges
+alone_before_vedic c low other =
+    let inside : in_ranges ((0, 0x1CF4) ∷ []) c ≡ true = grind (arith, nat_tests) in rw other (rw other at (vedic_facts c inside))
+
 pub alone_in_range : (c : ℕ) → in_ranges lone_ranges c ≡ true → stands_alone c ≡ true
 unfolding tables ucd_breaks ucd_derived
 alone_in_range = throughout (λ is. is) stands_alone alone_stepped lone_ranges refl refl

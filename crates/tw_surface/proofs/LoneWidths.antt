@@ -24,7 +24,7 @@ use Rattle.unicode_width.specs.declared.state.After.TheVariants.{Emoji}
 use Rattle.unicode_width.specs.Width.{before, char_width, is_emoji_modifier_base, is_emoji_variation_base, plain, of_kind, alone, in_context, joins, past_emoji, past_selectors, step, str_width}
 use Rattle.unicode_width.proofs.KindLemmas.{kind_stepped}
 use Rattle.unicode_width.proofs.Rules.{is_simple, is_simple_kind, str_width-append_simple, str_width-printable}
-use Rattle.tw_surface.specs.Clusters.{is_linker, is_mark_break, is_plain_mark, mark_blocks, mark_columns, IsEmoji, ends_syllable, stands_alone, starts_apart, skin_tones, syllables, IsFirstCluster, flag_letters, lone_columns, lone_len, narrow_blocks, picture_blocks, wide_blocks, IsFlag}
+use Rattle.tw_surface.specs.Clusters.{is_joined, is_linker, is_mark_break, is_plain_mark, mark_blocks, mark_columns, IsEmoji, ends_syllable, stands_alone, starts_apart, skin_tones, syllables, IsFirstCluster, flag_letters, lone_columns, lone_len, narrow_blocks, picture_blocks, wide_blocks, IsFlag}
 use Rattle.tw_surface.specs.Width.{cluster_width}
 use Rattle.tw_surface.specs.Openings.{AreMarks, AreMarksOf, IsBase, IsWithMarks}
 use Rattle.tw_surface.specs.Places.{cluster_piece, IsWideSplit}
@@ -208,6 +208,14 @@ mark_kinds =
     throughout (λ is. is) (λ c. not (is_plain_mark c) || is_simple_kind (kind c))
     (zip_stepped (λ plain k. not plain || is_simple_kind k) is_plain_mark kind plain_stepped kind_stepped) mark_blocks refl refl
 
+mark_breaks : (c : ℕ) → in_ranges mark_blocks c ≡ true → (not (is_joined (grapheme_cluster_break c)) || is_mark_break (grapheme_cluster_break c)) ≡ true
+unfolding tables ucd_breaks
+mark_breaks = throughout (λ g. not (is_joined g) || is_mark_break g) grapheme_cluster_break grapheme_cluster_break_stepped mark_blocks refl refl
+
+pub mark_joined : (c : ℕ) → is_joined (grapheme_cluster_break c) ≡ true → in_ranges mark_blocks c ≡ true → is_linker (indic_conjunct_break c) ≡ false
+    → char_width false c ≡ mark_columns c
+mark_joined c joined inside no_linker = rw (inside, rw joined at (mark_breaks c inside), no_linker) refl
+
 record IsMark (c columns : ℕ) : Type 0 where
   width : str_width false (c ∷ []) ≡ columns
   simple : list_all is_simple (c ∷ []) ≡ true
@@ -246,7 +254,7 @@ pub some_with : {A : Type 0} → {P Q : A → Type 0} → (found : Option A) →
 some_with (Some value) step holds = step value holds
 some_with None step holds = tt
 
-past_all : (behind rest cs : List ℕ) → IsUtf8 behind → behind ≡ encode_utf8_all cs ++ rest → IsUtf8 rest
+pub past_all : (behind rest cs : List ℕ) → IsUtf8 behind → behind ≡ encode_utf8_all cs ++ rest → IsUtf8 rest
 past_all behind rest [] u is = subst IsUtf8 is u
 past_all behind rest (c ∷ cs) u is =
     let more = encode_utf8_all cs ++ rest in

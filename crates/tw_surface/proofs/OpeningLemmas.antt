@@ -388,6 +388,10 @@ starts_alone text rest c u whole alone =
     let other = other-is (grapheme_cluster_break c) (and_parts _ (not (is_linking (indic_conjunct_break c))) alone).0 in
     starts_apart-from text rest c u whole (ap is_joined other)
 
+pub joins_behind : (text rest : List ℕ) (c : ℕ) → IsUtf8 text → text ≡ encode_utf8 c ++ rest → starts_apart (chars text) ≡ false → is_joined (grapheme_cluster_break c) ≡ true
+joins_behind text rest c u whole joined =
+    let first : not (is_joined (grapheme_cluster_break c)) ≡ false = sym (ap starts_apart (chars_past_char text rest c u whole)) ∙ joined in grind (arith, first)
+
 pub shorter : (text rest : List ℕ) → IsPastMark text rest → length rest < length text
 shorter text rest (c, whole, is) =
     let some : 1 ≤ length (encode_utf8 c) = rw (length-encode c) (grind (arith, nat_tests)) in

@@ -116,7 +116,7 @@ is_plain_mark c = is_mark_break (grapheme_cluster_break c) && not (is_linker (in
 
 -- in these the columns of such a mark are its own, whatever stands before it
 abbrev pub mark_blocks : List Range
-mark_blocks = (0x300, 0x337) ∷ (0x339, 0x2CFF) ∷ []
+mark_blocks = (0x300, 0x337) ∷ (0x339, 0x200C) ∷ (0x200E, 0x2CFF) ∷ []
 
 -- the columns that such a mark adds to its cluster
 abbrev pub mark_columns : ℕ → Option ℕ

@@ -105,7 +105,7 @@ pub fn lone_columns(c: char) -> usize
 pub fn is_in_mark_block(c: char) -> bool
     ensures { result ≡ in_ranges mark_blocks c }
 {
-    matches!(c, FIRST_MARK..='\u{337}' | '\u{339}'..='\u{2CFF}')
+    matches!(c, FIRST_MARK..='\u{337}' | '\u{339}'..='\u{200C}' | '\u{200E}'..='\u{2CFF}')
 }
 
 /// Returns true if the character stands in a range that [`lone_len`] knows by its first byte.

@@ -1,9 +1,11 @@
 //! Texts cut after their first extended grapheme cluster.
 
-ghost use Rattle.std.specs.Prelude.{◌≡◌, eqb, ◌<◌, ◌≤◌, [], length, true, if◌then◌else◌, IfSome, MatchOption};
+ghost use Rattle.std.specs.Prelude.{◌≡◌, eqb, ◌<◌, ◌≤◌, [], length, true, false, if◌then◌else◌, IfSome, MatchOption};
 ghost use Rattle.std.specs.Str.{chars};
+ghost use Rattle.ucd_breaks.specs.GraphemeClusterBreak.{grapheme_cluster_break};
+ghost use Rattle.ucd_derived.specs.IndicConjunctBreak.{indic_conjunct_break};
 ghost use Rattle.unicode_segmentation.specs.Grapheme.{graphemes};
-ghost use Rattle.tw_surface.specs.Clusters.{is_picture, is_plain_extend, is_plain_mark, lone_len, mark_columns, ends_syllable, stands_alone, starts_apart, IsFirstCluster, IsSplit};
+ghost use Rattle.tw_surface.specs.Clusters.{is_joined, is_linker, is_picture, is_plain_extend, is_plain_mark, lone_len, mark_columns, ends_syllable, stands_alone, starts_apart, IsFirstCluster, IsSplit};
 ghost use Rattle.tw_surface.specs.Places.{IsWideSplit};
 ghost use Rattle.tw_surface.specs.Openings.{ArePastMarks, GoesOn, IsPastMark, IsBase, IsPastPictograph, IsWithMarks, BeginsOpen};
 
@@ -22,6 +24,9 @@ const JOINER: char = '\u{200D}';
 
 /// The last character before those whose columns a table tells.
 const LAST_ALONE: char = '\u{A0}';
+
+/// The first linker of conjuncts that does not join what stands before it.
+const FIRST_VEDIC_LINKER: char = '\u{1CF5}';
 
 /// The selector by which the character before it is shown as an emoji.
 const SELECTOR: char = '\u{FE0F}';
@@ -52,10 +57,18 @@ fn stands_alone(c: char) -> bool
     matches!(
         GraphemeClusterBreak::for_char(c),
         GraphemeClusterBreak::Other
-    ) && !matches!(
-        IndicConjunctBreak::for_char(c),
-        IndicConjunctBreak::Linker | IndicConjunctBreak::Extend
-    )
+    ) && (c < FIRST_VEDIC_LINKER
+        || !matches!(
+            IndicConjunctBreak::for_char(c),
+            IndicConjunctBreak::Linker | IndicConjunctBreak::Extend
+        ))
+}
+
+/// Returns true if the character links the letters of a conjunct.
+fn is_linker(c: char) -> bool
+    ensures { result ≡ is_linker (indic_conjunct_break c) }
+{
+    matches!(IndicConjunctBreak::for_char(c), IndicConjunctBreak::Linker)
 }
 
 /// Returns true if the character joins whatever stands before it, and nothing else follows it either.
@@ -71,7 +84,7 @@ fn is_plain_mark(c: char) -> bool
     matches!(
         GraphemeClusterBreak::for_char(c),
         GraphemeClusterBreak::Extend | GraphemeClusterBreak::SpacingMark
-    ) && !matches!(IndicConjunctBreak::for_char(c), IndicConjunctBreak::Linker)
+    ) && !is_linker(c)
 }
 
 /// Returns true if the character is a plain mark that may stand between a pictograph and a joiner.
@@ -81,7 +94,7 @@ fn is_plain_extend(c: char) -> bool
     matches!(
         GraphemeClusterBreak::for_char(c),
         GraphemeClusterBreak::Extend
-    ) && !matches!(IndicConjunctBreak::for_char(c), IndicConjunctBreak::Linker)
+    ) && !is_linker(c)
 }
 
 /// Returns true if the text is empty or begins with a character that does not join whatever stands before it.
@@ -307,11 +320,13 @@ pub fn split_by_byte(text: &str) -> Option<(usize, &str)>
 pub fn split_block(text: &str) -> Option<(usize, &str)>
     ensures { IfSome result (λ (columns, rest). IsWideSplit text.now columns rest.now) }
 {
-    match text.as_bytes().first() {
-        // (the first bytes of the characters of blocks)
-        Some(0xC2 | 0xD2..=0xDF | 0xE0..=0xE3 | 0xEE..=0xEF) => split_lone(text),
-        Some(0xEA..=0xED) => split_syllable(text),
-        Some(0xF0) => split_picture(text),
+    match text.as_bytes() {
+        // (the first bytes of bases that `lone_len` does not know)
+        [0xC2 | 0xD2..=0xDF | 0xE0..=0xE3 | 0xEE..=0xEF, ..] | [0xEA, 0x80..=0xAF, ..] => {
+            split_lone(text)
+        }
+        [0xEA..=0xED, ..] => split_syllable(text),
+        [0xF0, ..] => split_picture(text),
         _ => None,
     }
 }
@@ -339,8 +354,9 @@ fn split_lone(text: &str) -> Option<(usize, &str)>
     ensures { IfSome result (λ (columns, rest). IsWideSplit text.now columns rest.now) }
 {
     match text.as_bytes() {
-        // (Jamo, and symbols that may be emoji)
-        [0xE1, 0x84..=0x87, ..] | [0xE2, 0x98..=0x9E, ..] => return None,
+        // (Jamo, symbols that are emoji, letters before the linker of a conjunct)
+        [0xE1, 0x84..=0x87, ..] | [0xE2, _, _, 0xEF, 0xB8, ..] => return None,
+        [0xE0, _, _, 0xE0, 0xA5 | 0xA7 | 0xAB | 0xAD | 0xB1 | 0xB5, 0x8D, ..] => return None,
         _ => {}
     }
     let mut chars = text.chars();
@@ -380,12 +396,13 @@ fn split_toned(text: &str) -> Option<(usize, &str)>
     }
 }
 
-/// Returns the columns that a mark adds to its cluster, or `None` for any other character.
+/// Returns the columns that a character adds to the cluster that it joins, if it is a plain mark.
 fn mark_columns(c: char) -> Option<usize>
+    requires { is_joined (grapheme_cluster_break c) ≡ true }
     ensures value { result ≡ mark_columns c }
     ensures bound { IfSome result (λ columns. columns ≤ 3) }
 {
-    if is_in_mark_block(c) && is_plain_mark(c) {
+    if is_in_mark_block(c) && !is_linker(c) {
         c.width()
     } else {
         None
@@ -406,10 +423,11 @@ fn split_joined(columns: usize, behind: &str) -> Option<(usize, &str)>
     }
 }
 
-/// Returns the same if some of these join the base.
+/// Returns the same if something joins the base.
 #[inline(never)]
 fn split_marked(columns: usize, behind: &str) -> Option<(usize, &str)>
-    requires { columns ≤ 2 }
+    requires few { columns ≤ 2 }
+    requires joined { starts_apart (chars behind.now) ≡ false }
     ensures { IfSome result (λ (sum, rest). IsWithMarks columns behind.now sum rest.now) }
 {
     let mut sum = columns;
@@ -437,17 +455,15 @@ fn ends_syllable(text: &str) -> bool
     }
 }
 
-/// Returns the same as [`split_lone`] for a text that may begin with a syllable of Hangul.
+/// Returns the same as [`split_lone`] for a syllable of Hangul.
 #[inline(never)]
 fn split_syllable(text: &str) -> Option<(usize, &str)>
     ensures { IfSome result (λ (columns, rest). IsWideSplit text.now columns rest.now) }
 {
     let mut chars = text.chars();
-    if !is_syllable(chars.next()?) {
-        return split_lone(text);
-    }
+    let first = chars.next()?;
     let rest = chars.as_str();
-    if ends_syllable(rest) {
+    if is_syllable(first) && ends_syllable(rest) {
         Some((2, rest))
     } else {
         None
