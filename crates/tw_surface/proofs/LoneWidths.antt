@@ -29,7 +29,7 @@ use Rattle.tw_surface.specs.Width.{cluster_width}
 use Rattle.tw_surface.specs.Openings.{AreMarks, AreMarksOf, IsBase, IsWithMarks}
 use Rattle.tw_surface.specs.Places.{cluster_piece, IsWideSplit}
 use Rattle.tw_surface.specs.declared.measure.Piece.TheVariants.{Wide}
-use Rattle.tw_surface.proofs.OpeningLemmas.{first_opened, first_syllable, opens_alone, opens_marks, picture_parts}
+use Rattle.tw_surface.proofs.OpeningLemmas.{first_opened, first_syllable, opens_alone, opens_marks, picture_parts, selector_is_mark}
 use Rattle.tw_surface.proofs.TableFacts.{throughout}
 use Rattle.tw_surface.proofs.LoneCharacters.{two_bytes, three_bytes, alone_by_byte, alone_in_block, first_high, get_or-front, lone_len-few, some_bytes, BeginsLone, BeginsLone-from, IsLone, no_columns, only_character, picture_in_block}
 
@@ -386,6 +386,12 @@ emoji_columns c base =
     let selected = last_alone 0xFE0F (omega arith) ∙ selector_alone in
     let capped = ap (step false 0xFE0F) (last_alone 0x20E3 (omega arith) ∙ cap_alone) ∙ selected in
     (ap (λ r. (step false c r).0) selected ∙ ap (λ r. r.0) (before_selector c base), ap (λ r. (step false c r).0) capped ∙ ap (λ r. r.0) (before_selector c base))
+
+pub selected_split : (text behind rest : List ℕ) (c d : ℕ) → IsUtf8 text → text ≡ encode_utf8 c ++ behind → behind ≡ encode_utf8 d ++ rest
+    → 0xA0 < c → stands_alone c ≡ true → is_emoji_variation_base c ≡ true → d ≡ 0xFE0F → starts_apart (chars rest) ≡ true → IsWideSplit text 2 rest
+selected_split text behind rest c d u whole next high alone base selector =
+    marks_split text behind rest c 2 (d ∷ []) u whole (next ∙ ap (λ t. t ++ rest) (sym (append-nil (encode_utf8 d)))) alone
+    (ap is_plain_mark selector ∙ selector_is_mark, tt) (first_high c high) (omega arith) (ap (λ e. str_width false (c ∷ e ∷ [])) selector ∙ (emoji_columns c base).0)
 
 pub emoji_width : (text : List ℕ) → IsUtf8 text → IsEmoji text → 2 ≡ cluster_width text
 emoji_width text u (c, base, is) =

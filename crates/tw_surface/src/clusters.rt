@@ -15,12 +15,18 @@ use crate::blocks::{
 };
 use ucd_breaks::GraphemeClusterBreak;
 use ucd_derived::IndicConjunctBreak;
-use ucd_emoji::{is_emoji_modifier_base, is_extended_pictographic};
+use ucd_emoji::{is_emoji_modifier_base, is_emoji_variation_base, is_extended_pictographic};
 use unicode_segmentation::UnicodeSegmentation;
 use unicode_width::UnicodeWidthChar;
 
 /// The zero width joiner, which makes one cluster of two pictographs.
 const JOINER: char = '\u{200D}';
+
+/// The last character of Thai's blocks.
+const LAST_THAI: char = '\u{E46}';
+
+/// The first character of accented Latin's block.
+const FIRST_ACCENTED: char = '\u{1E00}';
 
 /// The last character before those whose columns a table tells.
 const LAST_ALONE: char = '\u{A0}';
@@ -335,9 +341,12 @@ pub fn split_block(text: &str) -> Option<(usize, &str)>
 fn base_columns(c: char) -> Option<usize>
     ensures { IfSome result (IsBase c) }
 {
-    let columns = lone_columns(c);
-    if columns > 0 {
-        return Some(columns);
+    // (no block lies between those of Thai and of accented Latin)
+    if c <= LAST_THAI || FIRST_ACCENTED <= c {
+        let columns = lone_columns(c);
+        if columns > 0 {
+            return Some(columns);
+        }
     }
     if c <= LAST_ALONE || !stands_alone(c) {
         return None;
@@ -354,8 +363,9 @@ fn split_lone(text: &str) -> Option<(usize, &str)>
     ensures { IfSome result (λ (columns, rest). IsWideSplit text.now columns rest.now) }
 {
     match text.as_bytes() {
-        // (Jamo, symbols that are emoji, letters before the linker of a conjunct)
-        [0xE1, 0x84..=0x87, ..] | [0xE2, _, _, 0xEF, 0xB8, ..] => return None,
+        [0xE2, _, _, 0xEF, 0xB8, ..] => return split_selected(text),
+        // (Jamo, and letters before the linker of a conjunct)
+        [0xE1, 0x84..=0x87, ..] => return None,
         [0xE0, _, _, 0xE0, 0xA5 | 0xA7 | 0xAB | 0xAD | 0xB1 | 0xB5, 0x8D, ..] => return None,
         _ => {}
     }
@@ -370,8 +380,9 @@ fn split_picture(text: &str) -> Option<(usize, &str)>
     ensures { IfSome result (λ (columns, rest). IsWideSplit text.now columns rest.now) }
 {
     match text.as_bytes() {
-        // (halves of flags, and emoji before a selector or a joiner)
-        [_, 0x9F, 0x87, ..] | [_, _, _, _, 0xEF, 0xB8, ..] | [_, _, _, _, 0xE2, 0x80, ..] => None,
+        // (halves of flags, and emoji before a joiner)
+        [_, 0x9F, 0x87, ..] | [_, _, _, _, 0xE2, 0x80, ..] => None,
+        [_, _, _, _, 0xEF, 0xB8, ..] => split_selected(text),
         [_, _, _, _, 0xF0, 0x9F, 0x8F, 0xBB..=0xBF, ..] => split_toned(text),
         _ => split_lone(text),
     }
@@ -404,6 +415,26 @@ fn mark_columns(c: char) -> Option<usize>
 {
     if is_in_mark_block(c) && !is_linker(c) {
         c.width()
+    } else {
+        None
+    }
+}
+
+/// Returns the same for a base that a selector makes an emoji.
+fn split_selected(text: &str) -> Option<(usize, &str)>
+    ensures { IfSome result (λ (columns, rest). IsWideSplit text.now columns rest.now) }
+{
+    let mut chars = text.chars();
+    let base = chars.next()?;
+    let selector = chars.next()?;
+    let rest = chars.as_str();
+    if base > LAST_ALONE
+        && stands_alone(base)
+        && is_emoji_variation_base(base)
+        && selector == SELECTOR
+        && starts_apart(rest)
+    {
+        Some((2, rest))
     } else {
         None
     }
