@@ -320,19 +320,22 @@ pub fn split_by_byte(text: &str) -> Option<(usize, &str)>
     }
 }
 
-/// Returns the columns of the first cluster of a text and what follows it, if its first character stands in a block, and
-/// nothing but such marks joins that.
+/// Returns the same if a base that no byte tells is its first character, and nothing but such marks joins that, or if it
+/// is an emoji with a skin tone or before a selector.
 #[inline]
 pub fn split_block(text: &str) -> Option<(usize, &str)>
     ensures { IfSome result (λ (columns, rest). IsWideSplit text.now columns rest.now) }
 {
     match text.as_bytes() {
-        // (the first bytes of bases that `lone_len` does not know)
-        [0xC2 | 0xD2..=0xDF | 0xE0..=0xE3 | 0xEE..=0xEF, ..] | [0xEA, 0x80..=0xAF, ..] => {
-            split_lone(text)
-        }
-        [0xEA..=0xED, ..] => split_syllable(text),
-        [0xF0, ..] => split_picture(text),
+        [0xE2, _, _, 0xEF, 0xB8, ..] | [0xF0, _, _, _, 0xEF, 0xB8, ..] => split_selected(text),
+        [0xF0, _, _, _, 0xF0, 0x9F, 0x8F, 0xBB..=0xBF, ..] => split_toned(text),
+        // (letters before the linker of a conjunct, Jamo, halves of flags, emoji before a joiner)
+        [0xE0, _, _, 0xE0, 0xA5 | 0xA7 | 0xAB | 0xAD | 0xB1 | 0xB5, 0x8D, ..]
+        | [0xE1, 0x84..=0x87, ..]
+        | [0xF0, 0x9F, 0x87, ..]
+        | [0xF0, _, _, _, 0xE2, 0x80, ..] => None,
+        [0xEA, 0xB0..=0xBF, ..] | [0xEB..=0xED, ..] => split_syllable(text),
+        [0xC2 | 0xD2..=0xDF | 0xE0..=0xE3 | 0xEA | 0xEE..=0xF0, ..] => split_lone(text),
         _ => None,
     }
 }
@@ -362,33 +365,13 @@ fn base_columns(c: char) -> Option<usize>
 fn split_lone(text: &str) -> Option<(usize, &str)>
     ensures { IfSome result (λ (columns, rest). IsWideSplit text.now columns rest.now) }
 {
-    match text.as_bytes() {
-        [0xE2, _, _, 0xEF, 0xB8, ..] => return split_selected(text),
-        // (Jamo, and letters before the linker of a conjunct)
-        [0xE1, 0x84..=0x87, ..] => return None,
-        [0xE0, _, _, 0xE0, 0xA5 | 0xA7 | 0xAB | 0xAD | 0xB1 | 0xB5, 0x8D, ..] => return None,
-        _ => {}
-    }
     let mut chars = text.chars();
     let columns = base_columns(chars.next()?)?;
     split_joined(columns, chars.as_str())
 }
 
-/// Returns the same for a text that may begin with an emoji.
-#[inline(never)]
-fn split_picture(text: &str) -> Option<(usize, &str)>
-    ensures { IfSome result (λ (columns, rest). IsWideSplit text.now columns rest.now) }
-{
-    match text.as_bytes() {
-        // (halves of flags, and emoji before a joiner)
-        [_, 0x9F, 0x87, ..] | [_, _, _, _, 0xE2, 0x80, ..] => None,
-        [_, _, _, _, 0xEF, 0xB8, ..] => split_selected(text),
-        [_, _, _, _, 0xF0, 0x9F, 0x8F, 0xBB..=0xBF, ..] => split_toned(text),
-        _ => split_lone(text),
-    }
-}
-
 /// Returns the same for an emoji with a skin tone.
+#[inline(never)]
 fn split_toned(text: &str) -> Option<(usize, &str)>
     ensures { IfSome result (λ (columns, rest). IsWideSplit text.now columns rest.now) }
 {
@@ -421,6 +404,7 @@ fn mark_columns(c: char) -> Option<usize>
 }
 
 /// Returns the same for a base that a selector makes an emoji.
+#[inline(never)]
 fn split_selected(text: &str) -> Option<(usize, &str)>
     ensures { IfSome result (λ (columns, rest). IsWideSplit text.now columns rest.now) }
 {
