@@ -22,6 +22,7 @@ use Rattle.unicode_width.specs.declared.kind.Kind.TheVariants as kinds
 use Rattle.unicode_width.specs.Kind.{kind}
 use Rattle.unicode_width.specs.declared.state.After.TheVariants.{Emoji}
 use Rattle.unicode_width.specs.Width.{before, char_width, is_emoji_modifier_base, is_emoji_variation_base, plain, of_kind, alone, in_context, joins, past_emoji, past_selectors, step, str_width}
+use Rattle.unicode_width.proofs.Computing.{unicode_width}
 use Rattle.unicode_width.proofs.KindLemmas.{kind_stepped}
 use Rattle.unicode_width.proofs.Rules.{is_simple, is_simple_kind, str_width-append_simple, str_width-printable}
 use Rattle.tw_surface.specs.Clusters.{is_joined, is_linker, is_mark_break, is_plain_mark, mark_blocks, mark_columns, IsEmoji, ends_syllable, stands_alone, starts_apart, skin_tones, syllables, IsFirstCluster, flag_letters, lone_columns, lone_len, narrow_blocks, picture_blocks, wide_blocks, IsFlag}
@@ -52,19 +53,15 @@ wide_kinds : (c : ℕ) → in_ranges three_bytes c ≡ true → is_wide (kind c)
 unfolding is_wide tables kind_stepped
 wide_kinds = throughout is_wide kind kind_stepped three_bytes refl refl
 
-is_single : Kind → Bool
-is_single kinds.Single = true
-is_single _ = false
-
 -- the Hebrew letter that a joiner may stand behind
 lamed : List Range
 lamed = (0x05DC, 0x05DC) ∷ []
 
-narrow_block_kinds : (c : ℕ) → in_ranges narrow_blocks c ≡ true → (is_narrow (kind c) || (in_ranges lamed c && is_single (kind c))) ≡ true
-unfolding is_narrow is_single lamed tables kind_stepped
+narrow_block_kinds : (c : ℕ) → in_ranges narrow_blocks c ≡ true → (is_narrow (kind c) || in_ranges lamed c) ≡ true
+unfolding is_narrow lamed tables kind_stepped
 narrow_block_kinds =
-    throughout (λ is. is) (λ c. is_narrow (kind c) || (in_ranges lamed c && is_single (kind c)))
-    (zip_stepped (λ is k. is_narrow k || (is && is_single k)) (in_ranges lamed) kind (of_ranges lamed refl) kind_stepped) narrow_blocks refl refl
+    throughout (λ is. is) (λ c. is_narrow (kind c) || in_ranges lamed c)
+    (zip_stepped (λ k is. is_narrow k || is) kind (in_ranges lamed) kind_stepped (of_ranges lamed refl)) narrow_blocks refl refl
 
 wide_block_kinds : (c : ℕ) → in_ranges wide_blocks c ≡ true → is_wide (kind c) ≡ true
 unfolding is_wide tables kind_stepped
@@ -84,21 +81,16 @@ wide-is c kinds.Wide h = refl
 wide-is c kinds.Emoji h = refl
 wide-is c _ h = absurd (false≢true h)
 
-single-is : (k : Kind) → is_single k ≡ true → k ≡ kinds.Single
-unfolding is_single
-single-is kinds.Single h = refl
-single-is _ h = absurd (false≢true h)
+lamed_columns : (of_kind false 0x05DC (kind 0x05DC)).0 ≡ 1
+unfolding kind tables unicode_width
+lamed_columns = refl
 
 block_is : (c : ℕ) → in_ranges narrow_blocks c ≡ true → (of_kind false c (kind c)).0 ≡ 1
 unfolding lamed in_ranges
-block_is c inside = ⊎_elim (narrow-is c (kind c)) lamed_is (or_cases (is_narrow (kind c)) (in_ranges lamed c && is_single (kind c)) (narrow_block_kinds c inside))
+block_is c inside = ⊎_elim (narrow-is c (kind c)) lamed_is (or_cases (is_narrow (kind c)) (in_ranges lamed c) (narrow_block_kinds c inside))
   where
-    lamed_is : (in_ranges lamed c && is_single (kind c)) ≡ true → (of_kind false c (kind c)).0 ≡ 1
-    lamed_is both =
-        let parts = and_parts (in_ranges lamed c) (is_single (kind c)) both in
-        let here = parts.0 in
-        let is : kind c ≡ kinds.Single = single-is (kind c) parts.1 in
-        rw is (grind (arith, nat_tests, here))
+    lamed_is : in_ranges lamed c ≡ true → (of_kind false c (kind c)).0 ≡ 1
+    lamed_is here = let is : c ≡ 0x05DC = grind (arith, nat_tests, here) in rw is lamed_columns
 
 -- every block lies above Latin's control characters
 abbrev above_latin : (ranges : List Range) → Bool
@@ -333,36 +325,13 @@ toned_split text behind rest c d u whole next picture base tone =
     (tone_facts d tone, tt) (first_high c (block_above picture_blocks c refl picture)) (omega arith) (toned_columns c d picture base tone)
 
 -- an emoji before U+FE0F takes two, and so does its keycap
-selectors : List Range
-selectors = (0xFE0F, 0xFE0F) ∷ []
-
-selector_kinds : (c : ℕ) → in_ranges selectors c ≡ true → is_single (kind c) ≡ true
-unfolding selectors is_single tables kind_stepped
-selector_kinds = throughout is_single kind kind_stepped selectors refl refl
-
 selector_kind : kind 0xFE0F ≡ kinds.Single
-unfolding in_ranges selectors
-selector_kind = single-is (kind 0xFE0F) (selector_kinds 0xFE0F refl)
-
-is_zero : Kind → Bool
-is_zero kinds.Zero = true
-is_zero _ = false
-
-zero-is : (k : Kind) → is_zero k ≡ true → k ≡ kinds.Zero
-unfolding is_zero
-zero-is kinds.Zero h = refl
-zero-is _ h = absurd (false≢true h)
-
-caps : List Range
-caps = (0x20E3, 0x20E3) ∷ []
-
-cap_kinds : (c : ℕ) → in_ranges caps c ≡ true → is_zero (kind c) ≡ true
-unfolding caps is_zero tables kind_stepped
-cap_kinds = throughout is_zero kind kind_stepped caps refl refl
+unfolding kind tables unicode_width
+selector_kind = refl
 
 cap_kind : kind 0x20E3 ≡ kinds.Zero
-unfolding in_ranges caps
-cap_kind = zero-is (kind 0x20E3) (cap_kinds 0x20E3 refl)
+unfolding kind tables unicode_width
+cap_kind = refl
 
 last_alone : (c : ℕ) → 0xA0 < c → step false c (0, plain) ≡ alone false c
 unfolding step past_emoji

@@ -10,7 +10,7 @@ ghost use Rattle.tw_surface.specs.Width.{cluster_width, column_width};
 
 use crate::blocks::is_flag_letter;
 use crate::characters::is_printable_text;
-use crate::clusters::{lone_len, lone_width, split_block, split_by_byte, split_cluster};
+use crate::clusters::{lone_len, lone_width, split_cluster, split_settled};
 use crate::color::ColorAttribute;
 use ucd_emoji::is_emoji_variation_base;
 use unicode_width::UnicodeWidthStr;
@@ -221,13 +221,10 @@ fn split_columns(text: &str) -> Option<(usize, &str)>
         (graphemes true text.now ≡ [])
         (λ (columns, rest). BeginsWithColumns text.now columns rest.now) }
 {
-    if let Some(split) = split_by_byte(text) {
-        return Some(split);
+    match split_settled(text) {
+        Some(split) => Some(split),
+        None => split_ruled_columns(text),
     }
-    if let Some(split) = split_block(text) {
-        return Some(split);
-    }
-    split_ruled_columns(text)
 }
 
 /// Returns the same of any other text. It is a function of its own, so that the one above stays short.

@@ -22,12 +22,6 @@ use unicode_width::UnicodeWidthChar;
 /// The zero width joiner, which makes one cluster of two pictographs.
 const JOINER: char = '\u{200D}';
 
-/// The last character of Thai's blocks.
-const LAST_THAI: char = '\u{E46}';
-
-/// The first character of accented Latin's block.
-const FIRST_ACCENTED: char = '\u{1E00}';
-
 /// The last character before those whose columns a table tells.
 const LAST_ALONE: char = '\u{A0}';
 
@@ -301,10 +295,21 @@ pub fn lone_width(len: usize) -> usize
     if len == 3 { 2 } else { 1 }
 }
 
-/// Returns the columns of the first cluster of a text and what follows it, if the first byte tells its first character,
-/// and nothing but such marks joins that.
+/// Returns the columns of the first cluster of a text and what follows it, if its first characters tell both: a base,
+/// with plain marks or none behind it, a syllable of Hangul, or an emoji with a skin tone or before U+FE0F.
 #[inline]
-pub fn split_by_byte(text: &str) -> Option<(usize, &str)>
+pub fn split_settled(text: &str) -> Option<(usize, &str)>
+    ensures { IfSome result (λ (columns, rest). IsWideSplit text.now columns rest.now) }
+{
+    match split_by_byte(text) {
+        Some(split) => Some(split),
+        None => split_by_bytes(text),
+    }
+}
+
+/// Returns the same if the first byte tells the base.
+#[inline]
+fn split_by_byte(text: &str) -> Option<(usize, &str)>
     ensures { IfSome result (λ (columns, rest). IsWideSplit text.now columns rest.now) }
 {
     let len = lone_len(*text.as_bytes().first()?);
@@ -320,10 +325,9 @@ pub fn split_by_byte(text: &str) -> Option<(usize, &str)>
     }
 }
 
-/// Returns the same if a base that no byte tells is its first character, and nothing but such marks joins that, or if it
-/// is an emoji with a skin tone or before a selector.
+/// Returns the same for any other text. Its first bytes tell what it may begin with.
 #[inline]
-pub fn split_block(text: &str) -> Option<(usize, &str)>
+fn split_by_bytes(text: &str) -> Option<(usize, &str)>
     ensures { IfSome result (λ (columns, rest). IsWideSplit text.now columns rest.now) }
 {
     match text.as_bytes() {
@@ -331,11 +335,13 @@ pub fn split_block(text: &str) -> Option<(usize, &str)>
         [0xF0, _, _, _, 0xF0, 0x9F, 0x8F, 0xBB..=0xBF, ..] => split_toned(text),
         // (letters before the linker of a conjunct, Jamo, halves of flags, emoji before a joiner)
         [0xE0, _, _, 0xE0, 0xA5 | 0xA7 | 0xAB | 0xAD | 0xB1 | 0xB5, 0x8D, ..]
+        | [0xE1, _, _, 0xE1, 0x80, 0xB9, ..]
+        | [0xE1, _, _, 0xE1, 0x9F, 0x92, ..]
         | [0xE1, 0x84..=0x87, ..]
         | [0xF0, 0x9F, 0x87, ..]
         | [0xF0, _, _, _, 0xE2, 0x80, ..] => None,
         [0xEA, 0xB0..=0xBF, ..] | [0xEB..=0xED, ..] => split_syllable(text),
-        [0xC2 | 0xD2..=0xDF | 0xE0..=0xE3 | 0xEA | 0xEE..=0xF0, ..] => split_lone(text),
+        [0xC2 | 0xD2..=0xDF | 0xE0..=0xE3 | 0xEA | 0xEE..=0xF0, ..] => split_base(text),
         _ => None,
     }
 }
@@ -344,8 +350,8 @@ pub fn split_block(text: &str) -> Option<(usize, &str)>
 fn base_columns(c: char) -> Option<usize>
     ensures { IfSome result (IsBase c) }
 {
-    // (no block lies between those of Thai and of accented Latin)
-    if c <= LAST_THAI || FIRST_ACCENTED <= c {
+    // (no block stands between those of Tamil and of Thai, nor between those of Thai and of accented Latin)
+    if !matches!(c, '\u{BBA}'..='\u{E00}' | '\u{E47}'..='\u{1DFF}') {
         let columns = lone_columns(c);
         if columns > 0 {
             return Some(columns);
@@ -360,9 +366,9 @@ fn base_columns(c: char) -> Option<usize>
     }
 }
 
-/// Returns the same for a text that may begin with such a character.
+/// Returns the same for such a base.
 #[inline(never)]
-fn split_lone(text: &str) -> Option<(usize, &str)>
+fn split_base(text: &str) -> Option<(usize, &str)>
     ensures { IfSome result (λ (columns, rest). IsWideSplit text.now columns rest.now) }
 {
     let mut chars = text.chars();
@@ -390,19 +396,6 @@ fn split_toned(text: &str) -> Option<(usize, &str)>
     }
 }
 
-/// Returns the columns that a character adds to the cluster that it joins, if it is a plain mark.
-fn mark_columns(c: char) -> Option<usize>
-    requires { is_joined (grapheme_cluster_break c) ≡ true }
-    ensures value { result ≡ mark_columns c }
-    ensures bound { IfSome result (λ columns. columns ≤ 3) }
-{
-    if is_in_mark_block(c) && !is_linker(c) {
-        c.width()
-    } else {
-        None
-    }
-}
-
 /// Returns the same for a base that a selector makes an emoji.
 #[inline(never)]
 fn split_selected(text: &str) -> Option<(usize, &str)>
@@ -425,7 +418,7 @@ fn split_selected(text: &str) -> Option<(usize, &str)>
 }
 
 /// Returns the columns of a cluster and what follows it, if it begins with a base of `columns`, what is behind the base
-/// is `behind`, and nothing but such marks joins that.
+/// is `behind`, and nothing but plain marks joins that.
 #[inline]
 fn split_joined(columns: usize, behind: &str) -> Option<(usize, &str)>
     requires { columns ≤ 2 }
@@ -460,6 +453,19 @@ fn split_marked(columns: usize, behind: &str) -> Option<(usize, &str)>
     None
 }
 
+/// Returns the columns that a character adds to the cluster that it joins, if it is a plain mark.
+fn mark_columns(c: char) -> Option<usize>
+    requires { is_joined (grapheme_cluster_break c) ≡ true }
+    ensures value { result ≡ mark_columns c }
+    ensures bound { IfSome result (λ columns. columns ≤ 3) }
+{
+    if is_in_mark_block(c) && !is_linker(c) {
+        c.width()
+    } else {
+        None
+    }
+}
+
 /// Returns true if the text is empty or begins with a character that does not join a syllable.
 fn ends_syllable(text: &str) -> bool
     ensures { result ≡ ends_syllable (chars text.now) }
@@ -470,7 +476,7 @@ fn ends_syllable(text: &str) -> bool
     }
 }
 
-/// Returns the same as [`split_lone`] for a syllable of Hangul.
+/// Returns the same for a syllable of Hangul.
 #[inline(never)]
 fn split_syllable(text: &str) -> Option<(usize, &str)>
     ensures { IfSome result (λ (columns, rest). IsWideSplit text.now columns rest.now) }

@@ -1,7 +1,7 @@
 use Rattle.std.proofs.Common.{◌++◌, sym, ap, ◌∙◌}
 use Rattle.std.specs.Prelude.{encode_utf8}
 use Rattle.tw_surface.proofs.LoneWidths.{found_split, some_with}
-use Rattle.tw_surface.proofs.clusters.split_lone.Goals as goal
+use Rattle.tw_surface.proofs.clusters.split_base.Goals as goal
 
 pub returns : goal.returns
 returns c =
