@@ -229,6 +229,7 @@ mark_from c columns is =
   where
     none : (in_ranges mark_blocks c && is_plain_mark c) ≡ false → ⊥
     none other = let nothing : Some columns ≡ None = is ∙ rw other refl in cc
+
     found : (in_ranges mark_blocks c && is_plain_mark c) ≡ true → IsMark c columns
     found both =
         let parts = and_parts (in_ranges mark_blocks c) (is_plain_mark c) both in
