@@ -51,13 +51,13 @@ narrow_blocks =
     ∷ (0x2070, 0x20CF) ∷ (0x20F1, 0x2319) ∷ (0x232B, 0x23E8) ∷ (0x23F4, 0x25FC) ∷ (0x27C0, 0x2B1A) ∷ (0xE000, 0xF8FF)
     ∷ (0xFF61, 0xFF9D) ∷ []
 
--- emoji
+-- emoji that are such characters, of two columns
 abbrev pub picture_blocks : List Range
 picture_blocks =
     (0x1F300, 0x1F320) ∷ (0x1F337, 0x1F37C) ∷ (0x1F3A0, 0x1F3CA) ∷ (0x1F400, 0x1F43E) ∷ (0x1F442, 0x1F4FC)
     ∷ (0x1F4FF, 0x1F53D) ∷ (0x1F5FB, 0x1F64F) ∷ (0x1F680, 0x1F6C5) ∷ (0x1F90C, 0x1F93A) ∷ (0x1F947, 0x1F9FF) ∷ []
 
--- the same of two columns: kana, Hanzi with their marks, fullwidth forms, emoji
+-- all such characters of two columns: kana, Hanzi with their marks, fullwidth forms, emoji
 abbrev pub wide_blocks : List Range
 wide_blocks =
     (0x3000, 0x3029) ∷ (0x3041, 0x3096) ∷ (0x309B, 0x30FF) ∷ (0x3250, 0xA48C) ∷ (0xF900, 0xFAFF) ∷ (0xFF01, 0xFF60)
@@ -114,7 +114,7 @@ is_mark_break _ = false
 abbrev pub is_plain_mark : ℕ → Bool
 is_plain_mark c = is_mark_break (grapheme_cluster_break c) && not (is_linker (indic_conjunct_break c))
 
--- in these the columns of such a mark are its own, whatever stands before it
+-- blocks in which such a mark adds its own columns, whatever stands before it
 abbrev pub mark_blocks : List Range
 mark_blocks = (0x300, 0x337) ∷ (0x339, 0x200C) ∷ (0x200E, 0x2CFF) ∷ []
 

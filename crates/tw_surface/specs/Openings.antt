@@ -56,7 +56,7 @@ nearest before (c ∷ cs) = nearest (c ∷ before) cs
 abbrev pub ArePictures : List ℕ → List ℕ → Type 0
 ArePictures text rest = (cs : List ℕ) × (text ≡ encode_utf8_all cs ++ rest) × IsOpen [] cs × (ends_in_pictograph (nearest [] cs) ≡ true)
 
--- a base of so many columns
+-- a base of these columns
 pub record IsBase (c columns : ℕ) : Type 0 where
   pub alone : stands_alone c ≡ true
   pub high : 0xA0 < c

@@ -13,7 +13,7 @@ const FIRST_KANA: char = '\u{3000}';
 /// The first character for private use.
 const FIRST_PRIVATE: char = '\u{E000}';
 
-/// No block of two columns but those of emoji goes up to it.
+/// The first emoji of these blocks.
 const FIRST_PICTURE: char = '\u{1F300}';
 
 /// The last character of the blocks of one column.
@@ -100,7 +100,7 @@ pub fn lone_columns(c: char) -> usize
     }
 }
 
-/// Returns true if the columns of a mark that is this character are its own, whatever stands before it.
+/// Returns true if plain marks of the character's block add their own columns, whatever stands before them.
 #[tactic(auto, unfolding(ucd_table::specs::Rows::in_ranges))]
 pub fn is_in_mark_block(c: char) -> bool
     ensures { result ≡ in_ranges mark_blocks c }
