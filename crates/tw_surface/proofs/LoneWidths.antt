@@ -16,7 +16,11 @@ use Rattle.ucd_breaks.proofs.GraphemeClusterBreakLemmas.{grapheme_cluster_break_
 use Rattle.ucd_derived.specs.IndicConjunctBreak.{indic_conjunct_break}
 use Rattle.ucd_derived.proofs.Computing.{ucd_derived}
 use Rattle.ucd_derived.proofs.IndicConjunctBreakLemmas.{indic_conjunct_break_stepped}
-use Rattle.unicode_segmentation.specs.Grapheme.{graphemes}
+use Rattle.ucd_breaks.specs.declared.GraphemeClusterBreak.{GraphemeClusterBreak}
+use Rattle.ucd_breaks.specs.declared.GraphemeClusterBreak.TheVariants.{Extend}
+use Rattle.ucd_derived.specs.declared.IndicConjunctBreak.{IndicConjunctBreak}
+use Rattle.ucd_derived.specs.declared.IndicConjunctBreak.TheVariants as conjuncts
+use Rattle.unicode_segmentation.specs.Grapheme.{graphemes, is_consonant, is_extend}
 use Rattle.unicode_width.specs.declared.kind.Kind.{Kind}
 use Rattle.unicode_width.specs.declared.kind.Kind.TheVariants as kinds
 use Rattle.unicode_width.specs.Kind.{kind}
@@ -25,12 +29,12 @@ use Rattle.unicode_width.specs.Width.{before, char_width, is_emoji_modifier_base
 use Rattle.unicode_width.proofs.Computing.{unicode_width}
 use Rattle.unicode_width.proofs.KindLemmas.{kind_stepped}
 use Rattle.unicode_width.proofs.Rules.{is_simple, is_simple_kind, str_width-append_simple, str_width-printable}
-use Rattle.tw_surface.specs.Clusters.{is_joined, is_linker, is_mark_break, is_plain_mark, mark_blocks, mark_columns, IsEmoji, ends_syllable, stands_alone, starts_apart, skin_tones, syllables, IsFirstCluster, flag_letters, lone_columns, lone_len, narrow_blocks, picture_blocks, wide_blocks, IsFlag}
+use Rattle.tw_surface.specs.Clusters.{conjunct_blocks, is_joined, is_linker, is_mark_break, is_other, is_plain_mark, mark_blocks, IsEmoji, ends_syllable, stands_alone, starts_apart, skin_tones, syllables, IsFirstCluster, flag_letters, lone_columns, lone_len, narrow_blocks, picture_blocks, wide_blocks, IsFlag}
 use Rattle.tw_surface.specs.Width.{cluster_width}
-use Rattle.tw_surface.specs.Openings.{AreMarks, AreMarksOf, IsBase, IsWithMarks}
+use Rattle.tw_surface.specs.Openings.{IsAdded, IsBase, IsOpen, IsWithAdded}
 use Rattle.tw_surface.specs.Places.{cluster_piece, IsWideSplit}
 use Rattle.tw_surface.specs.declared.measure.Piece.TheVariants.{Wide}
-use Rattle.tw_surface.proofs.OpeningLemmas.{first_opened, first_syllable, opens_alone, opens_marks, picture_parts, selector_is_mark}
+use Rattle.tw_surface.proofs.OpeningLemmas.{first_opened, first_syllable, open_conjunct, open_mark, other-is, picture_parts, selector_is_mark, settled_alone, IsConjunct}
 use Rattle.tw_surface.proofs.TableFacts.{throughout}
 use Rattle.tw_surface.proofs.LoneCharacters.{two_bytes, three_bytes, alone_by_byte, alone_in_block, first_high, get_or-front, lone_len-few, some_bytes, BeginsLone, BeginsLone-from, IsLone, no_columns, only_character, picture_in_block}
 
@@ -204,15 +208,6 @@ mark_breaks : (c : ℕ) → in_ranges mark_blocks c ≡ true → (not (is_joined
 unfolding tables ucd_breaks
 mark_breaks = throughout (λ g. not (is_joined g) || is_mark_break g) grapheme_cluster_break grapheme_cluster_break_stepped mark_blocks refl refl
 
-pub mark_joined : (c : ℕ) → is_joined (grapheme_cluster_break c) ≡ true → in_ranges mark_blocks c ≡ true → is_linker (indic_conjunct_break c) ≡ false
-    → char_width false c ≡ mark_columns c
-mark_joined c joined inside no_linker = rw (inside, rw joined at (mark_breaks c inside), no_linker) refl
-
-record IsMark (c columns : ℕ) : Type 0 where
-  width : str_width false (c ∷ []) ≡ columns
-  simple : list_all is_simple (c ∷ []) ≡ true
-  plain : is_plain_mark c ≡ true
-
 some_is : (m n : ℕ) → Some m ≡ Some n → m ≡ n
 some_is m n same = cc
 
@@ -223,29 +218,95 @@ own_columns c columns high is =
     let own : Some columns ≡ Some (of_kind false c (kind c)).0 = is ∙ grind (arith, nat_tests) in
     width_of_one c columns high (sym (some_is columns _ own))
 
-mark_from : (c columns : ℕ) → Some columns ≡ mark_columns c → IsMark c columns
-mark_from c columns is =
-    ⊎_elim found (λ other. absurd (none other)) (cases_Bool (in_ranges mark_blocks c && is_plain_mark c))
-  where
-    none : (in_ranges mark_blocks c && is_plain_mark c) ≡ false → ⊥
-    none other = let nothing : Some columns ≡ None = is ∙ rw other refl in cc
+pub mark_is_added : (c columns : ℕ) → is_joined (grapheme_cluster_break c) ≡ true → is_linker (indic_conjunct_break c) ≡ false → in_ranges mark_blocks c ≡ true
+    → Some columns ≡ char_width false c → IsAdded (c ∷ []) columns
+mark_is_added c columns joined no_linker inside own =
+    let plain : is_plain_mark c ≡ true = rw (rw joined at (mark_breaks c inside), no_linker) refl in
+    let high = block_above mark_blocks c refl inside in
+    let kinds = mark_kinds c inside in
+    let is : is_simple_kind (kind c) ≡ true = grind (arith, plain, kinds) in
+    let simple : list_all is_simple (c ∷ []) ≡ true = grind (arith, nat_tests, high, is) in
+    record {
+      joins = λ front opened. open_mark [] front c opened plain;
+      adds = λ front. str_width-append_simple false front (c ∷ []) simple ∙ ap (λ n. str_width false front + n) (own_columns c columns high own);
+    }
 
-    found : (in_ranges mark_blocks c && is_plain_mark c) ≡ true → IsMark c columns
-    found both =
-        let parts = and_parts (in_ranges mark_blocks c) (is_plain_mark c) both in
-        let high = block_above mark_blocks c refl parts.0 in
-        let plain = parts.1 in
-        let kinds = mark_kinds c parts.0 in
-        let simple : is_simple_kind (kind c) ≡ true = grind (arith, plain, kinds) in
-        record {
-          width = own_columns c columns high (is ∙ rw both refl);
-          simple = grind (arith, nat_tests, high, simple);
-          plain = plain;
-        }
+-- a linker adds none, the consonant behind it one
+is_simple_of : ℕ → Kind → Bool
+is_simple_of n kinds.Zero = eqb 0 n
+is_simple_of n kinds.Narrow = eqb 1 n
+is_simple_of n kinds.Ambiguous = eqb 1 n
+is_simple_of n _ = false
+
+simple_of : (n c : ℕ) (k : Kind) → is_simple_of n k ≡ true → ((of_kind false c k).0 ≡ n) × (is_simple_kind k ≡ true)
+unfolding is_simple_of
+simple_of n c kinds.Zero h = (grind (arith, nat_tests, h), refl)
+simple_of n c kinds.Narrow h = (grind (arith, nat_tests, h), refl)
+simple_of n c kinds.Ambiguous h = (grind (arith, nat_tests, h), refl)
+simple_of n c _ h = absurd (false≢true h)
+
+linker_facts : (c : ℕ) → in_ranges conjunct_blocks c ≡ true
+    → (not (is_linker (indic_conjunct_break c)) || (is_extend (grapheme_cluster_break c) && is_simple_of 0 (kind c))) ≡ true
+unfolding is_simple_of tables ucd_breaks ucd_derived kind_stepped
+linker_facts =
+    throughout (λ is. is) (λ c. not (is_linker (indic_conjunct_break c)) || (is_extend (grapheme_cluster_break c) && is_simple_of 0 (kind c)))
+    (zip_stepped (λ v both. not (is_linker v) || both) indic_conjunct_break (λ c. is_extend (grapheme_cluster_break c) && is_simple_of 0 (kind c)) indic_conjunct_break_stepped
+    (zip_stepped (λ g k. is_extend g && is_simple_of 0 k) grapheme_cluster_break kind grapheme_cluster_break_stepped kind_stepped)) conjunct_blocks refl refl
+
+letter_facts : (c : ℕ) → in_ranges conjunct_blocks c ≡ true
+    → (not (is_consonant (indic_conjunct_break c)) || (is_other (grapheme_cluster_break c) && is_simple_of 1 (kind c))) ≡ true
+unfolding is_simple_of tables ucd_breaks ucd_derived kind_stepped
+letter_facts =
+    throughout (λ is. is) (λ c. not (is_consonant (indic_conjunct_break c)) || (is_other (grapheme_cluster_break c) && is_simple_of 1 (kind c)))
+    (zip_stepped (λ v both. not (is_consonant v) || both) indic_conjunct_break (λ c. is_other (grapheme_cluster_break c) && is_simple_of 1 (kind c)) indic_conjunct_break_stepped
+    (zip_stepped (λ g k. is_other g && is_simple_of 1 k) grapheme_cluster_break kind grapheme_cluster_break_stepped kind_stepped)) conjunct_blocks refl refl
+
+extend-is : (g : GraphemeClusterBreak) → is_extend g ≡ true → g ≡ Extend
+extend-is Extend h = refl
+extend-is _ h = absurd (false≢true h)
+
+linker-is : (v : IndicConjunctBreak) → is_linker v ≡ true → v ≡ conjuncts.Linker
+linker-is conjuncts.Linker h = refl
+linker-is _ h = absurd (false≢true h)
+
+consonant-is : (v : IndicConjunctBreak) → is_consonant v ≡ true → v ≡ conjuncts.Consonant
+consonant-is conjuncts.Consonant h = refl
+consonant-is _ h = absurd (false≢true h)
+
+simple_char : (c n : ℕ) → in_ranges conjunct_blocks c ≡ true → is_simple_of n (kind c) ≡ true → (str_width false (c ∷ []) ≡ n) × (list_all is_simple (c ∷ []) ≡ true)
+simple_char c n inside is =
+    let high = block_above conjunct_blocks c refl inside in
+    let own = simple_of n c (kind c) is in
+    let simple = own.1 in
+    (width_of_one c n high own.0, grind (arith, nat_tests, high, simple))
+
+pub conjunct_is_added : (linker letter : ℕ) → in_ranges conjunct_blocks linker ≡ true → is_linker (indic_conjunct_break linker) ≡ true
+    → in_ranges conjunct_blocks letter ≡ true → is_consonant (indic_conjunct_break letter) ≡ true → IsAdded (linker ∷ letter ∷ []) 1
+conjunct_is_added linker letter first links second consonant =
+    let front = and_parts (is_extend (grapheme_cluster_break linker)) (is_simple_of 0 (kind linker)) (rw links at (linker_facts linker first)) in
+    let last = and_parts (is_other (grapheme_cluster_break letter)) (is_simple_of 1 (kind letter)) (rw consonant at (letter_facts letter second)) in
+    let none = simple_char linker 0 first front.1 in
+    let one = simple_char letter 1 second last.1 in
+    let is : IsConjunct linker letter = record {
+      extend = extend-is _ front.0;
+      links = linker-is _ links;
+      other = other-is _ last.0;
+      consonant = consonant-is _ consonant;
+    } in
+    let simple : list_all is_simple (linker ∷ letter ∷ []) ≡ true = and_from _ _ (and_parts _ _ none.1).0 one.1 in
+    let columns : str_width false (linker ∷ letter ∷ []) ≡ 1 = str_width-append_simple false (linker ∷ []) (letter ∷ []) one.1 ∙ ap₂ (λ m n. m + n) none.0 one.0 in
+    record {
+      joins = λ front opened. open_conjunct [] front linker letter opened is;
+      adds = λ front. str_width-append_simple false front (linker ∷ letter ∷ []) simple ∙ ap (λ n. str_width false front + n) columns;
+    }
 
 pub some_with : {A : Type 0} → {P Q : A → Type 0} → (found : Option A) → ((value : A) → P value → Q value) → IfSome found P → IfSome found Q
 some_with (Some value) step holds = step value holds
 some_with None step holds = tt
+
+pub some_known : {A : Type 0} → (found : Option A) → IfSome found (λ value. Some value ≡ found)
+some_known (Some value) = refl
+some_known None = tt
 
 pub past_all : (behind rest cs : List ℕ) → IsUtf8 behind → behind ≡ encode_utf8_all cs ++ rest → IsUtf8 rest
 past_all behind rest [] u is = subst IsUtf8 is u
@@ -253,35 +314,23 @@ past_all behind rest (c ∷ cs) u is =
     let more = encode_utf8_all cs ++ rest in
     past_all more rest cs (IsUtf8-past_char behind more c u (is ∙ append_assoc (encode_utf8 c) (encode_utf8_all cs) rest)) refl
 
--- a base and marks
-marks_split : (text behind rest : List ℕ) (c columns : ℕ) (cs : List ℕ) → IsUtf8 text → text ≡ encode_utf8 c ++ behind → behind ≡ encode_utf8_all cs ++ rest → stands_alone c ≡ true
-    → AreMarks cs → 14 ≤ get_or (encode_utf8 c) 0 0 → columns ≤ 2 → str_width false (c ∷ cs) ≡ columns → starts_apart (chars rest) ≡ true → IsWideSplit text columns rest
-marks_split text behind rest c columns cs u whole next alone are high few own apart =
+-- a base and what is added to it
+added_split : (text behind rest : List ℕ) (c columns : ℕ) (cs : List ℕ) → IsUtf8 text → text ≡ encode_utf8 c ++ behind → behind ≡ encode_utf8_all cs ++ rest
+    → IsOpen [] (c ∷ cs) → 14 ≤ get_or (encode_utf8 c) 0 0 → columns ≤ 2 → str_width false (c ∷ cs) ≡ columns → starts_apart (chars rest) ≡ true → IsWideSplit text columns rest
+added_split text behind rest c columns cs u whole next opened high few own apart =
     let v = past_all behind rest cs (IsUtf8-past_char text behind c u whole) next in
     let last = encode_utf8_all cs in
     let cluster = encode_utf8_all (c ∷ cs) in
     let all : text ≡ cluster ++ rest = whole ∙ ap (λ t. encode_utf8 c ++ t) next ∙ sym (append_assoc (encode_utf8 c) last rest) in
     let lead : 14 ≤ get_or cluster 0 0 = subst (λ b. 14 ≤ b) (get_or-front (encode_utf8 c) last (some_bytes c)) high in
     split_first text cluster rest columns u v all lead few (λ w. ap (str_width false) (chars_of cluster (c ∷ cs) w refl) ∙ own)
-    (first_opened text rest u v (opens_marks text behind rest (opens_alone text behind c whole alone) (cs, next, are)) apart)
-
-marks_of : (cs : List ℕ) (sum : ℕ) → AreMarksOf cs sum → (str_width false cs ≡ sum) × (list_all is_simple cs ≡ true) × AreMarks cs
-unfolding str_width
-marks_of [] sum none = (sym none, refl, tt)
-marks_of (c ∷ cs) sum (first, more, is, are, sums) =
-    let mark = mark_from c first is in
-    let others = marks_of cs more are in (
-      str_width-append_simple false (c ∷ []) cs others.1 ∙ ap₂ (λ m n. m + n) mark.width others.0 ∙ sym sums,
-      and_from _ _ (and_parts _ _ mark.simple).0 others.1,
-      (mark.plain, others.2),
-    )
+    (first_opened text rest u v (c ∷ cs, all, opened) apart)
 
 base_split : (text behind rest : List ℕ) (c columns sum : ℕ) → IsUtf8 text → text ≡ encode_utf8 c ++ behind → stands_alone c ≡ true
-    → 14 ≤ get_or (encode_utf8 c) 0 0 → str_width false (c ∷ []) ≡ columns → IsWithMarks columns behind sum rest → IsWideSplit text sum rest
-base_split text behind rest c columns sum u whole is_base high own ((cs, more, next, are, sums, most), apart) =
-    let marks = marks_of cs more are in
-    marks_split text behind rest c sum cs u whole next is_base marks.2 high most
-    (str_width-append_simple false (c ∷ []) cs marks.1 ∙ ap₂ (λ m n. m + n) own marks.0 ∙ sym sums) apart
+    → 14 ≤ get_or (encode_utf8 c) 0 0 → str_width false (c ∷ []) ≡ columns → IsWithAdded columns behind sum rest → IsWideSplit text sum rest
+base_split text behind rest c columns sum u whole is_base high own ((cs, more, next, added, sums, most), apart) =
+    added_split text behind rest c sum cs u whole next (added.joins (c ∷ []) (settled_alone c is_base)) high most
+    (added.adds (c ∷ []) ∙ ap (λ n. n + more) own ∙ sym sums) apart
 
 pub base_in_block : (c : ℕ) → 0 < lone_columns c → IsBase c (lone_columns c)
 base_in_block c some = record { alone = alone_in_block c some; high = block_low c some; few = grind (arith, nat_tests); width = block_columns c some }
@@ -290,7 +339,7 @@ pub base_by_table : (c columns : ℕ) → 0xA0 < c → stands_alone c ≡ true �
 base_by_table c columns high is_base few is = record { alone = is_base; high = high; few = few; width = own_columns c columns high is }
 
 pub found_split : (text behind rest : List ℕ) (c columns sum : ℕ) → IsUtf8 text → text ≡ encode_utf8 c ++ behind → IsBase c columns
-    → IsWithMarks columns behind sum rest → IsWideSplit text sum rest
+    → IsWithAdded columns behind sum rest → IsWideSplit text sum rest
 found_split text behind rest c columns sum u whole is = base_split text behind rest c columns sum u whole is.alone (first_high c is.high) is.width
 
 -- an emoji with a skin tone takes two
@@ -322,8 +371,8 @@ toned_columns c d picture base tone =
 pub toned_split : (text behind rest : List ℕ) (c d : ℕ) → IsUtf8 text → text ≡ encode_utf8 c ++ behind → behind ≡ encode_utf8 d ++ rest
     → in_ranges picture_blocks c ≡ true → is_emoji_modifier_base c ≡ true → in_ranges skin_tones d ≡ true → starts_apart (chars rest) ≡ true → IsWideSplit text 2 rest
 toned_split text behind rest c d u whole next picture base tone =
-    marks_split text behind rest c 2 (d ∷ []) u whole (next ∙ ap (λ t. t ++ rest) (sym (append-nil (encode_utf8 d)))) (picture_parts c (picture_in_block c picture)).0
-    (tone_facts d tone, tt) (first_high c (block_above picture_blocks c refl picture)) (omega arith) (toned_columns c d picture base tone)
+    added_split text behind rest c 2 (d ∷ []) u whole (next ∙ ap (λ t. t ++ rest) (sym (append-nil (encode_utf8 d))))
+    (open_mark [] (c ∷ []) d (settled_alone c (picture_parts c (picture_in_block c picture)).0) (tone_facts d tone)) (first_high c (block_above picture_blocks c refl picture)) (omega arith) (toned_columns c d picture base tone)
 
 -- an emoji before U+FE0F takes two, and so does its keycap
 selector_kind : kind 0xFE0F ≡ kinds.Single
@@ -360,8 +409,8 @@ emoji_columns c base =
 pub selected_split : (text behind rest : List ℕ) (c d : ℕ) → IsUtf8 text → text ≡ encode_utf8 c ++ behind → behind ≡ encode_utf8 d ++ rest
     → 0xA0 < c → stands_alone c ≡ true → is_emoji_variation_base c ≡ true → d ≡ 0xFE0F → starts_apart (chars rest) ≡ true → IsWideSplit text 2 rest
 selected_split text behind rest c d u whole next high alone base selector =
-    marks_split text behind rest c 2 (d ∷ []) u whole (next ∙ ap (λ t. t ++ rest) (sym (append-nil (encode_utf8 d)))) alone
-    (ap is_plain_mark selector ∙ selector_is_mark, tt) (first_high c high) (omega arith) (ap (λ e. str_width false (c ∷ e ∷ [])) selector ∙ (emoji_columns c base).0)
+    added_split text behind rest c 2 (d ∷ []) u whole (next ∙ ap (λ t. t ++ rest) (sym (append-nil (encode_utf8 d))))
+    (open_mark [] (c ∷ []) d (settled_alone c alone) (ap is_plain_mark selector ∙ selector_is_mark)) (first_high c high) (omega arith) (ap (λ e. str_width false (c ∷ e ∷ [])) selector ∙ (emoji_columns c base).0)
 
 pub emoji_width : (text : List ℕ) → IsUtf8 text → IsEmoji text → 2 ≡ cluster_width text
 emoji_width text u (c, base, is) =
@@ -443,7 +492,7 @@ lone_high : (b : ℕ) → 0 < lone_len b → 14 ≤ b
 lone_high b some = grind (arith, nat_tests)
 
 pub byte_split : (text behind rest : List ℕ) (len sum : ℕ) → IsUtf8 text → 0 < length text → len ≡ lone_len (get_or text 0 0) → 0 < len
-    → behind ≡ drop len text → IsWithMarks (if eqb len 3 then 2 else 1) behind sum rest → IsWideSplit text sum rest
+    → behind ≡ drop len text → IsWithAdded (if eqb len 3 then 2 else 1) behind sum rest → IsWideSplit text sum rest
 byte_split text behind rest len sum u some told_len more from joined =
     let lead : 0 < lone_len (get_or text 0 0) = rw (← told_len) more in
     let first = BeginsLone-from text u some lead in

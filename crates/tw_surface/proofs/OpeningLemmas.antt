@@ -1,5 +1,5 @@
 -- First clusters of which a base and its marks decide.
-use Rattle.std.proofs.Common.{◌≡◌, inl, inr, ℕ, Some, ◌+◌, ◌-◌, ◌<◌, ◌≤◌, Bool, true, false, not, ◌&&◌, ◌||◌, List, [], ◌∷◌, ◌++◌, map, length, length-append, append_assoc, append-nil, unwrap_or, refl, sym, ap, ap₂, subst, ◌∙◌, arith}
+use Rattle.std.proofs.Common.{◌≡◌, inl, inr, ℕ, Some, ◌+◌, ◌-◌, ◌<◌, ◌≤◌, Bool, true, false, not, ◌&&◌, ◌||◌, List, [], ◌∷◌, ◌++◌, map, length, length-append, append_assoc, append-nil, add-zero, add_assoc, unwrap_or, refl, sym, ap, ap₂, subst, ◌∙◌, arith}
 use Rattle.std.proofs.lemmas.Bool.{and_from, or_left, or_right, and_parts, not-true, true≢false, false≢true}
 use Rattle.std.proofs.lemmas.Bool.Decides.{nat_tests}
 use Rattle.std.proofs.lemmas.Str.{chars_past_char, encodes-chars, encodes-append, chars_from_encodes, length-encode}
@@ -22,8 +22,9 @@ use Rattle.ucd_derived.proofs.IndicConjunctBreakLemmas.{indic_conjunct_break_ste
 use Rattle.ucd_emoji.specs.Binary.{is_extended_pictographic}
 use Rattle.unicode_segmentation.specs.Grapheme.{break_by_pair, ends_in_half_flag, ends_in_linker, ends_in_pictograph, is_extend, is_grapheme_break, is_regional, is_zwj}
 use Rattle.unicode_segmentation.specs.Segments.{cut, prepend}
-use Rattle.tw_surface.specs.Clusters.{ends_syllable, flag_letters, mark_columns, lone_ranges, syllables, is_picture, is_plain_extend, is_joined, is_linker, is_linking, is_mark_break, is_other, is_plain_mark, stands_alone, starts_apart, IsFirstCluster}
-use Rattle.tw_surface.specs.Openings.{AreMarksOf, IsPastMarksOf, IsOpen, IsPlainEnd, BeginsOpen, IsPastMark, IsPastPictograph, GoesOn, nearest, ArePictures, AreMarks, ArePastMarks}
+use Rattle.unicode_width.specs.Width.{str_width}
+use Rattle.tw_surface.specs.Clusters.{ends_syllable, flag_letters, lone_ranges, syllables, is_picture, is_plain_extend, is_joined, is_linker, is_linking, is_mark_break, is_other, is_plain_mark, stands_alone, starts_apart, IsFirstCluster}
+use Rattle.tw_surface.specs.Openings.{IsAdded, IsPastAdded, IsOpen, IsPlainEnd, BeginsOpen, IsPastMark, IsPastPictograph, GoesOn, nearest, ArePictures, AreMarks, ArePastMarks}
 use Rattle.tw_surface.proofs.TableFacts.{throughout}
 use Rattle.tw_surface.proofs.ClusterSeams.{ends_in_linker-not}
 use Rattle.tw_surface.proofs.ClusterCuts.{clusters_of, IsFirstCluster-from}
@@ -79,11 +80,11 @@ settled_by last before settled no_linker no_half =
       no_linker = no_linker;
     }
 
-other-is : (g : GraphemeClusterBreak) → is_other g ≡ true → g ≡ Other
+pub other-is : (g : GraphemeClusterBreak) → is_other g ≡ true → g ≡ Other
 other-is Other h = refl
 other-is _ h = absurd (false≢true h)
 
-settled_alone : (c : ℕ) → stands_alone c ≡ true → IsPlainEnd (c ∷ [])
+pub settled_alone : (c : ℕ) → stands_alone c ≡ true → IsPlainEnd (c ∷ [])
 unfolding is_settled_break ends_in_half_flag
 settled_alone c alone =
     let parts = and_parts (is_other (grapheme_cluster_break c)) (not (is_linking (indic_conjunct_break c))) alone in
@@ -148,7 +149,7 @@ open_flag c d first second =
 mark_joins : (mark : ℕ) → is_plain_mark mark ≡ true → is_joined (grapheme_cluster_break mark) ≡ true
 mark_joins mark is = (mark_settled (grapheme_cluster_break mark) (and_parts _ (not (is_linker (indic_conjunct_break mark))) is).0).2
 
-open_mark : (before cs : List ℕ) (mark : ℕ) → IsOpen before cs → is_plain_mark mark ≡ true → IsOpen before (cs ++ mark ∷ [])
+pub open_mark : (before cs : List ℕ) (mark : ℕ) → IsOpen before cs → is_plain_mark mark ≡ true → IsOpen before (cs ++ mark ∷ [])
 open_mark before [] mark bad is = absurd bad
 open_mark before (c ∷ []) mark opened is = ((λ after. opened.joins mark after (mark_joins mark is)), settled_mark (c ∷ before) mark opened is)
 open_mark before (c ∷ d ∷ cs) mark opened is = (opened.0, open_mark (c ∷ before) (d ∷ cs) mark opened.1 is)
@@ -168,24 +169,62 @@ joined text behind rest cs ds first second =
     first ∙ ap (λ t. encode_utf8_all cs ++ t) second ∙ sym (append_assoc (encode_utf8_all cs) (encode_utf8_all ds) rest)
     ∙ ap (λ t. t ++ rest) (sym (encodes-append cs ds))
 
-one : (text rest : List ℕ) (c : ℕ) → text ≡ encode_utf8 c ++ rest → text ≡ encode_utf8_all (c ∷ []) ++ rest
+pub one : (text rest : List ℕ) (c : ℕ) → text ≡ encode_utf8 c ++ rest → text ≡ encode_utf8_all (c ∷ []) ++ rest
 one text rest c whole = whole ∙ ap (λ t. t ++ rest) (sym (append-nil (encode_utf8 c)))
+
+pub two : (text behind rest : List ℕ) (c d : ℕ) → text ≡ encode_utf8 c ++ behind → behind ≡ encode_utf8 d ++ rest → text ≡ encode_utf8_all (c ∷ d ∷ []) ++ rest
+two text behind rest c d whole more = joined text behind rest (c ∷ []) (d ∷ []) (one text behind c whole) (one behind rest d more)
 
 pub no_marks : (text : List ℕ) → ArePastMarks text text
 no_marks text = ([], refl, tt)
 
 -- marks that add columns
-pub no_more : (columns sum : ℕ) (text : List ℕ) → sum ≡ columns → columns ≤ 2 → IsPastMarksOf columns text sum text
-no_more columns sum text same few = ([], 0, refl, refl, omega (arith, same), omega (arith, same))
+nothing_added : IsAdded [] 0
+nothing_added =
+    record {
+      joins = λ front opened. subst (IsOpen []) (sym (append-nil front)) opened;
+      adds = λ front. ap (str_width false) (append-nil front) ∙ sym (add-zero (str_width false front));
+    }
 
-sum_of : (cs : List ℕ) (sum mark : ℕ) (added : ℕ) → AreMarksOf cs sum → Some added ≡ mark_columns mark → AreMarksOf (cs ++ mark ∷ []) (sum + added)
-sum_of [] sum mark added none is = (added, 0, is, refl, omega (arith, none))
-sum_of (c ∷ cs) sum mark added (first, more, told, are, sums) is = (first, more + added, told, sum_of cs more mark added are is, omega (arith, sums))
+both_added : (cs ds : List ℕ) (first second : ℕ) → IsAdded cs first → IsAdded ds second → IsAdded (cs ++ ds) (first + second)
+both_added cs ds first second left right =
+    record {
+      joins = λ front opened. subst (IsOpen []) (append_assoc front cs ds) (right.joins (front ++ cs) (left.joins front opened));
+      adds = λ front.
+          ap (str_width false) (sym (append_assoc front cs ds)) ∙ right.adds (front ++ cs) ∙ ap (λ n. n + second) (left.adds front)
+          ∙ add_assoc (str_width false front) first second;
+    }
 
-pub mark_added : (columns sum added : ℕ) (behind here rest : List ℕ) (mark : ℕ) → IsPastMarksOf columns behind sum here → here ≡ encode_utf8 mark ++ rest
-    → Some added ≡ mark_columns mark → sum + added ≤ 2 → IsPastMarksOf columns behind (sum + added) rest
-mark_added columns sum added behind here rest mark (cs, more, whole, are, sums, most) next is few =
-    (cs ++ mark ∷ [], more + added, joined behind here rest cs (mark ∷ []) whole (one here rest mark next), sum_of cs more mark added are is, omega (arith, sums), few)
+pub no_more : (columns sum : ℕ) (text : List ℕ) → sum ≡ columns → columns ≤ 2 → IsPastAdded columns text sum text
+no_more columns sum text same few = ([], 0, refl, nothing_added, omega (arith, same), omega (arith, same))
+
+pub more_added : (columns sum added : ℕ) (behind here rest ds : List ℕ) → IsPastAdded columns behind sum here → here ≡ encode_utf8_all ds ++ rest
+    → IsAdded ds added → sum + added ≤ 2 → IsPastAdded columns behind (sum + added) rest
+more_added columns sum added behind here rest ds (cs, more, whole, are, sums, most) next is few =
+    (cs ++ ds, more + added, joined behind here rest cs ds whole next, both_added cs ds more added are is, omega (arith, sums), few)
+
+-- a linker and a consonant join too
+pub record IsConjunct (linker letter : ℕ) : Type 0 where
+  pub extend : grapheme_cluster_break linker ≡ Extend
+  pub links : indic_conjunct_break linker ≡ conjuncts.Linker
+  pub other : grapheme_cluster_break letter ≡ Other
+  pub consonant : indic_conjunct_break letter ≡ conjuncts.Consonant
+
+conjunct_joins : (before after : List ℕ) (linker letter : ℕ) → IsConjunct linker letter → is_grapheme_break true (linker ∷ before) (letter ∷ after) ≡ false
+unfolding is_grapheme_break ends_in_linker
+conjunct_joins before after linker letter is = rw (is.extend, is.links, is.other, is.consonant) refl
+
+settled_letter : (before : List ℕ) (linker letter : ℕ) → IsConjunct linker letter → IsPlainEnd (letter ∷ before)
+unfolding is_settled_break ends_in_half_flag ends_in_linker
+settled_letter before linker letter is = settled_by letter before (rw is.other refl) (rw is.consonant refl) (rw is.other refl)
+
+pub open_conjunct : (before cs : List ℕ) (linker letter : ℕ) → IsOpen before cs → IsConjunct linker letter → IsOpen before (cs ++ linker ∷ letter ∷ [])
+open_conjunct before [] linker letter bad is = absurd bad
+open_conjunct before (b ∷ []) linker letter opened is = (
+  (λ after. opened.joins linker after (ap is_joined is.extend)),
+  ((λ after. conjunct_joins (b ∷ before) after linker letter is), settled_letter (linker ∷ b ∷ before) linker letter is),
+)
+open_conjunct before (b ∷ d ∷ cs) linker letter opened is = (opened.0, open_conjunct (b ∷ before) (d ∷ cs) linker letter opened.1 is)
 
 pub more_marks : (text behind rest : List ℕ) → ArePastMarks text behind → IsPastMark behind rest → ArePastMarks text rest
 more_marks text behind rest (marks, whole, are) (mark, front, is) =
@@ -197,7 +236,7 @@ opens_alone text rest c whole alone = (c ∷ [], one text rest c whole, settled_
 pub opens_flag : (text behind rest : List ℕ) (c d : ℕ) → text ≡ encode_utf8 c ++ behind → behind ≡ encode_utf8 d ++ rest
     → in_ranges flag_letters c ≡ true → in_ranges flag_letters d ≡ true → BeginsOpen text rest
 opens_flag text behind rest c d whole more first second =
-    (c ∷ d ∷ [], joined text behind rest (c ∷ []) (d ∷ []) (one text behind c whole) (one behind rest d more), open_flag c d first second)
+    (c ∷ d ∷ [], two text behind rest c d whole more, open_flag c d first second)
 
 pub opens_marks : (text behind rest : List ℕ) → BeginsOpen text behind → ArePastMarks behind rest → BeginsOpen text rest
 opens_marks text behind rest (cs, whole, opened) (marks, more, are) = (cs ++ marks, joined text behind rest cs marks whole more, open_marks [] cs marks opened are)

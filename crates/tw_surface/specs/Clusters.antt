@@ -1,5 +1,5 @@
 -- A text cut after its first extended grapheme cluster.
-use Rattle.std.specs.Prelude.{encode_utf8_all, ◌⊎◌, ℕ, ◌<◌, ◌≡◌, Bool, true, false, not, ◌&&◌, ◌||◌, leb, List, [], ◌∷◌, ◌++◌, length, take, drop, if◌then◌else◌, Option, None}
+use Rattle.std.specs.Prelude.{encode_utf8_all, ◌⊎◌, ℕ, ◌<◌, ◌≡◌, Bool, true, false, not, ◌&&◌, ◌||◌, leb, List, [], ◌∷◌, ◌++◌, length, take, drop, if◌then◌else◌}
 use Rattle.std.specs.Str.{IsCharBoundary}
 use Rattle.ucd_table.specs.Rows.{Range, in_ranges}
 use Rattle.ucd_breaks.specs.GraphemeClusterBreak.{grapheme_cluster_break}
@@ -10,7 +10,6 @@ use Rattle.ucd_emoji.specs.Binary.{is_emoji_variation_base, is_extended_pictogra
 use Rattle.ucd_derived.specs.declared.IndicConjunctBreak.{IndicConjunctBreak}
 use Rattle.ucd_derived.specs.declared.IndicConjunctBreak.TheVariants as conjuncts
 use Rattle.unicode_segmentation.specs.Grapheme.{graphemes, is_extend}
-use Rattle.unicode_width.specs.Width.{char_width}
 use Rattle.tw_surface.specs.Characters.{is_printable}
 
 -- the bytes of a character that begins with this byte, where all such characters are a cluster each in a row of
@@ -118,9 +117,9 @@ is_plain_mark c = is_mark_break (grapheme_cluster_break c) && not (is_linker (in
 abbrev pub mark_blocks : List Range
 mark_blocks = (0x300, 0x337) ∷ (0x339, 0x200C) ∷ (0x200E, 0x2CFF) ∷ []
 
--- the columns that such a mark adds to its cluster
-abbrev pub mark_columns : ℕ → Option ℕ
-mark_columns c = if in_ranges mark_blocks c && is_plain_mark c then char_width false c else None
+-- blocks in which a linker and a consonant add one column: India's scripts and Myanmar's
+abbrev pub conjunct_blocks : List Range
+conjunct_blocks = (0x900, 0xDFF) ∷ (0x1000, 0x109F) ∷ []
 
 -- such a character that may stand between a pictograph and a joiner
 abbrev pub is_plain_extend : ℕ → Bool

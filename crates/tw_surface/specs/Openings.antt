@@ -1,11 +1,11 @@
 -- What the first cluster of a text begins with, where no rule looks further back than to its last character.
-use Rattle.std.specs.Prelude.{ℕ, ◌≡◌, ◌<◌, ◌≤◌, ◌+◌, ◌⊎◌, ⊤, true, false, List, [], ◌∷◌, ◌++◌, map, encode_utf8, encode_utf8_all, Some}
+use Rattle.std.specs.Prelude.{ℕ, ◌≡◌, ◌<◌, ◌≤◌, ◌+◌, ◌⊎◌, ⊤, true, false, List, [], ◌∷◌, ◌++◌, map, encode_utf8, encode_utf8_all}
 use Rattle.std.specs.Str.{chars}
 use Rattle.ucd_breaks.specs.GraphemeClusterBreak.{grapheme_cluster_break}
 use Rattle.ucd_derived.specs.IndicConjunctBreak.{indic_conjunct_break}
 use Rattle.unicode_segmentation.specs.Grapheme.{ends_in_linker, ends_in_pictograph, is_grapheme_break}
 use Rattle.unicode_width.specs.Width.{str_width}
-use Rattle.tw_surface.specs.Clusters.{is_joined, is_picture, is_plain_extend, is_plain_mark, mark_columns, stands_alone, starts_apart}
+use Rattle.tw_surface.specs.Clusters.{is_joined, is_picture, is_plain_extend, is_plain_mark, stands_alone, starts_apart}
 
 -- behind these characters, nearest first, what joins whatever stands before it goes on, and all else begins anew
 pub record IsPlainEnd (before : List ℕ) : Type 0 where
@@ -63,16 +63,16 @@ pub record IsBase (c columns : ℕ) : Type 0 where
   pub few : columns ≤ 2
   pub width : str_width false (c ∷ []) ≡ columns
 
--- marks that add `sum` columns to their cluster
-abbrev pub AreMarksOf : List ℕ → ℕ → Type 0
-AreMarksOf [] sum = sum ≡ 0
-AreMarksOf (c ∷ cs) sum = (first : ℕ) × (more : ℕ) × (Some first ≡ mark_columns c) × AreMarksOf cs more × (sum ≡ first + more)
+-- these characters join whatever stands before them, and add these columns to it
+pub record IsAdded (cs : List ℕ) (columns : ℕ) : Type 0 where
+  pub joins : (front : List ℕ) → IsOpen [] front → IsOpen [] (front ++ cs)
+  pub adds : (front : List ℕ) → str_width false (front ++ cs) ≡ str_width false front + columns
 
--- a base of these columns stands before a text that begins with such marks: the columns of both, and what follows
-abbrev pub IsPastMarksOf : ℕ → List ℕ → ℕ → List ℕ → Type 0
-IsPastMarksOf columns behind sum rest =
-    (cs : List ℕ) × (more : ℕ) × (behind ≡ encode_utf8_all cs ++ rest) × AreMarksOf cs more × (sum ≡ columns + more) × (sum ≤ 2)
+-- a base of these columns stands before a text that begins with such characters: the columns of both, and what follows
+abbrev pub IsPastAdded : ℕ → List ℕ → ℕ → List ℕ → Type 0
+IsPastAdded columns behind sum rest =
+    (cs : List ℕ) × (more : ℕ) × (behind ≡ encode_utf8_all cs ++ rest) × IsAdded cs more × (sum ≡ columns + more) × (sum ≤ 2)
 
 -- and nothing else joins the base
-abbrev pub IsWithMarks : ℕ → List ℕ → ℕ → List ℕ → Type 0
-IsWithMarks columns behind sum rest = IsPastMarksOf columns behind sum rest × (starts_apart (chars rest) ≡ true)
+abbrev pub IsWithAdded : ℕ → List ℕ → ℕ → List ℕ → Type 0
+IsWithAdded columns behind sum rest = IsPastAdded columns behind sum rest × (starts_apart (chars rest) ≡ true)

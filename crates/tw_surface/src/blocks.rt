@@ -2,7 +2,7 @@
 
 ghost use Rattle.std.specs.Prelude.{◌≡◌, ◌≤◌, true};
 ghost use Rattle.ucd_table.specs.Rows.{in_ranges};
-ghost use Rattle.tw_surface.specs.Clusters.{flag_letters, lone_columns, lone_ranges, mark_blocks, narrow_blocks, picture_blocks, skin_tones, syllables, wide_blocks};
+ghost use Rattle.tw_surface.specs.Clusters.{conjunct_blocks, flag_letters, lone_columns, lone_ranges, mark_blocks, narrow_blocks, picture_blocks, skin_tones, syllables, wide_blocks};
 
 /// No character before it joins what stands before.
 pub const FIRST_MARK: char = '\u{300}';
@@ -106,6 +106,14 @@ pub fn is_in_mark_block(c: char) -> bool
     ensures { result ≡ in_ranges mark_blocks c }
 {
     matches!(c, FIRST_MARK..='\u{337}' | '\u{339}'..='\u{200C}' | '\u{200E}'..='\u{2CFF}')
+}
+
+/// Returns true if a linker and a consonant of the character's block add one column.
+#[tactic(auto, unfolding(ucd_table::specs::Rows::in_ranges))]
+pub fn is_in_conjunct_block(c: char) -> bool
+    ensures { result ≡ in_ranges conjunct_blocks c }
+{
+    matches!(c, '\u{900}'..='\u{DFF}' | '\u{1000}'..='\u{109F}')
 }
 
 /// Returns true if the character stands in a range that [`lone_len`] knows by its first byte.

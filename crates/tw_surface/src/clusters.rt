@@ -1,16 +1,16 @@
 //! Texts cut after their first extended grapheme cluster.
 
-ghost use Rattle.std.specs.Prelude.{◌≡◌, eqb, ◌<◌, ◌≤◌, [], length, true, false, if◌then◌else◌, IfSome, MatchOption};
+ghost use Rattle.std.specs.Prelude.{◌≡◌, eqb, ◌<◌, ◌≤◌, [], ◌∷◌, length, true, false, if◌then◌else◌, IfSome, MatchOption};
 ghost use Rattle.std.specs.Str.{chars};
 ghost use Rattle.ucd_breaks.specs.GraphemeClusterBreak.{grapheme_cluster_break};
 ghost use Rattle.ucd_derived.specs.IndicConjunctBreak.{indic_conjunct_break};
-ghost use Rattle.unicode_segmentation.specs.Grapheme.{graphemes};
-ghost use Rattle.tw_surface.specs.Clusters.{is_joined, is_linker, is_picture, is_plain_extend, is_plain_mark, lone_len, mark_columns, ends_syllable, stands_alone, starts_apart, IsFirstCluster, IsSplit};
+ghost use Rattle.unicode_segmentation.specs.Grapheme.{graphemes, is_consonant};
+ghost use Rattle.tw_surface.specs.Clusters.{is_joined, is_linker, is_picture, is_plain_extend, is_plain_mark, lone_len, ends_syllable, stands_alone, starts_apart, IsFirstCluster, IsSplit};
 ghost use Rattle.tw_surface.specs.Places.{IsWideSplit};
-ghost use Rattle.tw_surface.specs.Openings.{ArePastMarks, GoesOn, IsPastMark, IsBase, IsPastPictograph, IsWithMarks, BeginsOpen};
+ghost use Rattle.tw_surface.specs.Openings.{ArePastMarks, GoesOn, IsPastMark, IsBase, IsAdded, IsPastPictograph, IsWithAdded, BeginsOpen};
 
 use crate::blocks::{
-    FIRST_MARK, is_flag_letter, is_in_lone_range, is_in_mark_block, is_in_picture_block,
+    FIRST_MARK, is_flag_letter, is_in_conjunct_block, is_in_lone_range, is_in_mark_block, is_in_picture_block,
     is_skin_tone, is_syllable, lone_columns,
 };
 use ucd_breaks::GraphemeClusterBreak;
@@ -69,6 +69,16 @@ fn is_linker(c: char) -> bool
     ensures { result ≡ is_linker (indic_conjunct_break c) }
 {
     matches!(IndicConjunctBreak::for_char(c), IndicConjunctBreak::Linker)
+}
+
+/// Returns true if the character is a letter that a linker may stand before.
+fn is_consonant(c: char) -> bool
+    ensures { result ≡ is_consonant (indic_conjunct_break c) }
+{
+    matches!(
+        IndicConjunctBreak::for_char(c),
+        IndicConjunctBreak::Consonant
+    )
 }
 
 /// Returns true if the character joins whatever stands before it, and nothing else follows it either.
@@ -296,7 +306,7 @@ pub fn lone_width(len: usize) -> usize
 }
 
 /// Returns the columns of the first cluster of a text and what follows it, if its first characters tell both: a base,
-/// with plain marks or none behind it, a syllable of Hangul, or an emoji with a skin tone or before U+FE0F.
+/// with plain marks and conjuncts or none behind it, a syllable of Hangul, or an emoji with a skin tone or before U+FE0F.
 #[inline]
 pub fn split_settled(text: &str) -> Option<(usize, &str)>
     ensures { IfSome result (λ (columns, rest). IsWideSplit text.now columns rest.now) }
@@ -333,12 +343,9 @@ fn split_by_bytes(text: &str) -> Option<(usize, &str)>
     match text.as_bytes() {
         [0xE2, _, _, 0xEF, 0xB8, ..] | [0xF0, _, _, _, 0xEF, 0xB8, ..] => split_selected(text),
         [0xF0, _, _, _, 0xF0, 0x9F, 0x8F, 0xBB..=0xBF, ..] => split_toned(text),
-        // (letters before the linker of a conjunct, Jamo, halves of flags, emoji before a joiner)
-        [0xE0, _, _, 0xE0, 0xA5 | 0xA7 | 0xAB | 0xAD, 0x8D, ..]
-        | [0xE0, _, _, 0xE0, 0xB1 | 0xB5, 0x8D, ..]
-        | [0xE1, _, _, 0xE1, 0x80, 0xB9, ..]
+        // (Jamo, letters of Khmer before a linker, halves of flags, emoji before a joiner)
+        [0xE1, 0x84..=0x87, ..]
         | [0xE1, _, _, 0xE1, 0x9F, 0x92, ..]
-        | [0xE1, 0x84..=0x87, ..]
         | [0xF0, 0x9F, 0x87, ..]
         | [0xF0, _, _, _, 0xE2, 0x80, ..] => None,
         [0xEA, 0xB0..=0xBF, ..] | [0xEB..=0xED, ..] => split_syllable(text),
@@ -419,11 +426,11 @@ fn split_selected(text: &str) -> Option<(usize, &str)>
 }
 
 /// Returns the columns of a cluster and what follows it, if it begins with a base of `columns`, what is behind the base
-/// is `behind`, and nothing but plain marks joins that.
+/// is `behind`, and nothing but plain marks and conjuncts joins that.
 #[inline]
 fn split_joined(columns: usize, behind: &str) -> Option<(usize, &str)>
     requires { columns ≤ 2 }
-    ensures { IfSome result (λ (sum, rest). IsWithMarks columns behind.now sum rest.now) }
+    ensures { IfSome result (λ (sum, rest). IsWithAdded columns behind.now sum rest.now) }
 {
     if starts_apart(behind) {
         Some((columns, behind))
@@ -437,12 +444,16 @@ fn split_joined(columns: usize, behind: &str) -> Option<(usize, &str)>
 fn split_marked(columns: usize, behind: &str) -> Option<(usize, &str)>
     requires few { columns ≤ 2 }
     requires joined { starts_apart (chars behind.now) ≡ false }
-    ensures { IfSome result (λ (sum, rest). IsWithMarks columns behind.now sum rest.now) }
+    ensures { IfSome result (λ (sum, rest). IsWithAdded columns behind.now sum rest.now) }
 {
     let mut sum = columns;
     let mut chars = behind.chars();
-    while let Some(mark) = chars.next() {
-        sum += mark_columns(mark)?;
+    while let Some(first) = chars.next() {
+        sum += if is_linker(first) {
+            conjunct_columns(first, chars.next()?)?
+        } else {
+            mark_columns(first)?
+        };
         if sum > 2 {
             return None;
         }
@@ -454,14 +465,28 @@ fn split_marked(columns: usize, behind: &str) -> Option<(usize, &str)>
     None
 }
 
-/// Returns the columns that a character adds to the cluster that it joins, if it is a plain mark.
-fn mark_columns(c: char) -> Option<usize>
-    requires { is_joined (grapheme_cluster_break c) ≡ true }
-    ensures value { result ≡ mark_columns c }
+/// Returns the columns that a mark adds to the cluster that it joins.
+fn mark_columns(mark: char) -> Option<usize>
+    requires joined { is_joined (grapheme_cluster_break mark) ≡ true }
+    requires no_linker { is_linker (indic_conjunct_break mark) ≡ false }
+    ensures added { IfSome result (IsAdded (mark ∷ [])) }
     ensures bound { IfSome result (λ columns. columns ≤ 3) }
 {
-    if is_in_mark_block(c) && !is_linker(c) {
-        c.width()
+    if is_in_mark_block(mark) {
+        mark.width()
+    } else {
+        None
+    }
+}
+
+/// Returns the columns that a linker and the letter behind it add to the cluster that they join.
+fn conjunct_columns(linker: char, letter: char) -> Option<usize>
+    requires { is_linker (indic_conjunct_break linker) ≡ true }
+    ensures added { IfSome result (IsAdded (linker ∷ letter ∷ [])) }
+    ensures bound { IfSome result (λ columns. columns ≤ 1) }
+{
+    if is_in_conjunct_block(linker) && is_in_conjunct_block(letter) && is_consonant(letter) {
+        Some(1)
     } else {
         None
     }

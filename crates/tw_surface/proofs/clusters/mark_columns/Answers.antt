@@ -1,7 +1,10 @@
 use Rattle.std.proofs.Common.{sym, ◌∙◌}
-use Rattle.tw_surface.proofs.LoneWidths.{mark_joined}
+use Rattle.tw_surface.proofs.LoneWidths.{mark_is_added, some_known, some_with}
 use Rattle.tw_surface.proofs.clusters.mark_columns.Goals as goal
 
-pub returns-then-not-is_linker-clause-value : goal.returns-then-not-is_linker-clause-value
-returns-then-not-is_linker-clause-value c =
-    c.width.ensures.value ∙ mark_joined c.args.c c.requires (sym c.is_in_mark_block.ensures ∙ c.if-is_in_mark_block.true) (sym c.is_linker.ensures ∙ c.if-not-is_linker.true)
+pub returns-then-is_in_mark_block-clause-added : goal.returns-then-is_in_mark_block-clause-added
+returns-then-is_in_mark_block-clause-added c =
+    let inside = sym c.is_in_mark_block.ensures ∙ c.if-is_in_mark_block.true in
+    some_with c.width.result
+    (λ columns is. mark_is_added c.args.mark columns c.requires.joined c.requires.no_linker inside (is ∙ c.width.ensures.value))
+    (some_known c.width.result)

@@ -1,6 +1,6 @@
 use Rattle.std.proofs.Common.{arith, ◌≤◌, eqb, if◌then◌else◌, ℕ, List, subst}
 use Rattle.std.proofs.lemmas.Bool.Decides.{nat_tests}
-use Rattle.tw_surface.specs.Openings.{IsWithMarks}
+use Rattle.tw_surface.specs.Openings.{IsWithAdded}
 use Rattle.tw_surface.specs.Places.{IsWideSplit}
 use Rattle.tw_surface.proofs.LoneCharacters.{lone_boundary, some_of}
 use Rattle.tw_surface.proofs.OpeningLemmas.{no_more}
@@ -16,7 +16,7 @@ split_at-requires c =
     lone_boundary text c.lone_len-len.result c.utf8.text (rw (← bytes) found.0) (rw (← bytes, ← (found.1 0)) c.lone_len-len.ensures.value)
     (some_of c.lone_len-len.result c.if-len-eq0.false)
 
-split : (c : After-split_at) (rest : List ℕ) (sum : ℕ) → IsWithMarks (if eqb c.lone_len-len.result 3 then 2 else 1) c.split_at.result.1.now sum rest → IsWideSplit c.args.text.now sum rest
+split : (c : After-split_at) (rest : List ℕ) (sum : ℕ) → IsWithAdded (if eqb c.lone_len-len.result 3 then 2 else 1) c.split_at.result.1.now sum rest → IsWideSplit c.args.text.now sum rest
 split c rest sum =
     let text = c.args.text.now in
     let bytes = c.as_bytes.ensures.value in
@@ -33,5 +33,5 @@ returns-then-begins_lone c =
 pub returns-else-begins_lone : goal.returns-else-begins_lone
 returns-else-begins_lone c =
     some_with c.split_joined.result
-    (λ cut joined. split (goal.at.returns-else-begins_lone c).After-split_at cut.1.now cut.0 (subst (λ n. IsWithMarks n c.split_at.result.1.now cut.0 cut.1.now) c.lone_width-columns.ensures joined))
+    (λ cut joined. split (goal.at.returns-else-begins_lone c).After-split_at cut.1.now cut.0 (subst (λ n. IsWithAdded n c.split_at.result.1.now cut.0 cut.1.now) c.lone_width-columns.ensures joined))
     c.split_joined.ensures
