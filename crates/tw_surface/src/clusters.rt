@@ -2,16 +2,17 @@
 
 ghost use Rattle.std.specs.Prelude.{◌≡◌, eqb, ◌<◌, ◌≤◌, [], ◌∷◌, length, true, false, if◌then◌else◌, IfSome, MatchOption};
 ghost use Rattle.std.specs.Str.{chars};
+ghost use Rattle.ucd_table.specs.Rows.{in_ranges};
 ghost use Rattle.ucd_breaks.specs.GraphemeClusterBreak.{grapheme_cluster_break};
 ghost use Rattle.ucd_derived.specs.IndicConjunctBreak.{indic_conjunct_break};
 ghost use Rattle.unicode_segmentation.specs.Grapheme.{graphemes, is_consonant};
-ghost use Rattle.tw_surface.specs.Clusters.{is_joined, is_linker, is_picture, is_plain_extend, is_plain_mark, lone_len, ends_syllable, stands_alone, starts_apart, IsFirstCluster, IsSplit};
+ghost use Rattle.tw_surface.specs.Clusters.{is_joined, is_linker, is_picture, is_plain_extend, is_plain_mark, lone_len, mark_blocks, ends_syllable, stands_alone, starts_apart, IsFirstCluster, IsSplit};
 ghost use Rattle.tw_surface.specs.Places.{IsWideSplit};
 ghost use Rattle.tw_surface.specs.Openings.{ArePastMarks, GoesOn, IsPastMark, IsBase, IsAdded, IsPastPictograph, IsWithAdded, BeginsOpen};
 
 use crate::blocks::{
-    FIRST_MARK, is_flag_letter, is_in_conjunct_block, is_in_lone_range, is_in_mark_block, is_in_picture_block,
-    is_skin_tone, is_syllable, lone_columns,
+    FIRST_MARK, is_flag_letter, is_in_conjunct_block, is_in_lone_range, is_in_mark_block,
+    is_in_picture_block, is_skin_tone, is_syllable, lone_columns,
 };
 use ucd_breaks::GraphemeClusterBreak;
 use ucd_derived::IndicConjunctBreak;
@@ -449,6 +450,9 @@ fn split_marked(columns: usize, behind: &str) -> Option<(usize, &str)>
     let mut sum = columns;
     let mut chars = behind.chars();
     while let Some(first) = chars.next() {
+        if !is_in_mark_block(first) {
+            return None;
+        }
         sum += if is_linker(first) {
             conjunct_columns(first, chars.next()?)?
         } else {
@@ -469,14 +473,11 @@ fn split_marked(columns: usize, behind: &str) -> Option<(usize, &str)>
 fn mark_columns(mark: char) -> Option<usize>
     requires joined { is_joined (grapheme_cluster_break mark) ≡ true }
     requires no_linker { is_linker (indic_conjunct_break mark) ≡ false }
+    requires block { in_ranges mark_blocks mark ≡ true }
     ensures added { IfSome result (IsAdded (mark ∷ [])) }
     ensures bound { IfSome result (λ columns. columns ≤ 3) }
 {
-    if is_in_mark_block(mark) {
-        mark.width()
-    } else {
-        None
-    }
+    mark.width()
 }
 
 /// Returns the columns that a linker and the letter behind it add to the cluster that they join.

@@ -23,16 +23,16 @@ mark_columns-requires-clause-joined c =
 added : (c : Else-sum-gt2) → (ds : List ℕ) × (chars_rest c.loop-first.chars ≡ encode_utf8_all ds ++ chars_rest c.if-is_linker.chars) × IsAdded ds c.if-is_linker.sum
 added c = elim c.if-is_linker.branch [
   | then-is_linker+in_ok-next+in_ok-conjunct_columns w ↦ (
-      c.in-Some.first ∷ w.in_ok-next.field-0 ∷ [],
-      two _ _ _ c.in-Some.first w.in_ok-next.field-0 c.in-Some.ensures.steps.0
-      (w.in_ok-next.ensures.steps.0 ∙ ap (λ i. encode_utf8 w.in_ok-next.field-0 ++ chars_rest i) (sym w.chars-is)),
-      subst (IsAdded (c.in-Some.first ∷ w.in_ok-next.field-0 ∷ [])) (sym w.sum-is) w.in_ok-conjunct_columns.ensures.added,
-    )
+    c.in-Some.first ∷ w.in_ok-next.field-0 ∷ [],
+    two _ _ _ c.in-Some.first w.in_ok-next.field-0 c.in-Some.ensures.steps.0
+        (w.in_ok-next.ensures.steps.0 ∙ ap (λ i. encode_utf8 w.in_ok-next.field-0 ++ chars_rest i) (sym w.chars-is)),
+    subst (IsAdded (c.in-Some.first ∷ w.in_ok-next.field-0 ∷ [])) (sym w.sum-is) w.in_ok-conjunct_columns.ensures.added,
+  )
   | else-is_linker+in_ok-sum w ↦ (
-      c.in-Some.first ∷ [],
-      one _ _ c.in-Some.first (c.in-Some.ensures.steps.0 ∙ ap (λ i. encode_utf8 c.in-Some.first ++ chars_rest i) (sym w.chars-is)),
-      subst (IsAdded (c.in-Some.first ∷ [])) (sym w.sum-is) w.in_ok-sum.ensures.added,
-    )
+    c.in-Some.first ∷ [],
+    one _ _ c.in-Some.first (c.in-Some.ensures.steps.0 ∙ ap (λ i. encode_utf8 c.in-Some.first ++ chars_rest i) (sym w.chars-is)),
+    subst (IsAdded (c.in-Some.first ∷ [])) (sym w.sum-is) w.in_ok-sum.ensures.added,
+  )
 ]
 
 past : (c : Else-sum-gt2) → IsPastAdded c.args.columns c.args.behind.now (c.loop-first.sum + c.if-is_linker.sum) (chars_rest c.if-is_linker.chars)
