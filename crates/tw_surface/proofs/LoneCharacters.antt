@@ -66,11 +66,17 @@ first_four : (c : ℕ) → 65536 ≤ c → get_or (encode_utf8 c) 0 0 ≡ 240 + 
 unfolding encode_utf8
 first_four c low = grind (arith, nat_tests)
 
-pub first_high : (c : ℕ) → 0xA0 < c → 14 ≤ get_or (encode_utf8 c) 0 0
-first_high c above =
+many_high : (c : ℕ) → 128 ≤ c → 14 ≤ get_or (encode_utf8 c) 0 0
+many_high c above =
     ⊎_elim (λ two. rw (first_two c (omega arith) two) (omega arith))
     (λ more. ⊎_elim (λ three. rw (first_three c more three) (omega arith)) (λ four. rw (first_four c four) (omega arith)) (cases_lt c 65536))
     (cases_lt c 2048)
+
+pub lead_high : (c : ℕ) → 32 ≤ c → 14 ≤ get_or (encode_utf8 c) 0 0
+lead_high c above = ⊎_elim (λ one. rw (encode_ascii c one) (omega (arith, above))) (λ more. many_high c more) (cases_lt c 128)
+
+pub first_high : (c : ℕ) → 0xA0 < c → 14 ≤ get_or (encode_utf8 c) 0 0
+first_high c above = many_high c (omega (arith, above))
 
 -- which such a byte tells
 lone_one : (c b : ℕ) → b ≡ get_or (encode_utf8 c) 0 0 → 0 < lone_len b → c < 128 → IsLone c (lone_len b)

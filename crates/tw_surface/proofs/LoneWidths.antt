@@ -20,6 +20,8 @@ use Rattle.ucd_breaks.specs.declared.GraphemeClusterBreak.{GraphemeClusterBreak}
 use Rattle.ucd_breaks.specs.declared.GraphemeClusterBreak.TheVariants.{Extend}
 use Rattle.ucd_derived.specs.declared.IndicConjunctBreak.{IndicConjunctBreak}
 use Rattle.ucd_derived.specs.declared.IndicConjunctBreak.TheVariants as conjuncts
+use Rattle.ucd_emoji.proofs.BinaryLemmas.{is_emoji_variation_base_stepped}
+use Rattle.ucd_emoji.proofs.Computing.{ucd_emoji}
 use Rattle.unicode_segmentation.specs.Grapheme.{graphemes, is_consonant, is_extend}
 use Rattle.unicode_width.specs.declared.kind.Kind.{Kind}
 use Rattle.unicode_width.specs.declared.kind.Kind.TheVariants as kinds
@@ -29,14 +31,14 @@ use Rattle.unicode_width.specs.Width.{before, char_width, is_emoji_modifier_base
 use Rattle.unicode_width.proofs.Computing.{unicode_width}
 use Rattle.unicode_width.proofs.KindLemmas.{kind_stepped}
 use Rattle.unicode_width.proofs.Rules.{is_simple, is_simple_kind, str_width-append_simple, str_width-printable}
-use Rattle.tw_surface.specs.Clusters.{conjunct_blocks, is_joined, is_linker, is_mark_break, is_other, is_plain_mark, mark_blocks, IsEmoji, ends_syllable, stands_alone, starts_apart, skin_tones, syllables, IsFirstCluster, flag_letters, lone_columns, lone_len, narrow_blocks, picture_blocks, wide_blocks, IsFlag}
+use Rattle.tw_surface.specs.Clusters.{conjunct_blocks, is_joined, is_linker, is_other, mark_blocks, ends_syllable, stands_alone, starts_apart, skin_tones, syllables, IsFirstCluster, flag_letters, lone_columns, lone_len, narrow_blocks, picture_blocks, wide_blocks}
 use Rattle.tw_surface.specs.Width.{cluster_width}
 use Rattle.tw_surface.specs.Openings.{IsAdded, IsBase, IsOpen, IsWithAdded}
 use Rattle.tw_surface.specs.Places.{cluster_piece, IsWideSplit}
 use Rattle.tw_surface.specs.declared.measure.Piece.TheVariants.{Wide}
-use Rattle.tw_surface.proofs.OpeningLemmas.{first_opened, first_syllable, open_conjunct, open_mark, other-is, picture_parts, selector_is_mark, settled_alone, IsConjunct}
+use Rattle.tw_surface.proofs.OpeningLemmas.{cap_is_mark, first_opened, first_syllable, is_mark_break, is_plain_mark, one, open_conjunct, open_flag, open_mark, other-is, picture_parts, selector_is_mark, settled_alone, two, IsConjunct}
 use Rattle.tw_surface.proofs.TableFacts.{throughout}
-use Rattle.tw_surface.proofs.LoneCharacters.{two_bytes, three_bytes, alone_by_byte, alone_in_block, first_high, get_or-front, lone_len-few, some_bytes, BeginsLone, BeginsLone-from, IsLone, no_columns, only_character, picture_in_block}
+use Rattle.tw_surface.proofs.LoneCharacters.{lead_high, two_bytes, three_bytes, alone_by_byte, alone_in_block, first_high, get_or-front, lone_len-few, some_bytes, BeginsLone, BeginsLone-from, IsLone, no_columns, only_character, picture_in_block}
 
 is_narrow : Kind → Bool
 is_narrow kinds.Narrow = true
@@ -371,7 +373,7 @@ toned_columns c d picture base tone =
 pub toned_split : (text behind rest : List ℕ) (c d : ℕ) → IsUtf8 text → text ≡ encode_utf8 c ++ behind → behind ≡ encode_utf8 d ++ rest
     → in_ranges picture_blocks c ≡ true → is_emoji_modifier_base c ≡ true → in_ranges skin_tones d ≡ true → starts_apart (chars rest) ≡ true → IsWideSplit text 2 rest
 toned_split text behind rest c d u whole next picture base tone =
-    added_split text behind rest c 2 (d ∷ []) u whole (next ∙ ap (λ t. t ++ rest) (sym (append-nil (encode_utf8 d))))
+    added_split text behind rest c 2 (d ∷ []) u whole (one behind rest d next)
     (open_mark [] (c ∷ []) d (settled_alone c (picture_parts c (picture_in_block c picture)).0) (tone_facts d tone)) (first_high c (block_above picture_blocks c refl picture)) (omega arith) (toned_columns c d picture base tone)
 
 -- an emoji before U+FE0F takes two, and so does its keycap
@@ -406,18 +408,34 @@ emoji_columns c base =
     let capped = ap (step false 0xFE0F) (last_alone 0x20E3 (omega arith) ∙ cap_alone) ∙ selected in
     (ap (λ r. (step false c r).0) selected ∙ ap (λ r. r.0) (before_selector c base), ap (λ r. (step false c r).0) capped ∙ ap (λ r. r.0) (before_selector c base))
 
-pub selected_split : (text behind rest : List ℕ) (c d : ℕ) → IsUtf8 text → text ≡ encode_utf8 c ++ behind → behind ≡ encode_utf8 d ++ rest
-    → 0xA0 < c → stands_alone c ≡ true → is_emoji_variation_base c ≡ true → d ≡ 0xFE0F → starts_apart (chars rest) ≡ true → IsWideSplit text 2 rest
-selected_split text behind rest c d u whole next high alone base selector =
-    added_split text behind rest c 2 (d ∷ []) u whole (next ∙ ap (λ t. t ++ rest) (sym (append-nil (encode_utf8 d))))
-    (open_mark [] (c ∷ []) d (settled_alone c alone) (ap is_plain_mark selector ∙ selector_is_mark)) (first_high c high) (omega arith) (ap (λ e. str_width false (c ∷ e ∷ [])) selector ∙ (emoji_columns c base).0)
+-- such a base is no control character
+low_bases : (c : ℕ) → in_ranges ((0, 0x1F) ∷ []) c ≡ true → not (is_emoji_variation_base c) ≡ true
+unfolding tables ucd_emoji
+low_bases = throughout not is_emoji_variation_base is_emoji_variation_base_stepped ((0, 0x1F) ∷ []) refl refl
 
-pub emoji_width : (text : List ℕ) → IsUtf8 text → IsEmoji text → 2 ≡ cluster_width text
-emoji_width text u (c, base, is) =
-    let columns = emoji_columns c base in
-    ⊎_elim (λ two. sym (ap (str_width false) (chars_of text _ u two) ∙ columns.0))
-    (λ three. sym (ap (str_width false) (chars_of text _ u three) ∙ columns.1))
-    is
+base_lead : (c : ℕ) → is_emoji_variation_base c ≡ true → 14 ≤ get_or (encode_utf8 c) 0 0
+unfolding in_ranges
+base_lead c base = ⊎_elim (λ low. absurd (no_base low)) (lead_high c) (cases_lt c 32)
+  where
+    no_base : c < 32 → ⊥
+    no_base low =
+        let inside : in_ranges ((0, 0x1F) ∷ []) c ≡ true = grind (arith, nat_tests) in
+        absurd (false≢true (rw base at (low_bases c inside)))
+
+module _ (text behind rest : List ℕ) (c d : ℕ) (u : IsUtf8 text) (whole : text ≡ encode_utf8 c ++ behind) (alone : stands_alone c ≡ true) (base : is_emoji_variation_base c ≡ true) (selector : d ≡ 0xFE0F) where
+  selected : IsOpen [] (c ∷ d ∷ [])
+  selected = open_mark [] (c ∷ []) d (settled_alone c alone) (ap is_plain_mark selector ∙ selector_is_mark)
+
+  pub selected_split : behind ≡ encode_utf8 d ++ rest → starts_apart (chars rest) ≡ true → IsWideSplit text 2 rest
+  selected_split next =
+      added_split text behind rest c 2 (d ∷ []) u whole (one behind rest d next) selected (base_lead c base) (omega arith)
+      (ap (λ e. str_width false (c ∷ e ∷ [])) selector ∙ (emoji_columns c base).0)
+
+  pub cap_split : (more : List ℕ) (e : ℕ) → behind ≡ encode_utf8 d ++ more → more ≡ encode_utf8 e ++ rest → e ≡ 0x20E3 → starts_apart (chars rest) ≡ true → IsWideSplit text 2 rest
+  cap_split more e next last cap =
+      added_split text behind rest c 2 (d ∷ e ∷ []) u whole (two behind more rest d e next last)
+      (open_mark [] (c ∷ d ∷ []) e selected (ap is_plain_mark cap ∙ cap_is_mark)) (base_lead c base) (omega arith)
+      (ap₂ (λ f g. str_width false (c ∷ f ∷ g ∷ [])) selector cap ∙ (emoji_columns c base).1)
 
 -- a flag takes two
 
@@ -446,8 +464,11 @@ flag_columns c d first second =
     let last : kind d ≡ kinds.RegionalIndicator = half-is (kind d) (half_kinds d second) in
     grind (arith, nat_tests, left.0, left.1, right.0, right.1, last)
 
-pub flag_width : (text : List ℕ) → IsUtf8 text → IsFlag text → 2 ≡ cluster_width text
-flag_width text u (c, d, is, first, second) = sym (ap (str_width false) (chars_of text _ u is) ∙ flag_columns c d first second)
+pub flag_split : (text behind rest : List ℕ) (c d : ℕ) → IsUtf8 text → text ≡ encode_utf8 c ++ behind → behind ≡ encode_utf8 d ++ rest
+    → in_ranges flag_letters c ≡ true → in_ranges flag_letters d ≡ true → starts_apart (chars rest) ≡ true → IsWideSplit text 2 rest
+flag_split text behind rest c d u whole next first second =
+    added_split text behind rest c 2 (d ∷ []) u whole (one behind rest d next) (open_flag c d first second)
+    (first_high c (block_above flag_letters c refl first)) (omega arith) (flag_columns c d first second)
 
 -- the columns of a text that is one character which its first byte tells
 module _ (text : List ℕ) (u : IsUtf8 text) (some : 0 < length text) (whole : length text ≡ lone_len (get_or text 0 0)) where

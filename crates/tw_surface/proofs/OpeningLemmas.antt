@@ -23,8 +23,8 @@ use Rattle.ucd_emoji.specs.Binary.{is_extended_pictographic}
 use Rattle.unicode_segmentation.specs.Grapheme.{break_by_pair, ends_in_half_flag, ends_in_linker, ends_in_pictograph, is_extend, is_grapheme_break, is_regional, is_zwj}
 use Rattle.unicode_segmentation.specs.Segments.{cut, prepend}
 use Rattle.unicode_width.specs.Width.{str_width}
-use Rattle.tw_surface.specs.Clusters.{ends_syllable, flag_letters, lone_ranges, syllables, is_picture, is_plain_extend, is_joined, is_linker, is_linking, is_mark_break, is_other, is_plain_mark, stands_alone, starts_apart, IsFirstCluster}
-use Rattle.tw_surface.specs.Openings.{IsAdded, IsPastAdded, IsOpen, IsPlainEnd, BeginsOpen, IsPastMark, IsPastPictograph, GoesOn, nearest, ArePictures, AreMarks, ArePastMarks}
+use Rattle.tw_surface.specs.Clusters.{ends_syllable, flag_letters, lone_ranges, syllables, is_picture, is_plain_extend, is_joined, is_linker, is_linking, is_other, stands_alone, starts_apart, IsFirstCluster}
+use Rattle.tw_surface.specs.Openings.{IsAdded, IsPastAdded, IsOpen, IsPlainEnd, BeginsOpen, IsPastPictograph, GoesOn, nearest, ArePictures}
 use Rattle.tw_surface.proofs.TableFacts.{throughout}
 use Rattle.tw_surface.proofs.ClusterSeams.{ends_in_linker-not}
 use Rattle.tw_surface.proofs.ClusterCuts.{clusters_of, IsFirstCluster-from}
@@ -91,6 +91,16 @@ settled_alone c alone =
     let other = other-is (grapheme_cluster_break c) parts.0 in
     settled_by c [] (rw other refl) (ends_in_linker-not (indic_conjunct_break c) [] (not-true _ parts.1)) (rw other refl)
 
+-- a plain mark: it joins whatever stands before it, and nothing else follows it either
+
+abbrev pub is_mark_break : GraphemeClusterBreak → Bool
+is_mark_break Extend = true
+is_mark_break SpacingMark = true
+is_mark_break _ = false
+
+abbrev pub is_plain_mark : ℕ → Bool
+is_plain_mark c = is_mark_break (grapheme_cluster_break c) && not (is_linker (indic_conjunct_break c))
+
 -- a mark leaves it so
 
 mark_settled : (g : GraphemeClusterBreak) → is_mark_break g ≡ true → (is_settled_break g ≡ true) × (is_regional g ≡ false) × (is_joined g ≡ true)
@@ -134,7 +144,7 @@ half_of c inside =
     let facts = and_parts (is_regional (grapheme_cluster_break c)) (not (is_linking (indic_conjunct_break c))) (flag_facts c inside) in
     record { regional = regional-is (grapheme_cluster_break c) facts.0; no_linker = not-true _ facts.1 }
 
-open_flag : (c d : ℕ) → in_ranges flag_letters c ≡ true → in_ranges flag_letters d ≡ true → IsOpen [] (c ∷ d ∷ [])
+pub open_flag : (c d : ℕ) → in_ranges flag_letters c ≡ true → in_ranges flag_letters d ≡ true → IsOpen [] (c ∷ d ∷ [])
 unfolding is_grapheme_break is_settled_break ends_in_half_flag
 open_flag c d first second =
     let left = half_of c first in
@@ -154,15 +164,6 @@ open_mark before [] mark bad is = absurd bad
 open_mark before (c ∷ []) mark opened is = ((λ after. opened.joins mark after (mark_joins mark is)), settled_mark (c ∷ before) mark opened is)
 open_mark before (c ∷ d ∷ cs) mark opened is = (opened.0, open_mark (c ∷ before) (d ∷ cs) mark opened.1 is)
 
-open_marks : (before cs marks : List ℕ) → IsOpen before cs → AreMarks marks → IsOpen before (cs ++ marks)
-open_marks before cs [] opened are = subst (IsOpen before) (sym (append-nil cs)) opened
-open_marks before cs (m ∷ ms) opened are =
-    subst (IsOpen before) (append_assoc cs (m ∷ []) ms) (open_marks before (cs ++ m ∷ []) ms (open_mark before cs m opened are.0) are.1)
-
-are_marks_and : (marks : List ℕ) (mark : ℕ) → AreMarks marks → is_plain_mark mark ≡ true → AreMarks (marks ++ mark ∷ [])
-are_marks_and [] mark are is = (is, tt)
-are_marks_and (m ∷ ms) mark are is = (are.0, are_marks_and ms mark are.1 is)
-
 -- a text whose bytes are those of some characters and of others
 joined : (text behind rest cs ds : List ℕ) → text ≡ encode_utf8_all cs ++ behind → behind ≡ encode_utf8_all ds ++ rest → text ≡ encode_utf8_all (cs ++ ds) ++ rest
 joined text behind rest cs ds first second =
@@ -175,10 +176,6 @@ one text rest c whole = whole ∙ ap (λ t. t ++ rest) (sym (append-nil (encode_
 pub two : (text behind rest : List ℕ) (c d : ℕ) → text ≡ encode_utf8 c ++ behind → behind ≡ encode_utf8 d ++ rest → text ≡ encode_utf8_all (c ∷ d ∷ []) ++ rest
 two text behind rest c d whole more = joined text behind rest (c ∷ []) (d ∷ []) (one text behind c whole) (one behind rest d more)
 
-pub no_marks : (text : List ℕ) → ArePastMarks text text
-no_marks text = ([], refl, tt)
-
--- marks that add columns
 nothing_added : IsAdded [] 0
 nothing_added =
     record {
@@ -226,20 +223,8 @@ open_conjunct before (b ∷ []) linker letter opened is = (
 )
 open_conjunct before (b ∷ d ∷ cs) linker letter opened is = (opened.0, open_conjunct (b ∷ before) (d ∷ cs) linker letter opened.1 is)
 
-pub more_marks : (text behind rest : List ℕ) → ArePastMarks text behind → IsPastMark behind rest → ArePastMarks text rest
-more_marks text behind rest (marks, whole, are) (mark, front, is) =
-    (marks ++ mark ∷ [], joined text behind rest marks (mark ∷ []) whole (one behind rest mark front), are_marks_and marks mark are is)
-
 pub opens_alone : (text rest : List ℕ) (c : ℕ) → text ≡ encode_utf8 c ++ rest → stands_alone c ≡ true → BeginsOpen text rest
 opens_alone text rest c whole alone = (c ∷ [], one text rest c whole, settled_alone c alone)
-
-pub opens_flag : (text behind rest : List ℕ) (c d : ℕ) → text ≡ encode_utf8 c ++ behind → behind ≡ encode_utf8 d ++ rest
-    → in_ranges flag_letters c ≡ true → in_ranges flag_letters d ≡ true → BeginsOpen text rest
-opens_flag text behind rest c d whole more first second =
-    (c ∷ d ∷ [], two text behind rest c d whole more, open_flag c d first second)
-
-pub opens_marks : (text behind rest : List ℕ) → BeginsOpen text behind → ArePastMarks behind rest → BeginsOpen text rest
-opens_marks text behind rest (cs, whole, opened) (marks, more, are) = (cs ++ marks, joined text behind rest cs marks whole more, open_marks [] cs marks opened are)
 
 -- ---- and pictographs behind joiners
 
@@ -408,14 +393,6 @@ unfolding in_ranges
 low_apart c low =
     let inside : in_ranges ((0, 0x2FF) ∷ []) c ≡ true = grind (arith, nat_tests) in not-true _ (low_facts c inside)
 
-mark_is_joined : (g : GraphemeClusterBreak) → is_joined g ≡ false → is_mark_break g ≡ false
-mark_is_joined Extend apart = absurd (true≢false apart)
-mark_is_joined SpacingMark apart = absurd (true≢false apart)
-mark_is_joined _ apart = refl
-
-pub low_no_mark : (c : ℕ) → c < 768 → is_plain_mark c ≡ false
-low_no_mark c low = ap (λ b. b && not (is_linker (indic_conjunct_break c))) (mark_is_joined (grapheme_cluster_break c) (low_apart c low))
-
 starts_apart-from : (text rest : List ℕ) (c : ℕ) → IsUtf8 text → text ≡ encode_utf8 c ++ rest → is_joined (grapheme_cluster_break c) ≡ false → starts_apart (chars text) ≡ true
 starts_apart-from text rest c u whole apart = ap starts_apart (chars_past_char text rest c u whole) ∙ ap not apart
 
@@ -431,14 +408,14 @@ pub joins_behind : (text rest : List ℕ) (c : ℕ) → IsUtf8 text → text ≡
 joins_behind text rest c u whole joined =
     let first : not (is_joined (grapheme_cluster_break c)) ≡ false = sym (ap starts_apart (chars_past_char text rest c u whole)) ∙ joined in grind (arith, first)
 
-pub shorter : (text rest : List ℕ) → IsPastMark text rest → length rest < length text
-shorter text rest (c, whole, is) =
+shorter : (text rest : List ℕ) (c : ℕ) → text ≡ encode_utf8 c ++ rest → length rest < length text
+shorter text rest c whole =
     let some : 1 ≤ length (encode_utf8 c) = rw (length-encode c) (grind (arith, nat_tests)) in
     let parts = ap length whole ∙ length-append (encode_utf8 c) rest in
     omega (arith, some, parts)
 
 pub shorter_behind : (text rest : List ℕ) → GoesOn text rest → length rest < length text
-shorter_behind text rest (inl (c, whole, is)) = shorter text rest (c, whole, plain_extend_is_mark c is)
+shorter_behind text rest (inl (c, whole, is)) = shorter text rest c whole
 shorter_behind text rest (inr (c, whole, is)) =
     let parts = ap length whole ∙ length-append (encode_utf8_all (0x200D ∷ c ∷ [])) rest in
     let some : 1 ≤ length (encode_utf8_all (0x200D ∷ c ∷ [])) = omega (arith, length-append (encode_utf8 0x200D) (encode_utf8_all (c ∷ [])), joiner_bytes) in
@@ -456,6 +433,10 @@ selector_joins = refl
 pub selector_is_mark : is_plain_mark 0xFE0F ≡ true
 unfolding grapheme_cluster_break indic_conjunct_break ucd_breaks ucd_derived tables
 selector_is_mark = refl
+
+pub cap_is_mark : is_plain_mark 0x20E3 ≡ true
+unfolding grapheme_cluster_break indic_conjunct_break ucd_breaks ucd_derived tables
+cap_is_mark = refl
 
 pub starts_selected : (text rest : List ℕ) (c : ℕ) → IsUtf8 text → text ≡ encode_utf8 c ++ rest → c ≡ 0xFE0F → starts_apart (chars text) ≡ false
 starts_selected text rest c u whole is = ap starts_apart (chars_past_char text rest c u whole) ∙ ap (λ d. not (is_joined (grapheme_cluster_break d))) is ∙ ap not selector_joins

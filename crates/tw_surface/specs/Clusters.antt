@@ -1,12 +1,12 @@
 -- A text cut after its first extended grapheme cluster.
-use Rattle.std.specs.Prelude.{encode_utf8_all, ◌⊎◌, ℕ, ◌<◌, ◌≡◌, Bool, true, false, not, ◌&&◌, ◌||◌, leb, List, [], ◌∷◌, ◌++◌, length, take, drop, if◌then◌else◌}
+use Rattle.std.specs.Prelude.{ℕ, ◌<◌, ◌≡◌, Bool, true, false, not, ◌&&◌, ◌||◌, leb, List, [], ◌∷◌, ◌++◌, length, take, drop, if◌then◌else◌}
 use Rattle.std.specs.Str.{IsCharBoundary}
 use Rattle.ucd_table.specs.Rows.{Range, in_ranges}
 use Rattle.ucd_breaks.specs.GraphemeClusterBreak.{grapheme_cluster_break}
 use Rattle.ucd_breaks.specs.declared.GraphemeClusterBreak.{GraphemeClusterBreak}
 use Rattle.ucd_breaks.specs.declared.GraphemeClusterBreak.TheVariants.{Extend, Other, SpacingMark, Zwj}
 use Rattle.ucd_derived.specs.IndicConjunctBreak.{indic_conjunct_break}
-use Rattle.ucd_emoji.specs.Binary.{is_emoji_variation_base, is_extended_pictographic}
+use Rattle.ucd_emoji.specs.Binary.{is_extended_pictographic}
 use Rattle.ucd_derived.specs.declared.IndicConjunctBreak.{IndicConjunctBreak}
 use Rattle.ucd_derived.specs.declared.IndicConjunctBreak.TheVariants as conjuncts
 use Rattle.unicode_segmentation.specs.Grapheme.{graphemes, is_extend}
@@ -28,17 +28,6 @@ lone_ranges = (0x20, 0x7E) ∷ (0xC0, 0x2FF) ∷ (0x380, 0x47F) ∷ (0x4000, 0x9
 -- two of these are a flag
 abbrev pub flag_letters : List Range
 flag_letters = (0x1F1E6, 0x1F1FF) ∷ []
-
-abbrev pub IsFlag : List ℕ → Type 0
-IsFlag text =
-    (c : ℕ) × (d : ℕ) × (text ≡ encode_utf8_all (c ∷ d ∷ []))
-    × (in_ranges flag_letters c ≡ true) × (in_ranges flag_letters d ≡ true)
-
--- a character that is shown as an emoji before U+FE0F, and that, or a keycap of the two
-abbrev pub IsEmoji : List ℕ → Type 0
-IsEmoji text =
-    (c : ℕ) × (is_emoji_variation_base c ≡ true)
-    × ((text ≡ encode_utf8_all (c ∷ 0xFE0F ∷ [])) ⊎ (text ≡ encode_utf8_all (c ∷ 0xFE0F ∷ 0x20E3 ∷ [])))
 
 -- characters of one column that are a cluster each before any that does not join them: letters of Hebrew, Arabic,
 -- Devanagari, Tamil and Thai, accented Latin and Greek, punctuation, arrows, mathematics, box drawing, Braille, private
@@ -104,16 +93,7 @@ is_other _ = false
 abbrev pub stands_alone : ℕ → Bool
 stands_alone c = is_other (grapheme_cluster_break c) && not (is_linking (indic_conjunct_break c))
 
-abbrev pub is_mark_break : GraphemeClusterBreak → Bool
-is_mark_break Extend = true
-is_mark_break SpacingMark = true
-is_mark_break _ = false
-
--- a character that joins whatever stands before it, and that nothing else follows either
-abbrev pub is_plain_mark : ℕ → Bool
-is_plain_mark c = is_mark_break (grapheme_cluster_break c) && not (is_linker (indic_conjunct_break c))
-
--- blocks in which such a mark adds its own columns, whatever stands before it
+-- blocks in which a mark adds its own columns, whatever stands before it
 abbrev pub mark_blocks : List Range
 mark_blocks = (0x300, 0x337) ∷ (0x339, 0x200C) ∷ (0x200E, 0x2CFF) ∷ []
 
@@ -121,7 +101,7 @@ mark_blocks = (0x300, 0x337) ∷ (0x339, 0x200C) ∷ (0x200E, 0x2CFF) ∷ []
 abbrev pub conjunct_blocks : List Range
 conjunct_blocks = (0x900, 0xDFF) ∷ (0x1000, 0x109F) ∷ []
 
--- such a character that may stand between a pictograph and a joiner
+-- a mark that may stand between a pictograph and a joiner: no linker
 abbrev pub is_plain_extend : ℕ → Bool
 is_plain_extend c = is_extend (grapheme_cluster_break c) && not (is_linker (indic_conjunct_break c))
 

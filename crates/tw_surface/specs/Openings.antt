@@ -1,11 +1,11 @@
 -- What the first cluster of a text begins with, where no rule looks further back than to its last character.
-use Rattle.std.specs.Prelude.{ℕ, ◌≡◌, ◌<◌, ◌≤◌, ◌+◌, ◌⊎◌, ⊤, true, false, List, [], ◌∷◌, ◌++◌, map, encode_utf8, encode_utf8_all}
+use Rattle.std.specs.Prelude.{ℕ, ◌≡◌, ◌<◌, ◌≤◌, ◌+◌, ◌⊎◌, true, false, List, [], ◌∷◌, ◌++◌, map, encode_utf8, encode_utf8_all}
 use Rattle.std.specs.Str.{chars}
 use Rattle.ucd_breaks.specs.GraphemeClusterBreak.{grapheme_cluster_break}
 use Rattle.ucd_derived.specs.IndicConjunctBreak.{indic_conjunct_break}
 use Rattle.unicode_segmentation.specs.Grapheme.{ends_in_linker, ends_in_pictograph, is_grapheme_break}
 use Rattle.unicode_width.specs.Width.{str_width}
-use Rattle.tw_surface.specs.Clusters.{is_joined, is_picture, is_plain_extend, is_plain_mark, stands_alone, starts_apart}
+use Rattle.tw_surface.specs.Clusters.{is_joined, is_picture, is_plain_extend, stands_alone, starts_apart}
 
 -- behind these characters, nearest first, what joins whatever stands before it goes on, and all else begins anew
 pub record IsPlainEnd (before : List ℕ) : Type 0 where
@@ -23,18 +23,6 @@ IsOpen before (c ∷ d ∷ cs) =
 -- a text begins with such characters
 abbrev pub BeginsOpen : List ℕ → List ℕ → Type 0
 BeginsOpen text rest = (cs : List ℕ) × (text ≡ encode_utf8_all cs ++ rest) × IsOpen [] cs
-
--- a text begins with a mark
-abbrev pub IsPastMark : List ℕ → List ℕ → Type 0
-IsPastMark text rest = (c : ℕ) × (text ≡ encode_utf8 c ++ rest) × (is_plain_mark c ≡ true)
-
-abbrev pub AreMarks : List ℕ → Type 0
-AreMarks [] = ⊤
-AreMarks (c ∷ cs) = (is_plain_mark c ≡ true) × AreMarks cs
-
--- a text begins with marks, or with none
-abbrev pub ArePastMarks : List ℕ → List ℕ → Type 0
-ArePastMarks text rest = (cs : List ℕ) × (text ≡ encode_utf8_all cs ++ rest) × AreMarks cs
 
 -- a text begins with a pictograph
 abbrev pub IsPastPictograph : List ℕ → List ℕ → Type 0

@@ -7,24 +7,18 @@ ghost use Rattle.tw_surface.specs.Clusters.{conjunct_blocks, flag_letters, lone_
 /// No character before it joins what stands before.
 pub const FIRST_MARK: char = '\u{300}';
 
-/// Characters from here up to [`FIRST_PRIVATE`] stand in no block of one column.
+/// The first character behind the blocks of one column but the last two.
 const FIRST_KANA: char = '\u{3000}';
-
-/// The first character for private use.
-const FIRST_PRIVATE: char = '\u{E000}';
 
 /// The first emoji of these blocks.
 const FIRST_PICTURE: char = '\u{1F300}';
-
-/// The last character of the blocks of one column.
-const LAST_NARROW: char = '\u{FF9D}';
 
 /// Returns true if the character stands in a block of characters of one column.
 #[tactic(auto, unfolding(ucd_table::specs::Rows::in_ranges))]
 fn is_in_narrow_block(c: char) -> bool
     ensures { result ≡ in_ranges narrow_blocks c }
 {
-    (c < FIRST_KANA || (FIRST_PRIVATE <= c && c <= LAST_NARROW))
+    c < FIRST_KANA
         && matches!(
         c,
         '\u{05D0}'..='\u{05FF}'
@@ -41,9 +35,7 @@ fn is_in_narrow_block(c: char) -> bool
             | '\u{232B}'..='\u{23E8}'
             | '\u{23F4}'..='\u{25FC}'
             | '\u{27C0}'..='\u{2B1A}'
-            | '\u{E000}'..='\u{F8FF}'
-            | '\u{FF61}'..='\u{FF9D}'
-    )
+    ) || matches!(c, '\u{E000}'..='\u{F8FF}' | '\u{FF61}'..='\u{FF9D}')
 }
 
 /// Returns true if the character stands in a block of emoji.

@@ -4,7 +4,6 @@ ghost use Rattle.std.specs.Prelude.{◌≡◌, ◌+◌, ◌*◌, ◌<◌, ◌≤
 ghost use Rattle.std.specs.List.{sum_by};
 ghost use Rattle.unicode_segmentation.specs.Grapheme.{graphemes};
 ghost use Rattle.tw_surface.specs.Attributes.{with_attribute};
-ghost use Rattle.tw_surface.specs.Clusters.{IsEmoji, IsFlag};
 ghost use Rattle.tw_surface.specs.Places.{BeginsWithColumns};
 ghost use Rattle.tw_surface.specs.Width.{cluster_width, column_width};
 
@@ -12,7 +11,6 @@ use crate::blocks::is_flag_letter;
 use crate::characters::is_printable_text;
 use crate::clusters::{lone_len, lone_width, split_cluster, split_settled};
 use crate::color::ColorAttribute;
-use ucd_emoji::is_emoji_variation_base;
 use unicode_width::UnicodeWidthStr;
 
 /// How strong a text is.
@@ -167,50 +165,7 @@ pub fn cluster_width(cluster: &str) -> usize
     let bytes = cluster.as_bytes();
     match bytes.first() {
         Some(lead) if lone_len(*lead) == bytes.len() => lone_width(bytes.len()),
-        _ => other_width(cluster),
-    }
-}
-
-/// Returns the same of any other cluster. It is a function of its own, so that the one above stays short.
-#[inline(never)]
-fn other_width(cluster: &str) -> usize
-    ensures value { result ≡ cluster_width cluster.now }
-    ensures bound { result ≤ 2 * length cluster.now }
-{
-    match cluster.len() {
-        6..=7 if is_emoji(cluster) => 2,
-        8 if is_flag(cluster) => 2,
         _ => cluster.width(),
-    }
-}
-
-/// Returns true if the text is a character that is shown as an emoji before U+FE0F, and that, or a keycap of the two.
-fn is_emoji(text: &str) -> bool
-    ensures { result ≡ true → IsEmoji text.now }
-{
-    // (the last bytes of U+FE0F and U+20E3)
-    if !matches!(text.as_bytes(), [.., 0x8F | 0xA3]) {
-        return false;
-    }
-    let mut chars = text.chars();
-    match (chars.next(), chars.next(), chars.next()) {
-        (Some(base), Some('\u{FE0F}'), None | Some('\u{20E3}')) => {
-            is_emoji_variation_base(base) && chars.as_str().is_empty()
-        }
-        _ => false,
-    }
-}
-
-/// Returns true if the text is a flag, and nothing else.
-fn is_flag(text: &str) -> bool
-    ensures { result ≡ true → IsFlag text.now }
-{
-    let mut chars = text.chars();
-    match (chars.next(), chars.next()) {
-        (Some(first), Some(second)) => {
-            is_flag_letter(first) && is_flag_letter(second) && chars.as_str().is_empty()
-        }
-        _ => false,
     }
 }
 

@@ -6,9 +6,9 @@ ghost use Rattle.ucd_table.specs.Rows.{in_ranges};
 ghost use Rattle.ucd_breaks.specs.GraphemeClusterBreak.{grapheme_cluster_break};
 ghost use Rattle.ucd_derived.specs.IndicConjunctBreak.{indic_conjunct_break};
 ghost use Rattle.unicode_segmentation.specs.Grapheme.{graphemes, is_consonant};
-ghost use Rattle.tw_surface.specs.Clusters.{is_joined, is_linker, is_picture, is_plain_extend, is_plain_mark, lone_len, mark_blocks, ends_syllable, stands_alone, starts_apart, IsFirstCluster, IsSplit};
+ghost use Rattle.tw_surface.specs.Clusters.{is_joined, is_linker, is_picture, is_plain_extend, lone_len, mark_blocks, ends_syllable, stands_alone, starts_apart, IsFirstCluster, IsSplit};
 ghost use Rattle.tw_surface.specs.Places.{IsWideSplit};
-ghost use Rattle.tw_surface.specs.Openings.{ArePastMarks, GoesOn, IsPastMark, IsBase, IsAdded, IsPastPictograph, IsWithAdded, BeginsOpen};
+ghost use Rattle.tw_surface.specs.Openings.{GoesOn, IsBase, IsAdded, IsPastPictograph, IsWithAdded, BeginsOpen};
 
 use crate::blocks::{
     FIRST_MARK, is_flag_letter, is_in_conjunct_block, is_in_lone_range, is_in_mark_block,
@@ -28,6 +28,9 @@ const LAST_ALONE: char = '\u{A0}';
 
 /// The first linker of conjuncts that does not join what stands before it.
 const FIRST_VEDIC_LINKER: char = '\u{1CF5}';
+
+/// The keycap round the characters before it.
+const CAP: char = '\u{20E3}';
 
 /// The selector by which the character before it is shown as an emoji.
 const SELECTOR: char = '\u{FE0F}';
@@ -82,22 +85,6 @@ fn is_consonant(c: char) -> bool
     )
 }
 
-/// Returns true if the character joins whatever stands before it, and nothing else follows it either.
-fn is_plain_mark(c: char) -> bool
-    ensures { result ≡ is_plain_mark c }
-{
-    if c < FIRST_MARK {
-        return false;
-    }
-    if c == SELECTOR {
-        return true;
-    }
-    matches!(
-        GraphemeClusterBreak::for_char(c),
-        GraphemeClusterBreak::Extend | GraphemeClusterBreak::SpacingMark
-    ) && !is_linker(c)
-}
-
 /// Returns true if the character is a plain mark that may stand between a pictograph and a joiner.
 fn is_plain_extend(c: char) -> bool
     ensures { result ≡ is_plain_extend c }
@@ -125,53 +112,6 @@ fn starts_apart(text: &str) -> bool
     }
 }
 
-/// Returns what follows the first character, if that is a plain mark.
-fn past_mark(text: &str) -> Option<&str>
-    ensures { IfSome result (λ rest. IsPastMark text.now rest.now) }
-{
-    let mut chars = text.chars();
-    if is_plain_mark(chars.next()?) {
-        Some(chars.as_str())
-    } else {
-        None
-    }
-}
-
-/// Returns what follows the plain marks that the text begins with.
-fn past_marks(text: &str) -> &str
-    ensures { ArePastMarks text.now result.now }
-{
-    let mut rest = text;
-    while let Some(behind) = past_mark(rest) {
-        rest = behind;
-    }
-    rest
-}
-
-/// Returns what follows the first character, if it is a base.
-fn past_base(text: &str) -> Option<&str>
-    ensures { IfSome result (λ rest. BeginsOpen text.now rest.now) }
-{
-    let mut chars = text.chars();
-    if stands_alone(chars.next()?) {
-        Some(chars.as_str())
-    } else {
-        None
-    }
-}
-
-/// Returns what follows the first two characters, if they are a flag.
-fn past_flag(text: &str) -> Option<&str>
-    ensures { IfSome result (λ rest. BeginsOpen text.now rest.now) }
-{
-    let mut chars = text.chars();
-    if is_flag_letter(chars.next()?) && is_flag_letter(chars.next()?) {
-        Some(chars.as_str())
-    } else {
-        None
-    }
-}
-
 /// Returns true if the text is empty or begins with a character that [`lone_len`] knows by its first byte.
 #[inline]
 fn begins_lone(text: &str) -> bool
@@ -190,28 +130,13 @@ fn first_len(text: &str) -> usize
     requires { 0 < length text.now }
     ensures { IsFirstCluster text.now result }
 {
-    let lead = text.as_bytes()[0];
-    let len = lone_len(lead);
+    let len = lone_len(text.as_bytes()[0]);
     if len > 0 && begins_lone(text.split_at(len).1) {
         return len;
     }
-    match lead {
-        0xE0..=0xE3 | 0xEA..=0xEF => ruled_len(text),
-        _ => other_len(text),
-    }
-}
-
-/// Returns the same for a text that may begin with a base and its marks, a flag or pictographs behind joiners.
-#[inline(never)]
-fn other_len(text: &str) -> usize
-    requires { 0 < length text.now }
-    ensures { IsFirstCluster text.now result }
-{
     match text.as_bytes() {
-        [0xF0, 0x9F, 0x87, ..] => open_len(text, past_flag(text)),
-        [0xF0, _, _, _, 0xE2, 0x80, 0x8D, ..] => open_len(text, past_pictures(text)),
-        [0xF0, ..] => ruled_len(text),
-        _ => settled_len(text),
+        [0xF0, _, _, _, 0xE2, 0x80, 0x8D, ..] => pictures_len(text),
+        _ => ruled_len(text),
     }
 }
 
@@ -261,25 +186,13 @@ fn past_pictures(text: &str) -> Option<&str>
     Some(rest)
 }
 
-/// Returns the same where a base and its marks tell it.
-fn settled_len(text: &str) -> usize
+/// Returns the same for a text that may begin with pictographs behind joiners.
+#[inline(never)]
+fn pictures_len(text: &str) -> usize
     requires { 0 < length text.now }
     ensures { IsFirstCluster text.now result }
 {
-    match past_base(text) {
-        Some(rest) if starts_apart(rest) => text.len() - rest.len(),
-        Some(rest) => open_len(text, Some(past_marks(rest))),
-        None => ruled_len(text),
-    }
-}
-
-/// Returns the same if `past` is what follows some characters of the cluster, and they are all of it.
-fn open_len(text: &str, past: Option<&str>) -> usize
-    requires some { 0 < length text.now }
-    requires opened { IfSome past (λ rest. BeginsOpen text.now rest.now) }
-    ensures { IsFirstCluster text.now result }
-{
-    match past {
+    match past_pictures(text) {
         Some(rest) if starts_apart(rest) => text.len() - rest.len(),
         _ => ruled_len(text),
     }
@@ -307,7 +220,8 @@ pub fn lone_width(len: usize) -> usize
 }
 
 /// Returns the columns of the first cluster of a text and what follows it, if its first characters tell both: a base,
-/// with plain marks and conjuncts or none behind it, a syllable of Hangul, or an emoji with a skin tone or before U+FE0F.
+/// with plain marks and conjuncts or none behind it, a syllable of Hangul, a flag, a keycap, or an emoji with a skin
+/// tone or before U+FE0F.
 #[inline]
 pub fn split_settled(text: &str) -> Option<(usize, &str)>
     ensures { IfSome result (λ (columns, rest). IsWideSplit text.now columns rest.now) }
@@ -342,15 +256,18 @@ fn split_by_bytes(text: &str) -> Option<(usize, &str)>
     ensures { IfSome result (λ (columns, rest). IsWideSplit text.now columns rest.now) }
 {
     match text.as_bytes() {
+        [0xC2 | 0xD2..=0xDF | 0xE0 | 0xE3 | 0xEE | 0xEF, ..] => split_base(text),
         [0xE2, _, _, 0xEF, 0xB8, ..] | [0xF0, _, _, _, 0xEF, 0xB8, ..] => split_selected(text),
         [0xF0, _, _, _, 0xF0, 0x9F, 0x8F, 0xBB..=0xBF, ..] => split_toned(text),
-        // (Jamo, letters of Khmer before a linker, halves of flags, emoji before a joiner)
+        [0xF0, 0x9F, 0x87, ..] => split_flag(text),
+        // (Jamo, letters of Khmer before a linker, emoji before a joiner)
         [0xE1, 0x84..=0x87, ..]
         | [0xE1, _, _, 0xE1, 0x9F, 0x92, ..]
-        | [0xF0, 0x9F, 0x87, ..]
         | [0xF0, _, _, _, 0xE2, 0x80, ..] => None,
         [0xEA, 0xB0..=0xBF, ..] | [0xEB..=0xED, ..] => split_syllable(text),
-        [0xC2 | 0xD2..=0xDF | 0xE0..=0xE3 | 0xEA | 0xEE..=0xF0, ..] => split_base(text),
+        [0xE1 | 0xE2 | 0xEA | 0xF0, ..] => split_base(text),
+        // (keycaps)
+        [b'#'..=b'9', 0xEF, 0xB8, ..] => split_selected(text),
         _ => None,
     }
 }
@@ -405,7 +322,7 @@ fn split_toned(text: &str) -> Option<(usize, &str)>
     }
 }
 
-/// Returns the same for a base that a selector makes an emoji.
+/// Returns the same for a base that a selector makes an emoji, and for its keycap.
 #[inline(never)]
 fn split_selected(text: &str) -> Option<(usize, &str)>
     ensures { IfSome result (λ (columns, rest). IsWideSplit text.now columns rest.now) }
@@ -413,13 +330,32 @@ fn split_selected(text: &str) -> Option<(usize, &str)>
     let mut chars = text.chars();
     let base = chars.next()?;
     let selector = chars.next()?;
+    if selector != SELECTOR || !stands_alone(base) || !is_emoji_variation_base(base) {
+        return None;
+    }
     let rest = chars.as_str();
-    if base > LAST_ALONE
-        && stands_alone(base)
-        && is_emoji_variation_base(base)
-        && selector == SELECTOR
-        && starts_apart(rest)
-    {
+    if starts_apart(rest) {
+        return Some((2, rest));
+    }
+    let cap = chars.next()?;
+    let rest = chars.as_str();
+    if cap == CAP && starts_apart(rest) {
+        Some((2, rest))
+    } else {
+        None
+    }
+}
+
+/// Returns the same for a flag.
+#[inline(never)]
+fn split_flag(text: &str) -> Option<(usize, &str)>
+    ensures { IfSome result (λ (columns, rest). IsWideSplit text.now columns rest.now) }
+{
+    let mut chars = text.chars();
+    let first = chars.next()?;
+    let second = chars.next()?;
+    let rest = chars.as_str();
+    if is_flag_letter(first) && is_flag_letter(second) && starts_apart(rest) {
         Some((2, rest))
     } else {
         None
