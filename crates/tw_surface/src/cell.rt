@@ -9,7 +9,7 @@ ghost use Rattle.tw_surface.specs.Width.{cluster_width, column_width};
 
 use crate::blocks::is_flag_letter;
 use crate::characters::is_printable_text;
-use crate::clusters::{lone_len, lone_width, split_cluster, split_settled};
+use crate::clusters::{lone_len, lone_width, split_by_byte, split_by_bytes, split_cluster};
 use crate::color::ColorAttribute;
 use unicode_width::UnicodeWidthStr;
 
@@ -176,10 +176,13 @@ fn split_columns(text: &str) -> Option<(usize, &str)>
         (graphemes true text.now ≡ [])
         (λ (columns, rest). BeginsWithColumns text.now columns rest.now) }
 {
-    match split_settled(text) {
-        Some(split) => Some(split),
-        None => split_ruled_columns(text),
+    if let Some(split) = split_by_byte(text) {
+        return Some(split);
     }
+    if let Some(split) = split_by_bytes(text) {
+        return Some(split);
+    }
+    split_ruled_columns(text)
 }
 
 /// Returns the same of any other text. It is a function of its own, so that the one above stays short.

@@ -219,22 +219,10 @@ pub fn lone_width(len: usize) -> usize
     if len == 3 { 2 } else { 1 }
 }
 
-/// Returns the columns of the first cluster of a text and what follows it, if its first characters tell both: a base,
-/// with plain marks and conjuncts or none behind it, a syllable of Hangul, a flag, a keycap, or an emoji with a skin
-/// tone or before U+FE0F.
+/// Returns the columns of the first cluster of a text and what follows it, if the first byte tells the base, and nothing
+/// but plain marks and conjuncts joins that.
 #[inline]
-pub fn split_settled(text: &str) -> Option<(usize, &str)>
-    ensures { IfSome result (λ (columns, rest). IsWideSplit text.now columns rest.now) }
-{
-    match split_by_byte(text) {
-        Some(split) => Some(split),
-        None => split_by_bytes(text),
-    }
-}
-
-/// Returns the same if the first byte tells the base.
-#[inline]
-fn split_by_byte(text: &str) -> Option<(usize, &str)>
+pub fn split_by_byte(text: &str) -> Option<(usize, &str)>
     ensures { IfSome result (λ (columns, rest). IsWideSplit text.now columns rest.now) }
 {
     let len = lone_len(*text.as_bytes().first()?);
@@ -250,9 +238,10 @@ fn split_by_byte(text: &str) -> Option<(usize, &str)>
     }
 }
 
-/// Returns the same for any other text. Its first bytes tell what it may begin with.
-#[inline]
-fn split_by_bytes(text: &str) -> Option<(usize, &str)>
+/// Returns the same if the first characters tell it: another base, with plain marks and conjuncts or none behind it, a
+/// syllable of Hangul, a flag, a keycap, or an emoji with a skin tone or before U+FE0F.
+#[inline(never)]
+pub fn split_by_bytes(text: &str) -> Option<(usize, &str)>
     ensures { IfSome result (λ (columns, rest). IsWideSplit text.now columns rest.now) }
 {
     match text.as_bytes() {
