@@ -28,11 +28,9 @@ pub fn play(screen: &mut Screen, batch: &[Change]) -> Result<(), ScreenFault> {
     Ok(())
 }
 
-/// Appends the rows of the screen, which has `cols` columns, each between two bars, the cursor while the line was
-/// edited, and the cursor now.
+/// Appends the rows of the screen, each between two bars, the cursor while the line was edited, and the cursor now.
 pub fn show_screen(
     screen: &Screen,
-    cols: usize,
     cursor: (usize, usize),
     shown: &mut String,
 ) -> Result<(), AllocError>
@@ -41,7 +39,7 @@ pub fn show_screen(
     if let Some(last) = screen.last_row() {
         shown.push('|')?;
         screen.push_rows(last, "|\n|", shown)?;
-        screen.push_row(last, cols, shown)?;
+        screen.push_row(last, screen.width(), shown)?;
         shown.push_str("|\n")?;
     }
     let (row, col) = cursor;

@@ -144,7 +144,7 @@ impl Playback {
         };
         match played {
             Played::Nothing => {}
-            Played::All(cursor) => show_screen(screen, self.cols, cursor, shown)?,
+            Played::All(cursor) => show_screen(screen, cursor, shown)?,
             Played::Refused(ScreenFault::NotPlain) => {
                 self.clear_screen();
                 shown.push_str("screen not plain\n")?;

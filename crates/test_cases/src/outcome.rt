@@ -80,6 +80,6 @@ fn screen_text(
     let mut screen = Screen::new(alloc, cols)?;
     let cursor = play_all(&mut screen, paintings, closing)?;
     let mut shown = String::new(alloc);
-    show_screen(&screen, cols, cursor, &mut shown)?;
+    show_screen(&screen, cursor, &mut shown)?;
     Ok(shown.replace(alloc, "|\n|", "|")?)
 }

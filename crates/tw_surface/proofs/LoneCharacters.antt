@@ -66,17 +66,14 @@ first_four : (c : ℕ) → 65536 ≤ c → get_or (encode_utf8 c) 0 0 ≡ 240 + 
 unfolding encode_utf8
 first_four c low = grind (arith, nat_tests)
 
-many_high : (c : ℕ) → 128 ≤ c → 14 ≤ get_or (encode_utf8 c) 0 0
+many_high : (c : ℕ) → 128 ≤ c → 32 ≤ get_or (encode_utf8 c) 0 0
 many_high c above =
     ⊎_elim (λ two. rw (first_two c (omega arith) two) (omega arith))
     (λ more. ⊎_elim (λ three. rw (first_three c more three) (omega arith)) (λ four. rw (first_four c four) (omega arith)) (cases_lt c 65536))
     (cases_lt c 2048)
 
-pub lead_high : (c : ℕ) → 32 ≤ c → 14 ≤ get_or (encode_utf8 c) 0 0
+pub lead_high : (c : ℕ) → 32 ≤ c → 32 ≤ get_or (encode_utf8 c) 0 0
 lead_high c above = ⊎_elim (λ one. rw (encode_ascii c one) (omega (arith, above))) (λ more. many_high c more) (cases_lt c 128)
-
-pub first_high : (c : ℕ) → 0xA0 < c → 14 ≤ get_or (encode_utf8 c) 0 0
-first_high c above = many_high c (omega (arith, above))
 
 -- which such a byte tells
 lone_one : (c b : ℕ) → b ≡ get_or (encode_utf8 c) 0 0 → 0 < lone_len b → c < 128 → IsLone c (lone_len b)
@@ -217,8 +214,19 @@ pub lone_len-few : (b : ℕ) → lone_len b ≤ 3
 lone_len-few b = grind (arith, nat_tests)
 
 -- a character that its first byte tells
+range_by_byte : (text : List ℕ) → 0 < lone_len (get_or text 0 0) → (first : BeginsLone text) → in_ranges lone_ranges first.character ≡ true
+range_by_byte text lone first = in_lone_ranges first.character _ first.lone lone (lone_len-few (get_or text 0 0))
+
 pub alone_by_byte : (text : List ℕ) → 0 < lone_len (get_or text 0 0) → (first : BeginsLone text) → stands_alone first.character ≡ true
-alone_by_byte text lone first = alone_in_range first.character (in_lone_ranges first.character _ first.lone lone (lone_len-few (get_or text 0 0)))
+alone_by_byte text lone first = alone_in_range first.character (range_by_byte text lone first)
+
+-- and it is no control character
+range_high : (c : ℕ) → in_ranges lone_ranges c ≡ true → 32 ≤ c
+unfolding in_ranges
+range_high c inside = grind (arith, nat_tests, inside)
+
+pub high_by_byte : (text : List ℕ) → 0 < lone_len (get_or text 0 0) → (first : BeginsLone text) → 32 ≤ first.character
+high_by_byte text lone first = range_high first.character (range_by_byte text lone first)
 
 pub some_of : (n : ℕ) → (n ≡ 0 → ⊥) → 0 < n
 some_of n not_none = ⊎_elim (λ none. absurd (not_none (omega (arith, none)))) (λ more. omega (arith, more)) (cases_lt n 1)

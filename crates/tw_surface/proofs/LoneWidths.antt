@@ -31,14 +31,14 @@ use Rattle.unicode_width.specs.Width.{before, char_width, is_emoji_modifier_base
 use Rattle.unicode_width.proofs.Computing.{unicode_width}
 use Rattle.unicode_width.proofs.KindLemmas.{kind_stepped}
 use Rattle.unicode_width.proofs.Rules.{is_simple, is_simple_kind, str_width-append_simple, str_width-printable}
-use Rattle.tw_surface.specs.Clusters.{conjunct_blocks, is_joined, is_linker, is_other, mark_blocks, ends_syllable, stands_alone, starts_apart, skin_tones, syllables, IsFirstCluster, flag_letters, lone_columns, lone_len, narrow_blocks, picture_blocks, wide_blocks}
+use Rattle.tw_surface.specs.Clusters.{conjunct_blocks, is_joined, is_linker, is_other, mark_blocks, ends_syllable, stands_alone, skin_tones, syllables, IsFirstCluster, flag_letters, lone_columns, lone_len, narrow_blocks, picture_blocks, wide_blocks}
 use Rattle.tw_surface.specs.Width.{cluster_width}
-use Rattle.tw_surface.specs.Openings.{IsAdded, IsBase, IsOpen, IsWithAdded}
+use Rattle.tw_surface.specs.Openings.{AddsColumns, IsFront, IsWithAdded}
 use Rattle.tw_surface.specs.Places.{cluster_piece, IsWideSplit}
 use Rattle.tw_surface.specs.declared.measure.Piece.TheVariants.{Wide}
-use Rattle.tw_surface.proofs.OpeningLemmas.{cap_is_mark, first_opened, first_syllable, is_mark_break, is_plain_mark, one, open_conjunct, open_flag, open_mark, other-is, picture_parts, selector_is_mark, settled_alone, two, IsConjunct}
+use Rattle.tw_surface.proofs.OpeningLemmas.{first_opened, first_syllable, is_mark_break, is_plain_mark, joined, one, open_conjunct, open_flag, open_mark, other-is, picture_parts, selector_is_mark, settled_alone, IsConjunct}
 use Rattle.tw_surface.proofs.TableFacts.{throughout}
-use Rattle.tw_surface.proofs.LoneCharacters.{lead_high, two_bytes, three_bytes, alone_by_byte, alone_in_block, first_high, get_or-front, lone_len-few, some_bytes, BeginsLone, BeginsLone-from, IsLone, no_columns, only_character, picture_in_block}
+use Rattle.tw_surface.proofs.LoneCharacters.{lead_high, two_bytes, three_bytes, alone_by_byte, alone_in_block, get_or-front, high_by_byte, lone_len-few, some_bytes, BeginsLone, BeginsLone-from, IsLone, no_columns, only_character, picture_in_block}
 
 is_narrow : Kind → Bool
 is_narrow kinds.Narrow = true
@@ -145,19 +145,19 @@ block_low c some =
     (cases_Bool (in_ranges wide_blocks c)))
     (cases_Bool (in_ranges narrow_blocks c))
 
-no_line_end : (cluster : List ℕ) → 14 ≤ get_or cluster 0 0 → cluster_piece cluster ≡ Wide (cluster_width cluster)
+no_line_end : (cluster : List ℕ) → 32 ≤ get_or cluster 0 0 → cluster_piece cluster ≡ Wide (cluster_width cluster)
 no_line_end [] low = absurd (omega arith)
 no_line_end (b ∷ bs) low =
     let no_cr : eqb b 13 ≡ false = grind (arith, nat_tests) in
     let no_lf : eqb b 10 ≡ false = grind (arith, nat_tests) in
     rw (no_cr, no_lf) refl
 
-some_from : (cluster : List ℕ) → 14 ≤ get_or cluster 0 0 → 0 < length cluster
+some_from : (cluster : List ℕ) → 32 ≤ get_or cluster 0 0 → 0 < length cluster
 some_from [] low = absurd (omega arith)
 some_from (b ∷ bs) low = omega arith
 
 -- a cluster that a text begins with
-split_first : (text cluster rest : List ℕ) (columns : ℕ) → IsUtf8 text → IsUtf8 rest → text ≡ cluster ++ rest → 14 ≤ get_or cluster 0 0 → columns ≤ 2
+split_first : (text cluster rest : List ℕ) (columns : ℕ) → IsUtf8 text → IsUtf8 rest → text ≡ cluster ++ rest → 32 ≤ get_or cluster 0 0 → columns ≤ 2
     → (IsUtf8 cluster → cluster_width cluster ≡ columns) → IsFirstCluster text (length text - length rest) → IsWideSplit text columns rest
 split_first text cluster rest columns u v whole high few wide first =
     let parts = ap length whole ∙ length-append cluster rest in
@@ -179,7 +179,7 @@ wide_first : (text rest : List ℕ) (c columns : ℕ) → IsUtf8 text → IsUtf8
     → str_width false (c ∷ []) ≡ columns → IsFirstCluster text (length text - length rest) → IsWideSplit text columns rest
 wide_first text rest c columns u v whole high few wide =
     let cluster = encode_utf8 c in
-    split_first text cluster rest columns u v whole (first_high c high) few
+    split_first text cluster rest columns u v whole (lead_high c (omega (arith, high))) few
     (λ w. ap (str_width false) (only_character cluster [] c w (sym (append-nil cluster)) (omega arith)) ∙ wide)
 
 syllable_kinds : (c : ℕ) → in_ranges syllables c ≡ true → is_wide (kind c) ≡ true
@@ -200,15 +200,16 @@ chars_of text cs u is = sym (chars_from_encodes cs text u (sym is))
 plain_stepped : Stepped is_plain_mark
 plain_stepped = zip_stepped (λ g v. is_mark_break g && not (is_linker v)) grapheme_cluster_break indic_conjunct_break grapheme_cluster_break_stepped indic_conjunct_break_stepped
 
-mark_kinds : (c : ℕ) → in_ranges mark_blocks c ≡ true → (not (is_plain_mark c) || is_simple_kind (kind c)) ≡ true
-unfolding plain_stepped tables ucd_breaks ucd_derived kind_stepped
-mark_kinds =
-    throughout (λ is. is) (λ c. not (is_plain_mark c) || is_simple_kind (kind c))
-    (zip_stepped (λ plain k. not plain || is_simple_kind k) is_plain_mark kind plain_stepped kind_stepped) mark_blocks refl refl
+-- what joins there and is no linker is a plain mark whose columns hang on nothing
+is_simple_mark : GraphemeClusterBreak → Kind → Bool
+is_simple_mark g k = not (is_joined g) || (is_mark_break g && is_simple_kind k)
 
-mark_breaks : (c : ℕ) → in_ranges mark_blocks c ≡ true → (not (is_joined (grapheme_cluster_break c)) || is_mark_break (grapheme_cluster_break c)) ≡ true
-unfolding tables ucd_breaks
-mark_breaks = throughout (λ g. not (is_joined g) || is_mark_break g) grapheme_cluster_break grapheme_cluster_break_stepped mark_blocks refl refl
+mark_facts : (c : ℕ) → in_ranges mark_blocks c ≡ true → (is_linker (indic_conjunct_break c) || is_simple_mark (grapheme_cluster_break c) (kind c)) ≡ true
+unfolding is_simple_mark tables ucd_breaks ucd_derived kind_stepped
+mark_facts =
+    throughout (λ is. is) (λ c. is_linker (indic_conjunct_break c) || is_simple_mark (grapheme_cluster_break c) (kind c))
+    (zip_stepped (λ v is. is_linker v || is) indic_conjunct_break (λ c. is_simple_mark (grapheme_cluster_break c) (kind c)) indic_conjunct_break_stepped
+    (zip_stepped is_simple_mark grapheme_cluster_break kind grapheme_cluster_break_stepped kind_stepped)) mark_blocks refl refl
 
 some_is : (m n : ℕ) → Some m ≡ Some n → m ≡ n
 some_is m n same = cc
@@ -221,12 +222,14 @@ own_columns c columns high is =
     width_of_one c columns high (sym (some_is columns _ own))
 
 pub mark_is_added : (c columns : ℕ) → is_joined (grapheme_cluster_break c) ≡ true → is_linker (indic_conjunct_break c) ≡ false → in_ranges mark_blocks c ≡ true
-    → Some columns ≡ char_width false c → IsAdded (c ∷ []) columns
-mark_is_added c columns joined no_linker inside own =
-    let plain : is_plain_mark c ≡ true = rw (rw joined at (mark_breaks c inside), no_linker) refl in
+    → Some columns ≡ char_width false c → AddsColumns (c ∷ []) columns
+unfolding is_simple_mark
+mark_is_added c columns joins no_linker inside own =
     let high = block_above mark_blocks c refl inside in
-    let kinds = mark_kinds c inside in
-    let is : is_simple_kind (kind c) ≡ true = grind (arith, plain, kinds) in
+    let facts : (is_mark_break (grapheme_cluster_break c) && is_simple_kind (kind c)) ≡ true = rw (no_linker, joins) at (mark_facts c inside) in
+    let parts = and_parts (is_mark_break (grapheme_cluster_break c)) (is_simple_kind (kind c)) facts in
+    let plain : is_plain_mark c ≡ true = rw (parts.0, no_linker) refl in
+    let is = parts.1 in
     let simple : list_all is_simple (c ∷ []) ≡ true = grind (arith, nat_tests, high, is) in
     record {
       joins = λ front opened. open_mark [] front c opened plain;
@@ -247,21 +250,22 @@ simple_of n c kinds.Narrow h = (grind (arith, nat_tests, h), refl)
 simple_of n c kinds.Ambiguous h = (grind (arith, nat_tests, h), refl)
 simple_of n c _ h = absurd (false≢true h)
 
-linker_facts : (c : ℕ) → in_ranges conjunct_blocks c ≡ true
-    → (not (is_linker (indic_conjunct_break c)) || (is_extend (grapheme_cluster_break c) && is_simple_of 0 (kind c))) ≡ true
-unfolding is_simple_of tables ucd_breaks ucd_derived kind_stepped
-linker_facts =
-    throughout (λ is. is) (λ c. not (is_linker (indic_conjunct_break c)) || (is_extend (grapheme_cluster_break c) && is_simple_of 0 (kind c)))
-    (zip_stepped (λ v both. not (is_linker v) || both) indic_conjunct_break (λ c. is_extend (grapheme_cluster_break c) && is_simple_of 0 (kind c)) indic_conjunct_break_stepped
-    (zip_stepped (λ g k. is_extend g && is_simple_of 0 k) grapheme_cluster_break kind grapheme_cluster_break_stepped kind_stepped)) conjunct_blocks refl refl
+module _ (of_conjunct : IndicConjunctBreak → Bool) (of_cluster : GraphemeClusterBreak → Bool) (n : ℕ) where
+  abbrev is_part : ℕ → Bool
+  is_part c = not (of_conjunct (indic_conjunct_break c)) || (of_cluster (grapheme_cluster_break c) && is_simple_of n (kind c))
 
-letter_facts : (c : ℕ) → in_ranges conjunct_blocks c ≡ true
-    → (not (is_consonant (indic_conjunct_break c)) || (is_other (grapheme_cluster_break c) && is_simple_of 1 (kind c))) ≡ true
+  abbrev part_stepped : Stepped is_part
+  part_stepped =
+      zip_stepped (λ v both. not (of_conjunct v) || both) indic_conjunct_break (λ c. of_cluster (grapheme_cluster_break c) && is_simple_of n (kind c)) indic_conjunct_break_stepped
+      (zip_stepped (λ g k. of_cluster g && is_simple_of n k) grapheme_cluster_break kind grapheme_cluster_break_stepped kind_stepped)
+
+linker_facts : (c : ℕ) → in_ranges conjunct_blocks c ≡ true → is_part is_linker is_extend 0 c ≡ true
 unfolding is_simple_of tables ucd_breaks ucd_derived kind_stepped
-letter_facts =
-    throughout (λ is. is) (λ c. not (is_consonant (indic_conjunct_break c)) || (is_other (grapheme_cluster_break c) && is_simple_of 1 (kind c)))
-    (zip_stepped (λ v both. not (is_consonant v) || both) indic_conjunct_break (λ c. is_other (grapheme_cluster_break c) && is_simple_of 1 (kind c)) indic_conjunct_break_stepped
-    (zip_stepped (λ g k. is_other g && is_simple_of 1 k) grapheme_cluster_break kind grapheme_cluster_break_stepped kind_stepped)) conjunct_blocks refl refl
+linker_facts = throughout (λ is. is) _ (part_stepped is_linker is_extend 0) conjunct_blocks refl refl
+
+letter_facts : (c : ℕ) → in_ranges conjunct_blocks c ≡ true → is_part is_consonant is_other 1 c ≡ true
+unfolding is_simple_of tables ucd_breaks ucd_derived kind_stepped
+letter_facts = throughout (λ is. is) _ (part_stepped is_consonant is_other 1) conjunct_blocks refl refl
 
 extend-is : (g : GraphemeClusterBreak) → is_extend g ≡ true → g ≡ Extend
 extend-is Extend h = refl
@@ -283,7 +287,7 @@ simple_char c n inside is =
     (width_of_one c n high own.0, grind (arith, nat_tests, high, simple))
 
 pub conjunct_is_added : (linker letter : ℕ) → in_ranges conjunct_blocks linker ≡ true → is_linker (indic_conjunct_break linker) ≡ true
-    → in_ranges conjunct_blocks letter ≡ true → is_consonant (indic_conjunct_break letter) ≡ true → IsAdded (linker ∷ letter ∷ []) 1
+    → in_ranges conjunct_blocks letter ≡ true → is_consonant (indic_conjunct_break letter) ≡ true → AddsColumns (linker ∷ letter ∷ []) 1
 conjunct_is_added linker letter first links second consonant =
     let front = and_parts (is_extend (grapheme_cluster_break linker)) (is_simple_of 0 (kind linker)) (rw links at (linker_facts linker first)) in
     let last = and_parts (is_other (grapheme_cluster_break letter)) (is_simple_of 1 (kind letter)) (rw consonant at (letter_facts letter second)) in
@@ -316,33 +320,33 @@ past_all behind rest (c ∷ cs) u is =
     let more = encode_utf8_all cs ++ rest in
     past_all more rest cs (IsUtf8-past_char behind more c u (is ∙ append_assoc (encode_utf8 c) (encode_utf8_all cs) rest)) refl
 
--- a base and what is added to it
-added_split : (text behind rest : List ℕ) (c columns : ℕ) (cs : List ℕ) → IsUtf8 text → text ≡ encode_utf8 c ++ behind → behind ≡ encode_utf8_all cs ++ rest
-    → IsOpen [] (c ∷ cs) → 14 ≤ get_or (encode_utf8 c) 0 0 → columns ≤ 2 → str_width false (c ∷ cs) ≡ columns → starts_apart (chars rest) ≡ true → IsWideSplit text columns rest
-added_split text behind rest c columns cs u whole next opened high few own apart =
-    let v = past_all behind rest cs (IsUtf8-past_char text behind c u whole) next in
-    let last = encode_utf8_all cs in
-    let cluster = encode_utf8_all (c ∷ cs) in
-    let all : text ≡ cluster ++ rest = whole ∙ ap (λ t. encode_utf8 c ++ t) next ∙ sym (append_assoc (encode_utf8 c) last rest) in
-    let lead : 14 ≤ get_or cluster 0 0 = subst (λ b. 14 ≤ b) (get_or-front (encode_utf8 c) last (some_bytes c)) high in
-    split_first text cluster rest columns u v all lead few (λ w. ap (str_width false) (chars_of cluster (c ∷ cs) w refl) ∙ own)
-    (first_opened text rest u v (c ∷ cs, all, opened) apart)
+-- the characters that a cluster begins with, and what is added to them
+lead_of : (cs : List ℕ) → 32 ≤ get_or cs 0 0 → 32 ≤ get_or (encode_utf8_all cs) 0 0
+lead_of [] high = high
+lead_of (c ∷ cs) high = subst (λ b. 32 ≤ b) (get_or-front (encode_utf8 c) (encode_utf8_all cs) (some_bytes c)) (lead_high c high)
 
-base_split : (text behind rest : List ℕ) (c columns sum : ℕ) → IsUtf8 text → text ≡ encode_utf8 c ++ behind → stands_alone c ≡ true
-    → 14 ≤ get_or (encode_utf8 c) 0 0 → str_width false (c ∷ []) ≡ columns → IsWithAdded columns behind sum rest → IsWideSplit text sum rest
-base_split text behind rest c columns sum u whole is_base high own ((cs, more, next, added, sums, most), apart) =
-    added_split text behind rest c sum cs u whole next (added.joins (c ∷ []) (settled_alone c is_base)) high most
-    (added.adds (c ∷ []) ∙ ap (λ n. n + more) own ∙ sym sums) apart
-
-pub base_in_block : (c : ℕ) → 0 < lone_columns c → IsBase c (lone_columns c)
-base_in_block c some = record { alone = alone_in_block c some; high = block_low c some; few = grind (arith, nat_tests); width = block_columns c some }
-
-pub base_by_table : (c columns : ℕ) → 0xA0 < c → stands_alone c ≡ true → columns ≤ 2 → Some columns ≡ char_width false c → IsBase c columns
-base_by_table c columns high is_base few is = record { alone = is_base; high = high; few = few; width = own_columns c columns high is }
-
-pub found_split : (text behind rest : List ℕ) (c columns sum : ℕ) → IsUtf8 text → text ≡ encode_utf8 c ++ behind → IsBase c columns
+pub front_split : (text behind rest front : List ℕ) (columns sum : ℕ) → IsUtf8 text → text ≡ encode_utf8_all front ++ behind → IsFront front columns
     → IsWithAdded columns behind sum rest → IsWideSplit text sum rest
-found_split text behind rest c columns sum u whole is = base_split text behind rest c columns sum u whole is.alone (first_high c is.high) is.width
+front_split text behind rest front columns sum u whole is ((cs, more, next, added, sums, most), apart) =
+    let v = past_all behind rest cs (past_all text behind front u whole) next in
+    let cluster = encode_utf8_all (front ++ cs) in
+    let all : text ≡ cluster ++ rest = joined text behind rest front cs whole next in
+    let lead = lead_of (front ++ cs) (subst (λ c. 32 ≤ c) (get_or-front front cs (some_from front is.high)) is.high) in
+    split_first text cluster rest sum u v all lead most
+    (λ w. ap (str_width false) (chars_of cluster (front ++ cs) w refl) ∙ added.adds front ∙ ap (λ n. n + more) is.width ∙ sym sums)
+    (first_opened text rest u v (front ++ cs, all, added.joins front is.opened) apart)
+
+base_front : (c columns : ℕ) → stands_alone c ≡ true → 32 ≤ c → columns ≤ 2 → str_width false (c ∷ []) ≡ columns → IsFront (c ∷ []) columns
+base_front c columns alone high few width = record { opened = settled_alone c alone; high = high; few = few; width = width }
+
+pub base_in_block : (c : ℕ) → 0 < lone_columns c → IsFront (c ∷ []) (lone_columns c)
+base_in_block c some =
+    let high = block_low c some in
+    let few : lone_columns c ≤ 2 = grind (arith, nat_tests) in
+    base_front c (lone_columns c) (alone_in_block c some) (omega (arith, high)) few (block_columns c some)
+
+pub base_by_table : (c columns : ℕ) → 0xA0 < c → stands_alone c ≡ true → columns ≤ 2 → Some columns ≡ char_width false c → IsFront (c ∷ []) columns
+base_by_table c columns high alone few is = base_front c columns alone (omega (arith, high)) few (own_columns c columns high is)
 
 -- an emoji with a skin tone takes two
 is_modifier : Kind → Bool
@@ -370,72 +374,55 @@ toned_columns c d picture base tone =
     let last : kind d ≡ kinds.EmojiModifier = modifier-is (kind d) (tone_kinds d tone) in
     grind (arith, nat_tests, high, above, last, base)
 
-pub toned_split : (text behind rest : List ℕ) (c d : ℕ) → IsUtf8 text → text ≡ encode_utf8 c ++ behind → behind ≡ encode_utf8 d ++ rest
-    → in_ranges picture_blocks c ≡ true → is_emoji_modifier_base c ≡ true → in_ranges skin_tones d ≡ true → starts_apart (chars rest) ≡ true → IsWideSplit text 2 rest
-toned_split text behind rest c d u whole next picture base tone =
-    added_split text behind rest c 2 (d ∷ []) u whole (one behind rest d next)
-    (open_mark [] (c ∷ []) d (settled_alone c (picture_parts c (picture_in_block c picture)).0) (tone_facts d tone)) (first_high c (block_above picture_blocks c refl picture)) (omega arith) (toned_columns c d picture base tone)
+pub toned_front : (c d : ℕ) → in_ranges picture_blocks c ≡ true → is_emoji_modifier_base c ≡ true → in_ranges skin_tones d ≡ true → IsFront (c ∷ d ∷ []) 2
+toned_front c d picture base tone =
+    let high = block_above picture_blocks c refl picture in
+    record {
+      opened = open_mark [] (c ∷ []) d (settled_alone c (picture_parts c (picture_in_block c picture)).0) (tone_facts d tone);
+      high = omega (arith, high);
+      few = omega arith;
+      width = toned_columns c d picture base tone;
+    }
 
--- an emoji before U+FE0F takes two, and so does its keycap
+-- an emoji before U+FE0F takes two
 selector_kind : kind 0xFE0F ≡ kinds.Single
 unfolding kind tables unicode_width
 selector_kind = refl
 
-cap_kind : kind 0x20E3 ≡ kinds.Zero
-unfolding kind tables unicode_width
-cap_kind = refl
-
-last_alone : (c : ℕ) → 0xA0 < c → step false c (0, plain) ≡ alone false c
-unfolding step past_emoji
-last_alone c high = grind (arith, nat_tests)
-
-selector_alone : alone false 0xFE0F ≡ (0, record plain { emoji = true })
-unfolding alone
-selector_alone = ap (λ k. of_kind false 0xFE0F k) selector_kind
-
-cap_alone : alone false 0x20E3 ≡ (0, plain)
-unfolding alone
-cap_alone = ap (λ k. of_kind false 0x20E3 k) cap_kind
+selector_last : step false 0xFE0F (0, plain) ≡ (0, record plain { emoji = true })
+unfolding step past_emoji alone
+selector_last = grind (arith, nat_tests) ∙ ap (λ k. of_kind false 0xFE0F k) selector_kind
 
 before_selector : (c : ℕ) → is_emoji_variation_base c ≡ true → step false c (0, record plain { emoji = true }) ≡ (2, before Emoji)
 unfolding step
 before_selector c base = rw base refl
 
-emoji_columns : (c : ℕ) → is_emoji_variation_base c ≡ true → (str_width false (c ∷ 0xFE0F ∷ []) ≡ 2) × (str_width false (c ∷ 0xFE0F ∷ 0x20E3 ∷ []) ≡ 2)
+selected_columns : (c : ℕ) → is_emoji_variation_base c ≡ true → str_width false (c ∷ 0xFE0F ∷ []) ≡ 2
 unfolding str_width
-emoji_columns c base =
-    let selected = last_alone 0xFE0F (omega arith) ∙ selector_alone in
-    let capped = ap (step false 0xFE0F) (last_alone 0x20E3 (omega arith) ∙ cap_alone) ∙ selected in
-    (ap (λ r. (step false c r).0) selected ∙ ap (λ r. r.0) (before_selector c base), ap (λ r. (step false c r).0) capped ∙ ap (λ r. r.0) (before_selector c base))
+selected_columns c base = ap (λ r. (step false c r).0) selector_last ∙ ap (λ r. r.0) (before_selector c base)
 
 -- such a base is no control character
 low_bases : (c : ℕ) → in_ranges ((0, 0x1F) ∷ []) c ≡ true → not (is_emoji_variation_base c) ≡ true
 unfolding tables ucd_emoji
 low_bases = throughout not is_emoji_variation_base is_emoji_variation_base_stepped ((0, 0x1F) ∷ []) refl refl
 
-base_lead : (c : ℕ) → is_emoji_variation_base c ≡ true → 14 ≤ get_or (encode_utf8 c) 0 0
+high_base : (c : ℕ) → is_emoji_variation_base c ≡ true → 32 ≤ c
 unfolding in_ranges
-base_lead c base = ⊎_elim (λ low. absurd (no_base low)) (lead_high c) (cases_lt c 32)
+high_base c base = ⊎_elim (λ low. absurd (no_base low)) (λ high. high) (cases_lt c 32)
   where
     no_base : c < 32 → ⊥
     no_base low =
         let inside : in_ranges ((0, 0x1F) ∷ []) c ≡ true = grind (arith, nat_tests) in
         absurd (false≢true (rw base at (low_bases c inside)))
 
-module _ (text behind rest : List ℕ) (c d : ℕ) (u : IsUtf8 text) (whole : text ≡ encode_utf8 c ++ behind) (alone : stands_alone c ≡ true) (base : is_emoji_variation_base c ≡ true) (selector : d ≡ 0xFE0F) where
-  selected : IsOpen [] (c ∷ d ∷ [])
-  selected = open_mark [] (c ∷ []) d (settled_alone c alone) (ap is_plain_mark selector ∙ selector_is_mark)
-
-  pub selected_split : behind ≡ encode_utf8 d ++ rest → starts_apart (chars rest) ≡ true → IsWideSplit text 2 rest
-  selected_split next =
-      added_split text behind rest c 2 (d ∷ []) u whole (one behind rest d next) selected (base_lead c base) (omega arith)
-      (ap (λ e. str_width false (c ∷ e ∷ [])) selector ∙ (emoji_columns c base).0)
-
-  pub cap_split : (more : List ℕ) (e : ℕ) → behind ≡ encode_utf8 d ++ more → more ≡ encode_utf8 e ++ rest → e ≡ 0x20E3 → starts_apart (chars rest) ≡ true → IsWideSplit text 2 rest
-  cap_split more e next last cap =
-      added_split text behind rest c 2 (d ∷ e ∷ []) u whole (two behind more rest d e next last)
-      (open_mark [] (c ∷ d ∷ []) e selected (ap is_plain_mark cap ∙ cap_is_mark)) (base_lead c base) (omega arith)
-      (ap₂ (λ f g. str_width false (c ∷ f ∷ g ∷ [])) selector cap ∙ (emoji_columns c base).1)
+pub selected_front : (c d : ℕ) → stands_alone c ≡ true → is_emoji_variation_base c ≡ true → d ≡ 0xFE0F → IsFront (c ∷ d ∷ []) 2
+selected_front c d alone base selector =
+    record {
+      opened = open_mark [] (c ∷ []) d (settled_alone c alone) (ap is_plain_mark selector ∙ selector_is_mark);
+      high = high_base c base;
+      few = omega arith;
+      width = ap (λ e. str_width false (c ∷ e ∷ [])) selector ∙ selected_columns c base;
+    }
 
 -- a flag takes two
 
@@ -464,11 +451,10 @@ flag_columns c d first second =
     let last : kind d ≡ kinds.RegionalIndicator = half-is (kind d) (half_kinds d second) in
     grind (arith, nat_tests, left.0, left.1, right.0, right.1, last)
 
-pub flag_split : (text behind rest : List ℕ) (c d : ℕ) → IsUtf8 text → text ≡ encode_utf8 c ++ behind → behind ≡ encode_utf8 d ++ rest
-    → in_ranges flag_letters c ≡ true → in_ranges flag_letters d ≡ true → starts_apart (chars rest) ≡ true → IsWideSplit text 2 rest
-flag_split text behind rest c d u whole next first second =
-    added_split text behind rest c 2 (d ∷ []) u whole (one behind rest d next) (open_flag c d first second)
-    (first_high c (block_above flag_letters c refl first)) (omega arith) (flag_columns c d first second)
+pub flag_front : (c d : ℕ) → in_ranges flag_letters c ≡ true → in_ranges flag_letters d ≡ true → IsFront (c ∷ d ∷ []) 2
+flag_front c d first second =
+    let high = block_above flag_letters c refl first in
+    record { opened = open_flag c d first second; high = omega (arith, high); few = omega arith; width = flag_columns c d first second }
 
 -- the columns of a text that is one character which its first byte tells
 module _ (text : List ℕ) (u : IsUtf8 text) (some : 0 < length text) (whole : length text ≡ lone_len (get_or text 0 0)) where
@@ -509,9 +495,6 @@ module _ (text : List ℕ) (u : IsUtf8 text) (some : 0 < length text) (whole : l
       length_two : 2 ≤ length text → length text ≤ 3 → (length text ≡ 3 → ⊥) → length text ≡ 2
       length_two two few other = ⊎_elim (λ three. absurd (other three)) (λ no. omega arith) (cases_eq (length text) 3)
 
-lone_high : (b : ℕ) → 0 < lone_len b → 14 ≤ b
-lone_high b some = grind (arith, nat_tests)
-
 pub byte_split : (text behind rest : List ℕ) (len sum : ℕ) → IsUtf8 text → 0 < length text → len ≡ lone_len (get_or text 0 0) → 0 < len
     → behind ≡ drop len text → IsWithAdded (if eqb len 3 then 2 else 1) behind sum rest → IsWideSplit text sum rest
 byte_split text behind rest len sum u some told_len more from joined =
@@ -529,5 +512,7 @@ byte_split text behind rest len sum u some told_len more from joined =
     let same : get_or text 0 0 ≡ get_or cluster 0 0 = ap (λ t. get_or t 0 0) whole ∙ sym (get_or-front cluster behind front) in
     let told : length cluster ≡ lone_len (get_or cluster 0 0) = bytes ∙ told_len ∙ ap lone_len same in
     let own : cluster_width cluster ≡ (if eqb len 3 then 2 else 1) = sym (byte_width cluster utf8 front told) ∙ ap (λ n. if eqb n 3 then 2 else 1) bytes in
-    base_split text behind rest c _ sum u whole (alone_by_byte text lead first) (lone_high (get_or cluster 0 0) (subst (λ n. 0 < n) told front))
-    (sym (ap (str_width false) (only_character cluster [] c utf8 (sym (append-nil cluster)) (omega arith))) ∙ own) joined
+    let few : (if eqb len 3 then 2 else 1) ≤ 2 = grind (arith, nat_tests) in
+    let width = sym (ap (str_width false) (only_character cluster [] c utf8 (sym (append-nil cluster)) (omega arith))) ∙ own in
+    front_split text behind rest (c ∷ []) _ sum u (one text behind c whole)
+    (base_front c _ (alone_by_byte text lead first) (high_by_byte text lead first) few width) joined

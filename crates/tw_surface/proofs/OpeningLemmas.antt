@@ -24,7 +24,7 @@ use Rattle.unicode_segmentation.specs.Grapheme.{break_by_pair, ends_in_half_flag
 use Rattle.unicode_segmentation.specs.Segments.{cut, prepend}
 use Rattle.unicode_width.specs.Width.{str_width}
 use Rattle.tw_surface.specs.Clusters.{ends_syllable, flag_letters, lone_ranges, syllables, is_picture, is_plain_extend, is_joined, is_linker, is_linking, is_other, stands_alone, starts_apart, IsFirstCluster}
-use Rattle.tw_surface.specs.Openings.{IsAdded, IsPastAdded, IsOpen, IsPlainEnd, BeginsOpen, IsPastPictograph, GoesOn, nearest, ArePictures}
+use Rattle.tw_surface.specs.Openings.{AddsColumns, IsPastAdded, IsOpen, IsPlainEnd, BeginsOpen, IsPastPictograph, GoesOn, nearest, ArePictures}
 use Rattle.tw_surface.proofs.TableFacts.{throughout}
 use Rattle.tw_surface.proofs.ClusterSeams.{ends_in_linker-not}
 use Rattle.tw_surface.proofs.ClusterCuts.{clusters_of, IsFirstCluster-from}
@@ -165,7 +165,7 @@ open_mark before (c ∷ []) mark opened is = ((λ after. opened.joins mark after
 open_mark before (c ∷ d ∷ cs) mark opened is = (opened.0, open_mark (c ∷ before) (d ∷ cs) mark opened.1 is)
 
 -- a text whose bytes are those of some characters and of others
-joined : (text behind rest cs ds : List ℕ) → text ≡ encode_utf8_all cs ++ behind → behind ≡ encode_utf8_all ds ++ rest → text ≡ encode_utf8_all (cs ++ ds) ++ rest
+pub joined : (text behind rest cs ds : List ℕ) → text ≡ encode_utf8_all cs ++ behind → behind ≡ encode_utf8_all ds ++ rest → text ≡ encode_utf8_all (cs ++ ds) ++ rest
 joined text behind rest cs ds first second =
     first ∙ ap (λ t. encode_utf8_all cs ++ t) second ∙ sym (append_assoc (encode_utf8_all cs) (encode_utf8_all ds) rest)
     ∙ ap (λ t. t ++ rest) (sym (encodes-append cs ds))
@@ -176,14 +176,14 @@ one text rest c whole = whole ∙ ap (λ t. t ++ rest) (sym (append-nil (encode_
 pub two : (text behind rest : List ℕ) (c d : ℕ) → text ≡ encode_utf8 c ++ behind → behind ≡ encode_utf8 d ++ rest → text ≡ encode_utf8_all (c ∷ d ∷ []) ++ rest
 two text behind rest c d whole more = joined text behind rest (c ∷ []) (d ∷ []) (one text behind c whole) (one behind rest d more)
 
-nothing_added : IsAdded [] 0
+nothing_added : AddsColumns [] 0
 nothing_added =
     record {
       joins = λ front opened. subst (IsOpen []) (sym (append-nil front)) opened;
       adds = λ front. ap (str_width false) (append-nil front) ∙ sym (add-zero (str_width false front));
     }
 
-both_added : (cs ds : List ℕ) (first second : ℕ) → IsAdded cs first → IsAdded ds second → IsAdded (cs ++ ds) (first + second)
+both_added : (cs ds : List ℕ) (first second : ℕ) → AddsColumns cs first → AddsColumns ds second → AddsColumns (cs ++ ds) (first + second)
 both_added cs ds first second left right =
     record {
       joins = λ front opened. subst (IsOpen []) (append_assoc front cs ds) (right.joins (front ++ cs) (left.joins front opened));
@@ -196,7 +196,7 @@ pub no_more : (columns sum : ℕ) (text : List ℕ) → sum ≡ columns → colu
 no_more columns sum text same few = ([], 0, refl, nothing_added, omega (arith, same), omega (arith, same))
 
 pub more_added : (columns sum added : ℕ) (behind here rest ds : List ℕ) → IsPastAdded columns behind sum here → here ≡ encode_utf8_all ds ++ rest
-    → IsAdded ds added → sum + added ≤ 2 → IsPastAdded columns behind (sum + added) rest
+    → AddsColumns ds added → sum + added ≤ 2 → IsPastAdded columns behind (sum + added) rest
 more_added columns sum added behind here rest ds (cs, more, whole, are, sums, most) next is few =
     (cs ++ ds, more + added, joined behind here rest cs ds whole next, both_added cs ds more added are is, omega (arith, sums), few)
 
@@ -433,10 +433,6 @@ selector_joins = refl
 pub selector_is_mark : is_plain_mark 0xFE0F ≡ true
 unfolding grapheme_cluster_break indic_conjunct_break ucd_breaks ucd_derived tables
 selector_is_mark = refl
-
-pub cap_is_mark : is_plain_mark 0x20E3 ≡ true
-unfolding grapheme_cluster_break indic_conjunct_break ucd_breaks ucd_derived tables
-cap_is_mark = refl
 
 pub starts_selected : (text rest : List ℕ) (c : ℕ) → IsUtf8 text → text ≡ encode_utf8 c ++ rest → c ≡ 0xFE0F → starts_apart (chars text) ≡ false
 starts_selected text rest c u whole is = ap starts_apart (chars_past_char text rest c u whole) ∙ ap (λ d. not (is_joined (grapheme_cluster_break d))) is ∙ ap not selector_joins

@@ -18,7 +18,9 @@ const FIRST_PICTURE: char = '\u{1F300}';
 fn is_in_narrow_block(c: char) -> bool
     ensures { result ≡ in_ranges narrow_blocks c }
 {
+    // (no block stands between those of Tamil and of Thai, nor between those of Thai and of accented Latin)
     c < FIRST_KANA
+        && !matches!(c, '\u{BBA}'..='\u{E00}' | '\u{E47}'..='\u{1DFF}')
         && matches!(
         c,
         '\u{05D0}'..='\u{05FF}'
@@ -66,14 +68,15 @@ fn is_in_wide_block(c: char) -> bool
     if c >= FIRST_PICTURE {
         return is_in_picture_block(c);
     }
-    matches!(
+    c >= FIRST_KANA
+        && matches!(
         c,
-        '\u{3000}'..='\u{3029}'
+        '\u{FF01}'..='\u{FF60}'
+            | '\u{3000}'..='\u{3029}'
             | '\u{3041}'..='\u{3096}'
             | '\u{309B}'..='\u{30FF}'
             | '\u{3250}'..='\u{A48C}'
             | '\u{F900}'..='\u{FAFF}'
-            | '\u{FF01}'..='\u{FF60}'
     )
 }
 

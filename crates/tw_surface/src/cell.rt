@@ -157,6 +157,7 @@ pub fn unicode_column_width(s: &str) -> usize
 
 /// Returns the columns of a grapheme cluster. A single character whose first byte tells its width, as most
 /// clusters are, needs no table.
+#[tactic(auto, using(crate::proofs::LoneWidths::byte_width))]
 #[inline]
 pub fn cluster_width(cluster: &str) -> usize
     ensures value { result ≡ cluster_width cluster.now }

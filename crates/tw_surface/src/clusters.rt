@@ -8,7 +8,7 @@ ghost use Rattle.ucd_derived.specs.IndicConjunctBreak.{indic_conjunct_break};
 ghost use Rattle.unicode_segmentation.specs.Grapheme.{graphemes, is_consonant};
 ghost use Rattle.tw_surface.specs.Clusters.{is_joined, is_linker, is_picture, is_plain_extend, lone_len, mark_blocks, ends_syllable, stands_alone, starts_apart, IsFirstCluster, IsSplit};
 ghost use Rattle.tw_surface.specs.Places.{IsWideSplit};
-ghost use Rattle.tw_surface.specs.Openings.{GoesOn, IsBase, IsAdded, IsPastPictograph, IsWithAdded, BeginsOpen};
+ghost use Rattle.tw_surface.specs.Openings.{AddsColumns, BeginsOpen, GoesOn, IsFront, IsPastPictograph, IsWithAdded};
 
 use crate::blocks::{
     FIRST_MARK, is_flag_letter, is_in_conjunct_block, is_in_lone_range, is_in_mark_block,
@@ -28,9 +28,6 @@ const LAST_ALONE: char = '\u{A0}';
 
 /// The first linker of conjuncts that does not join what stands before it.
 const FIRST_VEDIC_LINKER: char = '\u{1CF5}';
-
-/// The keycap round the characters before it.
-const CAP: char = '\u{20E3}';
 
 /// The selector by which the character before it is shown as an emoji.
 const SELECTOR: char = '\u{FE0F}';
@@ -96,6 +93,7 @@ fn is_plain_extend(c: char) -> bool
 }
 
 /// Returns true if the text is empty or begins with a character that does not join whatever stands before it.
+#[tactic(auto, using(crate::proofs::OpeningLemmas::starts_low, crate::proofs::OpeningLemmas::starts_selected))]
 fn starts_apart(text: &str) -> bool
     ensures { result ≡ starts_apart (chars text.now) }
 {
@@ -141,6 +139,7 @@ fn first_len(text: &str) -> usize
 }
 
 /// Returns true if the character is a pictograph and a base.
+#[tactic(auto, using(crate::proofs::LoneCharacters::picture_in_block))]
 fn is_picture(c: char) -> bool
     ensures { result ≡ is_picture c }
 {
@@ -187,6 +186,7 @@ fn past_pictures(text: &str) -> Option<&str>
 }
 
 /// Returns the same for a text that may begin with pictographs behind joiners.
+#[tactic(auto, using(crate::proofs::OpeningLemmas::first_opened))]
 #[inline(never)]
 fn pictures_len(text: &str) -> usize
     requires { 0 < length text.now }
@@ -240,37 +240,36 @@ pub fn split_by_byte(text: &str) -> Option<(usize, &str)>
 
 /// Returns the same if the first characters tell it: another base, with plain marks and conjuncts or none behind it, a
 /// syllable of Hangul, a flag, a keycap, or an emoji with a skin tone or before U+FE0F.
-#[inline(never)]
+// Inlined in both loops, so that a letter takes one call.
+#[inline(always)]
 pub fn split_by_bytes(text: &str) -> Option<(usize, &str)>
     ensures { IfSome result (λ (columns, rest). IsWideSplit text.now columns rest.now) }
 {
     match text.as_bytes() {
-        [0xC2 | 0xD2..=0xDF | 0xE0 | 0xE3 | 0xEE | 0xEF, ..] => split_base(text),
-        [0xE2, _, _, 0xEF, 0xB8, ..] | [0xF0, _, _, _, 0xEF, 0xB8, ..] => split_selected(text),
-        [0xF0, _, _, _, 0xF0, 0x9F, 0x8F, 0xBB..=0xBF, ..] => split_toned(text),
-        [0xF0, 0x9F, 0x87, ..] => split_flag(text),
-        // (Jamo, letters of Khmer before a linker, emoji before a joiner)
-        [0xE1, 0x84..=0x87, ..]
-        | [0xE1, _, _, 0xE1, 0x9F, 0x92, ..]
-        | [0xF0, _, _, _, 0xE2, 0x80, ..] => None,
+        [0xE2, _, _, 0xEF, 0xB8, ..] => split_pair(text),
+        [0xC2 | 0xD2..=0xDF | 0xE0 | 0xE2 | 0xE3 | 0xEE | 0xEF, ..] => split_base(text),
+        // (Jamo, letters of Khmer before a linker)
+        [0xE1, 0x84..=0x87, ..] | [0xE1, _, _, 0xE1, 0x9F, 0x92, ..] => None,
         [0xEA, 0xB0..=0xBF, ..] | [0xEB..=0xED, ..] => split_syllable(text),
-        [0xE1 | 0xE2 | 0xEA | 0xF0, ..] => split_base(text),
+        [0xF0, 0x9F, 0x87, ..]
+        | [0xF0, _, _, _, 0xEF, 0xB8, ..]
+        | [0xF0, _, _, _, 0xF0, 0x9F, 0x8F, 0xBB..=0xBF, ..] => split_pair(text),
+        // (emoji before a joiner)
+        [0xF0, _, _, _, 0xE2, 0x80, ..] => None,
+        [0xE1 | 0xEA | 0xF0, ..] => split_base(text),
         // (keycaps)
-        [b'#'..=b'9', 0xEF, 0xB8, ..] => split_selected(text),
+        [b'#'..=b'9', 0xEF, 0xB8, ..] => split_pair(text),
         _ => None,
     }
 }
 
 /// Returns the columns of a base above U+00A0, or `None` for any other character.
 fn base_columns(c: char) -> Option<usize>
-    ensures { IfSome result (IsBase c) }
+    ensures { IfSome result (IsFront (c ∷ [])) }
 {
-    // (no block stands between those of Tamil and of Thai, nor between those of Thai and of accented Latin)
-    if !matches!(c, '\u{BBA}'..='\u{E00}' | '\u{E47}'..='\u{1DFF}') {
-        let columns = lone_columns(c);
-        if columns > 0 {
-            return Some(columns);
-        }
+    let columns = lone_columns(c);
+    if columns > 0 {
+        return Some(columns);
     }
     if c <= LAST_ALONE || !stands_alone(c) {
         return None;
@@ -291,68 +290,37 @@ fn split_base(text: &str) -> Option<(usize, &str)>
     split_joined(columns, chars.as_str())
 }
 
-/// Returns the same for an emoji with a skin tone.
-#[inline(never)]
-fn split_toned(text: &str) -> Option<(usize, &str)>
-    ensures { IfSome result (λ (columns, rest). IsWideSplit text.now columns rest.now) }
+/// Returns true if the characters are a sign that U+FE0F makes an emoji, a flag, or an emoji with a skin tone.
+fn is_pair(first: char, second: char) -> bool
+    ensures { result ≡ true → IsFront (first ∷ second ∷ []) 2 }
 {
-    let mut chars = text.chars();
-    let base = chars.next()?;
-    let tone = chars.next()?;
-    let rest = chars.as_str();
-    if is_in_picture_block(base)
-        && is_emoji_modifier_base(base)
-        && is_skin_tone(tone)
-        && starts_apart(rest)
-    {
-        Some((2, rest))
-    } else {
-        None
+    if second == SELECTOR {
+        return stands_alone(first) && is_emoji_variation_base(first);
     }
+    if is_flag_letter(first) {
+        return is_flag_letter(second);
+    }
+    is_in_picture_block(first) && is_emoji_modifier_base(first) && is_skin_tone(second)
 }
 
-/// Returns the same for a base that a selector makes an emoji, and for its keycap.
+/// Returns what [`split_base`] does, for such a pair.
 #[inline(never)]
-fn split_selected(text: &str) -> Option<(usize, &str)>
-    ensures { IfSome result (λ (columns, rest). IsWideSplit text.now columns rest.now) }
-{
-    let mut chars = text.chars();
-    let base = chars.next()?;
-    let selector = chars.next()?;
-    if selector != SELECTOR || !stands_alone(base) || !is_emoji_variation_base(base) {
-        return None;
-    }
-    let rest = chars.as_str();
-    if starts_apart(rest) {
-        return Some((2, rest));
-    }
-    let cap = chars.next()?;
-    let rest = chars.as_str();
-    if cap == CAP && starts_apart(rest) {
-        Some((2, rest))
-    } else {
-        None
-    }
-}
-
-/// Returns the same for a flag.
-#[inline(never)]
-fn split_flag(text: &str) -> Option<(usize, &str)>
+fn split_pair(text: &str) -> Option<(usize, &str)>
     ensures { IfSome result (λ (columns, rest). IsWideSplit text.now columns rest.now) }
 {
     let mut chars = text.chars();
     let first = chars.next()?;
     let second = chars.next()?;
-    let rest = chars.as_str();
-    if is_flag_letter(first) && is_flag_letter(second) && starts_apart(rest) {
-        Some((2, rest))
+    if is_pair(first, second) {
+        split_joined(2, chars.as_str())
     } else {
         None
     }
 }
 
-/// Returns the columns of a cluster and what follows it, if it begins with a base of `columns`, what is behind the base
-/// is `behind`, and nothing but plain marks and conjuncts joins that.
+/// Returns the columns of a cluster and what follows it, if it begins with characters of `columns`, `behind` is what
+/// stands behind them, and nothing but plain marks and conjuncts joins them.
+#[tactic(auto, using(crate::proofs::OpeningLemmas::no_more))]
 #[inline]
 fn split_joined(columns: usize, behind: &str) -> Option<(usize, &str)>
     requires { columns ≤ 2 }
@@ -365,7 +333,7 @@ fn split_joined(columns: usize, behind: &str) -> Option<(usize, &str)>
     }
 }
 
-/// Returns the same if something joins the base.
+/// Returns the same if something joins them.
 #[inline(never)]
 fn split_marked(columns: usize, behind: &str) -> Option<(usize, &str)>
     requires few { columns ≤ 2 }
@@ -395,20 +363,22 @@ fn split_marked(columns: usize, behind: &str) -> Option<(usize, &str)>
 }
 
 /// Returns the columns that a mark adds to the cluster that it joins.
+#[tactic(auto, using(crate::proofs::LoneWidths::mark_is_added))]
 fn mark_columns(mark: char) -> Option<usize>
     requires joined { is_joined (grapheme_cluster_break mark) ≡ true }
     requires no_linker { is_linker (indic_conjunct_break mark) ≡ false }
     requires block { in_ranges mark_blocks mark ≡ true }
-    ensures added { IfSome result (IsAdded (mark ∷ [])) }
+    ensures added { IfSome result (AddsColumns (mark ∷ [])) }
     ensures bound { IfSome result (λ columns. columns ≤ 3) }
 {
     mark.width()
 }
 
 /// Returns the columns that a linker and the letter behind it add to the cluster that they join.
+#[tactic(auto, using(crate::proofs::LoneWidths::conjunct_is_added))]
 fn conjunct_columns(linker: char, letter: char) -> Option<usize>
     requires { is_linker (indic_conjunct_break linker) ≡ true }
-    ensures added { IfSome result (IsAdded (linker ∷ letter ∷ [])) }
+    ensures added { IfSome result (AddsColumns (linker ∷ letter ∷ [])) }
     ensures bound { IfSome result (λ columns. columns ≤ 1) }
 {
     if is_in_conjunct_block(linker) && is_in_conjunct_block(letter) && is_consonant(letter) {
@@ -429,6 +399,7 @@ fn ends_syllable(text: &str) -> bool
 }
 
 /// Returns the same for a syllable of Hangul.
+#[tactic(auto, using(crate::proofs::LoneWidths::syllable_split))]
 #[inline(never)]
 fn split_syllable(text: &str) -> Option<(usize, &str)>
     ensures { IfSome result (λ (columns, rest). IsWideSplit text.now columns rest.now) }
@@ -444,6 +415,7 @@ fn split_syllable(text: &str) -> Option<(usize, &str)>
 }
 
 /// Returns the first cluster of a text and what follows it, or `None` if the text is empty.
+#[tactic(auto, using(crate::proofs::ClusterCuts::no_clusters))]
 #[inline]
 pub fn split_cluster(text: &str) -> Option<(&str, &str)>
     ensures { MatchOption result

@@ -121,7 +121,15 @@ impl Screen {
         })
     }
 
+    /// Returns the number of columns.
+    pub fn width(&self) -> usize
+        ensures { result ≡ self.now.width }
+    {
+        self.width
+    }
+
     /// Returns the character at a row and a column: a blank where nothing was written, and from the width on.
+    #[tactic(auto, using(crate::proofs::NearCells::shown_outside))]
     pub fn char_at(&self, row: usize, col: usize) -> char
         ensures shown { result ≡ (picture self.now).cell row col }
         ensures outside { self.now.width ≤ col → result ≡ blank }

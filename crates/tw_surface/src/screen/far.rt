@@ -68,6 +68,7 @@ pub fn trim_cells(cells: &mut Vec<Cell>)
 }
 
 // How many cells stand before a row and a column.
+#[tactic(auto, using(crate::proofs::CellClears::cut_at, crate::proofs::CellClears::cut_at_gap))]
 fn count_before(cells: &[Cell], row: usize, col: usize) -> usize
     requires { IsInOrder cells.now }
     ensures { IsCountBefore cells.now row col result }

@@ -31,6 +31,7 @@ pub fn blank_to(near: &mut Vec<u8>, end: usize)
 }
 
 // Drops the blanks at the end.
+#[tactic(auto, using(crate::proofs::NearCells::trimmed_at))]
 pub fn trim(near: &mut Vec<u8>)
     ensures kept { IsGrown near.new.items near.old.items }
     ensures trimmed { IsTrimmed near.new.items }
