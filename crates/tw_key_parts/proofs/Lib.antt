@@ -1,4 +1,4 @@
-pub mod LetterLemmas
+pub mod StepLemmas
 pub mod RingLemmas
 pub mod UndoLemmas
 pub mod PrefixLemmas

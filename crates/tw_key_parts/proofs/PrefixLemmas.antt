@@ -17,11 +17,7 @@ pub last-is : (lines : List (List ℕ)) (n : ℕ) → Some n ≡ last_index line
 last-is [] n e = cc
 last-is (line ∷ lines) n e = let same : n ≡ length (line ∷ lines) - 1 = cc in omega (arith, same)
 
--- none passes up to one more, or from one before on
-pub none-up : (p : ℕ → Bool) (from to : ℕ) → NonePasses p from to → p to ≡ false → NonePasses p from (to + 1)
-none-up p from to none last k low high =
-    ⊎_elim (λ below. none k low below) (λ above. let same : k ≡ to = omega (arith, above, high) in ap p same ∙ last) (cases_lt k to)
-
+-- none passes from one before on
 pub none-down : (p : ℕ → Bool) (from to : ℕ) → NonePasses p (from + 1) to → p from ≡ false → NonePasses p from to
 none-down p from to none first k low high =
     ⊎_elim (λ above. none k (omega (arith, above)) high) (λ below. let same : k ≡ from = omega (arith, below, low) in ap p same ∙ first) (cases_lt from k)

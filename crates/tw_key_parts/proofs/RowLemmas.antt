@@ -1,6 +1,7 @@
 -- The ends of a row, and steps that reach an offset.
 use Rattle.std.proofs.Common.{◌≡◌, ◌≢◌, ◌+◌, ◌-◌, ◌<◌, ◌≤◌, ◌==◌, ◌||◌, ℕ, zero, suc, Bool, true, false, List, length, get_or, min, max, slice_range, take, drop, Option, Some, None, refl, ap, sym, subst, ◌∙◌, inl, inr, ◌⊎◌, ⊎_elim, unwrap_or, if◌then◌else◌, arith}
 use Rattle.std.specs.List.{list_any}
+use Rattle.std.proofs.Math.Bool.{or-true}
 use Rattle.std.proofs.lemmas.Bool.{cases_Bool, cases_lt, eq-eqb, le-leb, leb-false, leb-true, ne_eqb, true≢false}
 use Rattle.std.proofs.lemmas.List.{get_or-drop, get_or-take, get_or_past, length-drop, length-take-le}
 use Rattle.std.proofs.lemmas.List.Folds.{list_any_at}
@@ -8,22 +9,20 @@ use Rattle.std.proofs.lemmas.Str.{IsCharBoundary-after_ascii, IsCharBoundary-bef
 use Rattle.std.specs.Str.{IsCharBoundary, IsUtf8}
 use Rattle.tw_surface.specs.Characters.{lf}
 use Rattle.tw_line.specs.Extremes.{NonePasses, iterate}
-use Rattle.tw_line.proofs.ExtremesLemmas.{greatest_below-is, iterate-add, least_from-is, least_from-none}
+use Rattle.tw_line.proofs.ExtremesLemmas.{greatest_below-is, least_from-is, least_from-none}
 use Rattle.tw_line.specs.Clusters.{cluster_after, cluster_before, is_cluster_boundary}
 use Rattle.tw_line.proofs.StepLawLemmas.{offsets_are_extremes}
 use Rattle.tw_line.specs.Cut.{Cut, cut_at}
 use Rattle.tw_line.specs.Movements.{after_move, destination}
 use Rattle.tw_line.specs.declared.movements.Movement.TheVariants as movement
-use Rattle.tw_input.specs.EventView.{EventView, Key, Resized, Paste, Wake}
-use Rattle.tw_key_parts.specs.RowKeys.{OneRowIsLeft, RowKillIsKept, StepsLeadThere, begins_row, brings_rows, edit_by_any, edit_of_pattern, goal_column, has_reached, is_line_feed, is_reached_by, killed_to_end, moved_down, moved_to_end, moved_to_start, moved_up, row_edit, row_end, row_key, row_start, row_steps, steps_to}
+use Rattle.tw_input.specs.EventView.{EventView, Paste}
+use Rattle.tw_key_parts.proofs.StepLemmas.{none-up, step-more}
+use Rattle.tw_key_parts.specs.ClusterSteps.{cluster_steps}
+use Rattle.tw_key_parts.specs.RowKeys.{OneRowIsLeft, RowKillIsKept, StepsLeadThere, begins_row, brings_rows, edit_by_any, edit_of_pattern, has_reached, is_line_feed, is_reached_by, row_end, row_key, row_start, steps_to}
 use Rattle.tw_key_parts.specs.declared.row_keys.RowKey.{RowKey}
 use Rattle.tw_key_parts.specs.declared.row_keys.RowKey.TheVariants.{Break, Up, Down, Start, End, KillToEnd}
-use Rattle.tw_key_parts.specs.declared.row_keys.Way.{Way}
-use Rattle.tw_key_parts.specs.declared.row_keys.Way.TheVariants.{Back, Ahead}
-
-or-true : (b : Bool) → b || true ≡ true
-or-true true = refl
-or-true false = refl
+use Rattle.tw_key_parts.specs.declared.steps.Way.{Way}
+use Rattle.tw_key_parts.specs.declared.steps.Way.TheVariants.{Back, Ahead}
 
 module _ (line : List ℕ) where
   -- a row begins after a line feed, and nowhere else but at the start
@@ -101,21 +100,12 @@ module _ (line text : List ℕ) (at : ℕ) (inside : at ≤ length line) where
         let byte : get_or line (at + feed) 0 ≡ lf = sym (rest-byte (at + feed) feed refl) ∙ there in
         IsCharBoundary-after_ascii line (at + feed) utf8 (omega (arith, low, rest-len)) (omega (arith, byte))
 
--- one step more
-step-more : (way : Way) (n : ℕ) (cut : Cut) → destination (row_steps way 1) (after_move (row_steps way n) cut) ≡ destination (row_steps way (n + 1)) cut
-unfolding destination iterate
-step-more Back n cut = sym (iterate-add (cluster_before cut.line) n 1 cut.cursor)
-step-more Ahead n cut = sym (iterate-add (cluster_after cut.line) n 1 cut.cursor)
-
-pub stepped : (way : Way) (n : ℕ) (cut : Cut) → after_move (row_steps way 1) (after_move (row_steps way n) cut) ≡ after_move (row_steps way (n + 1)) cut
-stepped way n cut = ap (cut_at cut.line) (step-more way n cut)
-
-no-step : (way : Way) (cut : Cut) → destination (row_steps way 0) cut ≡ cut.cursor
+no-step : (way : Way) (cut : Cut) → destination (cluster_steps way 0) cut ≡ cut.cursor
 unfolding destination iterate
 no-step Back cut = refl
 no-step Ahead cut = refl
 
-pub unmoved : (way : Way) (cut : Cut) → cut ≡ after_move (row_steps way 0) cut
+pub unmoved : (way : Way) (cut : Cut) → cut ≡ after_move (cluster_steps way 0) cut
 unmoved way cut = ap (cut_at cut.line) (sym (no-step way cut))
 
 module _ (way : Way) (to : ℕ) (cut : Cut) where
@@ -128,10 +118,6 @@ module _ (way : Way) (to : ℕ) (cut : Cut) where
   never-reached none =
       sym (ap (λ found. unwrap_or found (length cut.line)) (least_from-none (is_reached_by way to cut) (length cut.line) 0 (λ k low high. none k low (omega (arith, high)))))
 
-  pub not-yet : (n : ℕ) → NonePasses (is_reached_by way to cut) 0 n → is_reached_by way to cut n ≡ false → NonePasses (is_reached_by way to cut) 0 (n + 1)
-  not-yet n none last k low high =
-      ⊎_elim (λ below. none k low below) (λ above. let same : k ≡ n = omega (arith, above, high) in ap (is_reached_by way to cut) same ∙ last) (cases_lt k n)
-
 -- ---- a line of one row
 
 -- a text in which no byte is a line feed
@@ -139,25 +125,6 @@ no-feed : (text : List ℕ) → list_any (λ b. b == lf) text ≡ false → (i :
 no-feed text none i there =
     ⊎_elim (λ inside. true≢false (sym (list_any_at (λ b. b == lf) text i 0 inside (eq-eqb (get_or text i 0) lf there)) ∙ none))
     (λ past. absurd (omega (arith, get_or_past text i 0 past, there))) (cases_lt i (length text))
-
--- the keys leave the first row, and the last one
-first-row-up : (column : ℕ) (cut : Cut) → row_start cut.line cut.cursor ≡ 0 → moved_up column cut ≡ None
-first-row-up column cut e = rw e refl
-
-first-row-start : (cut : Cut) → row_start cut.line cut.cursor ≡ 0 → moved_to_start cut ≡ None
-first-row-start cut e = rw e refl
-
-same-length : (n : ℕ) → (n == n) ≡ true
-same-length n = eq-eqb n n refl
-
-last-row-down : (column : ℕ) (cut : Cut) → row_end cut.line cut.cursor ≡ length cut.line → moved_down column cut ≡ None
-last-row-down column cut e = rw (e, same-length (length cut.line)) refl
-
-last-row-end : (cut : Cut) → row_end cut.line cut.cursor ≡ length cut.line → moved_to_end cut ≡ None
-last-row-end cut e = rw (e, same-length (length cut.line)) refl
-
-last-row-kill : (cut : Cut) → row_end cut.line cut.cursor ≡ length cut.line → killed_to_end cut ≡ None
-last-row-kill cut e = rw (e, same-length (length cut.line)) refl
 
 pub one_row_is_left : OneRowIsLeft
 one_row_is_left goal asked none whole other = by asked.searching
@@ -171,20 +138,21 @@ one_row_is_left goal asked none whole other = by asked.searching
     end : row_end cut.line cut.cursor ≡ length cut.line
     end = sym (end-none cut.line cut.cursor (λ i above below. no-feed cut.line none i))
 
+    whole-length : (length cut.line == length cut.line) ≡ true
+    whole-length = eq-eqb (length cut.line) (length cut.line) refl
+
     by_key : (key : Option RowKey) → key ≢ Some Break → edit_by_any key goal cut ≡ None
     by_key None other = refl
     by_key (Some Break) other = absurd (other refl)
-    by_key (Some Up) other = let column = goal_column goal cut in ap (row_edit (Some column)) (first-row-up column cut start)
-    by_key (Some Down) other = let column = goal_column goal cut in ap (row_edit (Some column)) (last-row-down column cut end)
-    by_key (Some Start) other = ap (row_edit None) (first-row-start cut start)
-    by_key (Some End) other = ap (row_edit None) (last-row-end cut end)
-    by_key (Some KillToEnd) other = ap (row_edit None) (last-row-kill cut end)
+    by_key (Some Up) other = rw start refl
+    by_key (Some Down) other = rw (end, whole-length) refl
+    by_key (Some Start) other = rw start refl
+    by_key (Some End) other = rw (end, whole-length) refl
+    by_key (Some KillToEnd) other = rw (end, whole-length) refl
 
     by_event : (event : EventView) → brings_rows event ≡ false → edit_of_pattern event ≡ None
-    by_event (Key key) whole = refl
-    by_event (Resized cols rows) whole = refl
     by_event (Paste text) whole = rw whole refl
-    by_event Wake whole = refl
+    by_event _ whole = refl
 
     by : (searching : Bool) → (if searching then edit_of_pattern asked.event else edit_by_any (row_key asked.event) goal cut) ≡ None
     by true = by_event asked.event whole
@@ -196,11 +164,8 @@ one_row_is_left goal asked none whole other = by asked.searching
 least-or-none : (p : ℕ → Bool) (n : ℕ) → NonePasses p 0 n ⊎ ((m : ℕ) × (m < n) × (p m ≡ true) × NonePasses p 0 m)
 least-or-none p zero = inl (λ k low high. absurd (omega (arith, high)))
 least-or-none p (suc n) =
-    ⊎_elim (λ none. ⊎_elim (λ passes. inr (n, omega arith, passes, none)) (λ fails. inl (more none fails)) (cases_Bool (p n)))
+    ⊎_elim (λ none. ⊎_elim (λ passes. inr (n, omega arith, passes, none)) (λ fails. inl (λ k low high. none-up p 0 n none fails k low (omega (arith, high)))) (cases_Bool (p n)))
     (λ found. inr (found.0, omega (arith, found.1), found.2, found.3)) (least-or-none p n)
-  where
-    more : NonePasses p 0 n → p n ≡ false → NonePasses p 0 (suc n)
-    more none fails k low high = ⊎_elim (λ below. none k low below) (λ above. let same : k ≡ n = omega (arith, above, high) in ap p same ∙ fails) (cases_lt k n)
 
 module _ (line : List ℕ) (to : ℕ) (there : is_cluster_boundary line to ≡ true) where
   -- one step does not pass a boundary
@@ -214,11 +179,11 @@ module _ (line : List ℕ) (to : ℕ) (there : is_cluster_boundary line to ≡ t
       ⊎_elim (λ found. (⊎_elim (λ less. absurd (true≢false (sym there ∙ found.first to (omega (arith, above)) less))) (λ enough. enough) (cases_lt to (cluster_after line at)), omega (arith, found.low)))
       (λ none. absurd (true≢false (sym there ∙ none.0 to (omega (arith, above)) (omega (arith, inside))))) (offsets_are_extremes line at).cluster_after
 
-one-step-back : (line : List ℕ) (at : ℕ) → destination (row_steps Back 1) (cut_at line at) ≡ cluster_before line at
+one-step-back : (line : List ℕ) (at : ℕ) → destination (cluster_steps Back 1) (cut_at line at) ≡ cluster_before line at
 unfolding destination iterate
 one-step-back line at = refl
 
-one-step-ahead : (line : List ℕ) (at : ℕ) → destination (row_steps Ahead 1) (cut_at line at) ≡ cluster_after line at
+one-step-ahead : (line : List ℕ) (at : ℕ) → destination (cluster_steps Ahead 1) (cut_at line at) ≡ cluster_after line at
 unfolding destination iterate
 one-step-ahead line at = refl
 
@@ -228,7 +193,7 @@ IsOnWay Back to cut n at = (to ≤ at) × (at + n ≤ cut.cursor)
 IsOnWay Ahead to cut n at = (at ≤ to) × (cut.cursor + n ≤ at)
 
 module _ (to : ℕ) (cut : Cut) (there : is_cluster_boundary cut.line to ≡ true) (inside : to ≤ length cut.line) where
-  on-way-step : (way : Way) (n at : ℕ) → has_reached way to at ≡ false → IsOnWay way to cut n at → IsOnWay way to cut (n + 1) (destination (row_steps way 1) (cut_at cut.line at))
+  on-way-step : (way : Way) (n at : ℕ) → has_reached way to at ≡ false → IsOnWay way to cut n at → IsOnWay way to cut (n + 1) (destination (cluster_steps way 1) (cut_at cut.line at))
   on-way-step Back n at other on =
       let step = back-step cut.line to there at (omega (arith, leb-false at to other)) in
       rw (one-step-back cut.line at) (step.0, omega (arith, step.1, on.1))
@@ -240,28 +205,28 @@ module _ (to : ℕ) (cut : Cut) (there : is_cluster_boundary cut.line to ≡ tru
   on-way-start Back way = (leb-true to cut.cursor way, omega arith)
   on-way-start Ahead way = (leb-true cut.cursor to way, omega arith)
 
-  on-way : (way : Way) → has_reached way cut.cursor to ≡ true → (n : ℕ) → NonePasses (is_reached_by way to cut) 0 n → IsOnWay way to cut n (destination (row_steps way n) cut)
+  on-way : (way : Way) → has_reached way cut.cursor to ≡ true → (n : ℕ) → NonePasses (is_reached_by way to cut) 0 n → IsOnWay way to cut n (destination (cluster_steps way n) cut)
   on-way way from zero none = subst (IsOnWay way to cut 0) (sym (no-step way cut)) (on-way-start way from)
   on-way way from (suc n) none =
       let before = on-way way from n (λ k low high. none k low (omega (arith, high))) in
-      let next = on-way-step way n (destination (row_steps way n) cut) (none n (omega arith) (omega arith)) before in
+      let next = on-way-step way n (destination (cluster_steps way n) cut) (none n (omega arith) (omega arith)) before in
       let more : n + 1 ≡ suc n = omega arith in
-      subst (λ m. IsOnWay way to cut m (destination (row_steps way m) cut)) more (subst (IsOnWay way to cut (n + 1)) (step-more way n cut) next)
+      subst (λ m. IsOnWay way to cut m (destination (cluster_steps way m) cut)) more (subst (IsOnWay way to cut (n + 1)) (step-more way n cut) next)
 
   -- where it is reached, or as many steps went on as there are bytes, it is the place
-  there-at : (way : Way) (n : ℕ) → has_reached way to (destination (row_steps way n) cut) ≡ true → IsOnWay way to cut n (destination (row_steps way n) cut) → destination (row_steps way n) cut ≡ to
-  there-at Back n here on = omega (arith, on.0, leb-true (destination (row_steps Back n) cut) to here)
-  there-at Ahead n here on = omega (arith, on.0, leb-true to (destination (row_steps Ahead n) cut) here)
+  there-at : (way : Way) (n : ℕ) → has_reached way to (destination (cluster_steps way n) cut) ≡ true → IsOnWay way to cut n (destination (cluster_steps way n) cut) → destination (cluster_steps way n) cut ≡ to
+  there-at Back n here on = omega (arith, on.0, leb-true (destination (cluster_steps Back n) cut) to here)
+  there-at Ahead n here on = omega (arith, on.0, leb-true to (destination (cluster_steps Ahead n) cut) here)
 
-  all-gone : (way : Way) → cut.cursor ≤ length cut.line → IsOnWay way to cut (length cut.line) (destination (row_steps way (length cut.line)) cut) → destination (row_steps way (length cut.line)) cut ≡ to
+  all-gone : (way : Way) → cut.cursor ≤ length cut.line → IsOnWay way to cut (length cut.line) (destination (cluster_steps way (length cut.line)) cut) → destination (cluster_steps way (length cut.line)) cut ≡ to
   all-gone Back low on = omega (arith, on.0, on.1, low)
   all-gone Ahead low on = omega (arith, on.0, on.1, inside)
 
 pub steps_lead_there : StepsLeadThere
 steps_lead_there way to cut low inside there from =
-    ⊎_elim (λ none. ap (λ n. destination (row_steps way n) cut) (sym (never-reached way to cut none))
+    ⊎_elim (λ none. ap (λ n. destination (cluster_steps way n) cut) (sym (never-reached way to cut none))
     ∙ all-gone to cut there inside way low (on-way to cut there inside way from (length cut.line) none))
-    (λ found. ap (λ n. destination (row_steps way n) cut) (sym (reached way to cut found.0 found.1 found.2 found.3))
+    (λ found. ap (λ n. destination (cluster_steps way n) cut) (sym (reached way to cut found.0 found.1 found.2 found.3))
     ∙ there-at to cut there inside way found.0 found.2 (on-way to cut there inside way from found.0 found.3))
     (least-or-none (is_reached_by way to cut) (length cut.line))
 
@@ -271,9 +236,9 @@ pub row_kill_is_kept : RowKillIsKept
 row_kill_is_kept cut some inside there =
     let end = row_end cut.line cut.cursor in
     let n = steps_to Ahead end cut in
-    let leads : destination (row_steps Ahead n) cut ≡ end =
+    let leads : destination (cluster_steps Ahead n) cut ≡ end =
     steps_lead_there Ahead end cut (omega (arith, some, inside)) (omega (arith, inside)) there (le-leb cut.cursor end (omega (arith, some))) in
-    let moves : n ≢ 0 = λ none. absurd (omega (arith, some, sym leads ∙ ap (λ k. destination (row_steps Ahead k) cut) none ∙ no-step Ahead cut)) in
+    let moves : n ≢ 0 = λ none. absurd (omega (arith, some, sym leads ∙ ap (λ k. destination (cluster_steps Ahead k) cut) none ∙ no-step Ahead cut)) in
     let whole : max n 1 ≡ n = omega (arith, moves) in
     let leads_to : destination (movement.ForwardChar (max n 1)) cut ≡ end = ap (λ k. destination (movement.ForwardChar k) cut) whole ∙ leads in
     rw (ne_eqb end (length cut.line) (λ e. absurd (omega (arith, e, inside))))

@@ -8,9 +8,6 @@ use Rattle.tw_line.specs.Cut.{Cut}
 use Rattle.tw_key_parts.specs.Undo.{Undo, differs_at, last_change, steps_left, step_at, undo_behind, undone}
 use Rattle.tw_key_parts.specs.UndoLaws.{oldest_line, undo_once, UndosGiveOldest, UndoKeepsOldest}
 
-some_is : (m n : ℕ) → Some m ≡ Some n → m ≡ n
-some_is m n e = cc
-
 -- a number that is found is below the limit
 found_below : (p : ℕ → Bool) (to i : ℕ) → greatest_below p to ≡ Some i → i < to
 unfolding greatest_below
@@ -18,7 +15,7 @@ found_below p zero i e = cc
 found_below p (suc to) i e = by (p to) e (found_below p to i)
   where
     by : (b : Bool) → (if b then Some to else greatest_below p to) ≡ Some i → (greatest_below p to ≡ Some i → i < to) → i < suc to
-    by true e below = let same : to ≡ i = some_is to i e in omega (arith, same)
+    by true e below = let same : to ≡ i = cc in omega (arith, same)
     by false e below = let low = below e in omega (arith, low)
 
 -- where none is found 0 is none

@@ -1,17 +1,20 @@
 -- The keys of the parts.
-use Rattle.std.specs.Prelude.{Bool, false, ◌||◌, codes}
+use Rattle.std.specs.Prelude.{Bool, false, ◌||◌, List, [], ◌∷◌, codes, Option, Some, None, if◌then◌else◌}
 use Rattle.tw_input.specs.declared.key.KeyCode.TheVariants.{Backspace, Delete}
 use Rattle.tw_input.specs.declared.key.KeyEvent.{KeyEvent}
-use Rattle.tw_input.specs.EventView.{EventView, Key, Resized, Paste, Wake}
+use Rattle.tw_input.specs.EventView.{EventView, Key}
 use Rattle.tw_input.specs.Modifiers.{none, alt, ctrl}
 use Rattle.tw_host.specs.KeyTable.{is_same_key, key_press, letter}
 
 -- whether an event is this key
 abbrev pub is_key : KeyEvent → EventView → Bool
 is_key key (Key other) = is_same_key other key
-is_key key (Resized cols rows) = false
-is_key key (Paste text) = false
-is_key key Wake = false
+is_key key _ = false
+
+-- what the first row with this key has
+abbrev pub row_of : {X : Type 0} → List (KeyEvent × X) → KeyEvent → Option X
+row_of [] key = None
+row_of (row ∷ rest) key = if is_same_key row.0 key then Some row.1 else row_of rest key
 
 -- brings the newest kill back
 abbrev pub yank_key : KeyEvent

@@ -1,8 +1,8 @@
 -- A host with keys for words of letters and digits.
-use Rattle.std.specs.Prelude.{Bool, true, false, List, [], ◌∷◌, codes, Option, None, option_map}
+use Rattle.std.specs.Prelude.{Bool, false, List, [], ◌∷◌, codes, Option, None, option_map}
 use Rattle.tw_input.specs.declared.key.KeyCode.TheVariants.{Backspace, LeftArrow, RightArrow}
 use Rattle.tw_input.specs.declared.key.KeyEvent.{KeyEvent}
-use Rattle.tw_input.specs.EventView.{EventView, Key, Resized, Paste, Wake}
+use Rattle.tw_input.specs.EventView.{EventView, Key}
 use Rattle.tw_input.specs.Modifiers.{alt, ctrl}
 use Rattle.tw_line.specs.Cut.{Cut}
 use Rattle.tw_line.specs.declared.movements.Movement.TheVariants as movement
@@ -24,11 +24,8 @@ letter_table cut =
 
 -- the action of an event on a line, but during a search
 abbrev pub letter_action : Bool → EventView → Cut → Option ActionView
-letter_action true event cut = None
 letter_action false (Key key) cut = looked_up (letter_table cut) key
-letter_action false (Resized cols rows) cut = None
-letter_action false (Paste text) cut = None
-letter_action false Wake cut = None
+letter_action _ _ cut = None
 
 -- the edit of an event: the line stays as it is
 abbrev pub letter_edit : Asked → Option (Edited (Unit {0}))

@@ -6,10 +6,9 @@ use Rattle.std.specs.Str.{chars}
 use Rattle.tw_line.specs.Extremes.{least_from}
 use Rattle.tw_line.specs.Cut.{Cut}
 use Rattle.tw_line.specs.Movements.{destination}
-use Rattle.tw_line.specs.declared.movements.Movement.{Movement}
-use Rattle.tw_line.specs.declared.movements.Movement.TheVariants.{BackwardChar, ForwardChar}
-use Rattle.tw_key_parts.specs.declared.letters.Side.{Side}
-use Rattle.tw_key_parts.specs.declared.letters.Side.TheVariants.{Ahead, Back}
+use Rattle.tw_key_parts.specs.ClusterSteps.{cluster_steps}
+use Rattle.tw_key_parts.specs.declared.steps.Way.{Way}
+use Rattle.tw_key_parts.specs.declared.steps.Way.TheVariants.{Back, Ahead}
 
 -- whether the first of some characters is a letter or a digit, and whether a text begins with one
 abbrev pub is_letter_first : List ℕ → Bool
@@ -19,22 +18,17 @@ is_letter_first (c ∷ cs) = is_alphabetic c || is_numeric c
 abbrev pub begins_with_letter : List ℕ → Bool
 begins_with_letter text = is_letter_first (chars text)
 
--- so many steps by grapheme clusters
-abbrev pub cluster_steps : Side → ℕ → Movement
-cluster_steps Ahead count = ForwardChar count
-cluster_steps Back count = BackwardChar count
-
 -- whether a letter stands where so many steps lead
-abbrev pub is_letter_after : Side → Cut → ℕ → Bool
-is_letter_after side cut count = begins_with_letter (drop (destination (cluster_steps side count) cut) cut.line)
+abbrev pub is_letter_after : Way → Cut → ℕ → Bool
+is_letter_after way cut count = begins_with_letter (drop (destination (cluster_steps way count) cut) cut.line)
 
 -- whether one stands there, and none a step further
-abbrev pub is_last_letter : Side → Cut → ℕ → Bool
-is_last_letter side cut count = is_letter_after side cut count && not (is_letter_after side cut (count + 1))
+abbrev pub is_last_letter : Way → Cut → ℕ → Bool
+is_last_letter way cut count = is_letter_after way cut count && not (is_letter_after way cut (count + 1))
 
 -- the least number of steps, from one on, that lead to the last letter of a word
-abbrev pub last_letter : Side → ℕ → Cut → Option ℕ
-last_letter side from cut = least_from (is_last_letter side cut) from (length cut.line)
+abbrev pub last_letter : Way → ℕ → Cut → Option ℕ
+last_letter way from cut = least_from (is_last_letter way cut) from (length cut.line)
 
 -- past the last letter of the word ahead, or to the end of the line
 abbrev pub past_or : Option ℕ → ℕ → ℕ

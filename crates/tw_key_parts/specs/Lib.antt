@@ -1,5 +1,6 @@
 pub mod WordEdits
 pub mod WordSwaps
+pub mod ClusterSteps
 pub mod LetterWords
 pub mod KeyRules
 pub mod EditView
@@ -10,6 +11,7 @@ pub mod PlainKeys
 pub mod ReadlineKeys
 pub mod Undo
 pub mod Ring
+pub mod Recalled
 pub mod LastWords
 pub mod WordKeys
 pub mod LetterKeys

@@ -3,7 +3,7 @@ use Rattle.std.specs.Prelude.{◌≡◌, ◌≢◌, ◌==◌, ◌&&◌, not, All
 use Rattle.std.specs.Option.{option_or}
 use Rattle.tw_input.specs.declared.key.KeyCode.TheVariants.{Backspace, LeftArrow, RightArrow}
 use Rattle.tw_input.specs.declared.key.KeyEvent.{KeyEvent}
-use Rattle.tw_input.specs.EventView.{EventView, Key, Resized, Paste, Wake}
+use Rattle.tw_input.specs.EventView.{EventView, Key}
 use Rattle.tw_input.specs.Modifiers.{alt, ctrl}
 use Rattle.tw_line.specs.Cut.{Cut}
 use Rattle.tw_line.specs.declared.movements.Movement.TheVariants as movement
@@ -37,9 +37,7 @@ readline_key key cut = option_or (looked_up readline_table key) (delete_action k
 -- the action of an event in a line
 abbrev pub readline_action : EventView → Cut → Option ActionView
 readline_action (Key key) cut = readline_key key cut
-readline_action (Resized cols rows) cut = None
-readline_action (Paste text) cut = None
-readline_action Wake cut = None
+readline_action _ cut = None
 
 -- the action of an event in a line, which stays as it is
 abbrev pub readline_edit : Asked → Option (Edited (Unit {0}))

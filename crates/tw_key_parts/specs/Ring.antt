@@ -1,5 +1,5 @@
 -- What was killed, and how it comes back.
-use Rattle.std.specs.Prelude.{ℕ, ◌-◌, ◌==◌, ◌&&◌, ◌||◌, nat_lt, Bool, not, List, [], ◌∷◌, ◌++◌, length, take, drop, map, min, max, eqb, string_bytes, Option, Some, None, option_map, if◌then◌else◌, slice_get, slice_range}
+use Rattle.std.specs.Prelude.{ℕ, ◌-◌, ◌==◌, ◌&&◌, ◌||◌, nat_lt, Bool, not, List, [], ◌∷◌, ◌++◌, length, take, drop, map, eqb, string_bytes, Option, Some, None, option_map, if◌then◌else◌, slice_get}
 use Rattle.std.specs.List.{ends_with, remove_range, slice_index_or}
 use Rattle.tw_input.specs.EventView.{EventView}
 use Rattle.tw_line.specs.Cut.{Cut, cut_at}
@@ -9,8 +9,8 @@ use Rattle.tw_host.specs.ActionView.{ActionView, InsertText, Kill, KillAndMove}
 use Rattle.std.specs.Cmp.Lexicographic.{pointwise}
 use Rattle.tw_key_parts.specs.KeyRules.{Edited, KeyRules, KeyStep}
 use Rattle.tw_key_parts.specs.Keys.{deletes_character, is_key, yank_key, rotate_key}
+use Rattle.tw_key_parts.specs.WordEdits.{passed_text}
 use Rattle.tw_key_parts.specs.declared.ring.KillRing.{KillRing}
-use Rattle.tw_key_parts.specs.declared.ring.Yank.{Yank}
 use Rattle.tw_key_parts.specs.declared.ring.Latest.{Latest}
 use Rattle.tw_key_parts.specs.declared.ring.Latest.TheVariants as latest
 
@@ -29,10 +29,6 @@ pub record Yanked : Type 0 where
 abbrev pub ring_view : KillRing → Ring
 ring_view r = record { kills = map string_bytes r.kills.items; latest = r.latest }
 
--- the view of a kill that comes back
-abbrev pub yank_view : Yank → Yanked
-yank_view y = record { cut = y.line; text = string_bytes y.text; index = y.index }
-
 -- ---- what is killed
 
 -- how far an action kills
@@ -45,11 +41,7 @@ kill_movement _ = None
 abbrev pub killing : EventView → Option ActionView → Option Movement
 killing event action = if deletes_character event then None else kill_movement action
 
--- what lies between the cursor and where a movement leads
-abbrev pub killed_by : Movement → Cut → List ℕ
-killed_by m cut = slice_range cut.line (min cut.cursor (destination m cut)) (max cut.cursor (destination m cut))
-
--- whether it lies after the cursor
+-- whether what it kills lies after the cursor
 abbrev pub leads_onward : Movement → Cut → Bool
 leads_onward m cut = nat_lt cut.cursor (destination m cut)
 
@@ -74,14 +66,12 @@ joined_kill ahead newest text = if ahead then newest ++ text else text ++ newest
 -- the kills with one more, which joins the newest one where a kill was the last thing done
 abbrev pub kills_with : Latest → Bool → List ℕ → List (List ℕ) → List (List ℕ)
 kills_with latest.Kill ahead text kills = take (length kills - 1) kills ++ joined_kill ahead (newest_kill kills) text ∷ []
-kills_with (latest.Yank i) ahead text kills = with_room kills ++ text ∷ []
-kills_with latest.Other ahead text kills = with_room kills ++ text ∷ []
+kills_with _ ahead text kills = with_room kills ++ text ∷ []
 
 -- what was done last, where nothing was there to be killed: kills go on, and all else is over
 abbrev pub after_nothing : Latest → Latest
 after_nothing latest.Kill = latest.Kill
-after_nothing (latest.Yank i) = latest.Other
-after_nothing latest.Other = latest.Other
+after_nothing _ = latest.Other
 
 -- a text was killed; an empty one is no kill
 abbrev pub with_killed : Bool → List ℕ → Ring → Ring
@@ -92,7 +82,7 @@ with_killed ahead text r =
 -- a kill by a movement, if there is one; all else ends kills and yanks
 abbrev pub with_killing : Option Movement → Cut → Ring → Ring
 with_killing None cut r = record r { latest = latest.Other }
-with_killing (Some m) cut r = with_killed (leads_onward m cut) (killed_by m cut) r
+with_killing (Some m) cut r = with_killed (leads_onward m cut) (passed_text m cut) r
 
 -- whether two cut texts are the same
 abbrev pub is_same_cut : Cut → Cut → Bool
@@ -133,8 +123,7 @@ yank_into kills index (Some cut) = yank_of kills index cut
 -- in the place of the kill that came back last comes the one before it
 abbrev pub rotated : List (List ℕ) → Latest → Cut → Option Yanked
 rotated kills (latest.Yank i) cut = yank_into kills (index_below kills i) (taken_out (slice_get kills i) cut)
-rotated kills latest.Kill cut = None
-rotated kills latest.Other cut = None
+rotated kills _ cut = None
 
 -- what an event brings back, but during a search
 abbrev pub yank_by : Bool → EventView → Ring → Cut → Option Yanked

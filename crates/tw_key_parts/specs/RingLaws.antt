@@ -9,15 +9,15 @@ use Rattle.tw_line.specs.declared.movements.Movement.{Movement}
 use Rattle.tw_host.specs.ActionView.{ActionView}
 use Rattle.tw_key_parts.specs.KeyRules.{step_of}
 use Rattle.tw_key_parts.specs.Keys.{yank_key}
-use Rattle.tw_key_parts.specs.Ring.{Ring, killing, killed_by, newest_kill, ring_after, yank_by}
+use Rattle.tw_key_parts.specs.WordEdits.{passed_text}
+use Rattle.tw_key_parts.specs.Ring.{Ring, killing, newest_kill, ring_after, yank_by}
 use Rattle.tw_key_parts.specs.declared.ring.Latest.{Latest}
 use Rattle.tw_key_parts.specs.declared.ring.Latest.TheVariants as latest
 
 -- the line with the newest kill put back at the cursor, where a kill was the last thing done; else the line
 abbrev pub line_before : Latest → List (List ℕ) → Cut → List ℕ
 line_before latest.Kill kills cut = (with_text (newest_kill kills) cut).line
-line_before (latest.Yank i) kills cut = cut.line
-line_before latest.Other kills cut = cut.line
+line_before _ kills cut = cut.line
 
 -- the line before the kills that were done last
 abbrev pub given_back : Ring → Cut → List ℕ
@@ -43,7 +43,7 @@ KillsKeepLine = (event : EventView) (action : ActionView) (m : Movement) (old ne
 -- where it killed anything it is what was done last
 abbrev pub KillIsLatest : Type 0
 KillIsLatest = (event : EventView) (action : ActionView) (m : Movement) (old : Cut) (r : Ring)
-    → killing event (Some action) ≡ Some m → killed_by m old ≢ [] → (ring_behind event action old r).latest ≡ latest.Kill
+    → killing event (Some action) ≡ Some m → passed_text m old ≢ [] → (ring_behind event action old r).latest ≡ latest.Kill
 
 -- a yank right after a kill gives the line before the kills back
 abbrev pub YankGivesBack : Type 0

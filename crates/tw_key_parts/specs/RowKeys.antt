@@ -7,21 +7,23 @@ use Rattle.tw_surface.specs.Characters.{lf}
 use Rattle.tw_line.specs.Extremes.{greatest_below, least_from}
 use Rattle.tw_input.specs.declared.key.KeyCode.TheVariants as keycode
 use Rattle.tw_input.specs.declared.key.KeyEvent.{KeyEvent}
-use Rattle.tw_input.specs.EventView.{EventView, Key, Resized, Paste, Wake}
+use Rattle.tw_input.specs.EventView.{EventView, Key, Paste}
 use Rattle.tw_input.specs.Modifiers.{none, alt, ctrl}
 use Rattle.tw_line.specs.Clusters.{is_cluster_boundary}
 use Rattle.tw_line.specs.Cut.{Cut, cut_at}
 use Rattle.tw_line.specs.Movements.{destination}
-use Rattle.tw_line.specs.declared.movements.Movement.{Movement}
 use Rattle.tw_line.specs.declared.movements.Movement.TheVariants as movement
 use Rattle.tw_host.specs.ActionView.{ActionView, InsertChar, InsertText, KillAndMove, Move}
-use Rattle.tw_host.specs.KeyTable.{is_same_key, key_press, letter}
+use Rattle.tw_host.specs.KeyTable.{key_press, letter}
+use Rattle.tw_key_parts.specs.ClusterSteps.{cluster_steps}
 use Rattle.tw_key_parts.specs.KeyRules.{Asked, Edited, KeyRules}
-use Rattle.tw_key_parts.specs.Ring.{killed_by, killing}
+use Rattle.tw_key_parts.specs.Keys.{row_of}
+use Rattle.tw_key_parts.specs.WordEdits.{passed_text}
+use Rattle.tw_key_parts.specs.Ring.{killing}
 use Rattle.tw_key_parts.specs.declared.row_keys.RowKey.{RowKey}
 use Rattle.tw_key_parts.specs.declared.row_keys.RowKey.TheVariants.{Break, Up, Down, Start, End, KillToEnd}
-use Rattle.tw_key_parts.specs.declared.row_keys.Way.{Way}
-use Rattle.tw_key_parts.specs.declared.row_keys.Way.TheVariants.{Back, Ahead}
+use Rattle.tw_key_parts.specs.declared.steps.Way.{Way}
+use Rattle.tw_key_parts.specs.declared.steps.Way.TheVariants.{Back, Ahead}
 
 -- ---- the keys
 
@@ -50,17 +52,10 @@ row_keys =
     ∷ (kill_key, KillToEnd)
     ∷ []
 
--- the first row with this key
-abbrev pub row_key_in : List (KeyEvent × RowKey) → KeyEvent → Option RowKey
-row_key_in [] key = None
-row_key_in (row ∷ rest) key = if is_same_key row.0 key then Some row.1 else row_key_in rest key
-
 -- the key of an event
 abbrev pub row_key : EventView → Option RowKey
-row_key (Key key) = row_key_in row_keys key
-row_key (Resized cols rows) = None
-row_key (Paste text) = None
-row_key Wake = None
+row_key (Key key) = row_of row_keys key
+row_key _ = None
 
 -- ---- the rows of a line
 
@@ -82,11 +77,6 @@ row_end line at = unwrap_or (least_from (is_line_feed line) at (length line - at
 
 -- ---- steps by grapheme clusters
 
--- `count` steps
-abbrev pub row_steps : Way → ℕ → Movement
-row_steps Back count = movement.BackwardChar count
-row_steps Ahead count = movement.ForwardChar count
-
 -- whether an offset is this one, or further on the way
 abbrev pub has_reached : Way → ℕ → ℕ → Bool
 has_reached Back to at = leb at to
@@ -94,7 +84,7 @@ has_reached Ahead to at = leb to at
 
 -- whether `count` steps from the cursor reach an offset
 abbrev pub is_reached_by : Way → ℕ → Cut → ℕ → Bool
-is_reached_by way to cut count = has_reached way to (destination (row_steps way count) cut)
+is_reached_by way to cut count = has_reached way to (destination (cluster_steps way count) cut)
 
 -- the least number of steps from the cursor that reach an offset
 abbrev pub steps_to : Way → ℕ → Cut → ℕ
@@ -112,7 +102,7 @@ place_in_row line start column = min (destination (movement.ForwardChar column) 
 
 -- the cursor goes back, or ahead, to an offset
 abbrev pub move_to : Way → ℕ → Cut → ActionView
-move_to way to cut = Move (row_steps way (steps_to way to cut))
+move_to way to cut = Move (cluster_steps way (steps_to way to cut))
 
 -- in each row but the first the cursor goes to a column of the row above
 abbrev pub moved_up : ℕ → Cut → Option ActionView
@@ -181,9 +171,7 @@ in_one_row text = encode_utf8_all (map row_character (chars text))
 -- during a search a pasted text of several rows is joined
 abbrev pub edit_of_pattern : EventView → Option (Edited (Option ℕ))
 edit_of_pattern (Paste text) = if has_rows text then row_edit None (Some (InsertText 1 (in_one_row text))) else None
-edit_of_pattern (Key key) = None
-edit_of_pattern (Resized cols rows) = None
-edit_of_pattern Wake = None
+edit_of_pattern _ = None
 
 -- the keys edit, but during a search
 abbrev pub row_key_edit : Option ℕ → Asked → Option (Edited (Option ℕ))
@@ -198,20 +186,18 @@ row_key_rules = record { edits = row_key_edit; follows = λ goal kept step. opti
 -- the steps to a cluster boundary on the way lead there
 abbrev pub StepsLeadThere : Type 0
 StepsLeadThere = (way : Way) (to : ℕ) (cut : Cut) → cut.cursor ≤ length cut.line → to ≤ length cut.line → is_cluster_boundary cut.line to ≡ true
-    → has_reached way cut.cursor to ≡ true → destination (row_steps way (steps_to way to cut)) cut ≡ to
+    → has_reached way cut.cursor to ≡ true → destination (cluster_steps way (steps_to way to cut)) cut ≡ to
 
 -- the ring keeps the rest of the row that Ctrl-K kills, if a cluster boundary stands at its end
 abbrev pub RowKillIsKept : Type 0
 RowKillIsKept = (cut : Cut) → let end = row_end cut.line cut.cursor in
     cut.cursor < end → end < length cut.line → is_cluster_boundary cut.line end ≡ true
-    → IsSomeAnd (killed_to_end cut) (λ action. IsSomeAnd (killing (Key kill_key) (Some action)) (λ m. killed_by m cut ≡ slice_range cut.line cut.cursor end))
+    → IsSomeAnd (killed_to_end cut) (λ action. IsSomeAnd (killing (Key kill_key) (Some action)) (λ m. passed_text m cut ≡ slice_range cut.line cut.cursor end))
 
 -- whether an event has a line feed
 abbrev pub brings_rows : EventView → Bool
 brings_rows (Paste text) = has_rows text
-brings_rows (Key key) = false
-brings_rows (Resized cols rows) = false
-brings_rows Wake = false
+brings_rows _ = false
 
 -- a line without a line feed is left to the other keys, but for the key that begins a row and a pasted text of several
 -- rows

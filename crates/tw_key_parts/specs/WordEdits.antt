@@ -11,13 +11,9 @@ use Rattle.tw_line.specs.declared.movements.Movement.TheVariants as movement
 use Rattle.tw_key_parts.specs.declared.cases.WordCase.{WordCase}
 use Rattle.tw_key_parts.specs.declared.cases.WordCase.TheVariants.{Upper, Lower, Capitalized}
 
--- the text between two offsets, whichever is the lower one
-abbrev pub text_between : List ℕ → ℕ → ℕ → List ℕ
-text_between line a b = slice_range line (min a b) (max a b)
-
 -- the text between the cursor and the place where a movement leads
 abbrev pub passed_text : Movement → Cut → List ℕ
-passed_text m c = text_between c.line c.cursor (destination m c)
+passed_text m c = slice_range c.line (min c.cursor (destination m c)) (max c.cursor (destination m c))
 
 -- the length of the first grapheme cluster of a text
 abbrev pub first_cluster_len : List ℕ → ℕ

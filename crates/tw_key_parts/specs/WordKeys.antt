@@ -1,12 +1,13 @@
 -- The keys that edit the words and the characters around the cursor.
 use Rattle.std.specs.Prelude.{List, [], ◌∷◌, codes, Option, Some, None, option_map, if◌then◌else◌}
 use Rattle.tw_input.specs.declared.key.KeyEvent.{KeyEvent}
-use Rattle.tw_input.specs.EventView.{EventView, Key, Resized, Paste, Wake}
+use Rattle.tw_input.specs.EventView.{EventView, Key}
 use Rattle.tw_input.specs.Modifiers.{alt, ctrl}
 use Rattle.tw_line.specs.Cut.{Cut}
 use Rattle.tw_host.specs.ActionView.{InsertChar}
-use Rattle.tw_host.specs.KeyTable.{is_same_key, key_press, letter}
+use Rattle.tw_host.specs.KeyTable.{key_press, letter}
 use Rattle.tw_key_parts.specs.KeyRules.{Asked, Edited}
+use Rattle.tw_key_parts.specs.Keys.{row_of}
 use Rattle.tw_key_parts.specs.WordEdits.{with_swapped_clusters, with_word_in}
 use Rattle.tw_key_parts.specs.WordSwaps.{with_swapped_words}
 use Rattle.tw_key_parts.specs.declared.cases.WordCase.TheVariants.{Upper, Lower, Capitalized}
@@ -27,17 +28,10 @@ word_keys =
     ∷ (key_press alt (letter (codes "C")), Write Capitalized)
     ∷ []
 
--- the edit of the first row with this key
-abbrev pub edit_in : List (KeyEvent × WordEdit) → KeyEvent → Option WordEdit
-edit_in [] key = None
-edit_in (row ∷ rest) key = if is_same_key row.0 key then Some row.1 else edit_in rest key
-
 -- the edit of an event: a key may have one
 abbrev pub word_edit : EventView → Option WordEdit
-word_edit (Key key) = edit_in word_keys key
-word_edit (Resized cols rows) = None
-word_edit (Paste text) = None
-word_edit Wake = None
+word_edit (Key key) = row_of word_keys key
+word_edit _ = None
 
 -- what an edit makes of a line
 abbrev pub edited_cut : WordEdit → Cut → Cut

@@ -6,10 +6,6 @@ use Rattle.tw_line.specs.Movements.{after_move, destination}
 use Rattle.tw_line.specs.declared.movements.Movement.TheVariants as movement
 use Rattle.tw_key_parts.specs.WordEdits.{passed_text}
 
--- a text without the whitespace at its end
-abbrev pub before_blanks : List ℕ → List ℕ
-before_blanks text = trim_end text
-
 -- the whitespace at the end of a text
 abbrev pub after_blanks : List ℕ → List ℕ
 after_blanks text = drop (length (trim_end text)) text
@@ -35,7 +31,7 @@ swapped_after (byte ∷ bytes) blanks second =
 
 -- the last two words of a text in each other's place, if it has two
 abbrev pub swapped_words : List ℕ → Option (List ℕ)
-swapped_words text = let before = before_last_word text in swapped_after (before_blanks before) (after_blanks before) (final_word text)
+swapped_words text = let before = before_last_word text in swapped_after (trim_end before) (after_blanks before) (final_word text)
 
 -- the cursor goes past a word once more where only whitespace was passed
 abbrev pub past_blanks : List ℕ → Cut → Cut
@@ -44,7 +40,7 @@ past_blanks (byte ∷ bytes) c = c
 
 -- the cursor goes past the word at it, or past the next word where whitespace stands at it
 abbrev pub past_word : Cut → Cut
-past_word c = past_blanks (before_blanks (passed_text (movement.ForwardWord 1) c)) (after_move (movement.ForwardWord 1) c)
+past_word c = past_blanks (trim_end (passed_text (movement.ForwardWord 1) c)) (after_move (movement.ForwardWord 1) c)
 
 -- a line whose words were changed up to the cursor: the cursor stands after them, and before the whitespace that
 -- follows
@@ -54,4 +50,4 @@ with_words c (Some words) past = cut_at (words ++ after_blanks (take past.cursor
 
 -- the word at the cursor, or the next one, and the word before it change places
 abbrev pub with_swapped_words : Cut → Cut
-with_swapped_words c = let past = past_word c in with_words c (swapped_words (before_blanks (take past.cursor past.line))) past
+with_swapped_words c = let past = past_word c in with_words c (swapped_words (trim_end (take past.cursor past.line))) past

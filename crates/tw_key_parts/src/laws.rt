@@ -21,6 +21,7 @@ pub fn equality()
 
 /// One kill, or many in a row, each of which leaves the cursor where it killed, and a yank right after them give back
 /// the line before the first.
+#[tactic(auto, using(crate::proofs::GivenBackLemmas::kills_keep_line, crate::proofs::GivenBackLemmas::kill_is_latest, crate::proofs::GivenBackLemmas::yank_gives_back))]
 pub fn kills()
     ensures kept { KillsKeepLine }
     ensures latest { KillIsLatest }
@@ -28,6 +29,7 @@ pub fn kills()
 {}
 
 /// As many undos as there are steps give the oldest line, and each of them keeps it.
+#[tactic(auto, using(crate::proofs::UndoLawLemmas::undo_keeps_oldest, crate::proofs::UndoLawLemmas::undos_give_oldest))]
 pub fn undos()
     ensures kept { UndoKeepsOldest }
     ensures given { UndosGiveOldest }
@@ -46,6 +48,7 @@ pub fn readline_table()
 
 /// The keys for rows leave a line of one row to the other keys, but for the key that begins a row. The steps that they
 /// count lead to the cluster boundary that is meant, and a kill ring keeps the rest of a row that they kill.
+#[tactic(auto, using(crate::proofs::RowLemmas::one_row_is_left, crate::proofs::RowLemmas::steps_lead_there, crate::proofs::RowLemmas::row_kill_is_kept))]
 pub fn rows()
     ensures one { OneRowIsLeft }
     ensures steps { StepsLeadThere }

@@ -31,40 +31,6 @@ fn back(alloc: Global, editor: &LineEditBuffer) -> Result<Movement, AllocError>
     Ok(Movement::BackwardChar(steps_to_word_start(alloc, editor)?))
 }
 
-/// Returns the action of a key with CTRL.
-fn ctrl_action(
-    alloc: Global,
-    key: KeyCode,
-    editor: &LineEditBuffer,
-) -> Result<Option<Action>, AllocError>
-    ensures { IfOk result (λ action. option_map action_view action
-        ≡ looked_up (letter_table editor.now) (key_press ctrl key)) }
-{
-    match key {
-        KeyCode::RightArrow => Ok(Some(Action::Move(ahead(alloc, editor)?))),
-        KeyCode::LeftArrow => Ok(Some(Action::Move(back(alloc, editor)?))),
-        _ => Ok(None),
-    }
-}
-
-/// Returns the action of a key with ALT.
-fn alt_action(
-    alloc: Global,
-    key: KeyCode,
-    editor: &LineEditBuffer,
-) -> Result<Option<Action>, AllocError>
-    ensures { IfOk result (λ action. option_map action_view action
-        ≡ looked_up (letter_table editor.now) (key_press alt key)) }
-{
-    match key {
-        KeyCode::Char('f') => Ok(Some(Action::Move(ahead(alloc, editor)?))),
-        KeyCode::Char('b') => Ok(Some(Action::Move(back(alloc, editor)?))),
-        KeyCode::Char('d') => Ok(Some(Action::KillAndMove(ahead(alloc, editor)?, Movement::None))),
-        KeyCode::Backspace => Ok(Some(Action::Kill(back(alloc, editor)?))),
-        _ => Ok(None),
-    }
-}
-
 /// Returns the action of a key.
 fn key_action(
     alloc: Global,
@@ -75,8 +41,20 @@ fn key_action(
         ≡ looked_up (letter_table editor.now) key) }
 {
     match key.modifiers {
-        Modifiers::CTRL => ctrl_action(alloc, key.key, editor),
-        Modifiers::ALT => alt_action(alloc, key.key, editor),
+        Modifiers::CTRL => match key.key {
+            KeyCode::RightArrow => Ok(Some(Action::Move(ahead(alloc, editor)?))),
+            KeyCode::LeftArrow => Ok(Some(Action::Move(back(alloc, editor)?))),
+            _ => Ok(None),
+        },
+        Modifiers::ALT => match key.key {
+            KeyCode::Char('f') => Ok(Some(Action::Move(ahead(alloc, editor)?))),
+            KeyCode::Char('b') => Ok(Some(Action::Move(back(alloc, editor)?))),
+            KeyCode::Char('d') => {
+                Ok(Some(Action::KillAndMove(ahead(alloc, editor)?, Movement::None)))
+            }
+            KeyCode::Backspace => Ok(Some(Action::Kill(back(alloc, editor)?))),
+            _ => Ok(None),
+        },
         _ => Ok(None),
     }
 }
@@ -104,13 +82,10 @@ impl PlainKeys for LetterWords {
             InputEvent::Key(key) if !searching => key_action(alloc, *key, line)?,
             _ => None,
         };
-        match action {
-            Some(action) => Ok(Some(Edit {
-                line: None,
-                action,
-                note: (),
-            })),
-            None => Ok(None),
-        }
+        Ok(action.map(|action| Edit {
+            line: None,
+            action,
+            note: (),
+        }))
     }
 }

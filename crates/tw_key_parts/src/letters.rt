@@ -1,38 +1,17 @@
 //! Words of letters and digits, as so many steps by grapheme clusters.
 
 ghost use Rattle.std.specs.Prelude.{◌≡◌, ◌+◌, ◌<◌, ◌≤◌, IfOk, IfSome, drop, length};
-ghost use Rattle.tw_key_parts.specs.LetterWords.{begins_with_letter, last_letter, cluster_steps, steps_to_word_end, steps_to_word_start};
+ghost use Rattle.tw_key_parts.specs.LetterWords.{begins_with_letter, last_letter, steps_to_word_end, steps_to_word_start};
 
+use crate::steps::{Way, cluster_steps};
 use std::alloc::{AllocError, Global};
-use tw_line::{LineEditBuffer, Movement};
-
-/// A side of the cursor.
-#[derive(Clone, Copy, Debug, PartialEq, Eq)]
-enum Side {
-    /// To the end of the line.
-    Ahead,
-    /// To the start of the line.
-    Back,
-}
+use tw_line::LineEditBuffer;
 
 /// Returns true if a text begins with a letter or a digit.
 fn begins_with_letter(text: &str) -> bool
     ensures { result ≡ begins_with_letter text.now }
 {
-    match text.chars().next() {
-        Some(c) => c.is_alphanumeric(),
-        None => false,
-    }
-}
-
-/// Returns a movement by `count` grapheme clusters.
-fn cluster_steps(side: Side, count: usize) -> Movement
-    ensures { result ≡ cluster_steps side count }
-{
-    match side {
-        Side::Ahead => Movement::ForwardChar(count),
-        Side::Back => Movement::BackwardChar(count),
-    }
+    text.chars().next().is_some_and(|c| c.is_alphanumeric())
 }
 
 /// Returns true if a letter or a digit stands at the cursor.
@@ -45,21 +24,21 @@ fn is_at_letter(editor: &LineEditBuffer) -> bool
 /// Returns the least number of steps, from `from` on, that lead to the last letter of a word.
 fn last_letter(
     alloc: Global,
-    side: Side,
+    way: Way,
     from: usize,
     editor: &LineEditBuffer,
 ) -> Result<Option<usize>, AllocError>
     requires { from ≤ 1 }
-    ensures count { IfOk result (λ count. count ≡ last_letter side from editor.now) }
+    ensures count { IfOk result (λ count. count ≡ last_letter way from editor.now) }
     ensures within { IfOk result
         (λ count. IfSome count (λ count. count < from + length editor.now.line)) }
 {
     let mut at = editor.try_clone(alloc)?;
-    at.exec_movement(cluster_steps(side, from));
+    at.exec_movement(cluster_steps(way, from));
     let mut is_letter = is_at_letter(&at);
     let end = from + editor.get_line().len();
     for count in from..end {
-        at.exec_movement(cluster_steps(side, 1));
+        at.exec_movement(cluster_steps(way, 1));
         let is_next = is_at_letter(&at);
         if is_letter && !is_next {
             return Ok(Some(count));
@@ -75,7 +54,7 @@ pub fn steps_to_word_end(alloc: Global, editor: &LineEditBuffer) -> Result<usize
     ensures { IfOk result (λ count. count ≡ steps_to_word_end editor.now) }
 {
     let end = editor.get_line().len();
-    match last_letter(alloc, Side::Ahead, 0, editor)? {
+    match last_letter(alloc, Way::Ahead, 0, editor)? {
         Some(count) => Ok(count + 1),
         None => Ok(end),
     }
@@ -86,8 +65,6 @@ pub fn steps_to_word_end(alloc: Global, editor: &LineEditBuffer) -> Result<usize
 pub fn steps_to_word_start(alloc: Global, editor: &LineEditBuffer) -> Result<usize, AllocError>
     ensures { IfOk result (λ count. count ≡ steps_to_word_start editor.now) }
 {
-    match last_letter(alloc, Side::Back, 1, editor)? {
-        Some(count) => Ok(count),
-        None => Ok(editor.get_line().len()),
-    }
+    let count = last_letter(alloc, Way::Back, 1, editor)?;
+    Ok(count.unwrap_or(editor.get_line().len()))
 }

@@ -77,10 +77,7 @@ impl<A: KeyPart, B: KeyPart> KeyPart for (A, B) {
             (step_of (event_view event.now) searching before.now after.now
             (lent_action action.entry)) }
     {
-        let (first, second) = match note {
-            Some((first, second)) => (first, second),
-            None => (None, None),
-        };
+        let (first, second) = note.unwrap_or((None, None));
         self.0
             .follow(alloc, first, searching, event, before, after, action);
         self.1

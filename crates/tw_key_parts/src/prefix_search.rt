@@ -3,14 +3,16 @@
 ghost use Rattle.std.specs.Prelude.{◌≡◌, IfOk, None, Some, if◌then◌else◌, length, option_map};
 ghost use Rattle.tw_hosts.specs.Words.{begins_with};
 ghost use Rattle.tw_input.specs.EventView.{event_view};
-ghost use Rattle.tw_key_parts.specs.EditView.{lent_action};
+ghost use Rattle.tw_key_parts.specs.EditView.{edit_view, lent_action};
 ghost use Rattle.tw_line.specs.Cut.{cut_at};
 ghost use Rattle.tw_key_parts.specs.KeyRules.{step_of};
-ghost use Rattle.tw_key_parts.specs.PrefixSearch.{back_to, is_prefix_key, is_prefix_match, newer_match, newer_step, older_match, older_start, older_step, oldest_step, prefix_match_at, prefix_match_view, prefix_step, prefix_step_view, recalled_after, recalled_step, recalled_view, typed_line, typed_step};
+ghost use Rattle.tw_key_parts.specs.PrefixSearch.{is_prefix_key, is_prefix_match, newer_edit, newer_match, older_edit, older_match, oldest_edit, prefix_match_at, prefix_match_view, recalled_after, recalled_edit, shown, typed_edit};
+ghost use Rattle.tw_key_parts.specs.Recalled.{recalled_view};
 
 use crate::edit::Edit;
 use crate::keys::is_key;
 use crate::part::KeyPart;
+use crate::recalled::{Recalled, line_before, older_index};
 use std::alloc::{AllocError, Global};
 use tw_host::Action;
 use tw_input::{InputEvent, KeyCode, KeyEvent, Modifiers};
@@ -49,24 +51,6 @@ pub struct PrefixMatch {
     pub index: usize,
 }
 
-/// A search in progress.
-#[derive(Debug, Drop)]
-pub struct Recalled {
-    /// The line before the search.
-    pub typed: LineEditBuffer,
-    /// The index of the line that was found last.
-    pub index: usize,
-}
-
-/// The result of a key.
-#[derive(Debug, Drop)]
-pub struct PrefixStep {
-    /// The line.
-    pub line: LineEditBuffer,
-    /// The search, unless it is over.
-    pub recalled: Option<Recalled>,
-}
-
 /// Returns true for Page Up, Page Down, Alt-< and Alt->.
 pub fn is_prefix_key(event: &InputEvent) -> bool
     ensures { result ≡ is_prefix_key (event_view event.now) }
@@ -75,14 +59,16 @@ pub fn is_prefix_key(event: &InputEvent) -> bool
 }
 
 /// Returns a line with the cursor after the text that it begins with, or `None` if it begins otherwise.
+#[tactic(auto, using(std::proofs::lemmas::Str::Pattern::starts_text))]
 fn line_from(alloc: Global, text: &str, line: &str) -> Result<Option<LineEditBuffer>, AllocError>
     ensures { IfOk result (λ found. found
         ≡ (if begins_with text.now line.now then
         Some (cut_at line.now (length text.now)) else None)) }
 {
-    match line.strip_prefix(text) {
-        Some(_) => Ok(Some(LineEditBuffer::new(alloc, line, text.len())?)),
-        None => Ok(None),
+    if line.starts_with(text) {
+        Ok(Some(LineEditBuffer::new(alloc, line, text.len())?))
+    } else {
+        Ok(None)
     }
 }
 
@@ -104,10 +90,8 @@ fn match_at<L: History>(
         return Ok(None);
     }
     let text = &editor.get_line()[..editor.get_cursor()];
-    match line_from(alloc, text, line.as_str())? {
-        Some(line) => Ok(Some(PrefixMatch { line, index })),
-        None => Ok(None),
-    }
+    let found = line_from(alloc, text, line.as_str())?;
+    Ok(found.map(|line| PrefixMatch { line, index }))
 }
 
 /// Returns the newest match up to an index.
@@ -149,145 +133,105 @@ fn newer_match_from<L: History>(
     Ok(None)
 }
 
-/// Returns the index where the search for older lines starts: before the last match, or at the last line.
-fn older_start<L: History>(recalled: Option<&Recalled>, lines: &L) -> Option<usize>
-    ensures { result ≡ older_start
-        (option_map (λ recalled. recalled_view recalled.now) recalled.entry) (L.lines lines.now) }
+/// Returns the edit that shows a line.
+fn shown(line: LineEditBuffer, recalled: Option<Recalled>) -> Edit<Option<Recalled>>
+    ensures { edit_view (option_map recalled_view) result
+        ≡ shown line (option_map recalled_view recalled) }
 {
-    match recalled {
-        Some(recalled) => SearchDirection::Backwards.next(recalled.index),
-        None => lines.last(),
+    Edit {
+        line: Some(line),
+        action: Action::InsertChar(0, ' '),
+        note: recalled,
     }
 }
 
-/// Returns the line before the search.
-fn typed_line(
-    alloc: Global,
-    recalled: Option<&Recalled>,
-    editor: &LineEditBuffer,
-) -> Result<LineEditBuffer, AllocError>
-    ensures { IfOk result (λ typed. typed
-        ≡ typed_line (option_map (λ recalled. recalled_view recalled.now) recalled.entry)
-        editor.now) }
+/// Returns the edit that shows a match.
+fn recalled_edit(before: LineEditBuffer, found: PrefixMatch) -> Edit<Option<Recalled>>
+    ensures { edit_view (option_map recalled_view) result
+        ≡ recalled_edit before (prefix_match_view found) }
 {
-    match recalled {
-        Some(recalled) => recalled.typed.try_clone(alloc),
-        None => editor.try_clone(alloc),
-    }
+    let PrefixMatch { line, index } = found;
+    shown(line, Some(Recalled { before, index }))
 }
 
-/// Returns the step to a match.
-fn recalled_step(typed: LineEditBuffer, found: PrefixMatch) -> PrefixStep
-    ensures { prefix_step_view result ≡ recalled_step typed (prefix_match_view found) }
-{
-    PrefixStep {
-        line: found.line,
-        recalled: Some(Recalled {
-            typed,
-            index: found.index,
-        }),
-    }
-}
-
-/// Returns the step to the next older match.
-fn older_step<L: History>(
+/// Returns the edit that goes to the next older match.
+fn older_edit<L: History>(
     alloc: Global,
     lines: &L,
     recalled: Option<&Recalled>,
     editor: &LineEditBuffer,
-) -> Result<Option<PrefixStep>, AllocError>
-    ensures { IfOk result (λ step. option_map prefix_step_view step
-        ≡ older_step (L.lines lines.now)
+) -> Result<Option<Edit<Option<Recalled>>>, AllocError>
+    ensures { IfOk result (λ edit. option_map (edit_view (option_map recalled_view)) edit
+        ≡ older_edit (L.lines lines.now)
         (option_map (λ recalled. recalled_view recalled.now) recalled.entry) editor.now) }
 {
-    let Some(from) = older_start(recalled, lines) else {
+    let Some(from) = older_index(recalled, lines) else {
         return Ok(None);
     };
     match older_match_from(alloc, lines, editor, from)? {
         Some(found) => {
-            let typed = typed_line(alloc, recalled, editor)?;
-            Ok(Some(recalled_step(typed, found)))
+            let before = line_before(alloc, recalled, editor)?;
+            Ok(Some(recalled_edit(before, found)))
         }
         None => Ok(None),
     }
 }
 
-/// Returns the step to the oldest line, with the cursor at its end.
-fn oldest_step<L: History>(
+/// Returns the edit that goes to the oldest line, with the cursor at its end.
+fn oldest_edit<L: History>(
     alloc: Global,
     lines: &L,
     recalled: Option<&Recalled>,
     editor: &LineEditBuffer,
-) -> Result<Option<PrefixStep>, AllocError>
-    ensures { IfOk result (λ step. option_map prefix_step_view step
-        ≡ oldest_step (L.lines lines.now)
+) -> Result<Option<Edit<Option<Recalled>>>, AllocError>
+    ensures { IfOk result (λ edit. option_map (edit_view (option_map recalled_view)) edit
+        ≡ oldest_edit (L.lines lines.now)
         (option_map (λ recalled. recalled_view recalled.now) recalled.entry) editor.now) }
 {
     let Some(oldest) = lines.get(alloc, 0)? else {
         return Ok(None);
     };
     let line = LineEditBuffer::new(alloc, oldest.as_str(), oldest.as_str().len())?;
-    let typed = typed_line(alloc, recalled, editor)?;
-    Ok(Some(recalled_step(typed, PrefixMatch { line, index: 0 })))
+    let before = line_before(alloc, recalled, editor)?;
+    Ok(Some(recalled_edit(before, PrefixMatch { line, index: 0 })))
 }
 
-/// Returns the step back to the line before the search.
-fn back_to(typed: LineEditBuffer) -> PrefixStep
-    ensures { prefix_step_view result ≡ back_to typed }
-{
-    PrefixStep {
-        line: typed,
-        recalled: None,
-    }
-}
-
-/// Returns the step back to the line before the search, if there is a search.
-fn typed_step(alloc: Global, recalled: Option<&Recalled>) -> Result<Option<PrefixStep>, AllocError>
-    ensures { IfOk result (λ step. option_map prefix_step_view step
-        ≡ typed_step (option_map (λ recalled. recalled_view recalled.now) recalled.entry)) }
+/// Returns the edit that goes back to the line before the search, if there is a search.
+fn typed_edit(
+    alloc: Global,
+    recalled: Option<&Recalled>,
+) -> Result<Option<Edit<Option<Recalled>>>, AllocError>
+    ensures { IfOk result (λ edit. option_map (edit_view (option_map recalled_view)) edit
+        ≡ typed_edit (option_map (λ recalled. recalled_view recalled.now) recalled.entry)) }
 {
     match recalled {
-        Some(recalled) => Ok(Some(back_to(recalled.typed.try_clone(alloc)?))),
+        Some(recalled) => Ok(Some(shown(recalled.before.try_clone(alloc)?, None))),
         None => Ok(None),
     }
 }
 
-/// Returns the oldest match from an index on, if there is an index.
-fn newer_match<L: History>(
-    alloc: Global,
-    lines: &L,
-    editor: &LineEditBuffer,
-    from: Option<usize>,
-) -> Result<Option<PrefixMatch>, AllocError>
-    ensures { IfOk result (λ found. option_map prefix_match_view found
-        ≡ newer_match (L.lines lines.now) editor.now from) }
-{
-    match from {
-        Some(from) => newer_match_from(alloc, lines, editor, from),
-        None => Ok(None),
-    }
-}
-
-/// Returns the step to the next newer match, or else to the line before the search.
-fn newer_step<L: History>(
+/// Returns the edit that goes to the next newer match, or else to the line before the search.
+fn newer_edit<L: History>(
     alloc: Global,
     lines: &L,
     recalled: Option<&Recalled>,
     editor: &LineEditBuffer,
-) -> Result<Option<PrefixStep>, AllocError>
-    ensures { IfOk result (λ step. option_map prefix_step_view step
-        ≡ newer_step (L.lines lines.now)
+) -> Result<Option<Edit<Option<Recalled>>>, AllocError>
+    ensures { IfOk result (λ edit. option_map (edit_view (option_map recalled_view)) edit
+        ≡ newer_edit (L.lines lines.now)
         (option_map (λ recalled. recalled_view recalled.now) recalled.entry) editor.now) }
 {
     let Some(recalled) = recalled else {
         return Ok(None);
     };
-    let from = SearchDirection::Forwards.next(recalled.index);
-    let found = newer_match(alloc, lines, editor, from)?;
-    let typed = recalled.typed.try_clone(alloc)?;
+    let before = recalled.before.try_clone(alloc)?;
+    let found = match SearchDirection::Forwards.next(recalled.index) {
+        Some(from) => newer_match_from(alloc, lines, editor, from)?,
+        None => None,
+    };
     match found {
-        Some(found) => Ok(Some(recalled_step(typed, found))),
-        None => Ok(Some(back_to(typed))),
+        Some(found) => Ok(Some(recalled_edit(before, found))),
+        None => Ok(Some(shown(before, None))),
     }
 }
 
@@ -307,42 +251,12 @@ impl PrefixSearch {
     {
         PrefixSearch { recalled: None }
     }
-
-    /// Returns the result of a key outside an incremental search.
-    fn step_by<L: History>(
-        &self,
-        alloc: Global,
-        searching: bool,
-        history: &L,
-        event: &InputEvent,
-        line: &LineEditBuffer,
-    ) -> Result<Option<PrefixStep>, AllocError>
-        ensures { IfOk result (λ step. option_map prefix_step_view step
-            ≡ prefix_step searching (event_view event.now)
-            (option_map recalled_view self.now.recalled) (L.lines history.now) line.now) }
-    {
-        if searching {
-            return Ok(None);
-        }
-        if is_key(OLDER, event) {
-            return older_step(alloc, history, self.recalled.as_ref(), line);
-        }
-        if is_key(NEWER, event) {
-            return newer_step(alloc, history, self.recalled.as_ref(), line);
-        }
-        if is_key(OLDEST, event) {
-            return oldest_step(alloc, history, self.recalled.as_ref(), line);
-        }
-        if is_key(TYPED, event) {
-            return typed_step(alloc, self.recalled.as_ref());
-        }
-        Ok(None)
-    }
 }
 
 impl KeyPart for PrefixSearch {
     ghost use Rattle.std.specs.Prelude.{Option, option_map};
-    ghost use Rattle.tw_key_parts.specs.PrefixSearch.{RecalledView, prefix_key_rules, recalled_view};
+    ghost use Rattle.tw_key_parts.specs.PrefixSearch.{prefix_key_rules};
+    ghost use Rattle.tw_key_parts.specs.Recalled.{RecalledView, recalled_view};
 
     type Note = Option<Recalled>;
 
@@ -352,7 +266,7 @@ impl KeyPart for PrefixSearch {
 
     ghost state = { λ it. option_map recalled_view it.recalled };
 
-    ghost kept = { λ recalled. option_map recalled_view recalled };
+    ghost kept = { option_map recalled_view };
 
     ghost keys = { prefix_key_rules };
 
@@ -366,14 +280,22 @@ impl KeyPart for PrefixSearch {
         event: &InputEvent,
         line: &LineEditBuffer,
     ) -> Result<Option<Edit<Option<Recalled>>>, AllocError> {
-        match self.step_by(alloc, searching, history, event, line)? {
-            Some(PrefixStep { line, recalled }) => Ok(Some(Edit {
-                line: Some(line),
-                action: Action::InsertChar(0, ' '),
-                note: recalled,
-            })),
-            None => Ok(None),
+        if searching {
+            return Ok(None);
         }
+        if is_key(OLDER, event) {
+            return older_edit(alloc, history, self.recalled.as_ref(), line);
+        }
+        if is_key(NEWER, event) {
+            return newer_edit(alloc, history, self.recalled.as_ref(), line);
+        }
+        if is_key(OLDEST, event) {
+            return oldest_edit(alloc, history, self.recalled.as_ref(), line);
+        }
+        if is_key(TYPED, event) {
+            return typed_edit(alloc, self.recalled.as_ref());
+        }
+        Ok(None)
     }
 
     fn prepare(&mut self, _alloc: Global, _line: &LineEditBuffer) -> Result<(), AllocError> {
@@ -393,7 +315,7 @@ impl KeyPart for PrefixSearch {
         requires ready { Unit {0} }
         ensures { option_map recalled_view self.new.recalled
             ≡ recalled_after (option_map recalled_view self.old.recalled)
-            (option_map (λ recalled. option_map recalled_view recalled) note)
+            (option_map (option_map recalled_view) note)
             (step_of (event_view event.now) _searching _before.now _after.now
             (lent_action action.entry)) }
     {

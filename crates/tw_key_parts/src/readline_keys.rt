@@ -5,7 +5,7 @@ ghost use Rattle.tw_host.specs.ActionView.{action_view};
 ghost use Rattle.tw_host.specs.KeyTable.{key_press, looked_up};
 ghost use Rattle.tw_input.specs.EventView.{event_view};
 ghost use Rattle.tw_input.specs.Modifiers.{alt, ctrl};
-ghost use Rattle.tw_key_parts.specs.ReadlineKeys.{delete_action, readline_action, readline_key, readline_table};
+ghost use Rattle.tw_key_parts.specs.ReadlineKeys.{readline_key};
 
 use crate::edit::Edit;
 use crate::plain_keys::PlainKeys;
@@ -14,71 +14,27 @@ use tw_host::Action;
 use tw_input::{InputEvent, KeyCode, KeyEvent, Modifiers};
 use tw_line::{History, LineEditBuffer, Movement};
 
-/// Returns the action of a key with CTRL.
-fn ctrl_action(key: KeyCode) -> Option<Action>
-    ensures { option_map action_view result ≡ looked_up readline_table (key_press ctrl key) }
-{
-    match key {
-        KeyCode::Char('U') => Some(Action::Kill(Movement::StartOfLine)),
-        KeyCode::LeftArrow => Some(Action::Move(Movement::BackwardWord(1))),
-        KeyCode::RightArrow => Some(Action::Move(Movement::ForwardWord(1))),
-        _ => None,
-    }
-}
-
-/// Returns the action of a key with ALT.
-fn alt_action(key: KeyCode) -> Option<Action>
-    ensures { option_map action_view result ≡ looked_up readline_table (key_press alt key) }
-{
-    match key {
-        KeyCode::Char('d') => Some(Action::KillAndMove(Movement::ForwardWord(1), Movement::None)),
-        KeyCode::Backspace => Some(Action::Kill(Movement::BackwardWord(1))),
-        _ => None,
-    }
-}
-
-/// Returns the action of a key in the table.
-fn row_action(key: KeyEvent) -> Option<Action>
-    ensures { option_map action_view result ≡ looked_up readline_table key }
-{
-    match key.modifiers {
-        Modifiers::CTRL => ctrl_action(key.key),
-        Modifiers::ALT => alt_action(key.key),
-        _ => None,
-    }
-}
-
-/// Returns the action of Ctrl-D in a line that is not empty.
-fn delete_action(key: KeyEvent, editor: &LineEditBuffer) -> Option<Action>
-    ensures { option_map action_view result ≡ delete_action key editor.now }
-{
-    let delete = KeyEvent {
-        key: KeyCode::Char('D'),
-        modifiers: Modifiers::CTRL,
-    };
-    if key == delete && !editor.get_line().is_empty() {
-        Some(Action::KillAndMove(Movement::ForwardChar(1), Movement::None))
-    } else {
-        None
-    }
-}
-
 /// Returns the action of a key of readline in a line.
 pub fn readline_key(key: KeyEvent, editor: &LineEditBuffer) -> Option<Action>
     ensures { option_map action_view result ≡ readline_key key editor.now }
 {
-    match row_action(key) {
-        Some(action) => Some(action),
-        None => delete_action(key, editor),
-    }
-}
-
-/// Returns the action of an event in a line.
-fn readline_action(event: &InputEvent, editor: &LineEditBuffer) -> Option<Action>
-    ensures { option_map action_view result ≡ readline_action (event_view event.now) editor.now }
-{
-    match event {
-        InputEvent::Key(key) => readline_key(*key, editor),
+    match key.modifiers {
+        Modifiers::CTRL => match key.key {
+            KeyCode::Char('U') => Some(Action::Kill(Movement::StartOfLine)),
+            KeyCode::Char('D') if !editor.get_line().is_empty() => {
+                Some(Action::KillAndMove(Movement::ForwardChar(1), Movement::None))
+            }
+            KeyCode::LeftArrow => Some(Action::Move(Movement::BackwardWord(1))),
+            KeyCode::RightArrow => Some(Action::Move(Movement::ForwardWord(1))),
+            _ => None,
+        },
+        Modifiers::ALT => match key.key {
+            KeyCode::Char('d') => {
+                Some(Action::KillAndMove(Movement::ForwardWord(1), Movement::None))
+            }
+            KeyCode::Backspace => Some(Action::Kill(Movement::BackwardWord(1))),
+            _ => None,
+        },
         _ => None,
     }
 }
@@ -102,7 +58,11 @@ impl PlainKeys for ReadlineKeys {
         event: &InputEvent,
         line: &LineEditBuffer,
     ) -> Result<Option<Edit<()>>, AllocError> {
-        Ok(readline_action(event, line).map(|action| Edit {
+        let action = match event {
+            InputEvent::Key(key) => readline_key(*key, line),
+            _ => None,
+        };
+        Ok(action.map(|action| Edit {
             line: None,
             action,
             note: (),

@@ -4,9 +4,9 @@ ghost use Rattle.std.specs.Prelude.{◌≡◌, ◌≤◌, ◌+◌, ◌<◌, ◌-
 ghost use Rattle.std.specs.String.{string_capacity};
 ghost use Rattle.std.specs.Vec.{vec_capacity, vec_len};
 ghost use Rattle.tw_input.specs.EventView.{event_view};
-ghost use Rattle.tw_key_parts.specs.EditView.{lent_action};
+ghost use Rattle.tw_key_parts.specs.EditView.{edit_view, lent_action};
 ghost use Rattle.tw_key_parts.specs.declared.ring.Latest.TheVariants as Latest;
-ghost use Rattle.tw_key_parts.specs.Ring.{index_below, is_same_cut, joined_kill, kill_movement, killing, newest_kill, ring_view, rotated, taken_out, with_killed, with_killing, with_room, yank_by, yank_of, yank_view};
+ghost use Rattle.tw_key_parts.specs.Ring.{index_below, is_same_cut, joined_kill, killing, newest_kill, ring_view, rotated, taken_out, with_killed, with_killing, with_room, yank_edit, yank_of};
 ghost use Rattle.tw_key_parts.specs.KeyRules.{step_of};
 ghost use Rattle.tw_key_parts.specs.Ring.{ring_follows};
 
@@ -46,17 +46,6 @@ pub struct KillRing {
     probe: LineEditBuffer,
 }
 
-/// A yank.
-#[derive(Debug, Drop)]
-pub struct Yank {
-    /// The line before it.
-    pub line: LineEditBuffer,
-    /// Its text.
-    pub text: String,
-    /// Its index.
-    pub index: usize,
-}
-
 /// Returns true if two lines are the same, with their cursors.
 pub fn is_same_cut(line: &LineEditBuffer, other: &LineEditBuffer) -> bool
     ensures { result ≡ is_same_cut line.now other.now }
@@ -64,24 +53,14 @@ pub fn is_same_cut(line: &LineEditBuffer, other: &LineEditBuffer) -> bool
     line.get_line() == other.get_line() && line.get_cursor() == other.get_cursor()
 }
 
-/// Returns how far an action kills.
-fn kill_movement(action: Option<&Action>) -> Option<Movement>
-    ensures { result ≡ kill_movement (lent_action action.entry) }
-{
-    match action {
-        Some(Action::Kill(movement)) | Some(Action::KillAndMove(movement, _)) => Some(*movement),
-        _ => None,
-    }
-}
-
 /// Returns how far the action of an event kills, unless its key deletes a character.
 fn killing(event: &InputEvent, action: Option<&Action>) -> Option<Movement>
     ensures { result ≡ killing (event_view event.now) (lent_action action.entry) }
 {
-    if deletes_character(event) {
-        None
-    } else {
-        kill_movement(action)
+    match action {
+        Some(Action::Kill(movement) | Action::KillAndMove(movement, _))
+            if !deletes_character(event) => { Some(*movement) }
+        _ => None,
     }
 }
 
@@ -127,24 +106,15 @@ impl KillRing {
         ensures latest { self.new.latest ≡ self.old.latest }
     {
         let newest = self.kills.pop();
-        let newest = match &newest {
-            Some(newest) => newest.as_str(),
-            None => "",
-        };
+        let newest = newest.as_ref().map_or("", |newest| newest.as_str());
         let (front, back) = if ahead {
             (newest, killed)
         } else {
             (killed, newest)
         };
-        let Ok(()) = text.push_str(front) else {
-            unreachable!()
-        };
-        let Ok(()) = text.push_str(back) else {
-            unreachable!()
-        };
-        let Ok(()) = self.kills.push(text) else {
-            unreachable!()
-        };
+        text.push_str(front).unwrap();
+        text.push_str(back).unwrap();
+        self.kills.push(text).unwrap();
     }
 
     /// Adds a kill, and drops the oldest one if there are ten.
@@ -156,15 +126,11 @@ impl KillRing {
             ≡ with_room (map string_bytes self.old.kills.items) ++ killed.now ∷ [] }
         ensures latest { self.new.latest ≡ self.old.latest }
     {
-        let Ok(()) = text.push_str(killed) else {
-            unreachable!()
-        };
+        text.push_str(killed).unwrap();
         if self.kills.len() >= MOST_KILLS {
             let _oldest = self.kills.remove(0);
         }
-        let Ok(()) = self.kills.push(text) else {
-            unreachable!()
-        };
+        self.kills.push(text).unwrap();
     }
 
     /// Adds or joins a kill, unless it is empty.
@@ -213,31 +179,39 @@ impl KillRing {
         alloc: Global,
         index: usize,
         line: LineEditBuffer,
-    ) -> Result<Option<Yank>, AllocError>
-        ensures { IfOk result (λ yank. option_map yank_view yank
-            ≡ yank_of (map string_bytes self.now.kills.items) index line) }
+    ) -> Result<Option<Edit<usize>>, AllocError>
+        ensures { IfOk result (λ edit. option_map (edit_view (λ index. index)) edit
+            ≡ option_map yank_edit (yank_of (map string_bytes self.now.kills.items) index line)) }
     {
         let Some(kill) = self.kills.get(index) else {
             return Ok(None);
         };
         let text = String::from_str(alloc, kill.as_str())?;
-        Ok(Some(Yank { line, text, index }))
+        Ok(Some(Edit {
+            line: Some(line),
+            action: Action::InsertText(1, text),
+            note: index,
+        }))
     }
 
     /// Returns the index before another one; before the first one it is the last.
     fn index_below(&self, index: usize) -> usize
         ensures { result ≡ index_below (map string_bytes self.now.kills.items) index }
     {
-        match index.checked_sub(1) {
-            Some(below) => below,
-            None => self.kills.len().saturating_sub(1),
-        }
+        index
+            .checked_sub(1)
+            .unwrap_or(self.kills.len().saturating_sub(1))
     }
 
     /// Replaces the last yank by the kill before.
-    fn rotate(&self, alloc: Global, editor: &LineEditBuffer) -> Result<Option<Yank>, AllocError>
-        ensures { IfOk result (λ yank. option_map yank_view yank
-            ≡ rotated (map string_bytes self.now.kills.items) self.now.latest editor.now) }
+    fn rotate(
+        &self,
+        alloc: Global,
+        editor: &LineEditBuffer,
+    ) -> Result<Option<Edit<usize>>, AllocError>
+        ensures { IfOk result (λ edit. option_map (edit_view (λ index. index)) edit
+            ≡ option_map yank_edit
+            (rotated (map string_bytes self.now.kills.items) self.now.latest editor.now)) }
     {
         let Latest::Yank(index) = self.latest else {
             return Ok(None);
@@ -249,33 +223,6 @@ impl KillRing {
             Some(line) => self.yank(alloc, self.index_below(index), line),
             None => Ok(None),
         }
-    }
-
-    /// Returns the yank of an event outside a search.
-    fn yank_by(
-        &self,
-        alloc: Global,
-        searching: bool,
-        event: &InputEvent,
-        editor: &LineEditBuffer,
-    ) -> Result<Option<Yank>, AllocError>
-        ensures { IfOk result (λ yank. option_map yank_view yank
-            ≡ yank_by searching (event_view event.now) (ring_view self.now) editor.now) }
-    {
-        if searching {
-            return Ok(None);
-        }
-        if is_key(YANK, event) {
-            return self.yank(
-                alloc,
-                self.kills.len().saturating_sub(1),
-                editor.try_clone(alloc)?,
-            );
-        }
-        if is_key(ROTATE, event) {
-            return self.rotate(alloc, editor);
-        }
-        Ok(None)
     }
 }
 
@@ -310,22 +257,25 @@ impl KeyPart for KillRing {
         event: &InputEvent,
         line: &LineEditBuffer,
     ) -> Result<Option<Edit<usize>>, AllocError> {
-        match self.yank_by(alloc, searching, event, line)? {
-            Some(Yank { line, text, index }) => Ok(Some(Edit {
-                line: Some(line),
-                action: Action::InsertText(1, text),
-                note: index,
-            })),
-            None => Ok(None),
+        if searching {
+            return Ok(None);
         }
+        if is_key(YANK, event) {
+            return self.yank(
+                alloc,
+                self.kills.len().saturating_sub(1),
+                line.try_clone(alloc)?,
+            );
+        }
+        if is_key(ROTATE, event) {
+            return self.rotate(alloc, line);
+        }
+        Ok(None)
     }
 
     fn prepare(&mut self, alloc: Global, line: &LineEditBuffer) -> Result<(), AllocError> {
         self.kills.reserve(1)?;
-        let newest = match self.kills.last() {
-            Some(newest) => newest.len(),
-            None => 0,
-        };
+        let newest = self.kills.last().map_or(0, |newest| newest.len());
         self.spare.clear();
         self.spare.reserve(newest + line.get_line().len())?;
         self.probe = line.try_clone(alloc)?;

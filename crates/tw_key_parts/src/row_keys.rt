@@ -7,13 +7,14 @@ ghost use Rattle.tw_host.specs.KeyTable.{key_press};
 ghost use Rattle.tw_input.specs.EventView.{event_view};
 ghost use Rattle.tw_input.specs.Modifiers.{none, alt, ctrl};
 ghost use Rattle.tw_key_parts.specs.EditView.{edit_view};
-ghost use Rattle.tw_key_parts.specs.RowKeys.{cursor_column, edit_by, edit_of_pattern, goal_column, has_reached, has_rows, in_one_row, killed_to_end, move_to, moved_down, moved_to_end, moved_to_start, moved_up, place_in_row, row_character, row_edit, row_end, row_key, row_key_in, row_keys, row_start, row_steps, steps_to};
+ghost use Rattle.tw_key_parts.specs.RowKeys.{cursor_column, edit_by, edit_of_pattern, goal_column, has_reached, has_rows, in_one_row, killed_to_end, move_to, moved_down, moved_to_end, moved_to_start, moved_up, place_in_row, row_character, row_edit, row_end, row_key, row_start, steps_to};
 
 use crate::edit::Edit;
 use crate::part::KeyPart;
+use crate::steps::{Way, cluster_steps};
 use std::alloc::{AllocError, Global};
 use tw_host::Action;
-use tw_input::{InputEvent, KeyCode, KeyEvent, Modifiers};
+use tw_input::{InputEvent, KeyCode, Modifiers};
 use tw_line::{History, LineEditBuffer, Movement};
 
 /// A key for lines of several rows.
@@ -33,70 +34,33 @@ pub enum RowKey {
     KillToEnd,
 }
 
-/// A way along the line.
-#[derive(Clone, Copy, Debug, PartialEq, Eq)]
-enum Way {
-    /// To the start of the line.
-    Back,
-    /// To the end of the line.
-    Ahead,
-}
-
-/// Returns the meaning of a key without modifiers.
-fn plain_key(key: KeyCode) -> Option<RowKey>
-    ensures { result ≡ row_key_in row_keys (key_press none key) }
-{
-    match key {
-        KeyCode::UpArrow | KeyCode::ApplicationUpArrow => Some(RowKey::Up),
-        KeyCode::DownArrow | KeyCode::ApplicationDownArrow => Some(RowKey::Down),
-        KeyCode::Home => Some(RowKey::Start),
-        KeyCode::End => Some(RowKey::End),
-        _ => None,
-    }
-}
-
-/// Returns the meaning of a key with CTRL.
-fn ctrl_key(key: KeyCode) -> Option<RowKey>
-    ensures { result ≡ row_key_in row_keys (key_press ctrl key) }
-{
-    match key {
-        KeyCode::Char('P') => Some(RowKey::Up),
-        KeyCode::Char('N') => Some(RowKey::Down),
-        KeyCode::Char('A') => Some(RowKey::Start),
-        KeyCode::Char('E') => Some(RowKey::End),
-        KeyCode::Char('K') => Some(RowKey::KillToEnd),
-        _ => None,
-    }
-}
-
-/// Returns the meaning of a key with ALT.
-fn alt_key(key: KeyCode) -> Option<RowKey>
-    ensures { result ≡ row_key_in row_keys (key_press alt key) }
-{
-    match key {
-        KeyCode::Enter => Some(RowKey::Break),
-        _ => None,
-    }
-}
-
-/// Returns the meaning of a key with its modifiers.
-fn key_meaning(key: KeyEvent) -> Option<RowKey>
-    ensures { result ≡ row_key_in row_keys key }
-{
-    match key.modifiers {
-        Modifiers::NONE => plain_key(key.key),
-        Modifiers::CTRL => ctrl_key(key.key),
-        Modifiers::ALT => alt_key(key.key),
-        _ => None,
-    }
-}
-
 /// Returns the key for rows that an event is, if it is one.
 pub fn row_key(event: &InputEvent) -> Option<RowKey>
     ensures { result ≡ row_key (event_view event.now) }
 {
-    match event {
-        InputEvent::Key(key) => key_meaning(*key),
+    let InputEvent::Key(press) = event else {
+        return None;
+    };
+    match press.modifiers {
+        Modifiers::NONE => match press.key {
+            KeyCode::UpArrow | KeyCode::ApplicationUpArrow => Some(RowKey::Up),
+            KeyCode::DownArrow | KeyCode::ApplicationDownArrow => Some(RowKey::Down),
+            KeyCode::Home => Some(RowKey::Start),
+            KeyCode::End => Some(RowKey::End),
+            _ => None,
+        },
+        Modifiers::CTRL => match press.key {
+            KeyCode::Char('P') => Some(RowKey::Up),
+            KeyCode::Char('N') => Some(RowKey::Down),
+            KeyCode::Char('A') => Some(RowKey::Start),
+            KeyCode::Char('E') => Some(RowKey::End),
+            KeyCode::Char('K') => Some(RowKey::KillToEnd),
+            _ => None,
+        },
+        Modifiers::ALT => match press.key {
+            KeyCode::Enter => Some(RowKey::Break),
+            _ => None,
+        },
         _ => None,
     }
 }
@@ -108,7 +72,8 @@ fn row_start(line: &str, at: usize) -> usize
     ensures boundary { IsCharBoundary line.now result }
     ensures above { 0 < result → IsCharBoundary line.now (result - 1) }
 {
-    match line[..at].rfind('\n') {
+    let (front, _) = line.split_at(at);
+    match front.rfind('\n') {
         Some(feed) => feed + 1,
         None => 0,
     }
@@ -125,16 +90,6 @@ fn row_end(line: &str, at: usize) -> usize
     match line[at..].find('\n') {
         Some(feed) => at + feed,
         None => line.len(),
-    }
-}
-
-/// Returns a movement by grapheme clusters.
-fn row_steps(way: Way, count: usize) -> Movement
-    ensures { result ≡ row_steps way count }
-{
-    match way {
-        Way::Back => Movement::BackwardChar(count),
-        Way::Ahead => Movement::ForwardChar(count),
     }
 }
 
@@ -163,7 +118,7 @@ fn steps_to(
         if has_reached(way, to, walker.get_cursor()) {
             return Ok(count);
         }
-        walker.exec_movement(row_steps(way, 1));
+        walker.exec_movement(cluster_steps(way, 1));
     }
     Ok(most)
 }
@@ -196,7 +151,7 @@ fn move_to(
     ensures { IfOk result (λ action. action_view action ≡ move_to way to editor.now) }
 {
     let count = steps_to(alloc, way, to, editor)?;
-    Ok(Action::Move(row_steps(way, count)))
+    Ok(Action::Move(cluster_steps(way, count)))
 }
 
 /// Returns the movement to a column of the row above, if there is one.
@@ -323,14 +278,11 @@ fn row_edit(kept: Option<usize>, action: Option<Action>) -> Option<Edit<Option<u
     ensures { option_map (edit_view (λ note. note)) result
         ≡ row_edit kept (option_map action_view action) }
 {
-    match action {
-        Some(action) => Some(Edit {
-            line: None,
-            action,
-            note: kept,
-        }),
-        None => None,
-    }
+    action.map(|action| Edit {
+        line: None,
+        action,
+        note: kept,
+    })
 }
 
 /// Keys for lines of several rows: Alt-Enter begins a row. Up and Down, Ctrl-P and Ctrl-N go to the row

@@ -4,7 +4,7 @@ ghost use Rattle.std.specs.Prelude.{◌≡◌, ◌<◌, IfOk, IfSome, length, op
 ghost use Rattle.std.specs.Vec.{vec_capacity, vec_len};
 ghost use Rattle.tw_input.specs.EventView.{event_view};
 ghost use Rattle.tw_key_parts.specs.EditView.{lent_action};
-ghost use Rattle.tw_key_parts.specs.Undo.{if_any, is_edit, is_end, is_prefix, is_same_line, is_undo, last_change, types_character, no_steps, steps_with, typing_after, undo_after, undo_behind, undo_view, undone};
+ghost use Rattle.tw_key_parts.specs.Undo.{if_any, is_edit, is_end, is_same_line, is_undo, last_change, types_character, no_steps, steps_with, typing_after, undo_behind, undo_view, undone};
 ghost use Rattle.tw_key_parts.specs.KeyRules.{step_of};
 ghost use Rattle.tw_key_parts.specs.Undo.{undo_follows};
 
@@ -83,13 +83,6 @@ fn typing_after(action: Option<&Action>, typing: bool) -> bool
     }
 }
 
-/// Returns true for the prefix of the undo key, if nothing is done.
-fn is_prefix(action: Option<&Action>, event: &InputEvent) -> bool
-    ensures { result ≡ is_prefix (lent_action action.entry) (event_view event.now) }
-{
-    action.is_none() && is_key(UNDO_PREFIX, event)
-}
-
 impl UndoSteps {
     /// Creates the part without steps.
     pub fn new(alloc: Global) -> Self
@@ -115,9 +108,7 @@ impl UndoSteps {
         ensures index { result ≡ last_change line.now.line self.now.before.items }
         ensures inside { IfSome result (λ at. at < length self.now.before.items) }
     {
-        let mut at = self.before.len();
-        while at > 0 {
-            at -= 1;
+        for at in (0..self.before.len()).rev() {
             if !is_same_line(&self.before[at], line) {
                 return Some(at);
             }
@@ -126,6 +117,7 @@ impl UndoSteps {
     }
 
     /// Returns the line after an undo.
+    #[tactic(auto, using(std::proofs::lemmas::List::get_or_read))]
     fn undone(&self, alloc: Global, line: &LineEditBuffer) -> Result<LineEditBuffer, AllocError>
         ensures { IfOk result (λ made. made ≡ undone (undo_view self.now) line.now) }
     {
@@ -154,41 +146,8 @@ impl UndoSteps {
         let goes_on = self.typing && types_character(action) && is_same;
         if (is_edit(action) || !is_same) && !goes_on {
             let line = std::mem::replace(&mut self.spare, LineEditBuffer::empty(alloc));
-            let Ok(()) = self.before.push(line) else {
-                unreachable!()
-            };
+            self.before.push(line).unwrap();
         }
-    }
-
-    /// Follows any event but an undo.
-    fn follow_other(
-        &mut self,
-        alloc: Global,
-        searching: bool,
-        before: &LineEditBuffer,
-        after: &LineEditBuffer,
-        action: Option<&Action>,
-        event: &InputEvent,
-    )
-        requires spare { self.old.spare ≡ before.now }
-        requires room { vec_len self.old.before < vec_capacity self.old.before }
-        ensures { undo_view self.new
-            ≡ undo_after (record {
-              event = event_view event.now;
-              searching = searching;
-              before = before.now;
-              after = after.now;
-              action = lent_action action.entry;
-            }) (undo_view self.old) }
-    {
-        let typing = !searching && typing_after(action, self.typing) && is_same_line(before, after);
-        if is_end(action) {
-            self.before.clear();
-        } else if !searching {
-            self.begin_step(alloc, action, before, after);
-        }
-        self.typing = typing;
-        self.prefixed = is_prefix(action, event);
     }
 }
 
@@ -260,7 +219,18 @@ impl KeyPart for UndoSteps {
                 self.typing = false;
                 self.prefixed = false;
             }
-            None => self.follow_other(alloc, searching, before, after, action, event),
+            None => {
+                let typing = !searching
+                    && typing_after(action, self.typing)
+                    && is_same_line(before, after);
+                if is_end(action) {
+                    self.before.clear();
+                } else if !searching {
+                    self.begin_step(alloc, action, before, after);
+                }
+                self.typing = typing;
+                self.prefixed = action.is_none() && is_key(UNDO_PREFIX, event);
+            }
         }
     }
 

@@ -4,7 +4,7 @@ ghost use Rattle.std.specs.Prelude.{◌≡◌, IfOk};
 ghost use Rattle.tw_host.specs.KeyTable.{key_press};
 ghost use Rattle.tw_input.specs.EventView.{event_view};
 ghost use Rattle.tw_input.specs.Modifiers.{alt, ctrl};
-ghost use Rattle.tw_key_parts.specs.WordKeys.{edit_in, edited_cut, word_edit, word_keys};
+ghost use Rattle.tw_key_parts.specs.WordKeys.{edited_cut, word_edit};
 
 use crate::cases::{WordCase, with_word_in};
 use crate::edit::Edit;
@@ -13,7 +13,7 @@ use crate::swaps::with_swapped_clusters;
 use crate::word_swaps::with_swapped_words;
 use std::alloc::{AllocError, Global};
 use tw_host::Action;
-use tw_input::{InputEvent, KeyCode, KeyEvent, Modifiers};
+use tw_input::{InputEvent, KeyCode, Modifiers};
 use tw_line::{History, LineEditBuffer};
 
 /// An edit of the words or characters around the cursor.
@@ -27,46 +27,25 @@ pub enum WordEdit {
     Write(WordCase),
 }
 
-/// Returns the edit of a key with CTRL.
-fn ctrl_edit(key: KeyCode) -> Option<WordEdit>
-    ensures { result ≡ edit_in word_keys (key_press ctrl key) }
-{
-    match key {
-        KeyCode::Char('T') => Some(WordEdit::SwapClusters),
-        _ => None,
-    }
-}
-
-/// Returns the edit of a key with ALT.
-fn alt_edit(key: KeyCode) -> Option<WordEdit>
-    ensures { result ≡ edit_in word_keys (key_press alt key) }
-{
-    match key {
-        KeyCode::Char('t' | 'T') => Some(WordEdit::SwapWords),
-        KeyCode::Char('u' | 'U') => Some(WordEdit::Write(WordCase::Upper)),
-        KeyCode::Char('l' | 'L') => Some(WordEdit::Write(WordCase::Lower)),
-        KeyCode::Char('c' | 'C') => Some(WordEdit::Write(WordCase::Capitalized)),
-        _ => None,
-    }
-}
-
-/// Returns the edit of a key.
-fn key_edit(key: KeyEvent) -> Option<WordEdit>
-    ensures { result ≡ edit_in word_keys key }
-{
-    match key.modifiers {
-        Modifiers::CTRL => ctrl_edit(key.key),
-        Modifiers::ALT => alt_edit(key.key),
-        _ => None,
-    }
-}
-
 /// Returns the edit of Ctrl-T, Alt-t, Alt-u, Alt-l or Alt-c, whose letters may be of either case.
 pub fn word_edit(event: &InputEvent) -> Option<WordEdit>
     ensures { result ≡ word_edit (event_view event.now) }
 {
-    match event {
-        InputEvent::Key(key) => key_edit(*key),
+    let InputEvent::Key(press) = event else {
+        return None;
+    };
+    match press.modifiers {
+        Modifiers::CTRL => match press.key {
+            KeyCode::Char('T') => Some(WordEdit::SwapClusters),
+            _ => None,
+        },
+        Modifiers::ALT => match press.key {
+            KeyCode::Char('t' | 'T') => Some(WordEdit::SwapWords),
+            KeyCode::Char('u' | 'U') => Some(WordEdit::Write(WordCase::Upper)),
+            KeyCode::Char('l' | 'L') => Some(WordEdit::Write(WordCase::Lower)),
+            KeyCode::Char('c' | 'C') => Some(WordEdit::Write(WordCase::Capitalized)),
+            _ => None,
+        },
         _ => None,
     }
 }

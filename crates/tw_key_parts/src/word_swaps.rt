@@ -1,7 +1,8 @@
 //! Words that change places.
 
 ghost use Rattle.std.specs.Prelude.{◌≡◌, ◌++◌, IfOk, option_map, string_bytes};
-ghost use Rattle.tw_key_parts.specs.WordSwaps.{after_blanks, before_blanks, before_last_word, final_word, past_word, swapped_words, with_swapped_words};
+ghost use Rattle.std.specs.Str.{trim_end};
+ghost use Rattle.tw_key_parts.specs.WordSwaps.{after_blanks, before_last_word, final_word, past_word, swapped_words, with_swapped_words};
 
 use crate::passed::passed_text;
 use std::alloc::{AllocError, Global};
@@ -9,7 +10,7 @@ use tw_line::{LineEditBuffer, Movement};
 
 /// Splits a text before the whitespace at its end.
 fn split_blanks(text: &str) -> (&str, &str)
-    ensures words { result.0.now ≡ before_blanks text.now }
+    ensures words { result.0.now ≡ trim_end text.now }
     ensures blanks { result.1.now ≡ after_blanks text.now }
 {
     let words = text.trim_end();
@@ -30,24 +31,6 @@ fn split_last_word(alloc: Global, text: &str) -> Result<(String, String), AllocE
     ))
 }
 
-/// Joins four texts.
-fn joined(
-    alloc: Global,
-    first: &str,
-    second: &str,
-    third: &str,
-    last: &str,
-) -> Result<String, AllocError>
-    ensures { IfOk result (λ text. string_bytes text
-        ≡ first.now ++ second.now ++ third.now ++ last.now) }
-{
-    let mut text = String::from_str(alloc, first)?;
-    text.push_str(second)?;
-    text.push_str(third)?;
-    text.push_str(last)?;
-    Ok(text)
-}
-
 /// Returns a text that does not end in whitespace with its last two words swapped, or `None` if it has fewer.
 fn swapped_words(alloc: Global, text: &str) -> Result<Option<String>, AllocError>
     ensures { IfOk result (λ swapped. option_map string_bytes swapped ≡ swapped_words text.now) }
@@ -57,14 +40,10 @@ fn swapped_words(alloc: Global, text: &str) -> Result<Option<String>, AllocError
     if head.is_empty() {
         return Ok(None);
     }
-    let (before, first) = split_last_word(alloc, head)?;
-    let swapped = joined(
-        alloc,
-        before.as_str(),
-        second.as_str(),
-        blanks,
-        first.as_str(),
-    )?;
+    let (mut swapped, first) = split_last_word(alloc, head)?;
+    swapped.push_str(second.as_str())?;
+    swapped.push_str(blanks)?;
+    swapped.push_str(first.as_str())?;
     Ok(Some(swapped))
 }
 

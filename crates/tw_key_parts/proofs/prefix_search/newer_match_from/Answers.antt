@@ -1,7 +1,8 @@
 use Rattle.std.proofs.Common.{◌≡◌, ◌+◌, length, Some, None, arith, rules, tests}
 use Rattle.tw_line.specs.NearestMatch.{last_index}
 use Rattle.tw_key_parts.specs.PrefixSearch.{is_prefix_match, prefix_match_at, prefix_match_view}
-use Rattle.tw_key_parts.proofs.PrefixLemmas.{last-is, looked_at, newer-found, newer-none, no-lines, none-up, passes-not}
+use Rattle.tw_key_parts.proofs.PrefixLemmas.{last-is, looked_at, newer-found, newer-none, no-lines, passes-not}
+use Rattle.tw_key_parts.proofs.StepLemmas.{none-up}
 use Rattle.tw_key_parts.proofs.prefix_search.newer_match_from.Goals.{else-loop-index-test, then-loop-index-test+in_ok-found+in_default-2+else-index-last}
 use Rattle.tw_key_parts.proofs.prefix_search.newer_match_from.Goals as goal
 

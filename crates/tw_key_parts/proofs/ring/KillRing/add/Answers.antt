@@ -1,6 +1,0 @@
-use Rattle.std.proofs.Common.{arith}
-use Rattle.std.proofs.lemmas.Grind.{common_steps}
-use Rattle.tw_key_parts.proofs.ring.KillRing.add.Goals as goal
-
-pub returns-clause-kills : goal.returns-clause-kills
-returns-clause-kills c = grind (arith, common_steps)

@@ -1,0 +1,31 @@
+-- What was recalled of a history last.
+use Rattle.std.specs.Prelude.{ℕ, Bool, List, Option, Some, None, if◌then◌else◌}
+use Rattle.tw_line.specs.Cut.{Cut}
+use Rattle.tw_line.specs.NearestMatch.{last_index, next_index}
+use Rattle.tw_line.specs.declared.history.SearchDirection.TheVariants.{Backwards}
+use Rattle.tw_host.specs.ActionView.{ActionView}
+use Rattle.tw_key_parts.specs.declared.recalled.Recalled.{Recalled}
+
+-- the line before it, and the index of its line in the history
+pub record RecalledView : Type 0 where
+  pub before : Cut
+  pub index : ℕ
+
+-- the view of it
+abbrev pub recalled_view : Recalled → RecalledView
+recalled_view recalled = record { before = recalled.before; index = recalled.index }
+
+-- the line before it, or else the line itself
+abbrev pub line_before : Option RecalledView → Cut → Cut
+line_before None cut = cut
+line_before (Some recalled) cut = recalled.before
+
+-- the line before that of the history, or else the last line
+abbrev pub older_index : Option RecalledView → List (List ℕ) → Option ℕ
+older_index None lines = last_index lines
+older_index (Some recalled) lines = next_index Backwards recalled.index
+
+-- a key of the part keeps it where nothing comes of it; all else ends it
+abbrev pub recalled_kept : Bool → Option ActionView → Option RecalledView → Option RecalledView
+recalled_kept is_own (Some _) recalled = None
+recalled_kept is_own None recalled = if is_own then recalled else None
