@@ -1,8 +1,8 @@
 -- The beginning that a text shares with one text more.
-use Rattle.std.proofs.Common.{◌≡◌, ℕ, zero, suc, ◌+◌, ◌<◌, ◌≤◌, ◌&&◌, Bool, true, false, List, [], ◌∷◌, ◌++◌, length, take, drop, refl, sym, ap, ◌∙◌, arith, ⊎_elim, eqb, unwrap_or, append_assoc}
-use Rattle.std.proofs.lemmas.Bool.{cases_lt}
+use Rattle.std.proofs.Common.{◌≡◌, ℕ, ◌+◌, ◌<◌, ◌≤◌, ◌&&◌, Bool, true, false, List, [], ◌∷◌, ◌++◌, length, take, drop, refl, sym, ap, ◌∙◌, arith, ⊎_elim, eqb, unwrap_or, append_assoc}
+use Rattle.std.proofs.lemmas.Bool.{and_from, and_parts, cases_lt, true≢false}
 use Rattle.std.proofs.lemmas.Bool.Decides.{Decides-eqb}
-use Rattle.std.proofs.lemmas.List.{take-append-drop}
+use Rattle.std.proofs.lemmas.List.{take-append-drop, take-take}
 use Rattle.std.proofs.lemmas.List.Folds.{list_all-append}
 use Rattle.std.proofs.lemmas.Str.{IsCharBoundary-end}
 use Rattle.std.proofs.lemmas.Slice.Eq.{starts_is}
@@ -14,31 +14,12 @@ use Rattle.tw_line.specs.Boundaries.{is_boundary}
 use Rattle.tw_line.proofs.BoundaryLemmas.{is_boundary-from, IsCharBoundary-from}
 use Rattle.tw_completion_parts.specs.Beginnings.{is_shared, shared_len}
 
--- less of a text is less of more of it
-take-less : (n m : ℕ) (text : List ℕ) → n ≤ m → take n (take m text) ≡ take n text
-take-less zero m text low = refl
-take-less (suc n) zero text low = absurd (omega arith)
-take-less (suc n) (suc m) [] low = refl
-take-less (suc n) (suc m) (byte ∷ text) low = ap (λ rest. byte ∷ rest) (take-less n m text (omega arith))
-
--- two tests that both pass
-pub front_passes : (b l : Bool) → b && l ≡ true → b ≡ true
-front_passes true l passes = refl
-front_passes false l passes = passes
-
-rest_passes : (b l : Bool) → b && l ≡ true → l ≡ true
-rest_passes true l passes = passes
-rest_passes false l passes = absurd (cc)
-
-all_pass : (b l o : Bool) → b ≡ true → l ≡ true → o ≡ true → b && (l && (o && true)) ≡ true
-all_pass b l o e f g = rw (e, f, g) refl
-
 -- what begins with more of a text begins with less of it
 pub shorter : (text other : List ℕ) (n m : ℕ) → n ≤ m → starts_with eqb other (take m text) ≡ true → starts_with eqb other (take n text) ≡ true
 shorter text other n m low begins =
     let whole : other ≡ take m text ++ drop (length (take m text)) other = (starts_is Decides-eqb other (take m text) _ refl).0 begins in
     let parted : take n text ++ drop n (take m text) ≡ take m text =
-    ap (λ front. front ++ drop n (take m text)) (sym (take-less n m text low)) ∙ take-append-drop n (take m text) in
+    ap (λ front. front ++ drop n (take m text)) (sym (take-take n m text low)) ∙ take-append-drop n (take m text) in
     let rest = drop (length (take m text)) other in
     let fronted : other ≡ take n text ++ (drop n (take m text) ++ rest) =
     whole ∙ ap (λ front. front ++ rest) (sym parted) ∙ append_assoc (take n text) (drop n (take m text)) rest in
@@ -49,9 +30,8 @@ pub shorter_all : (text : List ℕ) (others : List (List ℕ)) (n m : ℕ) → n
     → list_all (λ other. starts_with eqb other (take m text)) others ≡ true → list_all (λ other. starts_with eqb other (take n text)) others ≡ true
 shorter_all text [] n m low all = refl
 shorter_all text (other ∷ others) n m low all =
-    let one : starts_with eqb other (take n text) ≡ true = shorter text other n m low (front_passes _ _ all) in
-    let rest : list_all (λ other. starts_with eqb other (take n text)) others ≡ true = shorter_all text others n m low (rest_passes _ _ all) in
-    ap (λ b. b && list_all (λ other. starts_with eqb other (take n text)) others) one ∙ rest
+    let passes = and_parts _ _ all in
+    and_from _ _ (shorter text other n m low passes.0) (shorter_all text others n m low passes.1)
 
 -- three tests of which the last one fails where the others pass
 fails : (b l o : Bool) → (b ≡ true → l ≡ true → o ≡ false) → b && (l && (o && true)) ≡ false
@@ -59,11 +39,6 @@ fails true true true miss = miss refl refl
 fails true true false miss = refl
 fails true false o miss = refl
 fails false l o miss = refl
-
-both : (b l : Bool) → b && l ≡ false → b ≡ true → l ≡ true → ⊥
-both true true none e f = absurd (cc)
-both true false none e f = absurd (cc)
-both false l none e f = absurd (cc)
 
 -- the greatest shared number, with one text more
 pub shared-more : (text : List ℕ) (before : List (List ℕ)) (other : List ℕ) (end less : ℕ)
@@ -73,9 +48,9 @@ pub shared-more : (text : List ℕ) (before : List (List ℕ)) (other : List ℕ
 shared-more text before other end less g low cut same longest = record {
   high = omega (arith, g.high);
   passes = ap (λ b. is_boundary text less && b) (list_all-append (λ one. starts_with eqb one (take less text)) before (other ∷ []))
-      ∙ all_pass _ _ _ (is_boundary-from text less cut) (shorter_all text before less end low (rest_passes _ _ g.passes)) same;
+      ∙ and_from _ _ (is_boundary-from text less cut) (and_from _ _ (shorter_all text before less end low (and_parts _ _ g.passes).1) (and_from _ _ same refl));
   last = λ k above below. ap (λ b. is_boundary text k && b) (list_all-append (λ one. starts_with eqb one (take k text)) before (other ∷ []))
-      ∙ fails _ _ _ (λ boundary begin. ⊎_elim (λ higher. absurd (both _ _ (g.last k higher below) boundary begin))
+      ∙ fails _ _ _ (λ boundary begin. ⊎_elim (λ higher. absurd (true≢false (sym (and_from _ _ boundary begin) ∙ g.last k higher below)))
       (λ within. longest k above within (IsCharBoundary-from text k boundary)) (cases_lt end k));
 }
 

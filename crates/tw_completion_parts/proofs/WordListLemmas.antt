@@ -11,9 +11,9 @@ use Rattle.tw_completion_parts.specs.WordLists.{is_delimiter, word_start}
 
 module _ (delimiters text : List ℕ) where
   -- no byte from the start on is a delimiter, and the one before it is
-  pub start-is : (start : ℕ) → start ≤ length text → ((k : ℕ) → start ≤ k → k < length text → is_delimiter delimiters (get_or text k 0) ≡ false)
+  pub start_is : (start : ℕ) → start ≤ length text → ((k : ℕ) → start ≤ k → k < length text → is_delimiter delimiters (get_or text k 0) ≡ false)
       → (0 < start → is_delimiter delimiters (get_or text (start - 1) 0) ≡ true) → start ≡ word_start delimiters text
-  start-is start low word before =
+  start_is start low word before =
       let len : suffix_len (λ byte. not (is_delimiter delimiters byte)) text ≡ length text - start =
       suffix_len_is (λ byte. not (is_delimiter delimiters byte)) text start 0 low (λ k from below. ap not (word k from below)) (λ some. ap not (before some)) in
       let back : start ≡ length text - (length text - start) = omega (arith, low) in
@@ -25,9 +25,9 @@ module _ (delimiters text : List ℕ) where
       let beyond : nat_lt byte 128 ≡ false = grind (arith, nat_tests) in
       ap (λ b. b && list_any (λ delimiter. delimiter == byte) delimiters) beyond
 
-  pub start-boundary : (start : ℕ) → IsUtf8 text → start ≤ length text → (0 < start → is_delimiter delimiters (get_or text (start - 1) 0) ≡ true) → IsCharBoundary text start
-  start-boundary zero utf8 low before = IsCharBoundary-start text utf8
-  start-boundary (suc n) utf8 low before = cases (cases_lt (get_or text n 0) 128) where
+  pub start_boundary : (start : ℕ) → IsUtf8 text → start ≤ length text → (0 < start → is_delimiter delimiters (get_or text (start - 1) 0) ≡ true) → IsCharBoundary text start
+  start_boundary zero utf8 low before = IsCharBoundary-start text utf8
+  start_boundary (suc n) utf8 low before = cases (cases_lt (get_or text n 0) 128) where
     same : suc n - 1 ≡ n
     same = omega arith
 
@@ -38,3 +38,10 @@ module _ (delimiters text : List ℕ) where
     cases (inl ascii) = subst (IsCharBoundary text) next (IsCharBoundary-after_ascii text n utf8 (omega (arith, low)) ascii)
     cases (inr high) =
         absurd (true≢false (sym (before (omega arith)) ∙ ap (λ k. is_delimiter delimiters (get_or text k 0)) same ∙ high-word (get_or text n 0) high))
+
+  -- where none is, the word is all of the text
+  pub all_is : (start : ℕ) → start ≤ 0 → ((k : ℕ) → start ≤ k → k < length text → is_delimiter delimiters (get_or text k 0) ≡ false) → start ≡ word_start delimiters text
+  all_is start none word = start_is start (omega (arith, none)) word (λ some. absurd (omega (arith, none, some)))
+
+  pub all_boundary : (start : ℕ) → IsUtf8 text → start ≤ 0 → IsCharBoundary text start
+  all_boundary start utf8 none = start_boundary start utf8 (omega (arith, none)) (λ some. absurd (omega (arith, none, some)))

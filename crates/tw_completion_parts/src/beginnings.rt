@@ -6,6 +6,7 @@ ghost use Rattle.std.specs.Str.{IsCharBoundary};
 ghost use Rattle.tw_completion_parts.specs.Beginnings.{common_beginning};
 
 /// Returns the greatest boundary of `text`, at most `limit`, up to which `other` is the same.
+#[tactic(auto, using(std::proofs::lemmas::Grind::common_steps, std::proofs::lemmas::Str::Pattern::starts_text))]
 fn shared_len(text: &str, limit: usize, other: &str) -> usize
     requires { IsCharBoundary text.now limit }
     ensures within { result ≤ limit }

@@ -19,6 +19,7 @@ pub enum Context {
 
 impl Context {
     /// Returns true if the text before a cursor is in the context.
+    #[tactic(auto, using(std::proofs::lemmas::Grind::common_steps, std::proofs::lemmas::Str::Pattern::starts_text))]
     pub fn has(&self, before: &str) -> bool
         ensures { result ≡ is_in (context_view self.now) before.now }
     {

@@ -3,7 +3,6 @@
 ghost use Rattle.std.specs.Prelude.{◌≡◌, IfOk, IsCharBoundary, map, string_bytes};
 ghost use Rattle.tw_host.specs.CandidateView.{candidate_view};
 ghost use Rattle.tw_line.specs.Cut.{cut_at};
-ghost use Rattle.tw_hosts.specs.Words.{is_same};
 ghost use Rattle.tw_completion_parts.specs.FileNames.{entries_in, entry_text, entry_view, file_candidates, listing_view, names_from};
 
 use crate::word_lists::split_begun;
@@ -30,15 +29,6 @@ pub struct Listing {
     pub entries: Vec<DirectoryEntry>,
 }
 
-impl Listing {
-    /// Returns true if the listing is that of a directory.
-    fn is_of(&self, directory: &str) -> bool
-        ensures { result ≡ is_same (listing_view self.now).directory directory.now }
-    {
-        self.directory.as_str() == directory
-    }
-}
-
 /// Returns the entries of the first listing of a directory. There are none without a listing.
 fn entries_in<'listings>(
     listings: &'listings [Listing],
@@ -47,7 +37,7 @@ fn entries_in<'listings>(
     ensures { map entry_view result.now ≡ entries_in (map listing_view listings.now) directory.now }
 {
     for listing in listings {
-        if listing.is_of(directory) {
+        if listing.directory.as_str() == directory {
             return listing.entries.as_slice();
         }
     }
@@ -66,6 +56,7 @@ fn entry_text(alloc: Global, entry: &DirectoryEntry) -> Result<String, AllocErro
 }
 
 /// Returns the entries whose names begin with `text`, as candidates for the bytes that it has before the cursor.
+#[tactic(auto, using(std::proofs::lemmas::Grind::common_steps, std::proofs::lemmas::Str::Pattern::starts_text))]
 fn names_from(
     alloc: Global,
     entries: &[DirectoryEntry],

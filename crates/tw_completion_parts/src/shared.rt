@@ -2,7 +2,7 @@
 
 ghost use Rattle.std.specs.Prelude.{◌≡◌, IfOk, map, option_map, string_bytes};
 ghost use Rattle.tw_host.specs.CandidateView.{candidate_view};
-ghost use Rattle.tw_completion_parts.specs.SharedCandidate.{beginning_first, candidate_texts, is_for_part, is_one_part, shared_candidate};
+ghost use Rattle.tw_completion_parts.specs.SharedCandidate.{beginning_first, candidate_texts, is_one_part, shared_candidate};
 
 use crate::beginnings::common_beginning;
 use std::alloc::{AllocError, Global};
@@ -23,20 +23,11 @@ fn candidate_texts(
     Ok(texts)
 }
 
-/// Returns true if a candidate is for the bytes of the line from `start` to `end`.
-fn is_for_part(start: usize, end: usize, candidate: &CompletionCandidate) -> bool
-    ensures { result ≡ is_for_part start end (candidate_view candidate.now) }
-{
-    candidate.range.start == start && candidate.range.end == end
-}
-
 /// Returns true if all candidates are for the bytes of the line from `start` to `end`.
 fn is_one_part(start: usize, end: usize, candidates: &[CompletionCandidate]) -> bool
     ensures { result ≡ is_one_part start end (map candidate_view candidates.now) }
 {
-    candidates
-        .iter()
-        .all(|candidate| is_for_part(start, end, candidate))
+    candidates.iter().all(|candidate| candidate.range.start == start && candidate.range.end == end)
 }
 
 /// Returns the text that several candidates share as a candidate, if all are for one part of the line and it is longer
@@ -74,10 +65,8 @@ pub fn beginning_first(
     ensures { IfOk result (λ first. map candidate_view first.items
         ≡ beginning_first (map candidate_view candidates.items)) }
 {
-    let Some(shared) = shared_candidate(alloc, &candidates)? else {
-        return Ok(candidates);
-    };
-    let mut first = Vec::new(alloc);
-    first.push(shared)?;
-    Ok(first)
+    match shared_candidate(alloc, &candidates)? {
+        Some(shared) => Ok(vec![in alloc; shared]?),
+        None => Ok(candidates),
+    }
 }

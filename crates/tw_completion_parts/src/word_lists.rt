@@ -24,14 +24,11 @@ pub struct WordList {
 pub fn is_delimiter(delimiters: &str, byte: u8) -> bool
     ensures { result ≡ is_delimiter delimiters.now byte }
 {
-    byte.is_ascii()
-        && delimiters
-            .as_bytes()
-            .iter()
-            .any(|delimiter| *delimiter == byte)
+    byte.is_ascii() && delimiters.as_bytes().contains(&byte)
 }
 
 /// Returns where the last word of a text begins: after the last delimiter.
+#[tactic(auto, using(crate::proofs::WordListLemmas::start_is, crate::proofs::WordListLemmas::start_boundary, crate::proofs::WordListLemmas::all_is, crate::proofs::WordListLemmas::all_boundary))]
 fn word_start(delimiters: &str, text: &str) -> usize
     ensures value { result ≡ word_start delimiters.now text.now }
     ensures boundary { IsCharBoundary text.now result }
@@ -53,6 +50,7 @@ pub fn split_begun<'text>(delimiters: &str, text: &'text str) -> (&'text str, &'
 }
 
 /// Returns true if a word begins with a text. With `ignores_case`, the case of ASCII letters does not count.
+#[tactic(auto, using(std::proofs::lemmas::Grind::common_steps, std::proofs::lemmas::Str::Pattern::starts_text))]
 fn begins_in(ignores_case: bool, text: &str, word: &str) -> bool
     ensures { result ≡ begins_in ignores_case text.now word.now }
 {

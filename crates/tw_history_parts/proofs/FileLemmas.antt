@@ -85,12 +85,9 @@ none_in_front : (b : ℕ) (lines : List (List ℕ)) → with_byte_in_front b lin
 none_in_front b [] e = refl
 none_in_front b (line ∷ lines) e = absurd (cc)
 
-no_line : (lines : List (List ℕ)) → [] ∷ lines ≡ [] → ⊥
-no_line lines e = cc
-
 none_whole-cons : (b : ℕ) (bytes more : List ℕ) (x : Bool) → (b == 10) ≡ x → (whole_lines (bytes ++ more) ≡ [] → whole_lines bytes ≡ [])
     → whole_lines ((b ∷ bytes) ++ more) ≡ [] → whole_lines (b ∷ bytes) ≡ []
-none_whole-cons b bytes more true is rest e = absurd (no_line (whole_lines (bytes ++ more)) (rw is at e))
+none_whole-cons b bytes more true is rest e = (let none : [] ∷ whole_lines (bytes ++ more) ≡ [] = rw is at e in cc)
 none_whole-cons b bytes more false is rest e = rw (is, rest (none_in_front b (whole_lines (bytes ++ more)) (rw is at e))) refl
 
 -- no line is whole in the beginning of a text in which none is

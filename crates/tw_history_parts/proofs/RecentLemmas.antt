@@ -8,30 +8,18 @@ use lib.Pointwise.{bytes_decides}
 use Rattle.std.proofs.lemmas.Bool.{false_from_ne_true}
 use Rattle.std.proofs.lemmas.List.{get_or_default, length-map, map-append, take-map, drop-map}
 use Rattle.std.proofs.lemmas.List.Edits.{length-remove, remove-append_left}
-use Rattle.std.proofs.lemmas.List.Elements.{filter_passes, All-push, AllWithin-more}
-use Rattle.std.proofs.lemmas.List.Kept.{AllPairs-cons, AllPairs-filter}
+use Rattle.std.proofs.lemmas.List.Elements.{filter_passes, AllWithin-more}
+use Rattle.std.proofs.lemmas.List.Kept.{AllPairs-filter}
+use Rattle.std.proofs.lemmas.List.Quantifiers.{all_pairs_push}
 use Rattle.tw_line.specs.Bounded.{lines_of_entries, newest}
 use Rattle.tw_line.specs.HistoryAdditions.{is_line}
 use Rattle.tw_line.specs.NearestMatch.{last_line, line_at}
-use Rattle.tw_line.proofs.BoundedLemmas.{last_line_newest}
 use Rattle.tw_history_parts.specs.Reading.{AddsAll}
 use Rattle.tw_history_parts.specs.Recent.{AreUnique, RecentLines, StaysUnique, is_another, older_lines, with_recent, lines_without}
-
--- a line that is put after others is the last of the newest
-pub last_is_added : (limit : ℕ) (older : List (List ℕ)) (line : List ℕ) → 0 < limit → last_line (newest limit (older ++ line ∷ [])) ≡ Some line
-last_is_added limit older line some = last_line_newest limit older line some
 
 -- ---- lines that stand once
 
 module _ {X : Type 0} (R : X → X → Type 0) where
-  -- an element after others, to each of which it is related
-  AllPairs-push : (xs : List X) (x : X) → AllPairs R xs → All (λ y. R y x) xs → AllPairs R (xs ++ x ∷ [])
-  AllPairs-push [] x pairs all = λ i j d lt within. absurd (omega (arith, lt, within))
-  AllPairs-push (y ∷ xs) x pairs all =
-      AllPairs-cons R y (xs ++ x ∷ [])
-      (All-push (R y) xs x (λ k d lt. pairs 0 (suc k) d (omega arith) (omega (arith, lt))) (all 0 y (omega arith)))
-      (AllPairs-push xs x (λ i j d lt within. pairs (suc i) (suc j) d (omega (arith, lt)) (omega (arith, within))) (λ k d lt. all (suc k) d (omega (arith, lt))))
-
   AllPairs-tail : (x : X) (xs : List X) → AllPairs R (x ∷ xs) → AllPairs R xs
   AllPairs-tail x xs pairs = λ i j d lt within. pairs (suc i) (suc j) d (omega (arith, lt)) (omega (arith, within))
 
@@ -85,7 +73,7 @@ none_more lines line found at low is other none =
 added_unique : (limit : ℕ) (lines : List (List ℕ)) (line : List ℕ) → AreUnique lines → AreUnique (newest limit (filter (is_another line) lines ++ line ∷ []))
 added_unique limit lines line unique =
     AllPairs-drop (λ older newer. older ≢ newer) _ _
-    (AllPairs-push (λ older newer. older ≢ newer) _ line (AllPairs-filter (λ older newer. older ≢ newer) (is_another line) lines unique)
+    (all_pairs_push (λ older newer. older ≢ newer) _ line (AllPairs-filter (λ older newer. older ≢ newer) (is_another line) lines unique)
     (λ k d lt. other_differs line _ (filter_passes (is_another line) lines k d lt)))
 
 unique_with : (h : RecentLines) (line : List ℕ) (x : Bool) → is_line line (last_line h.lines) ≡ x → h.is_unique ≡ true → AreUnique h.lines → AreUnique (with_recent h line).lines
@@ -110,15 +98,12 @@ with_recent-keeps : (h : RecentLines) (line : List ℕ) (x : Bool) → is_line l
 with_recent-keeps h line true e = rw e (refl, refl)
 with_recent-keeps h line false e = rw e (refl, refl)
 
-pub adds_keep_limit : (lines : List (List ℕ)) (old new : RecentLines) → AddsAll (λ h line grown. grown ≡ with_recent h line) lines old new → new.limit ≡ old.limit
-adds_keep_limit [] old new adds = ap (λ h. h.limit) adds
-adds_keep_limit (line ∷ lines) old new (between, one, others) =
-    adds_keep_limit lines between new others ∙ ap (λ h. h.limit) one ∙ (with_recent-keeps old line _ refl).0
-
-pub adds_keep_unique : (lines : List (List ℕ)) (old new : RecentLines) → AddsAll (λ h line grown. grown ≡ with_recent h line) lines old new → new.is_unique ≡ old.is_unique
-adds_keep_unique [] old new adds = ap (λ h. h.is_unique) adds
-adds_keep_unique (line ∷ lines) old new (between, one, others) =
-    adds_keep_unique lines between new others ∙ ap (λ h. h.is_unique) one ∙ (with_recent-keeps old line _ refl).1
+pub adds_keep : (lines : List (List ℕ)) (old new : RecentLines) → AddsAll (λ h line grown. grown ≡ with_recent h line) lines old new → (new.limit ≡ old.limit) × (new.is_unique ≡ old.is_unique)
+adds_keep [] old new adds = (ap (λ h. h.limit) adds, ap (λ h. h.is_unique) adds)
+adds_keep (line ∷ lines) old new (between, one, others) =
+    let first = with_recent-keeps old line _ refl in
+    let rest = adds_keep lines between new others in
+    (rest.0 ∙ ap (λ h. h.limit) one ∙ first.0, rest.1 ∙ ap (λ h. h.is_unique) one ∙ first.1)
 
 -- ---- entries
 

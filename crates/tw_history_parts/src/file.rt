@@ -32,10 +32,7 @@ impl fmt::Display for Unread {
 pub fn is_cut_off(bytes: &[u8]) -> bool
     ensures { result ≡ is_cut_off bytes.now }
 {
-    match bytes.last() {
-        Some(last) => *last != b'\n',
-        None => false,
-    }
+    bytes.last().is_some_and(|last| *last != b'\n')
 }
 
 /// Adds the lines of a file to a history, the oldest first, and returns how many of its texts are no lines: the last

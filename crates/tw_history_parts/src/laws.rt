@@ -5,7 +5,7 @@ ghost use Rattle.tw_history_parts.specs.Recent.{StaysUnique};
 
 /// Lines that are written are read as they were. If writing was cut off, the lines before it are read, and nothing
 /// else; a damaged text loses only itself; and lines that are written after others are read after them.
-
+#[tactic(auto, using(crate::proofs::FileLemmas::written_are_read, crate::proofs::FileLemmas::beginning_is_read, crate::proofs::FileLemmas::damage_stays_alone, crate::proofs::FileLemmas::resumed_are_read))]
 pub fn files()
     ensures written { WrittenAreRead }
     ensures beginning { BeginningIsRead }
@@ -14,7 +14,7 @@ pub fn files()
 {}
 
 /// No line stands twice once a line is added, if none is to.
-
+#[tactic(auto, using(crate::proofs::RecentLemmas::stays_unique))]
 pub fn unique()
     ensures unique { StaysUnique }
 {}

@@ -36,10 +36,8 @@ pub fn split_line(bytes: &[u8]) -> Option<(&[u8], &[u8])>
     ensures shorter { IfSome result (λ parts. length parts.1.now < length bytes.now) }
     ensures none { result ≡ None → ¬ (Contains bytes.now 10) }
 {
-    match bytes.iter().position(|byte| *byte == b'\n') {
-        Some(end) => Some((&bytes[..end], &bytes[end + 1..])),
-        None => None,
-    }
+    let end = bytes.iter().position(|byte| *byte == b'\n')?;
+    Some((&bytes[..end], &bytes[end + 1..]))
 }
 
 /// Adds a byte that is itself: the next one does not stand after a backslash.
@@ -97,8 +95,5 @@ fn text_of(bytes: Vec<u8>) -> Option<String>
 pub fn line_of(alloc: Global, text: &[u8]) -> Result<Option<String>, AllocError>
     ensures { IfOk result (λ line. option_map string_bytes line ≡ line_of text.now) }
 {
-    match unescape(alloc, text)? {
-        Some(bytes) => Ok(text_of(bytes)),
-        None => Ok(None),
-    }
+    Ok(unescape(alloc, text)?.and_then(text_of))
 }

@@ -6,7 +6,7 @@ ghost use Rattle.std.specs.Prelude.{◌≡◌, ◌≢◌, ◌≤◌, ◌<◌, �
 ghost use Rattle.tw_line.specs.Bounded.{lines_of_entries, newest};
 ghost use Rattle.tw_line.specs.HistoryAdditions.{is_line, match_view};
 ghost use Rattle.tw_line.specs.NearestMatch.{last_line, line_at, nearest_match};
-ghost use Rattle.tw_history_parts.specs.Recent.{at_least_one, no_recent_lines, older_lines, with_recent, lines_without};
+ghost use Rattle.tw_history_parts.specs.Recent.{no_recent_lines, older_lines, with_recent, lines_without};
 
 use std::alloc::{AllocError, Global};
 use std::borrow::CowStr;
@@ -42,21 +42,6 @@ impl Model for RecentHistory {
         × (h.is_unique ≡ true → AreUnique (map string_bytes h.entries.items)) };
 }
 
-/// Returns the number, or 1 if it is 0.
-fn at_least_one(count: usize) -> usize
-    ensures { result ≡ at_least_one count }
-{
-    if count == 0 { 1 } else { count }
-}
-
-/// Takes an entry away.
-fn take_away(entries: &mut VecDeque<String>, at: HistoryIndex)
-    requires { at < length entries.old.items }
-    ensures { entries.new.items ≡ remove entries.old.items at }
-{
-    let _entry = entries.remove(at);
-}
-
 /// Appends an entry, and takes the one away that it doubles, or the first one if there are more than `limit` then.
 #[tactic(auto, using(crate::proofs::RecentLemmas::pushed_double))]
 fn push_recent(
@@ -76,7 +61,7 @@ fn push_recent(
 {
     entries.push_back(entry)?;
     if let Some(at) = double {
-        take_away(entries, at);
+        let _double = entries.remove(at);
     } else if entries.len() > limit {
         let _oldest = entries.pop_front();
     }
@@ -91,7 +76,7 @@ impl RecentHistory {
     {
         RecentHistory {
             entries: VecDeque::new(alloc),
-            limit: at_least_one(limit),
+            limit: limit.max(1),
             is_unique: false,
             alloc,
         }
@@ -103,20 +88,17 @@ impl RecentHistory {
         ensures { result ≡ no_recent_lines limit true }
     {
         RecentHistory {
-            entries: VecDeque::new(alloc),
-            limit: at_least_one(limit),
             is_unique: true,
-            alloc,
+            ..RecentHistory::new(alloc, limit)
         }
     }
 
     fn ends_with(&self, line: &str) -> bool
         ensures { result ≡ is_line line.now (last_line self.now.lines) }
     {
-        match self.entries.back() {
-            Some(last) => last.as_str() == line,
-            None => false,
-        }
+        self.entries
+            .back()
+            .is_some_and(|last| last.as_str() == line)
     }
 
     /// Returns the index of a line, if it stands here.
@@ -171,10 +153,8 @@ impl History for RecentHistory {
             ≡ slice_get self.now.lines idx) }
         ensures borrowed { IfOk result (λ line. IfSome line IsBorrowedStr) }
     {
-        match self.entries.get(idx) {
-            Some(line) => Ok(Some(CowStr::Borrowed(line.as_str()))),
-            None => Ok(None),
-        }
+        let line = self.entries.get(idx);
+        Ok(line.map(|line| CowStr::Borrowed(line.as_str())))
     }
 
     fn last(&self) -> Option<HistoryIndex> {
@@ -183,7 +163,7 @@ impl History for RecentHistory {
 
     /// Adds a line at the end, unless it is the last line already. The same line goes away if none is to stand twice,
     /// or else the oldest one if there are too many then. If memory is lacking, the lines stay as they were.
-    #[tactic(auto, using(crate::proofs::RecentLemmas::last_is_added))]
+    #[tactic(auto, using(tw_line::proofs::BoundedLemmas::last_line_newest))]
     fn add(&mut self, line: &str) -> Result<(), AllocError>
         ensures last { OnOk result (last_line self.new.lines ≡ Some line.now) }
         ensures refused { OnErr result (self.new ≡ self.old) }

@@ -77,11 +77,7 @@ impl<L: History, W: Write + Drop> WrittenHistory<L, W> {
             history,
             has_failed: writer.is_none(),
             writer,
-            unread: if lost == 0 {
-                None
-            } else {
-                Some(Unread::Lines(lost))
-            },
+            unread: (lost > 0).then_some(Unread::Lines(lost)),
             alloc,
         };
         if is_cut_off(bytes) {
@@ -164,7 +160,6 @@ impl WrittenHistory<RecentHistory, File> {
     }
 
     /// Opens the history in a file, over lines in memory.
-    #[tactic(auto, using(crate::proofs::RecentLemmas::adds_keep_limit, crate::proofs::RecentLemmas::adds_keep_unique))]
     fn open_over(rt: HostRuntime, path: &str, lines: RecentHistory) -> Result<Self, AllocError>
         ensures limit { IfOk result (λ it. it.history.limit ≡ lines.limit) }
         ensures unique { IfOk result (λ it. it.history.is_unique ≡ lines.is_unique) }

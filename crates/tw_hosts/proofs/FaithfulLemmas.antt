@@ -1,12 +1,12 @@
 -- The tokens of a line, one after the other, are the line.
-use Rattle.std.proofs.Common.{◌≡◌, ℕ, zero, suc, ◌<◌, ◌≤◌, ◌==◌, Bool, true, false, List, [], ◌∷◌, ◌++◌, Option, Some, None, length, take, drop, min, refl, ap, sym, ◌∙◌, arith, append-nil, take-append-drop, if◌then◌else◌}
-use Rattle.std.proofs.lemmas.Bool.{true≢false}
+use Rattle.std.proofs.Common.{◌≡◌, ℕ, zero, suc, ◌<◌, ◌≤◌, List, [], ◌∷◌, ◌++◌, Option, Some, None, length, take, drop, refl, ap, sym, ◌∙◌, arith, append-nil, take-append-drop}
+use Rattle.std.proofs.lemmas.Bool.Decides.{nat_tests}
 use Rattle.std.proofs.lemmas.List.{append_assoc, length-drop}
 use Rattle.tw_host.specs.ElementView.{ElementView, Attribute, AllAttributes, Text}
 use Rattle.tw_host.specs.Faithful.{text_of_elements, IsFaithful}
 use Rattle.tw_hosts.specs.FaithfulParts.{StyledIsText, TokensAreLine}
 use Rattle.tw_hosts.specs.TableRules.{table_rules}
-use Rattle.tw_hosts.specs.Tokens.{text_before, is_quote, joined_elements, quote_len, styled_or_plain, style_of, styled_tokens, token_len, up_to, word_len}
+use Rattle.tw_hosts.specs.Tokens.{text_before, joined_elements, styled_or_plain, style_of, styled_tokens, token_len}
 use Rattle.tw_surface.specs.declared.cell.CellAttributes.{CellAttributes}
 use Rattle.tw_hosts.specs.declared.tokens.Styles.{Styles}
 
@@ -40,28 +40,8 @@ joined-text (Attribute change ∷ elements) = joined-text elements
 joined-text (AllAttributes attributes ∷ elements) = joined-text elements
 
 -- a token has a byte
-some-if : (b : Bool) (end : ℕ) → (b ≡ false → 0 < end) → 0 < (if b then 1 else end)
-some-if true end h = omega arith
-some-if false end h = h refl
-
-not-zero : (end : ℕ) → (end == 0) ≡ false → 0 < end
-not-zero zero e = absurd (true≢false e)
-not-zero (suc end) e = omega arith
-
-some-word : (end : ℕ) → 0 < (if end == 0 then 1 else end)
-some-word end = some-if (end == 0) end (not-zero end)
-
-some-either : (b : Bool) (x y : ℕ) → 0 < x → 0 < y → 0 < (if b then x else y)
-some-either true x y hx hy = hx
-some-either false x y hx hy = hy
-
-some-quote : (byte : ℕ) (rest : List ℕ) → 0 < quote_len (byte ∷ rest)
-some-quote byte rest = omega arith
-
 some-token : (byte : ℕ) (rest : List ℕ) → 0 < token_len (byte ∷ rest)
-some-token byte rest =
-    let text = byte ∷ rest in
-    some-either (is_quote text) (quote_len text) (word_len text) (some-quote byte rest) (some-word (min (up_to 32 text) (up_to 39 text)))
+some-token byte rest = grind (arith, nat_tests)
 
 -- enough tokens are the whole text
 tokens-text : (count : ℕ) (styles : Styles) (keywords : List (List ℕ)) (text : List ℕ) → length text ≤ count → text_of_elements (styled_tokens count styles keywords text) ≡ text

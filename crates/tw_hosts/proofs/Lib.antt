@@ -1,5 +1,4 @@
 pub mod WordLemmas
-pub mod CompletionLemmas
 pub mod TokenLemmas
 pub mod FaithfulLemmas
 pub mod SettlingLemmas

@@ -2,14 +2,16 @@
 use Rattle.std.proofs.Common.{◌≡◌, ℕ, zero, suc, ℤ, pos, negsuc, ◌+ℤ◌, ◌-ℤ◌, ◌≤ℤ◌, ◌<ℤ◌, ◌+◌, ◌*◌, ◌/◌, ◌%◌, ◌<◌, ◌≤◌, Bool, true, false, ◌&&◌, leb, nat_abs, if◌then◌else◌, List, [], ◌∷◌, length, replicate, take, drop, refl, ap, sym, ◌∙◌, arith}
 use Rattle.std.specs.List.{list_all}
 use Rattle.std.proofs.lemmas.Bool.{and_parts, leb-true, leb-false, le-leb, and_from, true≢false}
+use Rattle.std.proofs.lemmas.Bool.Decides.{nat_tests}
 use Rattle.std.proofs.lemmas.Int.{ints}
 use Rattle.std.proofs.lemmas.List.{take-append-drop}
 use Rattle.std.proofs.lemmas.List.Folds.{list_all-append}
 use Rattle.std.proofs.Math.Nat.{mul-add-mod_self_right, mul-add-div_right, mod-eq_of_lt, div-eq_of_lt, add-mul, div-add-mod'}
+use Rattle.unicode_segmentation.specs.Grapheme.{graphemes}
 use Rattle.tw_surface.specs.declared.measure.Extent.{Extent}
 use Rattle.tw_surface.specs.declared.measure.Piece.{Piece}
 use Rattle.tw_surface.specs.declared.measure.Piece.TheVariants.{Cr, Lf, CrLf, Wide}
-use Rattle.tw_surface.specs.Characters.{is_plain, is_printable}
+use Rattle.tw_surface.specs.Characters.{is_printable}
 use Rattle.tw_surface.specs.Extents.{place_of, reach_all}
 use Rattle.tw_surface.specs.Paintings.{place_at}
 use Rattle.tw_surface.specs.Places.{Place, pieces, next_place, end_of_pieces, places_after}
@@ -75,20 +77,12 @@ some-first : (clusters : List (List ℕ)) → 0 < needed_by_first clusters
 some-first [] = omega arith
 some-first (cluster ∷ more) = some-needed (cell_pieces cluster)
 
-some-chosen : (b : Bool) (n : ℕ) → 0 < n → 0 < (if b then 1 else n)
-some-chosen true n h = omega arith
-some-chosen false n h = h
-
 some-text : (text : List ℕ) → 0 < needed_by_text text
 unfolding needed_by_text
-some-text text = some-chosen (list_all is_plain text) _ (some-first _)
+some-text text = let some = some-first (graphemes true text) in grind (arith, nat_tests)
 
 begins-within : (cols width : ℕ) (p : Place) → 0 < cols → 0 < width → (begins_at cols width p).x < cols
-begins-within cols width p some wide = by (leb (p.x + width) cols) refl
-  where
-    by : (b : Bool) → leb (p.x + width) cols ≡ b → (begins_at cols width p).x < cols
-    by true e = rw e (let fits = leb-true (p.x + width) cols e in omega (arith, fits, wide))
-    by false e = rw e some
+begins-within cols width p some wide = grind (arith, nat_tests)
 
 -- division finds the cell
 back-by : (a b z : ℤ) → b -ℤ a ≡ z → a ≤ℤ b → a +ℤ pos (at_least_0 z) ≡ b
@@ -173,10 +167,7 @@ begins-behind cols n p q some h = by (leb (q.x + 1) cols) refl
         let more : at_least_0 (q.y +ℤ pos 1 -ℤ p.y) ≡ rows_between p q + 1 = rows-suc p.y q.y (q.y -ℤ p.y) refl h.below in
         rw e (ap (λ r. r * cols + 0) more ∙ omega (arith, add-mul (rows_between p q) 1 cols, h.columns, full))
 
--- a printable text needs one column, and has the editor's pieces
-printable_needs : (text : List ℕ) → list_all is_printable text ≡ true → needed_by_text text ≡ 1
-printable_needs text h = plain_needs text (plain_from_printable text h)
-
+-- a printable text has the editor's pieces
 settled_printable : (text : List ℕ) → list_all is_printable text ≡ true → settled_pieces text ≡ replicate (length text) (Wide 1)
 settled_printable text h = plain_settles text (plain_from_printable text h) ∙ printable_pieces text h
 
@@ -210,7 +201,7 @@ printable_is_plain cols prompt cut h = by (is_settled cols prompt cut) refl
         let went : IsBehind cols n start last =
         rw (settled_printable (take cut.cursor cut.line) parts.0) (rw none at (go-behind cols 0 n start start some (behind-itself cols start inside))) in
         let cell : settled_place cols prompt cut ≡ begins_at cols 1 last =
-        ap (λ w. begins_at cols w last) (printable_needs (drop cut.cursor cut.line) parts.1) in
+        ap (λ w. begins_at cols w last) (plain_needs (drop cut.cursor cut.line) (plain_from_printable (drop cut.cursor cut.line) parts.1)) in
         let far = begins-behind cols n start last some went in
         let same : columns_between cols start (begins_at cols 1 last) ≡ n = omega (arith, far) in
         rw e (ap (λ q. columns_between cols start q) cell ∙ same ∙ sym (printable-width (take cut.cursor cut.line) parts.0))

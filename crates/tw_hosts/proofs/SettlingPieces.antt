@@ -1,20 +1,19 @@
 -- The pieces of a text that no terminal parts, and a measure on its way over them.
 use Rattle.std.proofs.Common.{◌≡◌, ℕ, zero, suc, ◌-◌, ◌<◌, ◌≤◌, Bool, true, false, not, ◌&&◌, eqb, List, [], ◌∷◌, ◌++◌, map, flat_map, refl, ap, sym, ◌∙◌, arith}
 use Rattle.std.specs.List.{list_all, sum_by}
-use Rattle.std.proofs.lemmas.Bool.{and_parts, eq-eqb, ne_eqb, eqb-true, eqb-false, true≢false}
+use Rattle.std.proofs.lemmas.Bool.{and_parts, and_right, eq-eqb, ne_eqb, eqb-true, eqb-false, true≢false}
 use Rattle.std.proofs.lemmas.List.Folds.{list_all-append}
 use Rattle.std.proofs.lemmas.List.Sums.{sum_by-cons}
 use Rattle.unicode_segmentation.specs.Grapheme.{graphemes}
 use Rattle.tw_surface.specs.declared.measure.Extent.{Extent}
 use Rattle.tw_surface.specs.declared.measure.Piece.{Piece}
 use Rattle.tw_surface.specs.Characters.{is_plain}
-use Rattle.tw_surface.specs.Clusters.{IsSplit}
 use Rattle.tw_surface.specs.Extents.{place_of, reach_all}
 use Rattle.tw_surface.specs.Places.{Place, pieces, cluster_piece, next_place, end_of_pieces, places_after, is_in_range}
 use Rattle.tw_surface.proofs.DrawingLemmas.{place_of-pieces, reach_all-append}
 use Rattle.tw_surface.proofs.ExtentLemmas.{IsUnderWay}
 use Rattle.tw_surface.specs.declared.measure.Piece.TheVariants.{Wide}
-use Rattle.tw_hosts.specs.Settling.{char_columns, character_pieces, is_parted, cell_pieces, settled_pieces, needed, needed_by_text}
+use Rattle.tw_hosts.specs.Settling.{char_columns, character_pieces, is_parted, cell_pieces, settled_pieces, needed_by_text}
 
 -- the same numbers are compared
 same-answer : (a b c d : ℕ) → (a ≡ b → c ≡ d) → (c ≡ d → a ≡ b) → eqb a b ≡ eqb c d
@@ -23,10 +22,6 @@ same-answer a b c d there back = by (eqb a b) refl
     by : (x : Bool) → eqb a b ≡ x → eqb a b ≡ eqb c d
     by true e = e ∙ sym (eq-eqb c d (there (eqb-true a b e)))
     by false e = e ∙ sym (ne_eqb c d (λ same. eqb-false a b e (back same)))
-
-and-no : (b : Bool) → (b && false) ≡ false
-and-no true = refl
-and-no false = refl
 
 -- the characters that are left sum up to what is left of the width, and none takes all of it
 abbrev pub are_parts : ℕ → ℕ → List ℕ → Bool
@@ -44,7 +39,7 @@ parts_step width left c cs apart fits =
 pub parts_whole : (width left c : ℕ) (cs : List ℕ) → char_columns c ≡ width → are_parts width left (c ∷ cs) ≡ false
 parts_whole width left c cs same =
     ap (λ b. eqb (sum_by char_columns (c ∷ cs)) left && (not b && list_all (λ d. not (eqb (char_columns d) width)) cs)) (eq-eqb _ _ same)
-    ∙ and-no (eqb (sum_by char_columns (c ∷ cs)) left)
+    ∙ and_right (eqb (sum_by char_columns (c ∷ cs)) left) false refl
 
 pub parts_over : (width left c : ℕ) (cs : List ℕ) → left < char_columns c → are_parts width left (c ∷ cs) ≡ false
 parts_over width left c cs over =
@@ -106,14 +101,6 @@ under_refused cols ps more all start t h refused =
 pub plain_needs : (text : List ℕ) → list_all is_plain text ≡ true → needed_by_text text ≡ 1
 unfolding needed_by_text
 plain_needs text h = rw h refl
-
-pub cluster_needs : (text cluster rest : List ℕ) → list_all is_plain text ≡ false → IsSplit text cluster rest → needed_by_text text ≡ needed (cell_pieces cluster)
-unfolding needed_by_text
-cluster_needs text cluster rest h split = rw h (rw split.2 refl)
-
-pub nothing_needs : (text : List ℕ) → list_all is_plain text ≡ false → graphemes true text ≡ [] → needed_by_text text ≡ 1
-unfolding needed_by_text
-nothing_needs text h e = rw h (rw e refl)
 
 -- a plain text has the editor's pieces
 pub plain_settles : (text : List ℕ) → list_all is_plain text ≡ true → settled_pieces text ≡ pieces text

@@ -1,18 +1,12 @@
 -- How the first token of a text is cut off, and the tokens of a text one after the other.
-use Rattle.std.proofs.Common.{◌≡◌, ◌≢◌, ℕ, ◌+◌, ◌<◌, ◌≤◌, ◌==◌, true, false, List, [], ◌∷◌, ◌++◌, length, take, drop, get_or, min, refl, ap, sym, subst, inl, inr, ◌⊎◌, ⊎_elim, zero, suc, ◌∙◌, arith}
+use Rattle.std.proofs.Common.{◌≡◌, ℕ, ◌+◌, ◌<◌, ◌≤◌, ◌==◌, true, List, [], ◌∷◌, ◌++◌, length, take, drop, get_or, min, refl, ap, sym, subst, ⊎_elim, zero, suc, ◌∙◌, arith}
 use Rattle.std.specs.Str.{IsUtf8, IsCharBoundary}
-use Rattle.std.proofs.lemmas.Bool.{eq-eqb, ne_eqb, cases_eq, true≢false}
-use Rattle.std.proofs.lemmas.Bool.Decides.{eqb_tells}
+use Rattle.std.proofs.lemmas.Bool.{cases_eq, eqb-true, true≢false}
 use Rattle.std.proofs.lemmas.List.{get_or-drop, get_or-take, length-drop, length-take}
 use Rattle.std.proofs.lemmas.List.Sums.{position_or_len_is, fails_before_first, passes_at_first}
 use Rattle.std.proofs.lemmas.Str.{IsCharBoundary-after_ascii}
 use Rattle.tw_hosts.specs.Tokens.{up_to, is_quote, styled_or_plain, style_of, styled_tokens, token_len}
 use Rattle.tw_hosts.specs.declared.tokens.Styles.{Styles}
-
--- the first mark stands at k, or there is none and k is the length
-pub up_to-is : (mark : ℕ) (text : List ℕ) (k : ℕ) → k ≤ length text → ((i : ℕ) → i < k → get_or text i 0 ≢ mark) → (k < length text → get_or text k 0 ≡ mark) → up_to mark text ≡ k
-up_to-is mark text k low before there =
-    position_or_len_is (λ byte. byte == mark) text k 0 low (λ i below. ne_eqb _ mark (before i below)) (λ h. eq-eqb _ _ (there h))
 
 -- a mark in the front of a text is looked for only there
 pub up_to-front : (mark : ℕ) (text : List ℕ) (n : ℕ) → n ≤ length text → up_to mark (take n text) ≡ min n (up_to mark text)
@@ -26,17 +20,10 @@ up_to-front mark text n low =
     ap test (get_or-take n text (min n first) 0 (omega (arith, inside, len)) ∙ ap (λ i. get_or text i 0) here)
     ∙ passes_at_first test text 0 (omega (arith, inside, len, low)))
 
--- a byte that passes the test is that byte
-same-byte : (byte mark : ℕ) → (byte == mark) ≡ true → byte ≡ mark
-same-byte byte mark passes = cases (eqb_tells byte mark) where
-  cases : ((byte == mark) ≡ true) × (byte ≡ mark) ⊎ ((byte == mark) ≡ false) × (byte ≢ mark) → byte ≡ mark
-  cases (inl (e, same)) = same
-  cases (inr (e, differs)) = absurd (true≢false (sym passes ∙ e))
-
 -- where a text may be cut: after a mark
 module _ (text : List ℕ) (utf8 : IsUtf8 text) where
   mark-there : (mark : ℕ) (s : List ℕ) → up_to mark s < length s → get_or s (up_to mark s) 0 ≡ mark
-  mark-there mark s low = same-byte _ mark (passes_at_first (λ byte. byte == mark) s 0 low)
+  mark-there mark s low = eqb-true _ mark (passes_at_first (λ byte. byte == mark) s 0 low)
 
   behind : (i j mark : ℕ) → mark < 128 → j ≡ i + 1 → i < length text → get_or text i 0 ≡ mark → IsCharBoundary text j
   behind i j mark ascii next low there =
@@ -44,7 +31,7 @@ module _ (text : List ℕ) (utf8 : IsUtf8 text) where
 
   quote-first : (s : List ℕ) → is_quote s ≡ true → get_or s 0 0 ≡ 39
   quote-first [] e = absurd (true≢false (sym e))
-  quote-first (byte ∷ rest) e = same-byte byte 39 e
+  quote-first (byte ∷ rest) e = eqb-true byte 39 e
 
   pub behind-quote : 0 < length text → is_quote text ≡ true → IsCharBoundary text 1
   behind-quote some e = behind 0 1 39 (omega arith) refl some (quote-first text e)

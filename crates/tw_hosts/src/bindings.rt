@@ -4,7 +4,7 @@ ghost use Rattle.std.specs.Prelude.{◌≡◌, option_map};
 ghost use Rattle.tw_input.specs.EventView.{event_view};
 ghost use Rattle.tw_host.specs.ActionView.{action_view};
 ghost use Rattle.tw_host.specs.KeyTable.{is_same_key};
-ghost use Rattle.tw_hosts.specs.Bindings.{binding_action, binding_cut, bound, bound_event, cut_by};
+ghost use Rattle.tw_hosts.specs.Bindings.{binding_action, bound, bound_event, cut_by};
 
 use tw_host::Action;
 use tw_input::{InputEvent, KeyEvent};
@@ -95,15 +95,6 @@ pub fn binding_action(binding: Binding) -> Action
     }
 }
 
-/// Clears the line if the binding does.
-fn clear_if(binding: Binding, editor: &mut LineEditBuffer)
-    ensures { editor.new ≡ binding_cut binding editor.old }
-{
-    if let Binding::Clear = binding {
-        editor.clear();
-    }
-}
-
 /// Returns the action of a key that has a row, and `None` for every other event: a body for a host's `resolve_action`.
 pub fn resolve_key(
     rows: &[KeyBinding],
@@ -118,6 +109,8 @@ pub fn resolve_key(
         return None;
     };
     let binding = bound(rows, *key)?;
-    clear_if(binding, editor);
+    if let Binding::Clear = binding {
+        editor.clear();
+    }
     Some(binding_action(binding))
 }

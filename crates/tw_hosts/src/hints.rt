@@ -3,7 +3,6 @@
 ghost use Rattle.std.specs.Prelude.{◌≡◌, IfOk, map, option_map};
 ghost use Rattle.tw_host.specs.ElementView.{element_view};
 ghost use Rattle.tw_hosts.specs.Hints.{hint_elements, hint_for, hint_view};
-ghost use Rattle.tw_hosts.specs.Words.{is_same};
 
 use crate::words::first_word;
 use std::alloc::{AllocError, Global};
@@ -18,21 +17,12 @@ pub struct Hint {
     pub text: String,
 }
 
-impl Hint {
-    /// Returns true if the hint is for a word.
-    fn is_for(&self, word: &str) -> bool
-        ensures { result ≡ is_same (hint_view self.now).word word.now }
-    {
-        self.word.as_str() == word
-    }
-}
-
 /// Returns the text of the first hint for a word.
 fn hint_for<'hints>(hints: &'hints [Hint], word: &str) -> Option<&'hints str>
     ensures { option_map (λ text. text.now) result ≡ hint_for (map hint_view hints.now) word.now }
 {
     for hint in hints {
-        if hint.is_for(word) {
+        if hint.word.as_str() == word {
             return Some(hint.text.as_str());
         }
     }

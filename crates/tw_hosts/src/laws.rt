@@ -16,6 +16,7 @@ pub fn equality()
 {}
 
 /// The parts show the text that they are given, and a host of tables the prompt and the line themselves.
+#[tactic(auto, using(crate::proofs::FaithfulLemmas::styled_is_text, crate::proofs::FaithfulLemmas::tokens_are_line, crate::proofs::FaithfulLemmas::tables_are_faithful))]
 pub fn faithful()
     ensures styled { StyledIsText }
     ensures tokens { TokensAreLine }
@@ -25,6 +26,7 @@ pub fn faithful()
 /// The settled column leads to the cell in which the text after the cursor begins, and no other one does. There is one
 /// after a text without a carriage return, no piece of which is wider than the screen. In a printable line it is the
 /// plain one. Where no cluster is parted, the text before the cursor leads where the editor measures it.
+#[tactic(auto, using(crate::proofs::SettlingLemmas::column_leads_there, crate::proofs::SettlingLemmas::cursor_is_settled, crate::proofs::SettlingLemmas::no_other_column, crate::proofs::SettlingLemmas::some_column, crate::proofs::SettlingLemmas::printable_is_plain, crate::proofs::SettlingLemmas::whole_is_measured))]
 pub fn settling()
     ensures column { ColumnLeadsThere }
     ensures cursor { CursorIsSettled }
@@ -35,6 +37,7 @@ pub fn settling()
 {}
 
 /// The settled column of a printable line is that of a faithful host, whatever the screen is said to be.
+#[tactic(auto, using(crate::proofs::SettlingLemmas::printable_is_unchanged))]
 pub fn printable<H: LineEditorHost>()
     ensures { PrintableIsUnchanged H.rules }
 {}

@@ -199,11 +199,7 @@ fn columns_between(cols: usize, start: Extent, cell: (usize, isize)) -> Option<u
         × (columns ≡ columns_between cols (place_of start) (record { x = cell.0; y = cell.1 }))) }
 {
     let reach = rows_down(start.y, cell.1) * cols + cell.0;
-    if start.x <= reach {
-        Some(reach - start.x)
-    } else {
-        None
-    }
+    reach.checked_sub(start.x)
 }
 
 /// Returns where the prompt ends, or `None` if a place on the way is out of range.
@@ -275,8 +271,5 @@ pub fn settled_column(cols: usize, prompt: &str, line: &str, cursor: usize) -> u
     requires { IsCharBoundary line.now cursor }
     ensures { result ≡ settled_column cols prompt.now (cut_at line.now cursor) }
 {
-    match settled(cols, prompt, line, cursor) {
-        Some(column) => column,
-        None => unicode_column_width(&line[..cursor]),
-    }
+    settled(cols, prompt, line, cursor).unwrap_or_else(|| unicode_column_width(&line[..cursor]))
 }

@@ -4,7 +4,7 @@ ghost use Rattle.std.specs.Prelude.{◌≡◌, ◌<◌, ◌++◌, true, IfOk, Is
 ghost use Rattle.tw_host.specs.ElementView.{ElementView, element_view};
 ghost use Rattle.tw_hosts.specs.Tokens.{text_before, is_quote, joined_elements, quote_len, styled_or_plain, style_of, styled_text, styled_line, token_len, up_to, word_len};
 
-use crate::words::is_known;
+use crate::words::{is_known, up_to};
 use std::alloc::{AllocError, Global};
 use tw_host::OutputElement;
 use tw_surface::CellAttributes;
@@ -16,18 +16,6 @@ pub struct Styles {
     pub keyword: CellAttributes,
     /// Those of a quoted text, with its marks.
     pub quote: CellAttributes,
-}
-
-/// Returns the number of bytes before the first mark, or of the text if it has none.
-fn up_to(text: &str, mark: char) -> usize
-    requires { mark < 128 }
-    ensures value { result ≡ up_to mark text.now }
-    ensures boundary { IsCharBoundary text.now result }
-{
-    match text.find(mark) {
-        Some(at) => at,
-        None => text.len(),
-    }
 }
 
 /// Returns true if a text begins with a quotation mark.
@@ -96,12 +84,11 @@ pub fn styled(
     ensures { IfOk result (λ elements. map element_view elements.items
         ≡ styled_text attributes text.now) }
 {
-    let elements = vec![in alloc;
+    Ok(vec![in alloc;
         OutputElement::AllAttributes(attributes),
         OutputElement::Text(String::from_str(alloc, text)?),
         OutputElement::AllAttributes(CellAttributes::default()),
-    ]?;
-    Ok(elements)
+    ]?)
 }
 
 /// Returns the attributes in which a token is shown, if it is a quoted text or a keyword.
@@ -111,10 +98,7 @@ fn style_of(styles: Styles, keywords: &[String], token: &str) -> Option<CellAttr
     if is_quote(token) {
         return Some(styles.quote);
     }
-    if is_known(keywords, token) {
-        return Some(styles.keyword);
-    }
-    None
+    is_known(keywords, token).then_some(styles.keyword)
 }
 
 /// Appends a text as it is. The empty one is no element.

@@ -1,8 +1,10 @@
 //! Words of a line, and what completes the one before the cursor.
 
-ghost use Rattle.std.specs.Prelude.{◌≡◌, ◌≤◌, IfOk, IsCharBoundary, length, map};
+ghost use Rattle.std.specs.Prelude.{◌==◌, ◌≡◌, ◌<◌, ◌≤◌, IfOk, IsCharBoundary, length, map};
+ghost use Rattle.std.specs.List.{after_last};
 ghost use Rattle.tw_host.specs.CandidateView.{candidate_view};
 ghost use Rattle.tw_line.specs.Cut.{cut_at};
+ghost use Rattle.tw_hosts.specs.Tokens.{up_to};
 ghost use Rattle.tw_hosts.specs.WordCompletion.{word_completions};
 ghost use Rattle.tw_hosts.specs.Words.{after_word, leading_word, is_known, end_row, last_word, texts_of};
 
@@ -16,15 +18,21 @@ pub fn is_known(words: &[String], word: &str) -> bool
     words.iter().any(|known| known.as_str() == word)
 }
 
+/// Returns the number of bytes before the first mark, or of the text if it has none.
+pub fn up_to(text: &str, mark: char) -> usize
+    requires { mark < 128 }
+    ensures value { result ≡ up_to mark text.now }
+    ensures boundary { IsCharBoundary text.now result }
+{
+    text.find(mark).unwrap_or(text.len())
+}
+
 /// Returns what stands before the first space of a text, or all of it if it has none, and what follows it.
 pub fn split_first_word(text: &str) -> (&str, &str)
     ensures word { result.0.now ≡ leading_word text.now }
     ensures rest { result.1.now ≡ after_word text.now }
 {
-    match text.find(' ') {
-        Some(end) => text.split_at(end),
-        None => (text, ""),
-    }
+    text.split_at(up_to(text, ' '))
 }
 
 /// Returns what stands before the first space of a text, or all of it if it has none.
@@ -34,29 +42,36 @@ pub fn first_word(text: &str) -> &str
     split_first_word(text).0
 }
 
+/// Returns what stands after the last mark of a text, or all of it if it has none.
+fn after_last(text: &str, mark: char) -> &str
+    requires { mark < 128 }
+    ensures value { result.now ≡ after_last (λ byte. byte == mark) text.now }
+    ensures length { length result.now ≤ length text.now }
+{
+    match text.rsplit_once(mark) {
+        Some((_, after)) => after,
+        None => text,
+    }
+}
+
 /// Returns what stands after the last space of a text, or all of it if it has none.
 pub fn last_word(text: &str) -> &str
     ensures value { result.now ≡ last_word text.now }
     ensures length { length result.now ≤ length text.now }
 {
-    match text.rsplit_once(' ') {
-        Some((_, word)) => word,
-        None => text,
-    }
+    after_last(text, ' ')
 }
 
 /// Returns what stands after the last line feed of a text, or all of it if it has none.
 pub fn end_row(text: &str) -> &str
     ensures { result.now ≡ end_row text.now }
 {
-    match text.rsplit_once('\n') {
-        Some((_, row)) => row,
-        None => text,
-    }
+    after_last(text, '\n')
 }
 
 /// Returns the candidates for the word before a cursor, which is a boundary of the line: those of the words that begin
 /// with it, in their order, each in its place.
+#[tactic(auto, using(std::proofs::lemmas::Grind::common_steps, std::proofs::lemmas::Str::Pattern::starts_text))]
 pub fn complete_word(
     alloc: Global,
     words: &[String],

@@ -1,19 +1,20 @@
 use Rattle.std.proofs.Common.{◌≡◌, ◌+◌, ◌-◌, ◌∷◌, ◌++◌, [], length, map, take, string_bytes, sym, ap, subst, ◌∙◌, arith}
+use Rattle.std.proofs.lemmas.Bool.{and_parts}
 use Rattle.std.proofs.lemmas.List.{take_all, take_more, map-append}
 use Rattle.tw_line.specs.Extremes.{IsGreatest}
 use Rattle.tw_line.proofs.BoundaryLemmas.{IsCharBoundary-from}
 use Rattle.tw_completion_parts.specs.Beginnings.{common_beginning, is_shared, shared_len}
-use Rattle.tw_completion_parts.proofs.BeginningLemmas.{front_passes, shared-alone, shared-more, shared_len-is}
+use Rattle.tw_completion_parts.proofs.BeginningLemmas.{shared-alone, shared-more, shared_len-is}
 use Rattle.tw_completion_parts.proofs.beginnings.common_beginning.Goals as goal
 
 pub loop-other-init : goal.loop-other-init
 loop-other-init c = shared-alone c.as_str-text.result.now
 
 pub shared_len-end-requires : goal.shared_len-end-requires
-shared_len-end-requires c = IsCharBoundary-from c.as_str-text.result.now c.loop-other.end (front_passes _ _ c.loop-other.invariant.passes)
+shared_len-end-requires c = IsCharBoundary-from c.as_str-text.result.now c.loop-other.end (and_parts _ _ c.loop-other.invariant.passes).0
 
 pub range-requires-clause-end_boundary : goal.range-requires-clause-end_boundary
-range-requires-clause-end_boundary c = IsCharBoundary-from c.as_str-text.result.now c.loop-other.end (front_passes _ _ c.loop-other.invariant.passes)
+range-requires-clause-end_boundary c = IsCharBoundary-from c.as_str-text.result.now c.loop-other.end (and_parts _ _ c.loop-other.invariant.passes).0
 
 pub loop-other-preserved : goal.loop-other-preserved
 loop-other-preserved c =

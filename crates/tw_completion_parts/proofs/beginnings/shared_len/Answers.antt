@@ -20,12 +20,3 @@ loop-end-preserved c =
           (λ within. ⊎_elim (λ same. let is : n ≡ end = omega arith in ap (λ k. starts_with eqb other (take k text)) is ∙ sym tested ∙ c.if-not-starts_with.true)
           (λ lower. absurd (c.floor_char_boundary-end.ensures.nearest n above lower cut)) (cases_lt (end - 1) n)) (cases_lt end n);
     }
-
-pub returns-else-not-starts_with-clause-same : goal.returns-else-not-starts_with-clause-same
-returns-else-not-starts_with-clause-same c =
-    let other = c.args.other.now in
-    let whole : c.loop-end.end - 0 ≡ c.loop-end.end = omega arith in
-    let tested : c.starts_with.result ≡ starts_with eqb other (take c.loop-end.end c.args.text.now) =
-    starts_text _ _ other c.starts_with.ensures.cases ∙ ap (starts_with eqb other) c.range.ensures.value
-    ∙ ap (λ n. starts_with eqb other (take n c.args.text.now)) whole in
-    sym tested ∙ c.if-not-starts_with.false

@@ -1,12 +1,12 @@
 use Rattle.std.proofs.lemmas.Result.{IfOk-weaker}
 use Rattle.tw_history_parts.specs.HistoryFile.{lines_in}
-use Rattle.tw_history_parts.proofs.RecentLemmas.{adds_keep_limit, adds_keep_unique}
+use Rattle.tw_history_parts.proofs.RecentLemmas.{adds_keep}
 use Rattle.tw_history_parts.proofs.written.WrittenHistory+RecentHistory+File.open_over.Goals as goal
 
 pub returns-in-Ok-clause-limit : goal.returns-in-Ok-clause-limit
 returns-in-Ok-clause-limit c =
-    IfOk-weaker c.resume.result _ _ (λ it adds. adds_keep_limit (lines_in c.deref.result.now) c.args.lines it.history adds) c.resume.ensures.added
+    IfOk-weaker c.resume.result _ _ (λ it adds. (adds_keep (lines_in c.deref.result.now) c.args.lines it.history adds).0) c.resume.ensures.added
 
 pub returns-in-Ok-clause-unique : goal.returns-in-Ok-clause-unique
 returns-in-Ok-clause-unique c =
-    IfOk-weaker c.resume.result _ _ (λ it adds. adds_keep_unique (lines_in c.deref.result.now) c.args.lines it.history adds) c.resume.ensures.added
+    IfOk-weaker c.resume.result _ _ (λ it adds. (adds_keep (lines_in c.deref.result.now) c.args.lines it.history adds).1) c.resume.ensures.added

@@ -1,5 +1,0 @@
-use Rattle.std.proofs.Common.{rules}
-use Rattle.tw_completion_parts.proofs.file_names.complete_file_name.Goals as goal
-
-pub returns : goal.returns
-returns c = search rules
