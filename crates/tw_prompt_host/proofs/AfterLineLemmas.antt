@@ -1,5 +1,5 @@
 -- Where a prompt ends, the room after a line, and the clusters that fit.
-use Rattle.std.proofs.Common.{◌≡◌, ◌∙◌, ℕ, ◌+◌, ◌-◌, ◌%◌, ◌≤◌, true, false, List, Some, if◌then◌else◌, ap, sym, subst}
+use Rattle.std.proofs.Common.{◌≡◌, ◌∙◌, ℕ, ◌+◌, ◌-◌, ◌%◌, ◌≤◌, true, false, List, Some, ap, refl, sym, subst}
 use Rattle.std.proofs.Math.Nat.{add-mod}
 use Rattle.std.proofs.lemmas.Bool.{le-leb}
 use Rattle.std.specs.List.{list_all}
@@ -9,7 +9,7 @@ use Rattle.tw_surface.specs.Places.{Place, end_of_pieces, is_in_range, origin, p
 use Rattle.tw_line.specs.Cut.{at_end}
 use Rattle.tw_hosts.specs.Settling.{line_start, settled_column}
 use Rattle.tw_hosts.proofs.SettlingLemmas.{prompt_end}
-use Rattle.tw_prompt_host.specs.AfterLine.{has_control, prompt_column, room_after, room_from}
+use Rattle.tw_prompt_host.specs.AfterLine.{has_control, prompt_column, room_after}
 
 -- where a prompt ends that is measured from the start
 pub ends_at : (cols : ℕ) (prompt : List ℕ) (t r : Extent) → 1 ≤ cols → cols ≤ 65535 → t ≡ start_extent
@@ -25,7 +25,4 @@ ends_at cols prompt t r low high start all e =
 -- the room after a row
 pub room_is : (cols : ℕ) (before row : List ℕ) (start column : ℕ) → Some start ≡ prompt_column cols before → has_control row ≡ false
     → column ≡ settled_column cols before (at_end row) → cols - 1 - (start % cols + column % cols) % cols ≡ room_after cols before row
-room_is cols before row start column known none e =
-    let end = settled_column cols before (at_end row) in
-    ap (λ n. cols - 1 - n) (ap (λ k. (start % cols + k % cols) % cols) e ∙ sym (add-mod start end cols))
-    ∙ ap (λ b. if b then 0 else cols - 1 - (start + end) % cols) (sym none) ∙ ap (λ p. room_from p cols before row) known
+room_is cols before row start column known none e = rw (sym known, none, e, add-mod start (settled_column cols before (at_end row)) cols) refl

@@ -7,28 +7,17 @@ use Rattle.tw_input.specs.EventView.{EventView}
 use Rattle.tw_host.specs.ActionView.{ActionView}
 use Rattle.tw_host.specs.HostRules.{HostRules, or_default}
 use Rattle.tw_host.specs.KeyTable.{action_of}
-use Rattle.tw_key_parts.specs.KeyRules.{Edited, KeyRules}
+use Rattle.tw_key_parts.specs.KeyRules.{KeyRules}
 use Rattle.tw_prompt_host.specs.Going.{event_line}
 use Rattle.tw_prompt_host.specs.MenuState.{MenuView}
-use Rattle.tw_prompt_host.specs.MenuView.{turn_unless}
 use Rattle.tw_prompt_host.specs.FailingSearch.{fails_after}
-use Rattle.tw_prompt_host.specs.PromptRules.{Answer, Prompted, event_answer, answered, completing, is_kept, judged, prompt_rules, turn_taken_at}
+use Rattle.tw_prompt_host.specs.PromptRules.{Answer, Prompted, event_answer, is_kept, judged, prompt_rules, turn_taken_at}
 use Rattle.tw_prompt_host.specs.Validation.{is_accepting}
 
 -- what is lent is seen as it is
 pub seen : {X Y : Type 0} (f : X → Y) (r : Option (Bor X)) (o : Option X) → option_copied r ≡ o → option_map (λ x. f x.now) r ≡ option_map f o
 seen f None o e = ap (option_map f) e
 seen f (Some x) o e = ap (option_map f) e
-
-module _ {K : Type 0} where
-  pub answered_as : (a b : Option ActionView) (e f : Option (Edited (Option K))) (x y : Cut) → a ≡ b → e ≡ f → x ≡ y → answered a e x ≡ answered b f y
-  answered_as a b e f x y p q r = cc
-
-  pub completing_as : (e f : Option (Edited (Option K))) (x y : Option Cut) → e ≡ f → x ≡ y → completing e x ≡ completing f y
-  completing_as e f x y p q = cc
-
-  pub unless_as : (a b : Option ActionView) (e f : Option (Edited (Option K))) (t u : Option MenuView) → a ≡ b → e ≡ f → t ≡ u → turn_unless a e t ≡ turn_unless b f u
-  unless_as a b e f t u p q r = cc
 
 -- what is done of an answer, where all parts of it are as told
 pub resolved_as : {V S K : Type 0} (keys : KeyRules S K) (rules : HostRules V) (v w : Prompted V S) (event : EventView) (cut line : Cut) (answer : Answer K) (turn : Option MenuView) (keeps fails : Bool) (text : List ℕ) (default : Option ActionView)

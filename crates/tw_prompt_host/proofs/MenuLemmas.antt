@@ -1,27 +1,28 @@
 -- A completion begins.
-use Rattle.std.proofs.Common.{◌≡◌, ◌∙◌, Bool, false, List, Option, Some, option_map, refl, ap}
+use Rattle.std.proofs.Common.{◌≡◌, ◌∙◌, Bool, true, false, List, Option, Some, option_map, refl, ap, sym}
+use Rattle.std.proofs.lemmas.List.{drop-map, take-map}
 use Rattle.tw_input.specs.EventView.{EventView}
 use Rattle.tw_line.specs.Cut.{Cut}
 use Rattle.tw_host.specs.ActionView.{ActionView}
 use Rattle.tw_host.specs.CandidateView.{CandidateView}
 use Rattle.tw_prompt_host.specs.MenuState.{MenuView, Closed, Unseen, Few, Open, menu_begun, turned}
-use Rattle.tw_prompt_host.specs.MenuView.{is_menu_open, known}
+use Rattle.tw_prompt_host.specs.MenuView.{asks, is_menu_open, known}
 
-module _ (candidates all : List CandidateView) (copy line : Cut) (menu m : MenuView) (event : EventView) (found action : Option ActionView) (searching : Bool)
-    (is : menu ≡ menu_begun candidates copy) (same : copy ≡ line) (there : Some candidates ≡ known searching m found all) (same_action : found ≡ action) where
-  -- where its candidates are known, no menu is open, and the event turns to it
-  begun : (m : MenuView) → Some candidates ≡ known searching m found all
-      → Some menu ≡ option_map (λ candidates. menu_begun candidates line) (known searching m action all)
-  begun m there =
-      ap Some (is ∙ ap (menu_begun candidates) same)
-      ∙ ap (option_map (λ candidates. menu_begun candidates line)) (there ∙ ap (λ a. known searching m a all) same_action)
+-- a part of some candidates is seen as that part
+pub ruleset part_seen = (drop-map, take-map)
 
-  begins_in : (n : MenuView) → m ≡ n → is_menu_open n ≡ false → Some candidates ≡ known searching n found all
-      → Some menu ≡ turned (option_map (λ candidates. menu_begun candidates line) (known searching n action all)) event action n
-  begins_in Closed e shut there = begun Closed there
-  begins_in Unseen e shut there = begun Unseen there
-  begins_in (Few before) e shut there = begun (Few before) there
-  begins_in (Open before) e shut there = cc
+-- where no menu is open, an event turns to the one that begins
+turned-shut : (begun : Option MenuView) (event : EventView) (action : Option ActionView) (m : MenuView) → is_menu_open m ≡ false → turned begun event action m ≡ begun
+turned-shut begun event action Closed shut = refl
+turned-shut begun event action Unseen shut = refl
+turned-shut begun event action (Few before) shut = refl
+turned-shut begun event action (Open before) shut = cc
 
-  pub begins_at : is_menu_open m ≡ false → Some menu ≡ turned (option_map (λ candidates. menu_begun candidates line) (known searching m action all)) event action m
-  begins_at shut = begins_in m refl shut there
+-- so to one that begins with the candidates of a line
+pub turns_to_begun : (event : EventView) (action : Option ActionView) (m menu : MenuView) (searching : Bool) (candidates all : List CandidateView) (copy line : Cut)
+    → is_menu_open m ≡ false → asks searching m action ≡ true → menu ≡ menu_begun candidates copy → copy ≡ line → candidates ≡ all
+    → Some menu ≡ turned (option_map (λ candidates. menu_begun candidates line) (known searching m action all)) event action m
+turns_to_begun event action m menu searching candidates all copy line shut asked is same found =
+    let begun : Some menu ≡ option_map (λ candidates. menu_begun candidates line) (known searching m action all) =
+    rw asked (ap Some (is ∙ ap (menu_begun candidates) same ∙ ap (λ candidates. menu_begun candidates line) found)) in
+    begun ∙ sym (turned-shut _ event action m shut)

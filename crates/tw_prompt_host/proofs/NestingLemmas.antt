@@ -1,10 +1,9 @@
 -- What a text leaves, one character after the other.
-use Rattle.std.proofs.Common.{◌≡◌, ◌≢◌, ◌+◌, ◌==◌, ◌⊎◌, ℕ, Bool, true, false, List, [], ◌∷◌, length, Some, None, inl, inr, refl, ap, sym, ◌∙◌, if◌then◌else◌}
+use Rattle.std.proofs.Common.{◌≡◌, ◌+◌, ◌==◌, ℕ, not, true, false, List, [], ◌∷◌, length, Some, None, refl, ap, sym, ◌∙◌}
 use Rattle.std.specs.Prelude.{encode_utf8}
-use Rattle.std.proofs.lemmas.Bool.{true≢false}
-use Rattle.std.proofs.lemmas.Bool.Decides.{eqb_tells}
+use Rattle.std.proofs.lemmas.Bool.{and_parts, ne_eqb, true≢false}
 use Rattle.tw_prompt_host.specs.Marks.{is_closing, is_letter_or_space, mark_no_letter, opened_pair}
-use Rattle.tw_prompt_host.specs.Nesting.{Wrong, after_character, behind_opening, nesting_from, opens_behind}
+use Rattle.tw_prompt_host.specs.Nesting.{Wrong, after_character, nesting_from, opens_behind}
 use Rattle.tw_prompt_host.specs.declared.marks.MarkPair.{MarkPair}
 use Rattle.tw_prompt_host.specs.declared.marks.OpenMark.{OpenMark}
 
@@ -17,31 +16,20 @@ module _ (pairs : List MarkPair) (c : ℕ) (rest : List ℕ) (opens : List OpenM
 
 -- a letter is no mark that is none
 module _ (c : ℕ) (letter : is_letter_or_space c ≡ true) where
-  differs : (mark : ℕ) → is_letter_or_space mark ≡ false → (mark == c) ≡ false
-  differs mark other = cases (eqb_tells mark c) where
-    cases : ((mark == c) ≡ true) × (mark ≡ c) ⊎ ((mark == c) ≡ false) × (mark ≢ c) → (mark == c) ≡ false
-    cases (inl (e, same)) = absurd (true≢false (sym letter ∙ ap is_letter_or_space (sym same) ∙ other))
-    cases (inr (e, differ)) = e
+  differs : (mark : ℕ) → not (is_letter_or_space mark) ≡ true → (mark == c) ≡ false
+  differs mark other = ne_eqb mark c (λ same. true≢false (sym other ∙ ap not (ap is_letter_or_space same ∙ letter)))
 
   not-opened : (pairs : List MarkPair) → mark_no_letter pairs ≡ true → opened_pair pairs c ≡ None
   not-opened [] none = refl
-  not-opened (pair ∷ pairs) none = by (is_letter_or_space pair.opening) (is_letter_or_space pair.closing) refl none (not-opened pairs) where
-    by : (a b : Bool) → is_letter_or_space pair.opening ≡ a → (if a then false else if b then false else mark_no_letter pairs) ≡ true
-        → (mark_no_letter pairs ≡ true → opened_pair pairs c ≡ None) → opened_pair (pair ∷ pairs) c ≡ None
-    by true b opening e rest = absurd (true≢false (sym e))
-    by false true opening e rest = absurd (true≢false (sym e))
-    by false false opening e rest = rw (differs pair.opening opening) (rest e)
+  not-opened (pair ∷ pairs) none =
+      let (first, others) = and_parts _ _ none in
+      rw (differs pair.opening (and_parts _ _ first).0) (not-opened pairs others)
 
   not-closing : (pairs : List MarkPair) → mark_no_letter pairs ≡ true → is_closing pairs c ≡ false
   not-closing [] none = refl
-  not-closing (pair ∷ pairs) none = by (is_letter_or_space pair.opening) (is_letter_or_space pair.closing) refl none (not-closing pairs) where
-    by : (a b : Bool) → is_letter_or_space pair.closing ≡ b → (if a then false else if b then false else mark_no_letter pairs) ≡ true
-        → (mark_no_letter pairs ≡ true → is_closing pairs c ≡ false) → is_closing (pair ∷ pairs) c ≡ false
-    by true b closing e rest = absurd (true≢false (sym e))
-    by false true closing e rest = absurd (true≢false (sym e))
-    by false false closing e rest = rw (differs pair.closing closing) (rest e)
+  not-closing (pair ∷ pairs) none =
+      let (first, others) = and_parts _ _ none in
+      rw (differs pair.closing (and_parts (not (is_letter_or_space pair.opening)) _ first).1) (not-closing pairs others)
 
-  pub letter-behind : (pairs : List MarkPair) (opens : List OpenMark) (at : ℕ) → mark_no_letter pairs ≡ true → opens_behind pairs opens at c ≡ Some opens
-  letter-behind pairs opens at none =
-      ap (λ opened. behind_opening opens at opened (is_closing pairs c)) (not-opened pairs none)
-      ∙ ap (behind_opening opens at None) (not-closing pairs none)
+  pub letter_behind : (pairs : List MarkPair) (opens : List OpenMark) (at : ℕ) → mark_no_letter pairs ≡ true → opens_behind pairs opens at c ≡ Some opens
+  letter_behind pairs opens at none = rw (not-opened pairs none, not-closing pairs none) refl

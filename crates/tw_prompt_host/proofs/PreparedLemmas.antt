@@ -1,9 +1,12 @@
 -- The ranges of a line, one after the other.
-use Rattle.std.proofs.Common.{◌≡◌, ℕ, List, [], ◌∷◌, ◌++◌, length, take, drop, refl, ap, ◌∙◌, arith, append-nil, take-append-drop}
+use Rattle.std.proofs.Common.{◌≡◌, ℕ, List, [], ◌∷◌, ◌++◌, length, drop, refl, arith, append-nil, take-append-drop}
+use Rattle.tw_line.proofs.BoundaryLemmas.{boundary_below-is}
 use Rattle.tw_host.specs.ElementView.{Text}
 use Rattle.tw_host.specs.Faithful.{IsFaithful, text_of_elements}
 use Rattle.tw_prompt_host.specs.Prepared.{behind_range, bytes_before, from_range, prepared_rules, shown_range, styled_from}
 use Rattle.tw_prompt_host.specs.declared.prepared.StyledRange.{StyledRange}
+
+pub ruleset boundary_steps = (boundary_below-is)
 
 -- without a range, what is left is plain
 pub styled-none : (total : ℕ) (ranges : List StyledRange) (rest : List ℕ) → length ranges ≡ 0 → styled_from total ranges rest ≡ Text rest ∷ []
@@ -23,11 +26,8 @@ unfolding styled_from
 text-from total [] rest = append-nil rest
 text-from total (range ∷ ranges) rest =
     let inside = from_range total range rest in
-    let before = take (bytes_before total range.start rest) rest in
     let within = bytes_before total range.end inside in
-    ap (λ text. before ++ (take within inside ++ text)) (text-from total ranges (drop within inside))
-    ∙ ap (λ text. before ++ text) (take-append-drop within inside)
-    ∙ take-append-drop (bytes_before total range.start rest) rest
+    rw (text-from total ranges (drop within inside), take-append-drop within inside) (take-append-drop (bytes_before total range.start rest) rest)
 
 pub prepared_is_faithful : IsFaithful prepared_rules
 prepared_is_faithful = record {

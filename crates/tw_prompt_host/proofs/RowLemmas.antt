@@ -1,7 +1,7 @@
 -- Texts and elements in rows.
 use Rattle.std.proofs.Common.{◌≡◌, ◌≢◌, ℕ, zero, suc, ◌+◌, ◌<◌, ◌≤◌, ◌%◌, ◌-◌, ◌&&◌, ◌||◌, eqb, ltb, Bool, true, false, not, List, [], ◌∷◌, ◌++◌, length, take, drop, get_or, Option, Some, None, refl, ap, sym, ◌∙◌, inl, inr, ◌⊎◌, arith, append_assoc, append-nil, length-append, subst, take-append-drop}
 use Rattle.std.specs.List.{list_all}
-use Rattle.std.proofs.Math.Nat.{add-mod, add-mod_left, mod-eq_of_lt, mod-lt, mod-zero, mod_self}
+use Rattle.std.proofs.Math.Nat.{add-mod, add-mod_left, mod-eq_of_lt, mod-lt, mod_self}
 use Rattle.std.proofs.lemmas.Bool.{and_from, and_parts, cases_eq, cases_lt, eq-eqb, lt-ltb, ne_eqb, true≢false}
 use Rattle.std.proofs.lemmas.List.{length-take-le, take_all}
 use Rattle.std.proofs.lemmas.List.Folds.{list_all-append}
@@ -13,7 +13,6 @@ use Rattle.tw_surface.specs.declared.cell.CellAttributes.{CellAttributes}
 use Rattle.tw_line.specs.Cut.{Cut, at_end}
 use Rattle.tw_host.specs.ElementView.{ElementView, Attribute, AllAttributes, Text}
 use Rattle.tw_host.specs.Faithful.{text_of_elements}
-use Rattle.tw_hosts.specs.Settling.{settled_column}
 use Rattle.tw_hosts.specs.SettledRules.{PromptScreenView, column_on}
 use Rattle.tw_hosts.proofs.SettlingLemmas.{printable_is_plain}
 use Rattle.tw_prompt_host.specs.Rows.{RowView, before_row, before_rows, break_elements, columns_behind, elements_from, elements_of_rows, empty_first_row, is_row_character, last_shown, next_row, row_behind, row_break, row_columns, row_edge, row_with, rows_of_text, shown_cut, spread, spread_cut, spread_from}
@@ -140,12 +139,9 @@ module _ (screen : PromptScreenView) (continuation : List ℕ) where
       → between ≡ row_break screen continuation (row_with row piece) → new ≡ (shown ++ piece) ++ between
       → shown ++ spread_from screen continuation row rest ≡ all → new ++ spread_from screen continuation next_row more ≡ all
   spread-step row rest piece more shown between new all e none is_break is_new so =
-      ap (λ text. text ++ spread_from screen continuation next_row more) is_new
-      ∙ append_assoc (shown ++ piece) between (spread_from screen continuation next_row more)
-      ∙ append_assoc shown piece (between ++ spread_from screen continuation next_row more)
-      ∙ ap (λ text. shown ++ (piece ++ (text ++ spread_from screen continuation next_row more))) is_break
-      ∙ ap (λ text. shown ++ text) (sym (spread-feed row piece more none))
-      ∙ ap (λ text. shown ++ spread_from screen continuation row text) (sym e) ∙ so
+      rw (is_new, is_break, append_assoc (shown ++ piece) (row_break screen continuation (row_with row piece)) (spread_from screen continuation next_row more)) (
+      append_assoc shown piece _ ∙ ap (λ text. shown ++ text) (sym (spread-feed row piece more none))
+      ∙ ap (λ text. shown ++ spread_from screen continuation row text) (sym e) ∙ so)
 
   pub spread-last : (row : RowView) (rest shown new all : List ℕ) → HasNoFeed rest → new ≡ shown ++ rest
       → shown ++ spread_from screen continuation row rest ≡ all → new ≡ all
@@ -158,12 +154,9 @@ module _ (screen : PromptScreenView) (continuation : List ℕ) where
       → new ++ elements_of_rows screen continuation set next_row (rows_of_text more) ≡ all
   elements-step set row rest piece more shown between new all e none is_break is_new so =
       let left = elements_of_rows screen continuation set next_row (rows_of_text more) in
-      ap (λ es. es ++ left) is_new
-      ∙ append_assoc (shown ++ Text piece ∷ []) between left
-      ∙ append_assoc shown (Text piece ∷ []) (between ++ left)
-      ∙ ap (λ es. shown ++ (Text piece ∷ (es ++ left))) is_break
-      ∙ ap (λ es. shown ++ es) (sym (elements-feed set row piece more none))
-      ∙ ap (λ text. shown ++ elements_of_rows screen continuation set row (rows_of_text text)) (sym e) ∙ so
+      rw (is_new, is_break, append_assoc (shown ++ Text piece ∷ []) (break_elements screen continuation set (row_with row piece)) left) (
+      append_assoc shown (Text piece ∷ []) _ ∙ ap (λ es. shown ++ es) (sym (elements-feed set row piece more none))
+      ∙ ap (λ text. shown ++ elements_of_rows screen continuation set row (rows_of_text text)) (sym e) ∙ so)
 
   pub elements-last : (set : Option CellAttributes) (row : RowView) (rest : List ℕ) (shown new all : List ElementView) → HasNoFeed rest → new ≡ shown ++ Text rest ∷ []
       → shown ++ elements_of_rows screen continuation set row (rows_of_text rest) ≡ all → new ≡ all
@@ -198,16 +191,12 @@ module _ (screen : PromptScreenView) (continuation : List ℕ) where
           → (feed : Bool) → eqb b lf ≡ feed
           → text_of_elements (elements_of_rows screen continuation set row (rows_of_text (b ∷ text))) ≡ spread_from screen continuation row (b ∷ text)
       by it so true e =
-          rw e (ap (λ rows. text_of_elements (elements_of_rows screen continuation set row ([] ∷ rows))) it.2
-          ∙ text-append (break_elements screen continuation set (row_with row [])) (elements_of_rows screen continuation set next_row (it.0 ∷ it.1))
-          ∙ ap (λ text. text ++ text_of_elements (elements_of_rows screen continuation set next_row (it.0 ∷ it.1))) (break-text set (row_with row []) ∙ ap (row_break screen continuation) (with-none row))
-          ∙ ap (λ rows. row_break screen continuation row ++ text_of_elements (elements_of_rows screen continuation set next_row rows)) (sym it.2)
-          ∙ ap (λ text. row_break screen continuation row ++ text) (so next_row))
+          rw (e, it.2, text-append (break_elements screen continuation set (row_with row [])) (elements_of_rows screen continuation set next_row (it.0 ∷ it.1)), break-text set (row_with row []))
+          (ap (λ r. row_break screen continuation r ++ text_of_elements (elements_of_rows screen continuation set next_row (it.0 ∷ it.1))) (with-none row)
+          ∙ ap (λ rows. row_break screen continuation row ++ text_of_elements (elements_of_rows screen continuation set next_row rows)) (sym it.2) ∙ ap (λ text. row_break screen continuation row ++ text) (so next_row))
       by it so false e =
-          rw e (ap (λ rows. text_of_elements (elements_of_rows screen continuation set row (before_rows b rows))) it.2
-          ∙ one-before set row b it.0 it.1
-          ∙ ap (λ rows. b ∷ text_of_elements (elements_of_rows screen continuation set (row_with row (b ∷ [])) rows)) (sym it.2)
-          ∙ ap (λ text. b ∷ text) (so (row_with row (b ∷ []))))
+          rw (e, it.2, one-before set row b it.0 it.1)
+          (ap (λ rows. b ∷ text_of_elements (elements_of_rows screen continuation set (row_with row (b ∷ [])) rows)) (sym it.2) ∙ ap (λ text. b ∷ text) (so (row_with row (b ∷ []))))
 
   all-text : (set : Option CellAttributes) (row : RowView) (elements : List ElementView)
       → text_of_elements (elements_from screen continuation set row elements) ≡ spread_from screen continuation row (text_of_elements elements)
@@ -215,10 +204,11 @@ module _ (screen : PromptScreenView) (continuation : List ℕ) where
   all-text set row (Attribute change ∷ more) = all-text _ row more
   all-text set row (AllAttributes attributes ∷ more) = all-text (Some attributes) row more
   all-text set row (Text text ∷ more) =
-      text-append (elements_of_rows screen continuation set row (rows_of_text text)) (elements_from screen continuation set (row_behind row text) more)
-      ∙ ap (λ t. t ++ text_of_elements (elements_from screen continuation set (row_behind row text) more)) (text-of-rows set row text)
-      ∙ ap (λ t. spread_from screen continuation row text ++ t) (all-text set (row_behind row text) more)
-      ∙ sym (spread-append row text (text_of_elements more))
+      rw (
+        text-append (elements_of_rows screen continuation set row (rows_of_text text)) (elements_from screen continuation set (row_behind row text) more),
+        text-of-rows set row text,
+        all-text set (row_behind row text) more,
+      ) (sym (spread-append row text (text_of_elements more)))
 
   -- ---- one row
 
@@ -246,15 +236,12 @@ module _ (screen : PromptScreenView) (continuation : List ℕ) where
       let first : spread_from screen continuation empty_first_row front ≡ front = spread-piece empty_first_row front (no-feed front both.0) in
       let second : spread_from screen continuation (row_behind empty_first_row front) back ≡ back = spread-piece (row_behind empty_first_row front) back (no-feed back both.1) in
       let cursor : length front ≡ cut.cursor = length-take-le cut.cursor cut.line inside in
-      ap (λ shown. record { line = shown ++ spread_from screen continuation (row_behind empty_first_row front) back; cursor = length shown }) first
-      ∙ ap (λ shown. record { line = front ++ shown; cursor = length front }) second
-      ∙ ap (λ line. record { line = line; cursor = length front }) whole
-      ∙ ap (λ at. record { line = cut.line; cursor = at }) cursor
+      rw (first, second, whole, cursor) refl
 
 pub one_row_is_settled : OneRowIsSettled
 one_row_is_settled screen continuation cut shown inside line elements =
-    ap (λ es. record { elements = es; column = column_on screen (spread_cut screen continuation (take cut.cursor cut.line) (drop cut.cursor cut.line)) }) (one-row-elements screen continuation None empty_first_row shown.elements elements)
-    ∙ ap (λ c. record { elements = shown.elements; column = column_on screen c }) (one-row-cut screen continuation cut inside line)
+    rw (one-row-elements screen continuation None empty_first_row shown.elements elements)
+    (ap (λ c. record { elements = shown.elements; column = column_on screen c }) (one-row-cut screen continuation cut inside line))
 
 pub elements_are_spread : ElementsAreSpread
 elements_are_spread screen continuation = all-text screen continuation
@@ -277,77 +264,57 @@ module _ (screen : PromptScreenView) (continuation : List ℕ) (prompts : ArePri
   before-printable true = prompts.prompt
   before-printable false = prompts.continuation
 
-  -- the characters of a row with what stands before it
-  count : RowView → ℕ
-  count row = length (before_row screen continuation row.is_first) + length row.text
-
+  -- the columns of a row are its characters with those of what stands before it
   columns-count : (row : RowView) → list_all is_printable row.text ≡ true → row_columns screen continuation row ≡ length (before_row screen continuation row.is_first) + length row.text
   columns-count row h =
       let before = before_row screen continuation row.is_first in
-      ap (λ n. n + settled_column screen.cols before (at_end row.text)) (printable-width before (before-printable row.is_first))
-      ∙ ap (λ n. length before + n) (printable_is_plain screen.cols before (at_end row.text) h ∙ ap column_width (take_all (length row.text) row.text (omega arith)) ∙ printable-width row.text h)
+      rw (
+        printable-width before (before-printable row.is_first),
+        printable_is_plain screen.cols before (at_end row.text) h,
+        take_all (length row.text) row.text (omega arith),
+        printable-width row.text h,
+      ) refl
 
   with-letter : (row : RowView) (b : ℕ) → list_all is_printable row.text ≡ true → is_printable b ≡ true → list_all is_printable (row.text ++ b ∷ []) ≡ true
   with-letter row b h letter = list_all-append is_printable row.text (b ∷ []) ∙ and_from _ _ h (and_from _ _ letter refl)
 
-  printable-spread : (row : RowView) (n : ℕ) (text : List ℕ) → list_all is_printable row.text ≡ true → list_all is_row_character text ≡ true
-      → length (before_row screen continuation row.is_first) + length row.text ≡ n
-      → spread_from screen continuation row text ≡ spread screen.cols continuation n text
-  printable-spread row n [] h t e = refl
-  printable-spread row n (b ∷ text) h t e =
-      let both = and_parts (is_row_character b) (list_all is_row_character text) t in
-      by both.0 (λ r m g f. printable-spread r m text g both.1 f) (eqb b lf) refl
-    where
-      by : is_row_character b ≡ true
-          → ((r : RowView) (m : ℕ) → list_all is_printable r.text ≡ true → length (before_row screen continuation r.is_first) + length r.text ≡ m → spread_from screen continuation r text ≡ spread screen.cols continuation m text)
-          → (feed : Bool) → eqb b lf ≡ feed → spread_from screen continuation row (b ∷ text) ≡ spread screen.cols continuation n (b ∷ text)
-      by mine so true f =
-          let none : length continuation + 0 ≡ length continuation = omega arith in
-          rw f (append_assoc (row_edge screen.cols (row_columns screen continuation row)) (cr ∷ lf ∷ continuation) (spread_from screen continuation next_row text)
-          ∙ ap (λ m. row_edge screen.cols m ++ (cr ∷ lf ∷ (continuation ++ spread_from screen continuation next_row text))) (columns-count row h ∙ e)
-          ∙ ap (λ rest. row_edge screen.cols n ++ (cr ∷ lf ∷ (continuation ++ rest))) (so next_row (length continuation) refl none))
-      by mine so false f =
-          let more : length (before_row screen continuation row.is_first) + length (row.text ++ b ∷ []) ≡ n + 1 = omega (arith, length-append row.text (b ∷ []), e) in
-          rw f (ap (λ rest. b ∷ rest) (so (row_with row (b ∷ [])) (n + 1) (with-letter row b h (printable-of b mine f)) more))
-
-  -- the row in which they end
-  printable-behind : (row : RowView) (n : ℕ) (text : List ℕ) → list_all is_printable row.text ≡ true → list_all is_row_character text ≡ true
-      → length (before_row screen continuation row.is_first) + length row.text ≡ n
-      → (list_all is_printable (row_behind row text).text ≡ true)
+  -- printable text after `n` characters of a row is shown by counting, and ends in a printable row
+  abbrev Counted : RowView → ℕ → List ℕ → Type 0
+  Counted row n text = (spread_from screen continuation row text ≡ spread screen.cols continuation n text)
+      × (list_all is_printable (row_behind row text).text ≡ true)
       × (length (before_row screen continuation (row_behind row text).is_first) + length (row_behind row text).text ≡ columns_behind (length continuation) n text)
-  printable-behind row n [] h t e = (h, e)
-  printable-behind row n (b ∷ text) h t e =
+
+  counted : (row : RowView) (n : ℕ) (text : List ℕ) → list_all is_printable row.text ≡ true → list_all is_row_character text ≡ true
+      → length (before_row screen continuation row.is_first) + length row.text ≡ n → Counted row n text
+  counted row n [] h t e = (refl, h, e)
+  counted row n (b ∷ text) h t e =
       let both = and_parts (is_row_character b) (list_all is_row_character text) t in
-      by both.0 (λ r m g f. printable-behind r m text g both.1 f) (eqb b lf) refl
+      by both.0 (λ r m g f. counted r m text g both.1 f) (eqb b lf) refl
     where
       by : is_row_character b ≡ true
-          → ((r : RowView) (m : ℕ) → list_all is_printable r.text ≡ true → length (before_row screen continuation r.is_first) + length r.text ≡ m
-          → (list_all is_printable (row_behind r text).text ≡ true)
-          × (length (before_row screen continuation (row_behind r text).is_first) + length (row_behind r text).text ≡ columns_behind (length continuation) m text))
-          → (feed : Bool) → eqb b lf ≡ feed
-          → (list_all is_printable (row_behind row (b ∷ text)).text ≡ true)
-          × (length (before_row screen continuation (row_behind row (b ∷ text)).is_first) + length (row_behind row (b ∷ text)).text ≡ columns_behind (length continuation) n (b ∷ text))
+          → ((r : RowView) (m : ℕ) → list_all is_printable r.text ≡ true → length (before_row screen continuation r.is_first) + length r.text ≡ m → Counted r m text)
+          → (feed : Bool) → eqb b lf ≡ feed → Counted row n (b ∷ text)
       by mine so true f =
           let none : length continuation + 0 ≡ length continuation = omega arith in
-          rw f (so next_row (length continuation) refl none)
+          let rest = so next_row (length continuation) refl none in
+          let shown = append_assoc (row_edge screen.cols (row_columns screen continuation row)) (cr ∷ lf ∷ continuation) (spread_from screen continuation next_row text)
+          ∙ ap (λ m. row_edge screen.cols m ++ (cr ∷ lf ∷ (continuation ++ spread_from screen continuation next_row text))) (columns-count row h ∙ e)
+          ∙ ap (λ rest. row_edge screen.cols n ++ (cr ∷ lf ∷ (continuation ++ rest))) rest.0 in
+          rw f (shown, rest.1, rest.2)
       by mine so false f =
           let more : length (before_row screen continuation row.is_first) + length (row.text ++ b ∷ []) ≡ n + 1 = omega (arith, length-append row.text (b ∷ []), e) in
-          rw f (so (row_with row (b ∷ [])) (n + 1) (with-letter row b h (printable-of b mine f)) more)
-
-  first-count : length (before_row screen continuation true) + 0 ≡ length screen.prompt
-  first-count = omega arith
+          let rest = so (row_with row (b ∷ [])) (n + 1) (with-letter row b h (printable-of b mine f)) more in
+          rw f (ap (λ rest. b ∷ rest) rest.0, rest.1, rest.2)
 
   printable-first : (text : List ℕ) → list_all is_row_character text ≡ true → spread_from screen continuation empty_first_row text ≡ spread screen.cols continuation (length screen.prompt) text
-  printable-first text t = printable-spread empty_first_row (length screen.prompt) text refl t first-count
+  printable-first text t = (counted empty_first_row (length screen.prompt) text refl t (omega arith)).0
 
   printable-cut : (before rest : List ℕ) → list_all is_row_character before ≡ true → list_all is_row_character rest ≡ true
       → spread_cut screen continuation before rest ≡ shown_cut screen.cols continuation (length screen.prompt) before rest
   printable-cut before rest b r =
-      let behind = printable-behind empty_first_row (length screen.prompt) before refl b first-count in
+      let behind = counted empty_first_row (length screen.prompt) before refl b (omega arith) in
       let at = columns_behind (length continuation) (length screen.prompt) before in
-      ap (λ shown. record { line = shown ++ spread_from screen continuation (row_behind empty_first_row before) rest; cursor = length shown }) (printable-first before b)
-      ∙ ap (λ shown. record { line = spread screen.cols continuation (length screen.prompt) before ++ shown; cursor = length (spread screen.cols continuation (length screen.prompt) before) })
-      (printable-spread (row_behind empty_first_row before) at rest behind.0 r behind.1)
+      rw (behind.0, (counted (row_behind empty_first_row before) at rest behind.1 r behind.2).0) refl
 
 pub printable_is_spread : PrintableIsSpread
 printable_is_spread screen continuation text prompts t = printable-first screen continuation prompts text t
@@ -398,16 +365,3 @@ is_filled cols start column some any =
     fills cols (start % cols) (column % cols) (mod-lt start some) (mod-lt column some)
     ∙ ap (λ n. eqb n 0) (sym (add-mod start column cols))
     ∙ ap (λ b. b && eqb ((start + column) % cols) 0) (sym (lt-ltb 0 (start + column) any))
-
-and-false : (a b : Bool) → b ≡ false → (a && b) ≡ false
-and-false true b e = e
-and-false false b e = refl
-
--- no columns fill it, nor do any where there is none
-pub not_filled : (cols start column : ℕ) → (cols ≡ 0) ⊎ (start + column ≡ 0) → false ≡ (ltb 0 (start + column) && eqb ((start + column) % cols) 0)
-not_filled cols start column (inl none) = by (start + column)
-  where
-    by : (n : ℕ) → false ≡ (ltb 0 n && eqb (n % cols) 0)
-    by zero = refl
-    by (suc n) = sym (and-false (ltb 0 (suc n)) (eqb (suc n % cols) 0) (ne_eqb (suc n % cols) 0 (λ e. absurd (omega (arith, e, ap (λ m. suc n % m) none, mod-zero (suc n))))))
-not_filled cols start column (inr none) = ap (λ n. ltb 0 n && eqb (n % cols) 0) (sym none)

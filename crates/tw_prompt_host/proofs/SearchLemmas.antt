@@ -20,14 +20,10 @@ said_all true opens a action e = ap (λ b. said b opens action) e
 said_all false opens a action e = refl
 
 begun_line : (searched searches : Bool) (line : Cut) (before : Option Cut) → searched ≡ false → searches ≡ true → before_search_after searched searches line before ≡ Some line
-begun_line false true line before e d = refl
-begun_line false false line before e d = cc
-begun_line true searches line before e d = cc
+begun_line searched searches line before e d = rw (e, d) refl
 
 kept_line : (searched searches : Bool) (line : Cut) (before : Option Cut) → searched ≡ true → searches ≡ true → before_search_after searched searches line before ≡ before
-kept_line true true line before e d = refl
-kept_line true false line before e d = cc
-kept_line false searches line before e d = cc
+kept_line searched searches line before e d = rw (e, d) refl
 
 module _ {V S K : Type 0} (keys : KeyRules S K) (rules : HostRules V) where
   abbrev Host : HostRules (Prompted V S)

@@ -4,7 +4,7 @@ use Rattle.std.specs.Prelude.{encode_utf8, slice_get, option_map, reverse}
 use Rattle.std.proofs.lemmas.List.{map-append, reverse-append, length-append, length-map, length-reverse, nil_from_length, take_at}
 use Rattle.std.specs.Str.{chars}
 use Rattle.tw_prompt_host.specs.Marks.{closes, escape_pair, escapes, is_closing, opened_pair}
-use Rattle.tw_prompt_host.specs.Nesting.{NestingView, Open, Wrong, after_character, after_text, behind_opening, innermost, nesting_from, open_behind, without_innermost}
+use Rattle.tw_prompt_host.specs.Nesting.{NestingView, Open, Wrong, after_character, after_text, behind_opening, innermost, nesting_from, without_innermost}
 use Rattle.tw_prompt_host.specs.NestingLaws.{IsWhole}
 use Rattle.tw_prompt_host.specs.declared.marks.MarkKind.{MarkKind}
 use Rattle.tw_prompt_host.specs.declared.marks.MarkKind.TheVariants.{Brackets, Quotation, Escape}
@@ -99,22 +99,20 @@ module _ (pairs : List MarkPair) where
   step-same : (opens : List OpenMark) (at c : ℕ) → option_map stack_of (after_character pairs opens at c) ≡ stack_step (stack_of opens) c
   step-same opens at c = by (snoc opens)
     where
-      on : List OpenMark → Option (List MarkPair)
-      on marks = option_map stack_of (after_character pairs marks at c)
-
-      by : (opens ≡ []) ⊎ ((front : List OpenMark) × (last : OpenMark) × (opens ≡ front ++ last ∷ [])) → on opens ≡ stack_step (stack_of opens) c
-      by (inl e) = ap on e ∙ opening-same [] at (opened_pair pairs c) (is_closing pairs c) ∙ sym (ap (λ marks. stack_step (stack_of marks) c) e)
+      by : (opens ≡ []) ⊎ ((front : List OpenMark) × (last : OpenMark) × (opens ≡ front ++ last ∷ []))
+          → option_map stack_of (after_character pairs opens at c) ≡ stack_step (stack_of opens) c
+      by (inl e) = rw e (opening-same [] at (opened_pair pairs c) (is_closing pairs c))
       by (inr (front, last, e)) =
           let whole = front ++ last ∷ [] in
           let kind = last.pair.kind in
-          ap on e
-          ∙ ap (λ inner. option_map stack_of (open_behind pairs inner whole at c)) (innermost-last front last)
-          ∙ of-two (closes last.pair c) (without_innermost whole) (after_text pairs kind whole at c)
-          ∙ ap (λ z. if closes last.pair c then Some (stack_of (without_innermost whole)) else z) (text-same kind whole at c)
-          ∙ ap (λ marks. if closes last.pair c then Some (stack_of marks) else text_on kind (stack_of whole) c) (without-last front last)
-          ∙ ap (λ stack. if closes last.pair c then Some (stack_of front) else text_on kind stack c) (stack-last front last)
-          ∙ sym (ap (λ stack. stack_step stack c) (stack-last front last))
-          ∙ sym (ap (λ marks. stack_step (stack_of marks) c) e)
+          rw (
+            e,
+            innermost-last front last,
+            of-two (closes last.pair c) (without_innermost whole) (after_text pairs kind whole at c),
+            text-same kind whole at c,
+            without-last front last,
+            stack-last front last,
+          ) refl
 
   -- and so do characters
   run-same : (cs : List ℕ) (opens : List OpenMark) (at : ℕ) → option_map stack_of (opens_left (nesting_from pairs cs opens at)) ≡ stack_run cs (stack_of opens)
@@ -127,11 +125,9 @@ module _ (pairs : List MarkPair) where
       by : ((more : List OpenMark) → left (nesting_from pairs cs more (at + length (encode_utf8 c))) ≡ stack_run cs (stack_of more))
           → (o : Option (List OpenMark)) → after_character pairs opens at c ≡ o → left (nesting_from pairs (c ∷ cs) opens at) ≡ stack_run (c ∷ cs) (stack_of opens)
       by rest (Some more) e =
-          ap left (nesting-right pairs c cs opens at more e) ∙ rest more
-          ∙ sym (run-right c cs (stack_of opens) (stack_of more) (sym (step-same opens at c) ∙ ap (option_map stack_of) e))
+          rw (nesting-right pairs c cs opens at more e, run-right c cs (stack_of opens) (stack_of more) (sym (step-same opens at c) ∙ ap (option_map stack_of) e)) (rest more)
       by rest None e =
-          ap left (nesting-wrong pairs c cs opens at e)
-          ∙ sym (run-wrong c cs (stack_of opens) (sym (step-same opens at c) ∙ ap (option_map stack_of) e))
+          rw (nesting-wrong pairs c cs opens at e, run-wrong c cs (stack_of opens) (sym (step-same opens at c) ∙ ap (option_map stack_of) e)) refl
 
   -- a text is whole where its characters leave the empty stack
   pub whole-to : (text : List ℕ) → IsWhole pairs text → stack_run (chars text) [] ≡ Some []

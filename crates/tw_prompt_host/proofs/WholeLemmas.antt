@@ -4,17 +4,20 @@ use Rattle.std.specs.Prelude.{encode_utf8, is_none}
 use Rattle.std.specs.Char.{IsScalar}
 use Rattle.std.specs.List.{list_all}
 use Rattle.std.specs.Str.{IsUtf8, chars}
-use Rattle.std.proofs.lemmas.Bool.{eq-eqb, eqb-true}
+use Rattle.std.proofs.lemmas.Bool.{and_parts, eq-eqb, eqb-true}
 use Rattle.std.proofs.lemmas.Str.{chars-append, chars_past_char, chars_from_encodes}
 use Rattle.tw_prompt_host.specs.Marks.{closes, closes_kind, escape_pair, escapes, is_closing, opened_pair}
-use Rattle.tw_prompt_host.specs.NestingLaws.{AreBrackets, IsQuotation, between, is_no_mark, is_quoted}
+use Rattle.tw_prompt_host.specs.NestingLaws.{AreBrackets, BracketedIsWhole, JoinedIsWhole, PlainIsWhole, QuotedIsWhole, between, is_no_mark, is_quoted}
 use Rattle.tw_prompt_host.specs.declared.marks.MarkKind.{MarkKind}
 use Rattle.tw_prompt_host.specs.declared.marks.MarkKind.TheVariants.{Brackets, Quotation, Escape}
 use Rattle.tw_prompt_host.specs.declared.marks.MarkPair.{MarkPair}
-use Rattle.tw_prompt_host.proofs.StackLemmas.{opened_on, run-right, run-wrong, stack_run, stack_step, text_on}
+use Rattle.tw_prompt_host.proofs.StackLemmas.{opened_on, run-right, run-wrong, stack_run, stack_step, text_on, whole-from, whole-to}
 
 some-same : {X : Type 0} {x y : X} → Some x ≡ Some y → x ≡ y
 some-same e = cc
+
+none-some : {X : Type 0} {x : X} → None ≡ Some x → ⊥
+none-some e = cc
 
 -- the characters of a text between marks
 pub chars-between : (pair : MarkPair) (text : List ℕ) → IsScalar pair.closing → IsUtf8 text → IsUtf8 (between pair text)
@@ -34,10 +37,7 @@ module _ (pairs : List MarkPair) where
       by : ((next : List MarkPair) → stack_run pairs cs next ≡ Some more → stack_run pairs (cs ++ ds) next ≡ stack_run pairs ds more)
           → (o : Option (List MarkPair)) → stack_step pairs stack c ≡ o → stack_run pairs ((c ∷ cs) ++ ds) stack ≡ stack_run pairs ds more
       by rest (Some next) step = run-right pairs c (cs ++ ds) stack next step ∙ rest next (sym (run-right pairs c cs stack next step) ∙ e)
-      by rest None step = absurd (none (sym (run-wrong pairs c cs stack step) ∙ e))
-        where
-          none : None ≡ Some more → ⊥
-          none e = cc
+      by rest None step = absurd (none-some (sym (run-wrong pairs c cs stack step) ∙ e))
 
   -- brackets below the stack stay there, since their closing mark is wrong on the empty one
   module _ (pair : MarkPair) (are : AreBrackets pairs pair) where
@@ -46,12 +46,6 @@ module _ (pairs : List MarkPair) where
     opened-under stack more (Some other) closing e = ap (λ all. Some (all ++ pair ∷ [])) (some-same e)
     opened-under stack more None true e = cc
     opened-under stack more None false e = ap (λ all. Some (all ++ pair ∷ [])) (some-same e)
-
-    closes-as : (c : ℕ) → closes pair c ≡ (pair.closing == c)
-    closes-as c = ap (λ kind. closes_kind kind pair.closing c) are.brackets
-
-    text-as : (stack : List MarkPair) (c : ℕ) → text_on pairs pair.kind stack c ≡ opened_on stack (opened_pair pairs c) (is_closing pairs c)
-    text-as stack c = ap (λ kind. text_on pairs kind stack c) are.brackets
 
     text-under : (kind : MarkKind) (stack more : List MarkPair) (c : ℕ) → text_on pairs kind stack c ≡ Some more → text_on pairs kind (stack ++ pair ∷ []) c ≡ Some (more ++ pair ∷ [])
     text-under Brackets stack more c e = opened-under stack more (opened_pair pairs c) (is_closing pairs c) e
@@ -70,18 +64,13 @@ module _ (pairs : List MarkPair) where
         opened = opened_pair pairs c
 
         wrong : pair.closing ≡ c → opened_on [] opened (is_closing pairs c) ≡ None
-        wrong same =
-            ap (λ d. opened_on [] (opened_pair pairs d) (is_closing pairs d)) (sym same)
-            ∙ ap (λ o. opened_on [] o (is_closing pairs pair.closing)) are.apart ∙ ap (opened_on [] None) are.closing
+        wrong same = rw (sym same, are.apart, are.closing) refl
 
         by : (b : Bool) → (pair.closing == c) ≡ b → (if closes pair c then Some [] else text_on pairs pair.kind (pair ∷ []) c) ≡ Some (more ++ pair ∷ [])
-        by true same = absurd (none (sym (wrong (eqb-true pair.closing c same)) ∙ e))
-          where
-            none : None ≡ Some more → ⊥
-            none e = cc
+        by true same = absurd (none-some (sym (wrong (eqb-true pair.closing c same)) ∙ e))
         by false other =
-            ap (λ b. if b then Some [] else text_on pairs pair.kind (pair ∷ []) c) (closes-as c ∙ other)
-            ∙ text-as (pair ∷ []) c
+            ap (λ b. if b then Some [] else text_on pairs pair.kind (pair ∷ []) c) (ap (λ kind. closes_kind kind pair.closing c) are.brackets ∙ other)
+            ∙ ap (λ kind. text_on pairs kind (pair ∷ []) c) are.brackets
             ∙ opened-under [] more opened (is_closing pairs c) e
     step-under (inner ∷ stack) more c e = by (closes inner c) e
       where
@@ -98,10 +87,7 @@ module _ (pairs : List MarkPair) where
             → (o : Option (List MarkPair)) → stack_step pairs stack c ≡ o → stack_run pairs (c ∷ cs) (stack ++ pair ∷ []) ≡ Some (more ++ pair ∷ [])
         by rest (Some next) step =
             run-right pairs c cs (stack ++ pair ∷ []) (next ++ pair ∷ []) (step-under stack next c step) ∙ rest next (sym (run-right pairs c cs stack next step) ∙ e)
-        by rest None step = absurd (none (sym (run-wrong pairs c cs stack step) ∙ e))
-          where
-            none : None ≡ Some more → ⊥
-            none e = cc
+        by rest None step = absurd (none-some (sym (run-wrong pairs c cs stack step) ∙ e))
 
   -- the closing mark closes its pair
   closes-own : (kind : MarkKind) (closing : ℕ) → closes_kind kind closing closing ≡ true
@@ -109,20 +95,14 @@ module _ (pairs : List MarkPair) where
   closes-own (Quotation escape) closing = eq-eqb closing closing refl
   closes-own Escape closing = refl
 
-  pub run-closing : (pair : MarkPair) → stack_run pairs (pair.closing ∷ []) (pair ∷ []) ≡ Some []
-  run-closing pair =
-      run-right pairs pair.closing [] (pair ∷ []) []
-      (ap (λ b. if b then Some [] else text_on pairs pair.kind (pair ∷ []) pair.closing) (closes-own pair.kind pair.closing))
-
   -- characters between the marks of a pair that they leave open
   between-marks : (pair : MarkPair) (cs : List ℕ) → opened_pair pairs pair.opening ≡ Some pair → stack_run pairs cs (pair ∷ []) ≡ Some (pair ∷ [])
       → stack_run pairs (pair.opening ∷ (cs ++ pair.closing ∷ [])) [] ≡ Some []
   between-marks pair cs opens e =
       run-right pairs pair.opening (cs ++ pair.closing ∷ []) [] (pair ∷ []) (ap (λ o. opened_on [] o (is_closing pairs pair.opening)) opens)
-      ∙ run-join cs (pair.closing ∷ []) (pair ∷ []) (pair ∷ []) e ∙ run-closing pair
-
-  pub run-bracketed : (pair : MarkPair) (cs : List ℕ) → AreBrackets pairs pair → stack_run pairs cs [] ≡ Some [] → stack_run pairs (pair.opening ∷ (cs ++ pair.closing ∷ [])) [] ≡ Some []
-  run-bracketed pair cs are e = between-marks pair cs are.opening (run-under pair are cs [] [] e)
+      ∙ run-join cs (pair.closing ∷ []) (pair ∷ []) (pair ∷ []) e
+      ∙ run-right pairs pair.closing [] (pair ∷ []) []
+      (ap (λ b. if b then Some [] else text_on pairs pair.kind (pair ∷ []) pair.closing) (closes-own pair.kind pair.closing))
 
   -- within a quotation all is text but a closing mark that is not escaped
   module _ (pair : MarkPair) (escape : Option ℕ) (quotes : pair.kind ≡ Quotation escape) where
@@ -152,25 +132,32 @@ module _ (pairs : List MarkPair) where
         by rest true same e = cc
         by rest false other e = run-right pairs c cs (pair ∷ []) (on (escapes escape c) c) (text-step c other) ∙ rest e
 
-  pub run-quoted : (pair : MarkPair) (escape : Option ℕ) (cs : List ℕ) → IsQuotation pairs pair escape → is_quoted pair.closing escape false cs ≡ true
-      → stack_run pairs (pair.opening ∷ (cs ++ pair.closing ∷ [])) [] ≡ Some []
-  run-quoted pair escape cs is e = between-marks pair cs is.opening (within pair escape is.quotation cs false 0 e)
-
   -- characters that are no marks leave the empty stack
   pub run-plain : (cs : List ℕ) → list_all (is_no_mark pairs) cs ≡ true → stack_run pairs cs [] ≡ Some []
   run-plain [] e = refl
   run-plain (c ∷ cs) e =
-      run-right pairs c cs [] [] (text (opened_pair pairs c) (is_closing pairs c) (first (is_no_mark pairs c) _ e)) ∙ run-plain cs (second (is_no_mark pairs c) _ e)
+      run-right pairs c cs [] [] (text (opened_pair pairs c) (is_closing pairs c) (and_parts (is_no_mark pairs c) _ e).0) ∙ run-plain cs (and_parts (is_no_mark pairs c) _ e).1
     where
-      first : (a b : Bool) → a && b ≡ true → a ≡ true
-      first true b e = refl
-      first false b e = e
-
-      second : (a b : Bool) → a && b ≡ true → b ≡ true
-      second true b e = e
-      second false b e = cc
-
       text : (opened : Option MarkPair) (closing : Bool) → is_none opened && not closing ≡ true → opened_on [] opened closing ≡ Some []
       text (Some pair) closing e = cc
       text None true e = cc
       text None false e = refl
+
+pub plain_is_whole : PlainIsWhole
+plain_is_whole pairs text plain = whole-from pairs text (run-plain pairs (chars text) plain)
+
+pub joined_is_whole : JoinedIsWhole
+joined_is_whole pairs text other utf8 whole more =
+    whole-from pairs (text ++ other)
+    (ap (λ cs. stack_run pairs cs []) (chars-append text other utf8)
+    ∙ run-join pairs (chars text) (chars other) [] [] (whole-to pairs text whole) ∙ whole-to pairs other more)
+
+pub bracketed_is_whole : BracketedIsWhole
+bracketed_is_whole pairs pair text are utf8 all whole =
+    whole-from pairs (between pair text)
+    (ap (λ cs. stack_run pairs cs []) (chars-between pair text are.character utf8 all) ∙ between-marks pairs pair (chars text) are.opening (run-under pairs pair are (chars text) [] [] (whole-to pairs text whole)))
+
+pub quoted_is_whole : QuotedIsWhole
+quoted_is_whole pairs pair escape text is utf8 all quoted =
+    whole-from pairs (between pair text)
+    (ap (λ cs. stack_run pairs cs []) (chars-between pair text is.character utf8 all) ∙ between-marks pairs pair (chars text) is.opening (within pairs pair escape is.quotation (chars text) false 0 quoted))

@@ -1,5 +1,6 @@
 -- The marks of a language.
-use Rattle.std.specs.Prelude.{ℕ, ◌==◌, ◌&&◌, leb, Bool, true, false, List, [], ◌∷◌, Option, Some, None, if◌then◌else◌}
+use Rattle.std.specs.Prelude.{ℕ, ◌==◌, ◌&&◌, leb, not, Bool, true, false, List, [], ◌∷◌, Option, Some, None, if◌then◌else◌}
+use Rattle.std.specs.List.{find, list_all, list_any}
 use Rattle.tw_prompt_host.specs.declared.marks.MarkKind.{MarkKind}
 use Rattle.tw_prompt_host.specs.declared.marks.MarkKind.TheVariants.{Brackets, Quotation, Escape}
 use Rattle.tw_prompt_host.specs.declared.marks.MarkPair.{MarkPair}
@@ -10,19 +11,15 @@ is_letter_or_space c = if c == 32 then true else leb 97 c && leb c 122
 
 -- whether no letter is a mark of the pairs
 abbrev pub mark_no_letter : List MarkPair → Bool
-mark_no_letter [] = true
-mark_no_letter (pair ∷ pairs) =
-    if is_letter_or_space pair.opening then false else if is_letter_or_space pair.closing then false else mark_no_letter pairs
+mark_no_letter pairs = list_all (λ pair. not (is_letter_or_space pair.opening) && not (is_letter_or_space pair.closing)) pairs
 
 -- the first pair that a character opens
 abbrev pub opened_pair : List MarkPair → ℕ → Option MarkPair
-opened_pair [] c = None
-opened_pair (pair ∷ pairs) c = if pair.opening == c then Some pair else opened_pair pairs c
+opened_pair pairs c = find (λ pair. pair.opening == c) pairs
 
 -- whether a character closes one of the pairs
 abbrev pub is_closing : List MarkPair → ℕ → Bool
-is_closing [] c = false
-is_closing (pair ∷ pairs) c = if pair.closing == c then true else is_closing pairs c
+is_closing pairs c = list_any (λ pair. pair.closing == c) pairs
 
 -- whether a character closes what stands between marks: any character closes an escape
 abbrev pub closes_kind : MarkKind → ℕ → ℕ → Bool

@@ -2,19 +2,14 @@
 use Rattle.std.specs.Prelude.{ℕ, List, ◌++◌, Option, Some, option_map, codes, encode_utf8}
 use Rattle.tw_prompt_host.specs.Nesting.{NestingView, Open, Wrong, innermost, nesting_of}
 use Rattle.tw_prompt_host.specs.declared.marks.MarkPair.{MarkPair}
-use Rattle.tw_prompt_host.specs.declared.marks.OpenMark.{OpenMark}
 
 -- a text after a mark
 abbrev pub marked_text : ℕ → List ℕ → List ℕ
 marked_text mark text = encode_utf8 mark ++ text
 
--- what is said of the innermost of the open marks
-abbrev pub open_lack : List OpenMark → Option (List ℕ)
-open_lack opens = option_map (λ last. marked_text last.pair.opening (codes " is open")) (innermost opens)
-
--- what is said of what a line leaves: nothing where no mark is open
+-- what is said of what a line leaves: of the innermost of the open marks, and nothing where no mark is open
 abbrev pub lack_of : NestingView → Option (List ℕ)
-lack_of (Open opens) = open_lack opens
+lack_of (Open opens) = option_map (λ last. marked_text last.pair.opening (codes " is open")) (innermost opens)
 lack_of (Wrong mark at) = Some (marked_text mark (codes " closes nothing"))
 
 -- what a line lacks by these pairs

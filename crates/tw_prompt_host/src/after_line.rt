@@ -24,6 +24,7 @@ fn has_control(text: &str) -> bool
 }
 
 /// Returns the columns of the last row of a prompt, or `None` if they are not known.
+#[tactic(auto, using(crate::proofs::AfterLineLemmas::ends_at))]
 fn prompt_column(cols: usize, prompt: &str) -> Option<usize>
     ensures { result ≡ prompt_column cols prompt.now }
 {
@@ -35,6 +36,7 @@ fn prompt_column(cols: usize, prompt: &str) -> Option<usize>
 }
 
 /// Returns the columns after the end of a row, up to the last one, which stays empty: text there begins no other row.
+#[tactic(auto, using(crate::proofs::AfterLineLemmas::room_is))]
 fn room_after(cols: usize, before: &str, row: &str) -> usize
     ensures { result ≡ room_after cols before.now row.now }
 {

@@ -13,6 +13,7 @@ use tw_line::{History, LineEditBuffer, SearchDirection, SearchStyle};
 pub const FAILING: &str = "  failing: no line has it";
 
 /// Returns true if no line of a history contains a pattern.
+#[tactic(auto, using(crate::proofs::FailingLemmas::none_fails))]
 pub fn is_failing<L: History>(alloc: Global, history: &L, pattern: &str) -> Result<bool, AllocError>
     ensures { IfOk result (λ fails. fails ≡ is_failing (L.lines history.now) pattern.now) }
 {

@@ -84,13 +84,8 @@ impl Going {
         ensures { result ≡ asks self.now.searching (menu_view self.now.menu)
             (lent_action action.entry) }
     {
-        if self.searching {
-            return false;
-        }
-        match (action, &self.menu) {
-            (Some(Action::Complete), Menu::Closed | Menu::Few(_)) => true,
-            _ => false,
-        }
+        let is_still = matches!(self.menu, Menu::Closed | Menu::Few(_));
+        !self.searching && is_still && matches!(action, Some(Action::Complete))
     }
 
     /// Follows a search, which goes on after an event or not.

@@ -40,6 +40,7 @@ impl Hints {
 }
 
 /// Returns the rest of a line that begins with a text.
+#[tactic(auto, using(crate::proofs::HintLemmas::strip_text))]
 fn behind<'line>(text: &str, line: &'line str) -> Option<&'line str>
     ensures { option_map (λ rest. rest.now) result ≡ rest_behind text.now line.now }
 {
@@ -57,6 +58,7 @@ fn continuation_of<'line>(text: &str, line: &'line str) -> Option<&'line str>
 }
 
 /// Returns the rest of the newest longer line that begins with a text.
+#[tactic(auto, using(crate::proofs::HintLemmas::is_newest, crate::proofs::HintLemmas::is_none))]
 fn newest_rest<'a, L: LentLines>(lines: &'a L, text: &str) -> Option<&'a str>
     ensures { option_map (λ rest. rest.now) result ≡ newest_rest (L.lines lines.now) text.now }
 {
@@ -93,6 +95,7 @@ pub fn is_taking(action: Option<&Action>, editor: &LineEditBuffer) -> bool
 }
 
 /// Returns a hint up to the end of its first word.
+#[tactic(auto, using(crate::proofs::HintLemmas::behind_boundary))]
 fn word_of(rest: &str) -> &str
     ensures { result.now ≡ word_of rest.now }
 {

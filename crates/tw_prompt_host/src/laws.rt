@@ -17,6 +17,7 @@ pub fn watch<H: LineEditorHost, K: KeyPart>()
 
 /// The line before a search is kept while the editor searches. At the key that gives the search up it is left, and that
 /// line stands at the next event.
+#[tactic(auto, using(crate::proofs::SearchLemmas::keeps_line_of_search, crate::proofs::SearchLemmas::gives_line_back))]
 pub fn given_up<H: LineEditorHost, K: KeyPart>()
     ensures kept { KeepsLineOfSearch K.keys H.rules }
     ensures back { GivesLineBack K.keys H.rules }
@@ -24,6 +25,7 @@ pub fn given_up<H: LineEditorHost, K: KeyPart>()
 
 /// A line of one row is shown as on a screen without rows. The text of elements that are shown in rows is their text in
 /// rows. Printable rows are shown by counting their characters, and so is the cursor in them.
+#[tactic(auto, using(crate::proofs::RowLemmas::one_row_is_settled, crate::proofs::RowLemmas::elements_are_spread, crate::proofs::RowLemmas::printable_is_spread, crate::proofs::RowLemmas::printable_cut_is_shown))]
 pub fn rows()
     ensures one { OneRowIsSettled }
     ensures elements { ElementsAreSpread }
@@ -33,6 +35,7 @@ pub fn rows()
 {}
 
 /// A prepared host shows the prompt and the line themselves, whatever the ranges are.
+#[tactic(auto, using(crate::proofs::PreparedLemmas::prepared_is_faithful))]
 pub fn prepared()
     ensures { IsFaithful prepared_rules }
 {}
@@ -40,6 +43,7 @@ pub fn prepared()
 /// Whole are a text without marks (`plain`), two whole texts one after the other (`joined`), a whole text between
 /// brackets (`bracketed`), and a text between the marks of a quotation that has its closing mark only behind the escape
 /// character (`quoted`).
+#[tactic(auto, using(crate::proofs::WholeLemmas::plain_is_whole, crate::proofs::WholeLemmas::joined_is_whole, crate::proofs::WholeLemmas::bracketed_is_whole, crate::proofs::WholeLemmas::quoted_is_whole))]
 pub fn whole()
     ensures plain { PlainIsWhole }
     ensures joined { JoinedIsWhole }

@@ -47,11 +47,10 @@ impl MenuStyle {
 fn widest(candidates: &[CompletionCandidate]) -> usize
     ensures { result ≡ widest (menu_texts (map candidate_view candidates.now)) }
 {
-    let mut width = 0;
-    for candidate in candidates {
-        width = width.max(unicode_column_width(candidate.text.as_str()));
-    }
-    width
+    candidates.iter().fold(
+        0,
+        |width, candidate| width.max(unicode_column_width(candidate.text.as_str())),
+    )
 }
 
 /// Returns the number of candidates in a row, each followed by two spaces.

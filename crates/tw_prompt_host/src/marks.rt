@@ -120,34 +120,19 @@ pub fn is_letter_or_space(c: char) -> bool
 pub fn mark_no_letter(pairs: &[MarkPair]) -> bool
     ensures { result ≡ mark_no_letter pairs.now }
 {
-    for pair in pairs {
-        if is_letter_or_space(pair.opening) || is_letter_or_space(pair.closing) {
-            return false;
-        }
-    }
-    true
+    pairs.iter().all(|pair| !is_letter_or_space(pair.opening) && !is_letter_or_space(pair.closing))
 }
 
 /// Returns the first pair that a character opens.
 pub fn opened_pair(pairs: &[MarkPair], c: char) -> Option<MarkPair>
     ensures { result ≡ opened_pair pairs.now c }
 {
-    for pair in pairs {
-        if pair.opening == c {
-            return Some(*pair);
-        }
-    }
-    None
+    pairs.iter().copied().find(|pair| pair.opening == c)
 }
 
 /// Returns true if a character is the closing mark of one of the pairs.
 pub fn is_closing(pairs: &[MarkPair], c: char) -> bool
     ensures { result ≡ is_closing pairs.now c }
 {
-    for pair in pairs {
-        if pair.closing == c {
-            return true;
-        }
-    }
-    false
+    pairs.iter().any(|pair| pair.closing == c)
 }

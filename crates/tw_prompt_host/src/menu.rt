@@ -62,6 +62,7 @@ impl OpenMenu {
     }
 
     /// Returns a copy of the chosen candidate, by itself.
+    #[tactic(auto, using(crate::proofs::MenuLemmas::part_seen))]
     pub fn chosen_one(&self, alloc: Global) -> Result<Vec<CompletionCandidate>, AllocError>
         ensures { IfOk result (λ copies. map candidate_view copies.items ≡ chosen_of self.now) }
     {

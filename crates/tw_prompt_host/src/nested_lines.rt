@@ -2,9 +2,9 @@
 
 ghost use Rattle.std.specs.Prelude.{◌≡◌, IfOk, option_map, string_bytes};
 ghost use Rattle.tw_prompt_host.specs.Nesting.{nesting_view};
-ghost use Rattle.tw_prompt_host.specs.NestedLines.{lack_of, marked_text, nested_lack, open_lack};
+ghost use Rattle.tw_prompt_host.specs.NestedLines.{lack_of, marked_text, nested_lack};
 
-use crate::marks::{MarkPair, OpenMark};
+use crate::marks::MarkPair;
 use crate::nesting::{Nesting, nesting_in};
 use crate::validator::Validator;
 use std::alloc::{AllocError, Global};
@@ -27,22 +27,15 @@ fn marked_text(alloc: Global, mark: char, text: &str) -> Result<String, AllocErr
     Ok(said)
 }
 
-/// Names the innermost open mark.
-fn open_lack(alloc: Global, opens: &[OpenMark]) -> Result<Option<String>, AllocError>
-    ensures { IfOk result (λ text. option_map string_bytes text ≡ open_lack opens.now) }
-{
-    match opens.last() {
-        Some(last) => Ok(Some(marked_text(alloc, last.pair.opening, " is open")?)),
-        None => Ok(None),
-    }
-}
-
-/// Returns what a line with this nesting lacks.
+/// Names the innermost open mark of a line with this nesting, or its first wrong mark.
 fn lack_of(alloc: Global, nesting: Nesting) -> Result<Option<String>, AllocError>
     ensures { IfOk result (λ text. option_map string_bytes text ≡ lack_of (nesting_view nesting)) }
 {
     match nesting {
-        Nesting::Open(opens) => open_lack(alloc, opens.as_slice()),
+        Nesting::Open(opens) => match opens.last() {
+            Some(last) => Ok(Some(marked_text(alloc, last.pair.opening, " is open")?)),
+            None => Ok(None),
+        },
         Nesting::Wrong(mark, _) => Ok(Some(marked_text(alloc, mark, " closes nothing")?)),
     }
 }

@@ -20,15 +20,9 @@ pub enum Nesting {
     Wrong(char, usize),
 }
 
-/// Returns the last of the open marks.
-fn innermost(opens: &[OpenMark]) -> Option<OpenMark>
-    ensures { result ≡ innermost opens.now }
-{
-    opens.last().copied()
-}
-
 /// Takes in a character outside of quotations that does not close the innermost open mark. Returns false if it is
 /// wrong. `letters` is true if no letter is a mark.
+#[tactic(auto, using(crate::proofs::NestingLemmas::letter_behind))]
 fn take_opening(
     pairs: &[MarkPair],
     letters: bool,
@@ -92,7 +86,7 @@ fn take_in(
     ensures { IfOk result (λ right. after_character pairs.now opens.old.items at c
         ≡ where_right right opens.new.items) }
 {
-    let Some(last) = innermost(opens.as_slice()) else {
+    let Some(last) = opens.last().copied() else {
         return take_opening(pairs, letters, opens, at, c);
     };
     if last.pair.closes(c) {
@@ -129,7 +123,7 @@ pub fn closed_mark(
     let Nesting::Open(opens) = nesting_in(alloc, pairs, text)? else {
         return Ok(None);
     };
-    match innermost(&opens) {
+    match opens.last().copied() {
         Some(open) if open.pair.closes(c) => Ok(Some(open)),
         _ => Ok(None),
     }

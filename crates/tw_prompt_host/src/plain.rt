@@ -57,84 +57,52 @@ impl PromptHost<NopLineEditorHost, BasicHistory, Keys<ReadlineKeys>, AllLines> {
     }
 }
 
+/// Builds a prompt of these parts, with all else as it is in another one.
+macro_rules! with_parts {
+    ($host:expr, $history:expr, $keys:expr, $validator:expr, $it:expr) => {
+        PromptHost {
+            host: $host,
+            history: $history,
+            completers: $it.completers,
+            listings: $it.listings,
+            keys: $keys,
+            hints: $it.hints,
+            stops_failing_searches: $it.stops_failing_searches,
+            validator: $validator,
+            menu: $it.menu,
+            screen: $it.screen,
+            rows: $it.rows,
+            going: $it.going,
+        }
+    };
+}
+
 impl<H: Drop, L: Drop, K: Drop, V: Drop> PromptHost<H, L, K, V> {
     /// Replaces the application's host.
     pub fn with_host<N>(self, host: N) -> PromptHost<N, L, K, V>
         ensures { result ≡ with_parts host self.history self.keys self.validator self }
     {
-        PromptHost {
-            host,
-            history: self.history,
-            completers: self.completers,
-            listings: self.listings,
-            keys: self.keys,
-            hints: self.hints,
-            stops_failing_searches: self.stops_failing_searches,
-            validator: self.validator,
-            menu: self.menu,
-            screen: self.screen,
-            rows: self.rows,
-            going: self.going,
-        }
+        with_parts!(host, self.history, self.keys, self.validator, self)
     }
 
     /// Replaces the history.
     pub fn with_history<N>(self, history: N) -> PromptHost<H, N, K, V>
         ensures { result ≡ with_parts self.host history self.keys self.validator self }
     {
-        PromptHost {
-            host: self.host,
-            history,
-            completers: self.completers,
-            listings: self.listings,
-            keys: self.keys,
-            hints: self.hints,
-            stops_failing_searches: self.stops_failing_searches,
-            validator: self.validator,
-            menu: self.menu,
-            screen: self.screen,
-            rows: self.rows,
-            going: self.going,
-        }
+        with_parts!(self.host, history, self.keys, self.validator, self)
     }
 
     /// Replaces the parts with keys.
     pub fn with_keys<N>(self, keys: N) -> PromptHost<H, L, N, V>
         ensures { result ≡ with_parts self.host self.history keys self.validator self }
     {
-        PromptHost {
-            host: self.host,
-            history: self.history,
-            completers: self.completers,
-            listings: self.listings,
-            keys,
-            hints: self.hints,
-            stops_failing_searches: self.stops_failing_searches,
-            validator: self.validator,
-            menu: self.menu,
-            screen: self.screen,
-            rows: self.rows,
-            going: self.going,
-        }
+        with_parts!(self.host, self.history, keys, self.validator, self)
     }
 
     /// Replaces the validator.
     pub fn with_validator<N>(self, validator: N) -> PromptHost<H, L, K, N>
         ensures { result ≡ with_parts self.host self.history self.keys validator self }
     {
-        PromptHost {
-            host: self.host,
-            history: self.history,
-            completers: self.completers,
-            listings: self.listings,
-            keys: self.keys,
-            hints: self.hints,
-            stops_failing_searches: self.stops_failing_searches,
-            validator,
-            menu: self.menu,
-            screen: self.screen,
-            rows: self.rows,
-            going: self.going,
-        }
+        with_parts!(self.host, self.history, self.keys, validator, self)
     }
 }

@@ -5,7 +5,6 @@ ghost use Rattle.tw_host.specs.CandidateView.{candidate_view};
 ghost use Rattle.tw_host.specs.ElementView.{element_view};
 ghost use Rattle.tw_host.specs.PlainAnswers.{all_overrides, no_plain_left};
 ghost use Rattle.tw_hosts.specs.Words.{is_same};
-ghost use Rattle.tw_line.specs.Boundaries.{boundary_below};
 ghost use Rattle.tw_surface.specs.Defaults.{default_attributes};
 ghost use Rattle.tw_key_parts.specs.Ring.{is_same_cut};
 ghost use Rattle.tw_prompt_host.specs.Prepared.{behind_range, bytes_before, shown_range, styled_ranges};
@@ -30,21 +29,14 @@ pub struct StyledRange {
     pub attributes: CellAttributes,
 }
 
-/// Splits a text at its greatest character boundary up to a byte offset.
-fn split_up_to(text: &str, at: usize) -> (&str, &str)
-    ensures front { result.0.now ≡ take (boundary_below text.now at) text.now }
-    ensures rest { result.1.now ≡ drop (boundary_below text.now at) text.now }
-{
-    text.split_at(text.floor_char_boundary(at))
-}
-
-/// Splits what is left of a line of `total` bytes at a byte offset of the line.
+/// Splits what is left of a line of `total` bytes at a byte offset of the line, or at the character boundary below.
+#[tactic(auto, using(crate::proofs::PreparedLemmas::boundary_steps))]
 fn split_before(total: usize, place: usize, rest: &str) -> (&str, &str)
     ensures front { result.0.now ≡ take (bytes_before total place rest.now) rest.now }
     ensures rest { result.1.now ≡ drop (bytes_before total place rest.now) rest.now }
 {
     let at = total.saturating_sub(rest.len());
-    split_up_to(rest, place.saturating_sub(at))
+    rest.split_at(rest.floor_char_boundary(place.saturating_sub(at)))
 }
 
 /// Shows what is left of a line of `total` bytes, up to the end of a range. Returns what is left then.

@@ -18,7 +18,7 @@ ghost use Rattle.tw_prompt_host.specs.Going.{going_at_rest, give_up_key, going_a
 ghost use Rattle.tw_prompt_host.specs.Hint.{are_on, hint_taken_by};
 ghost use Rattle.tw_prompt_host.specs.FailingSearch.{fails_after, is_failing};
 ghost use Rattle.tw_prompt_host.specs.MenuLayout.{style_after};
-ghost use Rattle.tw_prompt_host.specs.MenuView.{known, menu_view, turn_line, turn_unless, turn_view};
+ghost use Rattle.tw_prompt_host.specs.MenuView.{menu_view, turn_line, turn_unless, turn_view};
 ghost use Rattle.tw_prompt_host.specs.PromptRules.{Prompted, after_line, event_answer, answered, completing, edit_at, followed, found, hint_under, is_kept, says_failing, judged, leaving, opens_row, prompt_rules, said, turn_at, turn_taken_at};
 ghost use Rattle.tw_prompt_host.specs.Rows.{rows_view};
 ghost use Rattle.tw_prompt_host.specs.Validation.{is_accepting};
@@ -90,17 +90,6 @@ impl<H: LineEditorHost, L: History + LentLines, K: KeyPart, V: Validator> Prompt
         self.going = Going::new();
     }
 
-    /// Returns true if the editor searches for a pattern that no line contains, and is not to accept one then.
-    fn is_failing(&self, alloc: Global, pattern: &str) -> Result<bool, AllocError>
-        ensures { IfOk result (λ fails. fails ≡ (self.now.stops_failing_searches
-            && is_failing (L.History.lines self.now.history) pattern.now)) }
-    {
-        if !self.stops_failing_searches {
-            return Ok(false);
-        }
-        is_failing(alloc, &self.history, pattern)
-    }
-
     /// Returns true if a search fails after an action.
     fn fails_after(
         &self,
@@ -124,7 +113,7 @@ impl<H: LineEditorHost, L: History + LentLines, K: KeyPart, V: Validator> Prompt
             IfOk result (λ keeps. keeps ≡ is_kept K.keys H.rules v line.now) }
     {
         if self.going.searching {
-            return self.is_failing(alloc, line);
+            return Ok(self.stops_failing_searches && is_failing(alloc, &self.history, line)?);
         }
         Ok(self.validator.lack(alloc, line)?.is_some())
     }
@@ -236,38 +225,6 @@ impl<H: LineEditorHost, L: History + LentLines, K: KeyPart, V: Validator> Prompt
         beginning_first(alloc, candidates)
     }
 
-    /// Completes a line buffer, whatever the menu has.
-    fn found_in(
-        &self,
-        alloc: Global,
-        line: &LineEditBuffer,
-    ) -> Result<Vec<CompletionCandidate>, AllocError>
-        ensures { let v = ⟦<PromptHost<H, L, K, V> as LineEditorHost>⟧.value self.now in
-            IfOk result (λ candidates. map candidate_view candidates.items
-            ≡ found K.keys H.rules v line.now) }
-    {
-        self.found(alloc, line.get_line(), line.get_cursor())
-    }
-
-    /// Returns the candidates if an action begins a completion: no menu is open, and the editor does not search.
-    fn known(
-        &self,
-        alloc: Global,
-        action: Option<&Action>,
-        line: &LineEditBuffer,
-    ) -> Result<Option<Vec<CompletionCandidate>>, AllocError>
-        ensures { let v = ⟦<PromptHost<H, L, K, V> as LineEditorHost>⟧.value self.now in
-            IfOk result (λ it. option_map (λ candidates. map candidate_view candidates.items) it
-            ≡ known self.now.going.searching (menu_view self.now.going.menu)
-            (lent_action action.entry) (found K.keys H.rules v line.now)) }
-    {
-        if !self.going.asks(action) {
-            return Ok(None);
-        }
-        let found = self.found_in(alloc, line)?;
-        Ok(Some(found))
-    }
-
     /// Returns where an event turns the menu.
     fn turn_at(
         &self,
@@ -284,13 +241,12 @@ impl<H: LineEditorHost, L: History + LentLines, K: KeyPart, V: Validator> Prompt
         if self.going.menu.is_open() {
             return Ok(self.going.menu.turn(event, default));
         }
-        match self.known(alloc, default, line)? {
-            Some(candidates) => {
-                let line = line.try_clone(alloc)?;
-                Ok(Some(Turn::Begins(Menu::begun(candidates, line))))
-            }
-            None => Ok(None),
+        if !self.going.asks(default) {
+            return Ok(None);
         }
+        let candidates = self.found(alloc, line.get_line(), line.get_cursor())?;
+        let line = line.try_clone(alloc)?;
+        Ok(Some(Turn::Begins(Menu::begun(candidates, line))))
     }
 
     /// Asks the application's host about an event at a line, which `editor` holds unless the line comes back.

@@ -70,6 +70,7 @@ fn before_row<'a>(screen: &'a PromptScreen, continuation: &'a str, is_first: boo
 }
 
 /// Returns true if a row fills its last column.
+#[tactic(auto, using(crate::proofs::RowLemmas::is_filled))]
 fn is_full(screen: &PromptScreen, continuation: &str, row: &OpenRow) -> bool
     ensures { result ≡ is_full (screen_view screen.now) continuation.now (row_view row.now) }
 {

@@ -64,14 +64,8 @@ impl<H: LineEditorHost, L: History + LentLines, K: KeyPart, V: Validator> Prompt
         if !self.going.fails {
             return Ok(Vec::new(alloc));
         }
-        after_line_on(
-            alloc,
-            &self.screen,
-            &self.rows,
-            line,
-            CellAttributes::default(),
-            FAILING,
-        )
+        let style = CellAttributes::default();
+        after_line_on(alloc, &self.screen, &self.rows, line, style, FAILING)
     }
 
     /// Returns what stands after the line.

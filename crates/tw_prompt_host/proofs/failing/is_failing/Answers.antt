@@ -1,14 +1,9 @@
-use Rattle.std.proofs.Common.{◌≡◌, ◌∙◌, Some, None, ap, sym, rules}
+use Rattle.std.proofs.Common.{◌≡◌, ◌∙◌, Some, ap, sym, rules}
 use Rattle.std.specs.Option.{is_none}
 use Rattle.tw_line.specs.HistoryAdditions.{match_view}
 use Rattle.tw_line.specs.NearestMatch.{last_index}
-use Rattle.tw_prompt_host.proofs.FailingLemmas.{failing_is, none_fails, none_of_map}
+use Rattle.tw_prompt_host.proofs.FailingLemmas.{failing_is, none_of_map}
 use Rattle.tw_prompt_host.proofs.failing.is_failing.Goals as goal
-
-pub returns-in_default : goal.returns-in_default
-returns-in_default g c =
-    let none : None ≡ last_index (g.L.History.lines c.args.history.now) = search (rules) in
-    none_fails (g.L.History.lines c.args.history.now) c.args.pattern.now none
 
 pub returns : goal.returns
 returns g c =

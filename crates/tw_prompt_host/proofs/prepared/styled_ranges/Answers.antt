@@ -1,7 +1,7 @@
 use Rattle.std.proofs.Common.{◌++◌, length, map, ap, sym, ◌∙◌, append_assoc, rules}
 use Rattle.std.proofs.lemmas.List.{map-append}
 use Rattle.tw_host.specs.ElementView.{element_view}
-use Rattle.tw_prompt_host.specs.Prepared.{shown_range, styled_from}
+use Rattle.tw_prompt_host.specs.Prepared.{styled_from}
 use Rattle.tw_prompt_host.proofs.PreparedLemmas.{styled-more, styled-none}
 use Rattle.tw_prompt_host.proofs.prepared.styled_ranges.Goals as goal
 
@@ -14,14 +14,15 @@ loop-range-preserved c =
     let after = c.in_ok-shown.after.now in
     let before = map element_view c.loop-range.elements.items in (
       search rules,
-      ap (λ items. map element_view items ++ styled_from total more after) c.in_ok-append.ensures.items
-          ∙ ap (λ shown. shown ++ styled_from total more after) (map-append element_view c.loop-range.elements.items _)
-          ∙ append_assoc before _ _
-          ∙ ap (λ shown. before ++ (shown ++ styled_from total more after)) c.in_ok-shown.ensures.shown
-          ∙ ap (λ left. before ++ (shown_range total range rest ++ styled_from total more left)) c.in_ok-shown.ensures.left
-          ∙ sym (ap (λ shown. before ++ shown) (styled-more total range more rest))
-          ∙ sym (ap (λ left. before ++ styled_from total left rest) c.in-Some.ensures.cases.0)
-          ∙ c.loop-range.invariant.1,
+      rw (
+        c.in_ok-append.ensures.items,
+        map-append element_view c.loop-range.elements.items c.in_ok-shown.shown.items,
+        append_assoc before _ (styled_from total more after),
+        c.in_ok-shown.ensures.shown,
+        c.in_ok-shown.ensures.left,
+        sym (styled-more total range more rest),
+        sym c.in-Some.ensures.cases.0,
+      ) c.loop-range.invariant.1,
     )
 
 pub returns : goal.returns
