@@ -12,9 +12,9 @@ is_key key (Key other) = is_same_key other key
 is_key key _ = false
 
 -- what the first row with this key has
-abbrev pub row_of : {X : Type 0} → List (KeyEvent × X) → KeyEvent → Option X
-row_of [] key = None
-row_of (row ∷ rest) key = if is_same_key row.0 key then Some row.1 else row_of rest key
+abbrev pub row_with_key : {X : Type 0} → List (KeyEvent × X) → KeyEvent → Option X
+row_with_key [] key = None
+row_with_key (row ∷ rest) key = if is_same_key row.0 key then Some row.1 else row_with_key rest key
 
 -- brings the newest kill back
 abbrev pub yank_key : KeyEvent

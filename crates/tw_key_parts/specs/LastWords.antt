@@ -6,7 +6,7 @@ use Rattle.tw_host.specs.ActionView.{InsertText}
 use Rattle.tw_hosts.specs.Words.{end_row, last_word}
 use Rattle.tw_key_parts.specs.KeyRules.{Asked, Edited, KeyRules, KeyStep}
 use Rattle.tw_key_parts.specs.Keys.{is_key, last_word_key}
-use Rattle.tw_key_parts.specs.Recalled.{RecalledView, line_before, older_index, recalled_kept}
+use Rattle.tw_key_parts.specs.Recalled.{RecalledView, line_before_recall, older_index, recalled_kept}
 
 -- the last word of a line in its row, whatever whitespace follows it
 abbrev pub last_argument : List ℕ → List ℕ
@@ -23,12 +23,12 @@ word_at lines cut (Some i) =
 abbrev pub word_by : Option RecalledView → Asked → Option (Edited RecalledView)
 word_by word asked =
     if asked.searching then None
-    else if is_key last_word_key asked.event then word_at asked.lines (line_before word asked.cut) (older_index word asked.lines)
+    else if is_key last_word_key asked.event then word_at asked.lines (line_before_recall word asked.cut) (older_index word asked.lines)
     else None
 
-abbrev pub word_after : Option RecalledView → Option RecalledView → KeyStep → Option RecalledView
-word_after word (Some new) step = Some new
-word_after word None step = recalled_kept (is_key last_word_key step.event) step.action word
+abbrev pub last_word_after : Option RecalledView → Option RecalledView → KeyStep → Option RecalledView
+last_word_after word (Some new) step = Some new
+last_word_after word None step = recalled_kept (is_key last_word_key step.event) step.action word
 
 abbrev pub last_word_rules : KeyRules (Option RecalledView) RecalledView
-last_word_rules = record { edits = word_by; follows = word_after; leaves = λ word. None }
+last_word_rules = record { edits = word_by; follows = last_word_after; leaves = λ word. None }

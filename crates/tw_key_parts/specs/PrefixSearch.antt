@@ -13,7 +13,7 @@ use Rattle.tw_host.specs.KeyTable.{key_press, letter}
 use Rattle.tw_hosts.specs.Words.{begins_with, is_same}
 use Rattle.tw_key_parts.specs.KeyRules.{Asked, Edited, KeyRules, KeyStep}
 use Rattle.tw_key_parts.specs.Keys.{is_key}
-use Rattle.tw_key_parts.specs.Recalled.{RecalledView, line_before, older_index, recalled_kept}
+use Rattle.tw_key_parts.specs.Recalled.{RecalledView, line_before_recall, older_index, recalled_kept}
 use Rattle.tw_key_parts.specs.declared.prefix_search.PrefixMatch.{PrefixMatch}
 
 -- ask for an older line, and for a newer one
@@ -72,11 +72,11 @@ recalled_edit before found = shown found.cut (Some (record { before = before; in
 
 -- to an older line, if there is one
 abbrev pub older_edit : List (List ℕ) → Option RecalledView → Cut → Option (Edited (Option RecalledView))
-older_edit lines recalled cut = option_map (recalled_edit (line_before recalled cut)) (older_match lines cut (older_index recalled lines))
+older_edit lines recalled cut = option_map (recalled_edit (line_before_recall recalled cut)) (older_match lines cut (older_index recalled lines))
 
 -- to the oldest line, if there is one, with the cursor at its end
 abbrev pub oldest_edit : List (List ℕ) → Option RecalledView → Cut → Option (Edited (Option RecalledView))
-oldest_edit lines recalled cut = option_map (λ line. recalled_edit (line_before recalled cut) (record { cut = at_end line; index = 0 })) (slice_get lines 0)
+oldest_edit lines recalled cut = option_map (λ line. recalled_edit (line_before_recall recalled cut) (record { cut = at_end line; index = 0 })) (slice_get lines 0)
 
 -- back to the line before the search, which is over with that
 abbrev pub typed_edit : Option RecalledView → Option (Edited (Option RecalledView))

@@ -16,9 +16,9 @@ abbrev pub recalled_view : Recalled → RecalledView
 recalled_view recalled = record { before = recalled.before; index = recalled.index }
 
 -- the line before it, or else the line itself
-abbrev pub line_before : Option RecalledView → Cut → Cut
-line_before None cut = cut
-line_before (Some recalled) cut = recalled.before
+abbrev pub line_before_recall : Option RecalledView → Cut → Cut
+line_before_recall None cut = cut
+line_before_recall (Some recalled) cut = recalled.before
 
 -- the line before that of the history, or else the last line
 abbrev pub older_index : Option RecalledView → List (List ℕ) → Option ℕ

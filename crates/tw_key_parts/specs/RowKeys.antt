@@ -17,7 +17,7 @@ use Rattle.tw_host.specs.ActionView.{ActionView, InsertChar, InsertText, KillAnd
 use Rattle.tw_host.specs.KeyTable.{key_press, letter}
 use Rattle.tw_key_parts.specs.ClusterSteps.{cluster_steps}
 use Rattle.tw_key_parts.specs.KeyRules.{Asked, Edited, KeyRules}
-use Rattle.tw_key_parts.specs.Keys.{row_of}
+use Rattle.tw_key_parts.specs.Keys.{row_with_key}
 use Rattle.tw_key_parts.specs.WordEdits.{passed_text}
 use Rattle.tw_key_parts.specs.Ring.{killing}
 use Rattle.tw_key_parts.specs.declared.row_keys.RowKey.{RowKey}
@@ -54,7 +54,7 @@ row_keys =
 
 -- the key of an event
 abbrev pub row_key : EventView → Option RowKey
-row_key (Key key) = row_of row_keys key
+row_key (Key key) = row_with_key row_keys key
 row_key _ = None
 
 -- ---- the rows of a line

@@ -7,7 +7,7 @@ use Rattle.tw_line.specs.Cut.{Cut}
 use Rattle.tw_host.specs.ActionView.{InsertChar}
 use Rattle.tw_host.specs.KeyTable.{key_press, letter}
 use Rattle.tw_key_parts.specs.KeyRules.{Asked, Edited}
-use Rattle.tw_key_parts.specs.Keys.{row_of}
+use Rattle.tw_key_parts.specs.Keys.{row_with_key}
 use Rattle.tw_key_parts.specs.WordEdits.{with_swapped_clusters, with_word_in}
 use Rattle.tw_key_parts.specs.WordSwaps.{with_swapped_words}
 use Rattle.tw_key_parts.specs.declared.cases.WordCase.TheVariants.{Upper, Lower, Capitalized}
@@ -30,7 +30,7 @@ word_keys =
 
 -- the edit of an event: a key may have one
 abbrev pub word_edit : EventView → Option WordEdit
-word_edit (Key key) = row_of word_keys key
+word_edit (Key key) = row_with_key word_keys key
 word_edit _ = None
 
 -- what an edit makes of a line

@@ -4,13 +4,13 @@ ghost use Rattle.std.specs.Prelude.{◌≡◌, IfOk, None, option_map, slice_get
 ghost use Rattle.tw_input.specs.EventView.{event_view};
 ghost use Rattle.tw_key_parts.specs.EditView.{lent_action};
 ghost use Rattle.tw_key_parts.specs.KeyRules.{step_of};
-ghost use Rattle.tw_key_parts.specs.LastWords.{word_after};
+ghost use Rattle.tw_key_parts.specs.LastWords.{last_word_after};
 ghost use Rattle.tw_key_parts.specs.Recalled.{recalled_view};
 
 use crate::edit::Edit;
 use crate::keys::{LAST_WORD, is_key};
 use crate::part::KeyPart;
-use crate::recalled::{Recalled, line_before, older_index};
+use crate::recalled::{Recalled, line_before_recall, older_index};
 use std::alloc::{AllocError, Global};
 use tw_host::Action;
 use tw_hosts::{end_row, last_word};
@@ -70,7 +70,7 @@ impl KeyPart for LastWords {
             return Ok(None);
         };
         let word = last_word(end_row(recalled.as_str().trim_end()));
-        let line = line_before(alloc, self.word.as_ref(), line)?;
+        let line = line_before_recall(alloc, self.word.as_ref(), line)?;
         let before = line.try_clone(alloc)?;
         Ok(Some(Edit {
             line: Some(line),
@@ -95,7 +95,7 @@ impl KeyPart for LastWords {
     )
         requires ready { Unit {0} }
         ensures { option_map recalled_view self.new.word
-            ≡ word_after (option_map recalled_view self.old.word) (option_map recalled_view note)
+            ≡ last_word_after (option_map recalled_view self.old.word) (option_map recalled_view note)
             (step_of (event_view event.now) _searching _before.now _after.now
             (lent_action action.entry)) }
     {

@@ -12,7 +12,7 @@ ghost use Rattle.tw_key_parts.specs.Recalled.{recalled_view};
 use crate::edit::Edit;
 use crate::keys::is_key;
 use crate::part::KeyPart;
-use crate::recalled::{Recalled, line_before, older_index};
+use crate::recalled::{Recalled, line_before_recall, older_index};
 use std::alloc::{AllocError, Global};
 use tw_host::Action;
 use tw_input::{InputEvent, KeyCode, KeyEvent, Modifiers};
@@ -170,7 +170,7 @@ fn older_edit<L: History>(
     };
     match older_match_from(alloc, lines, editor, from)? {
         Some(found) => {
-            let before = line_before(alloc, recalled, editor)?;
+            let before = line_before_recall(alloc, recalled, editor)?;
             Ok(Some(recalled_edit(before, found)))
         }
         None => Ok(None),
@@ -192,7 +192,7 @@ fn oldest_edit<L: History>(
         return Ok(None);
     };
     let line = LineEditBuffer::new(alloc, oldest.as_str(), oldest.as_str().len())?;
-    let before = line_before(alloc, recalled, editor)?;
+    let before = line_before_recall(alloc, recalled, editor)?;
     Ok(Some(recalled_edit(before, PrefixMatch { line, index: 0 })))
 }
 

@@ -1,7 +1,7 @@
 //! What was recalled of a history last.
 
 ghost use Rattle.std.specs.Prelude.{◌≡◌, IfOk, option_map};
-ghost use Rattle.tw_key_parts.specs.Recalled.{line_before, older_index, recalled_view};
+ghost use Rattle.tw_key_parts.specs.Recalled.{line_before_recall, older_index, recalled_view};
 
 use std::alloc::{AllocError, Global};
 use tw_line::{History, LineEditBuffer, SearchDirection};
@@ -16,13 +16,13 @@ pub struct Recalled {
 }
 
 /// Returns the line before what was recalled last, or else the line itself.
-pub fn line_before(
+pub fn line_before_recall(
     alloc: Global,
     recalled: Option<&Recalled>,
     editor: &LineEditBuffer,
 ) -> Result<LineEditBuffer, AllocError>
     ensures { IfOk result (λ line. line
-        ≡ line_before (option_map (λ recalled. recalled_view recalled.now) recalled.entry)
+        ≡ line_before_recall (option_map (λ recalled. recalled_view recalled.now) recalled.entry)
         editor.now) }
 {
     match recalled {
