@@ -30,6 +30,7 @@ impl Model for Grid {
 }
 
 /// Makes the cells from one place to before another all the same.
+#[tactic(auto, using(crate::proofs::GridLemmas::filled_none, crate::proofs::GridLemmas::filled_more))]
 fn fill(cells: &mut [ScreenCell], from: usize, to: usize, cell: ScreenCell)
     requires order { from ≤ to }
     requires within { to ≤ length cells.old }
@@ -121,6 +122,7 @@ impl Grid {
     }
 
     /// Makes all cells this one.
+    #[tactic(auto, using(crate::proofs::GridLemmas::fill_redraws, crate::proofs::GridLemmas::all_test))]
     pub(crate) fn clear(&mut self, paper: ScreenCell)
         ensures { Redraws self.old (λ cells r c. styled_cell paper) self.new }
     {

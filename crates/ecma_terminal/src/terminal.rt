@@ -244,6 +244,7 @@ impl EcmaTerminal {
     }
 
     /// Does what a sequence does.
+    #[tactic(auto, using(crate::proofs::TerminalSteps::same_rule, crate::proofs::TerminalSteps::acts_by))]
     fn act(&mut self, parameters: &[u8], letter: u8) -> Result<(), EcmaFault>
         ensures ok { OnOk result (Becomes self.old
             (act styled self.old.grid.rows self.old.grid.cols parameters.now letter) self.new) }

@@ -7,6 +7,7 @@ ghost use Rattle.script_player.specs.KeyNames.{key_name, key_names, plain_name, 
 use tw_input::{KeyCode, KeyEvent, Modifiers};
 
 /// Returns the key of this name.
+#[tactic(auto, using(crate::proofs::KeyNameLemmas::no_listed))]
 pub fn key_named(name: &str) -> Option<KeyEvent>
     ensures named { IfSome result (λ key. key_name key ≡ Some name.now) }
     ensures scalar { IfSome result IsKey }
@@ -34,6 +35,7 @@ pub fn key_named(name: &str) -> Option<KeyEvent>
 }
 
 /// Returns the key of a name such as `Enter`, with no modifier.
+#[tactic(auto, using(crate::proofs::KeyNameLemmas::no_plain))]
 fn plain_named(name: &str) -> Option<KeyCode>
     ensures { MatchOption result ((key : KeyCode) →
         ¬ (plain_name key ≡ Some name.now)) (λ key. plain_name key ≡ Some name.now) }

@@ -4,6 +4,7 @@ ghost use Rattle.std.specs.Prelude.{◌≡◌, ◌≤◌, ◌↔◌, length, IsS
 ghost use Rattle.std.specs.Str.Parse.{IsNumeral, digits_value};
 
 /// Returns the number that 1 to 9 decimal digits write.
+#[tactic(auto, using(crate::proofs::Numbers::numeral_parses))]
 pub fn parse_number(text: &str) -> Option<usize>
     ensures number { IsSome result ↔ (IsNumeral 10 text.now × (length text.now ≤ 9)) }
     ensures value { IfSome result (λ number. number ≡ digits_value 10 text.now) }

@@ -108,6 +108,7 @@ impl Playback {
     }
 
     /// Reads a line from the events, and tells the answer and what the screen then shows.
+    #[tactic(auto, using(crate::proofs::ReadingLemmas::tells))]
     fn read(&mut self) -> Result<String, RunFault>
         ensures told { IfOk result (λ shown. Tells (stage_of self.old) (string_bytes shown)) }
         ensures memory { IfErr result (λ fault. fault ≡ RunFault.Memory) }

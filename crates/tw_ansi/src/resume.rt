@@ -59,6 +59,7 @@ fn go_on(progress: Progress, bytes: &[u8], is_last: bool) -> Result<Scanned, Pro
 }
 
 /// Reads the bytes from the first one on.
+#[tactic(auto, using(crate::proofs::Resumes::begun, crate::proofs::Resumes::begun_string))]
 fn begin(bytes: &[u8], is_last: bool) -> Result<Scanned, Progress>
     ensures { result ≡ ok_or (token_at is_last bytes.now) (behind_start bytes.now) }
 {

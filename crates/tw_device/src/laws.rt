@@ -21,12 +21,14 @@ pub fn equality()
 
 /// No byte is lost and none is made: those that were not taken, and then those that came, are those that are taken and
 /// then those that are not taken at last; what came is what the reader gave; and what is told is the events of it.
+#[tactic(auto, using(crate::proofs::TypedLemmas::none_is_lost))]
 pub fn typing()
     ensures { NoneIsLost }
 {}
 
 /// Where an ESC alone waits, how bytes come makes no difference: once all that came are taken, what was told is what
 /// they tell all at once.
+#[tactic(auto, using(crate::proofs::PieceLemmas::pieces_do_not_matter))]
 pub fn pieces()
     ensures { PiecesDoNotMatter }
 {}

@@ -209,6 +209,7 @@ impl LentLines for BasicHistory {
         self.ends.len()
     }
 
+    #[tactic(auto, using(crate::proofs::JoinedLemmas::inside_ends))]
     fn line(&self, at: HistoryIndex) -> &str {
         line_of(self.text.as_str(), self.ends.as_slice(), at)
     }

@@ -1,5 +1,5 @@
 -- What a screen shows of a call.
-use Rattle.std.proofs.Common.{◌≡◌, ℕ, ◌+◌, ◌<◌, List, [], ◌∷◌, ◌++◌, true, false, length, sym, ◌∙◌, ap, subst, append_assoc, inl, inr, Option, Result, Ok, Err, IfOk, IfErr, OnOk, arith}
+use Rattle.std.proofs.Common.{◌≡◌, ℕ, ◌+◌, ◌<◌, List, [], ◌∷◌, ◌++◌, false, length, sym, ◌∙◌, ap, subst, append_assoc, inl, inr, Option, Result, Ok, Err, IfOk, IfErr, OnOk, arith}
 use Rattle.std.specs.List.{All}
 use Rattle.std.proofs.lemmas.List.{append-nil}
 use Rattle.tw_surface.specs.ChangeView.{Batch}
@@ -17,7 +17,7 @@ use Rattle.tw_lineedit.specs.Frame.{Frame}
 use Rattle.tw_lineedit.specs.Run.{Moment, want, fault, run_of, progress_of}
 use Rattle.tw_lineedit.specs.Reading.{start, final_moment, Reads, Leaves, ClosesBadly, Starves, Faults, Halts, FailsToRead}
 use Rattle.tw_lineedit.specs.Stations.{Station}
-use Rattle.tw_lineedit.specs.ScreenRuns.{batches_of, first_row, Comes, ReachesPlainly, RendersNothing, IsStopped, HasPainted, ShowsFresh, ShowsFirst, Shows}
+use Rattle.tw_lineedit.specs.ScreenRuns.{batches_of, Comes, RendersNothing, IsStopped, HasPainted, ShowsFresh, ShowsFirst, Shows}
 use Rattle.tw_lineedit.proofs.StationLemmas.{first_batches, all_taken, closing-is}
 use Rattle.tw_lineedit.proofs.StoppedLemmas.{Stopped, stopped, first_stopped, first_begun}
 use Rattle.tw_lineedit.proofs.ScreenRunLemmas.{comes_plainly, first_not_cleared, fresh_there, closed_there, first_row-is}

@@ -1,9 +1,9 @@
 -- A line that is fed its events, one after another.
-use Rattle.std.specs.Prelude.{◌≡◌, ◌≢◌, ℕ, ◌<◌, ◌∷◌, [], ◌⊎◌, cond, Bool, true, false, length, List, Option, Some, None, IsSome, Result, Ok, Err}
+use Rattle.std.specs.Prelude.{◌≡◌, ◌≢◌, ℕ, ◌<◌, ◌∷◌, [], ◌⊎◌, cond, Bool, true, false, length, List, Option, None, IsSome, Result, Ok, Err}
 use Rattle.tw_input.specs.EventView.{EventView}
 use Rattle.tw_host.specs.HostRules.{HostRules}
 use Rattle.tw_host.specs.declared.host.Overrides.{Overrides}
-use Rattle.tw_session.specs.EditState.{EditState, Inactive}
+use Rattle.tw_session.specs.EditState.{Inactive}
 use Rattle.tw_session.specs.Painting.{Rendering}
 use Rattle.tw_session.specs.Refusal.{Refusal}
 use Rattle.tw_session.specs.declared.error.Error.{Error}

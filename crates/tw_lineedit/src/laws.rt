@@ -13,6 +13,7 @@ pub use tw_session::laws::{cycle, enumeration, faithful, walk};
 
 /// The batches that a run takes are a function of its stations alone: the states, the host's values and the
 /// sizes at which it paints, and whether the screen was cleared just before.
+#[tactic(auto, using(crate::proofs::StationLemmas::batches_by_stations))]
 pub fn batches<H: LineEditorHost>()
     ensures { BatchesByStations H.rules }
 {}
@@ -23,6 +24,7 @@ pub fn tells_scenes<H: LineEditorHost>()
 {}
 
 /// What was taken where memory or the terminal stops a run is a beginning of what the run takes.
+#[tactic(auto, using(crate::proofs::BeginningLemmas::stopped_runs_begin))]
 pub fn stopped_runs<H: LineEditorHost>()
     ensures { StoppedRunsBegin H.rules H.OVERRIDES }
 {}

@@ -18,6 +18,7 @@ impl<'term, T: Terminal> LineEditor<'term, T> {
     ///
     /// A refused reading leaves what a refused `read_line` leaves, and adds nothing. If there is no memory to add the
     /// line, the reading is over, and the history is as it was.
+    #[tactic(auto, using(crate::proofs::ShownLemmas::shows_ended))]
     pub fn read_line_and_remember<H: LineEditorHost>(
         &mut self,
         host: &mut H,

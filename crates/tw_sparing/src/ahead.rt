@@ -76,6 +76,7 @@ impl Ahead {
     /// Returns what is known once a batch is drawn on the latest picture, and whether all that is kept back and the
     /// batch can be sent as one difference: where the batch does not go out of sight, and the rows that leave the
     /// terminal show what they show now.
+    #[tactic(auto, using(crate::proofs::AheadLemmas::groups_ahead))]
     pub fn known_after(
         &self,
         alloc: Global,
@@ -125,6 +126,7 @@ impl Ahead {
     }
 
     /// Keeps a batch back, by what is known after it.
+    #[tactic(auto, using(crate::proofs::AheadLemmas::still_ahead, crate::proofs::AheadLemmas::still_viewed))]
     pub fn keep(&mut self, changes: &[Change], next: Option<Shown>)
         requires { IsJoined (batch_view changes.now) self.old next }
         ensures { self.new ≡ record self.old {

@@ -11,6 +11,7 @@ use tw_lineedit::LineEditorHost;
 
 /// A terminal after ECMA-48 that shows what is known of it, and is sent what differs after a batch, shows the picture
 /// on which the batch was drawn, and what is then known stands in it.
+#[tactic(auto, using(crate::proofs::KnownScreens::known_is_shown))]
 pub fn known()
     ensures { KnownIsShown }
 {}
@@ -22,6 +23,7 @@ pub fn first()
 
 /// A terminal that is sent several batches, each as what differs or as it is, shows the picture on which all of them
 /// were drawn (`shown`), and looks as one that is sent all of them as they are (`same`).
+#[tactic(auto, using(crate::proofs::RunLemmas::looks_the_same, crate::proofs::RunLemmas::runs_are_shown))]
 pub fn runs()
     ensures shown { RunsAreShown }
     ensures same { LooksTheSame }

@@ -66,6 +66,7 @@ pub fn send_known(
 
 /// Adds what a batch is sent as on a terminal of a size, by what is shown before it and after it, and returns what is
 /// then known.
+#[tactic(auto, using(crate::proofs::PlayedBatches::known_fits, crate::proofs::PlayedBatches::known_width))]
 pub fn send_for(
     alloc: Global,
     size: ScreenSize,

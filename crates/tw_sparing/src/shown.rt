@@ -90,6 +90,7 @@ impl Shown {
     }
 
     /// Plays a batch. It returns false where it is not known what the terminal shows then.
+    #[tactic(auto, using(crate::proofs::PlayedBatches::played_more))]
     fn play_all(&mut self, changes: &[Change], rows: usize) -> bool
         ensures { result ≡ true → IsPlayed rows (batch_view changes.now) self.old self.new }
     {
@@ -152,6 +153,7 @@ impl Shown {
 
     /// Returns what is shown once two changes are played, on a terminal of `rows` rows, if the first one leads to
     /// column 0 of a row in sight, and the second one empties all from there on.
+    #[tactic(auto, using(crate::proofs::PlayedBatches::emptied_played))]
     fn emptied_by(
         &self,
         alloc: Global,
@@ -326,6 +328,7 @@ fn is_setting(change: &Change) -> bool
 }
 
 /// Returns true if a batch empties the terminal from its cursor on, and then sets all attributes.
+#[tactic(auto, using(crate::proofs::PlayedBatches::emptying))]
 fn empties(changes: &[Change]) -> bool
     ensures { result ≡ true → Empties (batch_view changes.now) }
 {

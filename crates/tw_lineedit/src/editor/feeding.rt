@@ -36,6 +36,7 @@ impl<'term, T: Terminal> LineEditor<'term, T> {
     ///
     /// A screen shows the first painting as `read_line` says of it. What it shows of the later ones, whatever events
     /// the line is fed, is a law on runs.
+    #[tactic(auto, using(crate::proofs::ShownLemmas::shows_begun_if))]
     pub fn begin_line<H: LineEditorHost>(
         &mut self,
         host: &H,

@@ -1,8 +1,0 @@
-use Rattle.std.proofs.Common.{rules, tests}
-use Rattle.std.specs.Char.{is_control}
-use Rattle.std.proofs.lemmas.Iterator.{YieldsList-from_chars}
-use Rattle.std.proofs.lemmas.Iterator.Search.{any_from_yields_List}
-use Rattle.tw_ansi.proofs.encode.has_control.Goals as goal
-
-pub returns : goal.returns
-returns c = any_from_yields_List is_control _ _ _ c.any.ensures.ran (YieldsList-from_chars c.args.text.now c.utf8.text (cc)) (λ x b q k. search (rules, tests))

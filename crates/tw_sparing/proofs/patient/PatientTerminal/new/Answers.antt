@@ -1,5 +1,0 @@
-use Rattle.std.proofs.Common.{rules}
-use Rattle.tw_sparing.proofs.patient.PatientTerminal.new.Goals as goal
-
-pub returns-clause-known : goal.returns-clause-known
-returns-clause-known g c = search rules

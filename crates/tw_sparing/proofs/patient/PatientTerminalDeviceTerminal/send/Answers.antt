@@ -1,5 +1,0 @@
-use Rattle.std.proofs.Common.{rules}
-use Rattle.tw_sparing.proofs.patient.PatientTerminalDeviceTerminal.send.Goals as goal
-
-pub returns-clause-said : goal.returns-clause-said
-returns-clause-said g c = search rules

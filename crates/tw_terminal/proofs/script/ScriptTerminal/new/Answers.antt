@@ -1,5 +1,0 @@
-use Rattle.std.proofs.Common.{rules}
-use Rattle.tw_terminal.proofs.script.ScriptTerminal.new.Goals as goal
-
-pub returns : goal.returns
-returns c = search rules
