@@ -39,10 +39,9 @@ abbrev pub names_from : List EntryView → ℕ → List ℕ → List CandidateVi
 names_from entries cursor text =
     map (λ entry. word_candidate (cursor - length text) cursor (entry_text entry)) (filter (λ entry. begins_with text entry.name) entries)
 
--- what completes a path before a cursor: names in the directory that stands before its last slash
-abbrev pub path_candidates : List ListingView → ℕ → List ℕ → List CandidateView
-path_candidates listings cursor path = names_from (entries_in listings (before_word (codes "/") path)) cursor (begun_part (codes "/") path)
-
--- what completes the path before the cursor, which goes back to a space or to the start of its row
+-- what completes the path before the cursor, which goes back to a space or to the start of its row: names in the directory
+-- that stands before its last slash
 abbrev pub file_candidates : List ListingView → Cut → List CandidateView
-file_candidates listings cut = path_candidates listings cut.cursor (last_word (row_before cut))
+file_candidates listings cut =
+    let path = last_word (row_before cut) in
+    names_from (entries_in listings (before_word (codes "/") path)) cut.cursor (begun_part (codes "/") path)

@@ -1,5 +1,5 @@
 -- What several candidates share, as a candidate of its own.
-use Rattle.std.specs.Prelude.{ℕ, ◌-◌, ◌==◌, Bool, ◌&&◌, List, [], ◌∷◌, length, map, nat_lt, Option, Some, None, if◌then◌else◌}
+use Rattle.std.specs.Prelude.{ℕ, ◌-◌, ◌==◌, Bool, ◌&&◌, List, [], ◌∷◌, length, map, nat_lt, Option, Some, None, option_map, unwrap_or, if◌then◌else◌}
 use Rattle.std.specs.List.{list_all}
 use Rattle.tw_host.specs.CandidateView.{CandidateView}
 use Rattle.tw_completion_parts.specs.Beginnings.{common_beginning}
@@ -29,9 +29,5 @@ shared_candidate (first ∷ second ∷ others) =
     if_longer first.start first.end candidates (common_beginning (candidate_texts candidates))
 
 -- that candidate alone, or where there is none the candidates
-abbrev pub alone_or : Option CandidateView → List CandidateView → List CandidateView
-alone_or (Some shared) candidates = shared ∷ []
-alone_or None candidates = candidates
-
 abbrev pub beginning_first : List CandidateView → List CandidateView
-beginning_first candidates = alone_or (shared_candidate candidates) candidates
+beginning_first candidates = unwrap_or (option_map (λ shared. shared ∷ []) (shared_candidate candidates)) candidates

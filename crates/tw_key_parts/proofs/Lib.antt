@@ -6,4 +6,3 @@ pub mod KillLemmas
 pub mod GivenBackLemmas
 pub mod UndoLawLemmas
 pub mod RowLemmas
-pub mod PairLemmas

@@ -23,13 +23,9 @@ none-down p from to none first k low high =
     ⊎_elim (λ above. none k (omega (arith, above)) high) (λ below. let same : k ≡ from = omega (arith, below, low) in ap p same ∙ first) (cases_lt from k)
 
 -- a line that was found passes, and one that was not does not
-pub passes : {X : Type 0} (b : Bool) (x y : X) → Some x ≡ (if b then Some y else None) → b ≡ true
-passes true x y e = refl
+pub passes : {X : Type 0} (b : Bool) (x y : X) → Some x ≡ (if b then Some y else None) → (b ≡ true) × (x ≡ y)
+passes true x y e = (refl, cc)
 passes false x y e = cc
-
-pub is-that : {X : Type 0} (b : Bool) (x y : X) → Some x ≡ (if b then Some y else None) → x ≡ y
-is-that true x y e = cc
-is-that false x y e = cc
 
 pub passes-not : {X : Type 0} (b : Bool) (y : X) → None ≡ (if b then Some y else None) → b ≡ false
 passes-not true y e = cc
@@ -43,8 +39,8 @@ module _ (lines : List (List ℕ)) (cut : Cut) where
   pub older-found : (from i : ℕ) (found : PrefixMatchView) → i ≤ from → Some found ≡ looked_at i
       → NonePasses (is_prefix_match lines cut) (i + 1) (from + 1) → Some found ≡ older_match lines cut (Some from)
   older-found from i found low e none =
-      ap Some (is-that _ found _ e)
-      ∙ ap (option_map (prefix_match_at lines cut)) (sym (greatest_below-is (is_prefix_match lines cut) (from + 1) i (omega (arith, low)) (passes _ found _ e) none))
+      ap Some (passes _ found _ e).1
+      ∙ ap (option_map (prefix_match_at lines cut)) (sym (greatest_below-is (is_prefix_match lines cut) (from + 1) i (omega (arith, low)) (passes _ found _ e).0 none))
 
   pub older-none : (from : ℕ) → NonePasses (is_prefix_match lines cut) 0 (from + 1) → None ≡ older_match lines cut (Some from)
   older-none from none = ap (option_map (prefix_match_at lines cut)) (sym (greatest_below-none (is_prefix_match lines cut) (from + 1) none))
@@ -52,8 +48,8 @@ module _ (lines : List (List ℕ)) (cut : Cut) where
   pub newer-found : (from i : ℕ) (found : PrefixMatchView) → from ≤ i → i < length lines → Some found ≡ looked_at i
       → NonePasses (is_prefix_match lines cut) from i → Some found ≡ newer_match lines cut (Some from)
   newer-found from i found low high e none =
-      ap Some (is-that _ found _ e)
-      ∙ ap (option_map (prefix_match_at lines cut)) (sym (least_from-is (is_prefix_match lines cut) (length lines - from) from i low (omega (arith, low, high)) (passes _ found _ e) none))
+      ap Some (passes _ found _ e).1
+      ∙ ap (option_map (prefix_match_at lines cut)) (sym (least_from-is (is_prefix_match lines cut) (length lines - from) from i low (omega (arith, low, high)) (passes _ found _ e).0 none))
 
   pub newer-none : (from : ℕ) → NonePasses (is_prefix_match lines cut) from (length lines) → None ≡ newer_match lines cut (Some from)
   newer-none from none =

@@ -1,8 +1,8 @@
 -- The ends of a row, and steps that reach an offset.
 use Rattle.std.proofs.Common.{◌≡◌, ◌≢◌, ◌+◌, ◌-◌, ◌<◌, ◌≤◌, ◌==◌, ◌||◌, ℕ, zero, suc, Bool, true, false, List, length, get_or, min, max, slice_range, take, drop, Option, Some, None, refl, ap, sym, subst, ◌∙◌, inl, inr, ◌⊎◌, ⊎_elim, unwrap_or, if◌then◌else◌, arith}
 use Rattle.std.specs.List.{list_any}
-use Rattle.std.proofs.Math.Bool.{or-true}
 use Rattle.std.proofs.lemmas.Bool.{cases_Bool, cases_lt, eq-eqb, le-leb, leb-false, leb-true, ne_eqb, true≢false}
+use Rattle.std.proofs.lemmas.Bool.Decides.{nat_tests}
 use Rattle.std.proofs.lemmas.List.{get_or-drop, get_or-take, get_or_past, length-drop, length-take-le}
 use Rattle.std.proofs.lemmas.List.Folds.{list_any_at}
 use Rattle.std.proofs.lemmas.Str.{IsCharBoundary-after_ascii, IsCharBoundary-before_ascii}
@@ -27,31 +27,18 @@ use Rattle.tw_key_parts.specs.declared.steps.Way.TheVariants.{Back, Ahead}
 module _ (line : List ℕ) where
   -- a row begins after a line feed, and nowhere else but at the start
   begins : (j k : ℕ) → j ≡ k + 1 → get_or line k 0 ≡ lf → begins_row line j ≡ true
-  begins j k next there =
-      let back : j - 1 ≡ k = omega (arith, next) in
-      ap (λ n. j == 0 || is_line_feed line n) back ∙ ap (λ b. j == 0 || b) (eq-eqb (get_or line k 0) lf there) ∙ or-true (j == 0)
+  begins j k next there = grind (arith, nat_tests)
 
   begins_not : (j : ℕ) → 0 < j → get_or line (j - 1) 0 ≢ lf → begins_row line j ≡ false
-  begins_not j some other =
-      ap (λ b. b || is_line_feed line (j - 1)) (ne_eqb j 0 (λ e. absurd (omega (arith, e, some)))) ∙ ne_eqb (get_or line (j - 1) 0) lf other
+  begins_not j some other = grind (arith, nat_tests)
 
-  -- the row of an offset begins after the last line feed before it, or with the line
-  pub start-behind : (at k : ℕ) → k < at → get_or line k 0 ≡ lf → ((i : ℕ) → k < i → i < at → get_or line i 0 ≢ lf) → k + 1 ≡ row_start line at
-  start-behind at k low there none =
-      sym (ap (λ found. unwrap_or found 0) (greatest_below-is (begins_row line) (at + 1) (k + 1) (omega arith) (begins (k + 1) k refl there)
-      (λ j above below. begins_not j (omega arith) (none (j - 1) (omega arith) (omega arith)))))
-
+  -- the row of an offset without a line feed before it begins with the line
   pub start-none : (at : ℕ) → ((i : ℕ) → i < at → get_or line i 0 ≢ lf) → 0 ≡ row_start line at
   start-none at none =
       sym (ap (λ found. unwrap_or found 0) (greatest_below-is (begins_row line) (at + 1) 0 (omega arith) refl
       (λ j above below. begins_not j (omega arith) (none (j - 1) (omega arith)))))
 
-  -- it ends at the first line feed from there on, or with the line
-  pub end-at : (at k : ℕ) → at ≤ k → k < length line → get_or line k 0 ≡ lf → ((i : ℕ) → at ≤ i → i < k → get_or line i 0 ≢ lf) → k ≡ row_end line at
-  end-at at k low inside there none =
-      sym (ap (λ found. unwrap_or found (length line)) (least_from-is (is_line_feed line) (length line - at) at k low (omega arith) (eq-eqb (get_or line k 0) lf there)
-      (λ i above below. ne_eqb (get_or line i 0) lf (none i above below))))
-
+  -- without one from there on it ends with the line
   pub end-none : (at : ℕ) → ((i : ℕ) → at ≤ i → i < length line → get_or line i 0 ≢ lf) → length line ≡ row_end line at
   end-none at none =
       sym (ap (λ found. unwrap_or found (length line)) (least_from-none (is_line_feed line) (length line - at) at
@@ -68,8 +55,9 @@ module _ (line text : List ℕ) (at : ℕ) (inside : at ≤ length line) where
 
     pub start-found : (feed : ℕ) → feed < length text → get_or text feed 0 ≡ lf → ((i : ℕ) → feed < i → i < length text → get_or text i 0 ≢ lf) → feed + 1 ≡ row_start line at
     start-found feed low there none =
-        start-behind line at feed (omega (arith, low, front-len)) (sym (front-byte feed (omega (arith, low, front-len))) ∙ there)
-        (λ i above below h. none i above (omega (arith, below, front-len)) (front-byte i below ∙ h))
+        sym (ap (λ found. unwrap_or found 0) (greatest_below-is (begins_row line) (at + 1) (feed + 1) (omega (arith, low, front-len))
+        (begins line (feed + 1) feed refl (sym (front-byte feed (omega (arith, low, front-len))) ∙ there))
+        (λ j above below. begins_not line j (omega arith) (λ h. none (j - 1) (omega arith) (omega (arith, below, front-len)) (front-byte (j - 1) (omega arith) ∙ h)))))
 
     pub start-missing : ((i : ℕ) → i < length text → get_or text i 0 ≢ lf) → 0 ≡ row_start line at
     start-missing none = start-none line at (λ i below h. none i (omega (arith, below, front-len)) (front-byte i below ∙ h))
@@ -88,8 +76,9 @@ module _ (line text : List ℕ) (at : ℕ) (inside : at ≤ length line) where
 
     pub end-found : (feed : ℕ) → feed < length text → get_or text feed 0 ≡ lf → ((i : ℕ) → i < feed → get_or text i 0 ≢ lf) → at + feed ≡ row_end line at
     end-found feed low there none =
-        end-at line at (at + feed) (omega arith) (omega (arith, low, rest-len)) (sym (rest-byte (at + feed) feed refl) ∙ there)
-        (λ i above below h. none (i - at) (omega (arith, above, below)) (rest-byte i (i - at) (omega (arith, above)) ∙ h))
+        sym (ap (λ found. unwrap_or found (length line)) (least_from-is (is_line_feed line) (length line - at) at (at + feed) (omega arith) (omega (arith, low, rest-len))
+        (eq-eqb (get_or line (at + feed) 0) lf (sym (rest-byte (at + feed) feed refl) ∙ there))
+        (λ i above below. ne_eqb (get_or line i 0) lf (λ h. none (i - at) (omega arith) (rest-byte i (i - at) (omega arith) ∙ h)))))
 
     pub end-missing : ((i : ℕ) → i < length text → get_or text i 0 ≢ lf) → length line ≡ row_end line at
     end-missing none =

@@ -1,5 +1,5 @@
 -- Words of letters and digits, as so many steps by grapheme clusters.
-use Rattle.std.specs.Prelude.{ℕ, ◌+◌, Bool, false, not, ◌&&◌, ◌||◌, List, [], ◌∷◌, length, drop, Option, Some, None, unwrap_or}
+use Rattle.std.specs.Prelude.{ℕ, ◌+◌, Bool, false, not, ◌&&◌, ◌||◌, List, [], ◌∷◌, length, drop, Option, option_map, unwrap_or}
 use Rattle.std.specs.Char.Unicode.Alphabetic.{is_alphabetic}
 use Rattle.std.specs.Char.Unicode.Numeric.{is_numeric}
 use Rattle.std.specs.Str.{chars}
@@ -31,12 +31,8 @@ abbrev pub last_letter : Way → ℕ → Cut → Option ℕ
 last_letter way from cut = least_from (is_last_letter way cut) from (length cut.line)
 
 -- past the last letter of the word ahead, or to the end of the line
-abbrev pub past_or : Option ℕ → ℕ → ℕ
-past_or (Some count) end = count + 1
-past_or None end = end
-
 abbrev pub steps_to_word_end : Cut → ℕ
-steps_to_word_end cut = past_or (last_letter Ahead 0 cut) (length cut.line)
+steps_to_word_end cut = unwrap_or (option_map (λ count. count + 1) (last_letter Ahead 0 cut)) (length cut.line)
 
 -- to the first letter of the word before, or to the start of the line
 abbrev pub steps_to_word_start : Cut → ℕ

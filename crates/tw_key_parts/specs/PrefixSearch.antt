@@ -88,8 +88,7 @@ newer_or_typed before (Some found) = recalled_edit before found
 newer_or_typed before None = shown before None
 
 abbrev pub newer_edit : List (List ℕ) → Option RecalledView → Cut → Option (Edited (Option RecalledView))
-newer_edit lines None cut = None
-newer_edit lines (Some recalled) cut = Some (newer_or_typed recalled.before (newer_match lines cut (next_index Forwards recalled.index)))
+newer_edit lines recalled cut = option_map (λ recalled. newer_or_typed recalled.before (newer_match lines cut (next_index Forwards recalled.index))) recalled
 
 -- whether an event is one of the keys
 abbrev pub is_prefix_key : EventView → Bool

@@ -1,5 +1,5 @@
 -- What was recalled of a history last.
-use Rattle.std.specs.Prelude.{ℕ, Bool, List, Option, Some, None, if◌then◌else◌}
+use Rattle.std.specs.Prelude.{ℕ, Bool, List, Option, Some, None, option_map, unwrap_or, if◌then◌else◌}
 use Rattle.tw_line.specs.Cut.{Cut}
 use Rattle.tw_line.specs.NearestMatch.{last_index, next_index}
 use Rattle.tw_line.specs.declared.history.SearchDirection.TheVariants.{Backwards}
@@ -17,8 +17,7 @@ recalled_view recalled = record { before = recalled.before; index = recalled.ind
 
 -- the line before it, or else the line itself
 abbrev pub line_before_recall : Option RecalledView → Cut → Cut
-line_before_recall None cut = cut
-line_before_recall (Some recalled) cut = recalled.before
+line_before_recall recalled cut = unwrap_or (option_map (λ recalled. recalled.before) recalled) cut
 
 -- the line before that of the history, or else the last line
 abbrev pub older_index : Option RecalledView → List (List ℕ) → Option ℕ

@@ -54,8 +54,7 @@ is_end _ = false
 
 -- whether there is an action that passes a test
 abbrev pub if_any : (ActionView → Bool) → Option ActionView → Bool
-if_any test None = false
-if_any test (Some action) = test action
+if_any test action = unwrap_or (option_map test action) false
 
 -- the lines of two cut texts are the same
 abbrev pub is_same_line : Cut → Cut → Bool

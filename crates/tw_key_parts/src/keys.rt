@@ -46,10 +46,7 @@ pub const LAST_WORD: KeyEvent = KeyEvent {
 pub fn is_key(key: KeyEvent, event: &InputEvent) -> bool
     ensures { result ≡ is_key key (event_view event.now) }
 {
-    match event {
-        InputEvent::Key(other) => *other == key,
-        _ => false,
-    }
+    matches!(event, InputEvent::Key(other) if *other == key)
 }
 
 /// Returns true for the keys that delete a character: Delete, Backspace, Ctrl-H and Ctrl-D.

@@ -40,21 +40,17 @@ fn key_action(
     ensures { IfOk result (λ action. option_map action_view action
         ≡ looked_up (letter_table editor.now) key) }
 {
-    match key.modifiers {
-        Modifiers::CTRL => match key.key {
-            KeyCode::RightArrow => Ok(Some(Action::Move(ahead(alloc, editor)?))),
-            KeyCode::LeftArrow => Ok(Some(Action::Move(back(alloc, editor)?))),
-            _ => Ok(None),
-        },
-        Modifiers::ALT => match key.key {
-            KeyCode::Char('f') => Ok(Some(Action::Move(ahead(alloc, editor)?))),
-            KeyCode::Char('b') => Ok(Some(Action::Move(back(alloc, editor)?))),
-            KeyCode::Char('d') => {
-                Ok(Some(Action::KillAndMove(ahead(alloc, editor)?, Movement::None)))
-            }
-            KeyCode::Backspace => Ok(Some(Action::Kill(back(alloc, editor)?))),
-            _ => Ok(None),
-        },
+    match (key.modifiers, key.key) {
+        (Modifiers::CTRL, KeyCode::RightArrow) | (Modifiers::ALT, KeyCode::Char('f')) => {
+            Ok(Some(Action::Move(ahead(alloc, editor)?)))
+        }
+        (Modifiers::CTRL, KeyCode::LeftArrow) | (Modifiers::ALT, KeyCode::Char('b')) => {
+            Ok(Some(Action::Move(back(alloc, editor)?)))
+        }
+        (Modifiers::ALT, KeyCode::Char('d')) => {
+            Ok(Some(Action::KillAndMove(ahead(alloc, editor)?, Movement::None)))
+        }
+        (Modifiers::ALT, KeyCode::Backspace) => Ok(Some(Action::Kill(back(alloc, editor)?))),
         _ => Ok(None),
     }
 }

@@ -35,15 +35,13 @@ fn last_letter(
 {
     let mut at = editor.try_clone(alloc)?;
     at.exec_movement(cluster_steps(way, from));
-    let mut is_letter = is_at_letter(&at);
     let end = from + editor.get_line().len();
     for count in from..end {
+        let is_letter = is_at_letter(&at);
         at.exec_movement(cluster_steps(way, 1));
-        let is_next = is_at_letter(&at);
-        if is_letter && !is_next {
+        if is_letter && !is_at_letter(&at) {
             return Ok(Some(count));
         }
-        is_letter = is_next;
     }
     Ok(None)
 }

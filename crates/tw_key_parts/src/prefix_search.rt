@@ -10,7 +10,6 @@ ghost use Rattle.tw_key_parts.specs.PrefixSearch.{is_prefix_key, is_prefix_match
 ghost use Rattle.tw_key_parts.specs.Recalled.{recalled_view};
 
 use crate::edit::Edit;
-use crate::keys::is_key;
 use crate::part::KeyPart;
 use crate::recalled::{Recalled, line_before_recall, older_index};
 use std::alloc::{AllocError, Global};
@@ -55,7 +54,7 @@ pub struct PrefixMatch {
 pub fn is_prefix_key(event: &InputEvent) -> bool
     ensures { result ≡ is_prefix_key (event_view event.now) }
 {
-    is_key(OLDER, event) || is_key(NEWER, event) || is_key(OLDEST, event) || is_key(TYPED, event)
+    matches!(event, InputEvent::Key(OLDER | NEWER | OLDEST | TYPED))
 }
 
 /// Returns a line with the cursor after the text that it begins with, or `None` if it begins otherwise.
@@ -168,13 +167,11 @@ fn older_edit<L: History>(
     let Some(from) = older_index(recalled, lines) else {
         return Ok(None);
     };
-    match older_match_from(alloc, lines, editor, from)? {
-        Some(found) => {
-            let before = line_before_recall(alloc, recalled, editor)?;
-            Ok(Some(recalled_edit(before, found)))
-        }
-        None => Ok(None),
-    }
+    let Some(found) = older_match_from(alloc, lines, editor, from)? else {
+        return Ok(None);
+    };
+    let before = line_before_recall(alloc, recalled, editor)?;
+    Ok(Some(recalled_edit(before, found)))
 }
 
 /// Returns the edit that goes to the oldest line, with the cursor at its end.
@@ -283,19 +280,14 @@ impl KeyPart for PrefixSearch {
         if searching {
             return Ok(None);
         }
-        if is_key(OLDER, event) {
-            return older_edit(alloc, history, self.recalled.as_ref(), line);
+        let recalled = self.recalled.as_ref();
+        match event {
+            InputEvent::Key(OLDER) => older_edit(alloc, history, recalled, line),
+            InputEvent::Key(NEWER) => newer_edit(alloc, history, recalled, line),
+            InputEvent::Key(OLDEST) => oldest_edit(alloc, history, recalled, line),
+            InputEvent::Key(TYPED) => typed_edit(alloc, recalled),
+            _ => Ok(None),
         }
-        if is_key(NEWER, event) {
-            return newer_edit(alloc, history, self.recalled.as_ref(), line);
-        }
-        if is_key(OLDEST, event) {
-            return oldest_edit(alloc, history, self.recalled.as_ref(), line);
-        }
-        if is_key(TYPED, event) {
-            return typed_edit(alloc, self.recalled.as_ref());
-        }
-        Ok(None)
     }
 
     fn prepare(&mut self, _alloc: Global, _line: &LineEditBuffer) -> Result<(), AllocError> {
@@ -321,11 +313,8 @@ impl KeyPart for PrefixSearch {
     {
         match note {
             Some(recalled) => self.recalled = recalled,
-            None => {
-                if action.is_some() || !is_prefix_key(event) {
-                    self.recalled = None;
-                }
-            }
+            None if action.is_some() || !is_prefix_key(event) => self.recalled = None,
+            None => {}
         }
     }
 

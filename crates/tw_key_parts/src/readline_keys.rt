@@ -18,23 +18,17 @@ use tw_line::{History, LineEditBuffer, Movement};
 pub fn readline_key(key: KeyEvent, editor: &LineEditBuffer) -> Option<Action>
     ensures { option_map action_view result ≡ readline_key key editor.now }
 {
-    match key.modifiers {
-        Modifiers::CTRL => match key.key {
-            KeyCode::Char('U') => Some(Action::Kill(Movement::StartOfLine)),
-            KeyCode::Char('D') if !editor.get_line().is_empty() => {
-                Some(Action::KillAndMove(Movement::ForwardChar(1), Movement::None))
-            }
-            KeyCode::LeftArrow => Some(Action::Move(Movement::BackwardWord(1))),
-            KeyCode::RightArrow => Some(Action::Move(Movement::ForwardWord(1))),
-            _ => None,
-        },
-        Modifiers::ALT => match key.key {
-            KeyCode::Char('d') => {
-                Some(Action::KillAndMove(Movement::ForwardWord(1), Movement::None))
-            }
-            KeyCode::Backspace => Some(Action::Kill(Movement::BackwardWord(1))),
-            _ => None,
-        },
+    match (key.modifiers, key.key) {
+        (Modifiers::CTRL, KeyCode::Char('U')) => Some(Action::Kill(Movement::StartOfLine)),
+        (Modifiers::CTRL, KeyCode::Char('D')) if !editor.get_line().is_empty() => {
+            Some(Action::KillAndMove(Movement::ForwardChar(1), Movement::None))
+        }
+        (Modifiers::CTRL, KeyCode::LeftArrow) => Some(Action::Move(Movement::BackwardWord(1))),
+        (Modifiers::CTRL, KeyCode::RightArrow) => Some(Action::Move(Movement::ForwardWord(1))),
+        (Modifiers::ALT, KeyCode::Char('d')) => {
+            Some(Action::KillAndMove(Movement::ForwardWord(1), Movement::None))
+        }
+        (Modifiers::ALT, KeyCode::Backspace) => Some(Action::Kill(Movement::BackwardWord(1))),
         _ => None,
     }
 }

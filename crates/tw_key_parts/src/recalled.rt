@@ -25,10 +25,8 @@ pub fn line_before_recall(
         ≡ line_before_recall (option_map (λ recalled. recalled_view recalled.now) recalled.entry)
         editor.now) }
 {
-    match recalled {
-        Some(recalled) => recalled.before.try_clone(alloc),
-        None => editor.try_clone(alloc),
-    }
+    let line = recalled.map_or(editor, |recalled| &recalled.before);
+    line.try_clone(alloc)
 }
 
 /// Returns the index of the next older line: before the one that was recalled last, or else the last line.

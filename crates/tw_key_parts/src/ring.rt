@@ -11,7 +11,7 @@ ghost use Rattle.tw_key_parts.specs.KeyRules.{step_of};
 ghost use Rattle.tw_key_parts.specs.Ring.{ring_follows};
 
 use crate::edit::Edit;
-use crate::keys::{ROTATE, YANK, deletes_character, is_key};
+use crate::keys::{ROTATE, YANK, deletes_character};
 use crate::part::KeyPart;
 use std::alloc::{AllocError, Global};
 use tw_host::Action;
@@ -260,17 +260,14 @@ impl KeyPart for KillRing {
         if searching {
             return Ok(None);
         }
-        if is_key(YANK, event) {
-            return self.yank(
-                alloc,
-                self.kills.len().saturating_sub(1),
-                line.try_clone(alloc)?,
-            );
+        match event {
+            InputEvent::Key(YANK) => {
+                let newest = self.kills.len().saturating_sub(1);
+                self.yank(alloc, newest, line.try_clone(alloc)?)
+            }
+            InputEvent::Key(ROTATE) => self.rotate(alloc, line),
+            _ => Ok(None),
         }
-        if is_key(ROTATE, event) {
-            return self.rotate(alloc, line);
-        }
-        Ok(None)
     }
 
     fn prepare(&mut self, alloc: Global, line: &LineEditBuffer) -> Result<(), AllocError> {
@@ -303,14 +300,8 @@ impl KeyPart for KillRing {
     {
         match note {
             Some(index) => self.latest = Latest::Yank(index),
-            None => {
-                let movement = if searching || !is_same_cut(before, after) {
-                    None
-                } else {
-                    killing(event, action)
-                };
-                self.kill(alloc, movement);
-            }
+            None if searching || !is_same_cut(before, after) => self.kill(alloc, None),
+            None => self.kill(alloc, killing(event, action)),
         }
     }
 

@@ -41,26 +41,19 @@ pub fn row_key(event: &InputEvent) -> Option<RowKey>
     let InputEvent::Key(press) = event else {
         return None;
     };
-    match press.modifiers {
-        Modifiers::NONE => match press.key {
-            KeyCode::UpArrow | KeyCode::ApplicationUpArrow => Some(RowKey::Up),
-            KeyCode::DownArrow | KeyCode::ApplicationDownArrow => Some(RowKey::Down),
-            KeyCode::Home => Some(RowKey::Start),
-            KeyCode::End => Some(RowKey::End),
-            _ => None,
-        },
-        Modifiers::CTRL => match press.key {
-            KeyCode::Char('P') => Some(RowKey::Up),
-            KeyCode::Char('N') => Some(RowKey::Down),
-            KeyCode::Char('A') => Some(RowKey::Start),
-            KeyCode::Char('E') => Some(RowKey::End),
-            KeyCode::Char('K') => Some(RowKey::KillToEnd),
-            _ => None,
-        },
-        Modifiers::ALT => match press.key {
-            KeyCode::Enter => Some(RowKey::Break),
-            _ => None,
-        },
+    match (press.modifiers, press.key) {
+        (Modifiers::ALT, KeyCode::Enter) => Some(RowKey::Break),
+        (Modifiers::NONE, KeyCode::UpArrow | KeyCode::ApplicationUpArrow)
+        | (Modifiers::CTRL, KeyCode::Char('P')) => Some(RowKey::Up),
+        (Modifiers::NONE, KeyCode::DownArrow | KeyCode::ApplicationDownArrow)
+        | (Modifiers::CTRL, KeyCode::Char('N')) => Some(RowKey::Down),
+        (Modifiers::NONE, KeyCode::Home) | (Modifiers::CTRL, KeyCode::Char('A')) => {
+            Some(RowKey::Start)
+        }
+        (Modifiers::NONE, KeyCode::End) | (Modifiers::CTRL, KeyCode::Char('E')) => {
+            Some(RowKey::End)
+        }
+        (Modifiers::CTRL, KeyCode::Char('K')) => Some(RowKey::KillToEnd),
         _ => None,
     }
 }

@@ -1,10 +1,10 @@
 //! Undo.
 
-ghost use Rattle.std.specs.Prelude.{◌≡◌, ◌<◌, IfOk, IfSome, length, option_map};
+ghost use Rattle.std.specs.Prelude.{◌≡◌, ◌<◌, IfSome, length, option_map};
 ghost use Rattle.std.specs.Vec.{vec_capacity, vec_len};
 ghost use Rattle.tw_input.specs.EventView.{event_view};
 ghost use Rattle.tw_key_parts.specs.EditView.{lent_action};
-ghost use Rattle.tw_key_parts.specs.Undo.{if_any, is_edit, is_end, is_same_line, is_undo, last_change, types_character, no_steps, steps_with, typing_after, undo_behind, undo_view, undone};
+ghost use Rattle.tw_key_parts.specs.Undo.{if_any, is_edit, is_end, is_same_line, is_undo, last_change, types_character, no_steps, steps_with, typing_after, undo_behind, undo_view};
 ghost use Rattle.tw_key_parts.specs.KeyRules.{step_of};
 ghost use Rattle.tw_key_parts.specs.Undo.{undo_follows};
 
@@ -116,17 +116,6 @@ impl UndoSteps {
         None
     }
 
-    /// Returns the line after an undo.
-    #[tactic(auto, using(std::proofs::lemmas::List::get_or_read))]
-    fn undone(&self, alloc: Global, line: &LineEditBuffer) -> Result<LineEditBuffer, AllocError>
-        ensures { IfOk result (λ made. made ≡ undone (undo_view self.now) line.now) }
-    {
-        match self.last_change(line) {
-            Some(at) => self.before[at].try_clone(alloc),
-            None => line.try_clone(alloc),
-        }
-    }
-
     /// Adds a step if one begins.
     fn begin_step(
         &mut self,
@@ -170,6 +159,7 @@ impl KeyPart for UndoSteps {
 
     ghost is_ready = { λ it cut. (it.spare ≡ cut) × (vec_len it.before < vec_capacity it.before) };
 
+    #[tactic(auto, using(std::proofs::lemmas::List::get_or_read))]
     fn edit<L: History>(
         &self,
         alloc: Global,
@@ -181,10 +171,12 @@ impl KeyPart for UndoSteps {
         if !self.is_undo(event) || searching {
             return Ok(None);
         }
-        let left = self.last_change(line).unwrap_or(0);
-        let undone = self.undone(alloc, line)?;
+        let (left, undone) = match self.last_change(line) {
+            Some(at) => (at, &self.before[at]),
+            None => (0, line),
+        };
         Ok(Some(Edit {
-            line: Some(undone),
+            line: Some(undone.try_clone(alloc)?),
             action: Action::InsertChar(0, ' '),
             note: left,
         }))

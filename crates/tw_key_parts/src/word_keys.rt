@@ -34,18 +34,12 @@ pub fn word_edit(event: &InputEvent) -> Option<WordEdit>
     let InputEvent::Key(press) = event else {
         return None;
     };
-    match press.modifiers {
-        Modifiers::CTRL => match press.key {
-            KeyCode::Char('T') => Some(WordEdit::SwapClusters),
-            _ => None,
-        },
-        Modifiers::ALT => match press.key {
-            KeyCode::Char('t' | 'T') => Some(WordEdit::SwapWords),
-            KeyCode::Char('u' | 'U') => Some(WordEdit::Write(WordCase::Upper)),
-            KeyCode::Char('l' | 'L') => Some(WordEdit::Write(WordCase::Lower)),
-            KeyCode::Char('c' | 'C') => Some(WordEdit::Write(WordCase::Capitalized)),
-            _ => None,
-        },
+    match (press.modifiers, press.key) {
+        (Modifiers::CTRL, KeyCode::Char('T')) => Some(WordEdit::SwapClusters),
+        (Modifiers::ALT, KeyCode::Char('t' | 'T')) => Some(WordEdit::SwapWords),
+        (Modifiers::ALT, KeyCode::Char('u' | 'U')) => Some(WordEdit::Write(WordCase::Upper)),
+        (Modifiers::ALT, KeyCode::Char('l' | 'L')) => Some(WordEdit::Write(WordCase::Lower)),
+        (Modifiers::ALT, KeyCode::Char('c' | 'C')) => Some(WordEdit::Write(WordCase::Capitalized)),
         _ => None,
     }
 }

@@ -73,11 +73,12 @@ pub fn with_swapped_words(
     let (head, rest) = past.get_line().split_at(past.get_cursor());
     let (words, blanks) = split_blanks(head);
     match swapped_words(alloc, words)? {
-        Some(mut line) => {
-            let cursor = line.as_str().len();
-            line.push_str(blanks)?;
-            line.push_str(rest)?;
-            LineEditBuffer::new(alloc, line.as_str(), cursor)
+        Some(words) => {
+            let mut behind = String::from_str(alloc, blanks)?;
+            behind.push_str(rest)?;
+            let mut line = LineEditBuffer::new(alloc, behind.as_str(), 0)?;
+            line.insert_text(words.as_str())?;
+            Ok(line)
         }
         None => editor.try_clone(alloc),
     }
