@@ -1,5 +1,5 @@
 -- What escapes stand for.
-use Rattle.std.proofs.Common.{◌≡◌, ◌≢◌, ℕ, ◌+◌, ◌<◌, Bool, true, false, List, [], ◌∷◌, ◌++◌, length, drop, Option, Some, None, refl, sym, ap, ◌∙◌, append_assoc, add-one, drop-cons}
+use Rattle.std.proofs.Common.{◌≡◌, ◌≢◌, ℕ, ◌+◌, ◌<◌, Bool, true, false, List, [], ◌∷◌, ◌++◌, length, drop, Option, Some, None, refl, ap, ◌∙◌, append_assoc, add-one, drop-cons}
 use Rattle.std.specs.Prelude.{◌==◌, option_map, IfOk, IsUtf8, OnOk, Result, Ok, Err}
 use Rattle.std.specs.List.{slice_index_or}
 use Rattle.std.specs.Str.{is_utf8}
@@ -16,9 +16,7 @@ pushed bytes b (Some more) = ap (λ all. Some all) (append_assoc bytes (b ∷ []
 pub went_on : (bytes new : List ℕ) (escapes : Bool) (behind : Option Bool) (text : List ℕ) (at : ℕ) (whole : Option (List ℕ)) → at < length text
     → ((rest : List ℕ) → understood new behind rest ≡ understood bytes (Some escapes) (slice_index_or text at 0 ∷ rest))
     → understood bytes (Some escapes) (drop at text) ≡ whole → understood new behind (drop (at + 1) text) ≡ whole
-went_on bytes new escapes behind text at whole low one all =
-    let front : drop at text ≡ slice_index_or text at 0 ∷ drop (at + 1) text = rw (add-one, drop-cons text at 0) refl in
-    one (drop (at + 1) text) ∙ ap (understood bytes (Some escapes)) (sym front) ∙ all
+went_on bytes new escapes behind text at whole low one all = one (drop (at + 1) text) ∙ rw (add-one, ← drop-cons text at 0) all
 
 -- a byte that was added, and what was understood with it
 added : {E : Type 0} (r : Result (Option Bool) E) (old new : List ℕ) (b : ℕ) (text : List ℕ) (whole : Option (List ℕ))
@@ -39,8 +37,7 @@ pub added_plain : {E : Type 0} (r : Result (Option Bool) E) (old new : List ℕ)
     → IfOk r (λ behind. behind ≡ Some false) → OnOk r (new ≡ old ++ byte ∷ [])
     → (text : List ℕ) → IfOk r (λ behind. understood new behind text ≡ understood old (Some escapes) (byte ∷ text))
 added_plain r old new escapes byte is other plain bytes text =
-    let not_backslash : (byte == 92) ≡ false = false_from_ne_true (byte == 92) (λ e. other (eqb-true byte 92 e)) in
-    added r old new byte text _ plain bytes (rw (is, not_backslash) refl)
+    added r old new byte text _ plain bytes (rw (is, false_from_ne_true (byte == 92) (λ e. other (eqb-true byte 92 e))) refl)
 
 -- bytes that are a text, and others
 pub text_is : (bytes : List ℕ) → IsUtf8 bytes → if_text bytes ≡ Some bytes

@@ -5,6 +5,7 @@ use Rattle.std.specs.List.{cons_option, filter_map}
 use Rattle.std.specs.Option.{option_to_list}
 use Rattle.std.specs.Str.{is_utf8}
 use Rattle.std.proofs.lemmas.Bool.{eqb-true, not-false}
+use Rattle.std.proofs.lemmas.Bool.Decides.{nat_tests}
 use Rattle.std.proofs.lemmas.List.Elements.{filter_map-append}
 use Rattle.tw_history_parts.specs.FileLaws.{AreTexts, BeginningIsRead, DamageStaysAlone, ResumedAreRead, WrittenAreRead}
 use Rattle.tw_history_parts.specs.HistoryFile.{ended, escaped, escaped_byte, is_cut_off, line_of, lines_in, unescaped, whole_lines, with_byte, with_byte_in_front, written_line, written_lines}
@@ -14,21 +15,14 @@ use Rattle.tw_history_parts.proofs.ReadingLemmas.{cut_off-behind, lines_cut}
 
 -- what a byte is written as stays in the line that follows
 module _ (b : ℕ) (text : List ℕ) where
-  ends_as : (x y : Bool) → (b == 92) ≡ x → (b == 10) ≡ y → (line : List ℕ) (lines : List (List ℕ)) → whole_lines text ≡ line ∷ lines
-      → whole_lines (escaped_byte b ++ text) ≡ (escaped_byte b ++ line) ∷ lines
-  ends_as true y is_backslash is_feed line lines e = rw (is_backslash, e) refl
-  ends_as false true is_backslash is_feed line lines e = rw (is_backslash, is_feed, e) refl
-  ends_as false false is_backslash is_feed line lines e = rw (is_backslash, is_feed, e, is_feed) refl
+  ends_as : (line : List ℕ) (lines : List (List ℕ)) → whole_lines text ≡ line ∷ lines → whole_lines (escaped_byte b ++ text) ≡ (escaped_byte b ++ line) ∷ lines
+  ends_as line lines e = grind (arith, nat_tests)
 
-  never_ends : (x y : Bool) → (b == 92) ≡ x → (b == 10) ≡ y → whole_lines text ≡ [] → whole_lines (escaped_byte b ++ text) ≡ []
-  never_ends true y is_backslash is_feed e = rw (is_backslash, e) refl
-  never_ends false true is_backslash is_feed e = rw (is_backslash, is_feed, e) refl
-  never_ends false false is_backslash is_feed e = rw (is_backslash, is_feed, e, is_feed) refl
+  never_ends : whole_lines text ≡ [] → whole_lines (escaped_byte b ++ text) ≡ []
+  never_ends e = grind (arith, nat_tests)
 
-  stands_for : (x y : Bool) → (b == 92) ≡ x → (b == 10) ≡ y → unescaped (escaped_byte b ++ text) ≡ with_byte (Some b) (unescaped text)
-  stands_for true y is_backslash is_feed = rw is_backslash (ap (λ c. with_byte (Some c) (unescaped text)) (sym (eqb-true b 92 is_backslash)))
-  stands_for false true is_backslash is_feed = rw (is_backslash, is_feed) (ap (λ c. with_byte (Some c) (unescaped text)) (sym (eqb-true b 10 is_feed)))
-  stands_for false false is_backslash is_feed = rw (is_backslash, is_feed, is_backslash) refl
+  stands_for : unescaped (escaped_byte b ++ text) ≡ with_byte (Some b) (unescaped text)
+  stands_for = grind (arith, nat_tests)
 
 -- ---- one line
 
@@ -36,15 +30,15 @@ ended_escaped : (line rest : List ℕ) → whole_lines (escaped line ++ (10 ∷ 
 ended_escaped [] rest = refl
 ended_escaped (b ∷ line) rest =
     ap whole_lines (append_assoc (escaped_byte b) (escaped line) (10 ∷ rest))
-    ∙ ends_as b (escaped line ++ (10 ∷ rest)) (b == 92) (b == 10) refl refl (escaped line) (whole_lines rest) (ended_escaped line rest)
+    ∙ ends_as b (escaped line ++ (10 ∷ rest)) (escaped line) (whole_lines rest) (ended_escaped line rest)
 
 unended_escaped : (line : List ℕ) → whole_lines (escaped line) ≡ []
 unended_escaped [] = refl
-unended_escaped (b ∷ line) = never_ends b (escaped line) (b == 92) (b == 10) refl refl (unended_escaped line)
+unended_escaped (b ∷ line) = never_ends b (escaped line) (unended_escaped line)
 
 unescaped_escaped : (line : List ℕ) → unescaped (escaped line) ≡ Some line
 unescaped_escaped [] = refl
-unescaped_escaped (b ∷ line) = stands_for b (escaped line) (b == 92) (b == 10) refl refl ∙ ap (with_byte (Some b)) (unescaped_escaped line)
+unescaped_escaped (b ∷ line) = stands_for b (escaped line) ∙ ap (with_byte (Some b)) (unescaped_escaped line)
 
 line_of_escaped : (line : List ℕ) → is_utf8 line ≡ true → line_of (escaped line) ≡ Some line
 line_of_escaped line text = rw (unescaped_escaped line, text) refl
@@ -82,18 +76,15 @@ parted (x ∷ front) rest (b ∷ bytes) more e =
     (λ cut. inr (cut.0, ap (λ l. x ∷ l) cut.1 ∙ ap (λ c. c ∷ (bytes ++ cut.0)) same, cut.2)) (parted front rest bytes more others)
 
 none_in_front : (b : ℕ) (lines : List (List ℕ)) → with_byte_in_front b lines ≡ [] → lines ≡ []
-none_in_front b [] e = refl
-none_in_front b (line ∷ lines) e = absurd (cc)
-
-none_whole-cons : (b : ℕ) (bytes more : List ℕ) (x : Bool) → (b == 10) ≡ x → (whole_lines (bytes ++ more) ≡ [] → whole_lines bytes ≡ [])
-    → whole_lines ((b ∷ bytes) ++ more) ≡ [] → whole_lines (b ∷ bytes) ≡ []
-none_whole-cons b bytes more true is rest e = (let none : [] ∷ whole_lines (bytes ++ more) ≡ [] = rw is at e in cc)
-none_whole-cons b bytes more false is rest e = rw (is, rest (none_in_front b (whole_lines (bytes ++ more)) (rw is at e))) refl
+none_in_front b lines e = grind arith
 
 -- no line is whole in the beginning of a text in which none is
 none_whole : (bytes more : List ℕ) → whole_lines (bytes ++ more) ≡ [] → whole_lines bytes ≡ []
 none_whole [] more e = refl
-none_whole (b ∷ bytes) more e = none_whole-cons b bytes more (b == 10) refl (none_whole bytes more) e
+none_whole (b ∷ bytes) more e =
+    let rest = none_whole bytes more in
+    let front = none_in_front b (whole_lines (bytes ++ more)) in
+    grind (arith, nat_tests)
 
 none_at_end : (line bytes between left : List ℕ) → bytes ≡ escaped line ++ between → 10 ∷ [] ≡ between ++ left → 0 < length left → whole_lines bytes ≡ []
 none_at_end line bytes [] left e parts some = ap whole_lines (e ∙ append-nil (escaped line)) ∙ unended_escaped line
@@ -144,14 +135,12 @@ some_whole [] = ([], [], refl)
 some_whole (b ∷ before) = some_whole-cons b (before ++ 10 ∷ []) (b == 10) refl (some_whole before)
 
 -- what stands after a line feed is read by itself
-behind_feed-cons : (b : ℕ) (bytes rest : List ℕ) (x : Bool) → (b == 10) ≡ x → HasWhole bytes → whole_lines (bytes ++ rest) ≡ whole_lines bytes ++ whole_lines rest
-    → whole_lines ((b ∷ bytes) ++ rest) ≡ whole_lines (b ∷ bytes) ++ whole_lines rest
-behind_feed-cons b bytes rest true is some e = rw (is, e) refl
-behind_feed-cons b bytes rest false is some e = rw (is, e, some.2) refl
-
 behind_feed : (before rest : List ℕ) → whole_lines ((before ++ 10 ∷ []) ++ rest) ≡ whole_lines (before ++ 10 ∷ []) ++ whole_lines rest
 behind_feed [] rest = refl
-behind_feed (b ∷ before) rest = behind_feed-cons b (before ++ 10 ∷ []) rest (b == 10) refl (some_whole before) (behind_feed before rest)
+behind_feed (b ∷ before) rest =
+    let whole = behind_feed before rest in
+    let some = (some_whole before).2 in
+    grind (arith, nat_tests)
 
 found-list : (found : Option (List ℕ)) (lines : List (List ℕ)) → cons_option found lines ≡ option_to_list found ++ lines
 found-list None lines = refl

@@ -1,6 +1,7 @@
 -- Going through the lines of a file.
-use Rattle.std.proofs.Common.{◌≡◌, ℕ, suc, ◌+◌, ◌-◌, ◌<◌, ◌≤◌, List, [], ◌∷◌, ◌++◌, length, eqb, Bool, true, false, Some, None, refl, sym, ap, subst, ◌∙◌, append_assoc, length-append, arith, Contains}
+use Rattle.std.proofs.Common.{◌≡◌, ℕ, suc, ◌+◌, ◌-◌, ◌<◌, ◌≤◌, List, [], ◌∷◌, ◌++◌, length, eqb, true, false, Some, None, refl, sym, ap, subst, ◌∙◌, append_assoc, length-append, arith, Contains}
 use Rattle.std.proofs.lemmas.Bool.{eqb-true, false_from_ne_true}
+use Rattle.std.proofs.lemmas.Bool.Decides.{nat_tests}
 use Rattle.std.specs.Prelude.{not, slice_get, Err, Ok, OnErr, Result}
 use Rattle.std.specs.List.{filter_map, cons_option}
 use Rattle.tw_history_parts.specs.HistoryFile.{IsCutAtFeed, ended, is_cut_off, is_no_feed, line_of, lines_in, lost_in, whole_lines}
@@ -45,13 +46,16 @@ cut_off-free : (b : ℕ) (text : List ℕ) → ¬ (Contains (b ∷ text) 10) →
 cut_off-free b [] free = ap not (first_no_feed b [] free)
 cut_off-free b (c ∷ text) free = cut_off-behind (b ∷ []) c text ∙ cut_off-free c text (rest_no_feed b (c ∷ text) free)
 
-ended-feed : (text after : List ℕ) (x : Bool) → is_cut_off after ≡ x → ended (text ++ (10 ∷ after)) ≡ text ++ (10 ∷ ended after)
-ended-feed text after true e = rw (cut_off-behind text 10 after, cut_off-feed after, e) (append_assoc text (10 ∷ after) (10 ∷ []))
-ended-feed text after false e = rw (cut_off-behind text 10 after, cut_off-feed after, e) refl
+ended-feed : (text after : List ℕ) → ended (text ++ (10 ∷ after)) ≡ text ++ (10 ∷ ended after)
+ended-feed text after =
+    let behind = cut_off-behind text 10 after in
+    let feed = cut_off-feed after in
+    let joined = append_assoc text (10 ∷ after) (10 ∷ []) in
+    grind (arith, nat_tests)
 
 -- the texts of bytes that are cut at their first line feed, and of those that have none
 texts_cut : (bytes text after : List ℕ) → IsCutAtFeed bytes text after → whole_lines (ended bytes) ≡ text ∷ whole_lines (ended after)
-texts_cut bytes text after (free, cut) = ap (λ l. whole_lines (ended l)) cut ∙ ap whole_lines (ended-feed text after _ refl) ∙ ended_line text (ended after) free
+texts_cut bytes text after (free, cut) = ap (λ l. whole_lines (ended l)) cut ∙ ap whole_lines (ended-feed text after) ∙ ended_line text (ended after) free
 
 texts_free : (b : ℕ) (text : List ℕ) → ¬ (Contains (b ∷ text) 10) → whole_lines (ended (b ∷ text)) ≡ (b ∷ text) ∷ []
 texts_free b text free = rw (cut_off-free b text free) (ended_line (b ∷ text) [] free)

@@ -1,19 +1,19 @@
 -- The newest lines, and lines that stand once.
-use Rattle.std.proofs.Common.{◌≡◌, ◌≢◌, ℕ, zero, suc, ◌+◌, ◌-◌, ◌<◌, ◌≤◌, Bool, true, false, List, [], ◌∷◌, ◌++◌, eqb, length, map, take, drop, refl, sym, ap, subst, true≢false, ◌∙◌, Option, Some, None, String, string_bytes, arith, length-append}
+use Rattle.std.proofs.Common.{◌≡◌, ◌≢◌, ℕ, zero, suc, ◌+◌, ◌-◌, ◌<◌, ◌≤◌, true, false, List, [], ◌∷◌, ◌++◌, eqb, length, map, take, drop, refl, sym, ap, true≢false, ◌∙◌, Option, Some, None, String, string_bytes, arith, length-append}
 use Rattle.std.specs.Prelude.{not, IfSome, Err, Ok, OnErr, OnOk, Result}
 use Rattle.std.specs.declared.alloc.Global.{Global}
 use Rattle.std.specs.List.{All, AllPairs, AllWithin, filter, remove}
 use Rattle.std.specs.Cmp.Lexicographic.{pointwise}
 use lib.Pointwise.{bytes_decides}
 use Rattle.std.proofs.lemmas.Bool.{false_from_ne_true}
+use Rattle.std.proofs.lemmas.Bool.Decides.{nat_tests}
 use Rattle.std.proofs.lemmas.List.{get_or_default, length-map, map-append, take-map, drop-map}
 use Rattle.std.proofs.lemmas.List.Edits.{length-remove, remove-append_left}
 use Rattle.std.proofs.lemmas.List.Elements.{filter_passes, AllWithin-more}
 use Rattle.std.proofs.lemmas.List.Kept.{AllPairs-filter}
 use Rattle.std.proofs.lemmas.List.Quantifiers.{all_pairs_push}
 use Rattle.tw_line.specs.Bounded.{lines_of_entries, newest}
-use Rattle.tw_line.specs.HistoryAdditions.{is_line}
-use Rattle.tw_line.specs.NearestMatch.{last_line, line_at}
+use Rattle.tw_line.specs.NearestMatch.{line_at}
 use Rattle.tw_history_parts.specs.Reading.{AddsAll}
 use Rattle.tw_history_parts.specs.Recent.{AreUnique, RecentLines, StaysUnique, is_another, older_lines, with_recent, lines_without}
 
@@ -53,14 +53,10 @@ others_found line (x ∷ lines) (suc at) unique low is =
     rw (differs_other line x (λ same. unique 0 (suc at) [] (omega arith) (omega (arith, low)) (same ∙ sym is)))
     (ap (λ l. x ∷ l) (others_found line lines at (AllPairs-tail (λ older newer. older ≢ newer) x lines unique) (omega (arith, low)) is))
 
-others_are : (line : List ℕ) (lines : List (List ℕ)) (double : Option ℕ) → AreUnique lines → IfSome double (λ at. at < length lines)
-    → IfSome double (λ at. line_at lines at ≡ line) → (double ≡ None → All (λ older. older ≢ line) lines) → lines_without double lines ≡ filter (is_another line) lines
-others_are line lines None unique low is none = sym (others_all line lines (none refl))
-others_are line lines (Some at) unique low is none = others_found line lines at unique low is
-
 pub others_in : (h : RecentLines) (line : List ℕ) (double : Option ℕ) → h.is_unique ≡ true → AreUnique h.lines → IfSome double (λ at. at < length h.lines)
     → IfSome double (λ at. line_at h.lines at ≡ line) → (double ≡ None → All (λ older. older ≢ line) h.lines) → lines_without double h.lines ≡ older_lines h line
-others_in h line double is_unique unique low is none = rw is_unique (others_are line h.lines double unique low is none)
+others_in h line None is_unique unique low is none = rw is_unique (sym (others_all line h.lines (none refl)))
+others_in h line (Some at) is_unique unique low is none = rw is_unique (others_found line h.lines at unique low is)
 
 -- one more line that is another one
 pub none_more : (lines : List (List ℕ)) (line found : List ℕ) (at : ℕ) → at < length lines → found ≡ line_at lines at → pointwise eqb found line ≡ false
@@ -76,49 +72,35 @@ added_unique limit lines line unique =
     (all_pairs_push (λ older newer. older ≢ newer) _ line (AllPairs-filter (λ older newer. older ≢ newer) (is_another line) lines unique)
     (λ k d lt. other_differs line _ (filter_passes (is_another line) lines k d lt)))
 
-unique_with : (h : RecentLines) (line : List ℕ) (x : Bool) → is_line line (last_line h.lines) ≡ x → h.is_unique ≡ true → AreUnique h.lines → AreUnique (with_recent h line).lines
-unique_with h line true e is_unique unique = rw e unique
-unique_with h line false e is_unique unique = rw (e, is_unique) (added_unique h.limit h.lines line unique)
-
 pub stays_unique : StaysUnique
-stays_unique h line is_unique unique = unique_with h line _ refl is_unique unique
+stays_unique h line is_unique unique = let added = added_unique h.limit h.lines line unique in grind (arith, nat_tests)
 
 -- so it is where a line was added, or was not
 pub unique_after : {R E : Type 0} (r : Result R E) (h : RecentLines) (others new : List (List ℕ)) (line text : List ℕ) → text ≡ line → (h.is_unique ≡ true → AreUnique h.lines)
     → others ≡ older_lines h line → OnOk r (new ≡ newest h.limit (others ++ text ∷ [])) → OnErr r (new ≡ h.lines) → h.is_unique ≡ true → AreUnique new
 unique_after (Ok value) h others new line text is unique are added refused is_unique =
-    let kept : others ≡ filter (is_another line) h.lines = rw is_unique at are in
-    subst AreUnique (sym (added ∙ ap (λ l. newest h.limit (l ++ text ∷ [])) kept ∙ ap (λ t. newest h.limit (filter (is_another line) h.lines ++ t ∷ [])) is))
-    (added_unique h.limit h.lines line (unique is_unique))
-unique_after (Err fault) h others new line text is unique are added refused is_unique = subst AreUnique (sym refused) (unique is_unique)
+    rw (added, is, are, is_unique) (added_unique h.limit h.lines line (unique is_unique))
+unique_after (Err fault) h others new line text is unique are added refused is_unique = rw refused (unique is_unique)
 
 -- ---- what stays as lines are added
-
-with_recent-keeps : (h : RecentLines) (line : List ℕ) (x : Bool) → is_line line (last_line h.lines) ≡ x → ((with_recent h line).limit ≡ h.limit) × ((with_recent h line).is_unique ≡ h.is_unique)
-with_recent-keeps h line true e = rw e (refl, refl)
-with_recent-keeps h line false e = rw e (refl, refl)
 
 pub adds_keep : (lines : List (List ℕ)) (old new : RecentLines) → AddsAll (λ h line grown. grown ≡ with_recent h line) lines old new → (new.limit ≡ old.limit) × (new.is_unique ≡ old.is_unique)
 adds_keep [] old new adds = (ap (λ h. h.limit) adds, ap (λ h. h.is_unique) adds)
 adds_keep (line ∷ lines) old new (between, one, others) =
-    let first = with_recent-keeps old line _ refl in
     let rest = adds_keep lines between new others in
-    (rest.0 ∙ ap (λ h. h.limit) one ∙ first.0, rest.1 ∙ ap (λ h. h.is_unique) one ∙ first.1)
+    grind (arith, nat_tests, one)
 
 -- ---- entries
 
 -- a list with an element taken away, by what is seen of it
 map_remove : {X Y : Type 0} (f : X → Y) (xs : List X) (at : ℕ) → map f (remove xs at) ≡ remove (map f xs) at
 map_remove f xs at =
-    map-append f (take at xs) (drop (suc at) xs)
-    ∙ ap (λ l. l ++ map f (drop (suc at) xs)) (sym (take-map f at xs))
-    ∙ ap (λ l. take at (map f xs) ++ l) (sym (drop-map f (suc at) xs))
+    rw (map-append f (take at xs) (drop (suc at) xs), take-map f at xs, drop-map f (suc at) xs) refl
 
 -- the newest of lines that are not too many are all of them
 newest_all : (limit : ℕ) (lines : List (List ℕ)) → length lines ≤ limit → newest limit lines ≡ lines
 newest_all limit lines fits =
-    let none : length lines - limit ≡ 0 = omega (arith, fits) in
-    ap (λ k. drop k lines) none
+    rw (let none : length lines - limit ≡ 0 = omega (arith, fits) in none) refl
 
 -- an entry that is put after others, and takes the place of its double
 pub pushed_double : (entries : List (String Global)) (entry : String Global) (at limit : ℕ) → at < length entries → length entries ≤ limit

@@ -28,10 +28,7 @@ token-text None token = append-nil token
 -- joined elements have their texts
 before-text : (text : List ℕ) (elements : List ElementView) → text_of_elements (text_before text elements) ≡ text ++ text_of_elements elements
 before-text [] elements = refl
-before-text (byte ∷ rest) [] = refl
-before-text (byte ∷ rest) (Text text ∷ elements) = append_assoc (byte ∷ rest) text (text_of_elements elements)
-before-text (byte ∷ rest) (Attribute change ∷ elements) = refl
-before-text (byte ∷ rest) (AllAttributes attributes ∷ elements) = refl
+before-text (byte ∷ rest) elements = let joined = append_assoc (byte ∷ rest) in grind (arith, joined)
 
 joined-text : (elements : List ElementView) → text_of_elements (joined_elements elements) ≡ text_of_elements elements
 joined-text [] = refl

@@ -72,5 +72,4 @@ tokens-step (suc left) next styles keywords (byte ∷ rest) e some =
 -- where nothing is left to show, all was shown
 pub tokens-zero : (count : ℕ) (styles : Styles) (keywords : List (List ℕ)) (text : List ℕ) → count ≡ 0 → styled_tokens count styles keywords text ≡ []
 unfolding styled_tokens
-tokens-zero zero styles keywords text e = refl
-tokens-zero (suc count) styles keywords text e = absurd (omega (arith, e))
+tokens-zero count styles keywords text e = rw e refl

@@ -1,7 +1,7 @@
 -- A host's own keys, as a table.
 use Rattle.std.specs.Prelude.{List, [], ◌∷◌, Option, Some, None, option_map, if◌then◌else◌}
 use Rattle.tw_input.specs.declared.key.KeyEvent.{KeyEvent}
-use Rattle.tw_input.specs.EventView.{EventView, Key, Resized, Paste, Wake}
+use Rattle.tw_input.specs.EventView.{EventView, Key}
 use Rattle.tw_line.specs.declared.movements.Movement.TheVariants.{EndOfLine}
 use Rattle.tw_host.specs.ActionView.{ActionView}
 use Rattle.tw_host.specs.ActionView as view
@@ -48,9 +48,7 @@ cut_by None cut = cut
 -- what the table says of an event: a key may have a row, and nothing else has one
 abbrev pub bound_event : List KeyBinding → EventView → Option Binding
 bound_event rows (Key key) = bound rows key
-bound_event rows (Resized cols height) = None
-bound_event rows (Paste text) = None
-bound_event rows Wake = None
+bound_event rows _ = None
 
 -- what the table makes of an event: the action of its binding, if it has one, on the line that the binding leaves
 abbrev pub resolved_event : {V : Type 0} → V → List KeyBinding → EventView → Cut → Resolution V

@@ -1,6 +1,6 @@
 -- The column that a host answers so that the editor's division finds the cell in which the text goes on.
-use Rattle.std.specs.Prelude.{ℕ, zero, suc, pos, ◌-ℤ◌, ◌+ℤ◌, ◌+◌, ◌-◌, ◌*◌, ◌==◌, Bool, true, false, not, ◌&&◌, leb, max, if◌then◌else◌, unwrap_or, List, [], ◌∷◌, chars, flat_map, map, take, drop}
-use Rattle.std.specs.List.{list_all, sum_by}
+use Rattle.std.specs.Prelude.{ℕ, pos, ◌-ℤ◌, ◌+ℤ◌, ◌+◌, ◌-◌, ◌*◌, ◌==◌, Bool, true, false, not, ◌&&◌, leb, max, if◌then◌else◌, unwrap_or, List, [], ◌∷◌, chars, flat_map, map, take, drop}
+use Rattle.std.specs.List.{filter, list_all, sum_by}
 use Rattle.unicode_segmentation.specs.Grapheme.{graphemes}
 use Rattle.unicode_width.specs.Width.{char_width}
 use Rattle.tw_surface.specs.declared.measure.Piece.{Piece}
@@ -15,15 +15,9 @@ use Rattle.tw_line.specs.Cut.{Cut}
 abbrev pub char_columns : ℕ → ℕ
 char_columns c = unwrap_or (char_width false c) 0
 
--- a piece of some columns before others; one of none goes with what stands before it
-abbrev pub if_some_columns : ℕ → List Piece → List Piece
-if_some_columns zero more = more
-if_some_columns (suc n) more = Wide (suc n) ∷ more
-
 -- the characters of a text that take columns, each by itself
 abbrev pub character_pieces : List ℕ → List Piece
-character_pieces [] = []
-character_pieces (c ∷ cs) = if_some_columns (char_columns c) (character_pieces cs)
+character_pieces cs = map Wide (filter (λ width. not (width == 0)) (map char_columns cs))
 
 -- a cluster in which several characters take columns, and together as many as it: a terminal can begin a row between
 -- them

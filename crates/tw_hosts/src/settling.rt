@@ -4,7 +4,7 @@
 //! the cursor's cell by division, which knows nothing of such a hole. Who knows the screen's columns and the prompt
 //! counts the holes in.
 
-ghost use Rattle.std.specs.Prelude.{◌≡◌, ◌≤◌, ◌-ℤ◌, chars, MatchOption, IsCharBoundary, nat_abs, true, false};
+ghost use Rattle.std.specs.Prelude.{◌≡◌, ◌≤◌, ◌-ℤ◌, ◌∷◌, [], chars, MatchOption, IsCharBoundary, nat_abs, true, false};
 ghost use Rattle.std.specs.List.{list_all};
 ghost use Rattle.tw_surface.specs.Extents.{place_of, Measures};
 ghost use Rattle.tw_surface.specs.Places.{is_in_range, origin, pieces, places_after};
@@ -73,6 +73,18 @@ fn is_parted(cluster: &str) -> bool
     left == 0
 }
 
+/// Returns the extent after a character by itself.
+fn after_character(cols: usize, start: Extent, c: char) -> Option<Extent>
+    requires cols { cols ≤ 65535 }
+    requires range { is_in_range (place_of start) ≡ true }
+    ensures { Measures start (places_after cols (character_pieces (c ∷ [])) (place_of start)) result }
+{
+    match char_columns(c) {
+        0 => Some(start),
+        width => start.advance(cols, Piece::Wide(width)),
+    }
+}
+
 /// Returns the extent after the characters of a text that take columns, each by itself.
 fn after_characters(cols: usize, start: Extent, text: &str) -> Option<Extent>
     requires cols { cols ≤ 65535 }
@@ -82,10 +94,7 @@ fn after_characters(cols: usize, start: Extent, text: &str) -> Option<Extent>
 {
     let mut extent = start;
     for c in text.chars() {
-        let width = char_columns(c);
-        if width > 0 {
-            extent = extent.advance(cols, Piece::Wide(width))?;
-        }
+        extent = after_character(cols, extent, c)?;
     }
     Some(extent)
 }
@@ -126,13 +135,10 @@ fn after_pieces(cols: usize, start: Extent, text: &str) -> Option<Extent>
 fn needed_by_characters(text: &str) -> usize
     ensures { result ≡ needed (character_pieces (chars text.now)) }
 {
-    for c in text.chars() {
-        let width = char_columns(c);
-        if width > 0 {
-            return width;
-        }
-    }
-    1
+    text.chars()
+        .map(char_columns)
+        .find(|width| *width != 0)
+        .unwrap_or(1)
 }
 
 /// Returns the columns that the first piece of a cluster needs, and 1 for a cluster without width: the cursor itself
@@ -157,10 +163,7 @@ fn needed_by_text(text: &str) -> usize
     if is_plain_text(text.as_bytes()) {
         return 1;
     }
-    match split_cluster(text) {
-        Some((cluster, _)) => needed_by_cluster(cluster),
-        None => 1,
-    }
+    split_cluster(text).map_or(1, |(cluster, _)| needed_by_cluster(cluster))
 }
 
 /// Returns the cell in which something of `width` columns begins after a place.
@@ -177,14 +180,14 @@ fn begins_at(cols: usize, width: usize, end: Extent) -> (usize, isize)
 }
 
 /// Returns how many rows the row `to` is below the row `from`.
-#[tactic(auto, using(crate::proofs::SettlingLemmas::no_row, crate::proofs::SettlingLemmas::some_rows))]
+#[tactic(auto, using(std::proofs::lemmas::Int::ints, std::proofs::lemmas::Int::clamps))]
 fn rows_down(from: isize, to: isize) -> usize
     requires from { nat_abs from ≤ 2147483647 }
     requires to { nat_abs to ≤ 2147483648 }
     ensures value { result ≡ at_least_0 (to -ℤ from) }
     ensures bound { result ≤ 4294967295 }
 {
-    if to < from { 0 } else { (to - from) as usize }
+    (to - from).max(0) as usize
 }
 
 /// Returns the columns from a place to a cell by division, or `None` if the cell is before it.
@@ -202,35 +205,9 @@ fn columns_between(cols: usize, start: Extent, cell: (usize, isize)) -> Option<u
     reach.checked_sub(start.x)
 }
 
-/// Returns where the prompt ends, or `None` if a place on the way is out of range.
-#[tactic(auto, using(crate::proofs::SettlingLemmas::prompt_end))]
-fn after_prompt(cols: usize, prompt: &str) -> Option<Extent>
-    requires cols { cols ≤ 65535 }
-    ensures { MatchOption result
-        (list_all is_in_range (places_after cols (pieces prompt.now) origin) ≡ false)
-        (λ end. (list_all is_in_range (places_after cols (pieces prompt.now) origin) ≡ true)
-        × (place_of end ≡ line_start cols prompt.now)
-        × (is_in_range (place_of end) ≡ true)) }
-{
-    measure_text(cols, Extent::start(), prompt)
-}
-
-/// Returns where the text before the cursor ends, or `None` if a place on the way is out of range.
-#[tactic(auto, using(crate::proofs::SettlingLemmas::text_end))]
-fn after_text(cols: usize, start: Extent, text: &str) -> Option<Extent>
-    requires cols { cols ≤ 65535 }
-    requires range { is_in_range (place_of start) ≡ true }
-    ensures { let places = places_after cols (settled_pieces text.now) (place_of start) in
-        MatchOption result (list_all is_in_range places ≡ false)
-        (λ end. (list_all is_in_range places ≡ true)
-        × (place_of end ≡ place_after_text cols text.now (place_of start))
-        × (is_in_range (place_of end) ≡ true)) }
-{
-    after_pieces(cols, start, text)
-}
-
 /// Returns where the line begins and where the text before its cursor ends, or `None` if a place on the way is out of
 /// range or no screen has `cols` columns.
+#[tactic(auto, using(crate::proofs::SettlingLemmas::end_reached))]
 fn measured(cols: usize, prompt: &str, before: &str) -> Option<(Extent, Extent)>
     ensures { MatchOption result
         (is_measured cols prompt.now before.now ≡ false)
@@ -242,8 +219,8 @@ fn measured(cols: usize, prompt: &str, before: &str) -> Option<(Extent, Extent)>
     if cols == 0 || cols > 65_535 {
         return None;
     }
-    let start = after_prompt(cols, prompt)?;
-    let end = after_text(cols, start, before)?;
+    let start = measure_text(cols, Extent::start(), prompt)?;
+    let end = after_pieces(cols, start, before)?;
     Some((start, end))
 }
 

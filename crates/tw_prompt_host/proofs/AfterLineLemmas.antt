@@ -8,7 +8,7 @@ use Rattle.tw_surface.specs.Extents.{place_of, reach_all, start_extent}
 use Rattle.tw_surface.specs.Places.{Place, end_of_pieces, is_in_range, origin, pieces, places_after}
 use Rattle.tw_line.specs.Cut.{at_end}
 use Rattle.tw_hosts.specs.Settling.{line_start, settled_column}
-use Rattle.tw_hosts.proofs.SettlingLemmas.{prompt_end}
+use Rattle.tw_hosts.proofs.SettlingLemmas.{end_reached}
 use Rattle.tw_prompt_host.specs.AfterLine.{has_control, prompt_column, room_after}
 
 -- where a prompt ends that is measured from the start
@@ -19,7 +19,7 @@ ends_at cols prompt t r low high start all e =
     let from : place_of t ≡ origin = ap place_of start in
     let known : list_all is_in_range (places_after cols (pieces prompt) origin) ≡ true =
     subst (λ p. list_all is_in_range (places_after cols (pieces prompt) p) ≡ true) from all in
-    let end : place_of r ≡ line_start cols prompt = prompt_end cols prompt t r e ∙ ap (λ p. end_of_pieces cols (pieces prompt) p) from in
+    let end : place_of r ≡ line_start cols prompt = end_reached cols (pieces prompt) t r e ∙ ap (λ p. end_of_pieces cols (pieces prompt) p) from in
     rw (le-leb 1 cols low, le-leb cols 65535 high, known) (ap (λ (p : Place). Some p.x) end)
 
 -- the room after a row
